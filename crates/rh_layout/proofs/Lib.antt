@@ -1,0 +1,3 @@
+pub mod RoundLemmas
+pub mod OrderLemmas
+pub mod HomeLemmas

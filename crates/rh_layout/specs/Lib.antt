@@ -1,0 +1,4 @@
+pub mod Key
+pub mod Layout
+pub mod Order
+pub mod Round

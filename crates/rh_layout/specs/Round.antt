@@ -1,0 +1,10 @@
+-- Places in a circle of n.
+use Rattle.std.specs.Prelude.{ℕ, ◌+◌, ◌-◌, ◌%◌}
+
+-- how many steps lead from place `from` round to place `to`
+unfoldable pub steps_round : (n from to : ℕ) → ℕ
+steps_round n from to = (to + n - from) % n
+
+-- the place that i steps lead to
+unfoldable pub place_after : (n from i : ℕ) → ℕ
+place_after n from i = (from + i) % n

@@ -1,0 +1,15 @@
+//! The order of a Robin Hood table (Celis 1986): keys, homes, distances, and the layout of a set of keys.
+#![tactic(auto)]
+
+mod key;
+mod laws;
+mod limits;
+mod order;
+
+pub use key::{cell_of, key_in};
+pub use laws::has_free;
+pub use limits::{MAX_BITS, MAX_KEY, MIN_BITS};
+pub use order::{beats, dist, home};
+
+#[cfg(test)]
+mod tests;
