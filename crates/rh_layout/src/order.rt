@@ -18,7 +18,7 @@ pub fn home(bits: u32, key: u64) -> usize
 }
 
 /// How many steps lead from the home of a key round to the cell.
-#[tactic(auto, using(std::proofs::lemmas::Nat::one_shl, crate::proofs::RoundLemmas::steps_ahead, crate::proofs::RoundLemmas::steps_behind))]
+#[tactic(auto, using(crate::proofs::RoundLemmas::steps_ahead))]
 pub fn dist(bits: u32, cell: usize, key: u64) -> usize
     requires bits { IsBits bits }
     requires cell { cell < 2 ^ bits }
@@ -29,7 +29,8 @@ pub fn dist(bits: u32, cell: usize, key: u64) -> usize
     if home <= cell {
         cell - home
     } else {
-        cell + (1usize << bits) - home
+        let size = 1usize << bits;
+        cell + size - home
     }
 }
 
