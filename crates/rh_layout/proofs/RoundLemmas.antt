@@ -44,6 +44,12 @@ pub place_below : (n from i : ℕ) → 0 < n → place_after n from i < n
 unfolding place_after
 place_below n from i h = mod-lt (from + i) h
 
+-- one step more
+pub place_after-next : (n from i : ℕ) → from < n → i < n → (place_after n from i + 1) % n ≡ place_after n from (i + 1)
+unfolding place_after
+place_after-next n from i p q =
+    grind (arith, reduced n (from + i) (omega arith), reduced n (from + (i + 1)) (omega arith), reduced n ((from + i) % n + 1) (omega (arith, mod-lt (from + i) {m = n} (omega arith))))
+
 pub steps-place_after : (n from i : ℕ) → from < n → i < n → steps_round n from (place_after n from i) ≡ i
 steps-place_after n from i p q = grind (arith, place_cases n from i p q, steps_cases n from (place_after n from i) p (place_below n from i (omega arith)))
 

@@ -1,0 +1,38 @@
+-- The search for a key's place, cell by cell.
+use Rattle.std.proofs.Common.{◌≡◌, ℕ, ◌+◌, ◌%◌, ◌^◌, ◌<◌, ◌≤◌, inl, inr, sym, ap, ◌∙◌, arith, List, length}
+use Rattle.std.proofs.lemmas.Bool.{cases_lt}
+use Rattle.rh_layout.specs.Round.{place_after}
+use Rattle.rh_layout.specs.Key.{IsBits}
+use Rattle.rh_layout.specs.Order.{home_of, dist_of}
+use Rattle.rh_layout.specs.Layout.{IsBeatenAt, HasFree}
+use Rattle.rh_layout.proofs.RoundLemmas.{reduced, place_cases, steps_below, place_after-next, place_after-steps}
+use Rattle.rh_layout.proofs.LayoutLemmas.{low_of}
+
+pub next_is : (n c : ℕ) → c < n → ((c + 1 < n) → c + 1 ≡ (c + 1) % n) × (n ≤ c + 1 → 0 ≡ (c + 1) % n)
+next_is n c c_in = (λ less. grind (arith, reduced n (c + 1) (omega arith)), λ past. grind (arith, reduced n (c + 1) (omega arith)))
+
+-- the place where a walk round the table begins, and one step of it
+pub walk_starts : (n h cell : ℕ) → h < n → cell ≡ h → cell ≡ place_after n h 0
+walk_starts n h cell h_in e = grind (arith, place_cases n h 0 h_in (omega arith))
+
+pub walk_goes_on : (n size h i cell next : ℕ) → size ≡ n → h < n → i < n → cell ≡ place_after n h i → next ≡ (cell + 1) % size → next ≡ place_after n h (i + 1)
+walk_goes_on n size h i cell next same h_in i_in e f = f ∙ ap (λ m. (cell + 1) % m) same ∙ ap (λ c. (c + 1) % n) e ∙ place_after-next n h i h_in i_in
+
+-- each cell less than i steps from the home of k holds a key that beats k there
+abbrev pub IsPassed : (b : ℕ) (cells : List ℕ) (k i : ℕ) → Type 0
+IsPassed b cells k i = (c : ℕ) → c < 2 ^ b → dist_of b c k < i → IsBeatenAt cells b c k
+
+pub passed_more : (b : ℕ) (cells : List ℕ) (k i cell : ℕ) → IsBits b → cell ≡ place_after (2 ^ b) (home_of b k) i → IsPassed b cells k i → IsBeatenAt cells b cell k → IsPassed b cells k (i + 1)
+passed_more b cells k i cell fits e passed here c c_in below =
+    elim (cases_lt (dist_of b c k) i) [
+      | inl less ↦ passed c c_in less
+      | inr last ↦
+          let is : cell ≡ c = e ∙ ap (place_after (2 ^ b) (home_of b k)) (omega arith) ∙ place_after-steps (2 ^ b) (home_of b k) c (low_of b fits k) c_in in
+          rw is at here
+    ]
+
+pub passed_all : (b : ℕ) (cells : List ℕ) (k i : ℕ) → IsBits b → length cells ≡ 2 ^ b → 2 ^ b ≤ i → IsPassed b cells k i → HasFree cells → ⊥
+passed_all b cells k i fits size all passed free =
+    let c_in : free.0 < 2 ^ b = omega (arith, free.1) in
+    let beaten = passed free.0 c_in (omega (arith, steps_below (2 ^ b) (home_of b k) free.0 (omega arith))) in
+    omega (arith, beaten.1.1, free.2)

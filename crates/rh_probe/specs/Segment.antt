@@ -1,0 +1,15 @@
+-- Segments: what consecutive cells of a table hold, from some cell on.
+use Rattle.std.specs.Prelude.{ℕ, ◌<◌, ◌≤◌, ◌≡◌, List, length, slice_index}
+use Rattle.rh_layout.specs.Round.{place_after}
+
+-- `seen` is what the cells from cell h on hold, in a circle of n
+pub record IsFront (n h : ℕ) (cells seen : List ℕ) : Type 0 where
+  pub room : length seen ≤ n
+  pub shows : (p : ℕ) → p < length seen → slice_index seen p ≡ slice_index cells (place_after n h p)
+
+-- j is the first place from i on that is empty
+pub record IsFirstFree (seen : List ℕ) (i j : ℕ) : Type 0 where
+  pub from : i ≤ j
+  pub within : j < length seen
+  pub free : slice_index seen j ≡ 0
+  pub full : (p : ℕ) → i ≤ p → p < j → 0 < slice_index seen p

@@ -1,0 +1,15 @@
+//! Scans of consecutive cells of a Robin Hood table, and what they tell of a layout.
+#![tactic(auto)]
+
+mod answer;
+mod laws;
+mod place;
+mod scan;
+
+pub use answer::Look;
+pub use laws::look_tells;
+pub use place::{next_cell, place_for};
+pub use scan::{free_after, look};
+
+#[cfg(test)]
+mod tests;

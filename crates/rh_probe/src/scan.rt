@@ -1,0 +1,42 @@
+//! The scans.
+
+ghost use Rattle.std.specs.Prelude.{◌≡◌, ℕ, ◌^◌, ◌<◌, ◌≤◌, length, slice_index, MatchOption};
+ghost use Rattle.rh_layout.specs.Key.{IsBits, IsKey};
+ghost use Rattle.rh_probe.specs.Look.{Finds};
+ghost use Rattle.rh_probe.specs.Segment.{IsFirstFree};
+
+use crate::answer::Look;
+use rh_layout::{beats, home, key_in};
+
+/// What the first place that decides tells of the key: the one that holds it, or that is empty or holds a
+/// key that does not beat it there (Celis 1986). `seen` is what consecutive cells hold, from the key's
+/// home on.
+#[tactic(auto, unfolding(rh_layout::specs::Round::place_after), using(std::proofs::lemmas::Nat::one_shl))]
+pub fn look(bits: u32, key: u64, seen: &[u64]) -> Look
+    requires bits { IsBits bits }
+    requires key { IsKey key }
+    requires room { length seen.now ≤ 2 ^ bits }
+    ensures { Finds bits key seen.now result }
+{
+    let size = 1usize << bits;
+    let first = home(bits, key);
+    for (i, value) in seen.iter().enumerate() {
+        let Some(found) = key_in(*value) else {
+            return Look::Goes(i);
+        };
+        if found == key {
+            return Look::Here(i);
+        }
+        if !beats(bits, (first + i) % size, found, key) {
+            return Look::Goes(i);
+        }
+    }
+    Look::More
+}
+
+/// The first place from `i` on that is empty.
+pub fn free_after(seen: &[u64], i: usize) -> Option<usize>
+    ensures { MatchOption result ((p : ℕ) → i ≤ p → p < length seen.now → 0 < slice_index seen.now p) (λ j. IsFirstFree seen.now i j) }
+{
+    (i..seen.len()).find(|j| seen[*j] == 0)
+}
