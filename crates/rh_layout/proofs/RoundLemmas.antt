@@ -2,11 +2,7 @@
 use Rattle.std.proofs.Common.{◌≡◌, ℕ, ◌+◌, ◌-◌, ◌%◌, ◌<◌, ◌≤◌, ◌⊎◌, inl, inr, refl, arith}
 use Rattle.std.proofs.Math.Nat.{mod-eq_of_lt, mod-lt, mod-eq-sub-mod}
 use Rattle.std.proofs.lemmas.Bool.{cases_lt, cases_eq}
-use Rattle.rh_layout.specs.Round.{steps_round, place_after}
-
--- c is the place after p
-abbrev pub IsNext : (n p c : ℕ) → Type 0
-IsNext n p c = ((p + 1 ≡ c) × (c < n)) ⊎ ((p + 1 ≡ n) × (c ≡ 0))
+use Rattle.rh_layout.specs.Round.{steps_round, place_after, IsNext}
 
 pub steps_below : (n from to : ℕ) → 0 < n → steps_round n from to < n
 unfolding steps_round

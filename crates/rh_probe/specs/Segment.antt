@@ -1,6 +1,6 @@
 -- Segments: what consecutive cells of a table hold, from some cell on.
 use Rattle.std.specs.Prelude.{ℕ, ◌<◌, ◌≤◌, ◌≡◌, List, length, slice_index}
-use Rattle.rh_layout.specs.Round.{place_after}
+use Rattle.rh_layout.specs.Round.{steps_round, place_after}
 
 -- `seen` is what the cells from cell h on hold, in a circle of n
 pub record IsFront (n h : ℕ) (cells seen : List ℕ) : Type 0 where
@@ -13,3 +13,9 @@ pub record IsFirstFree (seen : List ℕ) (i j : ℕ) : Type 0 where
   pub within : j < length seen
   pub free : slice_index seen j ≡ 0
   pub full : (p : ℕ) → i ≤ p → p < j → 0 < slice_index seen p
+
+-- `new` is `old` with what the cells from cell h on hold replaced by `news`
+pub record ReplacesFront (n h : ℕ) (old new news : List ℕ) : Type 0 where
+  pub size : length new ≡ length old
+  pub written : IsFront n h new news
+  pub elsewhere : (c : ℕ) → c < n → length news ≤ steps_round n h c → slice_index new c ≡ slice_index old c

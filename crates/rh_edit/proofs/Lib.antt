@@ -1,0 +1,6 @@
+pub mod NewsLemmas
+pub mod InsertLemmas
+pub mod PutLemmas
+pub mod HeldAfter
+pub mod PushLemmas
+pub mod InsertLayout

@@ -1,0 +1,67 @@
+//! Insertion in place.
+
+ghost use Rattle.std.specs.Prelude.{◌≡◌, ℕ, ◌+◌, ◌%◌, ◌^◌, ◌<◌, ◌≤◌, length, slice_index, not};
+ghost use Rattle.std.specs.FinSet as set;
+ghost use Rattle.rh_layout.specs.Round.{steps_round, place_after};
+ghost use Rattle.rh_layout.specs.Key.{IsKey};
+ghost use Rattle.rh_layout.specs.Layout.{IsLayout, keys_of};
+ghost use Rattle.rh_edit.specs.Put.{IsPushed};
+
+use rh_layout::{cell_of, home};
+use rh_probe::{next_cell, place_for};
+
+/// Adds the key to the table, and answers whether it was not there.
+pub fn insert(bits: u32, cells: &mut [u64], key: u64) -> bool
+    requires layout { IsLayout bits cells.old }
+    requires key { IsKey key }
+    requires room { set.len (keys_of cells.old) + 1 < 2 ^ bits }
+    ensures layout { IsLayout bits cells.new }
+    ensures keys { keys_of cells.new ≡ set.insert (keys_of cells.old) key }
+    ensures changed { result ≡ not (set.contains (keys_of cells.old) key) }
+{
+    let first = home(bits, key);
+    let at = place_for(bits, cells, key);
+    let value = cell_of(key);
+    let cell = cell_after(cells.len(), first, at);
+    if cells[cell] == value {
+        return false;
+    }
+    push_on(cells, first, at, cell, value);
+    true
+}
+
+/// The cell that so many steps lead to.
+#[tactic(auto, using(crate::proofs::PushLemmas::after_ahead, crate::proofs::PushLemmas::after_round))]
+fn cell_after(size: usize, first: usize, steps: usize) -> usize
+    requires first { first < size }
+    requires steps { steps < size }
+    requires small { size < 2 ^ 32 }
+    ensures value { result ≡ place_after size first steps }
+    ensures in_table { result < size }
+{
+    let cell = first + steps;
+    if cell < size { cell } else { cell - size }
+}
+
+/// Puts the value into `cell`, `at` steps after `first`, and moves what stands from there up to the first
+/// empty cell on by one.
+fn push_on(cells: &mut [u64], first: usize, at: usize, cell: usize, value: u64)
+    requires first { first < length cells.old }
+    requires at { at < length cells.old }
+    requires cell { cell ≡ place_after (length cells.old) first at }
+    requires free { (c : ℕ) × (c < length cells.old) × (at ≤ steps_round (length cells.old) first c) × (slice_index cells.old c ≡ 0) }
+    ensures { (j : ℕ) × IsPushed (length cells.old) first at j value (slice_index cells.old) (slice_index cells.new) }
+{
+    let mut cell = cell;
+    let mut carry = value;
+    for step in at..cells.len() {
+        let found = cells[cell];
+        cells[cell] = carry;
+        if found == 0 {
+            return;
+        }
+        carry = found;
+        cell = next_cell(cells.len(), cell);
+    }
+    unreachable!()
+}
