@@ -4,3 +4,5 @@ pub mod PutLemmas
 pub mod HeldAfter
 pub mod PushLemmas
 pub mod InsertLayout
+pub mod SegmentLemmas
+pub mod SetLemmas

@@ -2,8 +2,14 @@
 #![tactic(auto)]
 
 mod insertion;
+mod laws;
 mod news;
+mod set;
 
 pub use insertion::insert;
+pub use laws::insert_segment;
 pub use news::insert_news;
+pub use set::SeqSet;
 
+#[cfg(test)]
+mod tests;

@@ -1,0 +1,46 @@
+-- What the calls of a `SeqSet` leave.
+use Rattle.std.proofs.Common.{◌≡◌, ℕ, ◌*◌, ◌%◌, ◌^◌, ◌<◌, inl, inr, refl, sym, ap, ◌∙◌, arith, List, length, take, drop, ◌++◌, get_or, replicate}
+use Rattle.std.specs.Ordering.{nat_cmp}
+use Rattle.std.specs.FinSet as set
+use Rattle.std.specs.FinSet.{members, contains-empty}
+use Rattle.std.proofs.lemmas.Bool.{cases_lt}
+use Rattle.std.proofs.lemmas.Nat.{pow_pos}
+use Rattle.std.proofs.lemmas.List.{take_at, length-replicate, get_or-replicate, get_or_past}
+use Rattle.rh_layout.specs.Key.{IsBits}
+use Rattle.rh_layout.specs.Layout.{IsLayout, keys_of}
+use Rattle.rh_layout.proofs.SetLemmas.{same_keys}
+use Rattle.rh_layout.proofs.KeySetLemmas.{holds_from_contains}
+use Rattle.rh_layout.proofs.LayoutLemmas.{at, layout_from_ordered}
+
+-- the list behind a vector's slice, after a call wrote through it
+pub wrote_back : (n : ℕ) (new items : List ℕ) → length new ≡ n → take n (new ++ drop (length new) items) ≡ new
+wrote_back n new items e = take_at new (drop (length new) items) n e
+
+pub ruleset set_members = (members, wrote_back)
+
+zero_all : (n c : ℕ) (cells : List ℕ) → cells ≡ replicate n 0 → at cells c ≡ 0
+zero_all n c cells e =
+    let zero : ℕ = 0 in
+    let at_replicate : get_or (replicate n zero) c zero ≡ zero = elim (cases_lt c n) [ inl l ↦ get_or-replicate n c zero zero l | inr g ↦ get_or_past (replicate n zero) c zero (omega (arith, length-replicate n zero)) ] in
+    ap (λ (ys : List ℕ). get_or ys c zero) e ∙ at_replicate
+
+-- ---- a table of empty cells
+module _ (n : ℕ) (cells : List ℕ) (made : cells ≡ replicate n 0) where
+  none : (c : ℕ) → at cells c ≡ 0
+  none c = zero_all n c cells made
+
+  pub keys_of_empty : keys_of cells ≡ set.empty
+  keys_of_empty =
+      same_keys (keys_of cells) set.empty
+      (λ q has. let there = holds_from_contains cells q has in absurd (omega (arith, there.1.1, none there.0)))
+      (λ q has. let e = contains-empty nat_cmp q in (cc))
+
+  -- what a `SeqSet` keeps
+  pub keeps_empty : (b : ℕ) → IsBits b → n ≡ 2 ^ b → IsLayout b cells × (0 ≡ set.len (keys_of cells)) × (0 < 2 ^ b)
+  keeps_empty b fits size = (
+    layout_from_ordered b cells fits (ap length made ∙ length-replicate n 0 ∙ size)
+    (λ c k holds. absurd (omega (arith, holds.1, none c)))
+    (λ c _ some. absurd (omega (arith, none c))),
+    sym (ap set.len keys_of_empty ∙ set.len-empty nat_cmp),
+    pow_pos b,
+  )

@@ -1,0 +1,87 @@
+//! The set of one worker.
+
+ghost use Rattle.std.specs.Prelude.{◌≡◌, ◌+◌, ◌^◌, ◌<◌, IfOk, not};
+ghost use Rattle.std.specs.FinSet as set;
+ghost use Rattle.rh_layout.specs.Key.{IsBits, IsKey};
+ghost use Rattle.rh_layout.specs.Layout.{Layout};
+
+use crate::insertion;
+use std::alloc::{AllocError, Global};
+use std::marker::Model;
+
+/// A set of keys, whose cells are always a layout with a free cell. Contracts see its bits and its keys.
+#[derive(Drop)]
+pub struct SeqSet {
+    bits: u32,
+    len: usize,
+    table: Vec<u64>,
+}
+
+impl Model for SeqSet {
+    ghost use Rattle.std.specs.Prelude.{◌≡◌, ◌^◌, ◌<◌};
+    ghost use Rattle.std.specs.FinSet as set;
+    ghost use Rattle.rh_layout.specs.Layout.{IsLayout, keys_of};
+    ghost use Rattle.rh_edit.specs.Held.{Held, held_code};
+
+    ghost Value = { Held };
+
+    ghost coded = { held_code };
+
+    ghost view = { λ s. record { bits = s.bits; keys = keys_of s.table.items } };
+
+    ghost invariant = { λ s. IsLayout s.bits s.table.items × (s.len ≡ set.len (keys_of s.table.items)) × (s.len < 2 ^ s.bits) };
+}
+
+impl SeqSet {
+    /// An empty set in a table of this size.
+    pub fn new(alloc: Global, bits: u32) -> Result<SeqSet, AllocError>
+        requires { IsBits bits }
+        ensures bits { IfOk result (λ s. s.bits ≡ bits) }
+        ensures keys { IfOk result (λ s. s.keys ≡ set.empty) }
+    {
+        let size = 1usize << bits;
+        let table = vec![in alloc; 0; size]?;
+        Ok(SeqSet {
+            bits,
+            len: 0,
+            table,
+        })
+    }
+
+    /// How many keys there are.
+    pub fn len(&self) -> usize
+        ensures { result ≡ set.len self.now.keys }
+    {
+        self.len
+    }
+
+    /// The size of the table, as a power of 2.
+    pub fn bits(&self) -> u32
+        ensures { result ≡ self.now.bits }
+    {
+        self.bits
+    }
+
+    /// The cells of the table.
+    pub fn cells(&self) -> &[u64]
+        ensures { Layout result.now self.now.bits self.now.keys }
+    {
+        self.table.as_slice()
+    }
+
+    /// Adds a key, and answers whether it was not there.
+    #[tactic(auto, using(crate::proofs::SetLemmas::set_members))]
+    pub fn insert(&mut self, key: u64) -> bool
+        requires key { IsKey key }
+        requires room { set.len self.old.keys + 1 < 2 ^ self.old.bits }
+        ensures bits { self.new.bits ≡ self.old.bits }
+        ensures keys { self.new.keys ≡ set.insert self.old.keys key }
+        ensures changed { result ≡ not (set.contains self.old.keys key) }
+    {
+        let added = insertion::insert(self.bits, self.table.as_mut_slice(), key);
+        if added {
+            self.len += 1;
+        }
+        added
+    }
+}
