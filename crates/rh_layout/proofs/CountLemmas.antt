@@ -49,7 +49,7 @@ len-keys_of (value ∷ cells) once =
 pub count_of_layout : (cells : List ℕ) (b : ℕ) (S : Keys) → Layout cells b S → full_count cells ≡ set.len S
 count_of_layout cells b S layout = sym (len-keys_of cells layout.once) ∙ ap set.len (sym (layout_keys cells b S layout))
 
-free_from_count : (cells : List ℕ) → full_count cells < length cells → HasFree cells
+pub free_from_count : (cells : List ℕ) → full_count cells < length cells → HasFree cells
 free_from_count [] less = absurd (omega arith)
 free_from_count (value ∷ cells) less =
     elim (cases_eq value 0) [

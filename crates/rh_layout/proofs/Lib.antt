@@ -6,3 +6,6 @@ pub mod KeySetLemmas
 pub mod HeldLemmas
 pub mod LayoutLemmas
 pub mod CountLemmas
+pub mod UniqueLemmas
+pub mod PlacedLemmas
+pub mod OneLayout

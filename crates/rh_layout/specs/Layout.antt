@@ -3,7 +3,7 @@ use Rattle.std.specs.Prelude.{ℕ, ◌^◌, ◌<◌, ◌≡◌, List, length, sl
 use Rattle.std.specs.Ordering.{nat_cmp}
 use Rattle.std.specs.FinSet as set
 use Rattle.std.specs.FinSet.{FinSet, contains}
-use Rattle.rh_layout.specs.Round.{place_after}
+use Rattle.rh_layout.specs.Round.{place_after, place_back}
 use Rattle.rh_layout.specs.Key.{IsKey, IsBits, cell_of, key_in, is_full}
 use Rattle.rh_layout.specs.Order.{home_of, dist_of, Beats}
 
@@ -37,6 +37,10 @@ keys_of cells = set.from_list (map key_in (filter is_full cells))
 -- the cells are a layout, of the keys that they hold
 abbrev pub IsLayout : (b : ℕ) (cells : List ℕ) → Type 0
 IsLayout b cells = Layout cells b (keys_of cells)
+
+-- what cell c holds of a layout, seen beside the cell before: nothing, or a key that is at home or is beaten there
+abbrev pub IsPlaced : (b : ℕ) (cells : List ℕ) (c : ℕ) → Type 0
+IsPlaced b cells c = (k : ℕ) → Holds cells c k → IsKey k × (0 < dist_of b c k → IsBeatenAt cells b (place_back (2 ^ b) c) k)
 
 -- a cell is empty
 abbrev pub HasFree : List ℕ → Type 0

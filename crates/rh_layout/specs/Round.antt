@@ -9,6 +9,10 @@ steps_round n from to = (to + n - from) % n
 unfoldable pub place_after : (n from i : ℕ) → ℕ
 place_after n from i = (from + i) % n
 
+-- the place before place c
+unfoldable pub place_back : (n c : ℕ) → ℕ
+place_back n c = (c + n - 1) % n
+
 -- c is the place after p
 abbrev pub IsNext : (n p c : ℕ) → Type 0
 IsNext n p c = ((p + 1 ≡ c) × (c < n)) ⊎ ((p + 1 ≡ n) × (c ≡ 0))

@@ -5,6 +5,15 @@ ghost use Rattle.std.specs.FinSet as set;
 ghost use Rattle.rh_layout.specs.Key.{is_full};
 ghost use Rattle.rh_layout.specs.Layout.{Keys, Layout, HasFree, HasTwoFree};
 
+/// Two layouts of one set, one of them with a free cell, are equal.
+pub fn one_layout(bits: u32, first: &[u64], second: &[u64])
+    ensures { (S : Keys) → Layout first.now bits S → Layout second.now bits S → HasFree first.now → first.now ≡ second.now }
+{
+    let _ = bits;
+    let _ = first;
+    let _ = second;
+}
+
 /// A layout of a set has as many full cells as the set has keys. So fewer keys than cells leave a cell
 /// free, and fewer by two leave two.
 pub fn has_free(bits: u32, cells: &[u64])

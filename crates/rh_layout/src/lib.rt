@@ -5,11 +5,13 @@ mod key;
 mod laws;
 mod limits;
 mod order;
+mod table;
 
 pub use key::{cell_of, key_in};
-pub use laws::has_free;
+pub use laws::{has_free, one_layout};
 pub use limits::{MAX_BITS, MAX_KEY, MIN_BITS};
 pub use order::{beats, dist, home};
+pub use table::is_layout;
 
 #[cfg(test)]
 mod tests;
