@@ -38,6 +38,10 @@ fresh_from_place b cells k i S layout place other =
     (λ ahead. place.decides (beaten_from_ahead b cells spot k (omega (arith, layout.size)) ahead))
     (there.0, omega (arith, there.1.0, layout.size), there.1.1))
 
+-- the place in the words of the code, where `first` is the home and n the number of cells
+pub spot_is : (b n k first i cell : ℕ) → n ≡ 2 ^ b → first ≡ home_of b k → cell ≡ place_after n first i → cell ≡ place_after (2 ^ b) (home_of b k) i
+spot_is b n k first i cell size start is = is ∙ ap (λ m. place_after m first i) size ∙ ap (λ h. place_after (2 ^ b) h i) start
+
 module _ (b : ℕ) (cells seen : List ℕ) (k i : ℕ) (fits : IsBits b) (size : length cells ≡ 2 ^ b) (front : IsFront (2 ^ b) (home_of b k) cells seen) where
   spot_of : ℕ → ℕ
   spot_of p = place_after (2 ^ b) (home_of b k) p

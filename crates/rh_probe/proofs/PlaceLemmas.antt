@@ -1,15 +1,23 @@
 -- The search for a key's place, cell by cell.
-use Rattle.std.proofs.Common.{◌≡◌, ℕ, ◌+◌, ◌%◌, ◌^◌, ◌<◌, ◌≤◌, inl, inr, sym, ap, ◌∙◌, arith, List, length}
+use Rattle.std.proofs.Common.{◌≡◌, ℕ, ◌+◌, ◌-◌, ◌*◌, ◌%◌, ◌^◌, ◌<◌, ◌≤◌, inl, inr, sym, ap, ◌∙◌, arith, List, length}
 use Rattle.std.proofs.lemmas.Bool.{cases_lt}
+use Rattle.std.proofs.lemmas.Nat.{one_shl}
 use Rattle.rh_layout.specs.Round.{place_after}
-use Rattle.rh_layout.specs.Key.{IsBits}
+use Rattle.rh_layout.specs.Key.{IsBits, cell_of}
 use Rattle.rh_layout.specs.Order.{home_of, dist_of}
 use Rattle.rh_layout.specs.Layout.{IsBeatenAt, HasFree}
 use Rattle.rh_layout.proofs.RoundLemmas.{reduced, place_cases, steps_below, place_after-next, place_after-steps}
-use Rattle.rh_layout.proofs.LayoutLemmas.{low_of}
+use Rattle.rh_layout.proofs.LayoutLemmas.{at, low_of}
+use Rattle.rh_probe.specs.Segment.{IsMovable}
 
 pub next_is : (n c : ℕ) → c < n → ((c + 1 < n) → c + 1 ≡ (c + 1) % n) × (n ≤ c + 1 → 0 ≡ (c + 1) % n)
 next_is n c c_in = (λ less. grind (arith, reduced n (c + 1) (omega arith)), λ past. grind (arith, reduced n (c + 1) (omega arith)))
+
+pub after_ahead : (n from i : ℕ) → from < n → i < n → from + i < n → from + i ≡ place_after n from i
+after_ahead n from i p q less = grind (arith, place_cases n from i p q)
+
+pub after_round : (n from i : ℕ) → from < n → i < n → n ≤ from + i → from + i - n ≡ place_after n from i
+after_round n from i p q past = grind (arith, place_cases n from i p q)
 
 -- the place where a walk round the table begins, and one step of it
 pub walk_starts : (n h cell : ℕ) → h < n → cell ≡ h → cell ≡ place_after n h 0
@@ -36,3 +44,13 @@ passed_all b cells k i fits size all passed free =
     let c_in : free.0 < 2 ^ b = omega (arith, free.1) in
     let beaten = passed free.0 c_in (omega (arith, steps_below (2 ^ b) (home_of b k) free.0 (omega arith))) in
     omega (arith, beaten.1.1, free.2)
+
+pub movable_more : (b h : ℕ) (seen : List ℕ) (i j k home cell : ℕ) → IsBits b → ((p : ℕ) → i < p → p < j → IsMovable b h seen p) → at seen j ≡ cell_of k → home ≡ home_of b k → cell ≡ (h + j) % (1 * 2 ^ b % 18446744073709551616) → (home ≡ cell → ⊥) → (p : ℕ) → i < p → p < j + 1 → IsMovable b h seen p
+unfolding place_after
+movable_more b h seen i j k home cell fits before is is_home is_cell away p above below =
+    elim (cases_lt p j) [
+      | inl less ↦ before p above less
+      | inr last ↦
+          let same : p ≡ j = omega arith in
+          (k, ap (at seen) same ∙ is, λ e. away (is_home ∙ e ∙ ap (λ q. (h + q) % 2 ^ b) same ∙ sym (is_cell ∙ ap (λ n. (h + j) % n) (one_shl b 64 (omega arith)))))
+    ]

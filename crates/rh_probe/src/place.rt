@@ -1,11 +1,14 @@
 //! The search for a key's place in a whole table.
 
-ghost use Rattle.std.specs.Prelude.{◌≡◌, ◌+◌, ◌%◌, ◌^◌, ◌<◌, length};
-ghost use Rattle.rh_layout.specs.Key.{IsBits};
-ghost use Rattle.rh_layout.specs.Layout.{HasFree};
+ghost use Rattle.std.specs.Prelude.{◌≡◌, ◌+◌, ◌%◌, ◌^◌, ◌<◌, length, false, MatchOption};
+ghost use Rattle.std.specs.FinSet as set;
+ghost use Rattle.std.specs.FinSet.{contains};
+ghost use Rattle.rh_layout.specs.Round.{place_after};
+ghost use Rattle.rh_layout.specs.Key.{IsBits, IsKey};
+ghost use Rattle.rh_layout.specs.Layout.{HasFree, Holds, IsLayout, keys_of};
 ghost use Rattle.rh_probe.specs.Look.{IsPlaceFor};
 
-use rh_layout::{beats, home, key_in};
+use rh_layout::{beats, cell_of, home, key_in};
 
 /// The cell after this one. Cell 0 comes after the last.
 #[tactic(auto, using(crate::proofs::PlaceLemmas::next_is))]
@@ -14,6 +17,19 @@ pub fn next_cell(size: usize, cell: usize) -> usize
     ensures { result ≡ (cell + 1) % size }
 {
     if cell + 1 < size { cell + 1 } else { 0 }
+}
+
+/// The cell that so many steps round the table lead to.
+#[tactic(auto, using(crate::proofs::PlaceLemmas::after_ahead, crate::proofs::PlaceLemmas::after_round))]
+pub fn cell_after(size: usize, from: usize, steps: usize) -> usize
+    requires from { from < size }
+    requires steps { steps < size }
+    requires small { size < 2 ^ 63 }
+    ensures value { result ≡ place_after size from steps }
+    ensures in_table { result < size }
+{
+    let cell = from + steps;
+    if cell < size { cell } else { cell - size }
 }
 
 /// How many steps from its home the key stands, or else where it goes: the first cell that is empty or
@@ -32,4 +48,20 @@ pub fn place_for(bits: u32, cells: &[u64], key: u64) -> usize
         }
     }
     unreachable!()
+}
+
+/// The cell that holds the key.
+pub fn find(bits: u32, cells: &[u64], key: u64) -> Option<usize>
+    requires layout { IsLayout bits cells.now }
+    requires key { IsKey key }
+    requires room { set.len (keys_of cells.now) < 2 ^ bits }
+    ensures { MatchOption result (contains (keys_of cells.now) key ≡ false) (λ c. Holds cells.now c key) }
+{
+    let steps = place_for(bits, cells, key);
+    let cell = cell_after(cells.len(), home(bits, key), steps);
+    if cells[cell] == cell_of(key) {
+        Some(cell)
+    } else {
+        None
+    }
 }

@@ -1,9 +1,9 @@
 //! The scans.
 
-ghost use Rattle.std.specs.Prelude.{◌≡◌, ℕ, ◌^◌, ◌<◌, ◌≤◌, length, slice_index, MatchOption};
+ghost use Rattle.std.specs.Prelude.{◌≡◌, ℕ, ◌+◌, ◌%◌, ◌^◌, ◌<◌, ◌≤◌, length, slice_index, MatchOption};
 ghost use Rattle.rh_layout.specs.Key.{IsBits, IsKey};
 ghost use Rattle.rh_probe.specs.Look.{Finds};
-ghost use Rattle.rh_probe.specs.Segment.{IsFirstFree};
+ghost use Rattle.rh_probe.specs.Segment.{IsFirstFree, IsMovable, IsFirstStop};
 
 use crate::answer::Look;
 use rh_layout::{beats, home, key_in};
@@ -39,4 +39,24 @@ pub fn free_after(seen: &[u64], i: usize) -> Option<usize>
     ensures { MatchOption result ((p : ℕ) → i ≤ p → p < length seen.now → 0 < slice_index seen.now p) (λ j. IsFirstFree seen.now i j) }
 {
     (i..seen.len()).find(|j| seen[*j] == 0)
+}
+
+/// The first place after `i` that is empty or holds a key at its home. What stands between can move back
+/// by one. `cell` is the cell of the first place of `seen`.
+#[tactic(auto, unfolding(rh_layout::specs::Round::place_after), using(std::proofs::lemmas::Nat::one_shl))]
+pub fn stop_after(bits: u32, cell: usize, seen: &[u64], i: usize) -> Option<usize>
+    requires bits { IsBits bits }
+    requires cell { cell < 2 ^ bits }
+    requires i { i < length seen.now }
+    requires room { length seen.now ≤ 2 ^ bits }
+    ensures { MatchOption result ((p : ℕ) → i < p → p < length seen.now → IsMovable bits cell seen.now p) (λ j. IsFirstStop bits cell seen.now i j) }
+{
+    let size = 1usize << bits;
+    for j in i + 1..seen.len() {
+        match key_in(seen[j]) {
+            Some(found) if home(bits, found) != (cell + j) % size => {}
+            _ => return Some(j),
+        }
+    }
+    None
 }
