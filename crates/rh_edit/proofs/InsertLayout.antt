@@ -6,7 +6,7 @@ use Rattle.std.specs.FinSet.{contains}
 use Rattle.std.proofs.lemmas.Bool.{cases_lt}
 use Rattle.rh_layout.specs.Round.{steps_round, place_after}
 use Rattle.rh_layout.specs.Key.{IsKey, cell_of}
-use Rattle.rh_layout.specs.Order.{home_of}
+use Rattle.rh_layout.specs.Order.{home_of, home_in}
 use Rattle.rh_layout.specs.Layout.{Keys, Holds, Layout, IsLayout, HasFree, HasTwoFree, keys_of}
 use Rattle.rh_layout.proofs.RoundLemmas.{steps_below, place_below, place_after-steps}
 use Rattle.rh_layout.proofs.OrderLemmas.{ahead_total, ordered_from_stepwise}
@@ -14,9 +14,9 @@ use Rattle.rh_layout.proofs.HeldLemmas.{IsHeld}
 use Rattle.rh_layout.proofs.SetLemmas.{same_keys, put_cases, put_it, put_kept}
 use Rattle.rh_layout.proofs.CountLemmas.{two_from_len}
 use Rattle.rh_layout.proofs.KeySetLemmas.{holds_from_contains, contains_from_holds}
-use Rattle.rh_layout.proofs.LayoutLemmas.{at, home_in, low_of, low_in, home_in-cell_of, ahead_from_beaten, beaten_from_ahead, layout_ordered, layout_from_ordered, with_same_keys}
+use Rattle.rh_layout.proofs.LayoutLemmas.{at, low_of, low_in, home_in-cell_of, ahead_from_beaten, beaten_from_ahead, layout_ordered, layout_from_ordered, with_same_keys}
 use Rattle.rh_probe.specs.Look.{IsPlaceFor}
-use Rattle.rh_probe.proofs.LookLemmas.{fresh_from_place}
+use Rattle.rh_probe.proofs.LookLemmas.{spot_is, fresh_from_place}
 use Rattle.rh_edit.specs.Put.{IsPushed}
 use Rattle.rh_edit.proofs.InsertLemmas.{GoesAt, stepwise-put}
 use Rattle.rh_edit.proofs.HeldAfter.{held_after, put_held, still_held}
@@ -144,9 +144,6 @@ free_past_place b cells k i size place free =
     ]
 
 -- ---- the same in the words of the code, where `first` is the home and n the number of cells
-
-spot_is : (b n k first i cell : ℕ) → n ≡ 2 ^ b → first ≡ home_of b k → cell ≡ place_after n first i → cell ≡ place_after (2 ^ b) (home_of b k) i
-spot_is b n k first i cell size start is = is ∙ ap (λ m. place_after m first i) size ∙ ap (λ h. place_after (2 ^ b) h i) start
 
 pub found_code : (b k first i cell value : ℕ) (cells : List ℕ) → IsLayout b cells → first ≡ home_of b k → IsPlaceFor b cells k i → value ≡ cell_of k → cell ≡ place_after (length cells) first i → at cells cell ≡ value → IsTrue (contains (keys_of cells) k)
 found_code b k first i cell value cells layout start place is_value is_cell same =

@@ -6,3 +6,7 @@ pub mod PushLemmas
 pub mod InsertLayout
 pub mod SegmentLemmas
 pub mod SetLemmas
+pub mod RemoveLemmas
+pub mod HeldOut
+pub mod PullLemmas
+pub mod RemoveLayout

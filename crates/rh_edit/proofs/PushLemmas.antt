@@ -6,12 +6,6 @@ use Rattle.rh_layout.proofs.LayoutLemmas.{at}
 use Rattle.rh_edit.specs.Put.{IsPartPut, IsPushed}
 use Rattle.rh_edit.proofs.PutLemmas.{part_done, part_more}
 
-pub after_ahead : (n from i : ℕ) → from < n → i < n → from + i < n → from + i ≡ place_after n from i
-after_ahead n from i p q less = grind (arith, place_cases n from i p q)
-
-pub after_round : (n from i : ℕ) → from < n → i < n → n ≤ from + i → from + i - n ≡ place_after n from i
-after_round n from i p q past = grind (arith, place_cases n from i p q)
-
 module _ (n h i t value carry cell : ℕ) (old now : List ℕ) (size : length now ≡ n) (h_in : h < n) (t_in : t < n) (part : IsPartPut n h i t value carry (at old) (at now)) (is_at : cell ≡ place_after n h t) where
   cell_in : cell < length now
   cell_in = rw (is_at, size) (place_below n h t (omega arith))

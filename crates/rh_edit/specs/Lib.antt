@@ -1,3 +1,4 @@
 pub mod Held
 pub mod News
+pub mod Pull
 pub mod Put

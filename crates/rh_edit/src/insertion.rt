@@ -8,7 +8,7 @@ ghost use Rattle.rh_layout.specs.Layout.{IsLayout, keys_of};
 ghost use Rattle.rh_edit.specs.Put.{IsPushed};
 
 use rh_layout::{cell_of, home};
-use rh_probe::{next_cell, place_for};
+use rh_probe::{cell_after, next_cell, place_for};
 
 /// Adds the key to the table, and answers whether it was not there.
 pub fn insert(bits: u32, cells: &mut [u64], key: u64) -> bool
@@ -28,19 +28,6 @@ pub fn insert(bits: u32, cells: &mut [u64], key: u64) -> bool
     }
     push_on(cells, first, at, cell, value);
     true
-}
-
-/// The cell that so many steps lead to.
-#[tactic(auto, using(crate::proofs::PushLemmas::after_ahead, crate::proofs::PushLemmas::after_round))]
-fn cell_after(size: usize, first: usize, steps: usize) -> usize
-    requires first { first < size }
-    requires steps { steps < size }
-    requires small { size < 2 ^ 32 }
-    ensures value { result ≡ place_after size first steps }
-    ensures in_table { result < size }
-{
-    let cell = first + steps;
-    if cell < size { cell } else { cell - size }
 }
 
 /// Puts the value into `cell`, `at` steps after `first`, and moves what stands from there up to the first

@@ -1,14 +1,16 @@
-//! Insertion into a Robin Hood table (Celis 1986), and the set of one worker.
+//! Insertion into a Robin Hood table (Celis 1986), removal by backward shift, and the set of one worker.
 #![tactic(auto)]
 
 mod insertion;
 mod laws;
 mod news;
+mod removal;
 mod set;
 
 pub use insertion::insert;
 pub use laws::insert_segment;
-pub use news::insert_news;
+pub use news::{insert_news, remove_news};
+pub use removal::remove;
 pub use set::SeqSet;
 
 #[cfg(test)]

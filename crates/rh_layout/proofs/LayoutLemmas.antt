@@ -5,7 +5,7 @@ use Rattle.std.specs.FinSet.{contains}
 use Rattle.std.proofs.lemmas.Bool.{cases_eq}
 use Rattle.rh_layout.specs.Round.{steps_round, place_after}
 use Rattle.rh_layout.specs.Key.{IsKey, IsBits, cell_of, key_in}
-use Rattle.rh_layout.specs.Order.{home_of, dist_of, Beats}
+use Rattle.rh_layout.specs.Order.{home_of, home_in, dist_of, Beats}
 use Rattle.rh_layout.specs.Layout.{Keys, Holds, IsBeatenAt, Layout, IsLayout, keys_of}
 use Rattle.rh_layout.proofs.HomeLemmas.{home_below}
 use Rattle.rh_layout.proofs.RoundLemmas.{place_below}
@@ -17,10 +17,6 @@ use Rattle.rh_layout.proofs.KeySetLemmas.{holds_from_contains, contains_from_hol
 -- what a cell holds
 abbrev pub at : List ℕ → ℕ → ℕ
 at cells c = get_or cells c 0
-
--- the home of the key in a cell that holds this
-abbrev pub home_in : (b value : ℕ) → ℕ
-home_in b value = home_of b (key_in value)
 
 pub low_of : (b : ℕ) → IsBits b → (k : ℕ) → home_of b k < 2 ^ b
 low_of b fits k = home_below b k (omega arith)

@@ -2,8 +2,9 @@
 use Rattle.std.proofs.Common.{◌≡◌, ℕ, ◌^◌, ◌<◌, sym, ◌∙◌, arith, List}
 use Rattle.std.proofs.lemmas.Grind.{same_number_lists}
 use Rattle.rh_layout.specs.Key.{cell_of, key_in}
+use Rattle.rh_layout.specs.Order.{home_in}
 use Rattle.rh_layout.specs.Layout.{Keys, Layout, HasFree}
-use Rattle.rh_layout.proofs.LayoutLemmas.{at, home_in, low_in, holds_its, layout_ordered}
+use Rattle.rh_layout.proofs.LayoutLemmas.{at, low_in, holds_its, layout_ordered}
 use Rattle.rh_layout.proofs.CountLemmas.{count_of_layout, count_from_free, free_from_count}
 use Rattle.rh_layout.proofs.UniqueLemmas.{IsAmong, same_cells}
 

@@ -1,9 +1,9 @@
--- Sets of keys: what they hold after a key was added, and when two are one.
+-- Sets of keys: what they hold after a key was added or taken out, and when two are one.
 use Rattle.std.proofs.Common.{◌≡◌, ℕ, ◌⊎◌, inl, inr, refl, sym, ◌∙◌, arith, Bool, true, false}
-use Rattle.std.specs.Prelude.{IsTrue, nat_eq, ◌||◌}
+use Rattle.std.specs.Prelude.{IsTrue, nat_eq, not, ◌&&◌, ◌||◌}
 use Rattle.std.specs.Cmp.{nat_cmp_total, unsigned_tied}
 use Rattle.std.specs.FinSet as set
-use Rattle.std.specs.FinSet.{contains, contains-insert, nat_cmp-IsAntisymmetric}
+use Rattle.std.specs.FinSet.{contains, contains-insert, contains-remove, nat_cmp-IsAntisymmetric}
 use Rattle.std.proofs.lemmas.Bool.{eqb-true}
 use Rattle.std.proofs.lemmas.Bool.Decides.{nat_tests}
 use Rattle.rh_layout.specs.Layout.{Keys}
@@ -41,3 +41,21 @@ put_it S k = contains_put S k k ∙ grind (arith, nat_tests)
 
 pub put_kept : (S : Keys) (k q : ℕ) → IsTrue (contains S q) → IsTrue (contains (set.insert S k) q)
 put_kept S k q h = contains_put S k q ∙ or_right (nat_eq q k) (contains S q) h
+
+both_true : (a b : Bool) → (not a && b) ≡ true → (a ≡ false) × (b ≡ true)
+both_true true b h = (cc)
+both_true false b h = (refl, h)
+
+both_back : (a b : Bool) → a ≡ false → b ≡ true → (not a && b) ≡ true
+both_back a b p q = rw (p, q) refl
+
+contains_out : (S : Keys) (k q : ℕ) → contains (set.remove S k) q ≡ (not (nat_eq q k) && contains S q)
+contains_out S k q = contains-remove nat_cmp_total S k q ∙ (λ i. not (unsigned_tied q k i) && contains S q)
+
+pub out_cases : (S : Keys) (k q : ℕ) → IsTrue (contains (set.remove S k) q) → (q ≡ k → ⊥) × IsTrue (contains S q)
+out_cases S k q h =
+    let two = both_true (nat_eq q k) (contains S q) (sym (contains_out S k q) ∙ h) in
+    (λ e. grind (arith, nat_tests, two.0, e), two.1)
+
+pub out_kept : (S : Keys) (k q : ℕ) → (q ≡ k → ⊥) → IsTrue (contains S q) → IsTrue (contains (set.remove S k) q)
+out_kept S k q ne h = contains_out S k q ∙ both_back (nat_eq q k) (contains S q) (grind (arith, nat_tests)) h

@@ -5,11 +5,11 @@ use Rattle.std.specs.FinSet.{contains}
 use Rattle.std.proofs.lemmas.Nat.{one_shl}
 use Rattle.rh_layout.specs.Round.{steps_round, place_after}
 use Rattle.rh_layout.specs.Key.{IsBits, cell_of}
-use Rattle.rh_layout.specs.Order.{home_of, dist_of, Beats}
+use Rattle.rh_layout.specs.Order.{home_of, home_in, dist_of, Beats}
 use Rattle.rh_layout.specs.Layout.{Keys, Holds, IsBeatenAt, Layout}
 use Rattle.rh_layout.proofs.RoundLemmas.{place_below, place_after-steps, steps-place_after}
 use Rattle.rh_layout.proofs.HeldLemmas.{not_held}
-use Rattle.rh_layout.proofs.LayoutLemmas.{at, home_in, low_of, low_in, home_in-cell_of, ahead_from_beaten, beaten_from_ahead, layout_ordered}
+use Rattle.rh_layout.proofs.LayoutLemmas.{at, low_of, low_in, home_in-cell_of, ahead_from_beaten, beaten_from_ahead, layout_ordered}
 use Rattle.rh_layout.proofs.SetLemmas.{not_true}
 use Rattle.rh_probe.specs.Look.{IsPassedAt, AllPassed, Finds, IsPlaceFor}
 use Rattle.rh_probe.specs.Segment.{IsFront}

@@ -8,7 +8,7 @@ use Rattle.rh_layout.specs.Order.{home_of, dist_of}
 use Rattle.rh_layout.specs.Layout.{IsBeatenAt, HasFree}
 use Rattle.rh_layout.proofs.RoundLemmas.{reduced, place_cases, steps_below, place_after-next, place_after-steps}
 use Rattle.rh_layout.proofs.LayoutLemmas.{at, low_of}
-use Rattle.rh_probe.specs.Segment.{IsMovable}
+use Rattle.rh_probe.specs.Segment.{IsAway}
 
 pub next_is : (n c : ℕ) → c < n → ((c + 1 < n) → c + 1 ≡ (c + 1) % n) × (n ≤ c + 1 → 0 ≡ (c + 1) % n)
 next_is n c c_in = (λ less. grind (arith, reduced n (c + 1) (omega arith)), λ past. grind (arith, reduced n (c + 1) (omega arith)))
@@ -45,12 +45,10 @@ passed_all b cells k i fits size all passed free =
     let beaten = passed free.0 c_in (omega (arith, steps_below (2 ^ b) (home_of b k) free.0 (omega arith))) in
     omega (arith, beaten.1.1, free.2)
 
-pub movable_more : (b h : ℕ) (seen : List ℕ) (i j k home cell : ℕ) → IsBits b → ((p : ℕ) → i < p → p < j → IsMovable b h seen p) → at seen j ≡ cell_of k → home ≡ home_of b k → cell ≡ (h + j) % (1 * 2 ^ b % 18446744073709551616) → (home ≡ cell → ⊥) → (p : ℕ) → i < p → p < j + 1 → IsMovable b h seen p
+pub away_more : (b h : ℕ) (seen : List ℕ) (i j : ℕ) → IsBits b → ((p : ℕ) → i < p → p < j → IsAway b (place_after (2 ^ b) h p) (at seen p)) → IsAway b ((h + j) % (1 * 2 ^ b % 18446744073709551616)) (at seen j) → (p : ℕ) → i < p → p < j + 1 → IsAway b (place_after (2 ^ b) h p) (at seen p)
 unfolding place_after
-movable_more b h seen i j k home cell fits before is is_home is_cell away p above below =
+away_more b h seen i j fits before here p above below =
     elim (cases_lt p j) [
       | inl less ↦ before p above less
-      | inr last ↦
-          let same : p ≡ j = omega arith in
-          (k, ap (at seen) same ∙ is, λ e. away (is_home ∙ e ∙ ap (λ q. (h + q) % 2 ^ b) same ∙ sym (is_cell ∙ ap (λ n. (h + j) % n) (one_shl b 64 (omega arith)))))
+      | inr last ↦ let same : j ≡ p = omega arith in rw (one_shl b 64 (omega arith), same) at here
     ]

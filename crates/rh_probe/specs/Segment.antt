@@ -16,16 +16,16 @@ pub record IsFirstFree (seen : List ℕ) (i j : ℕ) : Type 0 where
   pub free : slice_index seen j ≡ 0
   pub full : (p : ℕ) → i ≤ p → p < j → 0 < slice_index seen p
 
--- place p holds a key that is not at its home, where h is the cell of place 0
-abbrev pub IsMovable : (b h : ℕ) (seen : List ℕ) (p : ℕ) → Type 0
-IsMovable b h seen p = (k : ℕ) × (slice_index seen p ≡ cell_of k) × (home_of b k ≡ place_after (2 ^ b) h p → ⊥)
+-- what cell c holds is a key that is not at its home
+abbrev pub IsAway : (b c value : ℕ) → Type 0
+IsAway b c value = (k : ℕ) × (value ≡ cell_of k) × (home_of b k ≡ c → ⊥)
 
--- j is the first place after i that is empty or holds a key at its home
+-- j is the first place after i that is empty or holds a key at its home, where h is the cell of place 0
 pub record IsFirstStop (b h : ℕ) (seen : List ℕ) (i j : ℕ) : Type 0 where
   pub from : i < j
   pub within : j < length seen
-  pub stop : (k : ℕ) → slice_index seen j ≡ cell_of k → home_of b k ≡ place_after (2 ^ b) h j
-  pub between : (p : ℕ) → i < p → p < j → IsMovable b h seen p
+  pub stop : IsAway b (place_after (2 ^ b) h j) (slice_index seen j) → ⊥
+  pub between : (p : ℕ) → i < p → p < j → IsAway b (place_after (2 ^ b) h p) (slice_index seen p)
 
 -- `new` is `old` with what the cells from cell h on hold replaced by `news`
 pub record ReplacesFront (n h : ℕ) (old new news : List ℕ) : Type 0 where

@@ -1,9 +1,10 @@
 //! The scans.
 
-ghost use Rattle.std.specs.Prelude.{◌≡◌, ℕ, ◌+◌, ◌%◌, ◌^◌, ◌<◌, ◌≤◌, length, slice_index, MatchOption};
+ghost use Rattle.std.specs.Prelude.{◌≡◌, ℕ, ◌+◌, ◌%◌, ◌^◌, ◌<◌, ◌≤◌, ◌↔◌, IsTrue, length, slice_index, MatchOption};
+ghost use Rattle.rh_layout.specs.Round.{place_after};
 ghost use Rattle.rh_layout.specs.Key.{IsBits, IsKey};
 ghost use Rattle.rh_probe.specs.Look.{Finds};
-ghost use Rattle.rh_probe.specs.Segment.{IsFirstFree, IsMovable, IsFirstStop};
+ghost use Rattle.rh_probe.specs.Segment.{IsAway, IsFirstFree, IsFirstStop};
 
 use crate::answer::Look;
 use rh_layout::{beats, home, key_in};
@@ -49,14 +50,24 @@ pub fn stop_after(bits: u32, cell: usize, seen: &[u64], i: usize) -> Option<usiz
     requires cell { cell < 2 ^ bits }
     requires i { i < length seen.now }
     requires room { length seen.now ≤ 2 ^ bits }
-    ensures { MatchOption result ((p : ℕ) → i < p → p < length seen.now → IsMovable bits cell seen.now p) (λ j. IsFirstStop bits cell seen.now i j) }
+    ensures { MatchOption result ((p : ℕ) → i < p → p < length seen.now → IsAway bits (place_after (2 ^ bits) cell p) (slice_index seen.now p)) (λ j. IsFirstStop bits cell seen.now i j) }
 {
     let size = 1usize << bits;
     for j in i + 1..seen.len() {
-        match key_in(seen[j]) {
-            Some(found) if home(bits, found) != (cell + j) % size => {}
-            _ => return Some(j),
+        if !is_movable(bits, (cell + j) % size, seen[j]) {
+            return Some(j);
         }
     }
     None
+}
+
+/// Whether a cell that holds this has a key that is not at its home, so that it can move back by one.
+pub fn is_movable(bits: u32, cell: usize, value: u64) -> bool
+    requires { IsBits bits }
+    ensures { IsTrue result ↔ IsAway bits cell value }
+{
+    match key_in(value) {
+        Some(key) => home(bits, key) != cell,
+        None => false,
+    }
 }
