@@ -119,18 +119,18 @@ module _ (b : ℕ) (old new : List ℕ) (k i j : ℕ) (S : Keys) (key : IsKey k)
     keys_after =
         same_keys (keys_of new) (set.insert S k)
         (λ q has.
-            let there = holds_from_contains new q has in
-            elim (was_or_is there.0 q there.1) [ inl was ↦ put_kept S k q was | inr it ↦ rw it (put_it S k) ])
+        let there = holds_from_contains new q has in
+        elim (was_or_is there.0 q there.1) [ inl was ↦ put_kept S k q was | inr it ↦ rw it (put_it S k) ])
         (λ q has.
-            elim (put_cases S k q has) [
-              | inl it ↦
-                  let there = put_held n (home_in b) low h i j (cell_of k) (at old) (at new) h_in goes pushed.put in
-                  rw it (contains_from_holds new there.0 k (omega (arith, there.1, size), there.2))
-              | inr was ↦
-                  let stands = layout.held q was in
-                  let there = still_held n (home_in b) low h i j (cell_of k) (at old) (at new) h_in goes pushed.put (cell_of q) (omega arith) (stands.0, omega (arith, stands.1.0, layout.size), stands.1.1) in
-                  contains_from_holds new there.0 q (omega (arith, there.1, size), there.2)
-            ])
+        elim (put_cases S k q has) [
+          | inl it ↦
+              let there = put_held n (home_in b) low h i j (cell_of k) (at old) (at new) h_in goes pushed.put in
+              rw it (contains_from_holds new there.0 k (omega (arith, there.1, size), there.2))
+          | inr was ↦
+              let stands = layout.held q was in
+              let there = still_held n (home_in b) low h i j (cell_of k) (at old) (at new) h_in goes pushed.put (cell_of q) (omega arith) (stands.0, omega (arith, stands.1.0, layout.size), stands.1.1) in
+              contains_from_holds new there.0 q (omega (arith, there.1, size), there.2)
+        ])
 
     pub insert_new : (contains S k ≡ false) × Layout new b (set.insert S k)
     insert_new = (fresh_from_place b old k i S layout place other, with_same_keys new b (set.insert S k) made keys_after)

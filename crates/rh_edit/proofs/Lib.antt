@@ -4,7 +4,8 @@ pub mod PutLemmas
 pub mod HeldAfter
 pub mod PushLemmas
 pub mod InsertLayout
-pub mod SegmentLemmas
+pub mod InsertSegment
+pub mod RemoveSegment
 pub mod SetLemmas
 pub mod RemoveLemmas
 pub mod HeldOut

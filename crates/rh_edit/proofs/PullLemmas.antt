@@ -94,12 +94,12 @@ module _ (n : ℕ) (home : ℕ → ℕ) (h i t : ℕ) (old now new : ℕ → ℕ
 -- ---- the loop's step, on lists
 
 -- what can move back is a key that is not at home, as a number
-movable_is : (b c value : ℕ) → IsAway b c value → (0 < value) × (home_in b value ≡ c → ⊥)
+pub movable_is : (b c value : ℕ) → IsAway b c value → (0 < value) × (home_in b value ≡ c → ⊥)
 movable_is b c value away =
     let its : home_in b value ≡ home_of b away.0 = ap (home_of b) (omega (arith, away.1)) in
     (omega (arith, away.1), λ e. away.2 (sym its ∙ e))
 
-unmovable_is : (b c value : ℕ) → (IsAway b c value → ⊥) → 0 < value → home_in b value ≡ c
+pub unmovable_is : (b c value : ℕ) → (IsAway b c value → ⊥) → 0 < value → home_in b value ≡ c
 unmovable_is b c value stays some =
     elim (cases_eq (home_in b value) c) [
       | inl same ↦ same

@@ -98,14 +98,14 @@ module _ (b : ℕ) (old new : List ℕ) (k i j : ℕ) (S : Keys) (layout : Layou
   keys_after =
       same_keys (keys_of new) (set.remove S k)
       (λ q has.
-          let there = holds_from_contains new q has in
-          let was = stood there.0 q there.1 in
-          out_kept S k q was.0 was.1)
+      let there = holds_from_contains new q has in
+      let was = stood there.0 q there.1 in
+      out_kept S k q was.0 was.1)
       (λ q has.
-          let two = out_cases S k q has in
-          let held = layout.held q two.1 in
-          let there = still_left n (home_in b) low i j (cell_of k) (at old) (at new) leaves pulled.out (cell_of q) (omega arith) (λ e. two.0 (omega arith)) (held.0, omega (arith, held.1.0, layout.size), held.1.1) in
-          contains_from_holds new there.0 q (omega (arith, there.1, size), there.2))
+      let two = out_cases S k q has in
+      let held = layout.held q two.1 in
+      let there = still_left n (home_in b) low i j (cell_of k) (at old) (at new) leaves pulled.out (cell_of q) (omega arith) (λ e. two.0 (omega arith)) (held.0, omega (arith, held.1.0, layout.size), held.1.1) in
+      contains_from_holds new there.0 q (omega (arith, there.1, size), there.2))
 
   pub remove_held : IsTrue (contains S k) × Layout new b (set.remove S k)
   remove_held = (layout.no_other spot k (omega (arith, layout.size, spot_in), stands), with_same_keys new b (set.remove S k) made keys_after)

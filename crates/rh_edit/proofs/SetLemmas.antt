@@ -1,13 +1,13 @@
 -- What the calls of a `SeqSet` leave.
-use Rattle.std.proofs.Common.{◌≡◌, ℕ, ◌*◌, ◌%◌, ◌^◌, ◌<◌, inl, inr, refl, sym, ap, ◌∙◌, arith, List, length, take, drop, ◌++◌, get_or, replicate}
+use Rattle.std.proofs.Common.{◌≡◌, ℕ, ◌*◌, ◌%◌, ◌^◌, ◌<◌, inl, inr, refl, sym, ap, ◌∙◌, arith, List, length, take, drop, ◌++◌, get_or, replicate, true, false}
 use Rattle.std.specs.Ordering.{nat_cmp}
 use Rattle.std.specs.FinSet as set
-use Rattle.std.specs.FinSet.{members, contains-empty}
-use Rattle.std.proofs.lemmas.Bool.{cases_lt}
+use Rattle.std.specs.FinSet.{members, contains, contains-empty, empty_of_len}
+use Rattle.std.proofs.lemmas.Bool.{cases_lt, cases_eq}
 use Rattle.std.proofs.lemmas.Nat.{pow_pos}
 use Rattle.std.proofs.lemmas.List.{take_at, length-replicate, get_or-replicate, get_or_past}
 use Rattle.rh_layout.specs.Key.{IsBits}
-use Rattle.rh_layout.specs.Layout.{IsLayout, keys_of}
+use Rattle.rh_layout.specs.Layout.{Keys, IsLayout, keys_of}
 use Rattle.rh_layout.proofs.SetLemmas.{same_keys}
 use Rattle.rh_layout.proofs.KeySetLemmas.{holds_from_contains}
 use Rattle.rh_layout.proofs.LayoutLemmas.{at, layout_from_ordered}
@@ -39,8 +39,16 @@ module _ (n : ℕ) (cells : List ℕ) (made : cells ≡ replicate n 0) where
   pub keeps_empty : (b : ℕ) → IsBits b → n ≡ 2 ^ b → IsLayout b cells × (0 ≡ set.len (keys_of cells)) × (0 < 2 ^ b)
   keeps_empty b fits size = (
     layout_from_ordered b cells fits (ap length made ∙ length-replicate n 0 ∙ size)
-    (λ c k holds. absurd (omega (arith, holds.1, none c)))
-    (λ c _ some. absurd (omega (arith, none c))),
+        (λ c k holds. absurd (omega (arith, holds.1, none c)))
+        (λ c _ some. absurd (omega (arith, none c))),
     sym (ap set.len keys_of_empty ∙ set.len-empty nat_cmp),
     pow_pos b,
   )
+
+-- a set that has a key has at least one
+pub pos_of_contains : (S : Keys) (k : ℕ) → contains S k ≡ true → 0 < set.len S
+pos_of_contains S k has =
+    elim (cases_eq (set.len S) 0) [
+      | inr pos ↦ omega arith
+      | inl none ↦ let e : contains S k ≡ false = ap (λ (T : Keys). contains T k) (empty_of_len S none) ∙ contains-empty nat_cmp k in (cc)
+    ]

@@ -8,7 +8,7 @@ mod removal;
 mod set;
 
 pub use insertion::insert;
-pub use laws::insert_segment;
+pub use laws::{insert_segment, remove_segment};
 pub use news::{insert_news, remove_news};
 pub use removal::remove;
 pub use set::SeqSet;

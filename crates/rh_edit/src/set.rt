@@ -5,7 +5,8 @@ ghost use Rattle.std.specs.FinSet as set;
 ghost use Rattle.rh_layout.specs.Key.{IsBits, IsKey};
 ghost use Rattle.rh_layout.specs.Layout.{Layout};
 
-use crate::insertion;
+use crate::{insertion, removal};
+use rh_probe::find;
 use std::alloc::{AllocError, Global};
 use std::marker::Model;
 
@@ -83,5 +84,28 @@ impl SeqSet {
             self.len += 1;
         }
         added
+    }
+
+    /// Takes a key out, and answers whether it was there.
+    #[tactic(auto, using(crate::proofs::SetLemmas::set_members, crate::proofs::SetLemmas::pos_of_contains))]
+    pub fn remove(&mut self, key: u64) -> bool
+        requires { IsKey key }
+        ensures bits { self.new.bits ≡ self.old.bits }
+        ensures keys { self.new.keys ≡ set.remove self.old.keys key }
+        ensures changed { result ≡ set.contains self.old.keys key }
+    {
+        let removed = removal::remove(self.bits, self.table.as_mut_slice(), key);
+        if removed {
+            self.len -= 1;
+        }
+        removed
+    }
+
+    /// Whether the key is there.
+    pub fn has(&self, key: u64) -> bool
+        requires { IsKey key }
+        ensures { result ≡ set.contains self.now.keys key }
+    {
+        find(self.bits, self.table.as_slice(), key).is_some()
     }
 }

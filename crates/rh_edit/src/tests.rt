@@ -1,1 +1,50 @@
 use super::*;
+use std::test::Fail;
+
+// Tables of 3 bits: the keys that are added, the one that is then removed, and the cells after it. A cell
+// holds its key plus 1.
+const REMOVALS: [(&[u64], u64, [u64; 8]); 3] = [
+    (&[8, 16, 5, 21], 8, [22, 6, 0, 0, 0, 0, 0, 17]),
+    (&[1, 9, 17, 6, 14, 3], 9, [4, 0, 0, 0, 2, 18, 7, 15]),
+    (&[1, 9, 17], 2, [0, 0, 0, 0, 2, 10, 18, 0]),
+];
+
+#[test]
+fn a_removal_shifts_back(rt: HostRuntime) -> Result<(), Fail> {
+    for (keys, removed, cells) in REMOVALS {
+        let mut set = SeqSet::new(rt.alloc(), 3)?;
+        for key in keys {
+            assert!(rt; set.bits() == 3 && set.len() < 7 && *key < 100);
+            assert!(rt; set.insert(*key), "{key} is new");
+        }
+        assert!(rt; removed < 100);
+        assert_eq!(rt; set.remove(removed), keys.contains(&removed));
+        assert!(rt; !set.has(removed));
+        assert_eq!(rt; set.cells(), cells.as_slice(), "without {removed}");
+    }
+    Ok(())
+}
+
+#[test]
+fn a_key_again_changes_nothing(rt: HostRuntime) -> Result<(), Fail> {
+    let mut set = SeqSet::new(rt.alloc(), 3)?;
+    for is_new in [true, false] {
+        assert!(rt; set.bits() == 3 && set.len() < 7);
+        assert_eq!(rt; set.insert(0), is_new);
+    }
+    assert!(rt; set.has(0));
+    assert_eq!(rt; set.len(), 1);
+    assert_eq!(rt; set.cells(), [1, 0, 0, 0, 0, 0, 0, 0].as_slice());
+    Ok(())
+}
+
+// Three keys of one home, 4 at 3 bits: 9 goes between 1 and 17, and comes out again.
+#[test]
+fn news_of_a_segment(rt: HostRuntime) {
+    let mut news = [0; 3];
+    insert_news(9, &[2, 18, 0], 1, &mut news);
+    assert_eq!(rt; news, [2, 10, 18]);
+    let mut back = [0; 4];
+    remove_news(&[2, 10, 18, 0], 1, &mut back);
+    assert_eq!(rt; back, [2, 18, 0, 0]);
+}

@@ -33,7 +33,7 @@ returns-clause-layout c =
 pub returns-clause-keys : goal.returns-clause-keys
 returns-clause-keys c =
     sym (layout_keys c.push_on.new.cells c.args.bits (set.insert (keys_of c.args.cells.now) c.args.key)
-        (insert_code c.args.bits c.args.key _ _ _ _ c.args.cells.now c.push_on.new.cells c.requires.key c.requires.layout c.requires.room c.home-first.ensures.value c.place_for-at.ensures c.cell_of-value.ensures c.cell_after-cell.ensures.value c.if-cells-cell.false c.push_on.ensures.0 c.push_on.ensures.1 c.push_on.auto.cells).1)
+    (insert_code c.args.bits c.args.key _ _ _ _ c.args.cells.now c.push_on.new.cells c.requires.key c.requires.layout c.requires.room c.home-first.ensures.value c.place_for-at.ensures c.cell_of-value.ensures c.cell_after-cell.ensures.value c.if-cells-cell.false c.push_on.ensures.0 c.push_on.ensures.1 c.push_on.auto.cells).1)
 
 pub returns-clause-changed : goal.returns-clause-changed
 returns-clause-changed c =

@@ -1,4 +1,4 @@
-use Rattle.rh_edit.proofs.SegmentLemmas.{insert_front}
+use Rattle.rh_edit.proofs.InsertSegment.{insert_front}
 use Rattle.rh_edit.proofs.laws.insert_segment.Goals as goal
 
 pub returns : goal.returns

@@ -31,7 +31,7 @@ returns-clause-layout c =
 pub returns-clause-keys : goal.returns-clause-keys
 returns-clause-keys c =
     sym (layout_keys c.pull_back.new.cells c.args.bits (set.remove (keys_of c.args.cells.now) c.args.key)
-        (remove_code c.args.bits c.args.key _ _ _ _ c.args.cells.now c.pull_back.new.cells c.requires.layout c.home-first.ensures.value c.place_for-at.ensures c.cell_of.ensures c.cell_after-cell.ensures.value c.if-cells-cell.false c.pull_back.ensures.0 c.pull_back.ensures.1 c.pull_back.auto.cells).1)
+    (remove_code c.args.bits c.args.key _ _ _ _ c.args.cells.now c.pull_back.new.cells c.requires.layout c.home-first.ensures.value c.place_for-at.ensures c.cell_of.ensures c.cell_after-cell.ensures.value c.if-cells-cell.false c.pull_back.ensures.0 c.pull_back.ensures.1 c.pull_back.auto.cells).1)
 
 pub returns-clause-changed : goal.returns-clause-changed
 returns-clause-changed c =
