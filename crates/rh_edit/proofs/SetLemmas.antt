@@ -1,11 +1,12 @@
 -- What the calls of a `SeqSet` leave.
-use Rattle.std.proofs.Common.{◌≡◌, ℕ, ◌*◌, ◌%◌, ◌^◌, ◌<◌, inl, inr, refl, sym, ap, ◌∙◌, arith, List, length, take, drop, ◌++◌, get_or, replicate, true, false}
+use Rattle.std.proofs.Common.{◌≡◌, ℕ, ◌*◌, ◌%◌, ◌^◌, ◌<◌, inl, inr, refl, sym, ap, ◌∙◌, arith, List, length, take, drop, ◌++◌, get_or, replicate, Bool, true, false, cond, [], ◌∷◌, ◌+◌, ◌≤◌, ◌⊎◌}
 use Rattle.std.specs.Ordering.{nat_cmp}
+use Rattle.std.specs.Cmp.{nat_cmp_total}
 use Rattle.std.specs.FinSet as set
-use Rattle.std.specs.FinSet.{members, contains, contains-empty, empty_of_len}
+use Rattle.std.specs.FinSet.{members, contains, contains-empty, empty_of_len, nat_cmp-IsAntisymmetric}
 use Rattle.std.proofs.lemmas.Bool.{cases_lt, cases_eq}
 use Rattle.std.proofs.lemmas.Nat.{pow_pos}
-use Rattle.std.proofs.lemmas.List.{take_at, length-replicate, get_or-replicate, get_or_past}
+use Rattle.std.proofs.lemmas.List.{take_at, take_more, length-take, length-replicate, get_or-replicate, get_or_past}
 use Rattle.rh_layout.specs.Key.{IsBits}
 use Rattle.rh_layout.specs.Layout.{Keys, IsLayout, keys_of}
 use Rattle.rh_layout.proofs.SetLemmas.{same_keys}
@@ -52,3 +53,30 @@ pos_of_contains S k has =
       | inr pos ↦ omega arith
       | inl none ↦ let e : contains S k ≡ false = ap (λ (T : Keys). contains T k) (empty_of_len S none) ∙ contains-empty nat_cmp k in (cc)
     ]
+
+-- ---- the set of a list
+
+pub len-from_list : (keys : List ℕ) → set.len (set.from_list {R = nat_cmp} keys) ≤ length keys
+len-from_list [] = omega (arith, set.len-empty nat_cmp)
+len-from_list (k ∷ keys) =
+    let before = len-from_list keys in
+    let after = set.len-insert nat_cmp_total (set.from_list {R = nat_cmp} keys) k in
+    elim (cases_bool (contains (set.from_list {R = nat_cmp} keys) k)) [
+      | inl has ↦ omega (arith, after ∙ ap (λ t. cond t (set.len (set.from_list {R = nat_cmp} keys)) (set.len (set.from_list {R = nat_cmp} keys) + 1)) has)
+      | inr new ↦ omega (arith, after ∙ ap (λ t. cond t (set.len (set.from_list {R = nat_cmp} keys)) (set.len (set.from_list {R = nat_cmp} keys) + 1)) new)
+    ]
+  where
+    cases_bool : (t : Bool) → (t ≡ true) ⊎ (t ≡ false)
+    cases_bool true = inl refl
+    cases_bool false = inr refl
+
+-- what the loop over a list needs of the set so far: room for a key more, and the set that it makes
+module _ (keys : List ℕ) (i : ℕ) where
+  pub room_for_more : (bits b : ℕ) (S : Keys) → i < length keys → length keys < 2 ^ bits → b ≡ bits → S ≡ set.from_list (take i keys) → set.len S + 1 < 2 ^ b
+  room_for_more bits b S inside room same is =
+      rw (is, same) (omega (arith, len-from_list (take i keys), length-take i keys))
+
+  pub from_list_more : (S : Keys) → i < length keys → S ≡ set.from_list (take i keys) → set.insert S (at keys i) ≡ set.from_list (take (i + 1) keys)
+  from_list_more S inside is =
+      ap (λ (T : Keys). set.insert T (at keys i)) is
+      ∙ sym (ap (λ (l : List ℕ). set.from_list {R = nat_cmp} l) (take_more keys i 0 inside) ∙ set.from_list_push nat_cmp_total nat_cmp-IsAntisymmetric (take i keys) (at keys i))

@@ -1,6 +1,6 @@
 //! The set of one worker.
 
-ghost use Rattle.std.specs.Prelude.{◌≡◌, ◌+◌, ◌^◌, ◌<◌, IfOk, not};
+ghost use Rattle.std.specs.Prelude.{◌≡◌, ◌+◌, ◌^◌, ◌<◌, All, IfOk, length, not};
 ghost use Rattle.std.specs.FinSet as set;
 ghost use Rattle.rh_layout.specs.Key.{IsBits, IsKey};
 ghost use Rattle.rh_layout.specs.Layout.{Layout};
@@ -47,6 +47,22 @@ impl SeqSet {
             len: 0,
             table,
         })
+    }
+
+    /// The set of the keys of a list, in a table of this size.
+    #[tactic(auto)]
+    pub fn from_keys(alloc: Global, bits: u32, keys: &[u64]) -> Result<SeqSet, AllocError>
+        requires bits { IsBits bits }
+        requires keys { All IsKey keys.now }
+        requires room { length keys.now < 2 ^ bits }
+        ensures bits { IfOk result (λ s. s.bits ≡ bits) }
+        ensures keys { IfOk result (λ s. s.keys ≡ set.from_list keys.now) }
+    {
+        let mut set = SeqSet::new(alloc, bits)?;
+        for key in keys {
+            set.insert(*key);
+        }
+        Ok(set)
     }
 
     /// How many keys there are.
