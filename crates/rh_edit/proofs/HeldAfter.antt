@@ -1,5 +1,5 @@
 -- Which values a circle of cells holds after one was put in.
-use Rattle.std.proofs.Common.{◌≡◌, ℕ, ◌+◌, ◌<◌, ◌≤◌, ◌⊎◌, inl, inr, refl, sym, ◌∙◌, arith}
+use Rattle.std.proofs.Common.{◌≡◌, ℕ, ◌<◌, ◌≤◌, ◌⊎◌, inl, inr, refl, sym, ◌∙◌, arith}
 use Rattle.std.proofs.lemmas.Bool.{cases_lt, cases_order}
 use Rattle.rh_layout.specs.Round.{steps_round, place_after, IsNext}
 use Rattle.rh_layout.proofs.RoundLemmas.{place_below, steps-place_after, next_cases, place_before, place_next, next_below}

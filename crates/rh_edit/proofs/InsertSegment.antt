@@ -1,28 +1,21 @@
 -- A segment of a layout, written over with a key put in.
-use Rattle.std.proofs.Common.{◌≡◌, ℕ, ◌+◌, ◌-◌, ◌^◌, ◌<◌, ◌≤◌, inl, inr, sym, ap, ◌∙◌, arith, List, length, take, get_or-take, length-take, false}
-use Rattle.std.specs.Prelude.{IsTrue}
-use Rattle.std.specs.List.{remove}
+use Rattle.std.proofs.Common.{◌≡◌, ℕ, ◌+◌, ◌-◌, ◌^◌, ◌<◌, inl, inr, sym, ap, ◌∙◌, arith, List, length, take, get_or-take, length-take, false}
 use Rattle.std.specs.FinSet as set
 use Rattle.std.specs.FinSet.{contains}
-use Rattle.std.proofs.lemmas.Bool.{cases_eq}
-use Rattle.std.proofs.lemmas.List.Edits.{get_or-insert_below, get_or-insert_at, get_or-insert_above, length-remove}
-use Rattle.rh_layout.specs.Round.{place_after}
+use Rattle.std.proofs.lemmas.List.Edits.{get_or-insert_below, get_or-insert_at, get_or-insert_above}
 use Rattle.rh_layout.specs.Key.{IsKey, IsBits, cell_of}
-use Rattle.rh_layout.specs.Order.{home_of, home_in, dist_of}
+use Rattle.rh_layout.specs.Order.{home_of, dist_of}
 use Rattle.rh_layout.specs.Layout.{Keys, Layout, HasTwoFree}
-use Rattle.rh_layout.proofs.RoundLemmas.{next_cases, next_below, place_after-steps}
+use Rattle.rh_layout.proofs.RoundLemmas.{next_cases, next_below}
 use Rattle.rh_layout.proofs.LayoutLemmas.{at, low_of}
 use Rattle.rh_probe.specs.Look.{Finds}
-use Rattle.rh_probe.specs.Segment.{IsFront, IsAway, IsFirstFree, IsFirstStop, ReplacesFront}
-use Rattle.rh_probe.specs.declared.answer.Look.TheVariants.{Here, Goes}
+use Rattle.rh_probe.specs.Segment.{IsFront, IsFirstFree, ReplacesFront}
+use Rattle.rh_probe.specs.declared.answer.Look.TheVariants.{Goes}
 use Rattle.rh_probe.proofs.LookLemmas.{shown, place_from_passed}
-use Rattle.rh_edit.specs.News.{put_in, taken_out}
+use Rattle.rh_edit.specs.News.{put_in}
 use Rattle.rh_edit.specs.Put.{IsPutIn, IsPushed}
-use Rattle.rh_edit.specs.Pull.{IsTakenOut, IsPulled}
-use Rattle.rh_edit.proofs.NewsLemmas.{put_in_len, taken_out_len, taken_out_below, taken_out_moved, taken_out_cleared, taken_out_last}
+use Rattle.rh_edit.proofs.NewsLemmas.{put_in_len}
 use Rattle.rh_edit.proofs.InsertLayout.{insert_new}
-use Rattle.rh_edit.proofs.PullLemmas.{movable_is, unmovable_is}
-use Rattle.rh_edit.proofs.RemoveLayout.{remove_held}
 
 module _ (b : ℕ) (old new seen : List ℕ) (k i j : ℕ) (fits : IsBits b) (size : length old ≡ 2 ^ b) (front : IsFront (2 ^ b) (home_of b k) old seen) (last : j + 1 ≡ length seen) (first : IsFirstFree seen i j) (replaces : ReplacesFront (2 ^ b) (home_of b k) old new (put_in (cell_of k) seen i)) where
   abbrev n : ℕ

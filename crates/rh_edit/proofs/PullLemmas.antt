@@ -2,7 +2,7 @@
 use Rattle.std.proofs.Common.{◌≡◌, ℕ, ◌+◌, ◌<◌, inl, inr, refl, sym, ap, ◌∙◌, arith, List, length, set, get_or-set_same, get_or-set_other}
 use Rattle.std.proofs.lemmas.Bool.{cases_eq}
 use Rattle.rh_layout.specs.Round.{steps_round, place_after, IsNext}
-use Rattle.rh_layout.specs.Key.{cell_of, key_in}
+use Rattle.rh_layout.specs.Key.{key_in}
 use Rattle.rh_layout.specs.Order.{home_of, home_in}
 use Rattle.rh_layout.proofs.LayoutLemmas.{at}
 use Rattle.rh_probe.specs.Segment.{IsAway}

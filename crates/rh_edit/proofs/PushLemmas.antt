@@ -1,7 +1,7 @@
 -- A step of the loop that pushes cells on.
-use Rattle.std.proofs.Common.{◌≡◌, ℕ, ◌+◌, ◌-◌, ◌%◌, ◌<◌, ◌≤◌, refl, sym, ap, ◌∙◌, arith, List, length, set, get_or-set_same, get_or-set_other}
+use Rattle.std.proofs.Common.{◌≡◌, ℕ, ◌+◌, ◌<◌, arith, List, length, set, get_or-set_same, get_or-set_other}
 use Rattle.rh_layout.specs.Round.{place_after}
-use Rattle.rh_layout.proofs.RoundLemmas.{place_below, place_cases}
+use Rattle.rh_layout.proofs.RoundLemmas.{place_below}
 use Rattle.rh_layout.proofs.LayoutLemmas.{at}
 use Rattle.rh_edit.specs.Put.{IsPartPut, IsPushed}
 use Rattle.rh_edit.proofs.PutLemmas.{part_done, part_more}

@@ -1,16 +1,15 @@
 -- A layout with a key taken out.
-use Rattle.std.proofs.Common.{◌≡◌, ℕ, ◌+◌, ◌^◌, ◌<◌, ◌≤◌, ◌⊎◌, inl, inr, sym, ap, ◌∙◌, subst, arith, List, length, false}
+use Rattle.std.proofs.Common.{◌≡◌, ℕ, ◌^◌, ◌<◌, inl, inr, sym, ap, ◌∙◌, subst, arith, List, length, false}
 use Rattle.std.specs.Prelude.{IsTrue}
 use Rattle.std.specs.FinSet as set
 use Rattle.std.specs.FinSet.{contains}
 use Rattle.std.proofs.lemmas.Bool.{cases_order}
 use Rattle.rh_layout.specs.Round.{steps_round, place_after}
-use Rattle.rh_layout.specs.Key.{IsKey, cell_of}
+use Rattle.rh_layout.specs.Key.{cell_of}
 use Rattle.rh_layout.specs.Order.{home_of, home_in}
 use Rattle.rh_layout.specs.Layout.{Keys, Holds, Layout, IsLayout, HasFree, keys_of}
 use Rattle.rh_layout.proofs.RoundLemmas.{place_below, place_after-steps, steps-place_after}
 use Rattle.rh_layout.proofs.OrderLemmas.{ordered_from_stepwise}
-use Rattle.rh_layout.proofs.HeldLemmas.{IsHeld}
 use Rattle.rh_layout.proofs.SetLemmas.{same_keys, out_cases, out_kept}
 use Rattle.rh_layout.proofs.KeySetLemmas.{holds_from_contains, contains_from_holds}
 use Rattle.rh_layout.proofs.LayoutLemmas.{at, low_of, low_in, home_in-cell_of, layout_ordered, layout_from_ordered, with_same_keys}
@@ -19,7 +18,6 @@ use Rattle.rh_probe.proofs.LookLemmas.{spot_is, fresh_from_place}
 use Rattle.rh_edit.specs.Pull.{IsPulled}
 use Rattle.rh_edit.proofs.RemoveLemmas.{LeavesFrom, stepwise-taken}
 use Rattle.rh_edit.proofs.HeldOut.{left_from, still_left}
-use Rattle.rh_edit.proofs.InsertLayout.{held_at_place}
 
 -- A set that does not have the key is not changed by its removal.
 pub out_again : (S : Keys) (k : ℕ) → contains S k ≡ false → S ≡ set.remove S k

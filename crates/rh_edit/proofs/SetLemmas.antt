@@ -1,5 +1,5 @@
 -- What the calls of a `SeqSet` leave.
-use Rattle.std.proofs.Common.{◌≡◌, ℕ, ◌*◌, ◌%◌, ◌^◌, ◌<◌, inl, inr, refl, sym, ap, ◌∙◌, arith, List, length, take, drop, ◌++◌, get_or, replicate, Bool, true, false, cond, [], ◌∷◌, ◌+◌, ◌≤◌, ◌⊎◌}
+use Rattle.std.proofs.Common.{◌≡◌, ℕ, ◌^◌, ◌<◌, inl, inr, refl, sym, ap, ◌∙◌, arith, List, length, take, drop, ◌++◌, get_or, replicate, Bool, true, false, cond, [], ◌∷◌, ◌+◌, ◌≤◌, ◌⊎◌}
 use Rattle.std.specs.Ordering.{nat_cmp}
 use Rattle.std.specs.Cmp.{nat_cmp_total}
 use Rattle.std.specs.FinSet as set

@@ -1,5 +1,5 @@
 -- How many keys a layout holds, and how many of its cells are free.
-use Rattle.std.proofs.Common.{◌≡◌, ℕ, zero, suc, ◌+◌, ◌^◌, ◌<◌, ◌≤◌, inl, inr, sym, ap, ◌∙◌, arith, List, [], ◌∷◌, length, get_or, count_by, cond, false}
+use Rattle.std.proofs.Common.{◌≡◌, ℕ, zero, suc, ◌+◌, ◌^◌, ◌<◌, inl, inr, sym, ap, ◌∙◌, arith, List, [], ◌∷◌, length, get_or, count_by, cond, false}
 use Rattle.std.specs.Prelude.{not}
 use Rattle.std.specs.Ordering.{nat_cmp}
 use Rattle.std.specs.Cmp.{nat_cmp_total}
@@ -7,7 +7,7 @@ use Rattle.std.specs.FinSet as set
 use Rattle.std.specs.FinSet.{contains, len-insert, len-empty}
 use Rattle.std.proofs.lemmas.Bool.{cases_eq, ne_eqb}
 use Rattle.std.proofs.lemmas.List.Sums.{sum_by-cons, count_by-le-length}
-use Rattle.rh_layout.specs.Key.{cell_of, key_in, is_full}
+use Rattle.rh_layout.specs.Key.{key_in, is_full}
 use Rattle.rh_layout.specs.Layout.{Keys, Holds, Layout, HasFree, HasTwoFree, keys_of}
 use Rattle.rh_layout.proofs.SetLemmas.{not_true}
 use Rattle.rh_layout.proofs.KeySetLemmas.{keys_of-empty, keys_of-full, holds_from_contains}

@@ -1,5 +1,5 @@
 -- Which keys a circle of cells holds, and where.
-use Rattle.std.proofs.Common.{◌≡◌, ℕ, ◌<◌, inl, inr, sym, ap, ◌∙◌, arith}
+use Rattle.std.proofs.Common.{◌≡◌, ℕ, ◌<◌, inl, inr, sym, ap, ◌∙◌}
 use Rattle.std.proofs.lemmas.Bool.{cases_order}
 use Rattle.rh_layout.specs.Round.{steps_round, place_after}
 use Rattle.rh_layout.proofs.RoundLemmas.{place_after-steps}

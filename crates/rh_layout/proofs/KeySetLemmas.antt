@@ -1,13 +1,13 @@
 -- The set of the keys that a list of cells holds.
-use Rattle.std.proofs.Common.{◌≡◌, ℕ, zero, suc, ◌+◌, ◌<◌, inl, inr, refl, sym, ap, ◌∙◌, subst, arith, List, [], ◌∷◌, length, true}
+use Rattle.std.proofs.Common.{◌≡◌, ℕ, zero, suc, ◌<◌, inl, inr, refl, ap, ◌∙◌, arith, List, [], ◌∷◌}
 use Rattle.std.specs.Prelude.{IsTrue}
 use Rattle.std.specs.Ordering.{nat_cmp}
 use Rattle.std.specs.FinSet as set
 use Rattle.std.specs.FinSet.{contains, contains-empty}
 use Rattle.std.proofs.lemmas.Bool.{cases_eq, ne_eqb}
-use Rattle.rh_layout.specs.Key.{cell_of, key_in}
-use Rattle.rh_layout.specs.Layout.{Keys, Holds, keys_of}
-use Rattle.rh_layout.proofs.SetLemmas.{put_cases, put_it, put_kept, same_keys}
+use Rattle.rh_layout.specs.Key.{key_in}
+use Rattle.rh_layout.specs.Layout.{Holds, keys_of}
+use Rattle.rh_layout.proofs.SetLemmas.{put_cases, put_it, put_kept}
 
 pub keys_of-empty : (cells : List ℕ) → keys_of (0 ∷ cells) ≡ keys_of cells
 unfolding keys_of

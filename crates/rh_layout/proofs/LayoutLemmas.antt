@@ -1,9 +1,6 @@
 -- Layouts of lists of cells, and ordered circles of what the cells hold.
-use Rattle.std.proofs.Common.{◌≡◌, ℕ, ◌+◌, ◌-◌, ◌^◌, ◌<◌, ◌≤◌, inl, inr, refl, sym, ap, ◌∙◌, subst, arith, List, length, get_or}
-use Rattle.std.specs.Prelude.{IsTrue}
-use Rattle.std.specs.FinSet.{contains}
-use Rattle.std.proofs.lemmas.Bool.{cases_eq}
-use Rattle.rh_layout.specs.Round.{steps_round, place_after}
+use Rattle.std.proofs.Common.{◌≡◌, ℕ, ◌^◌, ◌<◌, ap, subst, arith, List, length, get_or}
+use Rattle.rh_layout.specs.Round.{place_after}
 use Rattle.rh_layout.specs.Key.{IsKey, IsBits, cell_of, key_in}
 use Rattle.rh_layout.specs.Order.{home_of, home_in, dist_of, Beats}
 use Rattle.rh_layout.specs.Layout.{Keys, Holds, IsBeatenAt, Layout, IsLayout, keys_of}

@@ -1,7 +1,7 @@
 -- A set has one layout with a free cell.
-use Rattle.std.proofs.Common.{◌≡◌, ℕ, ◌^◌, ◌<◌, sym, ◌∙◌, arith, List}
+use Rattle.std.proofs.Common.{◌≡◌, ℕ, ◌^◌, sym, ◌∙◌, arith, List}
 use Rattle.std.proofs.lemmas.Grind.{same_number_lists}
-use Rattle.rh_layout.specs.Key.{cell_of, key_in}
+use Rattle.rh_layout.specs.Key.{key_in}
 use Rattle.rh_layout.specs.Order.{home_in}
 use Rattle.rh_layout.specs.Layout.{Keys, Layout, HasFree}
 use Rattle.rh_layout.proofs.LayoutLemmas.{at, low_in, holds_its, layout_ordered}

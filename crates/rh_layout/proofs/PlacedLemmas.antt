@@ -1,5 +1,5 @@
 -- A layout, from what each cell holds beside the one before it, and back.
-use Rattle.std.proofs.Common.{◌≡◌, ℕ, ◌+◌, ◌-◌, ◌%◌, ◌^◌, ◌<◌, inl, inr, sym, ap, ◌∙◌, subst, arith, List, length}
+use Rattle.std.proofs.Common.{◌≡◌, ℕ, ◌+◌, ◌-◌, ◌^◌, ◌<◌, inl, inr, sym, ap, ◌∙◌, subst, arith, List, length}
 use Rattle.std.proofs.lemmas.Bool.{cases_lt}
 use Rattle.rh_layout.specs.Round.{steps_round, place_back, IsNext}
 use Rattle.rh_layout.specs.Key.{IsKey, IsBits, cell_of, key_in}
@@ -7,7 +7,7 @@ use Rattle.rh_layout.specs.Order.{home_of, home_in, dist_of, Beats}
 use Rattle.rh_layout.specs.Layout.{Keys, Holds, Layout, IsLayout, IsPlaced, IsBeatenAt}
 use Rattle.rh_layout.proofs.RoundLemmas.{reduced, steps_at_home, home_of_steps, next_below}
 use Rattle.rh_layout.proofs.OrderLemmas.{HoldsAhead, IsStepwise, ordered_from_stepwise, stepwise_from_ordered}
-use Rattle.rh_layout.proofs.LayoutLemmas.{at, low_in, home_in-cell_of, holds_its, ahead_from_beaten, beaten_from_ahead, layout_ordered, layout_from_ordered}
+use Rattle.rh_layout.proofs.LayoutLemmas.{at, low_in, holds_its, ahead_from_beaten, beaten_from_ahead, layout_ordered, layout_from_ordered}
 
 pub back_next : (n c : ℕ) → c < n → IsNext n (place_back n c) c
 unfolding place_back

@@ -1,12 +1,12 @@
 -- What a front of cells tells about a layout.
-use Rattle.std.proofs.Common.{◌≡◌, ℕ, ◌+◌, ◌*◌, ◌%◌, ◌^◌, ◌<◌, ◌≤◌, inl, inr, refl, sym, ap, ◌∙◌, subst, arith, List, length, false}
+use Rattle.std.proofs.Common.{◌≡◌, ℕ, ◌+◌, ◌*◌, ◌%◌, ◌^◌, ◌<◌, sym, ap, ◌∙◌, arith, List, length, false}
 use Rattle.std.specs.Prelude.{IsTrue}
 use Rattle.std.specs.FinSet.{contains}
 use Rattle.std.proofs.lemmas.Nat.{one_shl}
 use Rattle.rh_layout.specs.Round.{steps_round, place_after}
 use Rattle.rh_layout.specs.Key.{IsBits, cell_of}
 use Rattle.rh_layout.specs.Order.{home_of, home_in, dist_of, Beats}
-use Rattle.rh_layout.specs.Layout.{Keys, Holds, IsBeatenAt, Layout}
+use Rattle.rh_layout.specs.Layout.{Keys, Layout}
 use Rattle.rh_layout.proofs.RoundLemmas.{place_below, place_after-steps, steps-place_after}
 use Rattle.rh_layout.proofs.HeldLemmas.{not_held}
 use Rattle.rh_layout.proofs.LayoutLemmas.{at, low_of, low_in, home_in-cell_of, ahead_from_beaten, beaten_from_ahead, layout_ordered}

@@ -1,9 +1,9 @@
 -- The search for a key's place, cell by cell.
-use Rattle.std.proofs.Common.{◌≡◌, ℕ, ◌+◌, ◌-◌, ◌*◌, ◌%◌, ◌^◌, ◌<◌, ◌≤◌, inl, inr, sym, ap, ◌∙◌, arith, List, length}
+use Rattle.std.proofs.Common.{◌≡◌, ℕ, ◌+◌, ◌-◌, ◌*◌, ◌%◌, ◌^◌, ◌<◌, ◌≤◌, inl, inr, ap, ◌∙◌, arith, List, length}
 use Rattle.std.proofs.lemmas.Bool.{cases_lt}
 use Rattle.std.proofs.lemmas.Nat.{one_shl}
 use Rattle.rh_layout.specs.Round.{place_after}
-use Rattle.rh_layout.specs.Key.{IsBits, cell_of}
+use Rattle.rh_layout.specs.Key.{IsBits}
 use Rattle.rh_layout.specs.Order.{home_of, dist_of}
 use Rattle.rh_layout.specs.Layout.{IsBeatenAt, HasFree}
 use Rattle.rh_layout.proofs.RoundLemmas.{reduced, place_cases, steps_below, place_after-next, place_after-steps}

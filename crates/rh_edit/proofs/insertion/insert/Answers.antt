@@ -1,4 +1,4 @@
-use Rattle.std.proofs.Common.{length, ap, sym, ◌∙◌, arith}
+use Rattle.std.proofs.Common.{ap, sym, arith}
 use Rattle.std.specs.Prelude.{not}
 use Rattle.std.specs.FinSet as set
 use Rattle.rh_layout.specs.Layout.{HasFree, keys_of}

@@ -1,4 +1,4 @@
-use Rattle.std.proofs.Common.{sym, arith}
+use Rattle.std.proofs.Common.{sym}
 use Rattle.std.specs.FinSet as set
 use Rattle.rh_layout.specs.Layout.{HasFree, keys_of}
 use Rattle.rh_layout.proofs.CountLemmas.{free_from_len}

@@ -1,6 +1,5 @@
 use Rattle.std.proofs.Common.{◌^◌, arith}
 use Rattle.std.proofs.lemmas.Nat.{one_shl}
-use Rattle.rh_layout.specs.Order.{home_of}
 use Rattle.rh_layout.proofs.RoundLemmas.{steps_behind}
 use Rattle.rh_layout.proofs.order.dist.Goals as goal
 

@@ -1,7 +1,4 @@
-use Rattle.std.proofs.Common.{◌+◌, ◌<◌, ◌∙◌, ap, arith, take, length}
-use Rattle.std.proofs.lemmas.List.{length-take}
-use Rattle.std.specs.FinSet as set
-use Rattle.rh_layout.specs.Layout.{Keys}
+use Rattle.std.proofs.Common.{◌∙◌, arith}
 use Rattle.rh_edit.proofs.SetLemmas.{room_for_more, from_list_more}
 use Rattle.rh_edit.proofs.set.SeqSet.from_keys.Goals as goal
 

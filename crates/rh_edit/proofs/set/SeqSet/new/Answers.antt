@@ -1,4 +1,4 @@
-use Rattle.std.proofs.Common.{rules, ◌≡◌, ◌*◌, ◌%◌, ◌^◌, replicate, arith}
+use Rattle.std.proofs.Common.{rules, ◌*◌, ◌%◌, ◌^◌, arith}
 use Rattle.std.proofs.lemmas.Nat.{one_shl}
 use Rattle.rh_edit.proofs.SetLemmas.{keeps_empty, keys_of_empty}
 use Rattle.rh_edit.proofs.set.SeqSet.new.Goals as goal
