@@ -3,7 +3,7 @@ use Rattle.std.proofs.Common.{◌≡◌, ℕ, ◌+◌, ◌<◌, inl, inr, refl, 
 use Rattle.std.proofs.lemmas.Bool.{cases_eq}
 use Rattle.rh_layout.specs.Round.{steps_round, place_after, IsNext}
 use Rattle.rh_edit.specs.Put.{IsPartPut, IsPushed}
-use Rattle.rh_layout.proofs.RoundLemmas.{place_below, place_after-steps, steps-place_after, next_cases, next_below}
+use Rattle.rh_layout.proofs.RoundLemmas.{place_after-steps, steps-place_after, next_cases, next_below}
 
 pub part_none : (n h i k : ℕ) (old : ℕ → ℕ) → IsPartPut n h i i k k old old
 part_none n h i k old = record {
@@ -18,9 +18,6 @@ part_none n h i k old = record {
 }
 
 module _ (n h i t k carry : ℕ) (old now new : ℕ → ℕ) (h_in : h < n) (t_in : t < n) (part : IsPartPut n h i t k carry old now) (at : ℕ) (is_at : at ≡ place_after n h t) (written : new at ≡ carry) (kept : (c : ℕ) → c < n → (c ≡ at → ⊥) → new c ≡ now c) where
-  at_in : at < n
-  at_in = rw is_at (place_below n h t (omega arith))
-
   at_steps : steps_round n h at ≡ t
   at_steps = rw is_at (steps-place_after n h t h_in t_in)
 

@@ -43,9 +43,6 @@ pub spot_is : (b n k first i cell : ℕ) → n ≡ 2 ^ b → first ≡ home_of b
 spot_is b n k first i cell size start is = is ∙ ap (λ m. place_after m first i) size ∙ ap (λ h. place_after (2 ^ b) h i) start
 
 module _ (b : ℕ) (cells seen : List ℕ) (k i : ℕ) (fits : IsBits b) (size : length cells ≡ 2 ^ b) (front : IsFront (2 ^ b) (home_of b k) cells seen) where
-  spot_of : ℕ → ℕ
-  spot_of p = place_after (2 ^ b) (home_of b k) p
-
   -- what the front shows at the steps to a cell is what the cell holds
   pub shown : (c : ℕ) → c < 2 ^ b → dist_of b c k < length seen → at seen (dist_of b c k) ≡ at cells c
   shown c c_in inside = front.shows (dist_of b c k) inside ∙ ap (at cells) (place_after-steps (2 ^ b) (home_of b k) c (low_of b fits k) c_in)

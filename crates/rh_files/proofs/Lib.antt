@@ -1,0 +1,10 @@
+pub mod Spelled
+pub mod Reading
+pub mod Steps
+pub mod Batches
+pub mod Ends
+pub mod Named
+pub mod Next
+pub mod Whole
+pub mod Grammar
+pub mod Writing

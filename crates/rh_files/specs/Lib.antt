@@ -1,0 +1,6 @@
+pub mod Counting
+pub mod KeyFile
+pub mod Reading
+pub mod Stream
+pub mod Dump
+pub mod Faulty

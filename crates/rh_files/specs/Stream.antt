@@ -1,0 +1,62 @@
+-- What is known of a stream of keys: its header, how far it is, and what it answers once it is over.
+use Rattle.std.specs.Prelude.{ℕ, ◌-◌, List, Option, None, Result, Ok, Err, ◌==◌, if◌then◌else◌}
+use Rattle.std.specs.Borrow.{GName}
+use Rattle.rh_files.specs.declared.counted.Counted.{Counted}
+use Rattle.rh_files.specs.Counting.{inner_of}
+use Rattle.rh_files.specs.Reading.{Reads, header_at}
+use Rattle.rh_files.specs.declared.fault.KeyFault.{KeyFault}
+use Rattle.rh_files.specs.declared.version.Version.{Version}
+use Rattle.rh_files.specs.declared.stream.KeyStream.{KeyStream}
+use Rattle.rh_files.specs.declared.stream.State.{State}
+use Rattle.rh_files.specs.declared.stream.State.TheVariants.{Open, Ended, Failed}
+
+-- the reader that the stream took on loan
+abbrev pub reader_of : {R : Type 0} → KeyStream R → Counted R
+reader_of s = s.reader.now
+
+abbrev pub version_of : {R : Type 0} → KeyStream R → Version
+version_of s = s.version
+
+-- the header's number of keys
+abbrev pub count_of : {R : Type 0} → KeyStream R → ℕ
+count_of s = s.count
+
+-- how many keys were given
+abbrev pub taken_of : {R : Type 0} → KeyStream R → ℕ
+taken_of s = s.taken
+
+abbrev pub left_of : {R : Type 0} → KeyStream R → ℕ
+left_of s = count_of s - taken_of s
+
+abbrev pub state_of : {R : Type 0} → KeyStream R → State
+state_of s = s.state
+
+-- the reference that it was lent by
+abbrev pub lender_of : {R : Type 0} → KeyStream R → GName
+lender_of s = s.reader.ghost_name
+
+-- the header that a stream was made from
+abbrev pub header_of : {R : Type 0} → KeyStream R → Version × ℕ
+header_of s = (version_of s, count_of s)
+
+-- A fault ends the stream, and so does the 0 where no key is left.
+abbrev pub state_after : ℕ → Result ℕ KeyFault → State
+state_after left (Ok n) = if left == 0 then Ended else Open
+state_after left (Err e) = Failed e
+
+-- what a stream that is over answers
+abbrev pub answer_again : State → Result ℕ KeyFault
+answer_again Open = Ok 0
+answer_again Ended = Ok 0
+answer_again (Failed e) = Err e
+
+abbrev as_ok : Version × ℕ → Result (Version × ℕ) KeyFault
+as_ok header = Ok header
+
+abbrev as_err : KeyFault → Result (Version × ℕ) KeyFault
+as_err e = Err e
+
+-- The header was read as the reader's bytes say, where they are known.
+abbrev pub ReadsHeader : {R : Type 0} → (R → Option (List ℕ)) → R → Result (KeyStream R) KeyFault → Type 0
+ReadsHeader remaining old (Ok s) = Reads (remaining old) (remaining (inner_of (reader_of s))) header_at (λ h. h) (as_ok (header_of s))
+ReadsHeader remaining old (Err e) = Reads (remaining old) None header_at (λ h. h) (as_err e)

@@ -1,0 +1,49 @@
+//! Whole buffers from a reader and to a writer, where each error ends the call.
+
+ghost use Rattle.std.specs.Prelude.{◌≡◌, ℕ, List, ◌≤◌, ◌<◌, length, take, IfSome, IsNone, IsSome};
+ghost use Rattle.std.specs.Prelude.{OnOk, OnErr};
+ghost use Rattle.std.specs.Io.KnownBytes.{Consumes, Appends, IsAtEnd};
+ghost use Rattle.rh_files.specs.Counting.{Rose, Writes};
+
+use crate::counted::Counted;
+use crate::fault::WriteFault;
+use std::io::{Read, Write};
+
+/// Reads until the buffer is full or the input ends, and how many bytes that were. `None`: a read
+/// failed.
+pub(crate) fn fill<R: Read>(reader: &mut Counted<R>, buf: &mut [u8]) -> Option<usize>
+    ensures bound { IfSome result (λ n. n ≤ length buf.new) }
+    ensures bytes { IfSome result (λ n. Consumes (R.remaining reader.old.inner)
+        (R.remaining reader.new.inner) (take n buf.new)) }
+    ensures end { IfSome result (λ n. n < length buf.new → IsAtEnd (R.remaining reader.new.inner)) }
+    ensures failed { IsNone result → Rose reader.old.failures reader.new.failures }
+    ensures fine { IsSome result → reader.new.failures ≡ reader.old.failures }
+{
+    let mut at = 0;
+    while at < buf.len() {
+        match reader.read(&mut buf[at..]) {
+            Ok(0) => return Some(at),
+            Ok(n) => at += n,
+            Err(_) => return None,
+        }
+    }
+    Some(at)
+}
+
+/// Writes all of the text. A write that takes no byte ends it too.
+pub(crate) fn put<W: Write>(writer: &mut Counted<W>, text: &[u8]) -> Result<(), WriteFault>
+    ensures text { Writes (W.contents writer.old.inner) (W.contents writer.new.inner)
+        text.now result }
+    ensures failed { OnErr result (Rose writer.old.failures writer.new.failures) }
+    ensures fine { OnOk result (writer.new.failures ≡ writer.old.failures) }
+{
+    let mut at = 0;
+    while at < text.len() {
+        match writer.write(&text[at..]) {
+            Ok(0) => return Err(WriteFault::Write),
+            Ok(n) => at += n,
+            Err(_) => return Err(WriteFault::Write),
+        }
+    }
+    Ok(())
+}

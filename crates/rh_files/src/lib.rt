@@ -1,0 +1,28 @@
+//! Key files and dumps.
+#![tactic(auto)]
+
+mod bytes;
+mod counted;
+mod dump;
+mod fault;
+mod faulty;
+mod keys;
+mod laws;
+mod open;
+mod parts;
+mod stream;
+mod version;
+
+pub use counted::Counted;
+pub use dump::write_dump;
+pub use fault::{KeyFault, WriteFault};
+pub use faulty::{FaultyReader, FaultyWriter, Refusal};
+pub use keys::read_keys;
+pub use laws::one_spelling;
+pub use open::open_keys;
+pub use parts::MAX_KEYS;
+pub use stream::KeyStream;
+pub use version::Version;
+
+#[cfg(test)]
+mod tests;

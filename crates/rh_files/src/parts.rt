@@ -1,0 +1,181 @@
+//! The parts of a key file, read one after the other.
+
+ghost use Rattle.std.specs.Prelude.{◌≡◌, ◌≤◌, ◌<◌, ◌+◌, ◌^◌, [], min, length, take, drop, All, IfOk, IsErrOf};
+ghost use Rattle.std.specs.Prelude.{Err, ◌≢◌};
+ghost use Rattle.std.specs.Prelude.{OnOk, OnErr};
+ghost use Rattle.rh_layout.specs.Key.{IsKey};
+ghost use Rattle.rh_files.specs.Counting.{Rose};
+ghost use Rattle.rh_files.specs.Reading.{Reads, always, front_of, bytes_at, version_at, number_at};
+ghost use Rattle.rh_files.specs.Reading.{count_at, header_at, key_at, keys_at, end_at, batch_at};
+
+use crate::bytes::fill;
+use crate::counted::Counted;
+use crate::fault::KeyFault;
+use crate::version::Version;
+use std::io::Read;
+
+/// The most keys that a key file may have.
+pub const MAX_KEYS: u64 = 1_000_000;
+
+// The first four bytes of each version, as one number.
+const RHK1: u32 = 0x5248_4b31;
+
+const RHK2: u32 = 0x5248_4b32;
+
+/// Fills the buffer.
+fn read_bytes<R: Read>(reader: &mut Counted<R>, buf: &mut [u8]) -> Result<(), KeyFault>
+    ensures known { Reads (R.remaining reader.old.inner) (R.remaining reader.new.inner)
+        (bytes_at (length buf.new)) (always buf.new) result }
+    ensures read { IsErrOf result KeyFault.Read → Rose reader.old.failures reader.new.failures }
+    ensures no_memory { IsErrOf result KeyFault.Memory → ⊥ }
+    ensures fine { result ≢ Err KeyFault.Read → reader.new.failures ≡ reader.old.failures }
+{
+    let Some(n) = fill(reader, buf) else {
+        return Err(KeyFault::Read);
+    };
+    if n < buf.len() {
+        return Err(KeyFault::Short);
+    }
+    Ok(())
+}
+
+fn read_version<R: Read>(reader: &mut Counted<R>) -> Result<Version, KeyFault>
+    ensures known { Reads (R.remaining reader.old.inner) (R.remaining reader.new.inner) version_at
+        (λ v. v) result }
+    ensures read { IsErrOf result KeyFault.Read → Rose reader.old.failures reader.new.failures }
+    ensures no_memory { IsErrOf result KeyFault.Memory → ⊥ }
+    ensures fine { result ≢ Err KeyFault.Read → reader.new.failures ≡ reader.old.failures }
+{
+    let mut four = [0u8; 4];
+    read_bytes(reader, &mut four)?;
+    let magic = u32::from_be_bytes(four);
+    if magic == RHK1 {
+        return Ok(Version::First);
+    }
+    if magic == RHK2 {
+        return Ok(Version::Second);
+    }
+    Err(KeyFault::NotKeys)
+}
+
+fn read_number<R: Read>(reader: &mut Counted<R>) -> Result<u64, KeyFault>
+    ensures known { Reads (R.remaining reader.old.inner) (R.remaining reader.new.inner) number_at
+        (λ n. n) result }
+    ensures read { IsErrOf result KeyFault.Read → Rose reader.old.failures reader.new.failures }
+    ensures no_memory { IsErrOf result KeyFault.Memory → ⊥ }
+    ensures fine { result ≢ Err KeyFault.Read → reader.new.failures ≡ reader.old.failures }
+{
+    let mut eight = [0u8; 8];
+    read_bytes(reader, &mut eight)?;
+    Ok(u64::from_be_bytes(eight))
+}
+
+fn read_count<R: Read>(reader: &mut Counted<R>) -> Result<u64, KeyFault>
+    ensures known { Reads (R.remaining reader.old.inner) (R.remaining reader.new.inner) count_at
+        (λ n. n) result }
+    ensures few { IfOk result (λ n. n ≤ MAX_KEYS) }
+    ensures read { IsErrOf result KeyFault.Read → Rose reader.old.failures reader.new.failures }
+    ensures no_memory { IsErrOf result KeyFault.Memory → ⊥ }
+    ensures fine { result ≢ Err KeyFault.Read → reader.new.failures ≡ reader.old.failures }
+{
+    let count = read_number(reader)?;
+    if count > MAX_KEYS {
+        return Err(KeyFault::TooMany);
+    }
+    Ok(count)
+}
+
+pub(crate) fn read_header<R: Read>(reader: &mut Counted<R>) -> Result<(Version, u64), KeyFault>
+    ensures known { Reads (R.remaining reader.old.inner) (R.remaining reader.new.inner) header_at
+        (λ h. h) result }
+    ensures few { IfOk result (λ h. h.1 ≤ MAX_KEYS) }
+    ensures read { IsErrOf result KeyFault.Read → Rose reader.old.failures reader.new.failures }
+    ensures no_memory { IsErrOf result KeyFault.Memory → ⊥ }
+    ensures fine { result ≢ Err KeyFault.Read → reader.new.failures ≡ reader.old.failures }
+{
+    let version = read_version(reader)?;
+    let count = read_count(reader)?;
+    Ok((version, count))
+}
+
+fn read_key<R: Read>(reader: &mut Counted<R>, version: Version, index: u64) -> Result<u64, KeyFault>
+    ensures known { Reads (R.remaining reader.old.inner) (R.remaining reader.new.inner)
+        (key_at version index) (λ k. k) result }
+    ensures in_range { IfOk result IsKey }
+    ensures read { IsErrOf result KeyFault.Read → Rose reader.old.failures reader.new.failures }
+    ensures no_memory { IsErrOf result KeyFault.Memory → ⊥ }
+    ensures fine { result ≢ Err KeyFault.Read → reader.new.failures ≡ reader.old.failures }
+{
+    let key = read_number(reader)?;
+    if !version.allows(key) {
+        return Err(KeyFault::BadKey { index });
+    }
+    Ok(key)
+}
+
+fn read_end<R: Read>(reader: &mut Counted<R>) -> Result<(), KeyFault>
+    ensures known { Reads (R.remaining reader.old.inner) (R.remaining reader.new.inner) end_at
+        (λ _. []) result }
+    ensures read { IsErrOf result KeyFault.Read → Rose reader.old.failures reader.new.failures }
+    ensures no_memory { IsErrOf result KeyFault.Memory → ⊥ }
+    ensures fine { result ≢ Err KeyFault.Read → reader.new.failures ≡ reader.old.failures }
+{
+    let mut one = [0u8; 1];
+    let Some(n) = fill(reader, &mut one) else {
+        return Err(KeyFault::Read);
+    };
+    if n > 0 {
+        return Err(KeyFault::Long);
+    }
+    Ok(())
+}
+
+/// Fills the slice with keys, of which the first has this index.
+fn read_keys<R: Read>(
+    reader: &mut Counted<R>,
+    version: Version,
+    index: u64,
+    batch: &mut [u64],
+) -> Result<(), KeyFault>
+    requires { index + length batch.old < 2 ^ 64 }
+    ensures known { Reads (R.remaining reader.old.inner) (R.remaining reader.new.inner)
+        (keys_at version index (length batch.new)) (always batch.new) result }
+    ensures in_range { OnOk result (All IsKey batch.new) }
+    ensures read { IsErrOf result KeyFault.Read → Rose reader.old.failures reader.new.failures }
+    ensures no_memory { IsErrOf result KeyFault.Memory → ⊥ }
+    ensures fine { result ≢ Err KeyFault.Read → reader.new.failures ≡ reader.old.failures }
+{
+    let mut at = index;
+    for slot in batch.iter_mut() {
+        *slot = read_key(reader, version, at)?;
+        at += 1;
+    }
+    Ok(())
+}
+
+/// The next keys, of which the first has this index and so many are left, and then the end.
+pub(crate) fn read_batch<R: Read>(
+    reader: &mut Counted<R>,
+    version: Version,
+    index: u64,
+    left: u64,
+    batch: &mut [u64],
+) -> Result<usize, KeyFault>
+    requires { index + left < 2 ^ 64 }
+    ensures known { Reads (R.remaining reader.old.inner) (R.remaining reader.new.inner)
+        (batch_at version index left (length batch.new)) (front_of batch.new) result }
+    ensures rest { IfOk result (λ n. drop n batch.new ≡ drop n batch.old) }
+    ensures many { IfOk result (λ n. n ≡ min (length batch.new) left) }
+    ensures in_range { IfOk result (λ n. All IsKey (take n batch.new)) }
+    ensures read { IsErrOf result KeyFault.Read → Rose reader.old.failures reader.new.failures }
+    ensures no_memory { IsErrOf result KeyFault.Memory → ⊥ }
+    ensures fine { result ≢ Err KeyFault.Read → reader.new.failures ≡ reader.old.failures }
+{
+    if left == 0 {
+        read_end(reader)?;
+        return Ok(0);
+    }
+    let many = batch.len().min(left as usize);
+    read_keys(reader, version, index, &mut batch[..many])?;
+    Ok(many)
+}

@@ -1,0 +1,208 @@
+use super::*;
+use rh_layout::is_layout;
+use std::alloc::Global;
+use std::test::*;
+
+// The keys 17, 1 and 9.
+const THREE_KEYS: [u8; 36] =
+    *b"RHK1\0\0\0\0\0\0\0\x03\0\0\0\0\0\0\0\x11\0\0\0\0\0\0\0\x01\0\0\0\0\0\0\0\x09";
+
+fn all_keys(alloc: Global, bytes: &[u8]) -> Result<Vec<u64>, KeyFault> {
+    read_keys(alloc, &mut Counted::new(bytes))
+}
+
+const ACCEPTED: [(&[u8], &[u64]); 7] = [
+    (&THREE_KEYS, &[17, 1, 9]),
+    (b"RHK1\0\0\0\0\0\0\0\0", &[]),
+    (b"RHK2\0\0\0\0\0\0\0\0", &[]),
+    (b"RHK2\0\0\0\0\0\0\0\x01\0\0\0\0\0\0\0\0", &[0]),
+    (
+        b"RHK2\0\0\0\0\0\0\0\x02\0\0\0\0\0\0\0\x01\0\0\0\0\0\0\0\0",
+        &[1, 0],
+    ),
+    (
+        b"RHK1\0\0\0\0\0\0\0\x01\x3f\xff\xff\xff\xff\xff\xff\xfe",
+        &[4611686018427387902],
+    ),
+    (
+        b"RHK2\0\0\0\0\0\0\0\x01\x3f\xff\xff\xff\xff\xff\xff\xfe",
+        &[4611686018427387902],
+    ),
+];
+
+#[test]
+fn key_files_are_read(rt: HostRuntime) -> Result<(), Fail> {
+    for (bytes, keys) in ACCEPTED {
+        assert_eq!(rt; all_keys(rt.alloc(), bytes)?.as_slice(), keys);
+    }
+    Ok(())
+}
+
+const REFUSED: [(&[u8], KeyFault); 12] = [
+    (b"", KeyFault::Short),
+    (b"RHK", KeyFault::Short),
+    (b"RHKX", KeyFault::NotKeys),
+    (b"RHK3\0\0\0\0\0\0\0\0", KeyFault::NotKeys),
+    (b"RHK1\0\0\0\0\0\x0f\x42\x41", KeyFault::TooMany),
+    (b"RHK1\0\0\0\0\0\x0f\x42\x40", KeyFault::Short),
+    (b"RHK1\0\0\0\0\0\0\0\0\0", KeyFault::Long),
+    (
+        b"RHK1\0\0\0\0\0\0\0\x02\0\0\0\0\0\0\0\x01\0\0\0\0\0\0\0",
+        KeyFault::Short,
+    ),
+    (
+        b"RHK1\0\0\0\0\0\0\0\x02\0\0\0\0\0\0\0\x01\0\0\0\0\0\0\0\x09\0",
+        KeyFault::Long,
+    ),
+    (
+        b"RHK1\0\0\0\0\0\0\0\x02\0\0\0\0\0\0\0\x01\0\0\0\0\0\0\0\0",
+        KeyFault::BadKey { index: 1 },
+    ),
+    (
+        b"RHK1\0\0\0\0\0\0\0\x01\x3f\xff\xff\xff\xff\xff\xff\xff",
+        KeyFault::BadKey { index: 0 },
+    ),
+    (
+        b"RHK2\0\0\0\0\0\0\0\x01\x3f\xff\xff\xff\xff\xff\xff\xff",
+        KeyFault::BadKey { index: 0 },
+    ),
+];
+
+#[test]
+fn other_bytes_are_refused(rt: HostRuntime) {
+    for (bytes, fault) in REFUSED {
+        assert_eq!(rt; all_keys(rt.alloc(), bytes).err(), Some(fault));
+    }
+    for n in 0..THREE_KEYS.len() {
+        assert_eq!(rt;
+            all_keys(rt.alloc(), &THREE_KEYS[..n]).err(),
+            Some(KeyFault::Short),
+            "at {n}"
+        );
+    }
+}
+
+#[test]
+fn each_read_fails(rt: HostRuntime) {
+    // The magic, the count, three keys and the end.
+    for n in 1..7u64 {
+        let mut reader = Counted::new(FaultyReader::new(&THREE_KEYS, n));
+        assert_eq!(rt;
+            read_keys(rt.alloc(), &mut reader).err(),
+            Some(KeyFault::Read),
+            "at {n}"
+        );
+        assert_eq!(rt; reader.failures(), 1);
+    }
+    let mut reader = Counted::new(FaultyReader::new(&THREE_KEYS, 7));
+    assert!(rt; read_keys(rt.alloc(), &mut reader).is_ok());
+    assert_eq!(rt; reader.failures(), 0);
+}
+
+const FIVE_KEYS: &[u8] = b"RHK2\0\0\0\0\0\0\0\x05\
+    \0\0\0\0\0\0\0\x05\0\0\0\0\0\0\0\0\0\0\0\0\0\0\0\x07\0\0\0\0\0\0\0\x07\0\0\0\0\0\0\0\x02";
+
+#[test]
+fn keys_come_in_batches(rt: HostRuntime) -> Result<(), Fail> {
+    let mut reader = Counted::new(FIVE_KEYS);
+    let mut stream = open_keys(&mut reader)?;
+    assert_eq!(rt; stream.count(), 5);
+    let mut batch = [0; 2];
+    for (many, keys) in [
+        (2, [5, 0]),
+        (2, [7, 7]),
+        (1, [2, 7]),
+        (0, [2, 7]),
+        (0, [2, 7]),
+    ] {
+        assert_eq!(rt; stream.next_batch(&mut batch)?, many);
+        assert_eq!(rt; batch, keys);
+    }
+    Ok(())
+}
+
+#[test]
+fn a_fault_ends_the_stream(rt: HostRuntime) -> Result<(), Fail> {
+    let mut batch = [0; 2];
+    let mut reader = Counted::new(
+        b"RHK1\0\0\0\0\0\0\0\x03\0\0\0\0\0\0\0\0\0\0\0\0\0\0\0\x01".as_slice(),
+    );
+    let mut stream = open_keys(&mut reader)?;
+    for _ in 0..3u32 {
+        assert_eq!(rt;
+            stream.next_batch(&mut batch).err(),
+            Some(KeyFault::BadKey { index: 0 })
+        );
+    }
+    assert_eq!(rt; reader.get_ref().len(), 8);
+
+    let mut reader = Counted::new(FaultyReader::new(FIVE_KEYS, 4));
+    let mut stream = open_keys(&mut reader)?;
+    for _ in 0..3u32 {
+        assert_eq!(rt; stream.next_batch(&mut batch).err(), Some(KeyFault::Read));
+    }
+    assert_eq!(rt; reader.failures(), 1);
+    Ok(())
+}
+
+const NO_KEYS: [u64; 8] = [0; 8];
+
+// The keys 1, 9 and 17, whose home is cell 4.
+const THREE_CELLS: [u64; 8] = [0, 0, 0, 0, 2, 10, 18, 0];
+
+const THREE_LINES: &[u8] = b"table 3 3\n4 1 0\n5 9 1\n6 17 2\nend\n";
+
+#[test]
+fn tables_are_written(rt: HostRuntime) -> Result<(), Fail> {
+    for (cells, lines) in [
+        (NO_KEYS, b"table 3 0\nend\n".as_slice()),
+        (THREE_CELLS, THREE_LINES),
+    ] {
+        assert!(rt; is_layout(3, &cells));
+        let mut writer = Counted::new(FaultyWriter::new(rt.alloc(), 0, Refusal::Error));
+        write_dump(3, &cells, &mut writer)?;
+        assert_eq!(rt; writer.get_ref().text(), lines);
+        assert_eq!(rt; writer.failures(), 0);
+    }
+    Ok(())
+}
+
+#[test]
+fn each_write_fails(rt: HostRuntime) {
+    assert!(rt; is_layout(3, &THREE_CELLS));
+    for refusal in [Refusal::Error, Refusal::TakesNothing] {
+        // Five writes for the first line, six for each key, and one for the last line.
+        for n in 1..26u64 {
+            let mut writer = Counted::new(FaultyWriter::new(rt.alloc(), n, refusal));
+            let outcome = write_dump(3, &THREE_CELLS, &mut writer);
+            let fault = if n < 25 {
+                Some(WriteFault::Write)
+            } else {
+                None
+            };
+            assert_eq!(rt; outcome.err(), fault, "at {n}");
+            assert_eq!(rt; writer.failures(), u64::from(n < 25));
+            assert!(rt; THREE_LINES.starts_with(writer.get_ref().text()), "at {n}");
+        }
+    }
+}
+
+#[test]
+fn a_fault_can_be_printed(rt: HostRuntime) -> Result<(), Fail> {
+    for (fault, text) in [
+        (KeyFault::NotKeys, "not a key file"),
+        (KeyFault::Short, "key file ends early"),
+        (KeyFault::TooMany, "more than 1000000 keys"),
+        (KeyFault::BadKey { index: 7 }, "key 7 is out of range"),
+        (KeyFault::Long, "key file goes on after its last key"),
+        (KeyFault::Read, "read failed"),
+        (KeyFault::Memory, "out of memory"),
+    ] {
+        assert_eq!(rt; format!(in rt.alloc(); "{fault}")?.as_str(), text);
+    }
+    assert_eq!(rt;
+        format!(in rt.alloc(); "{}", WriteFault::Write)?.as_str(),
+        "cannot write the output"
+    );
+    Ok(())
+}

@@ -1,0 +1,3 @@
+pub mod BuilderLemmas
+pub mod CommandLemmas
+pub mod HelpLemmas

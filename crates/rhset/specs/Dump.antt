@@ -1,0 +1,44 @@
+-- What the dump of a key file writes, and why it writes nothing.
+use Rattle.std.specs.Prelude.{◌≡◌, ◌≢◌, ℕ, List, length, Option, Some, None, Result, Ok, Err}
+use Rattle.std.specs.FinSet as set
+use Rattle.std.specs.Io.KnownBytes.{Appends}
+use Rattle.rh_layout.specs.declared.limits.TheConstants.{MIN_BITS, MAX_BITS}
+use Rattle.rh_layout.specs.Layout.{Layout}
+use Rattle.rh_grow.specs.Growth.{Fits, IsCapacity}
+use Rattle.rh_files.specs.declared.fault.KeyFault.{KeyFault}
+use Rattle.rh_files.specs.declared.fault.KeyFault.TheVariants as faults
+use Rattle.rh_files.specs.Counting.{AppendsFront}
+use Rattle.rh_files.specs.Reading.{Fails, IsReadFrom, file_keys}
+use Rattle.rh_files.specs.Dump.{dump_text}
+use Rattle.rhset.specs.declared.dump.DumpFault.{DumpFault}
+use Rattle.rhset.specs.declared.dump.DumpFault.TheVariants.{Keys, TooLarge, Memory, Write}
+
+-- the text is the dump of a layout of the set of the keys, in the least table that they fit
+pub record IsDumpOf (keys text : List ℕ) : Type 0 where
+  pub bits : ℕ
+  pub cells : List ℕ
+  pub capacity : IsCapacity MIN_BITS (length keys) bits
+  pub layout : Layout cells bits (set.from_list keys)
+  pub dumped : text ≡ dump_text bits cells
+
+-- the text is the dump of the keys of the key file that was read
+abbrev pub IsDumpRead : (bytes left : Option (List ℕ)) (text : List ℕ) → Type 0
+IsDumpRead bytes left text = (keys : List ℕ) × IsReadFrom bytes left keys × IsDumpOf keys text
+
+-- Known bytes are no key file, and this is the first fault in them.
+abbrev pub IsFirstFault : Option (List ℕ) → KeyFault → Type 0
+IsFirstFault None fault = Unit {0}
+IsFirstFault (Some bytes) fault = Fails {X = List ℕ × List ℕ} fault (file_keys bytes)
+
+-- want of memory is one fault, wherever it comes
+abbrev pub from_keys : KeyFault → DumpFault
+from_keys faults.Memory = Memory
+from_keys fault = Keys fault
+
+-- The bytes were a key file and its dump, or a front of it, was written; or they were none; or no table is large enough.
+abbrev pub Dumps : {X : Type 0} → (bytes left old new : Option (List ℕ)) → Result X DumpFault → Type 0
+Dumps bytes left old new (Ok x) = (text : List ℕ) × IsDumpRead bytes left text × Appends old new text
+Dumps bytes left old new (Err Write) = (text : List ℕ) × IsDumpRead bytes left text × AppendsFront old new text
+Dumps bytes left old new (Err (Keys fault)) = IsFirstFault bytes fault × (fault ≢ faults.Memory)
+Dumps bytes left old new (Err TooLarge) = (keys : List ℕ) × IsReadFrom bytes left keys × (Fits MAX_BITS (length keys) → ⊥)
+Dumps bytes left old new (Err Memory) = Unit {0}

@@ -1,0 +1,4 @@
+pub mod App
+pub mod Dump
+pub mod Endings
+pub mod Faults
