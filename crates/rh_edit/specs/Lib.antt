@@ -1,3 +1,4 @@
+pub mod Acts
 pub mod Held
 pub mod News
 pub mod Pull

@@ -1,5 +1,5 @@
 -- A value put into a circle of n cells, where `old` and `new` give what each cell holds.
-use Rattle.std.specs.Prelude.{ℕ, ◌+◌, ◌<◌, ◌≤◌, ◌≡◌}
+use Rattle.std.specs.Prelude.{ℕ, ◌+◌, ◌<◌, ◌≤◌, ◌≡◌, List, length, slice_index}
 use Rattle.rh_layout.specs.Round.{steps_round, IsNext}
 
 -- `new` is `old` with k put in i steps after h, and with what stood from there up to j steps after h moved on by one place
@@ -27,3 +27,7 @@ pub record IsPushed (n h i j k : ℕ) (old new : ℕ → ℕ) : Type 0 where
   pub put : IsPutIn n h i j k old new
   pub free : (c : ℕ) → c < n → steps_round n h c ≡ j → old c ≡ 0
   pub full : (c : ℕ) → c < n → i ≤ steps_round n h c → steps_round n h c < j → 0 < old c
+
+-- an empty cell lies i steps after h, or more
+abbrev pub HasFreeFrom : (cells : List ℕ) (h i : ℕ) → Type 0
+HasFreeFrom cells h i = (c : ℕ) × (c < length cells) × (i ≤ steps_round (length cells) h c) × (slice_index cells c ≡ 0)

@@ -5,7 +5,7 @@ ghost use Rattle.std.specs.FinSet as set;
 ghost use Rattle.rh_layout.specs.Round.{steps_round, place_after};
 ghost use Rattle.rh_layout.specs.Key.{IsKey};
 ghost use Rattle.rh_layout.specs.Layout.{IsLayout, keys_of};
-ghost use Rattle.rh_edit.specs.Put.{IsPushed};
+ghost use Rattle.rh_edit.specs.Put.{HasFreeFrom, IsPushed};
 
 use rh_layout::{cell_of, home};
 use rh_probe::{cell_after, next_cell, place_for};
@@ -30,14 +30,15 @@ pub fn insert(bits: u32, cells: &mut [u64], key: u64) -> bool
     true
 }
 
-/// Puts the value into `cell`, `at` steps after `first`, and moves what stands from there up to the first
-/// empty cell on by one.
+/// Puts the value into `cell`, `at` steps after `first`, and moves what stands from there up to the
+/// first empty cell on by one.
 fn push_on(cells: &mut [u64], first: usize, at: usize, cell: usize, value: u64)
     requires first { first < length cells.old }
     requires at { at < length cells.old }
     requires cell { cell ≡ place_after (length cells.old) first at }
-    requires free { (c : ℕ) × (c < length cells.old) × (at ≤ steps_round (length cells.old) first c) × (slice_index cells.old c ≡ 0) }
-    ensures { (j : ℕ) × IsPushed (length cells.old) first at j value (slice_index cells.old) (slice_index cells.new) }
+    requires free { HasFreeFrom cells.old first at }
+    ensures { (j : ℕ) × IsPushed (length cells.old) first at j value
+        (slice_index cells.old) (slice_index cells.new) }
 {
     let mut cell = cell;
     let mut carry = value;

@@ -1,4 +1,5 @@
-//! Insertion into a Robin Hood table (Celis 1986), removal by backward shift, and the set of one worker.
+//! Insertion into a Robin Hood table (Celis 1986), removal by backward shift, and the set of one
+//! worker.
 #![tactic(auto)]
 
 mod insertion;

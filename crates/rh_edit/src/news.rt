@@ -4,8 +4,8 @@ ghost use Rattle.std.specs.Prelude.{◌≡◌, ◌+◌, ◌<◌, length, slice_i
 ghost use Rattle.rh_layout.specs.Key.{IsKey, cell_of};
 ghost use Rattle.rh_edit.specs.News.{put_in, taken_out};
 
-/// Writes the segment with the key at place `at`, and what stood from there on moved on by one place. The
-/// last place of `seen`, the first empty one from `at` on, is what that fills.
+/// Writes the segment with the key at place `at`, and what stood from there on moved on by one
+/// place. The last place of `seen`, the first empty one from `at` on, is what that fills.
 #[tactic(auto, using(crate::proofs::NewsLemmas::put_in_len, std::proofs::lemmas::Grind::same_number_lists))]
 pub fn insert_news(key: u64, seen: &[u64], at: usize, news: &mut [u64])
     requires key { IsKey key }
@@ -34,8 +34,8 @@ fn value_with(value: u64, seen: &[u64], at: usize, i: usize) -> u64
     }
 }
 
-/// Writes the segment without what stands at place `at`: what stands after it, up to the place before the
-/// last, moves back by one, the place before the last is empty, and the last stays.
+/// Writes the segment without what stands at place `at`: what stands after it, up to the place
+/// before the last, moves back by one, the place before the last is empty, and the last stays.
 #[tactic(auto, using(crate::proofs::NewsLemmas::taken_out_len, std::proofs::lemmas::Grind::same_number_lists))]
 pub fn remove_news(seen: &[u64], at: usize, news: &mut [u64])
     requires lengths { length news.old ≡ length seen.now }

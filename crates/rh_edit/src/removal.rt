@@ -6,6 +6,7 @@ ghost use Rattle.rh_layout.specs.Round.{steps_round, place_after};
 ghost use Rattle.rh_layout.specs.Key.{IsBits, IsKey};
 ghost use Rattle.rh_layout.specs.Order.{home_in};
 ghost use Rattle.rh_layout.specs.Layout.{IsLayout, keys_of};
+ghost use Rattle.rh_edit.specs.Put.{HasFreeFrom};
 ghost use Rattle.rh_edit.specs.Pull.{IsPulled};
 
 use rh_layout::{cell_of, home};
@@ -30,15 +31,16 @@ pub fn remove(bits: u32, cells: &mut [u64], key: u64) -> bool
     true
 }
 
-/// Moves back by one what stands after `cell`, `at` steps after `first`, up to an empty cell or a key at
-/// home.
+/// Moves back by one what stands after `cell`, `at` steps after `first`, up to an empty cell or a
+/// key at home.
 fn pull_back(bits: u32, cells: &mut [u64], first: usize, at: usize, cell: usize)
     requires bits { IsBits bits }
     requires first { first < length cells.old }
     requires at { at < length cells.old }
     requires cell { cell ≡ place_after (length cells.old) first at }
-    requires free { (c : ℕ) × (c < length cells.old) × (at < steps_round (length cells.old) first c) × (slice_index cells.old c ≡ 0) }
-    ensures { (j : ℕ) × IsPulled (length cells.old) (home_in bits) first at j (slice_index cells.old) (slice_index cells.new) }
+    requires free { HasFreeFrom cells.old first (at + 1) }
+    ensures { (j : ℕ) × IsPulled (length cells.old) (home_in bits) first at j
+        (slice_index cells.old) (slice_index cells.new) }
 {
     let mut cell = cell;
     for step in at..cells.len() - 1 {

@@ -3,14 +3,15 @@
 ghost use Rattle.std.specs.Prelude.{◌≡◌, ◌+◌, ◌^◌, ◌<◌, All, IfOk, length, not};
 ghost use Rattle.std.specs.FinSet as set;
 ghost use Rattle.rh_layout.specs.Key.{IsBits, IsKey};
-ghost use Rattle.rh_layout.specs.Layout.{Layout};
+ghost use Rattle.rh_layout.specs.Layout.{Layout, keys_of};
 
 use crate::{insertion, removal};
 use rh_probe::find;
 use std::alloc::{AllocError, Global};
 use std::marker::Model;
 
-/// A set of keys, whose cells are always a layout with a free cell. Contracts see its bits and its keys.
+/// A set of keys, whose cells are always a layout with a free cell. Contracts see its bits and its
+/// keys.
 #[derive(Drop)]
 pub struct SeqSet {
     bits: u32,
@@ -30,7 +31,8 @@ impl Model for SeqSet {
 
     ghost view = { λ s. record { bits = s.bits; keys = keys_of s.table.items } };
 
-    ghost invariant = { λ s. IsLayout s.bits s.table.items × (s.len ≡ set.len (keys_of s.table.items)) × (s.len < 2 ^ s.bits) };
+    ghost invariant = { λ s. IsLayout s.bits s.table.items
+        × (s.len ≡ set.len (keys_of s.table.items)) × (s.len < 2 ^ s.bits) };
 }
 
 impl SeqSet {
@@ -81,9 +83,18 @@ impl SeqSet {
 
     /// The cells of the table.
     pub fn cells(&self) -> &[u64]
-        ensures { Layout result.now self.now.bits self.now.keys }
+        ensures layout { Layout result.now self.now.bits self.now.keys }
+        ensures keys { keys_of result.now ≡ self.now.keys }
     {
         self.table.as_slice()
+    }
+
+    /// The cells of the table, for keeps.
+    pub fn into_cells(self) -> Vec<u64>
+        ensures layout { Layout result.items self.bits self.keys }
+        ensures keys { keys_of result.items ≡ self.keys }
+    {
+        self.table
     }
 
     /// Adds a key, and answers whether it was not there.

@@ -1,8 +1,8 @@
 use super::*;
 use std::test::Fail;
 
-// Tables of 3 bits: the keys that are added, the one that is then removed, and the cells after it. A cell
-// holds its key plus 1.
+// Tables of 3 bits: the keys that are added, the one that is then removed, and the cells after it.
+// A cell holds its key plus 1.
 const REMOVALS: [(&[u64], u64, [u64; 8]); 3] = [
     (&[8, 16, 5, 21], 8, [22, 6, 0, 0, 0, 0, 0, 17]),
     (&[1, 9, 17, 6, 14, 3], 9, [4, 0, 0, 0, 2, 18, 7, 15]),

@@ -2,8 +2,10 @@
 #![tactic(auto)]
 
 mod capacity;
+mod growing;
 
 pub use capacity::{LOAD_DENOMINATOR, LOAD_NUMERATOR, bits_for};
+pub use growing::grow;
 
 #[cfg(test)]
 mod tests;

@@ -13,23 +13,23 @@ use Rattle.rh_layout.proofs.SetLemmas.{not_true}
 use Rattle.rh_layout.proofs.KeySetLemmas.{keys_of-empty, keys_of-full, holds_from_contains}
 use Rattle.rh_layout.proofs.LayoutLemmas.{layout_keys}
 
-abbrev full_count : List ℕ → ℕ
+abbrev pub full_count : List ℕ → ℕ
 full_count cells = count_by is_full cells
 
 count-empty : (value : ℕ) (cells : List ℕ) → value ≡ 0 → full_count (value ∷ cells) ≡ full_count cells
 count-empty value cells none = ap (λ v. full_count (v ∷ cells)) none
 
-count-full : (value : ℕ) (cells : List ℕ) → 0 < value → full_count (value ∷ cells) ≡ full_count cells + 1
+pub count-full : (value : ℕ) (cells : List ℕ) → 0 < value → full_count (value ∷ cells) ≡ full_count cells + 1
 count-full value cells some = sum_by-cons (λ v. cond (is_full v) 1 0) value cells ∙ ap (λ t. cond (not t) 1 0 + full_count cells) (ne_eqb value 0 (λ e. omega arith)) ∙ omega arith
 
 -- No key stands in two cells of the list.
-abbrev IsOnceIn : List ℕ → Type 0
+abbrev pub IsOnceIn : List ℕ → Type 0
 IsOnceIn cells = (c d k : ℕ) → Holds cells c k → Holds cells d k → c ≡ d
 
 once_tail : (value : ℕ) (cells : List ℕ) → IsOnceIn (value ∷ cells) → IsOnceIn cells
 once_tail value cells once c d k p q = let e : suc c ≡ suc d = once (suc c) (suc d) k (omega (arith, p.0), p.1) (omega (arith, q.0), q.1) in omega arith
 
-len-keys_of : (cells : List ℕ) → IsOnceIn cells → set.len (keys_of cells) ≡ full_count cells
+pub len-keys_of : (cells : List ℕ) → IsOnceIn cells → set.len (keys_of cells) ≡ full_count cells
 unfolding keys_of
 len-keys_of [] once = len-empty nat_cmp
 len-keys_of (value ∷ cells) once =

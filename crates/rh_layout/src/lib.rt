@@ -1,4 +1,5 @@
-//! The order of a Robin Hood table (Celis 1986): keys, homes, distances, and the layout of a set of keys.
+//! The order of a Robin Hood table (Celis 1986): keys, homes, distances, and the layout of a set of
+//! keys.
 #![tactic(auto)]
 
 mod key;

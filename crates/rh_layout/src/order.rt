@@ -34,8 +34,8 @@ pub fn dist(bits: u32, cell: usize, key: u64) -> usize
     }
 }
 
-/// Whether key `a` keeps the cell against key `b`: the one farther from its home does (Celis 1986), and
-/// of two as far the smaller one.
+/// Whether key `a` keeps the cell against key `b`: the one farther from its home does (Celis 1986),
+/// and of two as far the smaller one.
 pub fn beats(bits: u32, cell: usize, a: u64, b: u64) -> bool
     requires bits { IsBits bits }
     requires cell { cell < 2 ^ bits }

@@ -9,8 +9,8 @@ use crate::key::key_in;
 use crate::limits::{MAX_BITS, MAX_KEY, MIN_BITS};
 use crate::order::{beats, dist};
 
-/// Whether these are the cells of a table of this size and a layout of the keys that they hold. A full
-/// table may be one. The test is one pass: it compares each cell with the one before it.
+/// Whether these are the cells of a table of this size and a layout of the keys that they hold. A
+/// full table may be one. The test is one pass: it compares each cell with the one before it.
 pub fn is_layout(bits: u32, cells: &[u64]) -> bool
     ensures { IsTrue result ↔ IsLayout bits cells.now }
 {
@@ -25,7 +25,8 @@ pub fn is_layout(bits: u32, cells: &[u64]) -> bool
     true
 }
 
-/// Whether the cell is empty, or holds a key that is at home or stands behind one that beats it there.
+/// Whether the cell is empty, or holds a key that is at home or stands behind one that beats it
+/// there.
 fn is_placed(bits: u32, cells: &[u64], cell: usize) -> bool
     requires bits { IsBits bits }
     requires size { length cells.now ≡ 2 ^ bits }

@@ -11,8 +11,12 @@ ghost use Rattle.rh_probe.specs.Segment.{IsFront};
 
 /// On a layout, `Here` means that the key is held, and `Goes` that it is not.
 pub fn look_tells(bits: u32, cells: &[u64], key: u64, seen: &[u64])
-    ensures here { (S : Keys) (i : ℕ) → Layout cells.now bits S → IsFront (2 ^ bits) (home_of bits key) cells.now seen.now → Finds bits key seen.now (Here i) → IsTrue (contains S key) }
-    ensures goes { (S : Keys) (i : ℕ) → Layout cells.now bits S → IsFront (2 ^ bits) (home_of bits key) cells.now seen.now → Finds bits key seen.now (Goes i) → contains S key ≡ false }
+    ensures here { (S : Keys) (i : ℕ) → Layout cells.now bits S →
+        IsFront (2 ^ bits) (home_of bits key) cells.now seen.now →
+        Finds bits key seen.now (Here i) → IsTrue (contains S key) }
+    ensures goes { (S : Keys) (i : ℕ) → Layout cells.now bits S →
+        IsFront (2 ^ bits) (home_of bits key) cells.now seen.now →
+        Finds bits key seen.now (Goes i) → contains S key ≡ false }
 {
     let _ = bits;
     let _ = cells;

@@ -32,8 +32,8 @@ pub fn cell_after(size: usize, from: usize, steps: usize) -> usize
     if cell < size { cell } else { cell - size }
 }
 
-/// How many steps from its home the key stands, or else where it goes: the first cell that is empty or
-/// holds a key that does not beat it there (Celis 1986).
+/// How many steps from its home the key stands, or else where it goes: the first cell that is empty
+/// or holds a key that does not beat it there (Celis 1986).
 pub fn place_for(bits: u32, cells: &[u64], key: u64) -> usize
     requires bits { IsBits bits }
     requires size { length cells.now ≡ 2 ^ bits }
@@ -55,7 +55,8 @@ pub fn find(bits: u32, cells: &[u64], key: u64) -> Option<usize>
     requires layout { IsLayout bits cells.now }
     requires key { IsKey key }
     requires room { set.len (keys_of cells.now) < 2 ^ bits }
-    ensures { MatchOption result (contains (keys_of cells.now) key ≡ false) (λ c. Holds cells.now c key) }
+    ensures { MatchOption result (contains (keys_of cells.now) key ≡ false)
+        (λ c. Holds cells.now c key) }
 {
     let steps = place_for(bits, cells, key);
     let cell = cell_after(cells.len(), home(bits, key), steps);

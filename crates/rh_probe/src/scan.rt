@@ -9,9 +9,9 @@ ghost use Rattle.rh_probe.specs.Segment.{IsAway, IsFirstFree, IsFirstStop};
 use crate::answer::Look;
 use rh_layout::{beats, home, key_in};
 
-/// What the first place that decides tells of the key: the one that holds it, or that is empty or holds a
-/// key that does not beat it there (Celis 1986). `seen` is what consecutive cells hold, from the key's
-/// home on.
+/// What the first place that decides tells of the key: the one that holds it, or that is empty or
+/// holds a key that does not beat it there (Celis 1986). `seen` is what consecutive cells hold,
+/// from the key's home on.
 #[tactic(auto, unfolding(rh_layout::specs::Round::place_after), using(std::proofs::lemmas::Nat::one_shl))]
 pub fn look(bits: u32, key: u64, seen: &[u64]) -> Look
     requires bits { IsBits bits }
@@ -37,20 +37,25 @@ pub fn look(bits: u32, key: u64, seen: &[u64]) -> Look
 
 /// The first place from `i` on that is empty.
 pub fn free_after(seen: &[u64], i: usize) -> Option<usize>
-    ensures { MatchOption result ((p : ℕ) → i ≤ p → p < length seen.now → 0 < slice_index seen.now p) (λ j. IsFirstFree seen.now i j) }
+    ensures { MatchOption result
+        ((p : ℕ) → i ≤ p → p < length seen.now → 0 < slice_index seen.now p)
+        (λ j. IsFirstFree seen.now i j) }
 {
     (i..seen.len()).find(|j| seen[*j] == 0)
 }
 
-/// The first place after `i` that is empty or holds a key at its home. What stands between can move back
-/// by one. `cell` is the cell of the first place of `seen`.
+/// The first place after `i` that is empty or holds a key at its home. What stands between can move
+/// back by one. `cell` is the cell of the first place of `seen`.
 #[tactic(auto, unfolding(rh_layout::specs::Round::place_after), using(std::proofs::lemmas::Nat::one_shl))]
 pub fn stop_after(bits: u32, cell: usize, seen: &[u64], i: usize) -> Option<usize>
     requires bits { IsBits bits }
     requires cell { cell < 2 ^ bits }
     requires i { i < length seen.now }
     requires room { length seen.now ≤ 2 ^ bits }
-    ensures { MatchOption result ((p : ℕ) → i < p → p < length seen.now → IsAway bits (place_after (2 ^ bits) cell p) (slice_index seen.now p)) (λ j. IsFirstStop bits cell seen.now i j) }
+    ensures { MatchOption result
+        ((p : ℕ) → i < p → p < length seen.now →
+        IsAway bits (place_after (2 ^ bits) cell p) (slice_index seen.now p))
+        (λ j. IsFirstStop bits cell seen.now i j) }
 {
     let size = 1usize << bits;
     for j in i + 1..seen.len() {
@@ -61,7 +66,8 @@ pub fn stop_after(bits: u32, cell: usize, seen: &[u64], i: usize) -> Option<usiz
     None
 }
 
-/// Whether a cell that holds this has a key that is not at its home, so that it can move back by one.
+/// Whether a cell that holds this has a key that is not at its home, so that it can move back by
+/// one.
 pub fn is_movable(bits: u32, cell: usize, value: u64) -> bool
     requires { IsBits bits }
     ensures { IsTrue result ↔ IsAway bits cell value }

@@ -65,8 +65,8 @@ impl From<WriteFault> for DumpFault {
 
 /// Writes the dump of the keys of a key file, added to an empty table.
 ///
-/// The table has the least bits that the keys fit, repeats counted. `Memory` comes only where a growth was
-/// refused.
+/// The table has the least bits that the keys fit, repeats counted. `Memory` comes only where a
+/// growth was refused.
 pub fn dump_keys<R: Read, W: Write>(
     alloc: Global,
     reader: &mut Counted<R>,
@@ -75,8 +75,10 @@ pub fn dump_keys<R: Read, W: Write>(
     ensures dumped { Dumps (R.remaining (inner_of reader.old)) (R.remaining (inner_of reader.new))
         (W.contents (inner_of writer.old)) (W.contents (inner_of writer.new)) result }
     ensures untouched { IfErr result (λ fault. fault ≢ DumpFault.Write → writer.new ≡ writer.old) }
-    ensures read { IsErrOf result (DumpFault.Keys KeyFault.Read) → Rose (failures_of reader.old) (failures_of reader.new) }
-    ensures write { IsErrOf result DumpFault.Write → Rose (failures_of writer.old) (failures_of writer.new) }
+    ensures read { IsErrOf result (DumpFault.Keys KeyFault.Read) →
+        Rose (failures_of reader.old) (failures_of reader.new) }
+    ensures write { IsErrOf result DumpFault.Write →
+        Rose (failures_of writer.old) (failures_of writer.new) }
 {
     let keys = read_keys(alloc, reader)?;
     let Some(bits) = bits_for(MIN_BITS, 0, keys.len() as u64) else {

@@ -1,12 +1,14 @@
 use super::*;
 use rh_files::{FaultyReader, FaultyWriter, Refusal};
+use rh_layout::is_layout;
 use std::test::Fail;
 
 const OLD: &[u8; 4] = b"RHK1";
 
 const NEW: &[u8; 4] = b"RHK2";
 
-// The keys 17, 1 and 9, in the first version. With `2` for `1` in its fourth byte it is one of the second.
+// The keys 17, 1 and 9, in the first version. With `2` for `1` in its fourth byte it is one of the
+// second.
 const THREE_KEYS: [u8; 36] =
     *b"RHK1\0\0\0\0\0\0\0\x03\0\0\0\0\0\0\0\x11\0\0\0\0\0\0\0\x01\0\0\0\0\0\0\0\x09";
 
@@ -149,13 +151,13 @@ fn other_bytes_write_nothing(rt: HostRuntime) {
     }
 }
 
-// What a change of one bit gives in each version, worked out by hand from the format, in runs of bits from
-// the first byte's highest bit on: 32 times no key file, 44 times too many keys, 18 times a file that ends
-// early, twice one that goes on, and 7 times a bad key, in the second version 6 times. The two magics differ
-// in two bits, so neither becomes the other. The count is 3: a change of one of its lowest two bits leaves
-// keys over, one of the next 18 asks for more, up to 3 + 2^19, and 3 + 2^20 is above the limit. The two
-// highest bits of a key put it out of range, the others do not, and the lowest bit of key 1 makes it 0, which
-// the second version allows.
+// What a change of one bit gives in each version, worked out by hand from the format, in runs of
+// bits from the first byte's highest bit on: 32 times no key file, 44 times too many keys, 18 times
+// a file that ends early, twice one that goes on, and 7 times a bad key, in the second version 6
+// times. The two magics differ in two bits, so neither becomes the other. The count is 3: a change
+// of one of its lowest two bits leaves keys over, one of the next 18 asks for more, up to 3 + 2^19,
+// and 3 + 2^20 is above the limit. The two highest bits of a key put it out of range, the others do
+// not, and the lowest bit of key 1 makes it 0, which the second version allows.
 const CHANGED_BITS: [(usize, usize, [Option<KeyFault>; 2]); 11] = [
     (0, 32, [Some(KeyFault::NotKeys); 2]),
     (32, 76, [Some(KeyFault::TooMany); 2]),
@@ -233,4 +235,37 @@ fn each_write_fails(rt: HostRuntime) -> Result<(), Fail> {
         assert!(rt; THREE_DUMP.as_bytes().starts_with(text), "at {n}");
     }
     Err("each write failed".into())
+}
+
+// A removal shifts back what stood behind the key, up to an empty cell or a key at home.
+const REMOVALS: [(&[u64], u64, &str); 2] = [
+    (
+        &[8, 16, 5, 21],
+        8,
+        "table 3 3\n0 21 1\n1 5 1\n7 16 0\nend\n",
+    ),
+    (
+        &[1, 9, 17, 6, 14, 3],
+        9,
+        "table 3 5\n0 3 2\n4 1 0\n5 17 1\n6 6 1\n7 14 2\nend\n",
+    ),
+];
+
+#[test]
+fn a_removal_is_dumped(rt: HostRuntime) -> Result<(), Fail> {
+    for (keys, removed, text) in REMOVALS {
+        assert!(rt; keys.len() < 8 && keys.iter().all(|key| *key < 100) && removed < 100);
+        let mut set = SeqSet::from_keys(rt.alloc(), 3, keys)?;
+        assert!(rt; set.remove(removed));
+        let cells = set.into_cells();
+        assert!(rt; is_layout(3, &cells));
+        let mut writer = Counted::new(Vec::new(rt.alloc()));
+        write_dump(3, &cells, &mut writer)?;
+        assert_eq!(rt;
+            writer.into_inner().as_slice(),
+            text.as_bytes(),
+            "without {removed}"
+        );
+    }
+    Ok(())
 }

@@ -36,5 +36,5 @@ loop-step-preserved c =
 pub unreachable-requires : goal.unreachable-requires
 unreachable-requires c =
     let free = c.requires.free in
-    let full = c.loop-step.invariant.part.full free.0 free.1 free.2 (omega (arith, steps_below (length c.args.cells.now) c.args.first free.0 (omega arith))) in
+    let full = c.loop-step.invariant.part.full free.0 free.1 (omega (arith, free.2)) (omega (arith, steps_below (length c.args.cells.now) c.args.first free.0 (omega arith))) in
     omega (arith, free.3)

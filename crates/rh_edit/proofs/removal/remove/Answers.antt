@@ -1,4 +1,4 @@
-use Rattle.std.proofs.Common.{sym}
+use Rattle.std.proofs.Common.{sym, arith}
 use Rattle.std.specs.FinSet as set
 use Rattle.rh_layout.specs.Layout.{HasFree, keys_of}
 use Rattle.rh_layout.proofs.CountLemmas.{free_from_len}
@@ -21,7 +21,8 @@ returns-then-cells-cell-clause-changed c =
 pub pull_back-requires-clause-free : goal.pull_back-requires-clause-free
 pull_back-requires-clause-free c =
     let free : HasFree c.args.cells.now = free_from_len c.args.cells.now c.args.bits (keys_of c.args.cells.now) c.requires.layout c.requires.room in
-    (free.0, free.1, free_code c.args.bits c.args.key _ _ _ _ c.args.cells.now c.requires.layout c.home-first.ensures.value c.place_for-at.ensures c.cell_of.ensures c.cell_after-cell.ensures.value c.if-cells-cell.false free, free.2)
+    let past = free_code c.args.bits c.args.key _ _ _ _ c.args.cells.now c.requires.layout c.home-first.ensures.value c.place_for-at.ensures c.cell_of.ensures c.cell_after-cell.ensures.value c.if-cells-cell.false free in
+    (free.0, free.1, omega (arith, past), free.2)
 
 pub returns-clause-layout : goal.returns-clause-layout
 returns-clause-layout c =

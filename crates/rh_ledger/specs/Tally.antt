@@ -1,0 +1,16 @@
+-- Sums of tallies.
+use Rattle.std.specs.Prelude.{ℕ, ◌+◌, ◌^◌, ◌<◌}
+use Rattle.rh_ledger.specs.declared.tally.Tally.{Tally}
+
+abbrev pub sum_of : Tally → Tally → Tally
+sum_of a b = record { read = a.read + b.read; added = a.added + b.added; removed = a.removed + b.removed; found = a.found + b.found }
+
+abbrev pub none_yet : Tally
+none_yet = record { read = 0; added = 0; removed = 0; found = 0 }
+
+abbrev Fits : ℕ → Type 0
+Fits n = n < 2 ^ 64
+
+-- each count fits its type
+abbrev pub FitsTally : Tally → Type 0
+FitsTally t = Fits t.read × Fits t.added × Fits t.removed × Fits t.found
