@@ -1,5 +1,5 @@
 -- A phase: a list of keys that are all inserted, all removed or all looked up, one after the other.
-use Rattle.std.specs.Prelude.{ℕ, Bool, if◌then◌else◌, List, [], ◌∷◌, map}
+use Rattle.std.specs.Prelude.{ℕ, Bool, if◌then◌else◌, List, [], ◌∷◌, length, map}
 use Rattle.std.specs.FinSet as set
 use Rattle.std.specs.FinSet.{contains}
 use Rattle.rh_layout.specs.Layout.{Keys}
@@ -31,3 +31,9 @@ tally_of kind S (k ∷ keys) = sum_of (count_of kind S k) (tally_of kind (set_wi
 -- the look-ups, in list order
 abbrev pub looked_up : Keys → List ℕ → List Bool
 looked_up S keys = map (contains S) keys
+
+-- how many keys the phase may add at most
+abbrev pub most_added : Kind → List ℕ → ℕ
+most_added Insert keys = length keys
+most_added Remove keys = 0
+most_added Ask keys = 0

@@ -8,6 +8,14 @@ sum_of a b = record { read = a.read + b.read; added = a.added + b.added; removed
 abbrev pub none_yet : Tally
 none_yet = record { read = 0; added = 0; removed = 0; found = 0 }
 
+-- so many keys read, and so many of them added
+abbrev pub added_of : (read added : ℕ) → Tally
+added_of read added = record none_yet { read = read; added = added }
+
+-- so many keys read, and so many of them removed
+abbrev pub removed_of : (read removed : ℕ) → Tally
+removed_of read removed = record none_yet { read = read; removed = removed }
+
 abbrev Fits : ℕ → Type 0
 Fits n = n < 2 ^ 64
 

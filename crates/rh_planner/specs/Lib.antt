@@ -1,0 +1,4 @@
+pub mod Instruction
+pub mod Lines
+pub mod Grammar
+pub mod Script

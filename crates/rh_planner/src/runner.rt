@@ -1,0 +1,59 @@
+//! Who carries out the phases of a script.
+
+ghost use Rattle.std.specs.Prelude.{◌≡◌, ◌≢◌, ◌+◌, ◌^◌, ◌<◌, All, IfOk, OnOk, OnErr};
+ghost use Rattle.std.specs.FinSet as set;
+ghost use Rattle.rh_layout.specs.Key.{IsKey};
+ghost use Rattle.rh_layout.specs.Layout.{IsLayout, keys_of};
+ghost use Rattle.rh_ledger.specs.Phase.{set_after, tally_of, looked_up, most_added};
+
+use rh_ledger::{Kind, Tally};
+use std::alloc::Global;
+use std::sync::Wait;
+use thiserror::Error;
+
+/// Why a phase was not carried out.
+#[derive(Clone, Copy, Debug, PartialEq, Eq, Error)]
+pub enum PhaseFault {
+    #[error("out of memory")]
+    Memory,
+    #[error("cannot start a worker")]
+    NoThread,
+}
+
+/// Carries out phases on the cells of a table, with the meaning of one worker that takes the keys in
+/// list order. A call may wait for ever; what it promises holds where it returns.
+pub trait Runner {
+    /// Inserts or removes the keys. On a fault the cells are as they were.
+    fn change<R: Wait>(
+        &mut self,
+        rt: &R,
+        alloc: Global,
+        kind: Kind,
+        bits: u32,
+        cells: &mut Vec<u64>,
+        keys: &[u64],
+    ) -> Result<Tally, PhaseFault>
+        requires kind { kind ≢ Kind.Ask }
+        requires keys { All IsKey keys.now }
+        requires layout { IsLayout bits cells.old.items }
+        requires room { set.len (keys_of cells.old.items) + most_added kind keys.now < 2 ^ bits }
+        ensures layout { OnOk result (IsLayout bits cells.new.items) }
+        ensures keys { OnOk result
+            (keys_of cells.new.items ≡ set_after kind (keys_of cells.old.items) keys.now) }
+        ensures tally { IfOk result (λ t. t ≡ tally_of kind (keys_of cells.old.items) keys.now) }
+        ensures unchanged { OnErr result (cells.new.items ≡ cells.old.items) };
+
+    /// Looks the keys up, and answers in list order which are there.
+    fn ask<R: Wait>(
+        &mut self,
+        rt: &R,
+        alloc: Global,
+        bits: u32,
+        cells: &[u64],
+        keys: &[u64],
+    ) -> Result<Vec<bool>, PhaseFault>
+        requires keys { All IsKey keys.now }
+        requires layout { IsLayout bits cells.now }
+        requires room { set.len (keys_of cells.now) < 2 ^ bits }
+        ensures { IfOk result (λ found. found.items ≡ looked_up (keys_of cells.now) keys.now) };
+}

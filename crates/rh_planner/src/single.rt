@@ -1,0 +1,102 @@
+//! One worker.
+
+ghost use Rattle.std.specs.Prelude.{◌≡◌, ◌≢◌, ◌+◌, ◌^◌, ◌<◌, All, IfOk, OnOk, OnErr, length};
+ghost use Rattle.std.specs.FinSet as set;
+ghost use Rattle.rh_layout.specs.Key.{IsKey};
+ghost use Rattle.rh_layout.specs.Layout.{IsLayout, keys_of};
+ghost use Rattle.rh_ledger.specs.declared.tally.Kind.TheVariants.{Insert, Remove};
+ghost use Rattle.rh_ledger.specs.Phase.{set_after, tally_of, looked_up, most_added};
+ghost use Rattle.rh_ledger.specs.Tally.{added_of, removed_of};
+
+use crate::runner::{PhaseFault, Runner};
+use rh_edit::{insert, remove};
+use rh_ledger::{Kind, Tally};
+use rh_probe::find;
+use std::alloc::Global;
+use std::sync::Wait;
+
+/// Carries out each phase itself, on the calling thread. Only a look-up takes memory, for its answers.
+#[derive(Clone, Copy, Debug, PartialEq, Eq)]
+pub struct Single;
+
+impl Runner for Single {
+    fn change<R: Wait>(
+        &mut self,
+        _rt: &R,
+        _alloc: Global,
+        kind: Kind,
+        bits: u32,
+        cells: &mut Vec<u64>,
+        keys: &[u64],
+    ) -> Result<Tally, PhaseFault> {
+        let cells = cells.as_mut_slice();
+        match kind {
+            Kind::Insert => Ok(insert_all(bits, cells, keys)),
+            Kind::Remove => Ok(remove_all(bits, cells, keys)),
+            Kind::Ask => unreachable!(),
+        }
+    }
+
+    fn ask<R: Wait>(
+        &mut self,
+        _rt: &R,
+        alloc: Global,
+        bits: u32,
+        cells: &[u64],
+        keys: &[u64],
+    ) -> Result<Vec<bool>, PhaseFault> {
+        let mut found = Vec::new(alloc);
+        for key in keys {
+            let there = find(bits, cells, *key).is_some();
+            found.push(there).map_err(|_| PhaseFault::Memory)?;
+        }
+        Ok(found)
+    }
+}
+
+fn insert_all(bits: u32, cells: &mut [u64], keys: &[u64]) -> Tally
+    requires layout { IsLayout bits cells.old }
+    requires keys { All IsKey keys.now }
+    requires room { set.len (keys_of cells.old) + length keys.now < 2 ^ bits }
+    ensures layout { IsLayout bits cells.new }
+    ensures keys { keys_of cells.new ≡ set_after Insert (keys_of cells.old) keys.now }
+    ensures tally { result ≡ tally_of Insert (keys_of cells.old) keys.now }
+{
+    let mut added = 0;
+    for key in keys {
+        if insert(bits, cells, *key) {
+            added += 1;
+        }
+    }
+    Tally {
+        read: keys.len() as u64,
+        added,
+        removed: 0,
+        found: 0,
+    }
+}
+
+fn remove_all(bits: u32, cells: &mut [u64], keys: &[u64]) -> Tally
+    requires layout { IsLayout bits cells.old }
+    requires keys { All IsKey keys.now }
+    requires room { set.len (keys_of cells.old) < 2 ^ bits }
+    ensures layout { IsLayout bits cells.new }
+    ensures keys { keys_of cells.new ≡ set_after Remove (keys_of cells.old) keys.now }
+    ensures tally { result ≡ tally_of Remove (keys_of cells.old) keys.now }
+{
+    let mut removed = 0;
+    for key in keys {
+        if remove(bits, cells, *key) {
+            removed += 1;
+        }
+    }
+    Tally {
+        read: keys.len() as u64,
+        added: 0,
+        removed,
+        found: 0,
+    }
+}
+
+#[cfg(test)]
+mod tests;

@@ -1,0 +1,61 @@
+use super::*;
+use rh_edit::SeqSet;
+use rh_layout::is_layout;
+use std::test::Fail;
+
+const NOTHING: Tally = Tally {
+    read: 0,
+    added: 0,
+    removed: 0,
+    found: 0,
+};
+
+// The kind of a phase on the keys 1, 9 and 17 at 3 bits, its keys, its tally, and the cells after it.
+const PHASES: [(Kind, &[u64], Tally, [u64; 8]); 3] = [
+    (
+        Kind::Insert,
+        &[9, 3, 3],
+        Tally {
+            read: 3,
+            added: 1,
+            ..NOTHING
+        },
+        [0, 0, 0, 0, 2, 10, 18, 4],
+    ),
+    (
+        Kind::Remove,
+        &[9, 2, 9],
+        Tally {
+            read: 3,
+            removed: 1,
+            ..NOTHING
+        },
+        [0, 0, 0, 0, 2, 18, 0, 0],
+    ),
+    (Kind::Insert, &[], NOTHING, [0, 0, 0, 0, 2, 10, 18, 0]),
+];
+
+#[test]
+fn phases_of_one_worker(rt: HostRuntime) -> Result<(), Fail> {
+    for (kind, keys, tally, after) in PHASES {
+        assert!(rt; keys.iter().all(|key| *key < 100) && keys.len() < 4 && kind != Kind::Ask);
+        let set = SeqSet::from_keys(rt.alloc(), 3, &[1, 9, 17])?;
+        assert!(rt; set.len() < 4);
+        let mut cells = set.into_cells();
+        assert!(rt; is_layout(3, &cells));
+        let told = Single.change(&rt, rt.alloc(), kind, 3, &mut cells, keys)?;
+        assert_eq!(rt; told, tally);
+        assert_eq!(rt; cells.as_slice(), after.as_slice());
+    }
+    Ok(())
+}
+
+#[test]
+fn look_ups_of_one_worker(rt: HostRuntime) -> Result<(), Fail> {
+    let set = SeqSet::from_keys(rt.alloc(), 3, &[1, 9, 17])?;
+    assert!(rt; set.bits() == 3);
+    let found = Single.ask(&rt, rt.alloc(), 3, set.cells(), &[1, 2, 9])?;
+    assert_eq!(rt; found.as_slice(), [true, false, true].as_slice());
+    assert!(rt; Single.ask(&rt, rt.alloc(), 3, set.cells(), &[])?.is_empty());
+    Ok(())
+}

@@ -1,0 +1,169 @@
+use super::*;
+use std::test::*;
+
+// The words of a command.
+fn words(command: &Command) -> [&str; 3] {
+    match command {
+        Command::Use { name, path } => ["use", name.as_str(), path.as_str()],
+        Command::Add { name } => ["add", name.as_str(), ""],
+        Command::Drop { name } => ["drop", name.as_str(), ""],
+        Command::Ask { name } => ["ask", name.as_str(), ""],
+        Command::Keep { name } => ["keep", name.as_str(), ""],
+        Command::Flip { name } => ["flip", name.as_str(), ""],
+        Command::Save { name } => ["save", name.as_str(), ""],
+        Command::Clear => ["clear", "", ""],
+        Command::Dump => ["dump", "", ""],
+    }
+}
+
+const ALL_COMMANDS: &[u8] =
+    b"use a a.keys\nadd a\ndrop a\nask a\nkeep a\nflip a\nsave b\nclear\ndump\n";
+
+const ALL_WORDS: [(u64, [&str; 3]); 9] = [
+    (1, ["use", "a", "a.keys"]),
+    (2, ["add", "a", ""]),
+    (3, ["drop", "a", ""]),
+    (4, ["ask", "a", ""]),
+    (5, ["keep", "a", ""]),
+    (6, ["flip", "a", ""]),
+    (7, ["save", "b", ""]),
+    (8, ["clear", "", ""]),
+    (9, ["dump", "", ""]),
+];
+
+#[test]
+fn each_command_is_read(rt: HostRuntime) -> Result<(), Fail> {
+    let script = parse(rt.alloc(), ALL_COMMANDS)?;
+    assert_eq!(rt; script.len(), 9);
+    assert!(rt; !script.is_empty());
+    for (step, (line, wanted)) in script.steps().iter().zip(&ALL_WORDS) {
+        assert_eq!(rt; step.line, *line);
+        assert_eq!(rt; words(&step.command), *wanted);
+    }
+    Ok(())
+}
+
+// Scripts, and the lines of their commands.
+const LINES: [(&[u8], &[u64]); 13] = [
+    (b"", &[]),
+    (b"\n", &[]),
+    (b"\n\n", &[]),
+    (b"dump", &[1]),
+    (b"dump\n", &[1]),
+    (b"dump\n\n", &[1]),
+    (b"dump\r\nclear\r\n\r\ndump\r", &[1, 2, 4]),
+    (b"# a comment\n\n   \ndump\n#\ndump", &[4, 6]),
+    (b"#\t\x7f\xff\0\ndump", &[2]),
+    (b"  dump \n clear", &[1, 2]),
+    (b"use  a   ~!\x22#\nadd  a ", &[1, 2]),
+    (b"save abcdefghijklmnop\nask abcdefghijklmnop", &[1, 2]),
+    (b"use a9z use\nsave b\nflip b\nkeep a9z", &[1, 2, 3, 4]),
+];
+
+#[test]
+fn commands_stand_on_their_lines(rt: HostRuntime) -> Result<(), Fail> {
+    for (text, lines) in LINES {
+        let script = parse(rt.alloc(), text)?;
+        assert_eq!(rt; script.len(), lines.len());
+        for (step, line) in script.steps().iter().zip(lines) {
+            assert_eq!(rt; step.line, *line);
+        }
+    }
+    Ok(())
+}
+
+const FAULTS: [(&[u8], u64, ScriptFaultKind); 34] = [
+    (b"grow", 1, ScriptFaultKind::BadCommand),
+    (b"\n#\ngrow a", 3, ScriptFaultKind::BadCommand),
+    (b"snapshot s", 1, ScriptFaultKind::BadCommand),
+    (b"restore s", 1, ScriptFaultKind::BadCommand),
+    (b"Dump", 1, ScriptFaultKind::BadCommand),
+    (b" #", 1, ScriptFaultKind::BadCommand),
+    (b"dump\t", 1, ScriptFaultKind::BadCommand),
+    (b"\t", 1, ScriptFaultKind::BadCommand),
+    (b"dump\x7f", 1, ScriptFaultKind::BadCommand),
+    (b"use a \xc3\xa9", 1, ScriptFaultKind::BadCommand),
+    (b"dump\r\r\n", 1, ScriptFaultKind::BadCommand),
+    (b"du\rmp", 1, ScriptFaultKind::BadCommand),
+    (b"dump a", 1, ScriptFaultKind::BadCommand),
+    (b"clear a b", 1, ScriptFaultKind::BadCommand),
+    (b"add", 1, ScriptFaultKind::BadCommand),
+    (b"save a b", 1, ScriptFaultKind::BadCommand),
+    (b"use a", 1, ScriptFaultKind::BadCommand),
+    (b"use", 1, ScriptFaultKind::BadCommand),
+    (b"use a b c", 1, ScriptFaultKind::BadCommand),
+    (b"use 1a", 1, ScriptFaultKind::BadCommand),
+    (b"use 1a x", 1, ScriptFaultKind::BadName),
+    (b"use A x", 1, ScriptFaultKind::BadName),
+    (b"add a_b", 1, ScriptFaultKind::BadName),
+    (b"ask aB", 1, ScriptFaultKind::BadName),
+    (b"save abcdefghijklmnopq", 1, ScriptFaultKind::BadName),
+    (b"add a", 1, ScriptFaultKind::Unknown),
+    (b"use a x\nadd b\nuse a x", 2, ScriptFaultKind::Unknown),
+    (b"drop a\nuse a x", 1, ScriptFaultKind::Unknown),
+    (b"save a\nkeep aa", 2, ScriptFaultKind::Unknown),
+    (b"flip a", 1, ScriptFaultKind::Unknown),
+    (b"use a x\nuse a y", 2, ScriptFaultKind::Twice),
+    (b"save a\nuse a y", 2, ScriptFaultKind::Twice),
+    (b"use a x\n\nsave a\ngrow", 3, ScriptFaultKind::Twice),
+    (b"save a\nask a\nsave a", 3, ScriptFaultKind::Twice),
+];
+
+#[test]
+fn the_first_fault_is_answered(rt: HostRuntime) {
+    for (text, line, kind) in FAULTS {
+        assert_eq!(rt;
+            parse(rt.alloc(), text).err(),
+            Some(ScriptFault { line, kind })
+        );
+    }
+}
+
+#[test]
+fn lines_have_a_limit(rt: HostRuntime) -> Result<(), Fail> {
+    let too_long = Some(ScriptFault {
+        line: 1,
+        kind: ScriptFaultKind::TooLong,
+    });
+    let mut line = vec![in rt.alloc(); b' '; 1_024]?;
+    assert!(rt; parse(rt.alloc(), &line)?.is_empty());
+    line.push(b'\n')?;
+    assert!(rt; parse(rt.alloc(), &line)?.is_empty());
+    line[1_024] = b' ';
+    assert_eq!(rt; parse(rt.alloc(), &line).err(), too_long);
+    // A carriage return counts, and a comment is no exception.
+    line[1_024] = b'\r';
+    assert_eq!(rt; parse(rt.alloc(), &line).err(), too_long);
+    line[0] = b'#';
+    assert_eq!(rt; parse(rt.alloc(), &line).err(), too_long);
+    Ok(())
+}
+
+#[test]
+fn scripts_have_a_limit(rt: HostRuntime) -> Result<(), Fail> {
+    let mut text = vec![in rt.alloc(); b'\n'; 10_000]?;
+    assert!(rt; parse(rt.alloc(), &text)?.is_empty());
+    text.push(b'#')?;
+    let too_long = Some(ScriptFault {
+        line: 10_001,
+        kind: ScriptFaultKind::TooLong,
+    });
+    assert_eq!(rt; parse(rt.alloc(), &text).err(), too_long);
+    Ok(())
+}
+
+#[test]
+fn faults_can_be_printed(rt: HostRuntime) -> Result<(), Fail> {
+    for (kind, text) in [
+        (ScriptFaultKind::TooLong, "line 7: too long"),
+        (ScriptFaultKind::BadCommand, "line 7: bad command"),
+        (ScriptFaultKind::BadName, "line 7: bad name"),
+        (ScriptFaultKind::Unknown, "line 7: unknown name"),
+        (ScriptFaultKind::Twice, "line 7: given twice"),
+        (ScriptFaultKind::Memory, "line 7: out of memory"),
+    ] {
+        let fault = ScriptFault { line: 7, kind };
+        assert_eq!(rt; format!(in rt.alloc(); "{fault}")?.as_str(), text);
+    }
+    Ok(())
+}
