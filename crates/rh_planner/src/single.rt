@@ -1,12 +1,11 @@
 //! One worker.
 
-ghost use Rattle.std.specs.Prelude.{◌≡◌, ◌≢◌, ◌+◌, ◌^◌, ◌<◌, All, IfOk, OnOk, OnErr, length};
+ghost use Rattle.std.specs.Prelude.{◌≡◌, ◌+◌, ◌^◌, ◌<◌, All, length};
 ghost use Rattle.std.specs.FinSet as set;
 ghost use Rattle.rh_layout.specs.Key.{IsKey};
 ghost use Rattle.rh_layout.specs.Layout.{IsLayout, keys_of};
 ghost use Rattle.rh_ledger.specs.declared.tally.Kind.TheVariants.{Insert, Remove};
-ghost use Rattle.rh_ledger.specs.Phase.{set_after, tally_of, looked_up, most_added};
-ghost use Rattle.rh_ledger.specs.Tally.{added_of, removed_of};
+ghost use Rattle.rh_ledger.specs.Phase.{set_after, tally_of};
 
 use crate::runner::{PhaseFault, Runner};
 use rh_edit::{insert, remove};
