@@ -1,6 +1,0 @@
-pub mod Splitting
-pub mod Printing
-pub mod Naming
-pub mod Commands
-pub mod OneLine
-pub mod SingleLemmas

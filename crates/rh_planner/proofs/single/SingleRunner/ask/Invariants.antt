@@ -1,7 +1,0 @@
-use Rattle.std.proofs.Common.{◌≡◌, take}
-use Rattle.rh_layout.specs.Layout.{keys_of}
-use Rattle.rh_ledger.specs.Phase.{looked_up}
-use Rattle.rh_planner.proofs.single.SingleRunner.ask.Given as goal
-
-abbrev pub invariant-loop-key : goal.invariant-loop-key
-invariant-loop-key g l = l.found.items ≡ looked_up (keys_of l.cells) (take l.key-index l.keys)

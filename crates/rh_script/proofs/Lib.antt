@@ -1,0 +1,5 @@
+pub mod Splitting
+pub mod Printing
+pub mod Naming
+pub mod Commands
+pub mod OneLine

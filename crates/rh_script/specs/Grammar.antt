@@ -1,0 +1,147 @@
+-- The grammar of scripts (this project's own): the instructions of a text, or its first fault.
+use Rattle.std.specs.Prelude.{ℕ, ◌+◌, Bool, false, ◌&&◌, ◌||◌, nat_le, if◌then◌else◌, List, [], ◌∷◌, ◌++◌, length, codes, Option, Some, None, Result, Ok, Err}
+use Rattle.std.specs.Char.{is_ascii_digit, is_ascii_lowercase}
+use Rattle.std.specs.Str.{bytes_eq}
+use Rattle.std.specs.List.{list_all, list_any}
+use Rattle.rh_script.specs.declared.fault.ScriptFault.{ScriptFault}
+use Rattle.rh_script.specs.declared.fault.ScriptFaultKind.{ScriptFaultKind}
+use Rattle.rh_script.specs.declared.fault.ScriptFaultKind.TheVariants.{TooLong, BadCommand, BadName, Unknown, Twice}
+use Rattle.rh_script.specs.declared.verb.Verb.{Verb}
+use Rattle.rh_script.specs.declared.verb.Verb.TheVariants as verbs
+use Rattle.rh_script.specs.declared.limits.TheConstants.{MAX_LINES, MAX_LINE_BYTES, MAX_NAME_BYTES}
+use Rattle.rh_script.specs.Instruction.{Instruction, Use, Add, Drop, Ask, Keep, Flip, Save, Clear, Dump, Numbered}
+use Rattle.rh_script.specs.Lines.{is_printable, is_skipped, lines_of, without_return, words_of}
+
+-- one step, and then the next
+infixl 10 ◌>>=◌
+abbrev pub ◌>>=◌ : {A B E : Type 0} → Result A E → (A → Result B E) → Result B E
+(Ok x) >>= f = f x
+(Err e) >>= f = Err e
+
+-- ---- the command of a line
+
+-- the bytes after the first of a name: small letters and digits
+abbrev pub goes_on : ℕ → Bool
+goes_on b = is_ascii_lowercase b || is_ascii_digit b
+
+-- a small letter, and then small letters and digits
+unfoldable pub is_name : List ℕ → Bool
+is_name [] = false
+is_name (first ∷ others) =
+    is_ascii_lowercase first && list_all goes_on others && nat_le (length (first ∷ others)) MAX_NAME_BYTES
+
+unfoldable pub verb_of : List ℕ → Option Verb
+verb_of word =
+    if bytes_eq word (codes "use") then Some verbs.Use
+    else if bytes_eq word (codes "add") then Some verbs.Add
+    else if bytes_eq word (codes "drop") then Some verbs.Drop
+    else if bytes_eq word (codes "ask") then Some verbs.Ask
+    else if bytes_eq word (codes "keep") then Some verbs.Keep
+    else if bytes_eq word (codes "flip") then Some verbs.Flip
+    else if bytes_eq word (codes "save") then Some verbs.Save
+    else if bytes_eq word (codes "clear") then Some verbs.Clear
+    else if bytes_eq word (codes "dump") then Some verbs.Dump
+    else None
+
+abbrev pub verb_in : List ℕ → Result Verb ScriptFaultKind
+verb_in word = elim (verb_of word) [ Some verb ↦ Ok verb | None ↦ Err BadCommand ]
+
+-- the words are a name
+unfoldable pub one_name : List (List ℕ) → Result (List ℕ) ScriptFaultKind
+one_name (name ∷ []) = if is_name name then Ok name else Err BadName
+one_name _ = Err BadCommand
+
+-- the words are a name and a path
+unfoldable pub name_and_path : List (List ℕ) → Result (List ℕ × List ℕ) ScriptFaultKind
+name_and_path (name ∷ path ∷ []) = if is_name name then Ok (name, path) else Err BadName
+name_and_path _ = Err BadCommand
+
+-- there is no word
+unfoldable pub no_word : Instruction → List (List ℕ) → Result Instruction ScriptFaultKind
+no_word instruction [] = Ok instruction
+no_word instruction _ = Err BadCommand
+
+abbrev pub on_name : (List ℕ → Instruction) → List (List ℕ) → Result Instruction ScriptFaultKind
+on_name instruction words = one_name words >>= (λ name. Ok (instruction name))
+
+-- the instruction of a verb with the words after it
+unfoldable pub instruction_of : Verb → List (List ℕ) → Result Instruction ScriptFaultKind
+instruction_of verbs.Use words = name_and_path words >>= (λ given. Ok (Use given.0 given.1))
+instruction_of verbs.Add words = on_name Add words
+instruction_of verbs.Drop words = on_name Drop words
+instruction_of verbs.Ask words = on_name Ask words
+instruction_of verbs.Keep words = on_name Keep words
+instruction_of verbs.Flip words = on_name Flip words
+instruction_of verbs.Save words = on_name Save words
+instruction_of verbs.Clear words = no_word Clear words
+instruction_of verbs.Dump words = no_word Dump words
+
+unfoldable pub instruction_in : List (List ℕ) → Result Instruction ScriptFaultKind
+instruction_in [] = Err BadCommand
+instruction_in (verb ∷ words) = verb_in verb >>= (λ v. instruction_of v words)
+
+-- what a line says, if anything
+unfoldable pub said_in : List ℕ → Result (Option Instruction) ScriptFaultKind
+said_in line =
+    if is_skipped line then Ok None
+    else if list_all is_printable line then instruction_in (words_of line) >>= (λ said. Ok (Some said))
+    else Err BadCommand
+
+-- ---- the names given so far
+
+-- the name that an instruction gives to a list
+abbrev pub gives : Instruction → List ℕ → Bool
+gives (Use given path) name = bytes_eq given name
+gives (Save given) name = bytes_eq given name
+gives _ name = false
+
+unfoldable pub is_given : List ℕ → List Numbered → Bool
+is_given name before = list_any (λ step. gives step.instruction name) before
+
+-- a name is given once
+abbrev pub once : Bool → Result (Unit {0}) ScriptFaultKind
+once given = if given then Err Twice else Ok tt
+
+-- a name is given before it is used
+abbrev pub known : Bool → Result (Unit {0}) ScriptFaultKind
+known given = if given then Ok tt else Err Unknown
+
+unfoldable pub admitted : List Numbered → Instruction → Result (Unit {0}) ScriptFaultKind
+admitted before (Use name path) = once (is_given name before)
+admitted before (Add name) = known (is_given name before)
+admitted before (Drop name) = known (is_given name before)
+admitted before (Ask name) = known (is_given name before)
+admitted before (Keep name) = known (is_given name before)
+admitted before (Flip name) = known (is_given name before)
+admitted before (Save name) = once (is_given name before)
+admitted before Clear = Ok tt
+admitted before Dump = Ok tt
+
+-- ---- the lines of a script
+
+abbrev pub within_limits : ℕ → List ℕ → Result (List ℕ) ScriptFaultKind
+within_limits number line =
+    if nat_le number MAX_LINES && nat_le (length line) MAX_LINE_BYTES then Ok line else Err TooLong
+
+-- the steps so far, with that of this line
+unfoldable pub entered : ℕ → List Numbered → Option Instruction → Result (List Numbered) ScriptFaultKind
+entered number before None = Ok before
+entered number before (Some said) =
+    admitted before said >>= (λ _. Ok (before ++ record { line = number; instruction = said } ∷ []))
+
+unfoldable pub after_line : ℕ → List Numbered → List ℕ → Result (List Numbered) ScriptFaultKind
+after_line number before line =
+    within_limits number line >>= (λ l. said_in (without_return l) >>= entered number before)
+
+abbrev pub at_line : {A : Type 0} → ℕ → Result A ScriptFaultKind → Result A ScriptFault
+at_line number (Ok x) = Ok x
+at_line number (Err kind) = Err (record { line = number; kind = kind })
+
+-- the steps so far, with those of these lines, of which the first has this number
+unfoldable pub after_lines : ℕ → List Numbered → List (List ℕ) → Result (List Numbered) ScriptFault
+after_lines number before [] = Ok before
+after_lines number before (line ∷ lines) =
+    at_line number (after_line number before line) >>= (λ steps. after_lines (number + 1) steps lines)
+
+unfoldable pub script_of : List ℕ → Result (List Numbered) ScriptFault
+script_of text = after_lines 1 [] (lines_of text)

@@ -1,0 +1,116 @@
+//! The command of a line.
+
+ghost use Rattle.std.specs.Prelude.{◌≡◌, option_map, string_bytes};
+ghost use Rattle.rh_script.specs.Instruction.{Instruction};
+ghost use Rattle.rh_script.specs.Lines.{words_of};
+ghost use Rattle.rh_script.specs.Grammar.{name_and_path, no_word, one_name};
+ghost use Rattle.rh_script.specs.Grammar.{instruction_in, instruction_of, said_in};
+ghost use Rattle.rh_script.specs.Script.{Answers, instruction_as};
+
+use crate::fault::ScriptFaultKind;
+use crate::lines::is_skipped;
+use crate::script::Command;
+use crate::verb::Verb;
+use crate::words::{is_name, next_word, printable};
+use std::alloc::Global;
+
+/// What a line says, if it is not skipped.
+#[tactic(auto, unfolding(crate::specs::Grammar::said_in))]
+pub(crate) fn read_command(alloc: Global, line: &[u8]) -> Result<Option<Command>, ScriptFaultKind>
+    ensures { Answers (said_in line.now) (option_map instruction_as) result }
+{
+    if is_skipped(line) {
+        return Ok(None);
+    }
+    let text = printable(line)?;
+    let command = command_in(alloc, text)?;
+    Ok(Some(command))
+}
+
+#[tactic(auto, unfolding(crate::specs::Grammar::instruction_in))]
+fn command_in(alloc: Global, text: &str) -> Result<Command, ScriptFaultKind>
+    ensures { Answers (instruction_in (words_of text.now)) instruction_as result }
+{
+    let (word, rest) = next_word(text).ok_or(ScriptFaultKind::BadCommand)?;
+    let verb = Verb::from_word(word).ok_or(ScriptFaultKind::BadCommand)?;
+    command_of(alloc, verb, rest)
+}
+
+#[tactic(auto, unfolding(crate::specs::Grammar::instruction_of))]
+fn command_of(alloc: Global, verb: Verb, rest: &str) -> Result<Command, ScriptFaultKind>
+    ensures { Answers (instruction_of verb (words_of rest.now)) instruction_as result }
+{
+    Ok(match verb {
+        Verb::Use => {
+            let (name, path) = read_name_and_path(alloc, rest)?;
+            Command::Use { name, path }
+        }
+        Verb::Add => Command::Add {
+            name: read_name(alloc, rest)?,
+        },
+        Verb::Drop => Command::Drop {
+            name: read_name(alloc, rest)?,
+        },
+        Verb::Ask => Command::Ask {
+            name: read_name(alloc, rest)?,
+        },
+        Verb::Keep => Command::Keep {
+            name: read_name(alloc, rest)?,
+        },
+        Verb::Flip => Command::Flip {
+            name: read_name(alloc, rest)?,
+        },
+        Verb::Save => Command::Save {
+            name: read_name(alloc, rest)?,
+        },
+        Verb::Clear => {
+            end_of_words(rest)?;
+            Command::Clear
+        }
+        Verb::Dump => {
+            end_of_words(rest)?;
+            Command::Dump
+        }
+    })
+}
+
+/// A name and a path, and nothing after them.
+#[tactic(auto, unfolding(crate::specs::Grammar::name_and_path))]
+fn read_name_and_path(alloc: Global, rest: &str) -> Result<(String, String), ScriptFaultKind>
+    ensures { Answers (name_and_path (words_of rest.now))
+        (λ given. (string_bytes given.0, string_bytes given.1)) result }
+{
+    let (name, rest) = next_word(rest).ok_or(ScriptFaultKind::BadCommand)?;
+    let (path, rest) = next_word(rest).ok_or(ScriptFaultKind::BadCommand)?;
+    end_of_words(rest)?;
+    if !is_name(name) {
+        return Err(ScriptFaultKind::BadName);
+    }
+    let name = String::from_str(alloc, name)?;
+    let path = String::from_str(alloc, path)?;
+    Ok((name, path))
+}
+
+/// A name, and nothing after it.
+#[tactic(auto, unfolding(crate::specs::Grammar::one_name))]
+fn read_name(alloc: Global, rest: &str) -> Result<String, ScriptFaultKind>
+    ensures { Answers (one_name (words_of rest.now)) string_bytes result }
+{
+    let (name, rest) = next_word(rest).ok_or(ScriptFaultKind::BadCommand)?;
+    end_of_words(rest)?;
+    if !is_name(name) {
+        return Err(ScriptFaultKind::BadName);
+    }
+    let name = String::from_str(alloc, name)?;
+    Ok(name)
+}
+
+#[tactic(auto, unfolding(crate::specs::Grammar::no_word))]
+fn end_of_words(rest: &str) -> Result<(), ScriptFaultKind>
+    ensures { (said : Instruction) → Answers (no_word said (words_of rest.now)) (λ _. said) result }
+{
+    match next_word(rest) {
+        Some(_) => Err(ScriptFaultKind::BadCommand),
+        None => Ok(()),
+    }
+}
