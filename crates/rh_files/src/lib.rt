@@ -10,6 +10,7 @@ mod keys;
 mod laws;
 mod open;
 mod parts;
+mod source;
 mod stream;
 mod version;
 
@@ -21,6 +22,7 @@ pub use keys::read_keys;
 pub use laws::one_spelling;
 pub use open::open_keys;
 pub use parts::MAX_KEYS;
+pub use source::KeySource;
 pub use stream::KeyStream;
 pub use version::Version;
 
