@@ -20,7 +20,7 @@ use Rattle.rh_files.proofs.Spelled.{begins, bytes_below, spelled_bytes}
 
 -- ---- what is read is spelled so
 
-then_ok : {A B : Type 0} (r : Result A KeyFault) (f : A → Result B KeyFault) (y : B) → (r >>= f) ≡ Ok y → (x : A) × (r ≡ Ok x) × (f x ≡ Ok y)
+pub then_ok : {A B : Type 0} (r : Result A KeyFault) (f : A → Result B KeyFault) (y : B) → (r >>= f) ≡ Ok y → (x : A) × (r ≡ Ok x) × (f x ≡ Ok y)
 then_ok (Ok x) f y h = (x, refl, h)
 then_ok (Err e) f y h = absurd cc
 
@@ -36,7 +36,7 @@ rest_of (Err e) = []
 abbrev ok : {A : Type 0} → A × List ℕ → Result (A × List ℕ) KeyFault
 ok p = Ok p
 
-same_value : {A : Type 0} (p q : A × List ℕ) → ok p ≡ Ok q → p.0 ≡ q.0
+pub same_value : {A : Type 0} (p q : A × List ℕ) → ok p ≡ Ok q → p.0 ≡ q.0
 same_value p q h = ap (value_of p.0) h
 
 same_rest : {A : Type 0} (p q : A × List ℕ) → ok p ≡ Ok q → p.1 ≡ q.1
@@ -44,7 +44,7 @@ same_rest p q h = ap rest_of h
 
 record Given (n : ℕ) (bytes : List ℕ) (p : List ℕ × List ℕ) : Type 0 where
   whole : bytes ≡ p.0 ++ p.1
-  many : length p.0 ≡ n
+  pub many : length p.0 ≡ n
   all : list_all is_byte p.0 ≡ true
 
 bytes_read : (n : ℕ) (bytes : List ℕ) (p : List ℕ × List ℕ) → bytes_at n bytes ≡ Ok p → Given n bytes p
@@ -139,12 +139,12 @@ key_read version index bytes p h =
       | inr other ↦ let got : Err (BadKey index) ≡ Ok p = rw other at s.2 in absurd cc
     ]
 
-record Spells (version : Version) (n : ℕ) (bytes : List ℕ) (p : List ℕ × List ℕ) : Type 0 where
+pub record Spells (version : Version) (n : ℕ) (bytes : List ℕ) (p : List ℕ × List ℕ) : Type 0 where
   whole : bytes ≡ spelled_keys p.0 ++ p.1
-  many : length p.0 ≡ n
+  pub many : length p.0 ≡ n
   fit : All (IsKeyIn version) p.0
 
-keys_read : (version : Version) (index n : ℕ) (bytes : List ℕ) (p : List ℕ × List ℕ) → keys_at version index n bytes ≡ Ok p → Spells version n bytes p
+pub keys_read : (version : Version) (index n : ℕ) (bytes : List ℕ) (p : List ℕ × List ℕ) → keys_at version index n bytes ≡ Ok p → Spells version n bytes p
 unfolding keys_at
 keys_read version index zero bytes p h =
     let none : [] ≡ p.0 = same_value ([], bytes) p h in

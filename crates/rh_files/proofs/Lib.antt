@@ -8,3 +8,4 @@ pub mod Next
 pub mod Whole
 pub mod Grammar
 pub mod Writing
+pub mod Coming

@@ -3,13 +3,13 @@ use Rattle.std.proofs.Common.{◌≡◌, ℕ, zero, suc, ◌+◌, ◌-◌, ◌<�
 use Rattle.std.proofs.lemmas.List.{take-append-le, take_all}
 use Rattle.std.specs.Io.KnownBytes.{Appends}
 use Rattle.std.proofs.KnownBytes.{Appends-trans, Appends-nil}
-use Rattle.rh_files.specs.Counting.{AppendsFront, Writes}
+use Rattle.rh_files.specs.Counting.{AppendsFront, Writes, joined}
 use Rattle.std.proofs.Math.Seq.{take-append-add, take-append_seam}
 use Rattle.std.proofs.lemmas.Bool.{cases_lt, ne_eqb}
 use Rattle.std.proofs.Common.{inl, inr, get_or, eq-eqb, count_by, codes}
 use Rattle.std.specs.Borrow.{Bor}
 use Rattle.rh_layout.specs.Key.{is_full, cell_of}
-use Rattle.rh_files.specs.Dump.{joined, cell_text, line_of, lines_from, head_of, dump_text}
+use Rattle.rh_files.specs.Dump.{cell_text, line_of, lines_from, head_of, dump_text}
 
 take_past : (xs ys : List ℕ) (n : ℕ) → take (length xs + n) (xs ++ ys) ≡ xs ++ take n ys
 take_past xs ys n = take-append-add xs ys n

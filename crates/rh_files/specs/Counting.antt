@@ -1,5 +1,7 @@
 -- What is counted of a reader or a writer, and what came of a text that was written.
 use Rattle.std.specs.Prelude.{◌≡◌, ℕ, ◌+◌, ◌-◌, ◌^◌, ◌<◌, ◌⊎◌, min, Bool, true, ◌&&◌, ◌==◌, nat_lt, if◌then◌else◌, List, take, Option, Result, Ok, Err, MatchResult}
+use Rattle.std.specs.List.{flat_map}
+use Rattle.std.specs.Borrow.{Bor}
 use Rattle.std.specs.Io.KnownBytes.{Appends}
 use Rattle.rh_files.specs.declared.counted.Counted.{Counted}
 
@@ -26,6 +28,10 @@ wrote_nothing given (Err e) = true
 -- a failure was counted, or the count can't go on
 abbrev pub Rose : ℕ → ℕ → Type 0
 Rose old new = (old < new) ⊎ (new ≡ last_count)
+
+-- texts one after the other
+abbrev pub joined : List (Bor (List ℕ)) → List ℕ
+joined texts = flat_map (λ text. text.now) texts
 
 -- some front of the text was appended
 abbrev pub AppendsFront : Option (List ℕ) → Option (List ℕ) → List ℕ → Type 0

@@ -1,13 +1,7 @@
 -- The text of a dump (this project's own), as a function of the bits and the cells of a table.
 use Rattle.std.specs.Prelude.{ℕ, ◌+◌, if◌then◌else◌, List, [], ◌∷◌, ◌++◌, codes, decimal, count_by}
-use Rattle.std.specs.List.{flat_map}
-use Rattle.std.specs.Borrow.{Bor}
 use Rattle.rh_layout.specs.Key.{is_full, key_in}
 use Rattle.rh_layout.specs.Order.{dist_of}
-
--- texts one after the other
-abbrev pub joined : List (Bor (List ℕ)) → List ℕ
-joined texts = flat_map (λ text. text.now) texts
 
 -- a cell, its key, and how far the key stands from its home
 abbrev pub line_of : (bits cell key : ℕ) → List ℕ

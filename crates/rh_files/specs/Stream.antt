@@ -1,9 +1,10 @@
 -- What is known of a stream of keys: its header, how far it is, and what it answers once it is over.
-use Rattle.std.specs.Prelude.{ℕ, ◌-◌, List, Option, None, Result, Ok, Err, ◌==◌, if◌then◌else◌}
+use Rattle.std.specs.Prelude.{ℕ, ◌-◌, List, [], Option, Some, None, Result, Ok, Err, ◌==◌, if◌then◌else◌, option_map}
 use Rattle.std.specs.Borrow.{GName}
 use Rattle.rh_files.specs.declared.counted.Counted.{Counted}
 use Rattle.rh_files.specs.Counting.{inner_of}
-use Rattle.rh_files.specs.Reading.{Reads, header_at}
+use Rattle.rh_files.specs.Reading.{◌>>=◌, Reads, ended, header_at, keys_at}
+use Rattle.rh_files.specs.Source.{Coming, keys_in}
 use Rattle.rh_files.specs.declared.fault.KeyFault.{KeyFault}
 use Rattle.rh_files.specs.declared.version.Version.{Version}
 use Rattle.rh_files.specs.declared.stream.KeyStream.{KeyStream}
@@ -60,3 +61,23 @@ as_err e = Err e
 abbrev pub ReadsHeader : {R : Type 0} → (R → Option (List ℕ)) → R → Result (KeyStream R) KeyFault → Type 0
 ReadsHeader remaining old (Ok s) = Reads (remaining old) (remaining (inner_of (reader_of s))) header_at (λ h. h) (as_ok (header_of s))
 ReadsHeader remaining old (Err e) = Reads (remaining old) None header_at (λ h. h) (as_err e)
+
+-- n keys, of which the first has this index, and then the end
+abbrev pub keys_to_end : Version → ℕ → ℕ → List ℕ → Result (List ℕ) KeyFault
+keys_to_end version index n bytes = keys_in (keys_at version index n bytes >>= ended)
+
+-- what is to come, of which an open stream would read this
+abbrev pub coming_in : State → Coming → Coming
+coming_in Open read = read
+coming_in Ended read = Some (Ok [])
+coming_in (Failed e) read = Some (Err e)
+
+-- the keys that a stream is to give, or the fault that comes before their end, where the bytes are known
+abbrev pub coming_of : {R : Type 0} → (R → Option (List ℕ)) → KeyStream R → Coming
+coming_of remaining s = coming_in (state_of s) (option_map (keys_to_end (version_of s) (taken_of s) (left_of s)) (remaining (inner_of (reader_of s))))
+
+-- how many keys are to come, where n would be in an open stream
+abbrev pub left_in : State → ℕ → ℕ
+left_in Open n = n
+left_in Ended n = 0
+left_in (Failed e) n = 0

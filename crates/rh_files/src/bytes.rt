@@ -3,7 +3,7 @@
 ghost use Rattle.std.specs.Prelude.{◌≡◌, ℕ, List, ◌≤◌, ◌<◌, length, take, IfSome, IsNone, IsSome};
 ghost use Rattle.std.specs.Prelude.{OnOk, OnErr};
 ghost use Rattle.std.specs.Io.KnownBytes.{Consumes, Appends, IsAtEnd};
-ghost use Rattle.rh_files.specs.Counting.{Rose, Writes};
+ghost use Rattle.rh_files.specs.Counting.{Rose, Writes, failures_of, inner_of, joined};
 
 use crate::counted::Counted;
 use crate::fault::WriteFault;
@@ -44,6 +44,20 @@ pub(crate) fn put<W: Write>(writer: &mut Counted<W>, text: &[u8]) -> Result<(), 
             Ok(n) => at += n,
             Err(_) => return Err(WriteFault::Write),
         }
+    }
+    Ok(())
+}
+
+/// Writes the texts in turn. A write that takes no byte is a failure, and where one fails, a front
+/// of the texts may have been written. Each text is a write of its own.
+pub fn write_texts<W: Write>(writer: &mut Counted<W>, texts: &[&[u8]]) -> Result<(), WriteFault>
+    ensures text { Writes (W.contents (inner_of writer.old)) (W.contents (inner_of writer.new))
+        (joined texts.now) result }
+    ensures failed { OnErr result (Rose (failures_of writer.old) (failures_of writer.new)) }
+    ensures fine { OnOk result (failures_of writer.new ≡ failures_of writer.old) }
+{
+    for text in texts {
+        put(writer, text)?;
     }
     Ok(())
 }

@@ -4,27 +4,14 @@ ghost use Rattle.std.specs.Prelude.{◌≡◌, ◌<◌, ◌≤◌, ◌^◌, leng
 ghost use Rattle.rh_layout.specs.Key.{IsBits};
 ghost use Rattle.rh_layout.specs.Layout.{IsLayout};
 ghost use Rattle.rh_files.specs.Counting.{Rose, Writes, failures_of, inner_of};
-ghost use Rattle.rh_files.specs.Dump.{line_of, head_of, lines_from, joined, dump_text};
+ghost use Rattle.rh_files.specs.Dump.{line_of, head_of, lines_from, dump_text};
 
-use crate::bytes::put;
+use crate::bytes::{put, write_texts};
 use crate::counted::Counted;
 use crate::fault::WriteFault;
 use itoa::Buffer;
 use rh_layout::{dist, key_in};
 use std::io::Write;
-
-/// Writes the texts in turn.
-fn put_all<W: Write>(writer: &mut Counted<W>, texts: &[&[u8]]) -> Result<(), WriteFault>
-    ensures text { Writes (W.contents writer.old.inner) (W.contents writer.new.inner)
-        (joined texts.now) result }
-    ensures failed { OnErr result (Rose writer.old.failures writer.new.failures) }
-    ensures fine { OnOk result (writer.new.failures ≡ writer.old.failures) }
-{
-    for text in texts {
-        put(writer, text)?;
-    }
-    Ok(())
-}
 
 /// Writes the line of a key and the cell that holds it.
 fn put_line<W: Write>(
@@ -44,7 +31,7 @@ fn put_line<W: Write>(
     let cell_digits = first.format(cell).as_bytes();
     let key_digits = second.format(key).as_bytes();
     let dist_digits = third.format(dist(bits, cell, key)).as_bytes();
-    put_all(
+    write_texts(
         writer,
         &[cell_digits, b" ", key_digits, b" ", dist_digits, b"\n"],
     )
@@ -59,7 +46,7 @@ fn put_head<W: Write>(writer: &mut Counted<W>, bits: u32, held: usize) -> Result
     let (mut first, mut second) = (Buffer::new(), Buffer::new());
     let bits_digits = first.format(bits).as_bytes();
     let held_digits = second.format(held).as_bytes();
-    put_all(writer, &[b"table ", bits_digits, b" ", held_digits, b"\n"])
+    write_texts(writer, &[b"table ", bits_digits, b" ", held_digits, b"\n"])
 }
 
 /// Writes the line of each full cell, in rising cell order.

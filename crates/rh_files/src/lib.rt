@@ -14,6 +14,7 @@ mod source;
 mod stream;
 mod version;
 
+pub use bytes::write_texts;
 pub use counted::Counted;
 pub use dump::write_dump;
 pub use fault::{KeyFault, WriteFault};

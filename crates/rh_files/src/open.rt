@@ -1,10 +1,12 @@
 //! The beginning of a key file.
 
-ghost use Rattle.std.specs.Prelude.{◌≡◌, ◌≢◌, Err, IfOk, IsErrOf};
+ghost use Rattle.std.specs.Prelude.{◌≡◌, ◌≢◌, Err, IfErr, IfOk, IsErrOf, option_map};
 ghost use Rattle.std.specs.Borrow.{sem, RestsIfErr};
 ghost use Rattle.rh_files.specs.contracts.counted.Counted.{the_row};
 ghost use Rattle.rh_files.specs.Counting.{Rose, failures_of, inner_of};
+ghost use Rattle.rh_files.specs.Source.{ComesFrom, FaultComes, HasCount, keys_of_file};
 ghost use Rattle.rh_files.specs.Stream.{ReadsHeader, reader_of, lender_of, taken_of, state_of};
+ghost use Rattle.rh_files.specs.Stream.{coming_of, count_of};
 
 use crate::counted::Counted;
 use crate::fault::KeyFault;
@@ -13,8 +15,14 @@ use crate::stream::{KeyStream, State};
 use std::io::Read;
 
 /// Reads the header: the version and the number of keys.
+#[tactic(auto, using(crate::proofs::Coming::comes, crate::proofs::Coming::counts, crate::proofs::Coming::does_not_come))]
 pub fn open_keys<R: Read>(reader: &mut Counted<R>) -> Result<KeyStream<'_, R>, KeyFault>
     ensures header { ReadsHeader R.remaining (inner_of reader.old) result }
+    ensures coming { IfOk result (λ s.
+        ComesFrom (R.remaining (inner_of reader.old)) (coming_of R.remaining s)) }
+    ensures count { IfOk result (λ s. HasCount (R.remaining (inner_of reader.old)) (count_of s)) }
+    ensures fault { IfErr result (λ e.
+        FaultComes (option_map keys_of_file (R.remaining (inner_of reader.old))) e) }
     ensures none_taken { IfOk result (λ s. taken_of s ≡ 0) }
     ensures open { IfOk result (λ s. state_of s ≡ State.Open) }
     ensures fine { IfOk result (λ s. failures_of (reader_of s) ≡ failures_of reader.old) }

@@ -6,6 +6,7 @@ ghost use Rattle.rh_files.specs.declared.parts.TheConstants.{MAX_KEYS};
 use crate::counted::Counted;
 use crate::fault::KeyFault;
 use crate::parts::{MAX_KEYS, read_batch};
+use crate::source::KeySource;
 use crate::version::Version;
 use std::io::Read;
 
@@ -99,5 +100,24 @@ impl<R: Read> KeyStream<'_, R> {
             Err(fault) => self.state = State::Failed(fault),
         }
         outcome
+    }
+}
+
+impl<R: Read> KeySource for KeyStream<'_, R> {
+    ghost use Rattle.rh_files.specs.Stream.{coming_of, left_in, left_of, state_of};
+
+    ghost coming = { coming_of R.remaining };
+
+    ghost left_of = { λ s. left_in (state_of s) (left_of s) };
+
+    fn left(&self) -> u64 {
+        match self.state {
+            State::Open => self.count - self.taken,
+            State::Ended | State::Failed(_) => 0,
+        }
+    }
+
+    fn next_keys(&mut self, batch: &mut [u64]) -> Result<usize, KeyFault> {
+        self.next_batch(batch)
     }
 }

@@ -1,8 +1,8 @@
 use Rattle.std.proofs.Common.{drop, take, rules, suc}
 use Rattle.std.proofs.lemmas.Result.{err_from_is_err_and}
-use Rattle.rh_files.specs.Dump.{joined}
+use Rattle.rh_files.specs.Counting.{joined}
 use Rattle.rh_files.proofs.Writing.{front_stops, joined-split}
-use Rattle.rh_files.proofs.dump.put_all.Goals as goal
+use Rattle.rh_files.proofs.bytes.write_texts.Goals as goal
 
 pub returns-in_err-put-clause-text : goal.returns-in_err-put-clause-text
 returns-in_err-put-clause-text g c =
