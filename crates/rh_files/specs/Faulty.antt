@@ -1,16 +1,17 @@
 -- What is known of the reader and the writer that fail once.
-use Rattle.std.specs.Prelude.{◌≡◌, ℕ, List, Result, Ok, IsErr}
+use Rattle.std.specs.Prelude.{◌≡◌, ℕ, List, Option, Result, Ok, IsErr}
+use Rattle.std.specs.Io.Cursor.{cursor_remaining}
 use Rattle.rh_files.specs.declared.faulty.FaultyReader.{FaultyReader}
 use Rattle.rh_files.specs.declared.faulty.FaultyWriter.{FaultyWriter}
 use Rattle.rh_files.specs.declared.faulty.Refusal.{Refusal}
 use Rattle.rh_files.specs.declared.faulty.Refusal.TheVariants as refusals
 
--- the bytes that were not read yet
-abbrev pub rest_of : FaultyReader → List ℕ
-rest_of r = r.rest.now
+-- the bytes that were not read yet, as far as the bytes are known
+abbrev pub rest_of : {T : Type 0} → (T → Option (List ℕ)) → FaultyReader T → Option (List ℕ)
+rest_of bytes r = cursor_remaining bytes r.bytes
 
 -- at 1 the next call fails; at 0 none does any more
-abbrev pub fails_in : FaultyReader → ℕ
+abbrev pub fails_in : {T : Type 0} → FaultyReader T → ℕ
 fails_in r = r.fails_in
 
 -- the bytes that were written

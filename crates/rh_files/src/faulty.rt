@@ -1,6 +1,6 @@
 //! A reader and a writer over memory that fail once, for tests.
 
-ghost use Rattle.std.specs.Prelude.{◌≡◌, ◌≢◌, ◌-◌, [], min, length, Some, Ok, IfErr, IfOk, IsErr};
+ghost use Rattle.std.specs.Prelude.{◌≡◌, ◌≢◌, ◌-◌, [], length, Some, IfErr, IfOk, IsErr};
 ghost use Rattle.std.specs.Prelude.{IsOk};
 ghost use Rattle.std.specs.Io.{ReadsAtMost, WritesAtMost};
 ghost use Rattle.std.specs.Io.KnownBytes.{ReadConsumes, WriteAppends, Keeps};
@@ -10,39 +10,38 @@ ghost use Rattle.rh_files.specs.Faulty.{Refuses};
 
 use std::alloc::Global;
 use std::io;
-use std::io::{ErrorKind, Read, Write};
+use std::io::{AsBytes, Cursor, ErrorKind, Read, Write};
 
 /// A reader over bytes in memory. One of its calls fails once, with an interruption, which std's
 /// own loops would try again; every other call reads on.
 #[derive(Drop)]
-pub struct FaultyReader<'a> {
-    rest: &'a [u8],
+pub struct FaultyReader<T> {
+    bytes: Cursor<T>,
     fails_in: u64,
 }
 
-impl<'a> FaultyReader<'a> {
+impl<T: AsBytes> FaultyReader<T> {
     /// The call of this number fails, counted from 1. At 0 none does.
-    pub fn new(bytes: &'a [u8], fails_at: u64) -> FaultyReader<'a>
-        ensures rest { rest_of result ≡ bytes.entry.now }
+    pub fn new(bytes: T, fails_at: u64) -> FaultyReader<T>
+        ensures rest { rest_of T.bytes result ≡ T.bytes bytes }
         ensures fails_in { fails_in result ≡ fails_at }
     {
         FaultyReader {
-            rest: bytes,
+            bytes: Cursor::new(bytes),
             fails_in: fails_at,
         }
     }
 }
 
-impl Read for FaultyReader<'_> {
-    ghost remaining = { λ r. Some (rest_of r) };
+impl<T: AsBytes> Read for FaultyReader<T> {
+    ghost remaining = { rest_of T.bytes };
 
     fn read(&mut self, buf: &mut [u8]) -> io::Result<usize>
         ensures bound { ReadsAtMost result buf.new }
-        ensures bytes { ReadConsumes (Some (rest_of self.old)) (Some (rest_of self.new))
+        ensures bytes { ReadConsumes (rest_of T.bytes self.old) (rest_of T.bytes self.new)
             result buf.new }
         ensures fails { fails_in self.old ≡ 1 → IsErr result }
-        ensures reads { fails_in self.old ≢ 1 →
-            result ≡ Ok (min (length (rest_of self.old)) (length buf.old)) }
+        ensures reads { fails_in self.old ≢ 1 → IsOk result }
         ensures nearer { fails_in self.new ≡ fails_in self.old - 1 }
     {
         let fails = self.fails_in == 1;
@@ -50,7 +49,7 @@ impl Read for FaultyReader<'_> {
         if fails {
             return Err(io::Error::from(ErrorKind::Interrupted));
         }
-        self.rest.read(buf)
+        self.bytes.read(buf)
     }
 }
 

@@ -86,7 +86,7 @@ fn other_bytes_are_refused(rt: HostRuntime) {
 fn each_read_fails(rt: HostRuntime) {
     // The magic, the count, three keys and the end.
     for n in 1..7u64 {
-        let mut reader = Counted::new(FaultyReader::new(&THREE_KEYS, n));
+        let mut reader = Counted::new(FaultyReader::new(THREE_KEYS.as_slice(), n));
         assert_eq!(rt;
             read_keys(rt.alloc(), &mut reader).err(),
             Some(KeyFault::Read),
@@ -94,7 +94,7 @@ fn each_read_fails(rt: HostRuntime) {
         );
         assert_eq!(rt; reader.failures(), 1);
     }
-    let mut reader = Counted::new(FaultyReader::new(&THREE_KEYS, 7));
+    let mut reader = Counted::new(FaultyReader::new(THREE_KEYS.as_slice(), 7));
     assert!(rt; read_keys(rt.alloc(), &mut reader).is_ok());
     assert_eq!(rt; reader.failures(), 0);
 }

@@ -192,7 +192,7 @@ fn each_bit_is_changed(rt: HostRuntime) {
 #[test]
 fn each_read_fails(rt: HostRuntime) -> Result<(), Fail> {
     for n in 1..1000 {
-        let mut reader = Counted::new(FaultyReader::new(&THREE_KEYS, n));
+        let mut reader = Counted::new(FaultyReader::new(THREE_KEYS.as_slice(), n));
         let mut writer = Counted::new(Vec::new(rt.alloc()));
         let outcome = dump_keys(rt.alloc(), &mut reader, &mut writer);
         let written = writer.into_inner();

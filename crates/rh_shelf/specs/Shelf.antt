@@ -1,0 +1,22 @@
+-- What is known of a shelf: the bytes of its paths.
+use Rattle.std.specs.Prelude.{◌≡◌, ℕ, List, Option, Some, None}
+use Rattle.std.specs.Str.{bytes_eq}
+use Rattle.std.specs.Map.{update}
+
+-- the bytes of each path that there is
+abbrev pub Files : Type 0
+Files = List ℕ → Option (List ℕ)
+
+-- the files with these bytes at this path
+abbrev pub with_file : Files → (path bytes : List ℕ) → Files
+with_file files path bytes = update bytes_eq files path (Some bytes)
+
+-- these are the bytes of the path, where the files are known
+abbrev pub Finds : Option Files → (path : List ℕ) → Option (List ℕ) → Type 0
+Finds None path bytes = Unit {0}
+Finds (Some files) path bytes = (found : List ℕ) × (files path ≡ Some found) × (bytes ≡ Some found)
+
+-- the files are known not to have the path
+abbrev pub Lacks : Option Files → (path : List ℕ) → Type 0
+Lacks None path = ⊥
+Lacks (Some files) path = files path ≡ None

@@ -1,0 +1,88 @@
+//! A shelf in memory that fails once, for tests.
+
+ghost use Rattle.std.specs.Prelude.{◌≡◌, ◌≢◌, ◌⊎◌, Some, IfOk, IsErrOf};
+ghost use Rattle.rh_files.specs.Counting.{Rose};
+ghost use Rattle.rh_files.specs.Faulty.{fails_in, rest_of};
+ghost use Rattle.rh_shelf.specs.Shelf.{Finds, Lacks};
+ghost use Rattle.rh_shelf.specs.Kinds.{files_of, shelf_of, failure_of, calls_of, next_call};
+ghost use Rattle.rh_shelf.specs.Kinds.{failures_in, known_bytes, read_that_fails};
+
+use crate::memory::MemShelf;
+use crate::shelf::{Shelf, ShelfFault};
+use rh_files::FaultyReader;
+use std::alloc::Global;
+
+/// Which call fails. Calls are counted from 1, and those of a reader too.
+#[derive(Clone, Copy, Debug, PartialEq, Eq)]
+pub enum ShelfFailure {
+    /// The shelf's call of this number.
+    Call(u64),
+    /// A read of the reader that the shelf's call of this number gave.
+    Read { call: u64, read: u64 },
+}
+
+/// A shelf in memory of which one call fails once, or one read of one of its readers. It counts its
+/// own failures.
+#[derive(Drop)]
+pub struct FaultyShelf {
+    shelf: MemShelf,
+    failure: ShelfFailure,
+    calls: u64,
+    failures: u64,
+}
+
+impl FaultyShelf {
+    pub fn new(shelf: MemShelf, failure: ShelfFailure) -> FaultyShelf
+        ensures shelf { shelf_of result ≡ shelf }
+        ensures failure { failure_of result ≡ failure }
+        ensures no_call { calls_of result ≡ 0 }
+        ensures no_failure { failures_in result ≡ 0 }
+    {
+        FaultyShelf {
+            shelf,
+            failure,
+            calls: 0,
+            failures: 0,
+        }
+    }
+}
+
+impl Shelf for FaultyShelf {
+    type Reader = FaultyReader<Vec<u8>>;
+
+    ghost files = { λ s. Some (files_of (shelf_of s)) };
+
+    ghost failures = { failures_in };
+
+    fn fetch(&mut self, alloc: Global, path: &str) -> Result<FaultyReader<Vec<u8>>, ShelfFault>
+        ensures found { IfOk result (λ r.
+            Finds (Some (files_of (shelf_of self.old))) path.now (rest_of known_bytes r)) }
+        ensures missing { IsErrOf result ShelfFault.Missing →
+            Lacks (Some (files_of (shelf_of self.old))) path.now
+            ⊎ Rose (failures_in self.old) (failures_in self.new) }
+        ensures no_write { IsErrOf result ShelfFault.Write → ⊥ }
+        ensures same_files { files_of (shelf_of self.new) ≡ files_of (shelf_of self.old) }
+
+        // Which call fails.
+        ensures counts { calls_of self.new ≡ next_call self.old }
+        ensures fails { failure_of self.old ≡ ShelfFailure.Call (next_call self.old) →
+            IsErrOf result ShelfFault.Missing }
+        ensures fails_once { failure_of self.old ≢ ShelfFailure.Call (next_call self.old) →
+            failures_in self.new ≡ failures_in self.old }
+        ensures reader { IfOk result (λ r.
+            fails_in r ≡ read_that_fails (failure_of self.old) (next_call self.old)) }
+        ensures same_failure { failure_of self.new ≡ failure_of self.old }
+    {
+        self.calls = self.calls.saturating_add(1);
+        if self.failure == ShelfFailure::Call(self.calls) {
+            self.failures = self.failures.saturating_add(1);
+            return Err(ShelfFault::Missing);
+        }
+        let bytes = self.shelf.copy_of(alloc, path)?;
+        let fails_at = match self.failure {
+            ShelfFailure::Read { call, read } if call == self.calls => read,
+            _ => 0,
+        };
+        Ok(FaultyReader::new(bytes, fails_at))
+    }
+}

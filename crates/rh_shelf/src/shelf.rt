@@ -1,0 +1,58 @@
+//! What a shelf is.
+
+ghost use Rattle.std.specs.Prelude.{◌≡◌, ◌⊎◌, ℕ, Option, IfOk, IsErrOf};
+ghost use Rattle.rh_files.specs.Counting.{Rose};
+ghost use Rattle.rh_shelf.specs.Shelf.{Files, Finds, Lacks};
+ghost use Rattle.rh_shelf.specs.declared.shelf.ShelfFault.TheVariants.{Memory};
+
+use std::alloc::{AllocError, AllocFailed, Global};
+use std::io::Read;
+use thiserror::Error;
+
+/// Why a file was not given or taken.
+#[derive(Clone, Copy, Debug, PartialEq, Eq, Error)]
+pub enum ShelfFault {
+    /// There is no file at the path, or it cannot be opened.
+    #[error("cannot open the file")]
+    Missing,
+    #[error("cannot write the file")]
+    Write,
+    #[error("out of memory")]
+    Memory,
+}
+
+impl From<AllocError> for ShelfFault {
+    ghost from_gives = { λ _ fault. fault ≡ Memory };
+
+    fn from(_error: AllocError) -> ShelfFault {
+        ShelfFault::Memory
+    }
+}
+
+impl<T: Drop> From<AllocFailed<T>> for ShelfFault {
+    ghost from_gives = { λ _ fault. fault ≡ Memory };
+
+    fn from(_error: AllocFailed<T>) -> ShelfFault {
+        ShelfFault::Memory
+    }
+}
+
+/// Files by their paths.
+pub trait Shelf {
+    type Reader: Read + Drop;
+
+    /// The bytes of each path, where the readers tell theirs.
+    ghost files: { Self → Option Files };
+
+    /// How often the shelf failed. The count stops at the greatest `u64`.
+    ghost failures: { Self → ℕ };
+
+    /// A reader of the file's bytes, from the first on. Never `Write`.
+    fn fetch(&mut self, alloc: Global, path: &str) -> Result<Self::Reader, ShelfFault>
+        ensures found { IfOk result (λ r.
+            Finds (files self.old) path.now (Self.Reader.remaining r)) }
+        ensures missing { IsErrOf result ShelfFault.Missing →
+            Lacks (files self.old) path.now ⊎ Rose (failures self.old) (failures self.new) }
+        ensures no_write { IsErrOf result ShelfFault.Write → ⊥ }
+        ensures same_files { files self.new ≡ files self.old };
+}
