@@ -1,0 +1,92 @@
+//! The report of look-ups.
+
+ghost use Rattle.std.specs.Prelude.{◌≡◌, ◌≤◌, ◌<◌, ◌++◌, OnErr, OnOk, codes, length, map};
+ghost use Rattle.rh_files.specs.Counting.{Rose, Writes, failures_of, inner_of};
+ghost use Rattle.rh_report.specs.Texts.{asked_head, asked_text, digit_of, digits_from};
+
+use itoa::Buffer;
+use rh_files::{Counted, WriteFault, write_texts};
+use std::io::Write;
+
+/// How many answers stand on a full line.
+pub const ANSWERS_PER_LINE: usize = 64;
+
+/// `ask NAME read R found F`, and the answers as digits 1 and 0, 64 on a line.
+pub fn write_asked<W: Write>(
+    writer: &mut Counted<W>,
+    name: &str,
+    answers: &[bool],
+) -> Result<(), WriteFault>
+    ensures text { Writes (W.contents (inner_of writer.old)) (W.contents (inner_of writer.new))
+        (asked_text name.now answers.now) result }
+    ensures failed { OnErr result (Rose (failures_of writer.old) (failures_of writer.new)) }
+    ensures fine { OnOk result (failures_of writer.new ≡ failures_of writer.old) }
+{
+    write_head(writer, name, answers)?;
+    write_answers(writer, answers)
+}
+
+fn write_head<W: Write>(
+    writer: &mut Counted<W>,
+    name: &str,
+    answers: &[bool],
+) -> Result<(), WriteFault>
+    ensures text { Writes (W.contents (inner_of writer.old)) (W.contents (inner_of writer.new))
+        (asked_head name.now answers.now) result }
+    ensures failed { OnErr result (Rose (failures_of writer.old) (failures_of writer.new)) }
+    ensures fine { OnOk result (failures_of writer.new ≡ failures_of writer.old) }
+{
+    let found = answers.iter().filter(|answer| **answer).count();
+    let (mut first, mut second) = (Buffer::new(), Buffer::new());
+    let read = first.format(answers.len()).as_bytes();
+    let found = second.format(found).as_bytes();
+    let texts: [&[u8]; 7] = [
+        b"ask ",
+        name.as_bytes(),
+        b" read ",
+        read,
+        b" found ",
+        found,
+        b"\n",
+    ];
+    write_texts(writer, &texts)
+}
+
+/// Writes the answers line by line.
+fn write_answers<W: Write>(writer: &mut Counted<W>, answers: &[bool]) -> Result<(), WriteFault>
+    ensures text { Writes (W.contents (inner_of writer.old)) (W.contents (inner_of writer.new))
+        (digits_from 0 answers.now) result }
+    ensures failed { OnErr result (Rose (failures_of writer.old) (failures_of writer.new)) }
+    ensures fine { OnOk result (failures_of writer.new ≡ failures_of writer.old) }
+{
+    let mut rest = answers;
+    while !rest.is_empty() {
+        let (line, after) = rest.split_at(rest.len().min(ANSWERS_PER_LINE));
+        write_line(writer, line)?;
+        rest = after;
+    }
+    Ok(())
+}
+
+fn write_line<W: Write>(writer: &mut Counted<W>, answers: &[bool]) -> Result<(), WriteFault>
+    requires { length answers.now ≤ ANSWERS_PER_LINE }
+    ensures text { Writes (W.contents (inner_of writer.old)) (W.contents (inner_of writer.new))
+        (map digit_of answers.now ++ codes "\n") result }
+    ensures failed { OnErr result (Rose (failures_of writer.old) (failures_of writer.new)) }
+    ensures fine { OnOk result (failures_of writer.new ≡ failures_of writer.old) }
+{
+    let mut line = [0; ANSWERS_PER_LINE];
+    let digits = &mut line[..answers.len()];
+    put_digits(answers, digits);
+    write_texts(writer, &[digits, b"\n"])
+}
+
+#[tactic(auto, using(crate::proofs::AnswerLemmas::digit_at, std::proofs::lemmas::Grind::same_number_lists))]
+fn put_digits(answers: &[bool], digits: &mut [u8])
+    requires { length digits.old ≡ length answers.now }
+    ensures { digits.new ≡ map digit_of answers.now }
+{
+    for (place, answer) in answers.iter().enumerate() {
+        digits[place] = if *answer { b'1' } else { b'0' };
+    }
+}

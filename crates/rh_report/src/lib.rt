@@ -1,0 +1,10 @@
+//! The text of each command's report.
+#![tactic(auto)]
+
+mod answers;
+mod lines;
+
+pub use answers::{ANSWERS_PER_LINE, write_asked};
+pub use lines::{
+    write_added, write_cleared, write_dropped, write_flipped, write_kept, write_saved, write_used,
+};
