@@ -1,0 +1,71 @@
+-- How the run of a script ends.
+use Rattle.std.specs.Prelude.{◌≡◌, ℕ, ◌⊎◌, List, [], ◌∷◌, ◌++◌, length, take, Option, Some, Result, Ok, Err}
+use Rattle.std.specs.FinSet as set
+use Rattle.std.specs.Io.KnownBytes.{Appends}
+use Rattle.rh_files.specs.declared.fault.KeyFault.TheVariants as faults
+use Rattle.rh_files.specs.Counting.{Rose}
+use Rattle.rh_script.specs.Instruction.{Numbered}
+use Rattle.rh_shelf.specs.Shelf.{Files}
+use Rattle.rh_report.specs.Account.{Account, Says}
+use Rattle.rh_planner.specs.declared.fault.Cause.{Cause}
+use Rattle.rh_planner.specs.declared.fault.Cause.TheVariants.{Missing, Keys, Changed, TooLarge, Memory, NoThread, Write}
+use Rattle.rh_planner.specs.declared.fault.RunFault.{RunFault}
+use Rattle.rh_planner.specs.declared.run.Report.{Report}
+use Rattle.rh_planner.specs.Meaning.{World, Outcome, start, meaning, outcome_of}
+
+-- the text says these accounts, one after the other
+abbrev pub SaysAll : List Account → List ℕ → Type 0
+SaysAll [] text = text ≡ []
+SaysAll (account ∷ accounts) text = (first : List ℕ) × (rest : List ℕ) × Says account first × SaysAll accounts rest × (text ≡ first ++ rest)
+
+-- A cause that the script and the files do not have: want of memory, a thread that was refused, a read that failed,
+-- and a file that the shelf did not give, where its count of failures rose.
+abbrev pub IsOutside : (failures failures' : ℕ) → Cause → Type 0
+IsOutside n m Memory = Unit {0}
+IsOutside n m NoThread = Unit {0}
+IsOutside n m (Keys faults.Read) = Unit {0}
+IsOutside n m (Keys _) = ⊥
+IsOutside n m Missing = Rose n m
+IsOutside n m Changed = ⊥
+IsOutside n m TooLarge = ⊥
+IsOutside n m Write = ⊥
+
+-- what was written before a command that was refused, and why it was refused
+abbrev pub EndsBy : Outcome → (failures failures' : ℕ) → Option (List ℕ) → Option (List ℕ) → List ℕ → Cause → Type 0
+EndsBy outcome n m old new text Write =
+    (done : World × Account) × (more : List ℕ) × (front : ℕ) × (outcome ≡ Ok done) × Says done.1 more × Appends old new (text ++ take front more)
+EndsBy outcome n m old new text cause = Appends old new text × ((outcome ≡ Err cause) ⊎ IsOutside n m cause)
+
+-- All steps were carried out: the text is what they have to report, and the report counts them and tells the table.
+pub record Done (files : Files) (now : Option Files) (steps : List Numbered) (old new : Option (List ℕ)) (report : Report) : Type 0 where
+  pub world : World
+  pub accounts : List Account
+  pub text : List ℕ
+  pub means : meaning (start files) steps ≡ Ok (world, accounts)
+  pub says : SaysAll accounts text
+  pub written : Appends old new text
+  pub files_now : now ≡ Some world.files
+  pub told : report ≡ record { commands = length steps; held = set.len world.held; bits = world.bits }
+
+-- The steps before one were carried out, and at that one the run ended with its line: by the cause that the meaning
+-- has there, or by one that comes from outside.
+pub record Stopped (files : Files) (failures failures' : ℕ) (steps : List Numbered) (old new : Option (List ℕ)) (fault : RunFault) : Type 0 where
+  pub before : List Numbered
+  pub step : Numbered
+  pub after : List Numbered
+  pub parts : steps ≡ before ++ step ∷ after
+  pub line : fault.line ≡ step.line
+  pub world : World
+  pub accounts : List Account
+  pub text : List ℕ
+  pub means : meaning (start files) before ≡ Ok (world, accounts)
+  pub says : SaysAll accounts text
+  pub ends : EndsBy (outcome_of world step.instruction) failures failures' old new text fault.cause
+
+-- memory ran out before the first command
+abbrev pub NotBegun : Option (List ℕ) → Option (List ℕ) → RunFault → Type 0
+NotBegun old new fault = (fault ≡ record { line = 0; cause = Memory }) × Appends old new []
+
+abbrev pub Ends : (files : Files) → (now : Option Files) → (failures failures' : ℕ) → List Numbered → Option (List ℕ) → Option (List ℕ) → Result Report RunFault → Type 0
+Ends files now n m steps old new (Ok report) = Done files now steps old new report
+Ends files now n m steps old new (Err fault) = NotBegun old new fault ⊎ Stopped files n m steps old new fault

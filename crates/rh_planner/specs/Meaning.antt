@@ -1,0 +1,131 @@
+-- What a script means (this project's own): what its commands make, one after the other, of a set, the bits of its
+-- table, and the lists that have a name, and what each has to report. It ends at the first command that is refused.
+use Rattle.std.specs.Prelude.{ℕ, ◌+◌, Bool, not, List, [], ◌∷◌, ◌++◌, length, count_by, Option, Some, None, Result, Ok, Err}
+use Rattle.std.specs.FinSet as set
+use Rattle.std.specs.FinSet.{contains}
+use Rattle.std.specs.Str.{bytes_eq}
+use Rattle.std.specs.Map.{lookup}
+use Rattle.rh_layout.specs.Layout.{Keys}
+use Rattle.rh_layout.specs.declared.limits.TheConstants.{MIN_BITS}
+use Rattle.rh_ledger.specs.declared.tally.Kind.TheVariants.{Insert, Remove}
+use Rattle.rh_ledger.specs.Phase.{set_after, tally_of, looked_up}
+use Rattle.rh_files.specs.declared.fault.KeyFault.{KeyFault}
+use Rattle.rh_files.specs.Source.{keys_of_file}
+use Rattle.rh_runner.specs.Lists.{chosen}
+use Rattle.rh_script.specs.Instruction.{Instruction, Numbered}
+use Rattle.rh_script.specs.Instruction as instructions
+use Rattle.rh_shelf.specs.Shelf.{Files}
+use Rattle.rh_report.specs.Account.{Account, Used, Added, Dropped, Asked, Kept, Flipped, Saved, Cleared, Dumped}
+use Rattle.rh_planner.specs.declared.fault.Cause.{Cause}
+use Rattle.rh_planner.specs.declared.fault.Cause.TheVariants as causes
+use Rattle.rh_planner.specs.declared.fault.Cause.TheVariants.{Missing, TooLarge}
+use Rattle.rh_planner.specs.declared.fault.RunFault.{RunFault}
+use Rattle.rh_planner.specs.Size.{capacity}
+
+-- what there is between two commands: the keys that are held, the bits of their table, the lists by their names in the
+-- order in which they were given, and the files
+pub record World : Type 0 where
+  pub held : Keys
+  pub bits : ℕ
+  pub lists : List (List ℕ × List ℕ)
+  pub files : Files
+
+-- before the first command
+abbrev pub start : Files → World
+start files = record { held = set.empty; bits = MIN_BITS; lists = []; files = files }
+
+-- the list of this name; a script names no other
+abbrev pub list_of : (name : List ℕ) → List (List ℕ × List ℕ) → List ℕ
+list_of name lists = elim (lookup (λ other. bytes_eq other name) lists) [ Some keys ↦ keys | None ↦ [] ]
+
+-- ---- what a command makes, or why it is refused
+
+abbrev pub Outcome : Type 0
+Outcome = Result (World × Account) Cause
+
+-- the keys of the file at a path, or why it has none
+abbrev pub keys_in : Option (List ℕ) → Result (List ℕ) Cause
+keys_in None = Err Missing
+keys_in (Some bytes) = elim (keys_of_file bytes) [ Ok keys ↦ Ok keys | Err fault ↦ Err (causes.Keys fault) ]
+
+abbrev pub with_keys : Result (List ℕ) Cause → (List ℕ → Outcome) → Outcome
+with_keys (Ok keys) make = make keys
+with_keys (Err cause) make = Err cause
+
+-- the size of the table, if one is large enough
+abbrev pub with_size : Option ℕ → (ℕ → Outcome) → Outcome
+with_size None make = Err TooLarge
+with_size (Some bits) make = make bits
+
+-- the list has a name from now on
+abbrev pub named : World → (name keys : List ℕ) → World
+named w name keys = record w { lists = w.lists ++ (name, keys) ∷ [] }
+
+abbrev pub uses : World → (name path : List ℕ) → Outcome
+uses w name path = with_keys (keys_in (w.files path)) (λ keys. Ok (named w name keys, Used name (length keys)))
+
+-- the keys of the list are held too
+abbrev pub adds : World → (name keys : List ℕ) → Outcome
+adds w name keys =
+    let held = set_after Insert w.held keys in
+    with_size (capacity w.bits (set.len w.held + length keys))
+    (λ bits. Ok (record w { held = held; bits = bits }, Added name (length keys) (tally_of Insert w.held keys).added (set.len held) bits))
+
+-- the keys of the list are held no more
+abbrev pub drops : World → (name keys : List ℕ) → Outcome
+drops w name keys =
+    let held = set_after Remove w.held keys in
+    Ok (record w { held = held }, Dropped name (length keys) (tally_of Remove w.held keys).removed (set.len held) w.bits)
+
+-- the keys of the list are looked up
+abbrev pub asks : World → (name keys : List ℕ) → Outcome
+asks w name keys = Ok (w, Asked name (looked_up w.held keys))
+
+-- of the keys that are held, those of the list are kept
+abbrev pub keeps : World → (name keys : List ℕ) → Outcome
+keeps w name keys =
+    let found = chosen true w.held keys in
+    let held = set_after Insert set.empty found in
+    with_size (capacity MIN_BITS (length found))
+    (λ bits. Ok (record w { held = held; bits = bits }, Kept name (length keys) (length found) (set.len held) bits))
+
+-- the keys of the list that are held are dropped, and the others are added
+abbrev pub flips : World → (name keys : List ℕ) → Outcome
+flips w name keys =
+    let others = chosen false w.held keys in
+    let left = set_after Remove w.held keys in
+    let held = set_after Insert left others in
+    with_size (capacity w.bits (set.len left + length others))
+    (λ bits. Ok (record w { held = held; bits = bits }, Flipped name (length keys) (tally_of Remove w.held keys).removed (tally_of Insert left others).added (set.len held) bits))
+
+-- the keys that are held become a list, in rising order
+abbrev pub saves : World → (name : List ℕ) → Outcome
+saves w name = Ok (named w name (set.items w.held), Saved name (set.len w.held))
+
+abbrev pub clears : World → Outcome
+clears w = Ok (record w { held = set.empty; bits = MIN_BITS }, Cleared)
+
+abbrev pub dumps : World → Outcome
+dumps w = Ok (w, Dumped w.held w.bits)
+
+unfoldable pub outcome_of : World → Instruction → Outcome
+outcome_of w (instructions.Use name path) = uses w name path
+outcome_of w (instructions.Add name) = adds w name (list_of name w.lists)
+outcome_of w (instructions.Drop name) = drops w name (list_of name w.lists)
+outcome_of w (instructions.Ask name) = asks w name (list_of name w.lists)
+outcome_of w (instructions.Keep name) = keeps w name (list_of name w.lists)
+outcome_of w (instructions.Flip name) = flips w name (list_of name w.lists)
+outcome_of w (instructions.Save name) = saves w name
+outcome_of w instructions.Clear = clears w
+outcome_of w instructions.Dump = dumps w
+
+-- ---- the steps of a script
+
+-- what the steps make, and their accounts; or the first refusal
+unfoldable pub meaning : World → List Numbered → Result (World × List Account) RunFault
+meaning w [] = Ok (w, [])
+meaning w (step ∷ steps) =
+    elim (outcome_of w step.instruction) [
+      | Ok done ↦ elim (meaning done.0 steps) [ Ok rest ↦ Ok (rest.0, done.1 ∷ rest.1) | Err fault ↦ Err fault ]
+      | Err cause ↦ Err (record { line = step.line; cause = cause })
+    ]
