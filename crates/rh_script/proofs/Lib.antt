@@ -3,3 +3,4 @@ pub mod Printing
 pub mod Naming
 pub mod Commands
 pub mod OneLine
+pub mod Order

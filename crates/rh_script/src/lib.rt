@@ -6,6 +6,7 @@ mod fault;
 mod limits;
 mod lines;
 mod names;
+mod plan;
 mod reading;
 mod script;
 mod verb;
@@ -13,6 +14,7 @@ mod words;
 
 pub use fault::{ScriptFault, ScriptFaultKind};
 pub use limits::{MAX_LINE_BYTES, MAX_LINES, MAX_NAME_BYTES};
+pub use plan::{Plan, PlannedStep, Task, plan};
 pub use reading::parse;
 pub use script::{Command, Script, Step};
 
