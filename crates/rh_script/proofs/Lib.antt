@@ -4,3 +4,5 @@ pub mod Naming
 pub mod Commands
 pub mod OneLine
 pub mod Order
+pub mod Places
+pub mod Numbering

@@ -45,7 +45,7 @@ Uses command name = (command ≡ commands.Add name) ⊎ ((command ≡ commands.D
 abbrev pub Gives : Command → String Global → Type 0
 Gives command name = ((path : String Global) × (command ≡ commands.Use name path)) ⊎ (command ≡ commands.Save name)
 
-used : (given : List (List ℕ)) (command : Command) (name : String Global) → Uses command name → admitted given (instruction_as command) ≡ known (is_given (string_bytes name) given)
+pub used : (given : List (List ℕ)) (command : Command) (name : String Global) → Uses command name → admitted given (instruction_as command) ≡ known (is_given (string_bytes name) given)
 unfolding admitted
 used given command name (inl is) = ap (λ c. admitted given (instruction_as c)) is
 used given command name (inr (inl is)) = ap (λ c. admitted given (instruction_as c)) is
@@ -53,7 +53,7 @@ used given command name (inr (inr (inl is))) = ap (λ c. admitted given (instruc
 used given command name (inr (inr (inr (inl is)))) = ap (λ c. admitted given (instruction_as c)) is
 used given command name (inr (inr (inr (inr is)))) = ap (λ c. admitted given (instruction_as c)) is
 
-gave : (given : List (List ℕ)) (command : Command) (name : String Global) → Gives command name → admitted given (instruction_as command) ≡ once (is_given (string_bytes name) given)
+pub gave : (given : List (List ℕ)) (command : Command) (name : String Global) → Gives command name → admitted given (instruction_as command) ≡ once (is_given (string_bytes name) given)
 unfolding admitted
 gave given command name (inl is) = ap (λ c. admitted given (instruction_as c)) is.1
 gave given command name (inr is) = ap (λ c. admitted given (instruction_as c)) is

@@ -4,10 +4,10 @@ use Rattle.std.specs.Borrow.{Bor}
 use Rattle.std.specs.BTreeMap.{BTreeMap, btree_map_len, get_by}
 use Rattle.std.specs.Cmp.Lexicographic.{slice_cmp}
 use Rattle.std.specs.Ordering.{nat_cmp}
-use Rattle.rh_script.specs.declared.plan.Task.{Task}
-use Rattle.rh_script.specs.declared.plan.Task.TheVariants as tasks
-use Rattle.rh_script.specs.declared.plan.PlannedStep.{PlannedStep}
-use Rattle.rh_script.specs.declared.plan.Plan.{Plan}
+use Rattle.rh_script.specs.declared.task.Task.{Task}
+use Rattle.rh_script.specs.declared.task.Task.TheVariants as tasks
+use Rattle.rh_script.specs.declared.task.PlannedStep.{PlannedStep}
+use Rattle.rh_script.specs.declared.task.Plan.{Plan}
 use Rattle.rh_script.specs.Instruction.{Instruction, Use, Add, Drop, Ask, Keep, Flip, Save, Clear, Dump}
 use Rattle.rh_script.specs.Plan.{Planned, place_of}
 
@@ -30,7 +30,11 @@ planned_as step = record { line = step.line; instruction = (task_as step.task).0
 abbrev pub planned_of : Plan → List Planned
 planned_of plan = map planned_as plan.steps.items
 
--- The map has just the names that are given, each with its place.
+-- the number that the map has for a name
+abbrev pub number_in : BTreeMap (Bor (List ℕ)) ℕ → List ℕ → Option ℕ
+number_in lists name = get_by (λ key. slice_cmp nat_cmp name key.now) lists
+
+-- the map has just the names that are given, each with its place
 abbrev pub HasPlaces : BTreeMap (Bor (List ℕ)) ℕ → List (List ℕ) → Type 0
 HasPlaces lists given = (btree_map_len lists ≡ length given)
-    × ((name : List ℕ) → get_by (λ key. slice_cmp nat_cmp name key.now) lists ≡ place_of name given)
+    × ((name : List ℕ) → number_in lists name ≡ place_of name given)
