@@ -54,7 +54,7 @@ pub plan_grown : (plan : List Planned) (done now : List PlannedStep) (step : Pla
 unfolding planned_after
 plan_grown plan done now step given first rest so_far grown line task =
     let same : planned_as step ≡ record { line = first.line; instruction = first.instruction; list = number_after given first.instruction } =
-        λ i. record { line = line i; instruction = (task i).0; list = (task i).1 } in
+    λ i. record { line = line i; instruction = (task i).0; list = (task i).1 } in
     let all = planned_after (given ++ given_by first.instruction) rest in
     so_far
     ∙ sym (append_assoc (map planned_as done) _ all)

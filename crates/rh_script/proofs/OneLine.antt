@@ -18,7 +18,7 @@ use Rattle.rh_script.proofs.Splitting.{lines_step, no_line}
 pub known_more : (names new : BTreeSet (String Global)) (before after : List Step) (step : Step) → HasNames names (names_in (map step_as before)) → ((given : List (List ℕ)) → HasNames names given → HasNames new (given ++ given_by (instruction_as step.command))) → after ≡ before ++ step ∷ [] → HasNames new (names_in (map step_as after))
 known_more names new before after step has kept is =
     let more : names_in (map step_as before) ++ given_by (instruction_as step.command) ≡ names_in (map step_as after) =
-        sym (ap (λ steps. names_in (map step_as steps)) is ∙ ap names_in (map-append step_as before (step ∷ [])) ∙ names_more (map step_as before) (step_as step)) in
+    sym (ap (λ steps. names_in (map step_as steps)) is ∙ ap names_in (map-append step_as before (step ∷ [])) ∙ names_more (map step_as before) (step_as step)) in
     subst (λ given. HasNames new given) more (kept _ has)
 
 pub line_read : (number : ℕ) (before more : List Numbered) (line : List ℕ) (lines : List (List ℕ)) → after_line number before line ≡ Ok more → after_lines number before (line ∷ lines) ≡ after_lines (number + 1) more lines

@@ -51,8 +51,9 @@ unfolding place_of
 place_stays name other given differ = grind (arith, nat_tests, position_or_len_push, length-append)
 
 pub places_kept : (lists new : BTreeMap (Bor (List ℕ)) ℕ) (given : List (List ℕ)) (name : List ℕ) (number : ℕ) → number_in lists name ≡ None → HasPlaces lists given → number ≡ btree_map_len lists → btree_map_len new ≡ btree_map_len lists + 1 → ((other : List ℕ) → number_in new other ≡ update bytes_eq (number_in lists) name (Some number) other) → HasPlaces new (given ++ name ∷ [])
-places_kept lists new given name number fresh has next more updated =
-    (omega (arith, length-append given (name ∷ []), has.0), λ other.
+places_kept lists new given name number fresh has next more updated = (
+  omega (arith, length-append given (name ∷ []), has.0),
+  λ other.
       elim (cases_Bool (bytes_eq name other)) [
         | inl same ↦
             let is : other ≡ name = sym ((bytes_eq-Decides name other).0 same) in
@@ -62,7 +63,8 @@ places_kept lists new given name number fresh has next more updated =
         | inr differ ↦
             let kept : number_in new other ≡ number_in lists other = rw differ at (updated other) in
             kept ∙ has.1 other ∙ sym (place_stays other name given differ)
-      ])
+      ],
+)
 
 -- ---- the names of commands that may stand here
 

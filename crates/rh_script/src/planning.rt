@@ -37,7 +37,7 @@ fn task_of<'a>(
         × IsTrue (is_ok (admitted given (instruction_as command.now))) }
     ensures task { (given : List (List ℕ)) → HasPlaces lists.old given →
         IfOk result (λ task. task_as task ≡
-            (instruction_as command.now, number_after given (instruction_as command.now))) }
+        (instruction_as command.now, number_after given (instruction_as command.now))) }
     ensures kept { (given : List (List ℕ)) → HasPlaces lists.old given →
         OnOk result (HasPlaces lists.new (given ++ given_by (instruction_as command.now))) }
 {
@@ -66,10 +66,10 @@ fn task_of<'a>(
             list: lists[name.as_str()],
             name,
         }),
-        Command::Save { name } => {
-            let list = give(lists, name)?;
-            Ok(Task::Save { list, name })
-        }
+        Command::Save { name } => Ok(Task::Save {
+            list: give(lists, name)?,
+            name,
+        }),
         Command::Clear => Ok(Task::Clear),
         Command::Dump => Ok(Task::Dump),
     }

@@ -8,4 +8,4 @@ returns-clause-kept c = λ given has.
     let none : c.in_ok-insert.field-0 ≡ None = c.in_ok-insert.ensures.old ∙ c.requires in
     let more : btree_map_len c.insert.new.self ≡ btree_map_len c.args.lists.now + 1 = rw none at c.in_ok-insert.ensures.len in
     places_kept c.args.lists.now c.insert.new.self given c.args.name.now c.len-list.result c.requires has c.len-list.ensures.len more
-      (btree_map_updates_str c.args.name.now c.args.lists.now c.insert.new.self _ c.in_ok-insert.ensures.updates)
+    (btree_map_updates_str c.args.name.now c.args.lists.now c.insert.new.self _ c.in_ok-insert.ensures.updates)

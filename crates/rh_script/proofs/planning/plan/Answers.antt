@@ -10,7 +10,7 @@ task_of-requires c =
     let steps = c.steps-step-items.result.now in
     let i = c.loop-step.step-index in
     let left : in_order (names_to steps i) (step_as c.step-item.result ∷ steps_from steps (i + 1)) ≡ true =
-        rw (next_step steps i c.step-item.result c.loop-step-test.true c.step-item.is) at c.loop-step.invariant.named in
+    rw (next_step steps i c.step-item.result c.loop-step-test.true c.step-item.is) at c.loop-step.invariant.named in
     (names_to steps i, c.loop-step.invariant.places, first_admitted _ _ _ left)
 
 pub loop-step-init : goal.loop-step-init

@@ -33,5 +33,6 @@ loop-rest-preserved c = record {
 
 pub invariant_of-result : goal.invariant_of-result
 invariant_of-result c = record { named = read_in_order _ _ (c.loop-rest.invariant.so_far ∙ ended_there _ _ c.loop-rest.rest.now (grind arith)) }
+
 pub returns-clause-parsed : goal.returns-clause-parsed
 returns-clause-parsed c = c.loop-rest.invariant.so_far ∙ ended_there _ _ c.loop-rest.rest.now (grind arith)
