@@ -1,12 +1,12 @@
 -- A step more of a plan.
-use Rattle.std.proofs.Common.{◌≡◌, ◌∙◌, ap, sym, subst, ℕ, ◌+◌, ◌<◌, ◌≤◌, true, List, [], ◌∷◌, ◌++◌, length, get_or, take, drop, map, append_assoc, is_ok, Bor, refl, arith, Option, Some}
+use Rattle.std.proofs.Common.{◌≡◌, ◌∙◌, ap, sym, ℕ, ◌+◌, ◌<◌, ◌≤◌, true, List, [], ◌∷◌, ◌++◌, length, get_or, take, drop, map, append_assoc, is_ok, Bor, refl}
 use Rattle.std.proofs.Math.ListN.{drop_of_length-le}
 use Rattle.std.proofs.lemmas.Bool.{and_parts}
 use Rattle.std.proofs.lemmas.List.{append-nil, drop_more, map-append, take_more}
 use Rattle.std.specs.BTreeMap.{BTreeMap, IsEmpty}
 use Rattle.rh_script.specs.declared.script.Step.{Step}
 use Rattle.rh_script.specs.declared.task.PlannedStep.{PlannedStep}
-use Rattle.rh_script.specs.Instruction.{Instruction, Numbered}
+use Rattle.rh_script.specs.Instruction.{Numbered}
 use Rattle.rh_script.specs.Names.{admitted, given_by, in_order, names_in}
 use Rattle.rh_script.specs.Steps.{instruction_as, step_as}
 use Rattle.rh_script.specs.Plan.{Planned, number_after, place_of, plan_of, planned_after}

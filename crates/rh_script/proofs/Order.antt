@@ -1,8 +1,7 @@
 -- What the grammar reads is in order.
-use Rattle.std.proofs.Common.{◌≡◌, ◌∙◌, ap, sym, subst, ℕ, ◌+◌, true, List, [], ◌∷◌, ◌++◌, append_assoc, Option, Some, None, Result, Ok, Err, is_ok, refl}
+use Rattle.std.proofs.Common.{◌≡◌, subst, ℕ, ◌+◌, true, List, [], ◌∷◌, ◌++◌, append_assoc, Option, Some, None, Result, Ok, Err, is_ok, refl}
 use Rattle.std.proofs.lemmas.Bool.{and_parts}
 use Rattle.std.proofs.lemmas.List.{append-nil}
-use Rattle.rh_script.specs.declared.fault.ScriptFault.{ScriptFault}
 use Rattle.rh_script.specs.declared.fault.ScriptFaultKind.{ScriptFaultKind}
 use Rattle.rh_script.specs.Instruction.{Instruction, Numbered}
 use Rattle.rh_script.specs.Lines.{lines_of, without_return}

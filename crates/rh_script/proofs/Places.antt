@@ -1,11 +1,9 @@
 -- The places of the names that are given.
-use Rattle.std.proofs.Common.{◌≡◌, ◌∙◌, ap, sym, ℕ, ◌+◌, ◌<◌, Bool, true, false, cond, ◌==◌, List, [], ◌∷◌, ◌++◌, length, length-append, Option, Some, None, IsSome, Bor, String, string_bytes, is_ok, inl, inr, refl, arith}
+use Rattle.std.proofs.Common.{◌≡◌, ◌∙◌, ap, sym, ℕ, ◌+◌, ◌<◌, Bool, true, false, List, [], ◌∷◌, ◌++◌, length, length-append, Some, None, IsSome, Bor, String, string_bytes, is_ok, inl, inr, refl, arith}
 use Rattle.std.specs.Global.{Global}
-use Rattle.std.specs.BTreeMap.{BTreeMap, btree_map_len, get_by}
-use Rattle.std.specs.Cmp.Lexicographic.{slice_cmp}
+use Rattle.std.specs.BTreeMap.{BTreeMap, btree_map_len}
 use Rattle.std.specs.List.{list_any, position_or_len}
 use Rattle.std.specs.Map.{update}
-use Rattle.std.specs.Ordering.{nat_cmp}
 use Rattle.std.specs.Str.{bytes_eq}
 use Rattle.std.proofs.lemmas.Bool.{cases_Bool}
 use Rattle.std.proofs.lemmas.Bool.Decides.{nat_tests}

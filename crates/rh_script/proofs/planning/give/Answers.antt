@@ -1,4 +1,4 @@
-use Rattle.std.proofs.Common.{◌≡◌, ◌∙◌, ◌+◌, Some, None, btree_map_len}
+use Rattle.std.proofs.Common.{◌≡◌, ◌∙◌, ◌+◌, None, btree_map_len}
 use Rattle.std.proofs.lemmas.Map.Text.{btree_map_updates_str}
 use Rattle.rh_script.proofs.Places.{places_kept}
 use Rattle.rh_script.proofs.planning.give.Goals as goal
