@@ -12,7 +12,7 @@ pub unwrap-tally-requires : goal.unwrap-tally-requires
 unwrap-tally-requires g c =
     let batch = take c.in_ok-n.n c.next_keys.new.batch in
     let ran = more_ran c.loop-n.invariant.2 batch c.change.new.cells.items c.in_ok-told.told c.in_ok-told.ensures.layout c.in_ok-told.ensures.keys c.in_ok-told.ensures.tally in
-    c.joined.ensures.fits.1 (tally_fits c.args.kind (keys_of c.args.cells.now.items) (c.loop-n.invariant.0 ++ batch) _ ran.tally ?)
+    c.joined.ensures.fits.1 (tally_fits c.args.kind (keys_of c.args.cells.now.items) (c.loop-n.invariant.0 ++ batch) _ ran.tally (simp (length-append, length-take) (omega (arith, c.loop-n.invariant.1.long, c.in_ok-n.ensures.left, c.left-most.ensures, c.left-most.type_inv))))
 
 pub loop-n-preserved : goal.loop-n-preserved
 loop-n-preserved g c =
