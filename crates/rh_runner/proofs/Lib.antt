@@ -1,2 +1,3 @@
+pub mod ChosenLemmas
 pub mod ListLemmas
 pub mod SingleLemmas

@@ -1,6 +1,6 @@
 -- Keys that come batch by batch, and the phases over them.
 use Rattle.std.proofs.Common.{◌≡◌, ◌≢◌, ℕ, zero, suc, ◌+◌, ◌^◌, ◌<◌, ◌≤◌, ◌⊎◌, inl, inr, refl, sym, ap, subst, ◌∙◌, arith, Bool, true, false, cond, List, [], ◌∷◌, ◌++◌, length, take, append_assoc, length-append, length-take}
-use Rattle.std.proofs.lemmas.List.{append-nil}
+use Rattle.std.proofs.lemmas.List.{append-nil, map-append}
 use Rattle.std.specs.Prelude.{All, Some, None, Result, Ok, Err}
 use Rattle.std.specs.FinSet as set
 use Rattle.std.specs.FinSet.{contains}
@@ -15,7 +15,7 @@ use Rattle.rh_ledger.specs.declared.tally.Kind.{Kind}
 use Rattle.rh_ledger.specs.declared.tally.Kind.TheVariants.{Insert, Remove, Ask}
 use Rattle.rh_ledger.specs.declared.tally.Tally.{Tally}
 use Rattle.rh_ledger.specs.Tally.{sum_of, none_yet, FitsTally}
-use Rattle.rh_ledger.specs.Phase.{set_with, count_of, set_after, tally_of, most_added}
+use Rattle.rh_ledger.specs.Phase.{set_with, count_of, set_after, tally_of, looked_up, most_added}
 use Rattle.rh_ledger.proofs.PhaseLemmas.{set_after-append, tally_of-append, len-insert_all}
 use Rattle.rh_runner.specs.Lists.{Took, Ran, may_add}
 use Rattle.rh_runner.proofs.SingleLemmas.{len-remove_all}
@@ -100,23 +100,42 @@ pub none_ran : (kind : Kind) (bits : ℕ) (cells : List ℕ) → IsLayout bits c
 none_ran kind bits cells layout = record { layout = layout; held = refl; tally = refl }
 
 module _ {kind : Kind} {bits : ℕ} {done old mid : List ℕ} {t : Tally} (ran : Ran kind bits done old mid t) where
-  pub more_ran : (batch new : List ℕ) (told : Tally) → IsLayout bits new → keys_of new ≡ set_after kind (keys_of mid) batch → told ≡ tally_of kind (keys_of mid) batch → Ran kind bits (done ++ batch) old new (sum_of t told)
-  more_ran batch new told layout held tally = record {
-    layout = layout;
-    held = held ∙ ap (λ (S : Keys). set_after kind S batch) ran.held ∙ sym (set_after-append kind (keys_of old) done batch);
+  pub more_ran : {batch new : List ℕ} {told : Tally} → Ran kind bits batch mid new told → Ran kind bits (done ++ batch) old new (sum_of t told)
+  more_ran {batch} {new} {told} next = record {
+    layout = next.layout;
+    held = next.held ∙ ap (λ (S : Keys). set_after kind S batch) ran.held ∙ sym (set_after-append kind (keys_of old) done batch);
     tally =
-      ap (sum_of t) (tally ∙ ap (λ (S : Keys). tally_of kind S batch) ran.held)
+      ap (sum_of t) (next.tally ∙ ap (λ (S : Keys). tally_of kind S batch) ran.held)
       ∙ ap (λ (r : Tally). sum_of r (tally_of kind (set_after kind (keys_of old) done) batch)) ran.tally
       ∙ sym (tally_of-append kind (keys_of old) done batch);
   }
 
-  pub room_left : (most : ℕ) (batch : List ℕ) → kind ≢ Ask → set.len (keys_of old) + may_add kind most < 2 ^ bits → length done + length batch ≤ most → set.len (keys_of mid) + most_added kind batch < 2 ^ bits
-  room_left most batch change room few = rw ran.held (along kind change room)
-    where
-      along : (k : Kind) → k ≢ Ask → set.len (keys_of old) + may_add k most < 2 ^ bits → set.len (set_after k (keys_of old) done) + most_added k batch < 2 ^ bits
-      along Insert change room = omega (arith, len-insert_all (keys_of old) done)
-      along Remove change room = omega (arith, len-remove_all (keys_of old) done)
-      along Ask change room = absurd (change refl)
+pub inserted-le : {bits : ℕ} {keys old new : List ℕ} {t : Tally} → Ran Insert bits keys old new t → set.len (keys_of new) ≤ set.len (keys_of old) + length keys
+inserted-le {bits} {keys} {old} ran = rw ran.held (len-insert_all (keys_of old) keys)
+
+pub removed-le : {bits : ℕ} {keys old new : List ℕ} {t : Tally} → Ran Remove bits keys old new t → set.len (keys_of new) ≤ set.len (keys_of old)
+removed-le {bits} {keys} {old} ran = rw ran.held (len-remove_all (keys_of old) keys)
+
+pub room_left : {kind : Kind} {bits : ℕ} {keys old new : List ℕ} {t : Tally} → Ran kind bits keys old new t → (most : ℕ) (batch : List ℕ) → kind ≢ Ask → set.len (keys_of old) + may_add kind most < 2 ^ bits → length keys + length batch ≤ most → set.len (keys_of new) + most_added kind batch < 2 ^ bits
+room_left {kind = Insert} ran most batch change room few = omega (arith, inserted-le ran)
+room_left {kind = Remove} ran most batch change room few = omega (arith, removed-le ran)
+room_left {kind = Ask} ran most batch change room few = absurd (change refl)
+
+pub look_ups_more : (S : Keys) (done batch : List ℕ) (found answers more : List Bool) → found ≡ looked_up S done → answers ≡ looked_up S batch → more ≡ found ++ answers → more ≡ looked_up S (done ++ batch)
+look_ups_more S done batch found answers more so_far next joined =
+    joined
+    ∙ ap (λ (l : List Bool). l ++ answers) so_far
+    ∙ ap (λ (l : List Bool). looked_up S done ++ l) next
+    ∙ sym (map-append (contains S) done batch)
+
+read-tally : (kind : Kind) (S : Keys) (keys : List ℕ) → (tally_of kind S keys).read ≡ length keys
+read-tally kind S [] = refl
+read-tally Insert S (k ∷ keys) = omega (arith, read-tally Insert (set_with Insert S k) keys)
+read-tally Remove S (k ∷ keys) = omega (arith, read-tally Remove (set_with Remove S k) keys)
+read-tally Ask S (k ∷ keys) = omega (arith, read-tally Ask (set_with Ask S k) keys)
+
+pub read_of : {kind : Kind} {bits : ℕ} {keys old new : List ℕ} {t : Tally} → Ran kind bits keys old new t → t.read ≡ length keys
+read_of {kind} {bits} {keys} {old} ran = ap (λ (t : Tally). t.read) ran.tally ∙ read-tally kind (keys_of old) keys
 
 -- ---- no count is greater than the number of keys
 
@@ -139,7 +158,7 @@ tally-at_most kind S (k ∷ keys) =
     let t = tally-at_most kind (set_with kind S k) keys in
     (omega (arith, h.0, t.0), omega (arith, h.1, t.1), omega (arith, h.2, t.2), omega (arith, h.3, t.3))
 
-pub tally_fits : (kind : Kind) (S : Keys) (keys : List ℕ) (t : Tally) → t ≡ tally_of kind S keys → length keys < 2 ^ 64 → FitsTally t
-tally_fits kind S keys t is few =
-    let h = tally-at_most kind S keys in
-    rw is (omega (arith, h.0), omega (arith, h.1), omega (arith, h.2), omega (arith, h.3))
+pub tally_fits : {kind : Kind} {bits : ℕ} {keys old new : List ℕ} {t : Tally} → Ran kind bits keys old new t → length keys < 2 ^ 64 → FitsTally t
+tally_fits {kind} {bits} {keys} {old} ran few =
+    let h = tally-at_most kind (keys_of old) keys in
+    rw ran.tally (omega (arith, h.0), omega (arith, h.1), omega (arith, h.2), omega (arith, h.3))

@@ -1,5 +1,5 @@
 -- Phases over whole lists of keys, which come in batches.
-use Rattle.std.specs.Prelude.{◌≡◌, ◌≢◌, ℕ, List, length, All, Bool, not, Some, Ok, if◌then◌else◌}
+use Rattle.std.specs.Prelude.{◌≡◌, ◌≢◌, ◌<◌, ℕ, List, length, All, Bool, not, Some, Ok, if◌then◌else◌}
 use Rattle.std.specs.List.{filter}
 use Rattle.std.specs.FinSet.{contains}
 use Rattle.rh_layout.specs.Key.{IsKey}
@@ -44,7 +44,13 @@ Refused coming (faults.Keys e) = FaultComes coming e
 Refused coming faults.Changed = ⊥
 Refused coming (faults.Phase e) = Unit {0}
 
--- The same, where a list may be found changed: only one of which not so many places are chosen.
+-- Why a batch was not taken: more of its places are chosen than are left, or its phase failed.
+abbrev pub RefusedBatch : (left many : ℕ) → ListFault → Type 0
+RefusedBatch left many (faults.Keys e) = ⊥
+RefusedBatch left many faults.Changed = left < many
+RefusedBatch left many (faults.Phase e) = Unit {0}
+
+-- As `Refused`, but a list may be found changed: only one of which more or fewer places are chosen.
 abbrev pub RefusedFor : Coming → (wanted : Bool) → Keys → (many : ℕ) → ListFault → Type 0
 RefusedFor coming wanted S many (faults.Keys e) = FaultComes coming e
 RefusedFor coming wanted S many faults.Changed =

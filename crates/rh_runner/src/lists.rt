@@ -8,7 +8,7 @@ ghost use Rattle.rh_ledger.specs.Phase.{looked_up};
 ghost use Rattle.rh_runner.specs.Lists.{Took, Ran, Refused, may_add};
 
 use crate::fault::ListFault;
-use crate::runner::Runner;
+use crate::runner::{PhaseFault, Runner};
 use rh_files::{KeyFault, KeySource};
 use rh_ledger::{Kind, Tally, joined};
 use std::alloc::Global;
@@ -17,12 +17,23 @@ use std::sync::Wait;
 /// How many keys of a list are taken at a time.
 pub const BATCH: usize = 4_096;
 
-const NONE_YET: Tally = Tally {
+pub(crate) const NONE_YET: Tally = Tally {
     read: 0,
     added: 0,
     removed: 0,
     found: 0,
 };
+
+/// Reads a list to its end and keeps nothing, for the faults that come on the way.
+pub fn read_through<K: KeySource>(keys: &mut K) -> Result<(), KeyFault>
+    ensures took { OnOk result ((list : List ℕ)
+        × Took (K.coming keys.old) (K.left_of keys.old) list) }
+    ensures refused { IfErr result (FaultComes (K.coming keys.old)) }
+{
+    let mut batch = [0; BATCH];
+    while keys.next_keys(&mut batch)? > 0 {}
+    Ok(())
+}
 
 /// Inserts or removes all keys of a list. On a fault the cells may hold some of the changes.
 pub fn change_all<T: Wait, N: Runner, K: KeySource>(
@@ -54,5 +65,36 @@ pub fn change_all<T: Wait, N: Runner, K: KeySource>(
         }
         let told = runner.change(rt, alloc, kind, bits, cells, &batch[..n])?;
         tally = joined(tally, told).unwrap();
+    }
+}
+
+/// Looks all keys of a list up, and answers in list order which are there.
+pub fn ask_all<T: Wait, N: Runner, K: KeySource>(
+    rt: &T,
+    alloc: Global,
+    runner: &mut N,
+    bits: u32,
+    cells: &[u64],
+    keys: &mut K,
+) -> Result<Vec<bool>, ListFault>
+    requires layout { IsLayout bits cells.now }
+    requires room { set.len (keys_of cells.now) < 2 ^ bits }
+    ensures found { IfOk result (λ found. (list : List ℕ)
+        × Took (K.coming keys.old) (K.left_of keys.old) list
+        × (found.items ≡ looked_up (keys_of cells.now) list)) }
+    ensures refused { IfErr result (Refused (K.coming keys.old)) }
+{
+    let many = keys.left() as usize;
+    let mut found = Vec::with_capacity(alloc, many).map_err(|_| PhaseFault::Memory)?;
+    let mut batch = [0; BATCH];
+    loop {
+        let n = keys.next_keys(&mut batch)?;
+        if n == 0 {
+            return Ok(found);
+        }
+        let answers = runner.ask(rt, alloc, bits, cells, &batch[..n])?;
+        found
+            .extend_from_slice(&answers)
+            .map_err(|_| PhaseFault::Memory)?;
     }
 }

@@ -1,5 +1,6 @@
-use Rattle.std.proofs.Common.{◌≡◌, ℕ, ◌≤◌, ◌<◌, ◌+◌, ◌^◌, ◌∙◌, arith, List, ◌++◌, length, take, length-append, length-take}
-use Rattle.rh_layout.specs.Layout.{keys_of}
+use Rattle.std.proofs.Common.{◌∙◌, arith, take, length-append, length-take}
+use Rattle.rh_ledger.specs.declared.tally.Kind.{Kind}
+use Rattle.rh_runner.specs.Lists.{Ran}
 use Rattle.rh_runner.proofs.ListLemmas.{more_came, more_ran, room_left, tally_fits}
 use Rattle.rh_runner.proofs.lists.change_all.Goals as goal
 
@@ -10,14 +11,17 @@ change-requires-clause-room g c =
 
 pub unwrap-tally-requires : goal.unwrap-tally-requires
 unwrap-tally-requires g c =
-    let batch = take c.in_ok-n.n c.next_keys.new.batch in
-    let ran = more_ran c.loop-n.invariant.2 batch c.change.new.cells.items c.in_ok-told.told c.in_ok-told.ensures.layout c.in_ok-told.ensures.keys c.in_ok-told.ensures.tally in
-    c.joined.ensures.fits.1 (tally_fits c.args.kind (keys_of c.args.cells.now.items) (c.loop-n.invariant.0 ++ batch) _ ran.tally (simp (length-append, length-take) (omega (arith, c.loop-n.invariant.1.long, c.in_ok-n.ensures.left, c.left-most.ensures, c.left-most.type_inv))))
+    let next : Ran c.args.kind c.args.bits (take c.in_ok-n.n c.next_keys.new.batch) c.loop-n.cells.items c.change.new.cells.items c.in_ok-told.told =
+      record { layout = c.in_ok-told.ensures.layout; held = c.in_ok-told.ensures.keys; tally = c.in_ok-told.ensures.tally } in
+    c.joined.ensures.fits.1
+    (tally_fits (more_ran c.loop-n.invariant.2 next)
+    (simp (length-append, length-take) (omega (arith, c.loop-n.invariant.1.long, c.in_ok-n.ensures.left, c.left-most.ensures, c.left-most.type_inv))))
 
 pub loop-n-preserved : goal.loop-n-preserved
 loop-n-preserved g c =
-    let batch = take c.in_ok-n.n c.next_keys.new.batch in
-    let ran = more_ran c.loop-n.invariant.2 batch c.change.new.cells.items c.in_ok-told.told c.in_ok-told.ensures.layout c.in_ok-told.ensures.keys c.in_ok-told.ensures.tally in
+    let next : Ran c.args.kind c.args.bits (take c.in_ok-n.n c.next_keys.new.batch) c.loop-n.cells.items c.change.new.cells.items c.in_ok-told.told =
+      record { layout = c.in_ok-told.ensures.layout; held = c.in_ok-told.ensures.keys; tally = c.in_ok-told.ensures.tally } in
+    let ran = more_ran c.loop-n.invariant.2 next in
     let sums = rw c.unwrap-tally.ensures at c.joined.ensures.sums in
     (_,
       more_came c.loop-n.invariant.1 _ c.next_keys.new.batch _ c.in_ok-n.n c.in_ok-n.ensures.gives c.if-n-eq0.false c.in_ok-n.ensures.room c.in_ok-n.ensures.left c.in_ok-n.ensures.in_range,
