@@ -43,28 +43,6 @@ module _ (wanted : Bool) (S : Keys) where
   pub length_chosen-le : (keys : List ℕ) → length (chosen wanted S keys) ≤ length keys
   length_chosen-le keys = omega (arith, length-filter is_chosen keys, count_by-le-length is_chosen keys)
 
-  -- ---- a list that was known from the start
-
-
-  within : (before now : Coming) (done list : List ℕ) → Ahead before done now → before ≡ Some (Ok list) → length (chosen wanted S done) ≤ length (chosen wanted S list)
-  within None now done list a known = (cc)
-  within (Some said) None done list a known = absurd a
-  within (Some said) (Some (Err e)) done list a known = (cc)
-  within (Some said) (Some (Ok rest)) done list a known =
-      let same : list ≡ done ++ rest = cc in
-      omega (arith, ap (λ l. length (chosen wanted S l)) same, length_chosen-append done rest)
-
-  pub too_many : (before now : Coming) (done : List ℕ) (many : ℕ) → Ahead before done now → many < length (chosen wanted S done) → (list : List ℕ) → before ≡ Some (Ok list) → length (chosen wanted S list) ≢ many
-  too_many before now done many a more list known is = absurd (omega (arith, within before now done list a known, more, is))
-
-  whole : (before : Coming) (done list : List ℕ) → AllCome before done → before ≡ Some (Ok list) → list ≡ done
-  whole None done list all known = (cc)
-  whole (Some said) done list all known = (cc)
-
-  pub too_few : (before : Coming) (done : List ℕ) (many : ℕ) → AllCome before done → length (chosen wanted S done) < many → (list : List ℕ) → before ≡ Some (Ok list) → length (chosen wanted S list) ≢ many
-  too_few before done many all fewer list known is =
-      absurd (omega (arith, ap (λ l. length (chosen wanted S l)) (whole before done list all known), fewer, is))
-
   -- ---- one more batch counted
 
   pub count_more : (done batch : List ℕ) (found : List Bool) (many told : ℕ) → many ≡ length (chosen wanted S done) → told ≡ count_by (is_wanted wanted) found → found ≡ looked_up S batch → many + told ≡ length (chosen wanted S (done ++ batch))
