@@ -5,3 +5,4 @@ pub mod Source
 pub mod Stream
 pub mod Dump
 pub mod Faulty
+pub mod HeldKeys

@@ -27,7 +27,7 @@ len-remove-le S k =
     cond_cases true m n = inl refl
     cond_cases false m n = inr refl
 
-len-remove_all : (S : Keys) (keys : List ℕ) → set.len (set_after Remove S keys) ≤ set.len S
+pub len-remove_all : (S : Keys) (keys : List ℕ) → set.len (set_after Remove S keys) ≤ set.len S
 len-remove_all S [] = omega arith
 len-remove_all S (k ∷ keys) = omega (arith, len-remove_all (set.remove S k) keys, len-remove-le S k)
 

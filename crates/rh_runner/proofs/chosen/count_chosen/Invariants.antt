@@ -1,0 +1,14 @@
+use Rattle.std.proofs.Common.{◌≡◌, List, ℕ, length}
+use Rattle.rh_layout.specs.Layout.{keys_of}
+use Rattle.rh_runner.specs.Lists.{chosen}
+use Rattle.rh_runner.proofs.ListLemmas.{Came}
+use Rattle.rh_runner.proofs.chosen.count_chosen.Given as goal
+
+abbrev pub invariant-loop-n : goal.invariant-loop-n
+invariant-loop-n g l =
+    (done : List ℕ)
+    × Came (g.K.KeySource.coming l.fn.keys) (g.K.KeySource.coming l.keys) (g.K.KeySource.left_of l.fn.keys) (g.K.KeySource.left_of l.keys) done
+    × (l.many ≡ length (chosen l.wanted (keys_of l.cells) done))
+
+abbrev pub decreases-loop-n : goal.decreases-loop-n
+decreases-loop-n g l = g.K.KeySource.left_of l.keys

@@ -1,0 +1,14 @@
+use Rattle.std.proofs.Common.{◌≡◌, List, ℕ}
+use Rattle.rh_layout.specs.Layout.{keys_of}
+use Rattle.rh_ledger.specs.Phase.{looked_up}
+use Rattle.rh_runner.proofs.ListLemmas.{Came}
+use Rattle.rh_runner.proofs.lists.ask_all.Given as goal
+
+abbrev pub invariant-loop-found : goal.invariant-loop-found
+invariant-loop-found g l =
+    (done : List ℕ)
+    × Came (g.K.KeySource.coming l.fn.keys) (g.K.KeySource.coming l.keys) (g.K.KeySource.left_of l.fn.keys) (g.K.KeySource.left_of l.keys) done
+    × (l.found.items ≡ looked_up (keys_of l.cells) done)
+
+abbrev pub decreases-loop-found : goal.decreases-loop-found
+decreases-loop-found g l = g.K.KeySource.left_of l.keys

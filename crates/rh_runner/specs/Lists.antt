@@ -1,0 +1,58 @@
+-- Phases over whole lists of keys, which come in batches.
+use Rattle.std.specs.Prelude.{◌≡◌, ◌≢◌, ◌<◌, ℕ, List, length, All, Bool, not, Some, Ok, if◌then◌else◌}
+use Rattle.std.specs.List.{filter}
+use Rattle.std.specs.FinSet.{contains}
+use Rattle.rh_layout.specs.Key.{IsKey}
+use Rattle.rh_layout.specs.Layout.{Keys, IsLayout, keys_of}
+use Rattle.rh_files.specs.Source.{Coming, AllCome, FaultComes}
+use Rattle.rh_ledger.specs.declared.tally.Kind.{Kind}
+use Rattle.rh_ledger.specs.declared.tally.Kind.TheVariants.{Insert, Remove, Ask}
+use Rattle.rh_ledger.specs.declared.tally.Tally.{Tally}
+use Rattle.rh_ledger.specs.Phase.{set_after, tally_of}
+use Rattle.rh_runner.specs.declared.fault.ListFault.{ListFault}
+use Rattle.rh_runner.specs.declared.fault.ListFault.TheVariants as faults
+
+-- The whole list that a source gave: what was to come, as far as that is known, and as long as it said.
+pub record Took (coming : Coming) (left : ℕ) (list : List ℕ) : Type 0 where
+  pub came : AllCome coming list
+  pub long : length list ≡ left
+  pub in_range : All IsKey list
+
+-- how many keys a phase over a list of this length may add at most
+abbrev pub may_add : Kind → ℕ → ℕ
+may_add Insert left = left
+may_add Remove left = 0
+may_add Ask left = 0
+
+-- A phase over these keys made the new cells of the old ones, and this is its tally.
+pub record Ran (kind : Kind) (bits : ℕ) (keys old new : List ℕ) (told : Tally) : Type 0 where
+  pub layout : IsLayout bits new
+  pub held : keys_of new ≡ set_after kind (keys_of old) keys
+  pub tally : told ≡ tally_of kind (keys_of old) keys
+
+-- the answer is the wanted one
+abbrev pub is_wanted : (wanted there : Bool) → Bool
+is_wanted wanted there = if wanted then there else not there
+
+-- the keys of the list whose membership is the wanted one, repeats kept
+abbrev pub chosen : (wanted : Bool) → Keys → List ℕ → List ℕ
+chosen wanted S list = filter (λ k. is_wanted wanted (contains S k)) list
+
+-- Why a list was not gone through: a fault of its keys was to come. No list is found changed.
+abbrev pub Refused : Coming → ListFault → Type 0
+Refused coming (faults.Keys e) = FaultComes coming e
+Refused coming faults.Changed = ⊥
+Refused coming (faults.Phase e) = Unit {0}
+
+-- Why a batch was not taken: more of its places are chosen than are left, or its phase failed.
+abbrev pub RefusedBatch : (left many : ℕ) → ListFault → Type 0
+RefusedBatch left many (faults.Keys e) = ⊥
+RefusedBatch left many faults.Changed = left < many
+RefusedBatch left many (faults.Phase e) = Unit {0}
+
+-- As `Refused`, but a list may be found changed: only one of which more or fewer places are chosen.
+abbrev pub RefusedFor : Coming → (wanted : Bool) → Keys → (many : ℕ) → ListFault → Type 0
+RefusedFor coming wanted S many (faults.Keys e) = FaultComes coming e
+RefusedFor coming wanted S many faults.Changed =
+    (list : List ℕ) → coming ≡ Some (Ok list) → length (chosen wanted S list) ≢ many
+RefusedFor coming wanted S many (faults.Phase e) = Unit {0}

@@ -1,0 +1,100 @@
+//! Phases over whole lists of keys, batch by batch.
+
+ghost use Rattle.std.specs.Prelude.{◌≡◌, ◌≢◌, ◌+◌, ◌^◌, ◌<◌, ℕ, List, IfOk, IfErr, OnOk};
+ghost use Rattle.std.specs.FinSet as set;
+ghost use Rattle.rh_layout.specs.Layout.{IsLayout, keys_of};
+ghost use Rattle.rh_files.specs.Source.{FaultComes};
+ghost use Rattle.rh_ledger.specs.Phase.{looked_up};
+ghost use Rattle.rh_runner.specs.Lists.{Took, Ran, Refused, may_add};
+
+use crate::fault::ListFault;
+use crate::runner::{PhaseFault, Runner};
+use rh_files::{KeyFault, KeySource};
+use rh_ledger::{Kind, Tally, joined};
+use std::alloc::Global;
+use std::sync::Wait;
+
+/// How many keys of a list are taken at a time.
+pub const BATCH: usize = 4_096;
+
+pub(crate) const NONE_YET: Tally = Tally {
+    read: 0,
+    added: 0,
+    removed: 0,
+    found: 0,
+};
+
+/// Reads a list to its end and keeps nothing, for the faults that come on the way.
+pub fn read_through<K: KeySource>(keys: &mut K) -> Result<(), KeyFault>
+    ensures took { OnOk result ((list : List ℕ)
+        × Took (K.coming keys.old) (K.left_of keys.old) list) }
+    ensures refused { IfErr result (FaultComes (K.coming keys.old)) }
+{
+    let mut batch = [0; BATCH];
+    while keys.next_keys(&mut batch)? > 0 {}
+    Ok(())
+}
+
+/// Inserts or removes all keys of a list. On a fault the cells may hold some of the changes.
+pub fn change_all<T: Wait, N: Runner, K: KeySource>(
+    rt: &T,
+    alloc: Global,
+    runner: &mut N,
+    kind: Kind,
+    bits: u32,
+    cells: &mut Vec<u64>,
+    keys: &mut K,
+) -> Result<Tally, ListFault>
+    requires kind { kind ≢ Kind.Ask }
+    requires layout { IsLayout bits cells.old.items }
+    requires room {
+        set.len (keys_of cells.old.items) + may_add kind (K.left_of keys.old) < 2 ^ bits }
+    ensures done { IfOk result (λ t. (list : List ℕ)
+        × Took (K.coming keys.old) (K.left_of keys.old) list
+        × Ran kind bits list cells.old.items cells.new.items t) }
+    ensures refused { IfErr result (Refused (K.coming keys.old)) }
+{
+    // No count of the tally is greater.
+    let _most = keys.left();
+    let mut tally = NONE_YET;
+    let mut batch = [0; BATCH];
+    loop {
+        let n = keys.next_keys(&mut batch)?;
+        if n == 0 {
+            return Ok(tally);
+        }
+        let told = runner.change(rt, alloc, kind, bits, cells, &batch[..n])?;
+        tally = joined(tally, told).unwrap();
+    }
+}
+
+/// Looks all keys of a list up, and answers in list order which are there.
+pub fn ask_all<T: Wait, N: Runner, K: KeySource>(
+    rt: &T,
+    alloc: Global,
+    runner: &mut N,
+    bits: u32,
+    cells: &[u64],
+    keys: &mut K,
+) -> Result<Vec<bool>, ListFault>
+    requires layout { IsLayout bits cells.now }
+    requires room { set.len (keys_of cells.now) < 2 ^ bits }
+    ensures found { IfOk result (λ found. (list : List ℕ)
+        × Took (K.coming keys.old) (K.left_of keys.old) list
+        × (found.items ≡ looked_up (keys_of cells.now) list)) }
+    ensures refused { IfErr result (Refused (K.coming keys.old)) }
+{
+    let many = keys.left() as usize;
+    let mut found = Vec::with_capacity(alloc, many).map_err(|_| PhaseFault::Memory)?;
+    let mut batch = [0; BATCH];
+    loop {
+        let n = keys.next_keys(&mut batch)?;
+        if n == 0 {
+            return Ok(found);
+        }
+        let answers = runner.ask(rt, alloc, bits, cells, &batch[..n])?;
+        found
+            .extend_from_slice(&answers)
+            .map_err(|_| PhaseFault::Memory)?;
+    }
+}
