@@ -3,9 +3,10 @@
 ghost use Rattle.std.specs.Prelude.{◌≡◌, ◌+◌, ◌^◌, ◌<◌, All, IfOk, length, not};
 ghost use Rattle.std.specs.FinSet as set;
 ghost use Rattle.rh_layout.specs.Key.{IsBits, IsKey};
-ghost use Rattle.rh_layout.specs.Layout.{Layout, keys_of};
+ghost use Rattle.rh_layout.specs.Layout.{IsLayout, Layout, keys_of};
 
 use crate::{insertion, removal};
+use rh_layout::key_in;
 use rh_probe::find;
 use std::alloc::{AllocError, Global};
 use std::marker::Model;
@@ -67,6 +68,21 @@ impl SeqSet {
         Ok(set)
     }
 
+    /// The set whose table has these cells.
+    pub fn from_cells(bits: u32, cells: Vec<u64>) -> SeqSet
+        requires layout { IsLayout bits cells.items }
+        requires free { set.len (keys_of cells.items) < 2 ^ bits }
+        ensures bits { result.bits ≡ bits }
+        ensures keys { result.keys ≡ keys_of cells.items }
+    {
+        let full = cells.iter().filter(|value| key_in(**value).is_some());
+        SeqSet {
+            bits,
+            len: full.count(),
+            table: cells,
+        }
+    }
+
     /// How many keys there are.
     pub fn len(&self) -> usize
         ensures { result ≡ set.len self.now.keys }
@@ -85,6 +101,7 @@ impl SeqSet {
     pub fn cells(&self) -> &[u64]
         ensures layout { Layout result.now self.now.bits self.now.keys }
         ensures keys { keys_of result.now ≡ self.now.keys }
+        ensures free { set.len self.now.keys < 2 ^ self.now.bits }
     {
         self.table.as_slice()
     }
@@ -93,6 +110,7 @@ impl SeqSet {
     pub fn into_cells(self) -> Vec<u64>
         ensures layout { Layout result.items self.bits self.keys }
         ensures keys { keys_of result.items ≡ self.keys }
+        ensures free { set.len self.keys < 2 ^ self.bits }
     {
         self.table
     }

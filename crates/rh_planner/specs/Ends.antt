@@ -10,7 +10,7 @@ use Rattle.rh_report.specs.Account.{Account, Says}
 use Rattle.rh_planner.specs.declared.fault.Cause.{Cause}
 use Rattle.rh_planner.specs.declared.fault.Cause.TheVariants.{Missing, Keys, Changed, TooLarge, Memory, NoThread, Write}
 use Rattle.rh_planner.specs.declared.fault.RunFault.{RunFault}
-use Rattle.rh_planner.specs.declared.run.Report.{Report}
+use Rattle.rh_planner.specs.declared.running.Report.{Report}
 use Rattle.rh_planner.specs.Meaning.{World, Outcome, start, meaning, outcome_of}
 
 -- the text says these accounts, one after the other
@@ -30,11 +30,15 @@ IsOutside n m Changed = ⊥
 IsOutside n m TooLarge = ⊥
 IsOutside n m Write = ⊥
 
+-- a cause that the meaning has, or one from outside
+abbrev pub RefusedBy : {Y : Type 0} → Result Y Cause → (failures failures' : ℕ) → Cause → Type 0
+RefusedBy said n m cause = (said ≡ Err cause) ⊎ IsOutside n m cause
+
 -- what was written before a command that was refused, and why it was refused
 abbrev pub EndsBy : Outcome → (failures failures' : ℕ) → Option (List ℕ) → Option (List ℕ) → List ℕ → Cause → Type 0
 EndsBy outcome n m old new text Write =
     (done : World × Account) × (more : List ℕ) × (front : ℕ) × (outcome ≡ Ok done) × Says done.1 more × Appends old new (text ++ take front more)
-EndsBy outcome n m old new text cause = Appends old new text × ((outcome ≡ Err cause) ⊎ IsOutside n m cause)
+EndsBy outcome n m old new text cause = Appends old new text × RefusedBy outcome n m cause
 
 -- All steps were carried out: the text is what they have to report, and the report counts them and tells the table.
 pub record Done (files : Files) (now : Option Files) (steps : List Numbered) (old new : Option (List ℕ)) (report : Report) : Type 0 where

@@ -1,15 +1,13 @@
 -- What a script means (this project's own): what its commands make, one after the other, of a set, the bits of its
 -- table, and the lists that have a name, and what each has to report. It ends at the first command that is refused.
-use Rattle.std.specs.Prelude.{ℕ, ◌+◌, Bool, not, List, [], ◌∷◌, ◌++◌, length, count_by, Option, Some, None, Result, Ok, Err}
+use Rattle.std.specs.Prelude.{ℕ, ◌+◌, true, false, List, [], ◌∷◌, ◌++◌, length, Option, Some, None, Result, Ok, Err}
 use Rattle.std.specs.FinSet as set
-use Rattle.std.specs.FinSet.{contains}
 use Rattle.std.specs.Str.{bytes_eq}
 use Rattle.std.specs.Map.{lookup}
 use Rattle.rh_layout.specs.Layout.{Keys}
 use Rattle.rh_layout.specs.declared.limits.TheConstants.{MIN_BITS}
 use Rattle.rh_ledger.specs.declared.tally.Kind.TheVariants.{Insert, Remove}
 use Rattle.rh_ledger.specs.Phase.{set_after, tally_of, looked_up}
-use Rattle.rh_files.specs.declared.fault.KeyFault.{KeyFault}
 use Rattle.rh_files.specs.Source.{keys_of_file}
 use Rattle.rh_runner.specs.Lists.{chosen}
 use Rattle.rh_script.specs.Instruction.{Instruction, Numbered}
@@ -40,6 +38,12 @@ list_of name lists = elim (lookup (λ other. bytes_eq other name) lists) [ Some 
 
 -- ---- what a command makes, or why it is refused
 
+-- one step, and then the next
+infixl 10 ◌>>=◌
+abbrev pub ◌>>=◌ : {A B E : Type 0} → Result A E → (A → Result B E) → Result B E
+(Ok x) >>= f = f x
+(Err e) >>= f = Err e
+
 abbrev pub Outcome : Type 0
 Outcome = Result (World × Account) Cause
 
@@ -48,28 +52,23 @@ abbrev pub keys_in : Option (List ℕ) → Result (List ℕ) Cause
 keys_in None = Err Missing
 keys_in (Some bytes) = elim (keys_of_file bytes) [ Ok keys ↦ Ok keys | Err fault ↦ Err (causes.Keys fault) ]
 
-abbrev pub with_keys : Result (List ℕ) Cause → (List ℕ → Outcome) → Outcome
-with_keys (Ok keys) make = make keys
-with_keys (Err cause) make = Err cause
-
--- the size of the table, if one is large enough
-abbrev pub with_size : Option ℕ → (ℕ → Outcome) → Outcome
-with_size None make = Err TooLarge
-with_size (Some bits) make = make bits
+-- the least size from `bits` on of a table that n keys fit, or why there is none
+abbrev pub size_for : (bits n : ℕ) → Result ℕ Cause
+size_for bits n = elim (capacity bits n) [ Some size ↦ Ok size | None ↦ Err TooLarge ]
 
 -- the list has a name from now on
 abbrev pub named : World → (name keys : List ℕ) → World
 named w name keys = record w { lists = w.lists ++ (name, keys) ∷ [] }
 
 abbrev pub uses : World → (name path : List ℕ) → Outcome
-uses w name path = with_keys (keys_in (w.files path)) (λ keys. Ok (named w name keys, Used name (length keys)))
+uses w name path = keys_in (w.files path) >>= (λ keys. Ok (named w name keys, Used name (length keys)))
 
 -- the keys of the list are held too
 abbrev pub adds : World → (name keys : List ℕ) → Outcome
 adds w name keys =
     let held = set_after Insert w.held keys in
-    with_size (capacity w.bits (set.len w.held + length keys))
-    (λ bits. Ok (record w { held = held; bits = bits }, Added name (length keys) (tally_of Insert w.held keys).added (set.len held) bits))
+    size_for w.bits (set.len w.held + length keys)
+    >>= (λ bits. Ok (record w { held = held; bits = bits }, Added name (length keys) (tally_of Insert w.held keys).added (set.len held) bits))
 
 -- the keys of the list are held no more
 abbrev pub drops : World → (name keys : List ℕ) → Outcome
@@ -86,8 +85,8 @@ abbrev pub keeps : World → (name keys : List ℕ) → Outcome
 keeps w name keys =
     let found = chosen true w.held keys in
     let held = set_after Insert set.empty found in
-    with_size (capacity MIN_BITS (length found))
-    (λ bits. Ok (record w { held = held; bits = bits }, Kept name (length keys) (length found) (set.len held) bits))
+    size_for MIN_BITS (length found)
+    >>= (λ bits. Ok (record w { held = held; bits = bits }, Kept name (length keys) (length found) (set.len held) bits))
 
 -- the keys of the list that are held are dropped, and the others are added
 abbrev pub flips : World → (name keys : List ℕ) → Outcome
@@ -95,8 +94,8 @@ flips w name keys =
     let others = chosen false w.held keys in
     let left = set_after Remove w.held keys in
     let held = set_after Insert left others in
-    with_size (capacity w.bits (set.len left + length others))
-    (λ bits. Ok (record w { held = held; bits = bits }, Flipped name (length keys) (tally_of Remove w.held keys).removed (tally_of Insert left others).added (set.len held) bits))
+    size_for w.bits (set.len left + length others)
+    >>= (λ bits. Ok (record w { held = held; bits = bits }, Flipped name (length keys) (tally_of Remove w.held keys).removed (tally_of Insert left others).added (set.len held) bits))
 
 -- the keys that are held become a list, in rising order
 abbrev pub saves : World → (name : List ℕ) → Outcome
@@ -121,11 +120,12 @@ outcome_of w instructions.Dump = dumps w
 
 -- ---- the steps of a script
 
+abbrev pub at_line : ℕ → Outcome → Result (World × Account) RunFault
+at_line line (Ok done) = Ok done
+at_line line (Err cause) = Err (record { line = line; cause = cause })
+
 -- what the steps make, and their accounts; or the first refusal
 unfoldable pub meaning : World → List Numbered → Result (World × List Account) RunFault
 meaning w [] = Ok (w, [])
 meaning w (step ∷ steps) =
-    elim (outcome_of w step.instruction) [
-      | Ok done ↦ elim (meaning done.0 steps) [ Ok rest ↦ Ok (rest.0, done.1 ∷ rest.1) | Err fault ↦ Err fault ]
-      | Err cause ↦ Err (record { line = step.line; cause = cause })
-    ]
+    at_line step.line (outcome_of w step.instruction) >>= (λ done. meaning done.0 steps >>= (λ rest. Ok (rest.0, done.1 ∷ rest.1)))
