@@ -92,7 +92,8 @@ impl SeqSet {
 
     /// The size of the table, as a power of 2.
     pub fn bits(&self) -> u32
-        ensures { result ≡ self.now.bits }
+        ensures bits { result ≡ self.now.bits }
+        ensures in_limits { IsBits result }
     {
         self.bits
     }

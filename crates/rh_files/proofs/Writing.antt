@@ -6,9 +6,11 @@ use Rattle.std.proofs.KnownBytes.{Appends-trans, Appends-nil}
 use Rattle.rh_files.specs.Counting.{AppendsFront, Writes, joined}
 use Rattle.std.proofs.Math.Seq.{take-append-add, take-append_seam}
 use Rattle.std.proofs.lemmas.Bool.{cases_lt, ne_eqb}
-use Rattle.std.proofs.Common.{inl, inr, get_or, eq-eqb, count_by, codes}
+use Rattle.std.proofs.Common.{inl, inr, get_or, eq-eqb, count_by, codes, flat_map}
 use Rattle.std.specs.Borrow.{Bor}
 use Rattle.rh_layout.specs.Key.{is_full, cell_of}
+use Rattle.rh_files.specs.declared.version.Version.TheVariants.{Second}
+use Rattle.rh_files.specs.KeyFile.{eight_bytes, spelled_keys, spelling}
 use Rattle.rh_files.specs.Dump.{cell_text, line_of, lines_from, head_of, dump_text}
 
 take_past : (xs ys : List ℕ) (n : ℕ) → take (length xs + n) (xs ++ ys) ≡ xs ++ take n ys
@@ -43,11 +45,35 @@ front_stops a b c done t rest all is p q = rw is (front_longer a c (done ++ t) r
 
 -- ---- texts in a list
 
+split_at_place : {X : Type 0} (text : X → List ℕ) (xs : List X) (i : ℕ) (d : X) → i < length xs → flat_map text xs ≡ (flat_map text (take i xs) ++ text (get_or xs i d)) ++ flat_map text (drop (suc i) xs)
+split_at_place text [] i d lt = absurd (omega (arith, lt))
+split_at_place text (x ∷ xs) zero d lt = refl
+split_at_place text (x ∷ xs) (suc i) d lt =
+    ap (λ l. text x ++ l) (split_at_place text xs i d (omega (arith, lt)))
+    ∙ sym (ap (λ l. l ++ flat_map text (drop (suc i) xs)) (append_assoc (text x) (flat_map text (take i xs)) (text (get_or xs i d))) ∙ append_assoc (text x) (flat_map text (take i xs) ++ text (get_or xs i d)) (flat_map text (drop (suc i) xs)))
+
 pub joined-split : (texts : List (Bor (List ℕ))) (i : ℕ) (d : Bor (List ℕ)) → i < length texts → joined texts ≡ (joined (take i texts) ++ (get_or texts i d).now) ++ joined (drop (suc i) texts)
-joined-split [] i d lt = absurd (omega (arith, lt))
-joined-split (x ∷ xs) zero d lt = refl
-joined-split (x ∷ xs) (suc i) d lt =
-    ap (λ l. x.now ++ l) (joined-split xs i d (omega (arith, lt))) ∙ sym (ap (λ l. l ++ joined (drop (suc i) xs)) (append_assoc x.now (joined (take i xs)) (get_or xs i d).now) ∙ append_assoc x.now (joined (take i xs) ++ (get_or xs i d).now) (joined (drop (suc i) xs)))
+joined-split texts i d lt = split_at_place (λ text. text.now) texts i d lt
+
+-- ---- key files
+
+head_then : (head count keys : List ℕ) → (head ++ (count ++ [])) ++ keys ≡ head ++ (count ++ keys)
+head_then head count keys = append_assoc head (count ++ []) keys ∙ ap (λ l. head ++ (l ++ keys)) (append-nil count)
+
+spelled_from_head : (keys count : List ℕ) → count ≡ eight_bytes (length keys) → (codes "RHK2" ++ (count ++ [])) ++ spelled_keys keys ≡ spelling Second keys
+spelled_from_head keys count is = head_then (codes "RHK2") count (spelled_keys keys) ∙ ap (λ b. codes "RHK2" ++ (b ++ spelled_keys keys)) is
+
+pub file_written : {X E : Type 0} (a b c : Option (List ℕ)) (keys count : List ℕ) (r : Result X E) → count ≡ eight_bytes (length keys) → Appends a b (codes "RHK2" ++ (count ++ [])) → Writes b c (spelled_keys keys) r → Writes a c (spelling Second keys) r
+file_written a b c keys count r is head rest =
+    subst (λ t. Writes a c t r) (spelled_from_head keys count is) (Writes-then a b c (codes "RHK2" ++ (count ++ [])) (spelled_keys keys) r head rest)
+
+pub file_stops : (a b : Option (List ℕ)) (keys count : List ℕ) → count ≡ eight_bytes (length keys) → AppendsFront a b (codes "RHK2" ++ (count ++ [])) → AppendsFront a b (spelling Second keys)
+file_stops a b keys count is head =
+    subst (AppendsFront a b) (spelled_from_head keys count is) (front_longer a b (codes "RHK2" ++ (count ++ [])) (spelled_keys keys) head)
+
+pub key_stops : (a b c : Option (List ℕ)) (keys : List ℕ) (i : ℕ) (key : List ℕ) → i < length keys → key ≡ eight_bytes (get_or keys i 0) → Appends a b (spelled_keys (take i keys)) → AppendsFront b c key → AppendsFront a c (spelled_keys keys)
+key_stops a b c keys i key inside is before front =
+    front_stops a b c (spelled_keys (take i keys)) (eight_bytes (get_or keys i 0)) (spelled_keys (drop (suc i) keys)) (spelled_keys keys) (split_at_place eight_bytes keys i 0 inside) before (subst (AppendsFront b c) is front)
 
 -- ---- cells
 

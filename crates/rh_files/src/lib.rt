@@ -4,6 +4,7 @@
 mod bytes;
 mod counted;
 mod dump;
+mod encoding;
 mod fault;
 mod faulty;
 mod held_keys;
@@ -18,6 +19,7 @@ mod version;
 pub use bytes::write_texts;
 pub use counted::Counted;
 pub use dump::write_dump;
+pub use encoding::write_keys;
 pub use fault::{KeyFault, WriteFault};
 pub use faulty::{FaultyReader, FaultyWriter, Refusal};
 pub use held_keys::HeldKeys;

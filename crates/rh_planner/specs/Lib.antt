@@ -1,6 +1,5 @@
 pub mod Size
 pub mod Causes
-pub mod Table
 pub mod Meaning
 pub mod Ends
 pub mod KeyLists

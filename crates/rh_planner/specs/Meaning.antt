@@ -1,6 +1,6 @@
 -- What a script means (this project's own): what its commands make, one after the other, of a set, the bits of its
 -- table, and the lists that have a name, and what each has to report. It ends at the first command that is refused.
-use Rattle.std.specs.Prelude.{ℕ, ◌+◌, true, false, List, [], ◌∷◌, ◌++◌, length, Option, Some, None, Result, Ok, Err}
+use Rattle.std.specs.Prelude.{ℕ, ◌+◌, true, false, List, [], ◌∷◌, ◌++◌, length, Option, Some, None, Result, Ok, Err, unwrap_or}
 use Rattle.std.specs.FinSet as set
 use Rattle.std.specs.Str.{bytes_eq}
 use Rattle.std.specs.Map.{lookup}
@@ -8,6 +8,7 @@ use Rattle.rh_layout.specs.Layout.{Keys}
 use Rattle.rh_layout.specs.declared.limits.TheConstants.{MIN_BITS}
 use Rattle.rh_ledger.specs.declared.tally.Kind.TheVariants.{Insert, Remove}
 use Rattle.rh_ledger.specs.Phase.{set_after, tally_of, looked_up}
+use Rattle.rh_files.specs.declared.fault.KeyFault.{KeyFault}
 use Rattle.rh_files.specs.Source.{keys_of_file}
 use Rattle.rh_runner.specs.Lists.{chosen}
 use Rattle.rh_script.specs.Instruction.{Instruction, Numbered}
@@ -34,7 +35,7 @@ start files = record { held = set.empty; bits = MIN_BITS; lists = []; files = fi
 
 -- the list of this name; a script names no other
 abbrev pub list_of : (name : List ℕ) → List (List ℕ × List ℕ) → List ℕ
-list_of name lists = elim (lookup (λ other. bytes_eq other name) lists) [ Some keys ↦ keys | None ↦ [] ]
+list_of name lists = unwrap_or (lookup (λ other. bytes_eq other name) lists) []
 
 -- ---- what a command makes, or why it is refused
 
@@ -47,14 +48,22 @@ abbrev pub ◌>>=◌ : {A B E : Type 0} → Result A E → (A → Result B E) �
 abbrev pub Outcome : Type 0
 Outcome = Result (World × Account) Cause
 
+abbrev pub keys_or_cause : Result (List ℕ) KeyFault → Result (List ℕ) Cause
+keys_or_cause (Ok keys) = Ok keys
+keys_or_cause (Err fault) = Err (causes.Keys fault)
+
 -- the keys of the file at a path, or why it has none
 abbrev pub keys_in : Option (List ℕ) → Result (List ℕ) Cause
 keys_in None = Err Missing
-keys_in (Some bytes) = elim (keys_of_file bytes) [ Ok keys ↦ Ok keys | Err fault ↦ Err (causes.Keys fault) ]
+keys_in (Some bytes) = keys_or_cause (keys_of_file bytes)
+
+abbrev pub size_or_cause : Option ℕ → Result ℕ Cause
+size_or_cause (Some size) = Ok size
+size_or_cause None = Err TooLarge
 
 -- the least size from `bits` on of a table that n keys fit, or why there is none
 abbrev pub size_for : (bits n : ℕ) → Result ℕ Cause
-size_for bits n = elim (capacity bits n) [ Some size ↦ Ok size | None ↦ Err TooLarge ]
+size_for bits n = size_or_cause (capacity bits n)
 
 -- the list has a name from now on
 abbrev pub named : World → (name keys : List ℕ) → World

@@ -1,18 +1,14 @@
 //! The lists that have a name, and their keys.
 
-ghost use Rattle.std.specs.Prelude.{◌≡◌, ℕ, List, Some, Ok, All, IfOk, IfErr, OnOk, length};
+ghost use Rattle.std.specs.Prelude.{All};
 ghost use Rattle.rh_layout.specs.Key.{IsKey};
 
-use crate::fault::Cause;
-use rh_files::{Counted, HeldKeys, KeyFault, KeySource, KeyStream, open_keys};
-use rh_shelf::{Shelf, ShelfFault};
-use std::alloc::Global;
-use std::io::Read;
+use rh_files::{Counted, HeldKeys, KeyStream};
 
 /// Keys in memory.
 #[derive(Debug, Drop)]
 pub(crate) struct SavedKeys {
-    keys: Vec<u64>,
+    pub(crate) keys: Vec<u64>,
     ghost in_range: { All IsKey keys.items },
 }
 

@@ -4,9 +4,9 @@
 mod commands;
 mod fault;
 mod key_lists;
+mod opening;
 mod running;
 mod size;
-mod table;
 
 pub use fault::{Cause, RunFault};
 pub use running::{Report, run};

@@ -12,5 +12,9 @@ pub struct Report {
 }
 
 pub fn run() -> Result<Report, RunFault> {
-    Ok(Report { commands: 0, held: 0, bits: 0})
+    Ok(Report {
+        commands: 0,
+        held: 0,
+        bits: 0,
+    })
 }

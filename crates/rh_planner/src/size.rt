@@ -1,47 +1,33 @@
 //! Tables of another size.
 
 ghost use Rattle.std.specs.Prelude.{◌≡◌, ◌+◌, ◌^◌, ◌<◌, Ok, IfOk, IfErr};
-ghost use Rattle.std.specs.FinSet as set;
-ghost use Rattle.rh_layout.specs.Layout.{IsLayout, Layout, keys_of};
+ghost use Rattle.std.specs.FinSet as finset;
+ghost use Rattle.rh_layout.specs.Layout.{Layout};
 ghost use Rattle.rh_planner.specs.Meaning.{size_for};
 ghost use Rattle.rh_planner.specs.Ends.{RefusedBy};
 
 use crate::fault::Cause;
+use rh_edit::SeqSet;
 use rh_grow::{bits_for, grow};
-use rh_layout::key_in;
 use std::alloc::{AllocError, Global};
 
-/// The number of keys that the cells hold.
-pub(crate) fn count_held(bits: u32, cells: &[u64]) -> u64
-    requires { IsLayout bits cells.now }
-    ensures { result ≡ set.len (keys_of cells.now) }
-{
-    let full = cells.iter().filter(|value| key_in(**value).is_some());
-    full.count() as u64
-}
-
-/// A copy of the table that takes `more` keys too, and its bits: the least that do, and none fewer.
-pub(crate) fn grown(
-    alloc: Global,
-    bits: u32,
-    cells: &[u64],
-    more: u64,
-) -> Result<(u32, Vec<u64>), Cause>
-    requires layout { IsLayout bits cells.now }
-    requires free { set.len (keys_of cells.now) < 2 ^ bits }
-    ensures size { IfOk result (λ t. size_for bits (set.len (keys_of cells.now) + more) ≡ Ok t.0) }
-    ensures copy { IfOk result (λ t. Layout t.1.items t.0 (keys_of cells.now)) }
-    ensures room { IfOk result (λ t. set.len (keys_of cells.now) + more < 2 ^ t.0) }
+#[tactic(auto, using(crate::proofs::SizeLemmas::sized, crate::proofs::SizeLemmas::not_sized, crate::proofs::SizeLemmas::fits_below))]
+/// A copy of the set's table that takes `more` keys too, and its bits: the least that do, and none
+/// fewer.
+pub(crate) fn grown(alloc: Global, set: &SeqSet, more: u64) -> Result<(u32, Vec<u64>), Cause>
+    ensures size { IfOk result (λ t. size_for set.now.bits (finset.len set.now.keys + more) ≡ Ok t.0) }
+    ensures copy { IfOk result (λ t. Layout t.1.items t.0 set.now.keys) }
+    ensures room { IfOk result (λ t. finset.len set.now.keys + more < 2 ^ t.0) }
     ensures refused { IfErr result
-        (RefusedBy (size_for bits (set.len (keys_of cells.now) + more)) 0 0) }
+        (RefusedBy (size_for set.now.bits (finset.len set.now.keys + more)) 0 0) }
 {
-    let Some(size) = bits_for(bits, count_held(bits, cells), more) else {
+    let Some(size) = bits_for(set.bits(), set.len() as u64, more) else {
         return Err(Cause::TooLarge);
     };
-    if size == bits {
-        return Ok((bits, copied(alloc, cells)?));
+    if size == set.bits() {
+        return Ok((size, copied(alloc, set.cells())?));
     }
-    Ok((size, grow(alloc, bits, cells, size)?))
+    Ok((size, grow(alloc, set.bits(), set.cells(), size)?))
 }
 
 pub(crate) fn copied(alloc: Global, cells: &[u64]) -> Result<Vec<u64>, AllocError>

@@ -1,6 +1,6 @@
 //! A shelf in memory that fails once, for tests.
 
-ghost use Rattle.std.specs.Prelude.{◌≡◌, ◌≢◌, ◌⊎◌, Some, IfOk, IsErrOf};
+ghost use Rattle.std.specs.Prelude.{◌≡◌, ◌≢◌, ◌⊎◌, Some, IfOk, IsErrOf, OnOk};
 ghost use Rattle.rh_files.specs.Counting.{Rose};
 ghost use Rattle.rh_files.specs.Faulty.{fails_in, rest_of};
 ghost use Rattle.rh_shelf.specs.Shelf.{Finds, Lacks};
@@ -61,6 +61,7 @@ impl Shelf for FaultyShelf {
             Lacks (Some (files_of (shelf_of self.old))) path.now
             ⊎ Rose (failures_in self.old) (failures_in self.new) }
         ensures no_write { IsErrOf result ShelfFault.Write → ⊥ }
+        ensures fine { OnOk result (failures_in self.new ≡ failures_in self.old) }
         ensures same_files { files_of (shelf_of self.new) ≡ files_of (shelf_of self.old) }
 
         // Which call fails.

@@ -1,6 +1,6 @@
 //! What a shelf is.
 
-ghost use Rattle.std.specs.Prelude.{◌≡◌, ◌⊎◌, ℕ, Option, IfOk, IsErrOf};
+ghost use Rattle.std.specs.Prelude.{◌≡◌, ◌⊎◌, ℕ, Option, IfOk, IsErrOf, OnOk};
 ghost use Rattle.rh_files.specs.Counting.{Rose};
 ghost use Rattle.rh_shelf.specs.Shelf.{Files, Finds, Lacks};
 ghost use Rattle.rh_shelf.specs.declared.shelf.ShelfFault.TheVariants.{Memory};
@@ -54,5 +54,6 @@ pub trait Shelf {
         ensures missing { IsErrOf result ShelfFault.Missing →
             Lacks (files self.old) path.now ⊎ Rose (failures self.old) (failures self.new) }
         ensures no_write { IsErrOf result ShelfFault.Write → ⊥ }
+        ensures fine { OnOk result (failures self.new ≡ failures self.old) }
         ensures same_files { files self.new ≡ files self.old };
 }
