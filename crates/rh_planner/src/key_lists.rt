@@ -1,47 +1,43 @@
-//! The lists that have a name, and their keys.
+//! The lists that have a name.
 
-ghost use Rattle.std.specs.Prelude.{All};
-ghost use Rattle.rh_layout.specs.Key.{IsKey};
+use std::io::{self, Read};
 
-use rh_files::{Counted, HeldKeys, KeyStream};
-
-/// Keys in memory.
+/// A list that has a name: a key file, and its number of keys.
 #[derive(Debug, Drop)]
-pub(crate) struct SavedKeys {
-    pub(crate) keys: Vec<u64>,
-    ghost in_range: { All IsKey keys.items },
+pub(crate) struct KeyList<'a> {
+    pub(crate) place: Place<'a>,
+    pub(crate) count: u64,
 }
 
-/// A list that has a name.
+/// Where the key file of a list stands. It is read anew each time.
 #[derive(Debug, Drop)]
-pub(crate) enum KeyList<'a> {
-    /// The file at this path, which is read anew each time, and its number of keys.
-    File { path: &'a str, count: u64 },
-    Saved(SavedKeys),
+pub(crate) enum Place<'a> {
+    Path(&'a str),
+    Memory(Vec<u8>),
 }
 
-/// A list at its beginning.
+/// A reader of a list's key file.
 #[derive(Drop)]
-pub(crate) enum Opened<'a, R> {
-    /// A reader of the list's file, and how many keys that had.
-    File { reader: Counted<R>, count: u64 },
-    Saved(&'a SavedKeys),
+pub(crate) enum ListReader<'a, R> {
+    File(R),
+    Memory(&'a [u8]),
 }
 
-/// The keys of a list that are still to come.
-#[derive(Drop)]
-pub(crate) enum ListKeys<'a, R> {
-    Stream(KeyStream<'a, R>),
-    Held(HeldKeys<'a>),
-}
+impl<R: Read> Read for ListReader<'_, R> {
+    ghost use Rattle.std.specs.Io.{ReadsAtMost};
+    ghost use Rattle.std.specs.Io.KnownBytes.{ReadConsumes};
+    ghost use Rattle.rh_planner.specs.KeyLists.{bytes_left};
 
-impl SavedKeys {
-    ghost use Rattle.rh_planner.specs.KeyLists.{keys_in};
+    ghost remaining = { bytes_left R.remaining };
 
-    pub(crate) fn new(keys: Vec<u64>) -> SavedKeys
-        requires { All IsKey keys.items }
-        ensures { keys_in result ≡ keys.items }
+    fn read(&mut self, buf: &mut [u8]) -> io::Result<usize>
+        ensures bound { ReadsAtMost result buf.new }
+        ensures bytes { ReadConsumes (bytes_left R.remaining self.old)
+            (bytes_left R.remaining self.new) result buf.new }
     {
-        SavedKeys { keys }
+        match self {
+            ListReader::File(reader) => reader.read(buf),
+            ListReader::Memory(bytes) => bytes.read(buf),
+        }
     }
 }

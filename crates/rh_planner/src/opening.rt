@@ -1,50 +1,26 @@
 //! Opening a list at its beginning.
 
-ghost use Rattle.std.specs.Prelude.{◌≡◌, ◌⊎◌, ℕ, List, None, Some, Ok, IfOk, IfErr, OnOk, length};
+ghost use Rattle.std.specs.Prelude.{◌≡◌, ◌⊎◌, ◌≤◌, ℕ, List, None, Some, Ok, IfOk, IfErr, OnOk, length};
 ghost use Rattle.rh_files.specs.Counting.{Rose, inner_of};
+ghost use Rattle.rh_files.specs.Stream.{coming_of, count_of, left_in, left_of, state_of};
 ghost use Rattle.rh_shelf.specs.Shelf.{Finds, Lacks};
 ghost use Rattle.rh_planner.specs.Ends.{IsOutside};
-ghost use Rattle.rh_planner.specs.KeyLists.{HasKeys, Stands, coming_in, left_to_come};
+ghost use Rattle.rh_planner.specs.KeyLists.{HasKeys, Stands, bytes_left};
 
 use crate::fault::Cause;
-use crate::key_lists::{KeyList, ListKeys, Opened};
-use rh_files::{Counted, HeldKeys, KeyFault, KeySource, open_keys};
+use crate::key_lists::{KeyList, ListReader, Place};
+use rh_files::{Counted, KeyStream, open_keys};
 use rh_shelf::{Shelf, ShelfFault};
 use std::alloc::Global;
 use std::io::Read;
-
-/// The list, at its beginning. A list in a file is fetched anew.
-pub(crate) fn open_list<'a, S: Shelf>(
-    alloc: Global,
-    shelf: &mut S,
-    list: &'a KeyList<'_>,
-) -> Result<Opened<'a, S::Reader>, Cause>
-    ensures opened { (keys : List ℕ) → Stands (S.files shelf.old) list.now keys →
-        IfOk result (λ o. HasKeys S.Reader.remaining o keys) }
-    ensures refused { (keys : List ℕ) → Stands (S.files shelf.old) list.now keys →
-        IfErr result (IsOutside (S.failures shelf.old) (S.failures shelf.new)) }
-    ensures missing { IfErr result (λ cause. cause ≡ Cause.Missing → S.files shelf.old ≡ None →
-        Rose (S.failures shelf.old) (S.failures shelf.new)) }
-    ensures fine { OnOk result (S.failures shelf.new ≡ S.failures shelf.old) }
-    ensures same_files { S.files shelf.new ≡ S.files shelf.old }
-{
-    match list {
-        KeyList::File { path, count } => Ok(Opened::File {
-            reader: fetched(alloc, shelf, path)?,
-            count: *count,
-        }),
-        KeyList::Saved(saved) => Ok(Opened::Saved(saved)),
-    }
-}
 
 /// A reader of the file at the path.
 pub(crate) fn fetched<S: Shelf>(
     alloc: Global,
     shelf: &mut S,
     path: &str,
-) -> Result<Counted<S::Reader>, Cause>
-    ensures found { IfOk result (λ r.
-        Finds (S.files shelf.old) path.now (S.Reader.remaining (inner_of r))) }
+) -> Result<S::Reader, Cause>
+    ensures found { IfOk result (λ r. Finds (S.files shelf.old) path.now (S.Reader.remaining r)) }
     ensures refused { IfErr result (λ cause. (cause ≡ Cause.Memory) ⊎ ((cause ≡ Cause.Missing)
         × (Lacks (S.files shelf.old) path.now
         ⊎ Rose (S.failures shelf.old) (S.failures shelf.new)))) }
@@ -52,52 +28,49 @@ pub(crate) fn fetched<S: Shelf>(
     ensures same_files { S.files shelf.new ≡ S.files shelf.old }
 {
     match shelf.fetch(alloc, path) {
-        Ok(reader) => Ok(Counted::new(reader)),
+        Ok(reader) => Ok(reader),
         Err(ShelfFault::Missing) => Err(Cause::Missing),
         Err(ShelfFault::Memory) => Err(Cause::Memory),
         Err(ShelfFault::Write) => unreachable!(),
     }
 }
 
-impl<R: Read> Opened<'_, R> {
-    /// The keys of the list. `Changed`: its file has another number of keys than before.
-    pub(crate) fn keys(&mut self) -> Result<ListKeys<'_, R>, Cause>
-        ensures coming { (keys : List ℕ) → HasKeys R.remaining self.old keys →
-            IfOk result (λ k. coming_in R.remaining k ≡ Some (Ok keys)) }
-        ensures left { (keys : List ℕ) → HasKeys R.remaining self.old keys →
-            IfOk result (λ k. left_to_come k ≡ length keys) }
-        ensures refused { (keys : List ℕ) → HasKeys R.remaining self.old keys →
-            IfErr result (IsOutside 0 0) }
-    {
-        match self {
-            Opened::File { reader, count } => {
-                let stream = open_keys(reader)?;
-                if stream.count() != *count {
-                    return Err(Cause::Changed);
-                }
-                Ok(ListKeys::Stream(stream))
-            }
-            Opened::Saved(saved) => Ok(ListKeys::Held(HeldKeys::new(&saved.keys))),
-        }
-    }
+/// A reader of the list's file.
+pub(crate) fn open_list<'a, S: Shelf>(
+    alloc: Global,
+    shelf: &mut S,
+    list: &'a KeyList<'_>,
+) -> Result<Counted<ListReader<'a, S::Reader>>, Cause>
+    ensures opened { (keys : List ℕ) → Stands (S.files shelf.old) list.now keys →
+        IfOk result (λ r. HasKeys (bytes_left S.Reader.remaining (inner_of r)) keys) }
+    ensures refused { (keys : List ℕ) → Stands (S.files shelf.old) list.now keys →
+        IfErr result (IsOutside (S.failures shelf.old) (S.failures shelf.new)) }
+    ensures missing { IfErr result (λ cause. cause ≡ Cause.Missing → S.files shelf.old ≡ None →
+        Rose (S.failures shelf.old) (S.failures shelf.new)) }
+    ensures fine { OnOk result (S.failures shelf.new ≡ S.failures shelf.old) }
+    ensures same_files { S.files shelf.new ≡ S.files shelf.old }
+{
+    Ok(Counted::new(match &list.place {
+        Place::Path(path) => ListReader::File(fetched(alloc, shelf, path)?),
+        Place::Memory(bytes) => ListReader::Memory(bytes),
+    }))
 }
 
-impl<R: Read> KeySource for ListKeys<'_, R> {
-    ghost coming = { coming_in R.remaining };
-
-    ghost left_of = { left_to_come };
-
-    fn left(&self) -> u64 {
-        match self {
-            ListKeys::Stream(stream) => stream.left(),
-            ListKeys::Held(held) => held.left(),
-        }
+/// The keys of a list that had so many. `Changed`: its file has another number of keys now.
+pub(crate) fn keys_again<R: Read>(
+    reader: &mut Counted<R>,
+    count: u64,
+) -> Result<KeyStream<'_, R>, Cause>
+    ensures coming { (keys : List ℕ) → HasKeys (R.remaining (inner_of reader.old)) keys →
+        IfOk result (λ s. coming_of R.remaining s ≡ Some (Ok keys)) }
+    ensures left { IfOk result (λ s. left_in (state_of s) (left_of s) ≡ count) }
+    ensures refused { (keys : List ℕ) → HasKeys (R.remaining (inner_of reader.old)) keys →
+        length keys ≡ count → IfErr result (IsOutside 0 0) }
+    ensures not_missing { IfErr result (λ cause. cause ≡ Cause.Missing → ⊥) }
+{
+    let keys = open_keys(reader)?;
+    if keys.count() != count {
+        return Err(Cause::Changed);
     }
-
-    fn next_keys(&mut self, batch: &mut [u64]) -> Result<usize, KeyFault> {
-        match self {
-            ListKeys::Stream(stream) => stream.next_keys(batch),
-            ListKeys::Held(held) => held.next_keys(batch),
-        }
-    }
+    Ok(keys)
 }
