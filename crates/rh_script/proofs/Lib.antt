@@ -3,3 +3,6 @@ pub mod Printing
 pub mod Naming
 pub mod Commands
 pub mod OneLine
+pub mod Order
+pub mod Places
+pub mod Numbering

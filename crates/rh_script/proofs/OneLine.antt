@@ -1,21 +1,25 @@
 -- A line more of a script.
-use Rattle.std.proofs.Common.{◌≡◌, ℕ, ◌+◌, ◌<◌, ◌||◌, arith, length, List, [], ◌∷◌, ◌++◌, map, String, Ok, Err, refl}
+use Rattle.std.proofs.Common.{◌≡◌, ◌∙◌, ap, sym, subst, ℕ, ◌+◌, ◌<◌, arith, length, List, [], ◌∷◌, ◌++◌, map, String, Ok, Err, refl}
 use Rattle.std.proofs.lemmas.List.{map-append}
 use Rattle.std.specs.Global.{Global}
-use Rattle.std.specs.BTreeSet.{BTreeSet, IsEmpty, contains_text}
+use Rattle.std.specs.BTreeSet.{BTreeSet, IsEmpty}
 use Rattle.std.specs.List.{before_first, after_first}
 use Rattle.rh_script.specs.Lines.{is_line_feed, lines_of}
 use Rattle.rh_script.specs.declared.fault.ScriptFaultKind.{ScriptFaultKind}
 use Rattle.rh_script.specs.declared.script.Step.{Step}
 use Rattle.rh_script.specs.Instruction.{Numbered}
-use Rattle.rh_script.specs.Grammar.{after_line, after_lines, gives, is_given, script_of}
-use Rattle.rh_script.specs.Script.{HasNames, instruction_as, step_as}
-use Rattle.rh_script.proofs.Naming.{given_more}
+use Rattle.rh_script.specs.Grammar.{after_line, after_lines, script_of}
+use Rattle.rh_script.specs.Names.{given_by, is_given, names_in}
+use Rattle.rh_script.specs.Steps.{instruction_as, step_as}
+use Rattle.rh_script.specs.Script.{HasNames}
+use Rattle.rh_script.proofs.Naming.{names_more}
 use Rattle.rh_script.proofs.Splitting.{lines_step, no_line}
 
-pub known_more : (names new : BTreeSet (String Global)) (before after : List Step) (step : Step) → HasNames names (map step_as before) → ((name : List ℕ) → contains_text new name ≡ (contains_text names name || gives (instruction_as step.command) name)) → after ≡ before ++ step ∷ [] → HasNames new (map step_as after)
-known_more names new before after step has kept is = λ name.
-    rw (is, map-append step_as before (step ∷ []), given_more name (map step_as before) (step_as step), ← has name) (kept name)
+pub known_more : (names new : BTreeSet (String Global)) (before after : List Step) (step : Step) → HasNames names (names_in (map step_as before)) → ((given : List (List ℕ)) → HasNames names given → HasNames new (given ++ given_by (instruction_as step.command))) → after ≡ before ++ step ∷ [] → HasNames new (names_in (map step_as after))
+known_more names new before after step has kept is =
+    let more : names_in (map step_as before) ++ given_by (instruction_as step.command) ≡ names_in (map step_as after) =
+    sym (ap (λ steps. names_in (map step_as steps)) is ∙ ap names_in (map-append step_as before (step ∷ [])) ∙ names_more (map step_as before) (step_as step)) in
+    subst (λ given. HasNames new given) more (kept _ has)
 
 pub line_read : (number : ℕ) (before more : List Numbered) (line : List ℕ) (lines : List (List ℕ)) → after_line number before line ≡ Ok more → after_lines number before (line ∷ lines) ≡ after_lines (number + 1) more lines
 unfolding after_lines
@@ -34,9 +38,14 @@ cut text line rest some is then = rw (is, then) (lines_step text some)
 
 -- ---- the loop over the lines
 
-pub nothing_known : (names : BTreeSet (String Global)) (before : List Step) → IsEmpty names → before ≡ [] → HasNames names (map step_as before)
-unfolding is_given
+pub nothing_known : (names : BTreeSet (String Global)) (before : List Step) → IsEmpty names → before ≡ [] → HasNames names (names_in (map step_as before))
+unfolding is_given names_in
 nothing_known names before empty none = λ name. rw none (grind (arith, empty))
+
+pub counted_more : (n lines : ℕ) (text rest : List ℕ) → 0 < length text → rest ≡ after_first is_line_feed text → n + length (lines_of text) ≡ lines → n + 1 + length (lines_of rest) ≡ lines
+counted_more n lines text rest some then h =
+    let cut_off : length (lines_of text) ≡ 1 + length (lines_of rest) = rw then (omega (arith, ap length (lines_step text some))) in
+    omega arith
 
 pub begun : (text : List ℕ) (before : List Step) → before ≡ [] → script_of text ≡ after_lines 1 (map step_as before) (lines_of text)
 unfolding script_of

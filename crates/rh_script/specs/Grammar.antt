@@ -2,15 +2,16 @@
 use Rattle.std.specs.Prelude.{ℕ, ◌+◌, Bool, false, ◌&&◌, ◌||◌, nat_le, if◌then◌else◌, List, [], ◌∷◌, ◌++◌, length, codes, Option, Some, None, Result, Ok, Err}
 use Rattle.std.specs.Char.{is_ascii_digit, is_ascii_lowercase}
 use Rattle.std.specs.Str.{bytes_eq}
-use Rattle.std.specs.List.{list_all, list_any}
+use Rattle.std.specs.List.{list_all}
 use Rattle.rh_script.specs.declared.fault.ScriptFault.{ScriptFault}
 use Rattle.rh_script.specs.declared.fault.ScriptFaultKind.{ScriptFaultKind}
-use Rattle.rh_script.specs.declared.fault.ScriptFaultKind.TheVariants.{TooLong, BadCommand, BadName, Unknown, Twice}
+use Rattle.rh_script.specs.declared.fault.ScriptFaultKind.TheVariants.{TooLong, BadCommand, BadName}
 use Rattle.rh_script.specs.declared.verb.Verb.{Verb}
 use Rattle.rh_script.specs.declared.verb.Verb.TheVariants as verbs
 use Rattle.rh_script.specs.declared.limits.TheConstants.{MAX_LINES, MAX_LINE_BYTES, MAX_NAME_BYTES}
 use Rattle.rh_script.specs.Instruction.{Instruction, Use, Add, Drop, Ask, Keep, Flip, Save, Clear, Dump, Numbered}
 use Rattle.rh_script.specs.Lines.{is_printable, is_skipped, lines_of, without_return, words_of}
+use Rattle.rh_script.specs.Names.{admitted, names_in}
 
 -- one step, and then the next
 infixl 10 ◌>>=◌
@@ -87,36 +88,6 @@ said_in line =
     else if list_all is_printable line then instruction_in (words_of line) >>= (λ said. Ok (Some said))
     else Err BadCommand
 
--- ---- the names given so far
-
--- the name that an instruction gives to a list
-abbrev pub gives : Instruction → List ℕ → Bool
-gives (Use given path) name = bytes_eq given name
-gives (Save given) name = bytes_eq given name
-gives _ name = false
-
-unfoldable pub is_given : List ℕ → List Numbered → Bool
-is_given name before = list_any (λ step. gives step.instruction name) before
-
--- a name is given once
-abbrev pub once : Bool → Result (Unit {0}) ScriptFaultKind
-once given = if given then Err Twice else Ok tt
-
--- a name is given before it is used
-abbrev pub known : Bool → Result (Unit {0}) ScriptFaultKind
-known given = if given then Ok tt else Err Unknown
-
-unfoldable pub admitted : List Numbered → Instruction → Result (Unit {0}) ScriptFaultKind
-admitted before (Use name path) = once (is_given name before)
-admitted before (Add name) = known (is_given name before)
-admitted before (Drop name) = known (is_given name before)
-admitted before (Ask name) = known (is_given name before)
-admitted before (Keep name) = known (is_given name before)
-admitted before (Flip name) = known (is_given name before)
-admitted before (Save name) = once (is_given name before)
-admitted before Clear = Ok tt
-admitted before Dump = Ok tt
-
 -- ---- the lines of a script
 
 abbrev pub within_limits : ℕ → List ℕ → Result (List ℕ) ScriptFaultKind
@@ -127,7 +98,7 @@ within_limits number line =
 unfoldable pub entered : ℕ → List Numbered → Option Instruction → Result (List Numbered) ScriptFaultKind
 entered number before None = Ok before
 entered number before (Some said) =
-    admitted before said >>= (λ _. Ok (before ++ record { line = number; instruction = said } ∷ []))
+    admitted (names_in before) said >>= (λ _. Ok (before ++ record { line = number; instruction = said } ∷ []))
 
 unfoldable pub after_line : ℕ → List Numbered → List ℕ → Result (List Numbered) ScriptFaultKind
 after_line number before line =

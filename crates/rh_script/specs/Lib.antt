@@ -1,4 +1,8 @@
 pub mod Instruction
 pub mod Lines
+pub mod Names
 pub mod Grammar
+pub mod Steps
 pub mod Script
+pub mod Plan
+pub mod Tasks

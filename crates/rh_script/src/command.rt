@@ -5,7 +5,8 @@ ghost use Rattle.rh_script.specs.Instruction.{Instruction};
 ghost use Rattle.rh_script.specs.Lines.{words_of};
 ghost use Rattle.rh_script.specs.Grammar.{name_and_path, no_word, one_name};
 ghost use Rattle.rh_script.specs.Grammar.{instruction_in, instruction_of, said_in};
-ghost use Rattle.rh_script.specs.Script.{Answers, instruction_as};
+ghost use Rattle.rh_script.specs.Steps.{instruction_as};
+ghost use Rattle.rh_script.specs.Script.{Answers};
 
 use crate::fault::ScriptFaultKind;
 use crate::lines::is_skipped;

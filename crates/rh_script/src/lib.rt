@@ -6,15 +6,19 @@ mod fault;
 mod limits;
 mod lines;
 mod names;
+mod planning;
 mod reading;
 mod script;
+mod task;
 mod verb;
 mod words;
 
 pub use fault::{ScriptFault, ScriptFaultKind};
 pub use limits::{MAX_LINE_BYTES, MAX_LINES, MAX_NAME_BYTES};
+pub use planning::plan;
 pub use reading::parse;
 pub use script::{Command, Script, Step};
+pub use task::{Plan, PlannedStep, Task};
 
 #[cfg(test)]
 mod tests;

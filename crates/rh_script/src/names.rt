@@ -1,11 +1,11 @@
 //! The names that the lines so far gave.
 
-ghost use Rattle.std.specs.Prelude.{◌≡◌, ℕ, ◌||◌, List, OnOk};
+ghost use Rattle.std.specs.Prelude.{◌≡◌, ℕ, ◌||◌, ◌++◌, List, OnOk};
 ghost use Rattle.std.specs.Str.{bytes_eq};
 ghost use Rattle.std.specs.BTreeSet.{contains_text};
-ghost use Rattle.rh_script.specs.Instruction.{Numbered};
-ghost use Rattle.rh_script.specs.Grammar.{admitted, gives, once};
-ghost use Rattle.rh_script.specs.Script.{Answers, HasNames, instruction_as};
+ghost use Rattle.rh_script.specs.Names.{admitted, given_by, once};
+ghost use Rattle.rh_script.specs.Steps.{instruction_as};
+ghost use Rattle.rh_script.specs.Script.{Answers, HasNames};
 
 use crate::fault::ScriptFaultKind;
 use crate::script::Command;
@@ -13,16 +13,16 @@ use std::alloc::Global;
 use std::collections::BTreeSet;
 
 /// Tests that the command gives a new name or uses a given one, and keeps a name that it gives.
-#[tactic(auto, unfolding(crate::specs::Grammar::admitted))]
+#[tactic(auto, unfolding(crate::specs::Names::admitted))]
 pub(crate) fn admit(
     alloc: Global,
     names: &mut BTreeSet<String>,
     command: &Command,
 ) -> Result<(), ScriptFaultKind>
-    ensures admitted { (before : List Numbered) → HasNames names.old before →
-        Answers (admitted before (instruction_as command.now)) (λ _. tt) result }
-    ensures kept { OnOk result ((name : List ℕ) → contains_text names.new name ≡
-        (contains_text names.old name || gives (instruction_as command.now) name)) }
+    ensures admitted { (given : List (List ℕ)) → HasNames names.old given →
+        Answers (admitted given (instruction_as command.now)) (λ _. tt) result }
+    ensures kept { (given : List (List ℕ)) → HasNames names.old given →
+        OnOk result (HasNames names.new (given ++ given_by (instruction_as command.now))) }
 {
     match command {
         Command::Use { name, .. } | Command::Save { name } => give(alloc, names, name),

@@ -1,9 +1,12 @@
 //! Reading a script.
 
-ghost use Rattle.std.specs.Prelude.{◌≡◌, ◌≢◌, IfOk, IfErr, Ok, Err, map, OnOk, ◌≤◌, ◌+◌};
+ghost use Rattle.std.specs.Prelude.{◌≡◌, ◌≢◌, IfOk, IfErr, Ok, Err, length, map, OnOk, ◌≤◌, ◌+◌};
 ghost use Rattle.rh_script.specs.declared.limits.TheConstants.{MAX_LINES};
 ghost use Rattle.rh_script.specs.Grammar.{after_line, script_of};
-ghost use Rattle.rh_script.specs.Script.{Answers, HasNames, step_as, steps_of};
+ghost use Rattle.rh_script.specs.Lines.{lines_of};
+ghost use Rattle.rh_script.specs.Names.{names_in};
+ghost use Rattle.rh_script.specs.Steps.{step_as};
+ghost use Rattle.rh_script.specs.Script.{Answers, HasNames, steps_of};
 
 use crate::command::read_command;
 use crate::fault::{ScriptFault, ScriptFaultKind};
@@ -27,10 +30,11 @@ impl Reading {
     #[tactic(auto, unfolding(crate::specs::Grammar::after_line, crate::specs::Grammar::entered))]
     fn read_line(&mut self, line: &[u8]) -> Result<(), ScriptFaultKind>
         requires few { self.old.line ≤ MAX_LINES }
-        requires known { HasNames self.old.names (map step_as self.old.steps.items) }
+        requires known { HasNames self.old.names (names_in (map step_as self.old.steps.items)) }
         ensures line { self.new.line ≡ self.old.line + 1 }
         ensures few { OnOk result (self.new.line ≤ MAX_LINES) }
-        ensures known { OnOk result (HasNames self.new.names (map step_as self.new.steps.items)) }
+        ensures known { OnOk result
+            (HasNames self.new.names (names_in (map step_as self.new.steps.items))) }
         ensures read { Answers
             (after_line self.new.line (map step_as self.old.steps.items) line.now)
             (λ _. map step_as self.new.steps.items) result }
@@ -48,11 +52,14 @@ impl Reading {
     }
 }
 
-/// Reads the commands of a script, up to its first fault.
+/// Reads the commands of a script, up to its first fault. Want of memory is a fault of the line
+/// that was being read.
 pub fn parse(alloc: Global, text: &[u8]) -> Result<Script, ScriptFault>
     ensures parsed { IfOk result (λ script. script_of text.now ≡ Ok (steps_of script)) }
     ensures refused { IfErr result (λ fault. fault.kind ≢ ScriptFaultKind.Memory →
         script_of text.now ≡ Err fault) }
+    ensures within { IfErr result (λ fault.
+        (1 ≤ fault.line) × (fault.line ≤ length (lines_of text.now))) }
 {
     let mut reading = Reading {
         alloc,

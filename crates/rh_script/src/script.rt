@@ -1,7 +1,8 @@
 //! Scripts that were read.
 
-ghost use Rattle.std.specs.Prelude.{◌≡◌, ◌==◌, length, map};
-ghost use Rattle.rh_script.specs.Script.{step_as, steps_of};
+ghost use Rattle.std.specs.Prelude.{◌≡◌, ◌==◌, IsTrue, [], length, map};
+ghost use Rattle.rh_script.specs.Names.{in_order};
+ghost use Rattle.rh_script.specs.Steps.{step_as};
 
 /// A command with its words. A name stands for a list of keys, a path for a file.
 #[derive(Debug, PartialEq, Eq, Drop)]
@@ -28,9 +29,13 @@ pub struct Step {
 #[derive(Debug, PartialEq, Eq, Drop)]
 pub struct Script {
     pub(crate) steps: Vec<Step>,
+    // Each name is given once, and before it is used.
+    ghost named: { IsTrue (in_order [] (map step_as steps.items)) },
 }
 
 impl Script {
+    ghost use Rattle.rh_script.specs.Script.{steps_of};
+
     pub fn steps(&self) -> &[Step]
         ensures { map step_as result.now ≡ steps_of self.now }
     {

@@ -152,6 +152,48 @@ fn scripts_have_a_limit(rt: HostRuntime) -> Result<(), Fail> {
     Ok(())
 }
 
+const MIXED: &[u8] = b"use a a.keys\n# two lists\nuse b b.keys\nadd a\ndrop b\nask a\n\n\
+save c\nkeep c\nflip b\nclear\ndump\nuse d d.keys\nask d\n";
+
+#[rattlefmt::skip]
+const MIXED_PLAN: [(u64, Task); 12] = [
+    (1, Task::Use { list: 0, name: "a", path: "a.keys" }),
+    (3, Task::Use { list: 1, name: "b", path: "b.keys" }),
+    (4, Task::Add { list: 0, name: "a" }),
+    (5, Task::Drop { list: 1, name: "b" }),
+    (6, Task::Ask { list: 0, name: "a" }),
+    (8, Task::Save { list: 2, name: "c" }),
+    (9, Task::Keep { list: 2, name: "c" }),
+    (10, Task::Flip { list: 1, name: "b" }),
+    (11, Task::Clear),
+    (12, Task::Dump),
+    (13, Task::Use { list: 3, name: "d", path: "d.keys" }),
+    (14, Task::Ask { list: 3, name: "d" }),
+];
+
+#[test]
+fn lists_are_numbered(rt: HostRuntime) -> Result<(), Fail> {
+    let script = parse(rt.alloc(), MIXED)?;
+    let planned = plan(rt.alloc(), &script)?;
+    assert_eq!(rt; planned.len(), 12);
+    assert!(rt; !planned.is_empty());
+    for (step, (line, task)) in planned.steps().iter().zip(&MIXED_PLAN) {
+        assert_eq!(rt; step.line, *line);
+        assert_eq!(rt; step.task, *task);
+    }
+    Ok(())
+}
+
+#[test]
+fn a_script_without_commands_has_an_empty_plan(rt: HostRuntime) -> Result<(), Fail> {
+    let script = parse(rt.alloc(), b"# nothing\n\n")?;
+    let planned = plan(rt.alloc(), &script)?;
+    assert_eq!(rt; planned.len(), 0);
+    assert!(rt; planned.is_empty());
+    assert!(rt; planned.steps().is_empty());
+    Ok(())
+}
+
 #[test]
 fn faults_can_be_printed(rt: HostRuntime) -> Result<(), Fail> {
     for (kind, text) in [

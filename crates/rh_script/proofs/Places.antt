@@ -1,0 +1,85 @@
+-- The places of the names that are given.
+use Rattle.std.proofs.Common.{◌≡◌, ◌∙◌, ap, sym, ℕ, ◌+◌, ◌<◌, Bool, true, false, List, [], ◌∷◌, ◌++◌, length, length-append, Some, None, IsSome, Bor, String, string_bytes, is_ok, inl, inr, refl, arith}
+use Rattle.std.specs.Global.{Global}
+use Rattle.std.specs.BTreeMap.{BTreeMap, btree_map_len}
+use Rattle.std.specs.List.{list_any, position_or_len}
+use Rattle.std.specs.Map.{update}
+use Rattle.std.specs.Str.{bytes_eq}
+use Rattle.std.proofs.lemmas.Bool.{cases_Bool}
+use Rattle.std.proofs.lemmas.Bool.Decides.{nat_tests}
+use Rattle.std.proofs.lemmas.Grind.{common_steps}
+use Rattle.std.proofs.lemmas.List.Folds.{position_or_len_push}
+use Rattle.std.proofs.lemmas.List.Sums.{prefix_len-le-length}
+use Rattle.std.proofs.lemmas.Slice.Eq.{bytes_eq-Decides}
+use Rattle.rh_script.specs.declared.script.Command.{Command}
+use Rattle.rh_script.specs.Names.{admitted, is_given, known, once}
+use Rattle.rh_script.specs.Steps.{instruction_as}
+use Rattle.rh_script.specs.Plan.{place_of}
+use Rattle.rh_script.specs.Tasks.{HasPlaces, number_in}
+use Rattle.rh_script.proofs.Naming.{Gives, Uses, gave, used}
+
+none_before : {X : Type 0} (p : X → Bool) (xs : List X) → list_any p xs ≡ false → position_or_len p xs ≡ length xs
+none_before p [] h = refl
+none_before p (x ∷ xs) h = grind (arith, common_steps, none_before p xs)
+
+some_before : {X : Type 0} (p : X → Bool) (xs : List X) → list_any p xs ≡ true → position_or_len p xs < length xs
+some_before p [] h = absurd cc
+some_before p (x ∷ xs) h = grind (arith, common_steps, some_before p xs)
+
+place_there : (name : List ℕ) (given : List (List ℕ)) → is_given name given ≡ true → IsSome (place_of name given)
+unfolding is_given place_of
+place_there name given h =
+    let within = some_before (λ other. bytes_eq other name) given h in
+    grind (arith, nat_tests)
+
+no_place : (name : List ℕ) (given : List (List ℕ)) → is_given name given ≡ false → place_of name given ≡ None
+unfolding is_given place_of
+no_place name given h =
+    let all = none_before (λ other. bytes_eq other name) given h in
+    grind (arith, nat_tests)
+
+-- ---- the place of a new name
+
+place_of_last : (name other : List ℕ) (given : List (List ℕ)) → place_of name given ≡ None → bytes_eq other name ≡ true → place_of name (given ++ other ∷ []) ≡ Some (length given)
+unfolding place_of
+place_of_last name other given none same = grind (arith, nat_tests, position_or_len_push, length-append, prefix_len-le-length)
+
+place_stays : (name other : List ℕ) (given : List (List ℕ)) → bytes_eq other name ≡ false → place_of name (given ++ other ∷ []) ≡ place_of name given
+unfolding place_of
+place_stays name other given differ = grind (arith, nat_tests, position_or_len_push, length-append)
+
+pub places_kept : (lists new : BTreeMap (Bor (List ℕ)) ℕ) (given : List (List ℕ)) (name : List ℕ) (number : ℕ) → number_in lists name ≡ None → HasPlaces lists given → number ≡ btree_map_len lists → btree_map_len new ≡ btree_map_len lists + 1 → ((other : List ℕ) → number_in new other ≡ update bytes_eq (number_in lists) name (Some number) other) → HasPlaces new (given ++ name ∷ [])
+places_kept lists new given name number fresh has next more updated = (
+  omega (arith, length-append given (name ∷ []), has.0),
+  λ other.
+      elim (cases_Bool (bytes_eq name other)) [
+        | inl same ↦
+            let is : other ≡ name = sym ((bytes_eq-Decides name other).0 same) in
+            let none : place_of other given ≡ None = sym (has.1 other) ∙ ap (number_in lists) is ∙ fresh in
+            let here : number_in new other ≡ Some number = rw same at (updated other) in
+            here ∙ ap Some (next ∙ has.0) ∙ sym (place_of_last other name given none same)
+        | inr differ ↦
+            let kept : number_in new other ≡ number_in lists other = rw differ at (updated other) in
+            kept ∙ has.1 other ∙ sym (place_stays other name given differ)
+      ],
+)
+
+-- ---- the names of commands that may stand here
+
+use_is_given : (b : Bool) → is_ok (known b) ≡ true → b ≡ true
+use_is_given true h = refl
+use_is_given false h = absurd cc
+
+gift_is_once : (b : Bool) → is_ok (once b) ≡ true → b ≡ false
+gift_is_once true h = absurd cc
+gift_is_once false h = refl
+
+pub place_found : (lists : BTreeMap (Bor (List ℕ)) ℕ) (given : List (List ℕ)) (command : Command) (name : String Global) (text : List ℕ) → HasPlaces lists given → is_ok (admitted given (instruction_as command)) ≡ true → Uses command name → text ≡ string_bytes name → IsSome (number_in lists text)
+place_found lists given command name text has ok uses is =
+    let there : is_given (string_bytes name) given ≡ true = use_is_given _ (rw (used given command name uses) at ok) in
+    rw (has.1 text, is) (place_there (string_bytes name) given there)
+
+pub gift_is_new : (lists : BTreeMap (Bor (List ℕ)) ℕ) (given : List (List ℕ)) (command : Command) (name : String Global) (text : List ℕ) → HasPlaces lists given → is_ok (admitted given (instruction_as command)) ≡ true → Gives command name → text ≡ string_bytes name → number_in lists text ≡ None
+gift_is_new lists given command name text has ok gives is =
+    let none : is_given (string_bytes name) given ≡ false = gift_is_once _ (rw (gave given command name gives) at ok) in
+    rw (has.1 text, is) (no_place (string_bytes name) given none)

@@ -1,0 +1,37 @@
+-- The plan of a script: its steps, with their lists numbered (this project's own).
+use Rattle.std.specs.Prelude.{ℕ, List, [], ◌∷◌, ◌++◌, length, position, Option, Some, None}
+use Rattle.std.specs.Str.{bytes_eq}
+use Rattle.rh_script.specs.Instruction.{Instruction, Use, Add, Drop, Ask, Keep, Flip, Save, Clear, Dump, Numbered}
+use Rattle.rh_script.specs.Names.{given_by}
+
+-- an instruction with its line and the number of its list
+pub record Planned : Type 0 where
+  pub line : ℕ
+  pub instruction : Instruction
+  pub list : Option ℕ
+
+-- the first place of a name among those that are given
+unfoldable pub place_of : List ℕ → List (List ℕ) → Option ℕ
+place_of name given = position (λ other. bytes_eq other name) given
+
+-- the number of an instruction's list, after these names: a new name has the next number
+unfoldable pub number_after : List (List ℕ) → Instruction → Option ℕ
+number_after given (Use name path) = Some (length given)
+number_after given (Add name) = place_of name given
+number_after given (Drop name) = place_of name given
+number_after given (Ask name) = place_of name given
+number_after given (Keep name) = place_of name given
+number_after given (Flip name) = place_of name given
+number_after given (Save name) = Some (length given)
+number_after given Clear = None
+number_after given Dump = None
+
+-- the steps with their numbers, after these names
+unfoldable pub planned_after : List (List ℕ) → List Numbered → List Planned
+planned_after given [] = []
+planned_after given (step ∷ steps) =
+    record { line = step.line; instruction = step.instruction; list = number_after given step.instruction }
+    ∷ planned_after (given ++ given_by step.instruction) steps
+
+abbrev pub plan_of : List Numbered → List Planned
+plan_of steps = planned_after [] steps
