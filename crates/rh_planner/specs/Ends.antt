@@ -1,5 +1,5 @@
 -- How the run of a script ends.
-use Rattle.std.specs.Prelude.{◌≡◌, ℕ, ◌⊎◌, List, [], ◌∷◌, ◌++◌, length, take, Option, Some, Result, Ok, Err}
+use Rattle.std.specs.Prelude.{◌≡◌, ℕ, ◌⊎◌, List, [], ◌∷◌, ◌++◌, length, take, Option, Some, None, Result, Ok, Err, OnOk, IfErr}
 use Rattle.std.specs.FinSet as set
 use Rattle.std.specs.Io.KnownBytes.{Appends}
 use Rattle.rh_files.specs.declared.fault.KeyFault.TheVariants as faults
@@ -33,6 +33,13 @@ IsOutside n m Write = ⊥
 -- a cause that the meaning has, or one from outside
 abbrev pub RefusedBy : {Y : Type 0} → Result Y Cause → (failures failures' : ℕ) → Cause → Type 0
 RefusedBy said n m cause = (said ≡ Err cause) ⊎ IsOutside n m cause
+
+-- What a command leaves of a shelf: it gives the same files; it did not fail where the command was carried out; and where
+-- its files are not known, it failed if one was missing.
+pub record KeepsShelf {X : Type 0} (files files' : Option Files) (failures failures' : ℕ) (r : Result X Cause) : Type 0 where
+  pub same_files : files' ≡ files
+  pub fine : OnOk r (failures' ≡ failures)
+  pub missing : IfErr r (λ cause. cause ≡ Missing → files ≡ None → Rose failures failures')
 
 -- what was written before a command that was refused, and why it was refused
 abbrev pub EndsBy : Outcome → (failures failures' : ℕ) → Option (List ℕ) → Option (List ℕ) → List ℕ → Cause → Type 0

@@ -3,3 +3,4 @@ pub mod Causes
 pub mod Meaning
 pub mod Ends
 pub mod KeyLists
+pub mod Commands

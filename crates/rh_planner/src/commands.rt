@@ -1,17 +1,33 @@
-//! The commands.
+//! What the commands do with the set that is held and with the lists.
 
-ghost use Rattle.std.specs.Prelude.{◌≡◌, ◌⊎◌, ℕ, List, None, Some, Ok, Option, IfOk, IfErr, OnOk, length};
-ghost use Rattle.rh_files.specs.Counting.{Rose};
+ghost use Rattle.std.specs.Prelude.{◌≡◌, ◌+◌, ◌^◌, ◌<◌, ℕ, true, false, List, Some, Ok};
+ghost use Rattle.std.specs.Prelude.{IfOk, IfErr, OnOk, length};
+ghost use Rattle.std.specs.FinSet as finset;
 ghost use Rattle.rh_shelf.specs.Shelf.{Files};
-ghost use Rattle.rh_planner.specs.Ends.{RefusedBy};
-ghost use Rattle.rh_planner.specs.Meaning.{keys_in};
+ghost use Rattle.rh_ledger.specs.Phase.{looked_up};
+ghost use Rattle.rh_runner.specs.Lists.{Ran, chosen};
+ghost use Rattle.rh_ledger.specs.declared.tally.Kind.TheVariants.{Insert};
+ghost use Rattle.rh_layout.specs.Layout.{IsLayout, keys_of};
+ghost use Rattle.rh_layout.specs.declared.limits.TheConstants.{MIN_BITS};
+ghost use Rattle.rh_planner.specs.Ends.{IsOutside, KeepsShelf, RefusedBy};
+ghost use Rattle.rh_planner.specs.KeyLists.{Stands};
+ghost use Rattle.rh_planner.specs.Meaning.{keys_in, size_for};
+ghost use Rattle.rh_planner.specs.Commands.{Added, Dropped, Flipped, Kept};
 
 use crate::fault::Cause;
-use crate::opening::fetched;
+use crate::key_lists::KeyList;
+use crate::opening::{fetched, keys_again, open_list};
+use crate::size::{copied, grown};
+use rh_edit::SeqSet;
 use rh_files::{Counted, open_keys};
-use rh_runner::read_through;
+use rh_layout::MIN_BITS;
+use rh_ledger::{Kind, Tally};
+use rh_runner::{
+    Runner, ask_all, change_all, count_chosen, insert_chosen, read_through, remove_and_count_absent,
+};
 use rh_shelf::Shelf;
 use std::alloc::Global;
+use std::sync::Wait;
 
 /// How many keys the file at the path has. It is read to its end.
 pub(crate) fn use_file<S: Shelf>(alloc: Global, shelf: &mut S, path: &str) -> Result<u64, Cause>
@@ -19,14 +35,176 @@ pub(crate) fn use_file<S: Shelf>(alloc: Global, shelf: &mut S, path: &str) -> Re
         (keys : List ℕ) × (keys_in (files path.now) ≡ Ok keys) × (length keys ≡ count)) }
     ensures refused { (files : Files) → S.files shelf.old ≡ Some files → IfErr result
         (RefusedBy (keys_in (files path.now)) (S.failures shelf.old) (S.failures shelf.new)) }
-    ensures missing { IfErr result (λ cause. cause ≡ Cause.Missing → S.files shelf.old ≡ None →
-        Rose (S.failures shelf.old) (S.failures shelf.new)) }
-    ensures fine { OnOk result (S.failures shelf.new ≡ S.failures shelf.old) }
-    ensures same_files { S.files shelf.new ≡ S.files shelf.old }
+    ensures shelf { KeepsShelf (S.files shelf.old) (S.files shelf.new) (S.failures shelf.old)
+        (S.failures shelf.new) result }
 {
     let mut reader = Counted::new(fetched(alloc, shelf, path)?);
     let mut keys = open_keys(&mut reader)?;
     let count = keys.count();
     read_through(&mut keys)?;
     Ok(count)
+}
+
+/// Adds the keys of the list to the set, in a table that has grown for them.
+pub(crate) fn add<T: Wait, S: Shelf, N: Runner>(
+    rt: &T,
+    alloc: Global,
+    shelf: &mut S,
+    runner: &mut N,
+    set: &mut SeqSet,
+    list: &KeyList<'_>,
+) -> Result<Tally, Cause>
+    ensures added { (keys : List ℕ) → Stands (S.files shelf.old) list.now keys →
+        IfOk result (Added keys set.old set.new) }
+    ensures refused { (keys : List ℕ) → Stands (S.files shelf.old) list.now keys →
+        IfErr result (RefusedBy (size_for set.old.bits (finset.len set.old.keys + length keys))
+        (S.failures shelf.old) (S.failures shelf.new)) }
+    ensures shelf { KeepsShelf (S.files shelf.old) (S.files shelf.new) (S.failures shelf.old)
+        (S.failures shelf.new) result }
+{
+    let mut reader = open_list(alloc, shelf, list)?;
+    let mut keys = keys_again(&mut reader, list.count)?;
+    let (bits, mut cells) = grown(alloc, set, list.count)?;
+    let tally = change_all(rt, alloc, runner, Kind::Insert, bits, &mut cells, &mut keys)?;
+    *set = SeqSet::from_cells(bits, cells);
+    Ok(tally)
+}
+
+/// Takes the keys of the list out of the set.
+pub(crate) fn drop_keys<T: Wait, S: Shelf, N: Runner>(
+    rt: &T,
+    alloc: Global,
+    shelf: &mut S,
+    runner: &mut N,
+    set: &mut SeqSet,
+    list: &KeyList<'_>,
+) -> Result<Tally, Cause>
+    ensures dropped { (keys : List ℕ) → Stands (S.files shelf.old) list.now keys →
+        IfOk result (Dropped keys set.old set.new) }
+    ensures refused { (keys : List ℕ) → Stands (S.files shelf.old) list.now keys →
+        IfErr result (IsOutside (S.failures shelf.old) (S.failures shelf.new)) }
+    ensures shelf { KeepsShelf (S.files shelf.old) (S.files shelf.new) (S.failures shelf.old)
+        (S.failures shelf.new) result }
+{
+    let mut reader = open_list(alloc, shelf, list)?;
+    let mut keys = keys_again(&mut reader, list.count)?;
+    let bits = set.bits();
+    let mut cells = copied(alloc, set.cells())?;
+    let tally = change_all(rt, alloc, runner, Kind::Remove, bits, &mut cells, &mut keys)?;
+    *set = SeqSet::from_cells(bits, cells);
+    Ok(tally)
+}
+
+/// Looks the keys of the list up.
+pub(crate) fn ask<T: Wait, S: Shelf, N: Runner>(
+    rt: &T,
+    alloc: Global,
+    shelf: &mut S,
+    runner: &mut N,
+    set: &SeqSet,
+    list: &KeyList<'_>,
+) -> Result<Vec<bool>, Cause>
+    ensures asked { (keys : List ℕ) → Stands (S.files shelf.old) list.now keys →
+        IfOk result (λ answers. answers.items ≡ looked_up set.now.keys keys) }
+    ensures refused { (keys : List ℕ) → Stands (S.files shelf.old) list.now keys →
+        IfErr result (IsOutside (S.failures shelf.old) (S.failures shelf.new)) }
+    ensures shelf { KeepsShelf (S.files shelf.old) (S.files shelf.new) (S.failures shelf.old)
+        (S.failures shelf.new) result }
+{
+    let mut reader = open_list(alloc, shelf, list)?;
+    let mut keys = keys_again(&mut reader, list.count)?;
+    Ok(ask_all(rt, alloc, runner, set.bits(), set.cells(), &mut keys)?)
+}
+
+/// Keeps of the set the keys of the list alone, in a table of the least size for them, and answers
+/// how many places of the list they have. The list is read twice.
+pub(crate) fn keep<T: Wait, S: Shelf, N: Runner>(
+    rt: &T,
+    alloc: Global,
+    shelf: &mut S,
+    runner: &mut N,
+    set: &mut SeqSet,
+    list: &KeyList<'_>,
+) -> Result<u64, Cause>
+    ensures kept { (keys : List ℕ) → Stands (S.files shelf.old) list.now keys →
+        IfOk result (Kept keys set.old set.new) }
+    ensures refused { (keys : List ℕ) → Stands (S.files shelf.old) list.now keys →
+        IfErr result (RefusedBy (size_for MIN_BITS (length (chosen true set.old.keys keys)))
+        (S.failures shelf.old) (S.failures shelf.new)) }
+    ensures shelf { KeepsShelf (S.files shelf.old) (S.files shelf.new) (S.failures shelf.old)
+        (S.failures shelf.new) result }
+{
+    let found = count_found(rt, alloc, shelf, runner, set, list)?;
+    let empty = SeqSet::new(alloc, MIN_BITS)?;
+    let (bits, mut cells) = grown(alloc, &empty, found)?;
+    insert_listed(
+        rt, alloc, shelf, runner, true, found, set, bits, &mut cells, list,
+    )?;
+    *set = SeqSet::from_cells(bits, cells);
+    Ok(found)
+}
+
+/// How many places of the list have a key of the set.
+fn count_found<T: Wait, S: Shelf, N: Runner>(
+    rt: &T,
+    alloc: Global,
+    shelf: &mut S,
+    runner: &mut N,
+    set: &SeqSet,
+    list: &KeyList<'_>,
+) -> Result<u64, Cause>
+    ensures found { (keys : List ℕ) → Stands (S.files shelf.old) list.now keys →
+        IfOk result (λ found. found ≡ length (chosen true set.now.keys keys)) }
+    ensures refused { (keys : List ℕ) → Stands (S.files shelf.old) list.now keys →
+        IfErr result (IsOutside (S.failures shelf.old) (S.failures shelf.new)) }
+    ensures shelf { KeepsShelf (S.files shelf.old) (S.files shelf.new) (S.failures shelf.old)
+        (S.failures shelf.new) result }
+{
+    let mut reader = open_list(alloc, shelf, list)?;
+    let mut keys = keys_again(&mut reader, list.count)?;
+    let (bits, cells) = (set.bits(), set.cells());
+    Ok(count_chosen(rt, alloc, runner, true, bits, cells, &mut keys)?)
+}
+
+/// Inserts into the cells those keys of the list that the set holds, or where `wanted` is false,
+/// those that it does not hold. `many` is how many places an earlier reading chose.
+fn insert_listed<T: Wait, S: Shelf, N: Runner>(
+    rt: &T,
+    alloc: Global,
+    shelf: &mut S,
+    runner: &mut N,
+    wanted: bool,
+    many: u64,
+    set: &SeqSet,
+    bits: u32,
+    cells: &mut Vec<u64>,
+    list: &KeyList<'_>,
+) -> Result<Tally, Cause>
+    requires layout { IsLayout bits cells.old.items }
+    requires room { finset.len (keys_of cells.old.items) + many < 2 ^ bits }
+    ensures layout { OnOk result (IsLayout bits cells.new.items) }
+    ensures free { OnOk result (finset.len (keys_of cells.new.items) < 2 ^ bits) }
+    ensures inserted { (keys : List ℕ) → Stands (S.files shelf.old) list.now keys →
+        many ≡ length (chosen wanted set.now.keys keys) → IfOk result
+        (Ran Insert bits (chosen wanted set.now.keys keys) cells.old.items cells.new.items) }
+    ensures refused { (keys : List ℕ) → Stands (S.files shelf.old) list.now keys →
+        many ≡ length (chosen wanted set.now.keys keys) →
+        IfErr result (IsOutside (S.failures shelf.old) (S.failures shelf.new)) }
+    ensures shelf { KeepsShelf (S.files shelf.old) (S.files shelf.new) (S.failures shelf.old)
+        (S.failures shelf.new) result }
+{
+    let mut reader = open_list(alloc, shelf, list)?;
+    let mut keys = keys_again(&mut reader, list.count)?;
+    Ok(insert_chosen(
+        rt,
+        alloc,
+        runner,
+        wanted,
+        many,
+        set.bits(),
+        set.cells(),
+        bits,
+        cells,
+        &mut keys,
+    )?)
 }

@@ -4,7 +4,7 @@ ghost use Rattle.std.specs.Prelude.{◌≡◌, ◌⊎◌, ◌≤◌, ℕ, List, 
 ghost use Rattle.rh_files.specs.Counting.{Rose, inner_of};
 ghost use Rattle.rh_files.specs.Stream.{coming_of, count_of, left_in, left_of, state_of};
 ghost use Rattle.rh_shelf.specs.Shelf.{Finds, Lacks};
-ghost use Rattle.rh_planner.specs.Ends.{IsOutside};
+ghost use Rattle.rh_planner.specs.Ends.{IsOutside, KeepsShelf};
 ghost use Rattle.rh_planner.specs.KeyLists.{HasKeys, Stands, bytes_left};
 
 use crate::fault::Cause;
@@ -45,10 +45,8 @@ pub(crate) fn open_list<'a, S: Shelf>(
         IfOk result (λ r. HasKeys (bytes_left S.Reader.remaining (inner_of r)) keys) }
     ensures refused { (keys : List ℕ) → Stands (S.files shelf.old) list.now keys →
         IfErr result (IsOutside (S.failures shelf.old) (S.failures shelf.new)) }
-    ensures missing { IfErr result (λ cause. cause ≡ Cause.Missing → S.files shelf.old ≡ None →
-        Rose (S.failures shelf.old) (S.failures shelf.new)) }
-    ensures fine { OnOk result (S.failures shelf.new ≡ S.failures shelf.old) }
-    ensures same_files { S.files shelf.new ≡ S.files shelf.old }
+    ensures shelf { KeepsShelf (S.files shelf.old) (S.files shelf.new) (S.failures shelf.old)
+        (S.failures shelf.new) result }
 {
     Ok(Counted::new(match &list.place {
         Place::Path(path) => ListReader::File(fetched(alloc, shelf, path)?),

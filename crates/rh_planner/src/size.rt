@@ -2,7 +2,7 @@
 
 ghost use Rattle.std.specs.Prelude.{◌≡◌, ◌+◌, ◌^◌, ◌<◌, Ok, IfOk, IfErr};
 ghost use Rattle.std.specs.FinSet as finset;
-ghost use Rattle.rh_layout.specs.Layout.{Layout};
+ghost use Rattle.rh_layout.specs.Layout.{IsLayout, keys_of};
 ghost use Rattle.rh_planner.specs.Meaning.{size_for};
 ghost use Rattle.rh_planner.specs.Ends.{RefusedBy};
 
@@ -11,12 +11,13 @@ use rh_edit::SeqSet;
 use rh_grow::{bits_for, grow};
 use std::alloc::{AllocError, Global};
 
-#[tactic(auto, using(crate::proofs::SizeLemmas::sized, crate::proofs::SizeLemmas::not_sized, crate::proofs::SizeLemmas::fits_below))]
+#[tactic(auto, using(crate::proofs::SizeLemmas::sized, crate::proofs::SizeLemmas::not_sized, crate::proofs::SizeLemmas::fits_below, rh_layout::proofs::LayoutLemmas::layout_own, rh_layout::proofs::LayoutLemmas::layout_keys))]
 /// A copy of the set's table that takes `more` keys too, and its bits: the least that do, and none
 /// fewer.
 pub(crate) fn grown(alloc: Global, set: &SeqSet, more: u64) -> Result<(u32, Vec<u64>), Cause>
     ensures size { IfOk result (λ t. size_for set.now.bits (finset.len set.now.keys + more) ≡ Ok t.0) }
-    ensures copy { IfOk result (λ t. Layout t.1.items t.0 set.now.keys) }
+    ensures layout { IfOk result (λ t. IsLayout t.0 t.1.items) }
+    ensures keys { IfOk result (λ t. keys_of t.1.items ≡ set.now.keys) }
     ensures room { IfOk result (λ t. finset.len set.now.keys + more < 2 ^ t.0) }
     ensures refused { IfErr result
         (RefusedBy (size_for set.now.bits (finset.len set.now.keys + more)) 0 0) }

@@ -1,0 +1,35 @@
+-- What the commands that change the set make of it.
+use Rattle.std.specs.Prelude.{◌≡◌, ℕ, ◌+◌, true, false, List, length, Ok}
+use Rattle.std.specs.FinSet as set
+use Rattle.rh_layout.specs.declared.limits.TheConstants.{MIN_BITS}
+use Rattle.rh_edit.specs.Held.{Held}
+use Rattle.rh_ledger.specs.declared.tally.Kind.TheVariants.{Insert, Remove}
+use Rattle.rh_ledger.specs.declared.tally.Tally.{Tally}
+use Rattle.rh_ledger.specs.Phase.{set_after, tally_of}
+use Rattle.rh_runner.specs.Lists.{chosen}
+use Rattle.rh_planner.specs.Meaning.{size_for}
+
+-- the keys were added
+pub record Added (keys : List ℕ) (old new : Held) (told : Tally) : Type 0 where
+  pub size : size_for old.bits (set.len old.keys + length keys) ≡ Ok new.bits
+  pub held : new.keys ≡ set_after Insert old.keys keys
+  pub tally : told ≡ tally_of Insert old.keys keys
+
+-- the keys were taken out
+pub record Dropped (keys : List ℕ) (old new : Held) (told : Tally) : Type 0 where
+  pub size : new.bits ≡ old.bits
+  pub held : new.keys ≡ set_after Remove old.keys keys
+  pub tally : told ≡ tally_of Remove old.keys keys
+
+-- of the keys that were held, those of the list were kept
+pub record Kept (keys : List ℕ) (old new : Held) (found : ℕ) : Type 0 where
+  pub size : size_for MIN_BITS (length (chosen true old.keys keys)) ≡ Ok new.bits
+  pub held : new.keys ≡ set_after Insert set.empty (chosen true old.keys keys)
+  pub counted : found ≡ length (chosen true old.keys keys)
+
+-- those that were held were taken out, and the others were added
+pub record Flipped (keys : List ℕ) (old new : Held) (told : Tally × Tally) : Type 0 where
+  pub size : size_for old.bits (set.len (set_after Remove old.keys keys) + length (chosen false old.keys keys)) ≡ Ok new.bits
+  pub held : new.keys ≡ set_after Insert (set_after Remove old.keys keys) (chosen false old.keys keys)
+  pub removed : told.0 ≡ tally_of Remove old.keys keys
+  pub added : told.1 ≡ tally_of Insert (set_after Remove old.keys keys) (chosen false old.keys keys)
