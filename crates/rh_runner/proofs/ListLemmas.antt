@@ -105,9 +105,9 @@ module _ {kind : Kind} {bits : ℕ} {done old mid : List ℕ} {t : Tally} (ran :
     layout = next.layout;
     held = next.held ∙ ap (λ (S : Keys). set_after kind S batch) ran.held ∙ sym (set_after-append kind (keys_of old) done batch);
     tally =
-      ap (sum_of t) (next.tally ∙ ap (λ (S : Keys). tally_of kind S batch) ran.held)
-      ∙ ap (λ (r : Tally). sum_of r (tally_of kind (set_after kind (keys_of old) done) batch)) ran.tally
-      ∙ sym (tally_of-append kind (keys_of old) done batch);
+        ap (sum_of t) (next.tally ∙ ap (λ (S : Keys). tally_of kind S batch) ran.held)
+        ∙ ap (λ (r : Tally). sum_of r (tally_of kind (set_after kind (keys_of old) done) batch)) ran.tally
+        ∙ sym (tally_of-append kind (keys_of old) done batch);
   }
 
 pub inserted-le : {bits : ℕ} {keys old new : List ℕ} {t : Tally} → Ran Insert bits keys old new t → set.len (keys_of new) ≤ set.len (keys_of old) + length keys

@@ -127,7 +127,7 @@ pub fn insert_chosen<T: Wait, N: Runner, K: KeySource>(
         × Took (K.coming keys.old) (K.left_of keys.old) list
         × (length (chosen wanted (keys_of old.now) list) ≡ many)
         × Ran Insert bits (chosen wanted (keys_of old.now) list)
-            cells.old.items cells.new.items t) }
+        cells.old.items cells.new.items t) }
     ensures refused { IfErr result
         (RefusedFor (K.coming keys.old) wanted (keys_of old.now) many) }
 {
