@@ -1,4 +1,4 @@
-use Rattle.std.proofs.Common.{arith, ◌++◌, ◌∙◌, take}
+use Rattle.std.proofs.Common.{arith, ◌++◌, take}
 use Rattle.rh_layout.specs.Layout.{keys_of}
 use Rattle.rh_runner.proofs.ListLemmas.{more_came}
 use Rattle.rh_runner.proofs.ChosenLemmas.{count_more, length_chosen-le}

@@ -1,4 +1,4 @@
-use Rattle.std.proofs.Common.{◌∙◌, ◌++◌, arith, take, length-append, length-take, false, ap}
+use Rattle.std.proofs.Common.{◌∙◌, ◌++◌, arith, take, length-append, length-take, false}
 use Rattle.rh_layout.specs.Layout.{keys_of}
 use Rattle.rh_ledger.specs.declared.tally.Kind.TheVariants.{Remove}
 use Rattle.rh_runner.specs.Lists.{Ran}

@@ -1,4 +1,4 @@
-use Rattle.std.proofs.Common.{◌≡◌, ◌∙◌, [], ◌++◌, rules, take}
+use Rattle.std.proofs.Common.{◌≡◌, [], ◌++◌, rules, take}
 use Rattle.rh_layout.specs.Layout.{keys_of}
 use Rattle.rh_runner.proofs.ListLemmas.{none_came, more_came, look_ups_more}
 use Rattle.rh_runner.proofs.lists.ask_all.Goals as goal

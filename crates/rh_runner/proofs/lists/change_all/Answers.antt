@@ -1,5 +1,4 @@
 use Rattle.std.proofs.Common.{◌∙◌, arith, take, length-append, length-take}
-use Rattle.rh_ledger.specs.declared.tally.Kind.{Kind}
 use Rattle.rh_runner.specs.Lists.{Ran}
 use Rattle.rh_runner.proofs.ListLemmas.{more_came, more_ran, room_left, tally_fits}
 use Rattle.rh_runner.proofs.lists.change_all.Goals as goal
