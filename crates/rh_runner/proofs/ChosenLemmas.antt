@@ -1,6 +1,5 @@
 -- The chosen keys of a list.
-use Rattle.std.proofs.Common.{◌≡◌, ◌≢◌, ℕ, suc, ◌+◌, ◌<◌, ◌≤◌, refl, sym, ap, subst, ◌∙◌, arith, Bool, true, false, cond, List, [], ◌∷◌, ◌++◌, length, take, get_or, length-append}
-use Rattle.std.specs.Prelude.{All, Some, None, Ok, Err, map, not}
+use Rattle.std.proofs.Common.{◌≡◌, ℕ, suc, ◌+◌, ◌<◌, ◌≤◌, refl, sym, ap, subst, ◌∙◌, arith, Bool, true, false, cond, List, [], ◌∷◌, ◌++◌, length, get_or, length-append}
 use Rattle.std.specs.List.{count_by, filter}
 use Rattle.std.specs.FinSet.{contains}
 use Rattle.std.proofs.Math.ListN.{set}
@@ -10,13 +9,12 @@ use Rattle.std.proofs.lemmas.List.Elements.{filter-append}
 use Rattle.std.proofs.lemmas.List.Sums.{length-filter, count_by-le-length}
 use Rattle.std.proofs.lemmas.List.Filters.{FiltersInPlace, FiltersInPlace-more_no, FiltersInPlace-more_set}
 use Rattle.rh_layout.specs.Layout.{Keys}
-use Rattle.rh_files.specs.Source.{Coming, AllCome}
 use Rattle.rh_ledger.specs.declared.tally.Kind.TheVariants.{Insert}
 use Rattle.rh_ledger.specs.declared.tally.Tally.{Tally}
 use Rattle.rh_ledger.specs.Tally.{sum_of}
 use Rattle.rh_ledger.specs.Phase.{looked_up}
 use Rattle.rh_runner.specs.Lists.{Ran, is_wanted, chosen}
-use Rattle.rh_runner.proofs.ListLemmas.{Ahead, more_ran}
+use Rattle.rh_runner.proofs.ListLemmas.{more_ran}
 
 module _ (wanted : Bool) (S : Keys) where
   abbrev is_chosen : ℕ → Bool

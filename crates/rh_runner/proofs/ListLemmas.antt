@@ -1,23 +1,21 @@
 -- Keys that come batch by batch, and the phases over them.
-use Rattle.std.proofs.Common.{◌≡◌, ◌≢◌, ℕ, zero, suc, ◌+◌, ◌^◌, ◌<◌, ◌≤◌, ◌⊎◌, inl, inr, refl, sym, ap, subst, ◌∙◌, arith, Bool, true, false, cond, List, [], ◌∷◌, ◌++◌, length, take, append_assoc, length-append, length-take}
-use Rattle.std.proofs.lemmas.List.{append-nil, map-append}
+use Rattle.std.proofs.Common.{◌≡◌, ◌≢◌, ℕ, zero, suc, ◌+◌, ◌^◌, ◌<◌, ◌≤◌, refl, sym, ap, ◌∙◌, arith, Bool, true, false, cond, List, [], ◌∷◌, ◌++◌, length, take, append_assoc, length-append, length-take}
+use Rattle.std.proofs.lemmas.List.{map-append}
 use Rattle.std.specs.Prelude.{All, Some, None, Result, Ok, Err}
 use Rattle.std.specs.FinSet as set
 use Rattle.std.specs.FinSet.{contains}
 use Rattle.std.proofs.lemmas.List.Elements.{All-append, All-nil}
 use Rattle.rh_layout.specs.Key.{IsKey}
-use Rattle.rh_layout.specs.Layout.{Keys, IsLayout, keys_of}
+use Rattle.rh_layout.specs.Layout.{Keys, keys_of}
 use Rattle.rh_files.specs.declared.fault.KeyFault.{KeyFault}
-use Rattle.rh_files.specs.declared.fault.KeyFault.TheVariants.{NotKeys, Short, TooMany, BadKey, Long, Read, Memory}
-use Rattle.rh_files.specs.Reading.{Fails}
-use Rattle.rh_files.specs.Source.{Coming, keys_then, Gives, AllCome, FaultComes}
+use Rattle.rh_files.specs.Source.{Coming, keys_then, Gives}
 use Rattle.rh_ledger.specs.declared.tally.Kind.{Kind}
 use Rattle.rh_ledger.specs.declared.tally.Kind.TheVariants.{Insert, Remove, Ask}
 use Rattle.rh_ledger.specs.declared.tally.Tally.{Tally}
-use Rattle.rh_ledger.specs.Tally.{sum_of, none_yet, FitsTally}
+use Rattle.rh_ledger.specs.Tally.{sum_of, FitsTally}
 use Rattle.rh_ledger.specs.Phase.{set_with, count_of, set_after, tally_of, looked_up, most_added}
 use Rattle.rh_ledger.proofs.PhaseLemmas.{set_after-append, tally_of-append, len-insert_all}
-use Rattle.rh_runner.specs.Lists.{Took, Ran, may_add}
+use Rattle.rh_runner.specs.Lists.{Ran, may_add}
 use Rattle.rh_runner.proofs.SingleLemmas.{len-remove_all}
 
 -- ---- what came so far, and what is still to come
@@ -53,21 +51,6 @@ ahead_more (Some said) (Some rest) None done batch (suc n) a g some = absurd g
 ahead_more (Some said) (Some rest) (Some after) done batch (suc n) a g some =
     a ∙ ap (keys_then done) g ∙ keys_then-append done (take (suc n) batch) after
 
-ahead_all : (before now new : Coming) (done batch : List ℕ) (n : ℕ) → Ahead before done now → Gives now new batch (Ok n) → n ≡ 0 → AllCome before done
-ahead_all None now new done batch n a g none = tt
-ahead_all (Some said) None new done batch n a g none = absurd a
-ahead_all (Some said) (Some rest) new done batch zero a g none = a ∙ ap (keys_then done) g ∙ ap Ok (append-nil done)
-ahead_all (Some said) (Some rest) new done batch (suc n) a g none = (cc)
-
-fault_ahead : (done : List ℕ) (said rest : Result (List ℕ) KeyFault) (e : KeyFault) → said ≡ keys_then done rest → Fails e rest → Fails e said
-fault_ahead done said rest NotKeys a f = a ∙ ap (keys_then done) f
-fault_ahead done said rest Short a f = a ∙ ap (keys_then done) f
-fault_ahead done said rest TooMany a f = a ∙ ap (keys_then done) f
-fault_ahead done said rest (BadKey index) a f = a ∙ ap (keys_then done) f
-fault_ahead done said rest Long a f = a ∙ ap (keys_then done) f
-fault_ahead done said rest Read a f = tt
-fault_ahead done said rest Memory a f = tt
-
 module _ {before now : Coming} {most left : ℕ} {done : List ℕ} (came : Came before now most left done) (new : Coming) (batch : List ℕ) where
   pub more_came : (rest n : ℕ) → Gives now new batch (Ok n) → n ≢ 0 → n ≤ length batch → left ≡ rest + n → All IsKey (take n batch) → Came before new most rest (done ++ take n batch)
   more_came rest n gives some inside less keys = record {
@@ -76,28 +59,10 @@ module _ {before now : Coming} {most left : ℕ} {done : List ℕ} (came : Came 
     in_range = All-append IsKey done (take n batch) came.in_range keys;
   }
 
-  pub all_came : (n : ℕ) → Gives now new batch (Ok n) → n ≡ 0 → (n ≡ 0 → left ≡ 0) → Took before most done
-  all_came n gives none ends = record {
-    came = ahead_all before now new done batch n came.ahead gives none;
-    long = omega (arith, came.long, ends none);
-    in_range = came.in_range;
-  }
-
-  pub fault_comes : (e : KeyFault) → Gives now new batch (Err e) → FaultComes before e
-  fault_comes e gives = along before now came.ahead gives
-    where
-      along : (before now : Coming) → Ahead before done now → Gives now new batch (Err e) → FaultComes before e
-      along None now a g = tt
-      along (Some said) None a g = absurd a
-      along (Some said) (Some rest) a g = fault_ahead done said rest e a g
-
 pub none_came : (now : Coming) (left : ℕ) → Came now now left left []
 none_came now left = record { ahead = ahead_none now; long = omega arith; in_range = All-nil IsKey }
 
 -- ---- a phase over a list, batch by batch
-
-pub none_ran : (kind : Kind) (bits : ℕ) (cells : List ℕ) → IsLayout bits cells → Ran kind bits [] cells cells none_yet
-none_ran kind bits cells layout = record { layout = layout; held = refl; tally = refl }
 
 module _ {kind : Kind} {bits : ℕ} {done old mid : List ℕ} {t : Tally} (ran : Ran kind bits done old mid t) where
   pub more_ran : {batch new : List ℕ} {told : Tally} → Ran kind bits batch mid new told → Ran kind bits (done ++ batch) old new (sum_of t told)
@@ -105,9 +70,9 @@ module _ {kind : Kind} {bits : ℕ} {done old mid : List ℕ} {t : Tally} (ran :
     layout = next.layout;
     held = next.held ∙ ap (λ (S : Keys). set_after kind S batch) ran.held ∙ sym (set_after-append kind (keys_of old) done batch);
     tally =
-      ap (sum_of t) (next.tally ∙ ap (λ (S : Keys). tally_of kind S batch) ran.held)
-      ∙ ap (λ (r : Tally). sum_of r (tally_of kind (set_after kind (keys_of old) done) batch)) ran.tally
-      ∙ sym (tally_of-append kind (keys_of old) done batch);
+        ap (sum_of t) (next.tally ∙ ap (λ (S : Keys). tally_of kind S batch) ran.held)
+        ∙ ap (λ (r : Tally). sum_of r (tally_of kind (set_after kind (keys_of old) done) batch)) ran.tally
+        ∙ sym (tally_of-append kind (keys_of old) done batch);
   }
 
 pub inserted-le : {bits : ℕ} {keys old new : List ℕ} {t : Tally} → Ran Insert bits keys old new t → set.len (keys_of new) ≤ set.len (keys_of old) + length keys

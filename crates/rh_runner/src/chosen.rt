@@ -1,13 +1,15 @@
 //! Phases over the keys of a list that a table holds, or does not hold.
 
-ghost use Rattle.std.specs.Prelude.{false, ◌≡◌, ◌+◌, ◌^◌, ◌<◌, ◌≤◌, ℕ, List, length, take, All, IfOk, IfErr, OnOk};
+ghost use Rattle.std.specs.Prelude.{false, ◌≡◌, ◌+◌, ◌^◌, ◌<◌, ◌≤◌, ℕ, List, length, take, All};
+ghost use Rattle.std.specs.Prelude.{IfOk, IfErr, OnOk};
 ghost use Rattle.std.specs.List.{count_by};
 ghost use Rattle.std.specs.FinSet as set;
 ghost use Rattle.rh_layout.specs.Key.{IsKey};
 ghost use Rattle.rh_layout.specs.Layout.{Keys, IsLayout, keys_of};
 ghost use Rattle.rh_ledger.specs.Phase.{looked_up};
 ghost use Rattle.rh_ledger.specs.declared.tally.Kind.TheVariants.{Insert, Remove};
-ghost use Rattle.rh_runner.specs.Lists.{Took, Ran, Refused, RefusedBatch, RefusedFor, is_wanted, chosen};
+ghost use Rattle.rh_runner.specs.Lists.{Took, Ran, Refused, RefusedBatch, RefusedFor};
+ghost use Rattle.rh_runner.specs.Lists.{is_wanted, chosen};
 
 use crate::fault::ListFault;
 use crate::lists::{BATCH, NONE_YET};
@@ -126,8 +128,7 @@ pub fn insert_chosen<T: Wait, N: Runner, K: KeySource>(
     ensures done { IfOk result (λ t. (list : List ℕ)
         × Took (K.coming keys.old) (K.left_of keys.old) list
         × (length (chosen wanted (keys_of old.now) list) ≡ many)
-        × Ran Insert bits (chosen wanted (keys_of old.now) list)
-            cells.old.items cells.new.items t) }
+        × Ran Insert bits (chosen wanted (keys_of old.now) list) cells.old.items cells.new.items t) }
     ensures refused { IfErr result
         (RefusedFor (K.coming keys.old) wanted (keys_of old.now) many) }
 {

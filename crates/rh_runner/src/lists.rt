@@ -47,8 +47,8 @@ pub fn change_all<T: Wait, N: Runner, K: KeySource>(
 ) -> Result<Tally, ListFault>
     requires kind { kind ≢ Kind.Ask }
     requires layout { IsLayout bits cells.old.items }
-    requires room {
-        set.len (keys_of cells.old.items) + may_add kind (K.left_of keys.old) < 2 ^ bits }
+    requires room { set.len (keys_of cells.old.items)
+        + may_add kind (K.left_of keys.old) < 2 ^ bits }
     ensures done { IfOk result (λ t. (list : List ℕ)
         × Took (K.coming keys.old) (K.left_of keys.old) list
         × Ran kind bits list cells.old.items cells.new.items t) }

@@ -20,8 +20,8 @@ pub enum PhaseFault {
     NoThread,
 }
 
-/// Carries out phases on the cells of a table, with the meaning of one worker that takes the keys in
-/// list order. A call may wait for ever; what it promises holds where it returns.
+/// Carries out phases on the cells of a table, with the meaning of one worker that takes the keys
+/// in list order. A call may wait for ever; what it promises holds where it returns.
 pub trait Runner {
     /// Inserts or removes the keys. On a fault the cells are as they were.
     fn change<R: Wait>(

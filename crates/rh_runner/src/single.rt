@@ -14,7 +14,8 @@ use rh_probe::find;
 use std::alloc::Global;
 use std::sync::Wait;
 
-/// Carries out each phase itself, on the calling thread. Only a look-up takes memory, for its answers.
+/// Carries out each phase itself, on the calling thread. Only a look-up takes memory, for its
+/// answers.
 #[derive(Clone, Copy, Debug, PartialEq, Eq)]
 pub struct Single;
 

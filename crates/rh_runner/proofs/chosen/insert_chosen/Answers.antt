@@ -24,8 +24,9 @@ loop-n-preserved g c =
     let done = c.loop-n.invariant.0 in
     let batch = take c.in_ok-n.n c.next_keys.new.batch in
     let ran = ran_chosen c.args.wanted S c.args.bits done batch c.args.cells.now.items c.loop-n.cells.items c.insert_batch.new.cells.items c.loop-n.tally c.in_ok-told.told c.loop-n.invariant.2 c.in_ok-told.ensures.done in
-    let sums = rw c.unwrap-tally.ensures at c.joined.ensures.sums in
-    (_,
+    let sums = rw c.unwrap-tally.ensures at c.joined.ensures.sums in (
+      _,
       more_came c.loop-n.invariant.1 _ c.next_keys.new.batch _ c.in_ok-n.n c.in_ok-n.ensures.gives c.if-n-eq0.false c.in_ok-n.ensures.room c.in_ok-n.ensures.left c.in_ok-n.ensures.in_range,
       record { layout = ran.layout; held = ran.held; tally = sums ∙ ran.tally },
-      omega (arith, length_chosen-append c.args.wanted S done batch, c.loop-n.invariant.3, c.in_ok-told.ensures.few, read_of c.in_ok-told.ensures.done))
+      omega (arith, length_chosen-append c.args.wanted S done batch, c.loop-n.invariant.3, c.in_ok-told.ensures.few, read_of c.in_ok-told.ensures.done),
+    )

@@ -1,4 +1,4 @@
-use Rattle.std.proofs.Common.{◌∙◌, ◌++◌, arith, take, length-append, length-take, false, ap}
+use Rattle.std.proofs.Common.{◌∙◌, ◌++◌, arith, take, length-append, length-take, false}
 use Rattle.rh_layout.specs.Layout.{keys_of}
 use Rattle.rh_ledger.specs.declared.tally.Kind.TheVariants.{Remove}
 use Rattle.rh_runner.specs.Lists.{Ran}
@@ -21,7 +21,7 @@ change-requires-clause-room g c = omega (arith, removed-le c.loop-n.invariant.2,
 pub unwrap-tally-requires : goal.unwrap-tally-requires
 unwrap-tally-requires g c =
     let next : Ran Remove c.args.bits (take c.in_ok-n.n c.next_keys.new.batch) c.loop-n.cells.items c.change.new.cells.items c.in_ok-told.told =
-      record { layout = c.in_ok-told.ensures.layout; held = c.in_ok-told.ensures.keys; tally = c.in_ok-told.ensures.tally } in
+    record { layout = c.in_ok-told.ensures.layout; held = c.in_ok-told.ensures.keys; tally = c.in_ok-told.ensures.tally } in
     c.joined.ensures.fits.1
     (tally_fits (more_ran c.loop-n.invariant.2 next)
     (simp (length-append, length-take) (omega (arith, c.loop-n.invariant.1.long, c.in_ok-n.ensures.left, c.left-most.ensures, c.left-most.type_inv))))
@@ -30,10 +30,11 @@ pub loop-n-preserved : goal.loop-n-preserved
 loop-n-preserved g c =
     let batch = take c.in_ok-n.n c.next_keys.new.batch in
     let next : Ran Remove c.args.bits (take c.in_ok-n.n c.next_keys.new.batch) c.loop-n.cells.items c.change.new.cells.items c.in_ok-told.told =
-      record { layout = c.in_ok-told.ensures.layout; held = c.in_ok-told.ensures.keys; tally = c.in_ok-told.ensures.tally } in
+    record { layout = c.in_ok-told.ensures.layout; held = c.in_ok-told.ensures.keys; tally = c.in_ok-told.ensures.tally } in
     let ran = more_ran c.loop-n.invariant.2 next in
-    let sums = rw c.unwrap-tally.ensures at c.joined.ensures.sums in
-    (_,
+    let sums = rw c.unwrap-tally.ensures at c.joined.ensures.sums in (
+      _,
       more_came c.loop-n.invariant.1 _ c.next_keys.new.batch _ c.in_ok-n.n c.in_ok-n.ensures.gives c.if-n-eq0.false c.in_ok-n.ensures.room c.in_ok-n.ensures.left c.in_ok-n.ensures.in_range,
       record { layout = ran.layout; held = ran.held; tally = sums ∙ ran.tally },
-      count_more false (keys_of c.args.old.now) c.loop-n.invariant.0 batch c.deref.result.now c.loop-n.absent c.count_wanted.result c.loop-n.invariant.3 c.count_wanted.ensures (rw c.deref.ensures.value c.in_ok-found.ensures))
+      count_more false (keys_of c.args.old.now) c.loop-n.invariant.0 batch c.deref.result.now c.loop-n.absent c.count_wanted.result c.loop-n.invariant.3 c.count_wanted.ensures (rw c.deref.ensures.value c.in_ok-found.ensures),
+    )

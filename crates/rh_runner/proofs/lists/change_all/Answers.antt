@@ -1,5 +1,4 @@
 use Rattle.std.proofs.Common.{◌∙◌, arith, take, length-append, length-take}
-use Rattle.rh_ledger.specs.declared.tally.Kind.{Kind}
 use Rattle.rh_runner.specs.Lists.{Ran}
 use Rattle.rh_runner.proofs.ListLemmas.{more_came, more_ran, room_left, tally_fits}
 use Rattle.rh_runner.proofs.lists.change_all.Goals as goal
@@ -12,7 +11,7 @@ change-requires-clause-room g c =
 pub unwrap-tally-requires : goal.unwrap-tally-requires
 unwrap-tally-requires g c =
     let next : Ran c.args.kind c.args.bits (take c.in_ok-n.n c.next_keys.new.batch) c.loop-n.cells.items c.change.new.cells.items c.in_ok-told.told =
-      record { layout = c.in_ok-told.ensures.layout; held = c.in_ok-told.ensures.keys; tally = c.in_ok-told.ensures.tally } in
+    record { layout = c.in_ok-told.ensures.layout; held = c.in_ok-told.ensures.keys; tally = c.in_ok-told.ensures.tally } in
     c.joined.ensures.fits.1
     (tally_fits (more_ran c.loop-n.invariant.2 next)
     (simp (length-append, length-take) (omega (arith, c.loop-n.invariant.1.long, c.in_ok-n.ensures.left, c.left-most.ensures, c.left-most.type_inv))))
@@ -20,9 +19,10 @@ unwrap-tally-requires g c =
 pub loop-n-preserved : goal.loop-n-preserved
 loop-n-preserved g c =
     let next : Ran c.args.kind c.args.bits (take c.in_ok-n.n c.next_keys.new.batch) c.loop-n.cells.items c.change.new.cells.items c.in_ok-told.told =
-      record { layout = c.in_ok-told.ensures.layout; held = c.in_ok-told.ensures.keys; tally = c.in_ok-told.ensures.tally } in
+    record { layout = c.in_ok-told.ensures.layout; held = c.in_ok-told.ensures.keys; tally = c.in_ok-told.ensures.tally } in
     let ran = more_ran c.loop-n.invariant.2 next in
-    let sums = rw c.unwrap-tally.ensures at c.joined.ensures.sums in
-    (_,
+    let sums = rw c.unwrap-tally.ensures at c.joined.ensures.sums in (
+      _,
       more_came c.loop-n.invariant.1 _ c.next_keys.new.batch _ c.in_ok-n.n c.in_ok-n.ensures.gives c.if-n-eq0.false c.in_ok-n.ensures.room c.in_ok-n.ensures.left c.in_ok-n.ensures.in_range,
-      record { layout = ran.layout; held = ran.held; tally = sums ∙ ran.tally })
+      record { layout = ran.layout; held = ran.held; tally = sums ∙ ran.tally },
+    )

@@ -1,0 +1,273 @@
+use super::*;
+use rh_edit::SeqSet;
+use rh_files::HeldKeys;
+use rh_layout::is_layout;
+use rh_ledger::{Kind, Tally};
+use std::alloc::Global;
+use std::sync::Wait;
+use std::test::Fail;
+
+const NOTHING: Tally = Tally {
+    read: 0,
+    added: 0,
+    removed: 0,
+    found: 0,
+};
+
+// More keys than one batch has.
+const MANY: usize = 5_000;
+
+// The keys from 1 to MANY.
+fn many_keys() -> [u64; MANY] {
+    let mut keys = [0; MANY];
+    for (i, key) in keys.iter_mut().enumerate() {
+        *key = i as u64 + 1;
+    }
+    keys
+}
+
+#[test]
+fn a_long_list_changes_a_table(rt: HostRuntime) -> Result<(), Fail> {
+    let keys = many_keys();
+    assert!(rt; keys.iter().all(|key| *key <= 5_000));
+    let set = SeqSet::new(rt.alloc(), 13)?;
+    assert!(rt; set.len() == 0);
+    let mut cells = set.into_cells();
+    assert!(rt; is_layout(13, &cells));
+    let mut list = HeldKeys::new(&keys);
+    let told = change_all(
+        &rt,
+        rt.alloc(),
+        &mut Single,
+        Kind::Insert,
+        13,
+        &mut cells,
+        &mut list,
+    )?;
+    assert_eq!(rt;
+        told,
+        Tally {
+            read: 5_000,
+            added: 5_000,
+            ..NOTHING
+        }
+    );
+    let all = SeqSet::from_keys(rt.alloc(), 13, &keys)?;
+    assert_eq!(rt; cells.as_slice(), all.cells());
+    Ok(())
+}
+
+#[test]
+fn a_long_list_is_looked_up(rt: HostRuntime) -> Result<(), Fail> {
+    let keys = many_keys();
+    assert!(rt; keys.iter().all(|key| *key <= 5_000));
+    let set = SeqSet::from_keys(rt.alloc(), 3, &[1, 9, 17])?;
+    assert!(rt; set.bits() == 3);
+    let mut list = HeldKeys::new(&keys);
+    let found = ask_all(&rt, rt.alloc(), &mut Single, 3, set.cells(), &mut list)?;
+    assert_eq!(rt; found.len(), 5_000);
+    assert_eq!(rt; found.iter().position(|there| *there), Some(0));
+    assert_eq!(rt; found.iter().filter(|there| **there).count(), 3);
+    for (wanted, many) in [(true, 3), (false, 4_997)] {
+        let mut list = HeldKeys::new(&keys);
+        let told = count_chosen(
+            &rt,
+            rt.alloc(),
+            &mut Single,
+            wanted,
+            3,
+            set.cells(),
+            &mut list,
+        )?;
+        assert_eq!(rt; told, many);
+    }
+    assert_eq!(rt; read_through(&mut HeldKeys::new(&keys)), Ok(()));
+    Ok(())
+}
+
+// The old table holds 1, 9 and 17.
+#[test]
+fn chosen_keys_of_a_long_list(rt: HostRuntime) -> Result<(), Fail> {
+    let keys = many_keys();
+    assert!(rt; keys.iter().all(|key| *key <= 5_000));
+    let old = SeqSet::from_keys(rt.alloc(), 3, &[1, 9, 17])?;
+    assert!(rt; old.bits() == 3);
+    for (many, told) in [
+        (4_996, Err(ListFault::Changed)),
+        (
+            4_997,
+            Ok(Tally {
+                read: 4_997,
+                added: 4_997,
+                ..NOTHING
+            }),
+        ),
+        (4_998, Err(ListFault::Changed)),
+    ] {
+        let set = SeqSet::new(rt.alloc(), 13)?;
+        assert!(rt; set.len() == 0 && many < 5_000);
+        let mut cells = set.into_cells();
+        assert!(rt; is_layout(13, &cells));
+        let mut list = HeldKeys::new(&keys);
+        assert_eq!(rt;
+            insert_chosen(
+                &rt,
+                rt.alloc(),
+                &mut Single,
+                false,
+                many,
+                3,
+                old.cells(),
+                13,
+                &mut cells,
+                &mut list,
+            ),
+            told
+        );
+    }
+    Ok(())
+}
+
+// Each row: whether the keys are wanted that are there, how many an earlier reading found, and what
+// comes of the list 9, 3, 3, 17 in the table of 1, 9 and 17.
+const CHOICES: [(bool, u64, Result<Tally, ListFault>); 5] = [
+    (false, 1, Err(ListFault::Changed)),
+    (
+        false,
+        2,
+        Ok(Tally {
+            read: 2,
+            added: 1,
+            ..NOTHING
+        }),
+    ),
+    (false, 3, Err(ListFault::Changed)),
+    (true, 2, Ok(Tally { read: 2, ..NOTHING })),
+    (true, 0, Err(ListFault::Changed)),
+];
+
+#[test]
+fn chosen_keys_of_a_short_list(rt: HostRuntime) -> Result<(), Fail> {
+    let old = SeqSet::from_keys(rt.alloc(), 3, &[1, 9, 17])?;
+    assert!(rt; old.bits() == 3);
+    for (wanted, many, told) in CHOICES {
+        let set = SeqSet::from_keys(rt.alloc(), 3, &[1, 9, 17])?;
+        assert!(rt; set.len() < 4 && many < 4);
+        let mut cells = set.into_cells();
+        assert!(rt; is_layout(3, &cells));
+        let mut list = HeldKeys::new(&[9, 3, 3, 17]);
+        assert_eq!(rt;
+            insert_chosen(
+                &rt,
+                rt.alloc(),
+                &mut Single,
+                wanted,
+                many,
+                3,
+                old.cells(),
+                3,
+                &mut cells,
+                &mut list,
+            ),
+            told
+        );
+    }
+    Ok(())
+}
+
+// 3 is in cell 7 of the table of 1, 3, 9 and 17, and 9 in cell 5, before 17.
+#[test]
+fn keys_are_removed_and_the_absent_counted(rt: HostRuntime) -> Result<(), Fail> {
+    let old = SeqSet::from_keys(rt.alloc(), 3, &[1, 9, 17])?;
+    assert!(rt; old.bits() == 3);
+    let set = SeqSet::from_keys(rt.alloc(), 3, &[1, 9, 17, 3])?;
+    assert!(rt; set.len() < 8);
+    let mut cells = set.into_cells();
+    assert!(rt; is_layout(3, &cells));
+    let mut list = HeldKeys::new(&[9, 3, 3, 9]);
+    let told = remove_and_count_absent(
+        &rt,
+        rt.alloc(),
+        &mut Single,
+        3,
+        old.cells(),
+        &mut cells,
+        &mut list,
+    )?;
+    assert_eq!(rt;
+        told,
+        (
+            Tally {
+                read: 4,
+                removed: 2,
+                ..NOTHING
+            },
+            2
+        )
+    );
+    assert_eq!(rt; cells.as_slice(), [0, 0, 0, 0, 2, 18, 0, 0].as_slice());
+    Ok(())
+}
+
+#[derive(Drop)]
+struct Refusing;
+
+impl Runner for Refusing {
+    fn change<R: Wait>(
+        &mut self,
+        _rt: &R,
+        _alloc: Global,
+        _kind: Kind,
+        _bits: u32,
+        _cells: &mut Vec<u64>,
+        _keys: &[u64],
+    ) -> Result<Tally, PhaseFault> {
+        Err(PhaseFault::Memory)
+    }
+
+    fn ask<R: Wait>(
+        &mut self,
+        _rt: &R,
+        _alloc: Global,
+        _bits: u32,
+        _cells: &[u64],
+        _keys: &[u64],
+    ) -> Result<Vec<bool>, PhaseFault> {
+        Err(PhaseFault::NoThread)
+    }
+}
+
+#[test]
+fn faults_of_the_runner_are_told(rt: HostRuntime) -> Result<(), Fail> {
+    let set = SeqSet::from_keys(rt.alloc(), 3, &[1, 9, 17])?;
+    assert!(rt; set.bits() == 3 && set.len() < 4);
+    let no_thread = ListFault::Phase(PhaseFault::NoThread);
+    let mut list = HeldKeys::new(&[9, 3]);
+    let asked = ask_all(&rt, rt.alloc(), &mut Refusing, 3, set.cells(), &mut list);
+    assert_eq!(rt; asked.map(|_| ()), Err(no_thread));
+    let mut list = HeldKeys::new(&[9, 3]);
+    let counted = count_chosen(
+        &rt,
+        rt.alloc(),
+        &mut Refusing,
+        true,
+        3,
+        set.cells(),
+        &mut list,
+    );
+    assert_eq!(rt; counted, Err(no_thread));
+    let mut cells = set.into_cells();
+    assert!(rt; is_layout(3, &cells));
+    let mut list = HeldKeys::new(&[9, 3]);
+    let changed = change_all(
+        &rt,
+        rt.alloc(),
+        &mut Refusing,
+        Kind::Remove,
+        3,
+        &mut cells,
+        &mut list,
+    );
+    assert_eq!(rt; changed, Err(ListFault::Phase(PhaseFault::Memory)));
+    Ok(())
+}
