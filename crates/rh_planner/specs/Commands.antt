@@ -1,6 +1,7 @@
 -- What the commands that change the set make of it.
 use Rattle.std.specs.Prelude.{◌≡◌, ℕ, ◌+◌, true, false, List, length, Ok}
 use Rattle.std.specs.FinSet as set
+use Rattle.rh_layout.specs.Layout.{Keys}
 use Rattle.rh_layout.specs.declared.limits.TheConstants.{MIN_BITS}
 use Rattle.rh_edit.specs.Held.{Held}
 use Rattle.rh_ledger.specs.declared.tally.Kind.TheVariants.{Insert, Remove}
@@ -27,9 +28,13 @@ pub record Kept (keys : List ℕ) (old new : Held) (found : ℕ) : Type 0 where
   pub held : new.keys ≡ set_after Insert set.empty (chosen true old.keys keys)
   pub counted : found ≡ length (chosen true old.keys keys)
 
+-- how many keys a table is to hold while the list is flipped, its places counted
+abbrev pub flipped_most : Keys → List ℕ → ℕ
+flipped_most S keys = set.len (set_after Remove S keys) + length (chosen false S keys)
+
 -- those that were held were taken out, and the others were added
 pub record Flipped (keys : List ℕ) (old new : Held) (told : Tally × Tally) : Type 0 where
-  pub size : size_for old.bits (set.len (set_after Remove old.keys keys) + length (chosen false old.keys keys)) ≡ Ok new.bits
+  pub size : size_for old.bits (flipped_most old.keys keys) ≡ Ok new.bits
   pub held : new.keys ≡ set_after Insert (set_after Remove old.keys keys) (chosen false old.keys keys)
   pub removed : told.0 ≡ tally_of Remove old.keys keys
   pub added : told.1 ≡ tally_of Insert (set_after Remove old.keys keys) (chosen false old.keys keys)

@@ -12,7 +12,7 @@ ghost use Rattle.rh_layout.specs.declared.limits.TheConstants.{MIN_BITS};
 ghost use Rattle.rh_planner.specs.Ends.{IsOutside, KeepsShelf, RefusedBy};
 ghost use Rattle.rh_planner.specs.KeyLists.{Stands};
 ghost use Rattle.rh_planner.specs.Meaning.{keys_in, size_for};
-ghost use Rattle.rh_planner.specs.Commands.{Added, Dropped, Flipped, Kept};
+ghost use Rattle.rh_planner.specs.Commands.{Added, Dropped, Flipped, Kept, flipped_most};
 
 use crate::fault::Cause;
 use crate::key_lists::KeyList;
@@ -207,4 +207,60 @@ fn insert_listed<T: Wait, S: Shelf, N: Runner>(
         cells,
         &mut keys,
     )?)
+}
+
+/// Takes the keys of the list that the set holds out of it, and adds the others, in a table that
+/// has grown for those; answers what was counted of the two. The list is read twice.
+pub(crate) fn flip<T: Wait, S: Shelf, N: Runner>(
+    rt: &T,
+    alloc: Global,
+    shelf: &mut S,
+    runner: &mut N,
+    set: &mut SeqSet,
+    list: &KeyList<'_>,
+) -> Result<(Tally, Tally), Cause>
+    ensures flipped { (keys : List ℕ) → Stands (S.files shelf.old) list.now keys →
+        IfOk result (Flipped keys set.old set.new) }
+    ensures refused { (keys : List ℕ) → Stands (S.files shelf.old) list.now keys → IfErr result
+        (RefusedBy (size_for set.old.bits (flipped_most set.old.keys keys))
+        (S.failures shelf.old) (S.failures shelf.new)) }
+    ensures shelf { KeepsShelf (S.files shelf.old) (S.files shelf.new) (S.failures shelf.old)
+        (S.failures shelf.new) result }
+{
+    let (rest, removed, absent) = without_listed(rt, alloc, shelf, runner, set, list)?;
+    let (bits, mut cells) = grown(alloc, &rest, absent)?;
+    let added = insert_listed(
+        rt, alloc, shelf, runner, false, absent, set, bits, &mut cells, list,
+    )?;
+    *set = SeqSet::from_cells(bits, cells);
+    Ok((removed, added))
+}
+
+/// A copy of the set without the keys of the list, what was counted, and how many places of the
+/// list have a key that the set does not hold.
+fn without_listed<T: Wait, S: Shelf, N: Runner>(
+    rt: &T,
+    alloc: Global,
+    shelf: &mut S,
+    runner: &mut N,
+    set: &SeqSet,
+    list: &KeyList<'_>,
+) -> Result<(SeqSet, Tally, u64), Cause>
+    ensures dropped { (keys : List ℕ) → Stands (S.files shelf.old) list.now keys →
+        IfOk result (λ r. Dropped keys set.now r.0 r.1) }
+    ensures absent { (keys : List ℕ) → Stands (S.files shelf.old) list.now keys →
+        IfOk result (λ r. r.2 ≡ length (chosen false set.now.keys keys)) }
+    ensures refused { (keys : List ℕ) → Stands (S.files shelf.old) list.now keys →
+        IfErr result (IsOutside (S.failures shelf.old) (S.failures shelf.new)) }
+    ensures shelf { KeepsShelf (S.files shelf.old) (S.files shelf.new) (S.failures shelf.old)
+        (S.failures shelf.new) result }
+{
+    let mut reader = open_list(alloc, shelf, list)?;
+    let mut keys = keys_again(&mut reader, list.count)?;
+    let (bits, old) = (set.bits(), set.cells());
+    let mut cells = copied(alloc, old)?;
+    let (removed, absent) = remove_and_count_absent(
+        rt, alloc, runner, bits, old, &mut cells, &mut keys,
+    )?;
+    Ok((SeqSet::from_cells(bits, cells), removed, absent))
 }

@@ -11,7 +11,7 @@ use rh_edit::SeqSet;
 use rh_grow::{bits_for, grow};
 use std::alloc::{AllocError, Global};
 
-#[tactic(auto, using(crate::proofs::SizeLemmas::sized, crate::proofs::SizeLemmas::not_sized, crate::proofs::SizeLemmas::fits_below, rh_layout::proofs::LayoutLemmas::layout_own, rh_layout::proofs::LayoutLemmas::layout_keys))]
+#[tactic(auto, using(crate::proofs::SizeLemmas::sized, crate::proofs::SizeLemmas::not_sized, crate::proofs::SizeLemmas::fits_below))]
 /// A copy of the set's table that takes `more` keys too, and its bits: the least that do, and none
 /// fewer.
 pub(crate) fn grown(alloc: Global, set: &SeqSet, more: u64) -> Result<(u32, Vec<u64>), Cause>
