@@ -1,9 +1,9 @@
 -- How the run of a script ends.
-use Rattle.std.specs.Prelude.{◌≡◌, ℕ, ◌⊎◌, List, [], ◌∷◌, ◌++◌, length, take, Option, Some, None, Result, Ok, Err, OnOk, IfErr}
+use Rattle.std.specs.Prelude.{◌≡◌, ℕ, ◌⊎◌, List, [], ◌∷◌, ◌++◌, length, Option, Some, None, Result, Ok, Err, OnOk, IfErr}
 use Rattle.std.specs.FinSet as set
 use Rattle.std.specs.Io.KnownBytes.{Appends}
 use Rattle.rh_files.specs.declared.fault.KeyFault.TheVariants as faults
-use Rattle.rh_files.specs.Counting.{Rose}
+use Rattle.rh_files.specs.Counting.{AppendsFront, Rose}
 use Rattle.rh_script.specs.Instruction.{Numbered}
 use Rattle.rh_shelf.specs.Shelf.{Files}
 use Rattle.rh_report.specs.Account.{Account, Says}
@@ -41,11 +41,18 @@ pub record KeepsShelf {X : Type 0} (files files' : Option Files) (failures failu
   pub fine : OnOk r (failures' ≡ failures)
   pub missing : IfErr r (λ cause. cause ≡ Missing → files ≡ None → Rose failures failures')
 
--- what was written before a command that was refused, and why it was refused
-abbrev pub EndsBy : Outcome → (failures failures' : ℕ) → Option (List ℕ) → Option (List ℕ) → List ℕ → Cause → Type 0
-EndsBy outcome n m old new text Write =
-    (done : World × Account) × (more : List ℕ) × (front : ℕ) × (outcome ≡ Ok done) × Says done.1 more × Appends old new (text ++ take front more)
-EndsBy outcome n m old new text cause = Appends old new text × RefusedBy outcome n m cause
+-- a text that says this account was appended
+abbrev pub Tells : Account → Option (List ℕ) → Option (List ℕ) → Type 0
+Tells account old new = (text : List ℕ) × Says account text × Appends old new text
+
+-- a front of a text that says this account was appended
+abbrev pub TellsFront : Account → Option (List ℕ) → Option (List ℕ) → Type 0
+TellsFront account old new = (text : List ℕ) × Says account text × AppendsFront old new text
+
+-- A command was refused and told nothing; or its account could not be written whole.
+abbrev pub EndsBy : Outcome → (failures failures' : ℕ) → Option (List ℕ) → Option (List ℕ) → Cause → Type 0
+EndsBy outcome n m old new cause =
+    (Appends old new [] × RefusedBy outcome n m cause) ⊎ ((cause ≡ Write) × (done : World × Account) × (outcome ≡ Ok done) × TellsFront done.1 old new)
 
 -- All steps were carried out: the text is what they have to report, and the report counts them and tells the table.
 pub record Done (files : Files) (now : Option Files) (steps : List Numbered) (old new : Option (List ℕ)) (report : Report) : Type 0 where
@@ -71,7 +78,9 @@ pub record Stopped (files : Files) (failures failures' : ℕ) (steps : List Numb
   pub text : List ℕ
   pub means : meaning (start files) before ≡ Ok (world, accounts)
   pub says : SaysAll accounts text
-  pub ends : EndsBy (outcome_of world step.instruction) failures failures' old new text fault.cause
+  pub middle : Option (List ℕ)
+  pub written : Appends old middle text
+  pub ends : EndsBy (outcome_of world step.instruction) failures failures' middle new fault.cause
 
 -- memory ran out before the first command
 abbrev pub NotBegun : Option (List ℕ) → Option (List ℕ) → RunFault → Type 0

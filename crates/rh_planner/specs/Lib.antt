@@ -4,3 +4,4 @@ pub mod Meaning
 pub mod Ends
 pub mod KeyLists
 pub mod Commands
+pub mod Steps

@@ -37,6 +37,7 @@ pub(crate) fn use_file<S: Shelf>(alloc: Global, shelf: &mut S, path: &str) -> Re
         (RefusedBy (keys_in (files path.now)) (S.failures shelf.old) (S.failures shelf.new)) }
     ensures shelf { KeepsShelf (S.files shelf.old) (S.files shelf.new) (S.failures shelf.old)
         (S.failures shelf.new) result }
+    ensures no_write { IfErr result (λ cause. cause ≡ Cause.Write → ⊥) }
 {
     let mut reader = Counted::new(fetched(alloc, shelf, path)?);
     let mut keys = open_keys(&mut reader)?;
@@ -61,6 +62,7 @@ pub(crate) fn add<T: Wait, S: Shelf, N: Runner>(
         (S.failures shelf.old) (S.failures shelf.new)) }
     ensures shelf { KeepsShelf (S.files shelf.old) (S.files shelf.new) (S.failures shelf.old)
         (S.failures shelf.new) result }
+    ensures no_write { IfErr result (λ cause. cause ≡ Cause.Write → ⊥) }
 {
     let mut reader = open_list(alloc, shelf, list)?;
     let mut keys = keys_again(&mut reader, list.count)?;
@@ -85,6 +87,7 @@ pub(crate) fn drop_keys<T: Wait, S: Shelf, N: Runner>(
         IfErr result (IsOutside (S.failures shelf.old) (S.failures shelf.new)) }
     ensures shelf { KeepsShelf (S.files shelf.old) (S.files shelf.new) (S.failures shelf.old)
         (S.failures shelf.new) result }
+    ensures no_write { IfErr result (λ cause. cause ≡ Cause.Write → ⊥) }
 {
     let mut reader = open_list(alloc, shelf, list)?;
     let mut keys = keys_again(&mut reader, list.count)?;
@@ -110,6 +113,7 @@ pub(crate) fn ask<T: Wait, S: Shelf, N: Runner>(
         IfErr result (IsOutside (S.failures shelf.old) (S.failures shelf.new)) }
     ensures shelf { KeepsShelf (S.files shelf.old) (S.files shelf.new) (S.failures shelf.old)
         (S.failures shelf.new) result }
+    ensures no_write { IfErr result (λ cause. cause ≡ Cause.Write → ⊥) }
 {
     let mut reader = open_list(alloc, shelf, list)?;
     let mut keys = keys_again(&mut reader, list.count)?;
@@ -133,6 +137,7 @@ pub(crate) fn keep<T: Wait, S: Shelf, N: Runner>(
         (S.failures shelf.old) (S.failures shelf.new)) }
     ensures shelf { KeepsShelf (S.files shelf.old) (S.files shelf.new) (S.failures shelf.old)
         (S.failures shelf.new) result }
+    ensures no_write { IfErr result (λ cause. cause ≡ Cause.Write → ⊥) }
 {
     let found = count_found(rt, alloc, shelf, runner, set, list)?;
     let empty = SeqSet::new(alloc, MIN_BITS)?;
@@ -159,6 +164,7 @@ fn count_found<T: Wait, S: Shelf, N: Runner>(
         IfErr result (IsOutside (S.failures shelf.old) (S.failures shelf.new)) }
     ensures shelf { KeepsShelf (S.files shelf.old) (S.files shelf.new) (S.failures shelf.old)
         (S.failures shelf.new) result }
+    ensures no_write { IfErr result (λ cause. cause ≡ Cause.Write → ⊥) }
 {
     let mut reader = open_list(alloc, shelf, list)?;
     let mut keys = keys_again(&mut reader, list.count)?;
@@ -192,6 +198,7 @@ fn insert_listed<T: Wait, S: Shelf, N: Runner>(
         IfErr result (IsOutside (S.failures shelf.old) (S.failures shelf.new)) }
     ensures shelf { KeepsShelf (S.files shelf.old) (S.files shelf.new) (S.failures shelf.old)
         (S.failures shelf.new) result }
+    ensures no_write { IfErr result (λ cause. cause ≡ Cause.Write → ⊥) }
 {
     let mut reader = open_list(alloc, shelf, list)?;
     let mut keys = keys_again(&mut reader, list.count)?;
@@ -226,6 +233,7 @@ pub(crate) fn flip<T: Wait, S: Shelf, N: Runner>(
         (S.failures shelf.old) (S.failures shelf.new)) }
     ensures shelf { KeepsShelf (S.files shelf.old) (S.files shelf.new) (S.failures shelf.old)
         (S.failures shelf.new) result }
+    ensures no_write { IfErr result (λ cause. cause ≡ Cause.Write → ⊥) }
 {
     let (rest, removed, absent) = without_listed(rt, alloc, shelf, runner, set, list)?;
     let (bits, mut cells) = grown(alloc, &rest, absent)?;
@@ -254,6 +262,7 @@ fn without_listed<T: Wait, S: Shelf, N: Runner>(
         IfErr result (IsOutside (S.failures shelf.old) (S.failures shelf.new)) }
     ensures shelf { KeepsShelf (S.files shelf.old) (S.files shelf.new) (S.failures shelf.old)
         (S.failures shelf.new) result }
+    ensures no_write { IfErr result (λ cause. cause ≡ Cause.Write → ⊥) }
 {
     let mut reader = open_list(alloc, shelf, list)?;
     let mut keys = keys_again(&mut reader, list.count)?;

@@ -7,6 +7,7 @@ mod key_lists;
 mod opening;
 mod running;
 mod size;
+mod steps;
 
 pub use fault::{Cause, RunFault};
 pub use running::{Report, run};

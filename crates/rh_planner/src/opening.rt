@@ -47,6 +47,7 @@ pub(crate) fn open_list<'a, S: Shelf>(
         IfErr result (IsOutside (S.failures shelf.old) (S.failures shelf.new)) }
     ensures shelf { KeepsShelf (S.files shelf.old) (S.files shelf.new) (S.failures shelf.old)
         (S.failures shelf.new) result }
+    ensures no_write { IfErr result (λ cause. cause ≡ Cause.Write → ⊥) }
 {
     Ok(Counted::new(match &list.place {
         Place::Path(path) => ListReader::File(fetched(alloc, shelf, path)?),
@@ -65,6 +66,7 @@ pub(crate) fn keys_again<R: Read>(
     ensures refused { (keys : List ℕ) → HasKeys (R.remaining (inner_of reader.old)) keys →
         length keys ≡ count → IfErr result (IsOutside 0 0) }
     ensures not_missing { IfErr result (λ cause. cause ≡ Cause.Missing → ⊥) }
+    ensures no_write { IfErr result (λ cause. cause ≡ Cause.Write → ⊥) }
 {
     let keys = open_keys(reader)?;
     if keys.count() != count {

@@ -21,6 +21,7 @@ pub(crate) fn grown(alloc: Global, set: &SeqSet, more: u64) -> Result<(u32, Vec<
     ensures room { IfOk result (λ t. finset.len set.now.keys + more < 2 ^ t.0) }
     ensures refused { IfErr result
         (RefusedBy (size_for set.now.bits (finset.len set.now.keys + more)) 0 0) }
+    ensures no_write { IfErr result (λ cause. cause ≡ Cause.Write → ⊥) }
 {
     let Some(size) = bits_for(set.bits(), set.len() as u64, more) else {
         return Err(Cause::TooLarge);

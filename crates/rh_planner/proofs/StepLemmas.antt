@@ -1,0 +1,94 @@
+-- How a step ends.
+use Rattle.std.proofs.Common.{◌≡◌, ◌∙◌, ap, sym, refl, arith, ℕ, ◌+◌, true, false, cond, inl, inr, List, [], ◌∷◌, length, Option, Some, None, Result, Ok, Err}
+use Rattle.std.specs.FinSet as set
+use Rattle.std.specs.FinSet.{contains}
+use Rattle.std.specs.Io.KnownBytes.{Appends}
+use Rattle.std.proofs.KnownBytes.{Appends-nil}
+use Rattle.rh_edit.specs.Held.{Held}
+use Rattle.rh_layout.specs.Layout.{Keys}
+use Rattle.rh_ledger.specs.declared.tally.Kind.{Kind}
+use Rattle.rh_ledger.specs.declared.tally.Kind.TheVariants.{Insert, Remove, Ask}
+use Rattle.rh_ledger.specs.declared.tally.Tally.{Tally}
+use Rattle.rh_ledger.specs.Phase.{set_after, set_with, tally_of}
+use Rattle.rh_files.specs.Counting.{AppendsFront}
+use Rattle.rh_runner.specs.Lists.{chosen}
+use Rattle.rh_shelf.specs.Shelf.{Files}
+use Rattle.rh_report.specs.Account.{Account, Says}
+use Rattle.rh_report.specs.Account as accounts
+use Rattle.rh_planner.specs.declared.fault.Cause.{Cause}
+use Rattle.rh_planner.specs.declared.fault.Cause.TheVariants.{Write}
+use Rattle.rh_planner.specs.Meaning.{◌>>=◌, World, Outcome, adds, drops, keeps, flips, size_for}
+use Rattle.rh_planner.specs.Commands.{Added, Dropped, Kept, Flipped}
+use Rattle.rh_planner.specs.Ends.{EndsBy, IsOutside, RefusedBy, TellsFront}
+use Rattle.rh_planner.specs.Steps.{Named, world_of}
+use Rattle.rh_planner.specs.declared.key_lists.KeyList.{KeyList}
+use Rattle.rh_planner.specs.KeyLists.{Stands}
+
+-- the tally counts the keys of the list as read
+pub all_read : (kind : Kind) (S : Keys) (keys : List ℕ) → (tally_of kind S keys).read ≡ length keys
+all_read kind S [] = refl
+all_read Insert S (k ∷ keys) = omega (arith, all_read Insert (set_with Insert S k) keys)
+all_read Remove S (k ∷ keys) = omega (arith, all_read Remove (set_with Remove S k) keys)
+all_read Ask S (k ∷ keys) = omega (arith, all_read Ask S keys)
+
+-- ---- refusals
+
+pub step_refused : {Y : Type 0} (said : Result Y Cause) (make : Y → Outcome) (n m : ℕ) (old : Option (List ℕ)) (cause : Cause) → RefusedBy said n m cause → EndsBy (said >>= make) n m old old cause
+step_refused said make n m old cause (inl is) = inl (Appends-nil old, inl (ap (λ r. r >>= make) is))
+step_refused said make n m old cause (inr outside) = inl (Appends-nil old, inr outside)
+
+pub step_outside : (outcome : Outcome) (n m : ℕ) (old : Option (List ℕ)) (cause : Cause) → IsOutside n m cause → EndsBy outcome n m old old cause
+step_outside outcome n m old cause outside = inl (Appends-nil old, inr outside)
+
+pub not_told : (outcome : Outcome) (old new : Option (List ℕ)) (after : World) (account : Account) (text : List ℕ) → outcome ≡ Ok (after, account) → Says account text → AppendsFront old new text
+    → (Write ≡ Write) × (done : World × Account) × (outcome ≡ Ok done) × TellsFront done.1 old new
+not_told outcome old new after account text is says front = (refl, (after, account), is, (text, says, front))
+
+-- ---- what the commands make
+
+-- `held` and `bits` are those of the set after the command
+module _ (old new : Held) (lists : Named) (files : Files) (name keys : List ℕ) (held bits : ℕ) (held_is : held ≡ set.len new.keys) (bits_is : bits ≡ new.bits) where
+  pub adds_is : (t : Tally) → Added keys old new t → adds (world_of old lists files) name keys ≡ Ok (world_of new lists files, accounts.Added name t.read t.added held bits)
+  adds_is t added =
+      ap (λ r. r >>= (λ bits. Ok (record (world_of old lists files) { held = set_after Insert old.keys keys; bits = bits }, accounts.Added name (length keys) (tally_of Insert old.keys keys).added (set.len (set_after Insert old.keys keys)) bits))) added.size
+      ∙ (λ i. Ok (record (world_of old lists files) { held = sym added.held i; bits = new.bits }, accounts.Added name (read i) (sym added.tally i).added (set.len (sym added.held i)) new.bits))
+      ∙ (λ i. Ok (world_of new lists files, accounts.Added name t.read t.added (sym held_is i) (sym bits_is i)))
+    where
+      read : length keys ≡ t.read
+      read = sym (ap (λ (u : Tally). u.read) added.tally ∙ all_read Insert old.keys keys)
+
+  pub drops_is : (t : Tally) → Dropped keys old new t → drops (world_of old lists files) name keys ≡ Ok (world_of new lists files, accounts.Dropped name t.read t.removed held bits)
+  drops_is t dropped =
+      (λ i. Ok (record (world_of old lists files) { held = sym dropped.held i; bits = sym dropped.size i }, accounts.Dropped name (read i) (sym dropped.tally i).removed (set.len (sym dropped.held i)) (sym dropped.size i)))
+      ∙ (λ i. Ok (world_of new lists files, accounts.Dropped name t.read t.removed (sym held_is i) (sym bits_is i)))
+    where
+      read : length keys ≡ t.read
+      read = sym (ap (λ (u : Tally). u.read) dropped.tally ∙ all_read Remove old.keys keys)
+
+  pub keeps_is : (found read : ℕ) → length keys ≡ read → Kept keys old new found → keeps (world_of old lists files) name keys ≡ Ok (world_of new lists files, accounts.Kept name read found held bits)
+  keeps_is found read read_is kept =
+      ap (λ r. r >>= (λ bits. Ok (record (world_of old lists files) { held = set_after Insert set.empty (chosen true old.keys keys); bits = bits }, accounts.Kept name (length keys) (length (chosen true old.keys keys)) (set.len (set_after Insert set.empty (chosen true old.keys keys))) bits))) kept.size
+      ∙ (λ i. Ok (record (world_of old lists files) { held = sym kept.held i; bits = new.bits }, accounts.Kept name (read_is i) (sym kept.counted i) (set.len (sym kept.held i)) new.bits))
+      ∙ (λ i. Ok (world_of new lists files, accounts.Kept name read found (sym held_is i) (sym bits_is i)))
+
+  pub flips_is : (t : Tally × Tally) → Flipped keys old new t → flips (world_of old lists files) name keys ≡ Ok (world_of new lists files, accounts.Flipped name t.0.read t.0.removed t.1.added held bits)
+  flips_is t flipped =
+      ap (λ r. r >>= (λ bits. Ok (record (world_of old lists files) { held = after; bits = bits }, accounts.Flipped name (length keys) (tally_of Remove old.keys keys).removed (tally_of Insert left others).added (set.len after) bits))) flipped.size
+      ∙ (λ i. Ok (record (world_of old lists files) { held = sym flipped.held i; bits = new.bits }, accounts.Flipped name (read i) (sym flipped.removed i).removed (sym flipped.added i).added (set.len (sym flipped.held i)) new.bits))
+      ∙ (λ i. Ok (world_of new lists files, accounts.Flipped name t.0.read t.0.removed t.1.added (sym held_is i) (sym bits_is i)))
+    where
+      others : List ℕ
+      others = chosen false old.keys keys
+
+      left : Keys
+      left = set_after Remove old.keys keys
+
+      after : Keys
+      after = set_after Insert left others
+
+      read : length keys ≡ t.0.read
+      read = sym (ap (λ (u : Tally). u.read) flipped.removed ∙ all_read Remove old.keys keys)
+
+pub list_count : (files : Option Files) (list : KeyList) (keys : List ℕ) → Stands files list keys → length keys ≡ list.count
+list_count None list keys stands = absurd stands
+list_count (Some files) list keys stands = stands.3
