@@ -11,3 +11,4 @@ pub mod RemoveLemmas
 pub mod HeldOut
 pub mod PullLemmas
 pub mod RemoveLayout
+pub mod RisingLemmas

@@ -3,3 +3,4 @@ pub mod Held
 pub mod News
 pub mod Pull
 pub mod Put
+pub mod Rising

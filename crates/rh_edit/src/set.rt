@@ -1,9 +1,11 @@
 //! The set of one worker.
 
 ghost use Rattle.std.specs.Prelude.{◌≡◌, ◌+◌, ◌^◌, ◌<◌, All, IfOk, length, not};
+ghost use Rattle.std.specs.List.Sorted.{IsStrictlyIncreasing};
 ghost use Rattle.std.specs.FinSet as set;
 ghost use Rattle.rh_layout.specs.Key.{IsBits, IsKey};
 ghost use Rattle.rh_layout.specs.Layout.{IsLayout, Layout, keys_of};
+ghost use Rattle.rh_edit.specs.Rising.{rising_keys};
 
 use crate::{insertion, removal};
 use rh_layout::key_in;
@@ -153,5 +155,25 @@ impl SeqSet {
         ensures { result ≡ set.contains self.now.keys key }
     {
         find(self.bits, self.table.as_slice(), key).is_some()
+    }
+
+    /// The keys in rising order, in a vector of their own. `AllocError` comes only where a growth
+    /// was refused.
+    pub fn sorted_keys(&self, alloc: Global) -> Result<Vec<u64>, AllocError>
+        ensures items { IfOk result (λ v. v.items ≡ rising_keys self.now.keys) }
+        ensures rising { IfOk result (λ v. IsStrictlyIncreasing v.items) }
+        ensures held { IfOk result (λ v. set.from_list v.items ≡ self.now.keys) }
+        ensures many { IfOk result (λ v. length v.items ≡ set.len self.now.keys) }
+        ensures keys { IfOk result (λ v. All IsKey v.items) }
+        ensures few { IfOk result (λ v. length v.items < 2 ^ self.now.bits) }
+    {
+        let mut keys = Vec::with_capacity(alloc, self.len)?;
+        for value in &self.table {
+            if let Some(key) = key_in(*value) {
+                keys.push(key)?;
+            }
+        }
+        keys.sort_unstable();
+        Ok(keys)
     }
 }

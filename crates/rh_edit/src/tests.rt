@@ -48,3 +48,31 @@ fn news_of_a_segment(rt: HostRuntime) {
     remove_news(&[2, 10, 18, 0], 1, &mut back);
     assert_eq!(rt; back, [2, 18, 0, 0]);
 }
+
+// The keys 1, 9 and 17, whose home is cell 4.
+const THREE_CELLS: [u64; 8] = [0, 0, 0, 0, 2, 10, 18, 0];
+
+#[test]
+fn keys_in_rising_order(rt: HostRuntime) -> Result<(), Fail> {
+    for (keys, sorted) in [
+        ([9, 1, 17].as_slice(), [1, 9, 17].as_slice()),
+        // The table has 22 in its first cell, 6 in the next, and 17 in the last.
+        (&[16, 5, 21], &[5, 16, 21]),
+        (&[], &[]),
+    ] {
+        assert!(rt; keys.len() < 8 && keys.iter().all(|key| *key < 100));
+        let set = SeqSet::from_keys(rt.alloc(), 3, keys)?;
+        assert_eq!(rt; set.sorted_keys(rt.alloc())?.as_slice(), sorted);
+    }
+    Ok(())
+}
+
+#[test]
+fn cells_become_a_set_again(rt: HostRuntime) -> Result<(), Fail> {
+    let other = SeqSet::from_keys(rt.alloc(), 3, &[9, 1, 17])?;
+    let set = SeqSet::from_cells(3, other.into_cells());
+    assert_eq!(rt; set.bits(), 3);
+    assert_eq!(rt; set.len(), 3);
+    assert_eq!(rt; set.cells(), THREE_CELLS.as_slice());
+    Ok(())
+}

@@ -1,0 +1,15 @@
+-- The keys of a set in rising order.
+use Rattle.std.specs.Prelude.{ℕ, List, [], ◌∷◌}
+use Rattle.std.specs.Ordering.{nat_cmp}
+use Rattle.std.specs.BTreeSet.{insert_key}
+use Rattle.std.specs.FinSet as set
+use Rattle.rh_layout.specs.Layout.{Keys}
+
+-- the numbers of a list, each once and put before the greater ones
+abbrev pub put_in_order : List ℕ → List ℕ
+put_in_order [] = []
+put_in_order (k ∷ ks) = insert_key nat_cmp (put_in_order ks) k
+
+-- The keys of a set in rising order. Of the order of a set's `items` the library says nothing.
+unfoldable pub rising_keys : Keys → List ℕ
+rising_keys S = put_in_order (set.items S)
