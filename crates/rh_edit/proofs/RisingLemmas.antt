@@ -17,6 +17,8 @@ use Rattle.std.proofs.lemmas.List.Sums.{length-filter}
 use Rattle.std.proofs.lemmas.List.Sorted.{IsNonDecreasingBy-from_sort, IsPermutation-sym, Contains-permutation, length_permutation}
 use Rattle.std.proofs.lemmas.Map.Keys.{sorted_from_strictly_increasing, IsStrictlyIncreasing-from_distinct, IsDistinct-cons}
 use Rattle.std.proofs.lemmas.Map.Views.{Contains-from_any, list_any-from_Contains, All-from_any}
+use Rattle.std.proofs.Math.Pow.{pow_mono}
+use Rattle.rh_layout.specs.declared.limits.TheConstants.{MAX_BITS}
 use Rattle.rh_layout.specs.Key.{IsKey, key_in, is_full, cell_of}
 use Rattle.rh_layout.specs.Layout.{Keys, Layout, IsLayout, keys_of}
 use Rattle.rh_layout.proofs.SetLemmas.{same_keys}
@@ -156,7 +158,7 @@ pub record AreKeysOf (held : Held) (ys : List ℕ) : Type 0 where
   pub same : set.from_list ys ≡ held.keys
   pub many : length ys ≡ set.len held.keys
   pub keys : All IsKey ys
-  pub few : length ys < 2 ^ held.bits
+  pub few : length ys < 2 ^ MAX_BITS
 
 -- what the keys in the cells are once they are sorted
 module _ (cells : List ℕ) (b : ℕ) (layout : IsLayout b cells) (ys : List ℕ) (moved : IsPermutation (keys_in cells) ys) where
@@ -180,5 +182,5 @@ module _ (cells : List ℕ) (b : ℕ) (layout : IsLayout b cells) (ys : List ℕ
         same = set_of_moved;
         many = many_moved;
         keys = keys_moved;
-        few = omega (arith, many_moved, len, room);
+        few = omega (arith, many_moved, len, room, pow_mono {j = MAX_BITS} layout.bits.1);
       })

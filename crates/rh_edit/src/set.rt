@@ -5,6 +5,7 @@ ghost use Rattle.std.specs.List.Sorted.{IsStrictlyIncreasing};
 ghost use Rattle.std.specs.FinSet as set;
 ghost use Rattle.rh_layout.specs.Key.{IsBits, IsKey};
 ghost use Rattle.rh_layout.specs.Layout.{IsLayout, Layout, keys_of};
+ghost use Rattle.rh_layout.specs.declared.limits.TheConstants.{MAX_BITS};
 ghost use Rattle.rh_edit.specs.Rising.{rising_keys};
 
 use crate::{insertion, removal};
@@ -165,7 +166,7 @@ impl SeqSet {
         ensures held { IfOk result (λ v. set.from_list v.items ≡ self.now.keys) }
         ensures many { IfOk result (λ v. length v.items ≡ set.len self.now.keys) }
         ensures keys { IfOk result (λ v. All IsKey v.items) }
-        ensures few { IfOk result (λ v. length v.items < 2 ^ self.now.bits) }
+        ensures few { IfOk result (λ v. length v.items < 2 ^ MAX_BITS) }
     {
         let mut keys = Vec::with_capacity(alloc, self.len)?;
         for value in &self.table {

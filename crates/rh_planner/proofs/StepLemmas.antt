@@ -1,5 +1,5 @@
 -- How a step ends.
-use Rattle.std.proofs.Common.{◌≡◌, ◌∙◌, ap, sym, refl, arith, ℕ, ◌+◌, true, false, cond, inl, inr, List, [], ◌∷◌, length, Option, Some, None, Result, Ok, Err}
+use Rattle.std.proofs.Common.{◌≡◌, ◌∙◌, ap, sym, refl, arith, ℕ, ◌+◌, true, false, cond, inl, inr, List, [], ◌∷◌, ◌++◌, length, Option, Some, None, Result, Ok, Err}
 use Rattle.std.specs.FinSet as set
 use Rattle.std.specs.FinSet.{contains}
 use Rattle.std.specs.Io.KnownBytes.{Appends}
@@ -17,7 +17,7 @@ use Rattle.rh_report.specs.Account.{Account, Says}
 use Rattle.rh_report.specs.Account as accounts
 use Rattle.rh_planner.specs.declared.fault.Cause.{Cause}
 use Rattle.rh_planner.specs.declared.fault.Cause.TheVariants.{Write}
-use Rattle.rh_planner.specs.Meaning.{◌>>=◌, World, Outcome, adds, drops, keeps, flips, size_for}
+use Rattle.rh_planner.specs.Meaning.{◌>>=◌, World, Outcome, adds, drops, keeps, flips, keys_in, size_for, uses}
 use Rattle.rh_planner.specs.Commands.{Added, Dropped, Kept, Flipped}
 use Rattle.rh_planner.specs.Ends.{EndsBy, IsOutside, RefusedBy, TellsFront}
 use Rattle.rh_planner.specs.Steps.{Named, world_of}
@@ -92,3 +92,10 @@ module _ (old new : Held) (lists : Named) (files : Files) (name keys : List ℕ)
 pub list_count : (files : Option Files) (list : KeyList) (keys : List ℕ) → Stands files list keys → length keys ≡ list.count
 list_count None list keys stands = absurd stands
 list_count (Some files) list keys stands = stands.3
+
+-- ---- a list more
+
+pub uses_is : (set : Held) (named : Named) (files : Files) (name path keys : List ℕ) (count : ℕ) → keys_in (files path) ≡ Ok keys → length keys ≡ count → uses (world_of set named files) name path ≡ Ok (world_of set (named ++ (name, keys) ∷ []) files, accounts.Used name count)
+uses_is set named files name path keys count found many =
+    ap (λ r. r >>= (λ (keys : List ℕ). Ok (world_of set (named ++ (name, keys) ∷ []) files, accounts.Used name (length keys)))) found
+    ∙ (λ i. Ok (world_of set (named ++ (name, keys) ∷ []) files, accounts.Used name (many i)))

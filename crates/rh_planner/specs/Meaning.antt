@@ -6,6 +6,7 @@ use Rattle.std.specs.Str.{bytes_eq}
 use Rattle.std.specs.Map.{lookup}
 use Rattle.rh_layout.specs.Layout.{Keys}
 use Rattle.rh_layout.specs.declared.limits.TheConstants.{MIN_BITS}
+use Rattle.rh_edit.specs.Rising.{rising_keys}
 use Rattle.rh_ledger.specs.declared.tally.Kind.TheVariants.{Insert, Remove}
 use Rattle.rh_ledger.specs.Phase.{set_after, tally_of, looked_up}
 use Rattle.rh_files.specs.declared.fault.KeyFault.{KeyFault}
@@ -108,7 +109,7 @@ flips w name keys =
 
 -- the keys that are held become a list, in rising order
 abbrev pub saves : World → (name : List ℕ) → Outcome
-saves w name = Ok (named w name (set.items w.held), Saved name (set.len w.held))
+saves w name = Ok (named w name (rising_keys w.held), Saved name (set.len w.held))
 
 abbrev pub clears : World → Outcome
 clears w = Ok (record w { held = set.empty; bits = MIN_BITS }, Cleared)

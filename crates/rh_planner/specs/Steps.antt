@@ -30,3 +30,9 @@ names_of lists = map (λ named. named.0) lists
 abbrev pub StepEnds : Outcome → World → (failures failures' : ℕ) → Option (List ℕ) → Option (List ℕ) → Result (Unit {0}) Cause → Type 0
 StepEnds outcome after n m old new r =
     MatchResult r (λ _. (account : Account) × (outcome ≡ Ok (after, account)) × Tells account old new) (EndsBy outcome n m old new)
+
+-- A step made this set and these lists of the world that it found, and told its account; or it was refused, or could
+-- not be told.
+abbrev pub StateEnds : Outcome → Files → Held → List KeyList → (failures failures' : ℕ) → Option (List ℕ) → Option (List ℕ) → Result (Unit {0}) Cause → Type 0
+StateEnds outcome files set lists n m old new r =
+    MatchResult r (λ _. (named : Named) × (account : Account) × (outcome ≡ Ok (world_of set named files, account)) × ListsStand (Some files) lists named × Tells account old new) (EndsBy outcome n m old new)

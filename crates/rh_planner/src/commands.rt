@@ -9,17 +9,18 @@ ghost use Rattle.rh_runner.specs.Lists.{Ran, chosen};
 ghost use Rattle.rh_ledger.specs.declared.tally.Kind.TheVariants.{Insert};
 ghost use Rattle.rh_layout.specs.Layout.{IsLayout, keys_of};
 ghost use Rattle.rh_layout.specs.declared.limits.TheConstants.{MIN_BITS};
+ghost use Rattle.rh_edit.specs.Rising.{rising_keys};
 ghost use Rattle.rh_planner.specs.Ends.{IsOutside, KeepsShelf, RefusedBy};
 ghost use Rattle.rh_planner.specs.KeyLists.{Stands};
 ghost use Rattle.rh_planner.specs.Meaning.{keys_in, size_for};
 ghost use Rattle.rh_planner.specs.Commands.{Added, Dropped, Flipped, Kept, flipped_most};
 
 use crate::fault::Cause;
-use crate::key_lists::KeyList;
+use crate::key_lists::{KeyList, Place};
 use crate::opening::{fetched, keys_again, open_list};
 use crate::size::{copied, grown};
 use rh_edit::SeqSet;
-use rh_files::{Counted, open_keys};
+use rh_files::{Counted, open_keys, write_keys};
 use rh_layout::MIN_BITS;
 use rh_ledger::{Kind, Tally};
 use rh_runner::{
@@ -272,4 +273,22 @@ fn without_listed<T: Wait, S: Shelf, N: Runner>(
         rt, alloc, runner, bits, old, &mut cells, &mut keys,
     )?;
     Ok((SeqSet::from_cells(bits, cells), removed, absent))
+}
+
+/// The keys of the set, in rising order, as a list whose key file stands in memory.
+pub(crate) fn saved<'a>(alloc: Global, set: &SeqSet) -> Result<KeyList<'a>, Cause>
+    ensures saved { (files : Files) →
+        IfOk result (λ list. Stands (Some files) list (rising_keys set.now.keys)) }
+    ensures count { IfOk result (λ list. list.count ≡ finset.len set.now.keys) }
+    ensures memory { IfErr result (λ cause. cause ≡ Cause.Memory) }
+{
+    let keys = set.sorted_keys(alloc)?;
+    let mut file = Counted::new(Vec::new(alloc));
+    let Ok(()) = write_keys(&keys, &mut file) else {
+        return Err(Cause::Memory);
+    };
+    Ok(KeyList {
+        place: Place::Memory(file.into_inner()),
+        count: keys.len() as u64,
+    })
 }

@@ -1,19 +1,24 @@
 //! The commands with their reports.
 
-ghost use Rattle.std.specs.Prelude.{◌≡◌, ℕ, List, IfErr, OnOk};
+ghost use Rattle.std.specs.Prelude.{◌≡◌, ◌+◌, ℕ, List, Some, IfErr, OnOk, length};
+ghost use Rattle.rh_edit.specs.Held.{Held};
 ghost use Rattle.rh_files.specs.Counting.{Rose, failures_of, inner_of};
 ghost use Rattle.rh_shelf.specs.Shelf.{Files};
 ghost use Rattle.rh_planner.specs.Ends.{KeepsShelf};
 ghost use Rattle.rh_planner.specs.KeyLists.{Stands};
-ghost use Rattle.rh_planner.specs.Meaning.{adds, asks, drops, flips, keeps};
-ghost use Rattle.rh_planner.specs.Steps.{Named, StepEnds, world_of};
+ghost use Rattle.rh_planner.specs.Meaning.{adds, asks, clears, drops, dumps, flips, keeps, saves, uses};
+ghost use Rattle.rh_planner.specs.Steps.{ListsStand, Named, StateEnds, StepEnds, world_of};
 
-use crate::commands::{add, ask, drop_keys, flip, keep};
+use crate::commands::{add, ask, drop_keys, flip, keep, saved, use_file};
 use crate::fault::Cause;
-use crate::key_lists::KeyList;
+use crate::key_lists::{KeyList, Place};
 use rh_edit::SeqSet;
-use rh_files::Counted;
-use rh_report::{write_added, write_asked, write_dropped, write_flipped, write_kept};
+use rh_files::{Counted, write_dump};
+use rh_layout::MIN_BITS;
+use rh_report::{
+    write_added, write_asked, write_cleared, write_dropped, write_flipped, write_kept, write_saved,
+    write_used,
+};
 use rh_runner::Runner;
 use rh_shelf::Shelf;
 use std::alloc::Global;
@@ -151,5 +156,86 @@ pub(crate) fn flip_step<T: Wait, S: Shelf, N: Runner, W: Write>(
     let (out, into) = flip(rt, alloc, shelf, runner, set, list)?;
     let (held, bits) = (set.len() as u64, set.bits());
     write_flipped(writer, name, out.read, out.removed, into.added, held, bits)?;
+    Ok(())
+}
+
+/// `use`: the file at the path becomes a list.
+pub(crate) fn use_step<'a, S: Shelf, W: Write>(
+    alloc: Global,
+    shelf: &mut S,
+    writer: &mut Counted<W>,
+    lists: &mut Vec<KeyList<'a>>,
+    name: &str,
+    path: &'a str,
+) -> Result<(), Cause>
+    ensures step { (set : Held) (named : Named) (files : Files) →
+        S.files shelf.old ≡ Some files → ListsStand (Some files) lists.old.items named →
+        StateEnds (uses (world_of set named files) name.now path.now) files set lists.new.items
+        (S.failures shelf.old) (S.failures shelf.new)
+        (W.contents (inner_of writer.old)) (W.contents (inner_of writer.new)) result }
+    ensures more { OnOk result (length lists.new.items ≡ length lists.old.items + 1) }
+    ensures shelf { KeepsShelf (S.files shelf.old) (S.files shelf.new) (S.failures shelf.old)
+        (S.failures shelf.new) result }
+    ensures write { IfErr result (λ cause. cause ≡ Cause.Write →
+        Rose (failures_of writer.old) (failures_of writer.new)) }
+{
+    let count = use_file(alloc, shelf, path)?;
+    let place = Place::Path(path);
+    lists.push(KeyList { place, count })?;
+    write_used(writer, name, count)?;
+    Ok(())
+}
+
+/// `save`: the keys that are held become a list.
+pub(crate) fn save_step<W: Write>(
+    alloc: Global,
+    writer: &mut Counted<W>,
+    set: &SeqSet,
+    lists: &mut Vec<KeyList<'_>>,
+    name: &str,
+) -> Result<(), Cause>
+    ensures step { (named : Named) (files : Files) → ListsStand (Some files) lists.old.items named →
+        StateEnds (saves (world_of set.now named files) name.now) files set.now lists.new.items 0 0
+        (W.contents (inner_of writer.old)) (W.contents (inner_of writer.new)) result }
+    ensures more { OnOk result (length lists.new.items ≡ length lists.old.items + 1) }
+    ensures write { IfErr result (λ cause. cause ≡ Cause.Write →
+        Rose (failures_of writer.old) (failures_of writer.new)) }
+    ensures not_missing { IfErr result (λ cause. cause ≡ Cause.Missing → ⊥) }
+{
+    let list = saved(alloc, set)?;
+    let count = list.count;
+    lists.push(list)?;
+    write_saved(writer, name, count)?;
+    Ok(())
+}
+
+/// `clear`: no key is held, in a table of the least size.
+pub(crate) fn clear_step<W: Write>(
+    alloc: Global,
+    writer: &mut Counted<W>,
+    set: &mut SeqSet,
+) -> Result<(), Cause>
+    ensures step { (lists : Named) (files : Files) →
+        StepEnds (clears (world_of set.old lists files)) (world_of set.new lists files) 0 0
+        (W.contents (inner_of writer.old)) (W.contents (inner_of writer.new)) result }
+    ensures write { IfErr result (λ cause. cause ≡ Cause.Write →
+        Rose (failures_of writer.old) (failures_of writer.new)) }
+    ensures not_missing { IfErr result (λ cause. cause ≡ Cause.Missing → ⊥) }
+{
+    *set = SeqSet::new(alloc, MIN_BITS)?;
+    write_cleared(writer)?;
+    Ok(())
+}
+
+/// `dump`: the table is told.
+pub(crate) fn dump_step<W: Write>(writer: &mut Counted<W>, set: &SeqSet) -> Result<(), Cause>
+    ensures step { (lists : Named) (files : Files) →
+        StepEnds (dumps (world_of set.now lists files)) (world_of set.now lists files) 0 0
+        (W.contents (inner_of writer.old)) (W.contents (inner_of writer.new)) result }
+    ensures write { IfErr result (λ cause. cause ≡ Cause.Write →
+        Rose (failures_of writer.old) (failures_of writer.new)) }
+    ensures not_missing { IfErr result (λ cause. cause ≡ Cause.Missing → ⊥) }
+{
+    write_dump(set.bits(), set.cells(), writer)?;
     Ok(())
 }
