@@ -2,3 +2,4 @@ pub mod SizeLemmas
 pub mod CommandLemmas
 pub mod StepLemmas
 pub mod ListLemmas
+pub mod TaskLemmas

@@ -10,7 +10,7 @@ use Rattle.rh_report.specs.Account.{Account, Says}
 use Rattle.rh_planner.specs.declared.fault.Cause.{Cause}
 use Rattle.rh_planner.specs.declared.fault.Cause.TheVariants.{Missing, Keys, Changed, TooLarge, Memory, NoThread, Write}
 use Rattle.rh_planner.specs.declared.fault.RunFault.{RunFault}
-use Rattle.rh_planner.specs.declared.running.Report.{Report}
+use Rattle.rh_planner.specs.declared.report.Report.{Report}
 use Rattle.rh_planner.specs.Meaning.{World, Outcome, start, meaning, outcome_of}
 
 -- the text says these accounts, one after the other

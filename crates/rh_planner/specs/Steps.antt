@@ -1,8 +1,10 @@
 -- What the code has of a script's world, and how a step ends.
-use Rattle.std.specs.Prelude.{◌≡◌, ℕ, List, [], ◌∷◌, map, Option, Some, Result, Ok, MatchResult}
+use Rattle.std.specs.Prelude.{◌≡◌, ℕ, ◌<◌, List, [], ◌∷◌, map, Option, Some, Result, Ok, MatchResult}
 use Rattle.rh_edit.specs.Held.{Held}
 use Rattle.rh_report.specs.Account.{Account}
 use Rattle.rh_shelf.specs.Shelf.{Files}
+use Rattle.rh_script.specs.declared.task.Task.{Task}
+use Rattle.rh_script.specs.declared.task.Task.TheVariants as tasks
 use Rattle.rh_planner.specs.declared.fault.Cause.{Cause}
 use Rattle.rh_planner.specs.declared.key_lists.KeyList.{KeyList}
 use Rattle.rh_planner.specs.KeyLists.{Stands}
@@ -36,3 +38,12 @@ StepEnds outcome after n m old new r =
 abbrev pub StateEnds : Outcome → Files → Held → List KeyList → (failures failures' : ℕ) → Option (List ℕ) → Option (List ℕ) → Result (Unit {0}) Cause → Type 0
 StateEnds outcome files set lists n m old new r =
     MatchResult r (λ _. (named : Named) × (account : Account) × (outcome ≡ Ok (world_of set named files, account)) × ListsStand (Some files) lists named × Tells account old new) (EndsBy outcome n m old new)
+
+-- the list of a task is among so many
+abbrev pub HasList : Task → ℕ → Type 0
+HasList (tasks.Add list name) n = list < n
+HasList (tasks.Drop list name) n = list < n
+HasList (tasks.Ask list name) n = list < n
+HasList (tasks.Keep list name) n = list < n
+HasList (tasks.Flip list name) n = list < n
+HasList _ n = Unit {0}

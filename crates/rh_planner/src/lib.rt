@@ -5,9 +5,12 @@ mod commands;
 mod fault;
 mod key_lists;
 mod opening;
+mod report;
 mod running;
 mod size;
 mod steps;
+mod tasks;
 
 pub use fault::{Cause, RunFault};
-pub use running::{Report, run};
+pub use report::Report;
+pub use running::run;

@@ -1,0 +1,74 @@
+//! The steps of a plan.
+
+ghost use Rattle.std.specs.Prelude.{◌≡◌, ◌+◌, Some, IfErr, OnOk, length};
+ghost use Rattle.rh_files.specs.Counting.{Rose, failures_of, inner_of};
+ghost use Rattle.rh_script.specs.Names.{given_by};
+ghost use Rattle.rh_script.specs.Plan.{number_after};
+ghost use Rattle.rh_script.specs.Tasks.{task_as};
+ghost use Rattle.rh_shelf.specs.Shelf.{Files};
+ghost use Rattle.rh_planner.specs.Ends.{KeepsShelf};
+ghost use Rattle.rh_planner.specs.Meaning.{outcome_of};
+ghost use Rattle.rh_planner.specs.Steps.{HasList, ListsStand, Named, StateEnds, names_of, world_of};
+
+use crate::fault::Cause;
+use crate::key_lists::KeyList;
+use crate::steps::{
+    add_step, ask_step, clear_step, drop_step, dump_step, flip_step, keep_step, save_step, use_step,
+};
+use rh_edit::SeqSet;
+use rh_files::Counted;
+use rh_runner::Runner;
+use rh_script::Task;
+use rh_shelf::Shelf;
+use std::alloc::Global;
+use std::io::Write;
+use std::sync::Wait;
+
+/// Carries a task out and writes its report.
+#[tactic(auto, unfolding(crate::specs::Meaning::outcome_of, rh_script::specs::Plan::number_after), using(crate::proofs::TaskLemmas::still_state))]
+pub(crate) fn carry_out<'a, T: Wait, S: Shelf, N: Runner, W: Write>(
+    rt: &T,
+    alloc: Global,
+    shelf: &mut S,
+    runner: &mut N,
+    writer: &mut Counted<W>,
+    set: &mut SeqSet,
+    lists: &mut Vec<KeyList<'a>>,
+    task: &Task<'a>,
+) -> Result<(), Cause>
+    requires { HasList task.now (length lists.old.items) }
+    ensures step { (named : Named) (files : Files) → S.files shelf.old ≡ Some files →
+        ListsStand (Some files) lists.old.items named →
+        number_after (names_of named) (task_as task.now).0 ≡ (task_as task.now).1 →
+        StateEnds (outcome_of (world_of set.old named files) (task_as task.now).0)
+        files set.new lists.new.items (S.failures shelf.old) (S.failures shelf.new)
+        (W.contents (inner_of writer.old)) (W.contents (inner_of writer.new)) result }
+    ensures lists { OnOk result (length lists.new.items
+        ≡ length lists.old.items + length (given_by (task_as task.now).0)) }
+    ensures shelf { KeepsShelf (S.files shelf.old) (S.files shelf.new) (S.failures shelf.old)
+        (S.failures shelf.new) result }
+    ensures write { IfErr result (λ cause. cause ≡ Cause.Write →
+        Rose (failures_of writer.old) (failures_of writer.new)) }
+{
+    match *task {
+        Task::Use { name, path, .. } => use_step(alloc, shelf, writer, lists, name, path),
+        Task::Add { list, name } => {
+            add_step(rt, alloc, shelf, runner, writer, set, &lists[list], name)
+        }
+        Task::Drop { list, name } => {
+            drop_step(rt, alloc, shelf, runner, writer, set, &lists[list], name)
+        }
+        Task::Ask { list, name } => {
+            ask_step(rt, alloc, shelf, runner, writer, set, &lists[list], name)
+        }
+        Task::Keep { list, name } => {
+            keep_step(rt, alloc, shelf, runner, writer, set, &lists[list], name)
+        }
+        Task::Flip { list, name } => {
+            flip_step(rt, alloc, shelf, runner, writer, set, &lists[list], name)
+        }
+        Task::Save { name, .. } => save_step(alloc, writer, set, lists, name),
+        Task::Clear => clear_step(alloc, writer, set),
+        Task::Dump => dump_step(writer, set),
+    }
+}
