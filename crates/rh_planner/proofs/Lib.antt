@@ -3,3 +3,4 @@ pub mod CommandLemmas
 pub mod StepLemmas
 pub mod ListLemmas
 pub mod TaskLemmas
+pub mod RunLemmas

@@ -5,3 +5,4 @@ pub mod Ends
 pub mod KeyLists
 pub mod Commands
 pub mod Steps
+pub mod Reached

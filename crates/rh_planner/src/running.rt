@@ -1,10 +1,16 @@
 //! The run of a script.
 
-ghost use Rattle.std.specs.Prelude.{◌≡◌, ◌⊎◌, None, Some, IfErr, OnOk};
+ghost use Rattle.std.specs.Prelude.{◌≡◌, ◌+◌, ℕ, List, [], None, Some, IfOk, IfErr, OnOk};
+ghost use Rattle.std.specs.FinSet as finset;
+ghost use Rattle.rh_layout.specs.declared.limits.TheConstants.{MIN_BITS};
 ghost use Rattle.rh_files.specs.Counting.{Rose, failures_of, inner_of};
+ghost use Rattle.rh_script.specs.Instruction.{Numbered};
+ghost use Rattle.rh_script.specs.Plan.{plan_of};
 ghost use Rattle.rh_script.specs.Script.{steps_of};
+ghost use Rattle.rh_script.specs.Tasks.{planned_of};
 ghost use Rattle.rh_shelf.specs.Shelf.{Files};
 ghost use Rattle.rh_planner.specs.Ends.{Ends};
+ghost use Rattle.rh_planner.specs.Reached.{AllEnds};
 
 use crate::fault::{Cause, RunFault};
 use crate::report::Report;
@@ -13,7 +19,7 @@ use rh_edit::SeqSet;
 use rh_files::Counted;
 use rh_layout::MIN_BITS;
 use rh_runner::Runner;
-use rh_script::{Script, plan};
+use rh_script::{Plan, Script, plan};
 use rh_shelf::Shelf;
 use std::alloc::{AllocError, Global};
 use std::io::Write;
@@ -44,18 +50,11 @@ pub fn run<T: Wait, S: Shelf, N: Runner, W: Write>(
         Rose (failures_of writer.old) (failures_of writer.new)) }
     ensures same_files { S.files shelf.new ≡ S.files shelf.old }
 {
-    let plan = plan(alloc, script).map_err(no_memory)?;
-    let mut set = SeqSet::new(alloc, MIN_BITS).map_err(no_memory)?;
-    let mut lists = Vec::new(alloc);
-    for step in plan.steps() {
-        let task = &step.task;
-        carry_out(rt, alloc, shelf, runner, writer, &mut set, &mut lists, task).map_err(
-            |cause| RunFault {
-                line: step.line,
-                cause,
-            },
-        )?;
-    }
+    let Ok((plan, mut set)) = begin(alloc, script) else {
+        let (line, cause) = (0, Cause::Memory);
+        return Err(RunFault { line, cause });
+    };
+    carry_out_all(rt, alloc, shelf, runner, writer, &mut set, &plan)?;
     Ok(Report {
         commands: plan.len() as u64,
         held: set.len() as u64,
@@ -63,10 +62,48 @@ pub fn run<T: Wait, S: Shelf, N: Runner, W: Write>(
     })
 }
 
-/// Memory ran out before the first command.
-fn no_memory(_error: AllocError) -> RunFault {
-    RunFault {
-        line: 0,
-        cause: Cause::Memory,
+/// The plan of a script, and the set that it begins with.
+fn begin(alloc: Global, script: &Script) -> Result<(Plan<'_>, SeqSet), AllocError>
+    ensures plan { IfOk result (λ b. planned_of b.0 ≡ plan_of (steps_of script.now)) }
+    ensures keys { IfOk result (λ b. b.1.keys ≡ finset.empty) }
+    ensures bits { IfOk result (λ b. b.1.bits ≡ MIN_BITS) }
+{
+    let plan = plan(alloc, script)?;
+    let set = SeqSet::new(alloc, MIN_BITS)?;
+    Ok((plan, set))
+}
+
+/// Carries out the steps of a plan, from an empty set on.
+fn carry_out_all<T: Wait, S: Shelf, N: Runner, W: Write>(
+    rt: &T,
+    alloc: Global,
+    shelf: &mut S,
+    runner: &mut N,
+    writer: &mut Counted<W>,
+    set: &mut SeqSet,
+    plan: &Plan<'_>,
+) -> Result<(), RunFault>
+    requires planned { (steps : List Numbered) × (planned_of plan.now ≡ plan_of steps) }
+    requires keys { set.old.keys ≡ finset.empty }
+    requires bits { set.old.bits ≡ MIN_BITS }
+    ensures meant { (files : Files) (steps : List Numbered) → S.files shelf.old ≡ Some files →
+        planned_of plan.now ≡ plan_of steps →
+        AllEnds files (S.failures shelf.old) (S.failures shelf.new) steps set.new
+        (W.contents (inner_of writer.old)) (W.contents (inner_of writer.new)) result }
+    ensures missing { IfErr result (λ fault. fault.cause ≡ Cause.Missing →
+        S.files shelf.old ≡ None → Rose (S.failures shelf.old) (S.failures shelf.new)) }
+    ensures write { IfErr result (λ fault. fault.cause ≡ Cause.Write →
+        Rose (failures_of writer.old) (failures_of writer.new)) }
+    ensures same_files { S.files shelf.new ≡ S.files shelf.old }
+{
+    let mut lists = Vec::new(alloc);
+    for step in plan.steps() {
+        let task = &step.task;
+        let told = carry_out(rt, alloc, shelf, runner, writer, set, &mut lists, task);
+        if let Err(cause) = told {
+            let line = step.line;
+            return Err(RunFault { line, cause });
+        }
     }
+    Ok(())
 }

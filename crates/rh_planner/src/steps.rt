@@ -45,6 +45,7 @@ pub(crate) fn add_step<T: Wait, S: Shelf, N: Runner, W: Write>(
         (S.failures shelf.new) result }
     ensures write { IfErr result (λ cause. cause ≡ Cause.Write →
         Rose (failures_of writer.old) (failures_of writer.new)) }
+    ensures written { OnOk result (failures_of writer.new ≡ failures_of writer.old) }
 {
     let tally = add(rt, alloc, shelf, runner, set, list)?;
     let (held, bits) = (set.len() as u64, set.bits());
@@ -72,6 +73,7 @@ pub(crate) fn drop_step<T: Wait, S: Shelf, N: Runner, W: Write>(
         (S.failures shelf.new) result }
     ensures write { IfErr result (λ cause. cause ≡ Cause.Write →
         Rose (failures_of writer.old) (failures_of writer.new)) }
+    ensures written { OnOk result (failures_of writer.new ≡ failures_of writer.old) }
 {
     let tally = drop_keys(rt, alloc, shelf, runner, set, list)?;
     let (held, bits) = (set.len() as u64, set.bits());
@@ -99,6 +101,7 @@ pub(crate) fn ask_step<T: Wait, S: Shelf, N: Runner, W: Write>(
         (S.failures shelf.new) result }
     ensures write { IfErr result (λ cause. cause ≡ Cause.Write →
         Rose (failures_of writer.old) (failures_of writer.new)) }
+    ensures written { OnOk result (failures_of writer.new ≡ failures_of writer.old) }
 {
     let answers = ask(rt, alloc, shelf, runner, set, list)?;
     write_asked(writer, name, &answers)?;
@@ -125,6 +128,7 @@ pub(crate) fn keep_step<T: Wait, S: Shelf, N: Runner, W: Write>(
         (S.failures shelf.new) result }
     ensures write { IfErr result (λ cause. cause ≡ Cause.Write →
         Rose (failures_of writer.old) (failures_of writer.new)) }
+    ensures written { OnOk result (failures_of writer.new ≡ failures_of writer.old) }
 {
     let found = keep(rt, alloc, shelf, runner, set, list)?;
     let (held, bits) = (set.len() as u64, set.bits());
@@ -152,6 +156,7 @@ pub(crate) fn flip_step<T: Wait, S: Shelf, N: Runner, W: Write>(
         (S.failures shelf.new) result }
     ensures write { IfErr result (λ cause. cause ≡ Cause.Write →
         Rose (failures_of writer.old) (failures_of writer.new)) }
+    ensures written { OnOk result (failures_of writer.new ≡ failures_of writer.old) }
 {
     let (out, into) = flip(rt, alloc, shelf, runner, set, list)?;
     let (held, bits) = (set.len() as u64, set.bits());
@@ -178,6 +183,7 @@ pub(crate) fn use_step<'a, S: Shelf, W: Write>(
         (S.failures shelf.new) result }
     ensures write { IfErr result (λ cause. cause ≡ Cause.Write →
         Rose (failures_of writer.old) (failures_of writer.new)) }
+    ensures written { OnOk result (failures_of writer.new ≡ failures_of writer.old) }
 {
     let count = use_file(alloc, shelf, path)?;
     let place = Place::Path(path);
@@ -200,6 +206,7 @@ pub(crate) fn save_step<W: Write>(
     ensures more { OnOk result (length lists.new.items ≡ length lists.old.items + 1) }
     ensures write { IfErr result (λ cause. cause ≡ Cause.Write →
         Rose (failures_of writer.old) (failures_of writer.new)) }
+    ensures written { OnOk result (failures_of writer.new ≡ failures_of writer.old) }
     ensures not_missing { IfErr result (λ cause. cause ≡ Cause.Missing → ⊥) }
 {
     let list = saved(alloc, set)?;
@@ -220,6 +227,7 @@ pub(crate) fn clear_step<W: Write>(
         (W.contents (inner_of writer.old)) (W.contents (inner_of writer.new)) result }
     ensures write { IfErr result (λ cause. cause ≡ Cause.Write →
         Rose (failures_of writer.old) (failures_of writer.new)) }
+    ensures written { OnOk result (failures_of writer.new ≡ failures_of writer.old) }
     ensures not_missing { IfErr result (λ cause. cause ≡ Cause.Missing → ⊥) }
 {
     *set = SeqSet::new(alloc, MIN_BITS)?;
@@ -234,6 +242,7 @@ pub(crate) fn dump_step<W: Write>(writer: &mut Counted<W>, set: &SeqSet) -> Resu
         (W.contents (inner_of writer.old)) (W.contents (inner_of writer.new)) result }
     ensures write { IfErr result (λ cause. cause ≡ Cause.Write →
         Rose (failures_of writer.old) (failures_of writer.new)) }
+    ensures written { OnOk result (failures_of writer.new ≡ failures_of writer.old) }
     ensures not_missing { IfErr result (λ cause. cause ≡ Cause.Missing → ⊥) }
 {
     write_dump(set.bits(), set.cells(), writer)?;

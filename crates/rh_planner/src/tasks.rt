@@ -49,6 +49,7 @@ pub(crate) fn carry_out<'a, T: Wait, S: Shelf, N: Runner, W: Write>(
         (S.failures shelf.new) result }
     ensures write { IfErr result (λ cause. cause ≡ Cause.Write →
         Rose (failures_of writer.old) (failures_of writer.new)) }
+    ensures written { OnOk result (failures_of writer.new ≡ failures_of writer.old) }
 {
     match *task {
         Task::Use { name, path, .. } => use_step(alloc, shelf, writer, lists, name, path),

@@ -1,0 +1,239 @@
+-- A script step by step.
+use Rattle.std.proofs.Common.{◌≡◌, ◌∙◌, ap, sym, subst, refl, arith, ℕ, zero, suc, ◌+◌, ◌<◌, ◌≤◌, List, [], ◌∷◌, ◌++◌, length, take, drop, get_or, append_assoc, append-nil, Option, Some, None, Result, Ok, Err}
+use Rattle.std.proofs.Common.{slice_index_or, take-append-drop}
+use Rattle.std.proofs.lemmas.List.{take_all, take_more, length-append, length-map}
+use Rattle.std.specs.Prelude.{map}
+use Rattle.std.specs.FinSet as finset
+use Rattle.rh_layout.specs.declared.limits.TheConstants.{MIN_BITS}
+use Rattle.rh_script.specs.declared.task.Task.{Task}
+use Rattle.rh_script.specs.declared.task.Task.TheVariants as tasks
+use Rattle.rh_script.specs.declared.task.PlannedStep.{PlannedStep}
+use Rattle.rh_script.specs.Tasks.{planned_as, task_as}
+use Rattle.std.specs.Io.KnownBytes.{Appends}
+use Rattle.std.proofs.KnownBytes.{Appends-nil, Appends-trans}
+use Rattle.rh_edit.specs.Held.{Held}
+use Rattle.rh_report.specs.Account.{Account, Says}
+use Rattle.rh_script.specs.Instruction.{Instruction, Numbered, Use, Add, Drop, Ask, Keep, Flip, Save, Clear, Dump}
+use Rattle.rh_script.specs.Names.{given_by, names_in}
+use Rattle.rh_script.specs.Plan.{Planned, number_after, plan_of, planned_after}
+use Rattle.rh_shelf.specs.Shelf.{Files}
+use Rattle.rh_planner.specs.declared.fault.Cause.{Cause}
+use Rattle.rh_planner.specs.declared.fault.RunFault.{RunFault}
+use Rattle.rh_planner.specs.declared.key_lists.KeyList.{KeyList}
+use Rattle.rh_planner.specs.Meaning.{◌>>=◌, World, Outcome, at_line, keys_in, meaning, outcome_of, size_for, start}
+use Rattle.rh_planner.specs.Ends.{EndsBy, SaysAll, Stopped, Tells}
+use Rattle.rh_planner.specs.Steps.{HasList, ListsStand, Named, names_of, world_of}
+use Rattle.rh_planner.specs.Reached.{CarriedOut, Reached}
+use Rattle.rh_planner.proofs.ListLemmas.{place_inside}
+
+-- ---- what a step does to the names
+
+abbrev as_ok : World × Account → Outcome
+as_ok done = Ok done
+
+abbrev lists_of : Outcome → Named
+lists_of (Ok done) = done.0.lists
+lists_of (Err cause) = []
+
+then_ok : {A B E : Type 0} (r : Result A E) (f : A → Result B E) (y : B) → (r >>= f) ≡ Ok y → (x : A) × (r ≡ Ok x) × (f x ≡ Ok y)
+then_ok (Ok x) f y h = (x, refl, h)
+then_ok (Err e) f y h = absurd cc
+
+same_names : (w v : World) (done : World × Account) (account : Account) → as_ok (v, account) ≡ Ok done → v.lists ≡ w.lists → names_of done.0.lists ≡ names_of w.lists ++ []
+same_names w v done account is same = ap (λ (o : Outcome). names_of (lists_of o)) (sym is) ∙ ap names_of same ∙ sym (append-nil (names_of w.lists))
+
+names_push : (named : Named) (name keys : List ℕ) → names_of (named ++ (name, keys) ∷ []) ≡ names_of named ++ name ∷ []
+names_push [] name keys = refl
+names_push (n ∷ named) name keys = ap (λ l. n.0 ∷ l) (names_push named name keys)
+
+names_after : (w : World) (said : Instruction) (done : World × Account) → outcome_of w said ≡ Ok done → names_of done.0.lists ≡ names_of w.lists ++ given_by said
+unfolding outcome_of
+names_after w (Use name path) done is =
+    let s = then_ok (keys_in (w.files path)) _ done is in
+    ap (λ (o : Outcome). names_of (lists_of o)) (sym s.2) ∙ names_push w.lists name s.0
+names_after w (Add name) done is = let s = then_ok (size_for _ _) _ done is in same_names w _ done _ s.2 refl
+names_after w (Drop name) done is = same_names w _ done _ is refl
+names_after w (Ask name) done is = same_names w w done _ is refl
+names_after w (Keep name) done is = let s = then_ok (size_for _ _) _ done is in same_names w _ done _ s.2 refl
+names_after w (Flip name) done is = let s = then_ok (size_for _ _) _ done is in same_names w _ done _ s.2 refl
+names_after w (Save name) done is = ap (λ (o : Outcome). names_of (lists_of o)) (sym is) ∙ names_push w.lists name _
+names_after w Clear done is = same_names w _ done _ is refl
+names_after w Dump done is = same_names w w done _ is refl
+
+-- ---- one step more
+
+abbrev Course : Type 0
+Course = Result (World × List Account) RunFault
+
+abbrev reached_in : World × List Account → Course → World × List Account
+reached_in d (Ok x) = x
+reached_in d (Err e) = d
+
+meaning_more : (w : World) (before : List Numbered) (step : Numbered) (v : World) (accounts : List Account) (done : World × Account) → meaning w before ≡ Ok (v, accounts) → outcome_of v step.instruction ≡ Ok done → meaning w (before ++ step ∷ []) ≡ Ok (done.0, accounts ++ done.1 ∷ [])
+unfolding meaning
+meaning_more w [] step v accounts done means is =
+    let here : (w, []) ≡ (v, accounts) = ap (reached_in (w, [])) means in
+    let there : outcome_of w step.instruction ≡ Ok done = ap (λ (x : World × List Account). outcome_of x.0 step.instruction) here ∙ is in
+    ap (λ o. at_line step.line o >>= (λ d. Ok (d.0, d.1 ∷ []))) there ∙ ap (λ (x : World × List Account). Ok (done.0, x.1 ++ done.1 ∷ [])) here
+meaning_more w (s ∷ before) step v accounts done means is =
+    let first = then_ok (at_line s.line (outcome_of w s.instruction)) _ (v, accounts) means in
+    let rest = then_ok (meaning first.0.0 before) _ (v, accounts) first.2 in
+    let here : (rest.0.0, first.0.1 ∷ rest.0.1) ≡ (v, accounts) = ap (reached_in (v, accounts)) rest.2 in
+    let there : outcome_of rest.0.0 step.instruction ≡ Ok done = ap (λ (x : World × List Account). outcome_of x.0 step.instruction) here ∙ is in
+    let more = meaning_more first.0.0 before step rest.0.0 rest.0.1 done rest.1 there in
+    ap (λ r. r >>= (λ d. meaning d.0 (before ++ step ∷ []) >>= (λ others. Ok (others.0, d.1 ∷ others.1)))) first.1
+    ∙ ap (λ (r : Course). r >>= (λ others. Ok (others.0, first.0.1 ∷ others.1))) more
+    ∙ ap (λ (x : World × List Account). Ok (done.0, x.1 ++ done.1 ∷ [])) here
+
+says_more : (accounts : List Account) (text : List ℕ) (account : Account) (more : List ℕ) → SaysAll accounts text → Says account more → SaysAll (accounts ++ account ∷ []) (text ++ more)
+says_more [] text account more says new = (more, [], new, refl, ap (λ l. l ++ more) says ∙ sym (append-nil more))
+says_more (a ∷ accounts) text account more says new =
+    (says.0, says.1 ++ more, says.2, says_more accounts says.1 account more says.3 new, ap (λ l. l ++ more) says.4 ∙ append_assoc says.0 says.1 more)
+
+-- ---- the plan
+
+names_more : (before : List Numbered) (step : Numbered) → names_in (before ++ step ∷ []) ≡ names_in before ++ given_by step.instruction
+unfolding names_in
+names_more [] step = append-nil (given_by step.instruction)
+names_more (s ∷ before) step = ap (λ l. given_by s.instruction ++ l) (names_more before step) ∙ sym (append_assoc (given_by s.instruction) (names_in before) (given_by step.instruction))
+
+planned_at : (given : List (List ℕ)) (steps : List Numbered) (i : ℕ) (d : Planned) (e : Numbered) → i < length steps
+    → get_or (planned_after given steps) i d ≡ record { line = (get_or steps i e).line; instruction = (get_or steps i e).instruction; list = number_after (given ++ names_in (take i steps)) (get_or steps i e).instruction }
+unfolding planned_after names_in
+planned_at given [] i d e inside = absurd (omega (arith, inside))
+planned_at given (s ∷ steps) zero d e inside = ap (λ g. record { line = s.line; instruction = s.instruction; list = number_after g s.instruction }) (sym (append-nil given))
+planned_at given (s ∷ steps) (suc i) d e inside =
+    planned_at (given ++ given_by s.instruction) steps i d e (omega (arith, inside))
+    ∙ ap (λ g. record { line = (get_or steps i e).line; instruction = (get_or steps i e).instruction; list = number_after g (get_or steps i e).instruction }) (append_assoc given (given_by s.instruction) (names_in (take i steps)))
+
+planned_long : (given : List (List ℕ)) (steps : List Numbered) → length (planned_after given steps) ≡ length steps
+unfolding planned_after
+planned_long given [] = refl
+planned_long given (s ∷ steps) = ap suc (planned_long (given ++ given_by s.instruction) steps)
+
+-- ---- the loop over the plan
+
+module _ (files : Files) (before : List Numbered) (step : Numbered) (set after : Held) (lists lists' : List KeyList) (old middle new : Option (List ℕ)) (so_far : Reached files before set lists old middle) where
+  reached_more : (named : Named) (account : Account) → outcome_of (world_of set so_far.done.named files) step.instruction ≡ Ok (world_of after named files, account) → ListsStand (Some files) lists' named → Tells account middle new → Reached files (before ++ step ∷ []) after lists' old new
+  reached_more named account is stand told = record {
+    done = record {
+      named = named;
+      accounts = so_far.done.accounts ++ account ∷ [];
+      text = so_far.done.text ++ told.0;
+      means = meaning_more (start files) before step (world_of set so_far.done.named files) so_far.done.accounts (world_of after named files, account) so_far.done.means is;
+      says = says_more so_far.done.accounts so_far.done.text account told.0 so_far.done.says told.1;
+      written = Appends-trans old middle new so_far.done.text told.0 so_far.done.written told.2;
+    };
+    stand = stand;
+    names = names_after (world_of set so_far.done.named files) step.instruction (world_of after named files, account) is ∙ ap (λ l. l ++ given_by step.instruction) so_far.names ∙ sym (names_more before step);
+  }
+
+pub reached_start : (files : Files) (set : Held) (lists : List KeyList) (old : Option (List ℕ)) → set.keys ≡ finset.empty → set.bits ≡ MIN_BITS → lists ≡ [] → Reached files [] set lists old old
+unfolding meaning names_in
+reached_start files set lists old keys bits none = record {
+  done = record {
+    named = [];
+    accounts = [];
+    text = [];
+    means = λ i. Ok (record { held = sym keys i; bits = sym bits i; lists = []; files = files }, []);
+    says = refl;
+    written = Appends-nil old;
+  };
+  stand = subst (λ l. ListsStand (Some files) l []) (sym none) tt;
+  names = refl;
+}
+
+-- ---- a step of a plan
+
+-- the step that the plan has at this place is the script's, and has its number
+pub record StepAt (steps : List Numbered) (i : ℕ) (step : PlannedStep) : Type 0 where
+  pub numbered : Numbered
+  pub parts : steps ≡ take i steps ++ numbered ∷ drop (i + 1) steps
+  pub more : take (i + 1) steps ≡ take i steps ++ numbered ∷ []
+  pub line : step.line ≡ numbered.line
+  pub said : (task_as step.task).0 ≡ numbered.instruction
+  pub number : number_after (names_in (take i steps)) (task_as step.task).0 ≡ (task_as step.task).1
+
+map_at : (items : List PlannedStep) (i : ℕ) (d : PlannedStep) (e : Planned) → i < length items → get_or (map planned_as items) i e ≡ planned_as (get_or items i d)
+map_at [] i d e inside = absurd (omega (arith, inside))
+map_at (x ∷ items) zero d e inside = refl
+map_at (x ∷ items) (suc i) d e inside = map_at items i d e (omega (arith, inside))
+
+drop_at_place : (steps : List Numbered) (i : ℕ) (e : Numbered) → i < length steps → drop i steps ≡ get_or steps i e ∷ drop (i + 1) steps
+drop_at_place [] i e inside = absurd (omega (arith, inside))
+drop_at_place (s ∷ steps) zero e inside = refl
+drop_at_place (s ∷ steps) (suc i) e inside =
+    let next : suc i + 1 ≡ suc (i + 1) = omega arith in
+    drop_at_place steps i e (omega (arith, inside)) ∙ ap (λ j. get_or steps i e ∷ drop j (s ∷ steps)) (sym next)
+
+all_planned : (items : List PlannedStep) (steps : List Numbered) → map planned_as items ≡ plan_of steps → length items ≡ length steps
+all_planned items steps planned = sym (length-map items planned_as) ∙ ap length planned ∙ planned_long [] steps
+
+pub step_at : (items : List PlannedStep) (steps : List Numbered) (i : ℕ) (d : PlannedStep) → map planned_as items ≡ plan_of steps → i < length items → StepAt steps i (slice_index_or items i d)
+step_at items steps i d planned inside =
+    let step = slice_index_or items i d in
+    let e : Numbered = record { line = 0; instruction = Clear } in
+    let long = all_planned items steps planned in
+    let here : i < length steps = omega (arith, long, inside) in
+    let is = sym (map_at items i d (planned_as d) inside) ∙ ap (λ (l : List Planned). get_or l i (planned_as d)) planned ∙ planned_at [] steps i (planned_as d) e here in
+    let said = ap (λ (p : Planned). p.instruction) is in
+    record {
+      numbered = get_or steps i e;
+      parts = sym (take-append-drop i steps) ∙ ap (λ l. take i steps ++ l) (drop_at_place steps i e here);
+      more = take_more steps i e here;
+      line = ap (λ (p : Planned). p.line) is;
+      said = said;
+      number = ap (number_after (names_in (take i steps))) said ∙ sym (ap (λ (p : Planned). p.list) is);
+    }
+
+pub has_list : (task : Task) (given : List (List ℕ)) (n : ℕ) → number_after given (task_as task).0 ≡ (task_as task).1 → n ≡ length given → HasList task n
+unfolding number_after
+has_list (tasks.Use list name path) given n number is = tt
+has_list (tasks.Add list name) given n number is = rw is (place_inside name.now given list number)
+has_list (tasks.Drop list name) given n number is = rw is (place_inside name.now given list number)
+has_list (tasks.Ask list name) given n number is = rw is (place_inside name.now given list number)
+has_list (tasks.Keep list name) given n number is = rw is (place_inside name.now given list number)
+has_list (tasks.Flip list name) given n number is = rw is (place_inside name.now given list number)
+has_list (tasks.Save list name) given n number is = tt
+has_list tasks.Clear given n number is = tt
+has_list tasks.Dump given n number is = tt
+
+pub more_lists : (steps : List Numbered) (i : ℕ) (step : Numbered) (said : Instruction) (n m : ℕ) → take (i + 1) steps ≡ take i steps ++ step ∷ [] → said ≡ step.instruction → n ≡ length (names_in (take i steps)) → m ≡ n + length (given_by said) → m ≡ length (names_in (take (i + 1) steps))
+more_lists steps i step said n m more is so_far grown =
+    let both : length (names_in (take i steps) ++ given_by step.instruction) ≡ length (names_in (take i steps)) + length (given_by step.instruction) = length-append (names_in (take i steps)) (given_by step.instruction) in
+    let same : length (given_by said) ≡ length (given_by step.instruction) = ap (λ s. length (given_by s)) is in
+    let now : length (names_in (take (i + 1) steps)) ≡ length (names_in (take i steps) ++ given_by step.instruction) = ap length (ap names_in more ∙ names_more (take i steps) step) in
+    omega (arith, both, same, now, so_far, grown)
+
+module _ (files : Files) (steps : List Numbered) (i : ℕ) (step : PlannedStep) (set : Held) (lists : List KeyList) (old middle : Option (List ℕ)) (here : StepAt steps i step) (so_far : Reached files (take i steps) set lists old middle) where
+  pub its_number : number_after (names_of so_far.done.named) (task_as step.task).0 ≡ (task_as step.task).1
+  its_number = subst (λ given. number_after given (task_as step.task).0 ≡ (task_as step.task).1) (sym so_far.names) here.number
+
+  pub goes_on : (after : Held) (lists' : List KeyList) (new : Option (List ℕ)) (named : Named) (account : Account) → outcome_of (world_of set so_far.done.named files) (task_as step.task).0 ≡ Ok (world_of after named files, account) → ListsStand (Some files) lists' named → Tells account middle new → Reached files (take (i + 1) steps) after lists' old new
+  goes_on after lists' new named account is stand told =
+      let its = subst (λ said. outcome_of (world_of set so_far.done.named files) said ≡ Ok (world_of after named files, account)) here.said is in
+      subst (λ l. Reached files l after lists' old new) (sym here.more) (reached_more files (take i steps) here.numbered set after lists lists' old middle new so_far named account its stand told)
+
+  pub stops_here : (n m k : ℕ) (new : Option (List ℕ)) (cause : Cause) → k ≡ n → EndsBy (outcome_of (world_of set so_far.done.named files) (task_as step.task).0) k m middle new cause → Stopped files n m steps old new (record { line = step.line; cause = cause })
+  stops_here n m k new cause same ends =
+      let w = world_of set so_far.done.named files in
+      record {
+        before = take i steps;
+        step = here.numbered;
+        after = drop (i + 1) steps;
+        parts = here.parts;
+        line = here.line;
+        world = w;
+        accounts = so_far.done.accounts;
+        text = so_far.done.text;
+        means = so_far.done.means;
+        says = so_far.done.says;
+        middle = middle;
+        written = so_far.done.written;
+        ends = subst (λ f. EndsBy (outcome_of w here.numbered.instruction) f m middle new cause) same (subst (λ said. EndsBy (outcome_of w said) k m middle new cause) here.said ends);
+      }
+
+pub all_carried_out : (files : Files) (items : List PlannedStep) (steps : List Numbered) (i : ℕ) (set : Held) (lists : List KeyList) (old new : Option (List ℕ)) → map planned_as items ≡ plan_of steps → length items ≤ i → Reached files (take i steps) set lists old new → CarriedOut files steps set old new
+all_carried_out files items steps i set lists old new planned ended so_far =
+    let all : take i steps ≡ steps = take_all i steps (omega (arith, all_planned items steps planned, ended)) in
+    subst (λ l. CarriedOut files l set old new) all so_far.done
