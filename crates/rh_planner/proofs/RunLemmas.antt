@@ -1,5 +1,5 @@
 -- A script step by step.
-use Rattle.std.proofs.Common.{◌≡◌, ◌∙◌, ap, sym, subst, refl, arith, ℕ, zero, suc, ◌+◌, ◌<◌, ◌≤◌, List, [], ◌∷◌, ◌++◌, length, take, drop, get_or, append_assoc, append-nil, Option, Some, None, Result, Ok, Err}
+use Rattle.std.proofs.Common.{◌≡◌, ◌∙◌, ap, sym, subst, refl, arith, ℕ, zero, suc, ◌+◌, ◌<◌, ◌≤◌, List, [], ◌∷◌, ◌++◌, length, take, drop, get_or, append_assoc, append-nil, Option, Some, Result, Ok, Err}
 use Rattle.std.proofs.Common.{slice_index_or, take-append-drop}
 use Rattle.std.proofs.lemmas.List.{take_all, take_more, length-append, length-map}
 use Rattle.std.specs.Prelude.{map}
@@ -9,7 +9,6 @@ use Rattle.rh_script.specs.declared.task.Task.{Task}
 use Rattle.rh_script.specs.declared.task.Task.TheVariants as tasks
 use Rattle.rh_script.specs.declared.task.PlannedStep.{PlannedStep}
 use Rattle.rh_script.specs.Tasks.{planned_as, task_as}
-use Rattle.std.specs.Io.KnownBytes.{Appends}
 use Rattle.std.proofs.KnownBytes.{Appends-nil, Appends-trans}
 use Rattle.rh_edit.specs.Held.{Held}
 use Rattle.rh_report.specs.Account.{Account, Says}
@@ -21,7 +20,7 @@ use Rattle.rh_planner.specs.declared.fault.Cause.{Cause}
 use Rattle.rh_planner.specs.declared.fault.RunFault.{RunFault}
 use Rattle.rh_planner.specs.declared.key_lists.KeyList.{KeyList}
 use Rattle.rh_planner.specs.Meaning.{◌>>=◌, World, Outcome, at_line, keys_in, meaning, outcome_of, size_for, start}
-use Rattle.rh_planner.specs.Ends.{EndsBy, SaysAll, Stopped, Tells}
+use Rattle.rh_planner.specs.Ends.{Done, EndsBy, SaysAll, Stopped, Tells}
 use Rattle.rh_planner.specs.Steps.{HasList, ListsStand, Named, names_of, world_of}
 use Rattle.rh_planner.specs.Reached.{CarriedOut, Reached}
 use Rattle.rh_planner.proofs.ListLemmas.{place_inside}
@@ -237,3 +236,18 @@ pub all_carried_out : (files : Files) (items : List PlannedStep) (steps : List N
 all_carried_out files items steps i set lists old new planned ended so_far =
     let all : take i steps ≡ steps = take_all i steps (omega (arith, all_planned items steps planned, ended)) in
     subst (λ l. CarriedOut files l set old new) all so_far.done
+
+pub steps_of_plan : (planned : List Planned) (steps : List Numbered) → planned ≡ plan_of steps → length planned ≡ length steps
+steps_of_plan planned steps is = ap length is ∙ planned_long [] steps
+
+pub all_done : (files : Files) (now : Option Files) (steps : List Numbered) (set : Held) (old new : Option (List ℕ)) (commands held bits : ℕ) → CarriedOut files steps set old new → now ≡ Some files → commands ≡ length steps → held ≡ finset.len set.keys → bits ≡ set.bits → Done files now steps old new (record { commands = commands; held = held; bits = bits })
+all_done files now steps set old new commands held bits carried same many held_is bits_is = record {
+  world = world_of set carried.named files;
+  accounts = carried.accounts;
+  text = carried.text;
+  means = carried.means;
+  says = carried.says;
+  written = carried.written;
+  files_now = same;
+  told = λ i. record { commands = many i; held = held_is i; bits = bits_is i };
+}

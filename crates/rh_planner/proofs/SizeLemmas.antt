@@ -1,5 +1,5 @@
 -- The size of a table, as a number that is enough and least, and as a function.
-use Rattle.std.proofs.Common.{◌≡◌, ◌∙◌, ap, sym, subst, refl, arith, ℕ, zero, suc, ◌+◌, ◌-◌, ◌*◌, ◌^◌, ◌<◌, ◌≤◌, inl, inr, true, false, cond, Option, Some, None, Ok, Err}
+use Rattle.std.proofs.Common.{◌≡◌, ap, sym, subst, refl, arith, ℕ, zero, suc, ◌+◌, ◌-◌, ◌^◌, ◌<◌, ◌≤◌, inl, inr, Some, None, Ok, Err}
 use Rattle.std.proofs.Math.Nat.{one-le-pow}
 use Rattle.std.proofs.Math.Pow.{pow_mono}
 use Rattle.std.proofs.lemmas.Bool.{cases_Bool, leb-true, leb-false}

@@ -1,8 +1,6 @@
 -- How a step ends.
-use Rattle.std.proofs.Common.{◌≡◌, ◌∙◌, ap, sym, refl, arith, ℕ, ◌+◌, true, false, cond, inl, inr, List, [], ◌∷◌, ◌++◌, length, Option, Some, None, Result, Ok, Err}
+use Rattle.std.proofs.Common.{◌≡◌, ◌∙◌, ap, sym, refl, arith, ℕ, true, false, inl, inr, List, [], ◌∷◌, ◌++◌, length, Option, Some, None, Result, Ok}
 use Rattle.std.specs.FinSet as set
-use Rattle.std.specs.FinSet.{contains}
-use Rattle.std.specs.Io.KnownBytes.{Appends}
 use Rattle.std.proofs.KnownBytes.{Appends-nil}
 use Rattle.rh_edit.specs.Held.{Held}
 use Rattle.rh_layout.specs.Layout.{Keys}
@@ -17,7 +15,7 @@ use Rattle.rh_report.specs.Account.{Account, Says}
 use Rattle.rh_report.specs.Account as accounts
 use Rattle.rh_planner.specs.declared.fault.Cause.{Cause}
 use Rattle.rh_planner.specs.declared.fault.Cause.TheVariants.{Write}
-use Rattle.rh_planner.specs.Meaning.{◌>>=◌, World, Outcome, adds, drops, keeps, flips, keys_in, size_for, uses}
+use Rattle.rh_planner.specs.Meaning.{◌>>=◌, World, Outcome, adds, drops, keeps, flips, keys_in, uses}
 use Rattle.rh_planner.specs.Commands.{Added, Dropped, Kept, Flipped}
 use Rattle.rh_planner.specs.Ends.{EndsBy, IsOutside, RefusedBy, TellsFront}
 use Rattle.rh_planner.specs.Steps.{Named, world_of}

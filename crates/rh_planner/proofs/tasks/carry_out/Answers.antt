@@ -1,4 +1,3 @@
-use Rattle.std.proofs.Common.{Some}
 use Rattle.rh_script.specs.Plan.{number_after}
 use Rattle.rh_planner.specs.Meaning.{list_of, outcome_of}
 use Rattle.rh_planner.proofs.TaskLemmas.{list_at, step_state, still_step_state}
