@@ -5,18 +5,12 @@ ghost use Rattle.std.specs.Prelude.{◌≡◌, IfOk, IfErr};
 ghost use Rattle.clap.specs.Words.{kind_of};
 ghost use Rattle.rhset.specs.Endings.{ending_by, ending_of};
 
-mod asked;
 mod dump;
-mod help;
-mod parse;
 mod status;
-#[cfg(test)]
-mod tests;
 
-use asked::{Line, LineFault};
 use dump::dump_keys;
-use parse::line;
 use rh_files::Counted;
+use rh_line::{Line, LineFault, line};
 use status::{Fault, Status};
 use std::env::Env;
 use std::io::{BufReader, BufWriter, Write};

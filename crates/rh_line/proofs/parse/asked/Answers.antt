@@ -1,9 +1,9 @@
 use Rattle.std.proofs.Common.{◌≡◌, ◌∙◌, Some, option_map, arith}
 use Rattle.clap.specs.Words.{Text, subcommand_rows_of}
-use Rattle.rhset.specs.App.{IsCommand}
-use Rattle.rhset.proofs.CommandLemmas.{name_of_rows, name_told}
-use Rattle.rhset.proofs.parse.asked.Goals as goal
-use Rattle.rhset.proofs.parse.asked.Goals.{in_default-via-in-Some+in_default, in_default-via-in_default}
+use Rattle.rh_line.specs.App.{IsCommand}
+use Rattle.rh_line.proofs.CommandLemmas.{name_of_rows, name_told}
+use Rattle.rh_line.proofs.parse.asked.Goals as goal
+use Rattle.rh_line.proofs.parse.asked.Goals.{in_default-via-in-Some+in_default, in_default-via-in_default}
 
 -- the arms above have each command
 pub unreachable-requires : goal.unreachable-requires

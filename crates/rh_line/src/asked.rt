@@ -19,7 +19,7 @@ pub enum LineFault {
 }
 
 impl From<Error> for LineFault {
-    ghost use Rattle.rhset.specs.Faults.{PassesOn};
+    ghost use Rattle.rh_line.specs.Faults.{PassesOn};
 
     ghost from_gives = { PassesOn };
 
@@ -33,7 +33,7 @@ impl From<Error> for LineFault {
 
 impl From<AllocError> for LineFault {
     ghost use Rattle.std.specs.Prelude.{◌≡◌};
-    ghost use Rattle.rhset.specs.declared.asked.LineFault.TheVariants.{Memory};
+    ghost use Rattle.rh_line.specs.declared.asked.LineFault.TheVariants.{Memory};
 
     ghost from_gives = { λ _ fault. fault ≡ Memory };
 

@@ -1,8 +1,8 @@
 use Rattle.std.proofs.Common.{refl}
 use Rattle.std.proofs.lemmas.Result.{IfOk-weaker}
-use Rattle.rhset.specs.App.{dump_app, program_app}
-use Rattle.rhset.proofs.BuilderLemmas.{app_with_subcommand}
-use Rattle.rhset.proofs.parse.command.Goals as goal
+use Rattle.rh_line.specs.App.{dump_app, program_app}
+use Rattle.rh_line.proofs.BuilderLemmas.{app_with_subcommand}
+use Rattle.rh_line.proofs.parse.command.Goals as goal
 
 pub returns : goal.returns
 returns c =

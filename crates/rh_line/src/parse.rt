@@ -2,8 +2,8 @@
 
 ghost use Rattle.std.specs.Prelude.{◌≡◌, [], IfOk, IfErr};
 ghost use Rattle.clap.specs.Words.{app_of, fault_of, subcommand_of, subcommand_rows_of};
-ghost use Rattle.rhset.specs.App.{Asks, NamesCommand, dump_app, program_app, rhset_app, texts_of};
-ghost use Rattle.rhset.specs.Faults.{IsOneOf};
+ghost use Rattle.rh_line.specs.App.{Asks, NamesCommand, dump_app, program_app, rhset_app, texts_of};
+ghost use Rattle.rh_line.specs.Faults.{IsOneOf};
 
 use crate::asked::{Line, LineFault};
 use crate::help;

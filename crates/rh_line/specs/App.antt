@@ -3,8 +3,8 @@ use Rattle.std.specs.Prelude.{◌≡◌, true, List, Option, Some, None, codes, 
 use Rattle.std.specs.Global.{Global}
 use Rattle.clap.specs.Walk.{Row, Text}
 use Rattle.clap.specs.Simple.{App, new_app, on_top, with_subcommand}
-use Rattle.rhset.specs.declared.asked.Line.{Line}
-use Rattle.rhset.specs.declared.asked.Line.TheVariants.{Dump}
+use Rattle.rh_line.specs.declared.asked.Line.{Line}
+use Rattle.rh_line.specs.declared.asked.Line.TheVariants.{Dump}
 
 -- the command `dump` takes no argument
 abbrev pub dump_app : App

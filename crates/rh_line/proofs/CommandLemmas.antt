@@ -11,8 +11,8 @@ use Rattle.clap.specs.Walk.{Row, Text, answers_to, finished, nothing_held, settl
 use Rattle.clap.specs.Simple.{App, Shape, argument_words, built, entered, label_of, names_of, rows_at, subcommand_of}
 use Rattle.clap.specs.Words.{subcommand_name_of, subcommand_rows_of}
 use Rattle.clap.specs.declared.parser.matches.ArgMatches.{ArgMatches}
-use Rattle.rhset.specs.App.{IsCommand, NamesCommand, rhset_app}
-use Rattle.rhset.proofs.HelpLemmas.{AvoidsHelp, both_pass, walk_avoids}
+use Rattle.rh_line.specs.App.{IsCommand, NamesCommand, rhset_app}
+use Rattle.rh_line.proofs.HelpLemmas.{AvoidsHelp, both_pass, walk_avoids}
 
 -- each subcommand that answers to the word is a command of the program
 abbrev EachIsCommand : Text → List Shape → Type 0
