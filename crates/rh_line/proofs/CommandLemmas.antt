@@ -12,6 +12,7 @@ use Rattle.clap.specs.Simple.{App, Shape, argument_words, built, entered, label_
 use Rattle.clap.specs.Words.{subcommand_name_of, subcommand_rows_of}
 use Rattle.clap.specs.declared.parser.matches.ArgMatches.{ArgMatches}
 use Rattle.rh_line.specs.App.{IsCommand, NamesCommand, rhset_app}
+use Rattle.rh_line.proofs.ValueLemmas.{HasFirst}
 use Rattle.rh_line.proofs.HelpLemmas.{AvoidsHelp, both_pass, walk_avoids}
 
 -- each subcommand that answers to the word is a command of the program

@@ -1,3 +1,4 @@
 pub mod BuilderLemmas
 pub mod CommandLemmas
 pub mod HelpLemmas
+pub mod ValueLemmas

@@ -7,7 +7,10 @@ use std::alloc::AllocError;
 /// A command, with its arguments.
 #[derive(Debug, Drop)]
 pub enum Line {
+    /// Write the table of the keys on standard input.
     Dump,
+    /// Carry out the commands of the file `script`, each with this many workers.
+    Run { workers: usize, script: String },
 }
 
 /// Why there is no command to carry out.

@@ -37,3 +37,32 @@ number of cells from the key's home, where the search for it begins.
 
 Example, of the key 9 alone:
   printf 'RHK2\\0\\0\\0\\0\\0\\0\\0\\001\\0\\0\\0\\0\\0\\0\\0\\011' | rhset dump";
+
+/// The command `run`, in a line.
+pub const RUN: &str = "Carries out a script";
+
+/// The command `run`, on `rhset run --help` alone.
+pub const RUN_AT_LENGTH: &str = "\
+Reads a script from a file, carries out its commands one after another on one table, which is empty
+at first, and writes what they find to standard output.";
+
+/// The argument `--workers`.
+pub const WORKERS: &str = "How many workers carry out each command";
+
+/// The argument `SCRIPT`.
+pub const SCRIPT: &str = "The file of the script";
+
+/// What a script is.
+pub const SCRIPT_FORMAT: &str = "\
+A script is a text with one command a line:
+  use NAME PATH  read the key file PATH as the list NAME
+  add NAME       add the keys of the list
+  drop NAME      remove the keys of the list
+  ask NAME       tell which keys of the list are in the table
+  keep NAME      remove all keys that are not in the list
+  flip NAME      remove the keys of the list that are there, and add the others
+  save NAME      make the keys of the table a list NAME
+  clear          remove all keys
+  dump           write the table
+
+TODO";

@@ -3,9 +3,11 @@
 
 mod asked;
 mod help;
+mod limits;
 mod parse;
 
 pub use asked::{Line, LineFault};
+pub use limits::MAX_WORKERS;
 pub use parse::line;
 
 #[cfg(test)]
