@@ -1,5 +1,5 @@
 -- Words that clap takes name a command of the program.
-use Rattle.std.proofs.Common.{◌≡◌, ◌&&◌, Bool, true, false, not, cond, List, [], ◌∷◌, Option, Some, None, is_some, option_map, unwrap_or, codes, inl, inr, ◌⊎◌, refl, ap, sym, subst, ◌∙◌}
+use Rattle.std.proofs.Common.{◌≡◌, ◌&&◌, Bool, true, false, not, cond, List, [], ◌∷◌, Option, Some, None, is_some, option_map, codes, inl, inr, ◌⊎◌, refl, sym, ◌∙◌}
 use Rattle.std.specs.Option.{option_map_or}
 use Rattle.std.specs.List.{find, list_any}
 use Rattle.std.proofs.Math.Bool.{or-false}
@@ -12,8 +12,7 @@ use Rattle.clap.specs.Walk.{Row, Text, answers_to, finished, nothing_held, rows_
 use Rattle.clap.specs.Simple.{App, Shape, argument_words, built, entered, label_of, names_of, rows_at, subcommand_of}
 use Rattle.clap.specs.Words.{subcommand_name_of, subcommand_rows_of}
 use Rattle.clap.specs.declared.parser.matches.ArgMatches.{ArgMatches}
-use Rattle.rh_line.specs.App.{Asks, HasRunArguments, IsCommand, NamesCommand, Says, rhset_app}
-use Rattle.rh_line.specs.declared.asked.Line.{Line}
+use Rattle.rh_line.specs.App.{IsCommand, NamesCommand, rhset_app}
 use Rattle.rh_line.proofs.RunLemmas.{run_arguments}
 use Rattle.rh_line.proofs.ValueLemmas.{Passes}
 use Rattle.rh_line.proofs.HelpLemmas.{AvoidsHelp, both_pass, walk_avoids}
@@ -93,28 +92,12 @@ words_name_a_command words passes =
 
 -- ---- what clap tells of the subcommand that was found
 
-some_same : {X : Type 0} {x y : X} → Some x ≡ Some y → x ≡ y
-some_same {x = x} same = ap (λ o. unwrap_or o x) same
-
 -- its name is that of a command
 pub name_told : (rows : Option (Text × List Row)) (told : Option Text) → told ≡ option_map (λ found. found.0) rows → NamesCommand rows
     → (name : Text) × (told ≡ Some name) × ((name ≡ codes "dump") ⊎ (name ≡ codes "run"))
 name_told None told is found = absurd found
 name_told (Some row) told is (inl dump) = (row.0, is, inl dump)
 name_told (Some row) told is (inr run) = (row.0, is, inr run.0)
-
--- its rows are what `run` needs
-pub run_found : (rows : Option (Text × List Row)) (name : Text) (given : List Row) → Some name ≡ option_map (λ found. found.0) rows
-    → Some given ≡ option_map (λ found. found.1) rows → name ≡ codes "run" → NamesCommand rows → HasRunArguments given
-run_found None name given named held is found = absurd found
-run_found (Some row) name given named held is (inl dump) = absurd cc
-run_found (Some row) name given named held is (inr run) = subst HasRunArguments (sym (some_same held)) run.1
-
--- what a line says of its name and its rows, the line asks
-pub asks_found : (rows : Option (Text × List Row)) (name : Text) (given : List Row) (line : Line) → Some name ≡ option_map (λ found. found.0) rows
-    → Some given ≡ option_map (λ found. found.1) rows → Says name given line → Asks rows line
-asks_found None name given line named held says = absurd cc
-asks_found (Some row) name given line named held says = rw (← some_same named, ← some_same held) says
 
 maps_join : {A B C : Type 0} (g : A → B) (f : B → C) (o : Option A) → option_map (λ x. f (g x)) o ≡ option_map f (option_map g o)
 maps_join g f None = refl

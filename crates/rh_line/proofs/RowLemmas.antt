@@ -1,14 +1,14 @@
 -- Which arguments have a row where clap takes the words: those with a default, and those that have to be given.
-use Rattle.std.proofs.Common.{◌≡◌, ◌⊎◌, inl, inr, ◌&&◌, ◌||◌, ◌++◌, Bool, true, false, not, cond, List, [], ◌∷◌, Option, Some, None, refl, ap, sym, subst, ◌∙◌, fold, true≢false}
+use Rattle.std.proofs.Common.{◌≡◌, ◌⊎◌, inl, inr, ◌&&◌, ◌||◌, ◌++◌, Bool, true, false, not, cond, List, [], ◌∷◌, Some, refl, ap, sym, subst, ◌∙◌, fold, true≢false}
 use Rattle.std.specs.List.{find, list_any}
 use Rattle.std.specs.Option.{option_map_or}
 use Rattle.std.specs.Str.{bytes_eq}
 use Rattle.std.proofs.lemmas.Slice.Eq.{bytes_eq-Decides}
 use Rattle.clap.specs.Facts.{explicit_source}
-use Rattle.clap.specs.Kinds.{check_kinds, or_else}
+use Rattle.clap.specs.Kinds.{check_kinds}
 use Rattle.clap.specs.Faults.{check_fault, defaults_fault, settle_fault, walk_fault}
 use Rattle.clap.specs.Takes.{is_given}
-use Rattle.clap.specs.Walk.{Row, Rule, Text, at_row, default_rows, finished, has_row, more_values, nothing_held, reading_by, rows_after, settled, walk, walk_from, with_default, with_values}
+use Rattle.clap.specs.Walk.{Row, Rule, Text, at_row, default_rows, finished, has_row, more_values, nothing_held, reading_by, rows_after, settled, walk, walk_from, with_default}
 use Rattle.clap.specs.Simple.{Shape}
 use Rattle.clap.specs.declared.parser.matches.ValueSource.{ValueSource}
 use Rattle.clap.specs.declared.parser.matches.ValueSource.TheVariants.{DefaultValue}

@@ -1,5 +1,5 @@
 -- What clap took for an argument whose action is `Set`: a text that its parser accepts, read as the parser says.
-use Rattle.std.proofs.Common.{◌≡◌, ◌&&◌, ◌||◌, ◌++◌, ◌+◌, min, ℕ, Bool, true, false, not, zero, suc, cond, is_some, nat_lt, codes, drop, length, List, [], ◌∷◌, Option, Some, None, refl, sym, ap, subst, ◌∙◌, fold, unwrap_or, true≢false}
+use Rattle.std.proofs.Common.{◌≡◌, ◌&&◌, ◌||◌, ◌++◌, ◌+◌, min, ℕ, Bool, true, false, zero, suc, cond, is_some, nat_lt, drop, length, List, [], ◌∷◌, Option, Some, None, refl, sym, ap, subst, ◌∙◌, fold, true≢false}
 use Rattle.std.specs.Prelude.{encode_utf8, option_and_then, option_map, slice_get}
 use Rattle.std.specs.List.{find}
 use Rattle.std.specs.Option.{option_map_or}

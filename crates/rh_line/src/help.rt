@@ -43,26 +43,32 @@ pub const RUN: &str = "Carries out a script";
 
 /// The command `run`, on `rhset run --help` alone.
 pub const RUN_AT_LENGTH: &str = "\
-Reads a script from a file, carries out its commands one after another on one table, which is empty
-at first, and writes what they find to standard output.";
+Reads a script, carries out its commands one after another on one table, which is empty at first,
+and writes a report of each to standard output.";
 
 /// The argument `--workers`.
-pub const WORKERS: &str = "How many workers carry out each command";
+pub const WORKERS: &str = "How many workers share each command: 1 alone in this version";
 
 /// The argument `SCRIPT`.
-pub const SCRIPT: &str = "The file of the script";
+pub const SCRIPT: &str = "The file that holds the script";
 
 /// What a script is.
-pub const SCRIPT_FORMAT: &str = "\
-A script is a text with one command a line:
-  use NAME PATH  read the key file PATH as the list NAME
+pub const SCRIPTS: &str = "\
+A script is a text with one command on a line. A line that begins with # or has no word is skipped.
+  use NAME PATH  call the list of keys of the key file PATH by NAME
   add NAME       add the keys of the list
   drop NAME      remove the keys of the list
-  ask NAME       tell which keys of the list are in the table
-  keep NAME      remove all keys that are not in the list
-  flip NAME      remove the keys of the list that are there, and add the others
-  save NAME      make the keys of the table a list NAME
+  ask NAME       tell of each key of the list whether the table holds it
+  keep NAME      remove the keys that the list does not have
+  flip NAME      remove the keys of the list that the table holds, and add its others
+  save NAME      call the list of keys of the table by NAME
   clear          remove all keys
-  dump           write the table
+  dump           write the table, as `rhset dump` does
 
-TODO";
+A NAME is a small letter and up to 15 more small letters or digits. `use` and `save` give a name
+once, and the commands after them take it. `rhset dump --help` says what a key file is.
+
+Example of a script:
+  use a three.keys
+  add a
+  dump";

@@ -110,7 +110,7 @@ fn run_command<'a>(alloc: Global) -> Result<Command<'a>, AllocError>
     Command::new(alloc, "run")
         .about(help::RUN)
         .long_about(help::RUN_AT_LENGTH)
-        .after_help(help::SCRIPT_FORMAT)
+        .after_help(help::SCRIPTS)
         .arg(workers_arg(alloc))?
         .arg(path_arg(alloc, "script", "SCRIPT", help::SCRIPT))
 }

@@ -19,11 +19,57 @@ fn dump_is_a_command(rt: HostRuntime) -> Result<(), Fail> {
 }
 
 #[test]
+fn run_is_a_command(rt: HostRuntime) -> Result<(), Fail> {
+    let asked: [&[&str]; 6] = [
+        &["run", "s"],
+        &["run", "--workers", "1", "s"],
+        &["run", "--workers=1", "s"],
+        &["run", "s", "--workers", "+1"],
+        &["run", "--workers=001", "s"],
+        &["run", "--", "s"],
+    ];
+    for words in asked {
+        match line_of(rt.alloc(), words)? {
+            Ok(Line::Run { workers, script }) => {
+                assert!(rt; workers == 1 && script == "s", "{words:?}");
+            }
+            _ => assert!(rt; false, "{words:?}"),
+        }
+    }
+    Ok(())
+}
+
+#[test]
+fn a_script_may_have_any_name(rt: HostRuntime) -> Result<(), Fail> {
+    for name in ["", "run", "help", "a b", "-"] {
+        match line_of(rt.alloc(), &["run", name])? {
+            Ok(Line::Run { script, .. }) => assert!(rt; script == name, "{name:?}"),
+            _ => assert!(rt; false, "{name:?}"),
+        }
+    }
+    Ok(())
+}
+
+#[test]
 fn other_words_are_refused(rt: HostRuntime) -> Result<(), Fail> {
-    let refused: [&[&str]; 4] = [&[], &["dumb"], &["dump", "extra"], &["--what"]];
+    let refused: [&[&str]; 13] = [
+        &[],
+        &["dumb"],
+        &["dump", "extra"],
+        &["dump", "--workers", "1"],
+        &["--what"],
+        &["run"],
+        &["run", "--workers", "1"],
+        &["run", "--workers", "2", "s"],
+        &["run", "--workers", "0", "s"],
+        &["run", "--workers", "x", "s"],
+        &["run", "--workers=", "s"],
+        &["run", "--workers=1", "--workers=1", "s"],
+        &["run", "a", "b"],
+    ];
     for words in refused {
         match line_of(rt.alloc(), words)? {
-            Err(LineFault::Words(error)) => assert!(rt; error.use_stderr()),
+            Err(LineFault::Words(error)) => assert!(rt; error.use_stderr(), "{words:?}"),
             _ => assert!(rt; false, "{words:?}"),
         }
     }
@@ -32,11 +78,14 @@ fn other_words_are_refused(rt: HostRuntime) -> Result<(), Fail> {
 
 #[test]
 fn help_and_version_are_no_mistake(rt: HostRuntime) -> Result<(), Fail> {
-    let asked: [&[&str]; 5] = [
+    let asked: [&[&str]; 8] = [
         &["--help"],
         &["-h"],
         &["help", "dump"],
         &["dump", "--help"],
+        &["help", "run"],
+        &["run", "--help"],
+        &["run", "-h", "s"],
         &["--version"],
     ];
     for words in asked {

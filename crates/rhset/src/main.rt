@@ -29,6 +29,8 @@ fn run(rt: &(impl Env + Input + Print + Eprint + AllocGlobal)) -> Result<Status,
     let words = words(rt)?;
     match line(rt.alloc(), &words) {
         Ok(Line::Dump) => dump_streams(rt),
+        // TODO: carry out the script. Until then `run` ends as a refused command line.
+        Ok(Line::Run { .. }) => Ok(Status::CommandLine),
         Err(LineFault::Words(error)) => answer(rt, &error),
         Err(LineFault::Memory) => Err(Fault::Memory),
     }
