@@ -1,5 +1,6 @@
 use crate::asked::{Line, LineFault};
 use crate::parse::line;
+use clap::Error;
 use std::alloc::Global;
 use std::test::Fail;
 
@@ -9,6 +10,28 @@ fn line_of(alloc: Global, words: &[&str]) -> Result<Result<Line, LineFault>, Fai
         all.push(String::from_str(alloc, word)?)?;
     }
     Ok(line(alloc, &all))
+}
+
+// The number of workers and the script, of words that are `run`.
+fn run_of(alloc: Global, words: &[&str]) -> Result<Option<(usize, String)>, Fail> {
+    Ok(match line_of(alloc, words)? {
+        Ok(line) => match line {
+            Line::Run { workers, script } => Some((workers, script)),
+            Line::Dump => None,
+        },
+        Err(_fault) => None,
+    })
+}
+
+// What clap tells, of words that are no command.
+fn told_of(alloc: Global, words: &[&str]) -> Result<Option<Error>, Fail> {
+    Ok(match line_of(alloc, words)? {
+        Ok(_line) => None,
+        Err(fault) => match fault {
+            LineFault::Words(error) => Some(error),
+            LineFault::Memory => None,
+        },
+    })
 }
 
 #[test]
@@ -29,12 +52,8 @@ fn run_is_a_command(rt: HostRuntime) -> Result<(), Fail> {
         &["run", "--", "s"],
     ];
     for words in asked {
-        match line_of(rt.alloc(), words)? {
-            Ok(Line::Run { workers, script }) => {
-                assert!(rt; workers == 1 && script == "s", "{words:?}");
-            }
-            _ => assert!(rt; false, "{words:?}"),
-        }
+        let (workers, script) = run_of(rt.alloc(), words)?.ok_or("no run")?;
+        assert!(rt; workers == 1 && script.as_str() == "s", "{words:?}");
     }
     Ok(())
 }
@@ -42,10 +61,8 @@ fn run_is_a_command(rt: HostRuntime) -> Result<(), Fail> {
 #[test]
 fn a_script_may_have_any_name(rt: HostRuntime) -> Result<(), Fail> {
     for name in ["", "run", "help", "a b", "-"] {
-        match line_of(rt.alloc(), &["run", name])? {
-            Ok(Line::Run { script, .. }) => assert!(rt; script == name, "{name:?}"),
-            _ => assert!(rt; false, "{name:?}"),
-        }
+        let (_, script) = run_of(rt.alloc(), &["run", name])?.ok_or("no run")?;
+        assert!(rt; script.as_str() == name, "{name:?}");
     }
     Ok(())
 }
@@ -68,10 +85,8 @@ fn other_words_are_refused(rt: HostRuntime) -> Result<(), Fail> {
         &["run", "a", "b"],
     ];
     for words in refused {
-        match line_of(rt.alloc(), words)? {
-            Err(LineFault::Words(error)) => assert!(rt; error.use_stderr(), "{words:?}"),
-            _ => assert!(rt; false, "{words:?}"),
-        }
+        let error = told_of(rt.alloc(), words)?.ok_or("not refused")?;
+        assert!(rt; error.use_stderr(), "{words:?}");
     }
     Ok(())
 }
@@ -89,10 +104,8 @@ fn help_and_version_are_no_mistake(rt: HostRuntime) -> Result<(), Fail> {
         &["--version"],
     ];
     for words in asked {
-        match line_of(rt.alloc(), words)? {
-            Err(LineFault::Words(error)) => assert!(rt; !error.use_stderr(), "{words:?}"),
-            _ => assert!(rt; false, "{words:?}"),
-        }
+        let error = told_of(rt.alloc(), words)?.ok_or("not answered")?;
+        assert!(rt; !error.use_stderr(), "{words:?}");
     }
     Ok(())
 }
