@@ -1,4 +1,2 @@
-pub mod App
 pub mod Dump
 pub mod Endings
-pub mod Faults

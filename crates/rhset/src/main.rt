@@ -5,18 +5,12 @@ ghost use Rattle.std.specs.Prelude.{◌≡◌, IfOk, IfErr};
 ghost use Rattle.clap.specs.Words.{kind_of};
 ghost use Rattle.rhset.specs.Endings.{ending_by, ending_of};
 
-mod asked;
 mod dump;
-mod help;
-mod parse;
 mod status;
-#[cfg(test)]
-mod tests;
 
-use asked::{Line, LineFault};
 use dump::dump_keys;
-use parse::line;
 use rh_files::Counted;
+use rh_line::{Line, LineFault, line};
 use status::{Fault, Status};
 use std::env::Env;
 use std::io::{BufReader, BufWriter, Write};
@@ -35,6 +29,8 @@ fn run(rt: &(impl Env + Input + Print + Eprint + AllocGlobal)) -> Result<Status,
     let words = words(rt)?;
     match line(rt.alloc(), &words) {
         Ok(Line::Dump) => dump_streams(rt),
+        // TODO: carry out the script. Until then `run` ends as a refused command line.
+        Ok(Line::Run { .. }) => Ok(Status::CommandLine),
         Err(LineFault::Words(error)) => answer(rt, &error),
         Err(LineFault::Memory) => Err(Fault::Memory),
     }

@@ -1,6 +1,6 @@
-use Rattle.rhset.specs.App.{texts_of}
-use Rattle.rhset.proofs.CommandLemmas.{words_name_a_command}
-use Rattle.rhset.proofs.parse.line.Goals as goal
+use Rattle.rh_line.specs.App.{texts_of}
+use Rattle.rh_line.proofs.CommandLemmas.{words_name_a_command}
+use Rattle.rh_line.proofs.parse.line.Goals as goal
 
 -- words that clap takes name a command
 pub asked-requires : goal.asked-requires

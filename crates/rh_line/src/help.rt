@@ -37,3 +37,38 @@ number of cells from the key's home, where the search for it begins.
 
 Example, of the key 9 alone:
   printf 'RHK2\\0\\0\\0\\0\\0\\0\\0\\001\\0\\0\\0\\0\\0\\0\\0\\011' | rhset dump";
+
+/// The command `run`, in a line.
+pub const RUN: &str = "Carries out a script";
+
+/// The command `run`, on `rhset run --help` alone.
+pub const RUN_AT_LENGTH: &str = "\
+Reads a script, carries out its commands one after another on one table, which is empty at first,
+and writes a report of each to standard output.";
+
+/// The argument `--workers`.
+pub const WORKERS: &str = "How many workers share each command: 1 alone in this version";
+
+/// The argument `SCRIPT`.
+pub const SCRIPT: &str = "The file that holds the script";
+
+/// What a script is.
+pub const SCRIPTS: &str = "\
+A script is a text with one command on a line. A line that begins with # or has no word is skipped.
+  use NAME PATH  call the list of keys of the key file PATH by NAME
+  add NAME       add the keys of the list
+  drop NAME      remove the keys of the list
+  ask NAME       tell of each key of the list whether the table holds it
+  keep NAME      remove the keys that the list does not have
+  flip NAME      remove the keys of the list that the table holds, and add its others
+  save NAME      call the list of keys of the table by NAME
+  clear          remove all keys
+  dump           write the table, as `rhset dump` does
+
+A NAME is a small letter and up to 15 more small letters or digits. `use` and `save` give a name
+once, and the commands after them take it. `rhset dump --help` says what a key file is.
+
+Example of a script:
+  use a three.keys
+  add a
+  dump";

@@ -7,7 +7,10 @@ use std::alloc::AllocError;
 /// A command, with its arguments.
 #[derive(Debug, Drop)]
 pub enum Line {
+    /// Write the table of the keys on standard input.
     Dump,
+    /// Carry out the commands of the file `script`, each with this many workers.
+    Run { workers: usize, script: String },
 }
 
 /// Why there is no command to carry out.
@@ -19,7 +22,7 @@ pub enum LineFault {
 }
 
 impl From<Error> for LineFault {
-    ghost use Rattle.rhset.specs.Faults.{PassesOn};
+    ghost use Rattle.rh_line.specs.Faults.{PassesOn};
 
     ghost from_gives = { PassesOn };
 
@@ -33,7 +36,7 @@ impl From<Error> for LineFault {
 
 impl From<AllocError> for LineFault {
     ghost use Rattle.std.specs.Prelude.{◌≡◌};
-    ghost use Rattle.rhset.specs.declared.asked.LineFault.TheVariants.{Memory};
+    ghost use Rattle.rh_line.specs.declared.asked.LineFault.TheVariants.{Memory};
 
     ghost from_gives = { λ _ fault. fault ≡ Memory };
 

@@ -1,0 +1,7 @@
+pub mod BuilderLemmas
+pub mod CommandLemmas
+pub mod HelpLemmas
+pub mod ReadLemmas
+pub mod RowLemmas
+pub mod RunLemmas
+pub mod ValueLemmas

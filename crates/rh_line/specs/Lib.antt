@@ -1,0 +1,2 @@
+pub mod App
+pub mod Faults

@@ -1,3 +1,0 @@
-pub mod BuilderLemmas
-pub mod CommandLemmas
-pub mod HelpLemmas
