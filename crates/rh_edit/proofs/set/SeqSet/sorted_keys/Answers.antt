@@ -5,7 +5,7 @@ facts : (c : goal.After-sorted) → AreKeysOf c.args.self.now c.sorted.result.it
 facts c =
     sorted_facts c.self.inside.table.items c.self.inside.bits c.self.invariant.0 c.sorted.result.items
     (sorted_all c.self.inside.table.items c.deref-value-items.result.now c.loop-value.keys.items c.sorted.result.items c.loop-value.value-index
-        c.deref-value-items.ensures.value c.loop-value-test.false c.loop-value.invariant c.sorted.ensures.moved)
+    c.deref-value-items.ensures.value c.loop-value-test.false c.loop-value.invariant c.sorted.ensures.moved)
     c.self.inside.len c.args.self.now c.self.view_is c.self.invariant.1 c.self.invariant.2 c.sorted.ensures.sorted
 
 pub returns-clause-items : goal.returns-clause-items
