@@ -198,7 +198,10 @@ fn a_key_file_is_written(rt: HostRuntime) -> Result<(), Fail> {
     assert_eq!(rt; writer.failures(), 0);
     let bytes = writer.into_inner();
     assert_eq!(rt; bytes.as_slice(), THREE_KEYS_AGAIN);
-    assert_eq!(rt; all_keys(rt.alloc(), &bytes)?.as_slice(), [17, 1, 9].as_slice());
+    assert_eq!(rt;
+        all_keys(rt.alloc(), &bytes)?.as_slice(),
+        [17, 1, 9].as_slice()
+    );
     Ok(())
 }
 
@@ -209,14 +212,13 @@ fn each_write_of_a_key_file_fails(rt: HostRuntime) {
         for n in 1..7u64 {
             let mut writer = Counted::new(FaultyWriter::new(rt.alloc(), n, refusal));
             let outcome = write_keys(&[17, 1, 9], &mut writer);
-            let fault = if n < 6 {
-                Some(WriteFault::Write)
-            } else {
-                None
-            };
+            let fault = if n < 6 { Some(WriteFault::Write) } else { None };
             assert_eq!(rt; outcome.err(), fault, "at {n}");
             assert_eq!(rt; writer.failures(), u64::from(n < 6));
-            assert!(rt; THREE_KEYS_AGAIN.starts_with(writer.get_ref().text()), "at {n}");
+            assert!(rt;
+                THREE_KEYS_AGAIN.starts_with(writer.get_ref().text()),
+                "at {n}"
+            );
         }
     }
 }
