@@ -24,7 +24,10 @@ fn a_shelf_gives_what_was_put(rt: HostRuntime) -> Result<(), Fail> {
     let mut reader = shelf.fetch(rt.alloc(), "b")?;
     assert_eq!(rt; reader.read(&mut bytes).ok(), Some(5));
     assert_eq!(rt; bytes, *b"three-");
-    assert_eq!(rt; shelf.fetch(rt.alloc(), "c").err(), Some(ShelfFault::Missing));
+    assert_eq!(rt;
+        shelf.fetch(rt.alloc(), "c").err(),
+        Some(ShelfFault::Missing)
+    );
     Ok(())
 }
 
