@@ -1,28 +1,27 @@
 -- The keys of a set in rising order, and how they come of the cells of a layout.
-use Rattle.std.proofs.Common.{◌≡◌, ◌∙◌, ap, sym, refl, subst, ℕ, ◌+◌, ◌≤◌, ◌<◌, ◌^◌, inl, inr, arith, Bool, true, false, cond, List, [], ◌∷◌, ◌++◌, length, take, get_or, Option, Some, None, eqb, count_by}
+use Rattle.std.proofs.Common.{◌≡◌, ◌∙◌, ap, sym, refl, subst, ℕ, ◌+◌, ◌≤◌, ◌<◌, ◌^◌, arith, Bool, true, false, cond, List, [], ◌∷◌, length, take, Option, Some, None, eqb}
 use Rattle.std.specs.Prelude.{T, map, filter, is_some, ◌&&◌, ◌||◌, IsTrue}
 use Rattle.std.specs.List.{list_any, AllByRecursion, IsDistinct, All}
 use Rattle.std.specs.List.Sorted.{IsStrictlyIncreasing, IsStrictlySortedBy, IsPermutation, IsSorted}
 use Rattle.std.specs.Ordering.{nat_cmp, eq_by_cmp, is_lt, match_ordering}
 use Rattle.std.specs.declared.cmp.Ordering.TheVariants.{Less, Equal, Greater}
-use Rattle.std.specs.Cmp.{nat_cmp_total, eq_by_cmp_equiv, unsigned_tied, nat_eq_equiv}
+use Rattle.std.specs.Cmp.{nat_cmp_total, eq_by_cmp_equiv, unsigned_tied}
 use Rattle.std.specs.BTreeSet.{insert_key}
 use Rattle.std.specs.FinSet as set
 use Rattle.std.specs.FinSet.{contains, contains-items, contains-from_list, nat_cmp-IsAntisymmetric}
 use Rattle.std.specs.FinMap as maps
 use Rattle.std.specs.FinMap.Entries.{put, by_order, find, below_all, is_sorted, is_some-find}
-use Rattle.std.proofs.lemmas.Bool.{cases_eq, eqb-true}
+use Rattle.std.proofs.lemmas.Bool.{eqb-true}
 use Rattle.std.proofs.lemmas.List.{nil_from_length, length-map, take_all}
 use Rattle.std.proofs.lemmas.List.Sums.{length-filter}
 use Rattle.std.proofs.lemmas.List.Sorted.{IsNonDecreasingBy-from_sort, IsPermutation-sym, Contains-permutation, length_permutation}
-use Rattle.std.proofs.lemmas.Map.Keys.{sorted_from_strictly_increasing, IsStrictlyIncreasing-from_distinct, IsDistinct-cons}
+use Rattle.std.proofs.lemmas.Map.Keys.{sorted_from_strictly_increasing, IsStrictlyIncreasing-from_distinct}
 use Rattle.std.proofs.lemmas.Map.Views.{Contains-from_any, list_any-from_Contains, All-from_any}
 use Rattle.std.proofs.Math.Pow.{pow_mono}
 use Rattle.rh_layout.specs.declared.limits.TheConstants.{MAX_BITS}
-use Rattle.rh_layout.specs.Key.{IsKey, key_in, is_full, cell_of}
-use Rattle.rh_layout.specs.Layout.{Keys, Layout, IsLayout, keys_of}
+use Rattle.rh_layout.specs.Key.{IsKey, key_in, is_full}
+use Rattle.rh_layout.specs.Layout.{Keys, IsLayout, keys_of}
 use Rattle.rh_layout.proofs.SetLemmas.{same_keys}
-use Rattle.rh_layout.proofs.LayoutLemmas.{at}
 use Rattle.rh_layout.proofs.CountLemmas.{full_count, count_of_layout}
 use Rattle.rh_edit.specs.Held.{Held}
 use Rattle.rh_edit.specs.Rising.{put_in_order, rising_keys}
@@ -86,8 +85,8 @@ module _ (S : Keys) (ys : List ℕ) (rises : IsStrictlyIncreasing ys) (is : set.
   same_map =
       maps.same_map nat_cmp_total nat_cmp-IsAntisymmetric (maps.from_sorted {R = nat_cmp} (units ys)) (map_of (set.items S))
       (λ q. maps.get-from_sorted nat_cmp (units ys) q in_order
-          ∙ one_unit (find nat_cmp q (units ys)) (find nat_cmp q (units (set.items S))) (is_some-find_units ys q ∙ same_members q ∙ sym (is_some-find_units (set.items S) q))
-          ∙ sym (maps.get-from_entries nat_cmp_total (units (set.items S)) q))
+      ∙ one_unit (find nat_cmp q (units ys)) (find nat_cmp q (units (set.items S))) (is_some-find_units ys q ∙ same_members q ∙ sym (is_some-find_units (set.items S) q))
+      ∙ sym (maps.get-from_entries nat_cmp_total (units (set.items S)) q))
 
   pub rising_is : ys ≡ rising_keys S
   unfolding rising_keys

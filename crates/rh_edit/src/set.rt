@@ -1,7 +1,8 @@
 //! The set of one worker.
 
 ghost use Rattle.std.specs.Prelude.{◌≡◌, ◌+◌, ◌^◌, ◌<◌, All, IfOk, length, not};
-ghost use Rattle.std.specs.List.Sorted.{IsStrictlyIncreasing};
+ghost use Rattle.std.specs.List.Sorted.{IsPermutation, IsSorted, IsStrictlyIncreasing};
+ghost use Rattle.std.specs.Ordering.{nat_cmp};
 ghost use Rattle.std.specs.FinSet as set;
 ghost use Rattle.rh_layout.specs.Key.{IsBits, IsKey};
 ghost use Rattle.rh_layout.specs.Layout.{IsLayout, Layout, keys_of};
@@ -174,7 +175,14 @@ impl SeqSet {
                 keys.push(key)?;
             }
         }
-        keys.sort_unstable();
-        Ok(keys)
+        Ok(sorted(keys))
     }
+}
+
+fn sorted(mut keys: Vec<u64>) -> Vec<u64>
+    ensures moved { IsPermutation keys.items result.items }
+    ensures sorted { IsSorted nat_cmp result.items }
+{
+    keys.sort_unstable();
+    keys
 }

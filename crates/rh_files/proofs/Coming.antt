@@ -1,5 +1,5 @@
 -- What is still to come of a stream of keys.
-use Rattle.std.proofs.Common.{◌≡◌, ◌≢◌, ◌∙◌, refl, sym, ap, subst, ℕ, zero, suc, ◌+◌, ◌-◌, ◌<◌, ◌==◌, min, List, [], ◌++◌, length, take, Option, Some, None, Result, Ok, Err, IfOk, arith}
+use Rattle.std.proofs.Common.{◌≡◌, ◌≢◌, ◌∙◌, refl, sym, ap, subst, ℕ, zero, suc, ◌+◌, ◌-◌, ◌<◌, min, List, [], ◌++◌, length, take, Option, Some, None, Result, Ok, Err, IfOk, arith}
 use Rattle.std.specs.Prelude.{option_map}
 use Rattle.std.proofs.lemmas.Bool.{ne_eqb}
 use Rattle.rh_files.specs.declared.version.Version.{Version}
@@ -9,7 +9,7 @@ use Rattle.rh_files.specs.declared.fault.KeyFault.TheVariants.{NotKeys, Short, T
 use Rattle.rh_files.specs.declared.stream.State.{State}
 use Rattle.rh_files.specs.declared.stream.State.TheVariants.{Open, Ended, Failed}
 use Rattle.rh_files.specs.Reading.{◌>>=◌, Fails, Reads, front_of, header_at, keys_at, end_at, batch_at, after_header, ended, file_keys}
-use Rattle.rh_files.specs.Source.{Coming, Gives, ComesFrom, FaultComes, HasCount, keys_in, keys_of_file, keys_then}
+use Rattle.rh_files.specs.Source.{Gives, ComesFrom, FaultComes, HasCount, keys_in, keys_of_file, keys_then}
 use Rattle.rh_files.specs.Stream.{answer_again, coming_in, keys_to_end, state_after}
 use Rattle.rh_files.proofs.Reading.{Fails-then}
 use Rattle.rh_files.proofs.Next.{none_left, some_left}

@@ -187,6 +187,51 @@ fn each_write_fails(rt: HostRuntime) {
     }
 }
 
+// The keys 17, 1 and 9 in the second version.
+const THREE_KEYS_AGAIN: &[u8] =
+    b"RHK2\0\0\0\0\0\0\0\x03\0\0\0\0\0\0\0\x11\0\0\0\0\0\0\0\x01\0\0\0\0\0\0\0\x09";
+
+#[test]
+fn a_key_file_is_written(rt: HostRuntime) -> Result<(), Fail> {
+    let mut writer = Counted::new(Vec::new(rt.alloc()));
+    write_keys(&[17, 1, 9], &mut writer)?;
+    assert_eq!(rt; writer.failures(), 0);
+    let bytes = writer.into_inner();
+    assert_eq!(rt; bytes.as_slice(), THREE_KEYS_AGAIN);
+    assert_eq!(rt;
+        all_keys(rt.alloc(), &bytes)?.as_slice(),
+        [17, 1, 9].as_slice()
+    );
+    Ok(())
+}
+
+#[test]
+fn each_write_of_a_key_file_fails(rt: HostRuntime) {
+    for refusal in [Refusal::Error, Refusal::TakesNothing] {
+        // The magic, the count and three keys.
+        for n in 1..7u64 {
+            let mut writer = Counted::new(FaultyWriter::new(rt.alloc(), n, refusal));
+            let outcome = write_keys(&[17, 1, 9], &mut writer);
+            let fault = if n < 6 { Some(WriteFault::Write) } else { None };
+            assert_eq!(rt; outcome.err(), fault, "at {n}");
+            assert_eq!(rt; writer.failures(), u64::from(n < 6));
+            assert!(rt;
+                THREE_KEYS_AGAIN.starts_with(writer.get_ref().text()),
+                "at {n}"
+            );
+        }
+    }
+}
+
+#[test]
+fn texts_are_written_in_turn(rt: HostRuntime) -> Result<(), Fail> {
+    let mut writer = Counted::new(Vec::new(rt.alloc()));
+    write_texts(&mut writer, &[b"one, ", b"", b"two"])?;
+    assert_eq!(rt; writer.failures(), 0);
+    assert_eq!(rt; writer.into_inner().as_slice(), b"one, two".as_slice());
+    Ok(())
+}
+
 #[test]
 fn a_fault_can_be_printed(rt: HostRuntime) -> Result<(), Fail> {
     for (fault, text) in [

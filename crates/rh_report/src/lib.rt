@@ -8,3 +8,6 @@ pub use answers::{ANSWERS_PER_LINE, write_asked};
 pub use lines::{
     write_added, write_cleared, write_dropped, write_flipped, write_kept, write_saved, write_used,
 };
+
+#[cfg(test)]
+mod tests;

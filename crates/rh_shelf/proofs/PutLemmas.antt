@@ -1,5 +1,5 @@
 -- A file more in a map of files.
-use Rattle.std.proofs.Common.{◌≡◌, ◌∙◌, ap, sym, ℕ, Bool, true, false, cond, List, Option, Some, String, string_bytes, string_cmp, Vec, refl}
+use Rattle.std.proofs.Common.{◌≡◌, ◌∙◌, ap, ℕ, Bool, true, false, cond, List, Option, Some, String, string_bytes, string_cmp, Vec, refl}
 use Rattle.std.specs.Prelude.{option_map}
 use Rattle.std.specs.Global.{Global}
 use Rattle.std.specs.Str.{bytes_eq}
