@@ -2,6 +2,10 @@
 use Rattle.std.specs.Prelude.{ℕ}
 use Rattle.clap.specs.declared.error.kind.ErrorKind.{ErrorKind}
 use Rattle.clap.specs.declared.error.kind.ErrorKind.TheVariants.{DisplayHelp, DisplayVersion}
+use Rattle.rh_script.specs.declared.fault.ScriptFaultKind.{ScriptFaultKind}
+use Rattle.rh_script.specs.declared.fault.ScriptFaultKind.TheVariants as kinds
+use Rattle.rh_planner.specs.declared.fault.Cause.{Cause}
+use Rattle.rh_planner.specs.declared.fault.Cause.TheVariants as causes
 use Rattle.rhset.specs.declared.dump.DumpFault.TheVariants as dump
 use Rattle.rhset.specs.declared.status.Fault.{Fault}
 use Rattle.rhset.specs.declared.status.Fault.TheVariants as fault
@@ -22,12 +26,28 @@ ending_of DisplayHelp = Done
 ending_of DisplayVersion = Done
 ending_of _ = CommandLine
 
+-- how a run ends whose script was refused
+abbrev pub ending_by_line : ScriptFaultKind → Status
+ending_by_line kinds.Memory = Memory
+ending_by_line kind = Refused
+
+-- how a run ends whose script was not carried out to its end
+abbrev pub ending_by_cause : Cause → Status
+ending_by_cause causes.Memory = Memory
+ending_by_cause causes.NoThread = Memory
+ending_by_cause causes.Write = Write
+ending_by_cause cause = Refused
+
 -- how a run ends that a fault ended early
 abbrev pub ending_by : Fault → Status
 ending_by fault.NotText = CommandLine
 ending_by fault.Memory = Memory
 ending_by fault.Write = Write
+ending_by fault.Open = Refused
+ending_by fault.Read = Refused
 ending_by (fault.Dump (dump.Keys fault)) = Refused
 ending_by (fault.Dump dump.TooLarge) = Refused
 ending_by (fault.Dump dump.Memory) = Memory
 ending_by (fault.Dump dump.Write) = Write
+ending_by (fault.Script fault) = ending_by_line fault.kind
+ending_by (fault.Run fault) = ending_by_cause fault.cause

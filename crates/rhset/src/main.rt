@@ -6,31 +6,40 @@ ghost use Rattle.clap.specs.Words.{kind_of};
 ghost use Rattle.rhset.specs.Endings.{ending_by, ending_of};
 
 mod dump;
+mod file_shelf;
+mod script;
 mod status;
 
 use dump::dump_keys;
 use rh_files::Counted;
 use rh_line::{Line, LineFault, line};
+use script::run_script;
 use status::{Fault, Status};
 use std::env::Env;
+use std::fs::Files;
 use std::io::{BufReader, BufWriter, Write};
 use std::process::ExitCode;
+use std::sync::Wait;
 use std::{env, io};
 
 fn main(rt: HostRuntime) -> ExitCode {
-    let status = match run(&rt) {
+    let status = match carry_out(&rt) {
         Ok(status) => status,
         Err(fault) => tell(&rt, &fault),
     };
     ExitCode::from(status)
 }
 
-fn run(rt: &(impl Env + Input + Print + Eprint + AllocGlobal)) -> Result<Status, Fault> {
+fn carry_out(
+    rt: &(impl Env + Files + Input + Print + Eprint + AllocGlobal + Wait),
+) -> Result<Status, Fault> {
     let words = words(rt)?;
     match line(rt.alloc(), &words) {
         Ok(Line::Dump) => dump_streams(rt),
-        // TODO: carry out the script. Until then `run` ends as a refused command line.
-        Ok(Line::Run { .. }) => Ok(Status::CommandLine),
+        Ok(Line::Run { script, .. }) => {
+            run_script(rt, &script)?;
+            Ok(Status::Done)
+        }
         Err(LineFault::Words(error)) => answer(rt, &error),
         Err(LineFault::Memory) => Err(Fault::Memory),
     }

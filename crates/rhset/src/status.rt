@@ -1,6 +1,8 @@
 //! How the program ends.
 
 use crate::dump::DumpFault;
+use rh_planner::{Cause, RunFault};
+use rh_script::{ScriptFault, ScriptFaultKind};
 use std::process::ExitCode;
 use thiserror::Error;
 
@@ -35,8 +37,17 @@ pub enum Fault {
     Memory,
     #[error("cannot write the output")]
     Write,
+    /// The script's file.
+    #[error("cannot open the file")]
+    Open,
+    #[error("read failed")]
+    Read,
     #[error(transparent)]
     Dump(DumpFault),
+    #[error(transparent)]
+    Script(ScriptFault),
+    #[error(transparent)]
+    Run(RunFault),
 }
 
 impl Fault {
@@ -51,9 +62,19 @@ impl Fault {
             Fault::NotText => Status::CommandLine,
             Fault::Memory => Status::Memory,
             Fault::Write => Status::Write,
+            Fault::Open | Fault::Read => Status::Refused,
             Fault::Dump(DumpFault::Keys(_) | DumpFault::TooLarge) => Status::Refused,
             Fault::Dump(DumpFault::Memory) => Status::Memory,
             Fault::Dump(DumpFault::Write) => Status::Write,
+            Fault::Script(fault) => match fault.kind {
+                ScriptFaultKind::Memory => Status::Memory,
+                _ => Status::Refused,
+            },
+            Fault::Run(fault) => match fault.cause {
+                Cause::Memory | Cause::NoThread => Status::Memory,
+                Cause::Write => Status::Write,
+                _ => Status::Refused,
+            },
         }
     }
 }

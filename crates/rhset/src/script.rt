@@ -1,0 +1,50 @@
+//! The command `run`: a script over the files of the current folder.
+
+use crate::file_shelf::FileShelf;
+use crate::status::Fault;
+use rh_files::Counted;
+use rh_planner::run;
+use rh_runner::Single;
+use rh_script::{MAX_LINE_BYTES, MAX_LINES, parse};
+use std::fs::{self, Files};
+use std::io::{self, BufReader, BufWriter, ErrorKind, Read, Write};
+use std::sync::Wait;
+
+// A script of more bytes has a faulty line within these: one too many, or one that is too long.
+const MAX_BYTES: u64 = MAX_LINES * (MAX_LINE_BYTES as u64 + 1) + 1;
+
+/// Carries out the script at the path, and writes its report to standard output through a buffer.
+pub fn run_script(rt: &(impl Files + Print + AllocGlobal + Wait), path: &str) -> Result<(), Fault> {
+    let text = script_text(rt, path)?;
+    let script = parse(rt.alloc(), &text).map_err(Fault::Script)?;
+    let output = BufWriter::new(rt.alloc(), io::writer(rt)).map_err(|_| Fault::Memory)?;
+    let mut writer = Counted::new(output);
+    let mut shelf = FileShelf::new(rt);
+    let told = run(
+        rt,
+        rt.alloc(),
+        &script,
+        &mut shelf,
+        &mut Single,
+        &mut writer,
+    );
+    // What the commands before a fault told is written too.
+    let flushed = writer.flush();
+    told.map_err(Fault::Run)?;
+    flushed.map_err(|_| Fault::Write)
+}
+
+fn script_text(rt: &(impl Files + AllocGlobal), path: &str) -> Result<Vec<u8>, Fault> {
+    let file = fs::open(rt, path).map_err(|error| match error.kind() {
+        ErrorKind::OutOfMemory => Fault::Memory,
+        _ => Fault::Open,
+    })?;
+    let mut text = Vec::new(rt.alloc());
+    match file.take(MAX_BYTES).read_to_end(&mut text) {
+        Ok(_) => Ok(text),
+        Err(error) => Err(match error.kind() {
+            ErrorKind::OutOfMemory => Fault::Memory,
+            _ => Fault::Read,
+        }),
+    }
+}
