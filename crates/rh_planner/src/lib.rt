@@ -14,3 +14,6 @@ mod tasks;
 pub use fault::{Cause, RunFault};
 pub use report::Report;
 pub use running::run;
+
+#[cfg(test)]
+mod tests;

@@ -1,0 +1,364 @@
+use super::*;
+use rh_files::{Counted, FaultyWriter, KeyFault, Refusal, write_keys};
+use rh_runner::Single;
+use rh_script::parse;
+use rh_shelf::{FaultyShelf, MemShelf, Shelf, ShelfFailure, ShelfFault};
+use std::alloc::Global;
+use std::io::Cursor;
+use std::sync::Wait;
+use std::test::*;
+
+// A key file of these keys.
+fn key_file(alloc: Global, keys: &[u64]) -> Result<Vec<u8>, Fail> {
+    let mut file = Counted::new(Vec::new(alloc));
+    if keys.len() < 1_000_000 && keys.iter().all(|key| *key < 1_000_000) {
+        write_keys(keys, &mut file)?;
+    }
+    Ok(file.into_inner())
+}
+
+fn put_keys(alloc: Global, shelf: &mut MemShelf, path: &str, keys: &[u64]) -> Result<(), Fail> {
+    let file = key_file(alloc, keys)?;
+    shelf.put(alloc, path, &file)?;
+    Ok(())
+}
+
+fn three_files(alloc: Global) -> Result<MemShelf, Fail> {
+    let mut shelf = MemShelf::new(alloc);
+    put_keys(alloc, &mut shelf, "a.keys", &[1, 9, 17])?;
+    put_keys(alloc, &mut shelf, "b.keys", &[2, 10])?;
+    put_keys(alloc, &mut shelf, "c.keys", &[1, 2, 9])?;
+    Ok(shelf)
+}
+
+const SCRIPT: &str = "\
+    use a a.keys\nuse b b.keys\nuse c c.keys\nadd a\nask c\nflip b\nflip b\nkeep b\ndump\n";
+
+// What each line of the script tells, and where its text begins and ends is by line.
+const TOLD: [&str; 9] = [
+    "use a 3\n",
+    "use b 2\n",
+    "use c 3\n",
+    "add a read 3 added 3 held 3 bits 3\n",
+    "ask c read 3 found 2\n101\n",
+    "flip b read 2 removed 0 added 2 held 5 bits 3\n",
+    "flip b read 2 removed 2 added 0 held 3 bits 3\n",
+    "keep b read 2 found 0 held 0 bits 3\n",
+    "table 3 0\nend\n",
+];
+
+// The text of the first lines.
+fn told_before(alloc: Global, line: u64) -> Result<Vec<u8>, Fail> {
+    let mut text = Vec::new(alloc);
+    for told in TOLD.iter().take((line as usize).saturating_sub(1)) {
+        text.extend_from_slice(told.as_bytes())?;
+    }
+    Ok(text)
+}
+
+// What a script tells over these files, and how it ends.
+fn run_over(
+    rt: &(impl Wait + AllocGlobal),
+    shelf: &mut MemShelf,
+    script: &str,
+) -> Result<(Vec<u8>, Result<Report, RunFault>), Fail> {
+    let script = parse(rt.alloc(), script.as_bytes())?;
+    let mut writer = Counted::new(Vec::new(rt.alloc()));
+    let outcome = run(rt, rt.alloc(), &script, shelf, &mut Single, &mut writer);
+    Ok((writer.into_inner(), outcome))
+}
+
+#[test]
+fn a_script_is_carried_out(rt: HostRuntime) -> Result<(), Fail> {
+    let mut shelf = three_files(rt.alloc())?;
+    let (text, outcome) = run_over(&rt, &mut shelf, SCRIPT)?;
+    assert_eq!(rt; text.as_slice(), told_before(rt.alloc(), 10)?.as_slice());
+    let report = Report {
+        commands: 9,
+        held: 0,
+        bits: 3,
+    };
+    assert_eq!(rt; outcome, Ok(report));
+    Ok(())
+}
+
+// The keys of a file `k`, a script, and what it tells, worked out by hand from the homes.
+const SMALL: [(&[u64], &str, &str); 5] = [
+    (
+        &[1, 1, 1, 1, 1, 1, 1],
+        "use a k\nadd a\ndump\n",
+        "use a 7\nadd a read 7 added 1 held 1 bits 4\ntable 4 1\n9 1 0\nend\n",
+    ),
+    (
+        &[1, 2],
+        "use b k\nadd b\nkeep b\ndump\n",
+        "use b 2\nadd b read 2 added 2 held 2 bits 3\nkeep b read 2 found 2 held 2 bits 3\n\
+        table 3 2\n1 2 0\n4 1 0\nend\n",
+    ),
+    (
+        &[9, 1, 9],
+        "use a k\nadd a\nsave s\nclear\nask s\nadd s\ndrop a\ndump\n",
+        "use a 3\nadd a read 3 added 2 held 2 bits 3\nsave s 2\nclear\nask s read 2 found 0\n00\n\
+        add s read 2 added 2 held 2 bits 3\ndrop a read 3 removed 2 held 0 bits 3\n\
+        table 3 0\nend\n",
+    ),
+    (&[5], "# nothing\n\n", ""),
+    (
+        &[],
+        "use a k\nask a\nflip a\n",
+        "use a 0\nask a read 0 found 0\n\
+        flip a read 0 removed 0 added 0 held 0 bits 3\n",
+    ),
+];
+
+#[test]
+fn small_scripts(rt: HostRuntime) -> Result<(), Fail> {
+    for (keys, script, expected) in SMALL {
+        let mut shelf = MemShelf::new(rt.alloc());
+        put_keys(rt.alloc(), &mut shelf, "k", keys)?;
+        let (text, outcome) = run_over(&rt, &mut shelf, script)?;
+        assert_eq!(rt; text.as_slice(), expected.as_bytes(), "{script}");
+        assert!(rt; outcome.is_ok());
+    }
+    Ok(())
+}
+
+// How many keys, from 1 on, the script, the text, and the line and the cause of its end.
+const LARGE: [(u64, &str, &str, Option<(u64, Cause)>); 4] = [
+    (
+        10_000,
+        "use k k\nadd k\nflip k\n",
+        "use k 10000\nadd k read 10000 added 10000 held 10000 bits 14\n\
+        flip k read 10000 removed 10000 added 0 held 0 bits 14\n",
+        None,
+    ),
+    (
+        49_153,
+        "use k k\nadd k\nclear\n",
+        "use k 49153\nadd k read 49153 added 49153 held 49153 bits 17\nclear\n",
+        None,
+    ),
+    (
+        196_608,
+        "use k k\nadd k\n",
+        "use k 196608\nadd k read 196608 added 196608 held 196608 bits 18\n",
+        None,
+    ),
+    (
+        196_609,
+        "use k k\nadd k\n",
+        "use k 196609\n",
+        Some((2, Cause::TooLarge)),
+    ),
+];
+
+#[test]
+fn large_lists(rt: HostRuntime) -> Result<(), Fail> {
+    for (many, script, expected, end) in LARGE {
+        let mut keys = Vec::new(rt.alloc());
+        for key in 1..=many {
+            keys.push(key)?;
+        }
+        let mut shelf = MemShelf::new(rt.alloc());
+        put_keys(rt.alloc(), &mut shelf, "k", &keys)?;
+        let (text, outcome) = run_over(&rt, &mut shelf, script)?;
+        assert_eq!(rt; text.as_slice(), expected.as_bytes(), "{many}");
+        let fault = end.map(|(line, cause)| RunFault { line, cause });
+        assert_eq!(rt; outcome.err(), fault, "{many}");
+    }
+    Ok(())
+}
+
+// A line of 64 digits for each 64 keys, and one for what is left.
+#[test]
+fn answers_stand_64_on_a_line(rt: HostRuntime) -> Result<(), Fail> {
+    let mut keys = Vec::new(rt.alloc());
+    for key in 1..=10_000 {
+        keys.push(key)?;
+    }
+    let mut shelf = MemShelf::new(rt.alloc());
+    put_keys(rt.alloc(), &mut shelf, "k", &keys)?;
+    let (text, _) = run_over(&rt, &mut shelf, "use k k\nadd k\nask k\n")?;
+    for (digits, lines) in [(64, 156), (16, 1)] {
+        let told = text.split(|b| *b == b'\n');
+        let told = told.filter(|line| line.len() == digits && line.iter().all(|b| *b == b'1'));
+        assert_eq!(rt; told.count(), lines, "{digits}");
+    }
+    Ok(())
+}
+
+// Files that are refused: their bytes after the magic, and why.
+const REFUSED: [(&[u8], KeyFault); 5] = [
+    (b"RHK", KeyFault::Short),
+    (b"RHKX", KeyFault::NotKeys),
+    (b"RHK2\0\0\0\0\0\x0f\x42\x41", KeyFault::TooMany),
+    (b"RHK2\0\0\0\0\0\0\0\0\0", KeyFault::Long),
+    (
+        b"RHK1\0\0\0\0\0\0\0\x02\0\0\0\0\0\0\0\x01\0\0\0\0\0\0\0\0",
+        KeyFault::BadKey { index: 1 },
+    ),
+];
+
+#[test]
+fn files_that_are_refused(rt: HostRuntime) -> Result<(), Fail> {
+    for (bytes, fault) in REFUSED {
+        let mut shelf = three_files(rt.alloc())?;
+        shelf.put(rt.alloc(), "x", bytes)?;
+        let (text, outcome) = run_over(&rt, &mut shelf, "use a a.keys\n\nuse x x\ndump\n")?;
+        assert_eq!(rt; text.as_slice(), b"use a 3\n".as_slice());
+        let cause = Cause::Keys(fault);
+        assert_eq!(rt; outcome, Err(RunFault { line: 3, cause }));
+    }
+    let (text, outcome) = run_over(&rt, &mut MemShelf::new(rt.alloc()), "use a x\n")?;
+    assert!(rt; text.is_empty());
+    let cause = Cause::Missing;
+    assert_eq!(rt; outcome, Err(RunFault { line: 1, cause }));
+    Ok(())
+}
+
+const ONE_KEY: &[u8] = b"RHK2\0\0\0\0\0\0\0\x01\0\0\0\0\0\0\0\x05";
+
+const NO_KEY: &[u8] = b"RHK2\0\0\0\0\0\0\0\0";
+
+// A shelf whose file loses its key after it was fetched once.
+#[derive(Drop)]
+struct ForgetfulShelf {
+    fetched: bool,
+}
+
+impl Shelf for ForgetfulShelf {
+    type Reader = Cursor<Vec<u8>>;
+
+    ghost use Rattle.std.specs.Prelude.{None};
+
+    ghost files = { λ _. None };
+
+    ghost failures = { λ _. 0 };
+
+    fn fetch(&mut self, alloc: Global, _path: &str) -> Result<Cursor<Vec<u8>>, ShelfFault> {
+        let mut file = Vec::new(alloc);
+        file.extend_from_slice(if self.fetched { NO_KEY } else { ONE_KEY })?;
+        self.fetched = true;
+        Ok(Cursor::new(file))
+    }
+}
+
+#[test]
+fn a_file_that_changes(rt: HostRuntime) -> Result<(), Fail> {
+    let script = parse(rt.alloc(), b"use k k.keys\nadd k\n")?;
+    let mut writer = Counted::new(Vec::new(rt.alloc()));
+    let mut shelf = ForgetfulShelf { fetched: false };
+    let outcome = run(
+        &rt,
+        rt.alloc(),
+        &script,
+        &mut shelf,
+        &mut Single,
+        &mut writer,
+    );
+    let cause = Cause::Changed;
+    assert_eq!(rt; outcome, Err(RunFault { line: 2, cause }));
+    assert_eq!(rt; writer.into_inner().as_slice(), b"use k 1\n".as_slice());
+    Ok(())
+}
+
+// The lines of the script by the files that they fetch, in order: `keep` and `flip` fetch twice.
+const FETCHED_BY: [u64; 11] = [1, 2, 3, 4, 5, 6, 6, 7, 7, 8, 8];
+
+#[test]
+fn each_fetch_and_each_first_read_fails(rt: HostRuntime) -> Result<(), Fail> {
+    let script = parse(rt.alloc(), SCRIPT.as_bytes())?;
+    for (call, line) in (1..).zip(FETCHED_BY) {
+        let failures = [
+            (ShelfFailure::Call(call), Cause::Missing),
+            (
+                ShelfFailure::Read { call, read: 1 },
+                Cause::Keys(KeyFault::Read),
+            ),
+            (
+                ShelfFailure::Read { call, read: 3 },
+                Cause::Keys(KeyFault::Read),
+            ),
+        ];
+        for (failure, cause) in failures {
+            let mut shelf = FaultyShelf::new(three_files(rt.alloc())?, failure);
+            let mut writer = Counted::new(Vec::new(rt.alloc()));
+            let outcome = run(
+                &rt,
+                rt.alloc(),
+                &script,
+                &mut shelf,
+                &mut Single,
+                &mut writer,
+            );
+            assert_eq!(rt; outcome, Err(RunFault { line, cause }), "at {call}");
+            let text = told_before(rt.alloc(), line)?;
+            assert_eq!(rt;
+                writer.into_inner().as_slice(),
+                text.as_slice(),
+                "at {call}"
+            );
+        }
+    }
+    Ok(())
+}
+
+#[test]
+fn each_write_fails(rt: HostRuntime) -> Result<(), Fail> {
+    let script = parse(rt.alloc(), SCRIPT.as_bytes())?;
+    let whole = told_before(rt.alloc(), 10)?;
+    for n in 1..1000 {
+        let refusal = if n % 2 == 0 {
+            Refusal::Error
+        } else {
+            Refusal::TakesNothing
+        };
+        let mut writer = Counted::new(FaultyWriter::new(rt.alloc(), n, refusal));
+        let mut shelf = three_files(rt.alloc())?;
+        let outcome = run(
+            &rt,
+            rt.alloc(),
+            &script,
+            &mut shelf,
+            &mut Single,
+            &mut writer,
+        );
+        let text = writer.get_ref().text();
+        assert!(rt; whole.starts_with(text), "at {n}");
+        match outcome {
+            Ok(_) => {
+                assert_eq!(rt; text, whole.as_slice());
+                return Ok(());
+            }
+            Err(fault) => {
+                assert_eq!(rt; fault.cause, Cause::Write, "at {n}");
+                // What the commands before told is whole, and what the next ones tell is not there.
+                let before = told_before(rt.alloc(), fault.line)?;
+                let with = told_before(rt.alloc(), fault.line.saturating_add(1))?;
+                assert!(rt;
+                    text.starts_with(&before) && text.len() < with.len(),
+                    "at {n}"
+                );
+            }
+        }
+    }
+    Err("each write failed".into())
+}
+
+#[test]
+fn texts_of_faults(rt: HostRuntime) -> Result<(), Fail> {
+    let texts = [
+        (Cause::Missing, "line 7: cannot open the file"),
+        (Cause::Keys(KeyFault::Short), "line 7: key file ends early"),
+        (Cause::Changed, "line 7: key file has changed"),
+        (Cause::TooLarge, "line 7: table too large"),
+        (Cause::Memory, "line 7: out of memory"),
+        (Cause::NoThread, "line 7: cannot start a worker"),
+        (Cause::Write, "line 7: cannot write the output"),
+    ];
+    for (cause, text) in texts {
+        let told = format!(in rt.alloc(); "{}", RunFault { line: 7, cause })?;
+        assert_eq!(rt; told.as_str(), text);
+    }
+    Ok(())
+}
