@@ -123,6 +123,21 @@ fn small_scripts(rt: HostRuntime) -> Result<(), Fail> {
     Ok(())
 }
 
+// Seven keys do not fit 3 bits; the two that are kept do.
+#[test]
+fn keep_makes_the_table_small(rt: HostRuntime) -> Result<(), Fail> {
+    let mut shelf = MemShelf::new(rt.alloc());
+    put_keys(rt.alloc(), &mut shelf, "a", &[1, 2, 3, 4, 5, 6, 7])?;
+    put_keys(rt.alloc(), &mut shelf, "b", &[1, 2])?;
+    let script = "use a a\nuse b b\nadd a\ndump\nkeep b\ndump\n";
+    let (text, _) = run_over(&rt, &mut shelf, script)?;
+    let expected = "use a 7\nuse b 2\nadd a read 7 added 7 held 7 bits 4\n\
+        table 4 7\n1 5 0\n3 2 0\n5 7 0\n7 4 0\n9 1 0\n11 6 0\n13 3 0\nend\n\
+        keep b read 2 found 2 held 2 bits 3\ntable 3 2\n1 2 0\n4 1 0\nend\n";
+    assert_eq!(rt; text.as_slice(), expected.as_bytes());
+    Ok(())
+}
+
 // How many keys, from 1 on, the script, the text, and the line and the cause of its end.
 const LARGE: [(u64, &str, &str, Option<(u64, Cause)>); 4] = [
     (
