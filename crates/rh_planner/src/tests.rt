@@ -5,6 +5,7 @@ use rh_script::parse;
 use rh_shelf::{FaultyShelf, MemShelf, Shelf, ShelfFailure, ShelfFault};
 use std::alloc::Global;
 use std::io::Cursor;
+use std::process::Abort;
 use std::sync::Wait;
 use std::test::*;
 
@@ -277,42 +278,58 @@ fn a_file_that_changes(rt: HostRuntime) -> Result<(), Fail> {
     Ok(())
 }
 
-// The lines of the script by the files that they fetch, in order: `keep` and `flip` fetch twice.
-const FETCHED_BY: [u64; 11] = [1, 2, 3, 4, 5, 6, 6, 7, 7, 8, 8];
+// The files in the order in which the script fetches them, `flip` and `keep` each twice: the line
+// that does, and the keys of the file.
+const FETCHES: [(u64, u64); 11] = [
+    (1, 3),
+    (2, 2),
+    (3, 3),
+    (4, 3),
+    (5, 3),
+    (6, 2),
+    (6, 2),
+    (7, 2),
+    (7, 2),
+    (8, 2),
+    (8, 2),
+];
+
+// How the script ends over a shelf that fails so, at this line by this cause.
+fn fails_at(
+    rt: &(impl Wait + Abort + AllocGlobal),
+    failure: ShelfFailure,
+    line: u64,
+    cause: Cause,
+) -> Result<(), Fail> {
+    let script = parse(rt.alloc(), SCRIPT.as_bytes())?;
+    let mut shelf = FaultyShelf::new(three_files(rt.alloc())?, failure);
+    let mut writer = Counted::new(Vec::new(rt.alloc()));
+    let outcome = run(
+        rt,
+        rt.alloc(),
+        &script,
+        &mut shelf,
+        &mut Single,
+        &mut writer,
+    );
+    assert_eq!(rt; outcome, Err(RunFault { line, cause }), "{failure:?}");
+    let text = told_before(rt.alloc(), line)?;
+    assert_eq!(rt;
+        writer.into_inner().as_slice(),
+        text.as_slice(),
+        "{failure:?}"
+    );
+    Ok(())
+}
 
 #[test]
-fn each_fetch_and_each_first_read_fails(rt: HostRuntime) -> Result<(), Fail> {
-    let script = parse(rt.alloc(), SCRIPT.as_bytes())?;
-    for (call, line) in (1..).zip(FETCHED_BY) {
-        let failures = [
-            (ShelfFailure::Call(call), Cause::Missing),
-            (
-                ShelfFailure::Read { call, read: 1 },
-                Cause::Keys(KeyFault::Read),
-            ),
-            (
-                ShelfFailure::Read { call, read: 3 },
-                Cause::Keys(KeyFault::Read),
-            ),
-        ];
-        for (failure, cause) in failures {
-            let mut shelf = FaultyShelf::new(three_files(rt.alloc())?, failure);
-            let mut writer = Counted::new(Vec::new(rt.alloc()));
-            let outcome = run(
-                &rt,
-                rt.alloc(),
-                &script,
-                &mut shelf,
-                &mut Single,
-                &mut writer,
-            );
-            assert_eq!(rt; outcome, Err(RunFault { line, cause }), "at {call}");
-            let text = told_before(rt.alloc(), line)?;
-            assert_eq!(rt;
-                writer.into_inner().as_slice(),
-                text.as_slice(),
-                "at {call}"
-            );
+fn each_fetch_and_each_read_fails(rt: HostRuntime) -> Result<(), Fail> {
+    for (call, (line, keys)) in (1..).zip(FETCHES) {
+        fails_at(&rt, ShelfFailure::Call(call), line, Cause::Missing)?;
+        // The header has two reads, each key one, and the end one.
+        for read in 1..=2 + keys + 1 {
+            let failure = ShelfFailure::Read { call, read };
+            fails_at(&rt, failure, line, Cause::Keys(KeyFault::Read))?;
         }
     }
     Ok(())
