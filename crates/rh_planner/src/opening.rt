@@ -1,8 +1,8 @@
 //! Opening a list at its beginning.
 
-ghost use Rattle.std.specs.Prelude.{◌≡◌, ◌⊎◌, ◌≤◌, ℕ, List, None, Some, Ok, IfOk, IfErr, OnOk, length};
+ghost use Rattle.std.specs.Prelude.{◌≡◌, ◌⊎◌, ℕ, List, Some, Ok, IfOk, IfErr, OnOk, length};
 ghost use Rattle.rh_files.specs.Counting.{Rose, inner_of};
-ghost use Rattle.rh_files.specs.Stream.{coming_of, count_of, left_in, left_of, state_of};
+ghost use Rattle.rh_files.specs.Stream.{coming_of, left_in, left_of, state_of};
 ghost use Rattle.rh_shelf.specs.Shelf.{Finds, Lacks};
 ghost use Rattle.rh_planner.specs.Ends.{IsOutside, KeepsShelf};
 ghost use Rattle.rh_planner.specs.KeyLists.{HasKeys, Stands, bytes_left};
