@@ -8,4 +8,5 @@ pub mod LayoutLemmas
 pub mod CountLemmas
 pub mod UniqueLemmas
 pub mod PlacedLemmas
+pub mod TestLemmas
 pub mod OneLayout

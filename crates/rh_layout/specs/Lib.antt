@@ -1,4 +1,5 @@
 pub mod Key
 pub mod Layout
+pub mod Test
 pub mod Order
 pub mod Round

@@ -4,6 +4,7 @@ ghost use Rattle.std.specs.Prelude.{◌≡◌, ◌^◌, ◌<◌, ◌↔◌, IsTr
 ghost use Rattle.rh_layout.specs.Round.{place_back};
 ghost use Rattle.rh_layout.specs.Key.{IsBits};
 ghost use Rattle.rh_layout.specs.Layout.{IsLayout, IsPlaced};
+ghost use Rattle.rh_layout.specs.Test.{layout_test};
 
 use crate::key::key_in;
 use crate::limits::{MAX_BITS, MAX_KEY, MIN_BITS};
@@ -12,7 +13,8 @@ use crate::order::{beats, dist};
 /// Whether these are the cells of a table of this size and a layout of the keys that they hold. A
 /// full table may be one. The test is one pass: it compares each cell with the one before it.
 pub fn is_layout(bits: u32, cells: &[u64]) -> bool
-    ensures { IsTrue result ↔ IsLayout bits cells.now }
+    ensures layout { IsTrue result ↔ IsLayout bits cells.now }
+    ensures test { result ≡ layout_test bits cells.now }
 {
     if bits < MIN_BITS || bits > MAX_BITS || cells.len() != 1 << bits {
         return false;
