@@ -10,14 +10,15 @@ use crate::fault::WriteFault;
 use std::io::{Read, Write};
 
 /// Reads until the buffer is full or the input ends, and how many bytes that were. `None`: a read
-/// failed.
-pub(crate) fn fill<R: Read>(reader: &mut Counted<R>, buf: &mut [u8]) -> Option<usize>
+/// failed; any error of the reader is one, an interruption too.
+pub fn fill<R: Read>(reader: &mut Counted<R>, buf: &mut [u8]) -> Option<usize>
     ensures bound { IfSome result (λ n. n ≤ length buf.new) }
-    ensures bytes { IfSome result (λ n. Consumes (R.remaining reader.old.inner)
-        (R.remaining reader.new.inner) (take n buf.new)) }
-    ensures end { IfSome result (λ n. n < length buf.new → IsAtEnd (R.remaining reader.new.inner)) }
-    ensures failed { IsNone result → Rose reader.old.failures reader.new.failures }
-    ensures fine { IsSome result → reader.new.failures ≡ reader.old.failures }
+    ensures bytes { IfSome result (λ n. Consumes (R.remaining (inner_of reader.old))
+        (R.remaining (inner_of reader.new)) (take n buf.new)) }
+    ensures end { IfSome result (λ n. n < length buf.new →
+        IsAtEnd (R.remaining (inner_of reader.new))) }
+    ensures failed { IsNone result → Rose (failures_of reader.old) (failures_of reader.new) }
+    ensures fine { IsSome result → failures_of reader.new ≡ failures_of reader.old }
 {
     let mut at = 0;
     while at < buf.len() {

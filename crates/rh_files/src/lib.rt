@@ -16,7 +16,7 @@ mod source;
 mod stream;
 mod version;
 
-pub use bytes::write_texts;
+pub use bytes::{fill, write_texts};
 pub use counted::Counted;
 pub use dump::write_dump;
 pub use encoding::write_keys;

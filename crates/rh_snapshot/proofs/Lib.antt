@@ -1,0 +1,9 @@
+pub mod Seal
+pub mod Reader
+pub mod Steps
+pub mod Numbers
+pub mod Ends
+pub mod Whole
+pub mod Keys
+pub mod Sealing
+pub mod Grammar

@@ -1,0 +1,77 @@
+-- Numbers one after the other, and their hash.
+use Rattle.std.proofs.Common.{◌≡◌, ℕ, suc, ◌+◌, ◌-◌, ◌<◌, List, [], ◌∷◌, ◌++◌, Option, Some, None, Result, Ok, Err, refl, sym, ap, ◌∙◌, subst, arith, append_assoc, append-nil}
+use Rattle.rh_files.specs.KeyFile.{eight_bytes}
+use Rattle.rh_snapshot.specs.declared.header.Header.{Header}
+use Rattle.rh_snapshot.specs.declared.fault.SnapFault.{SnapFault}
+use Rattle.rh_snapshot.specs.Snapshot.{spelled_header, spelled_numbers, text_of}
+use Rattle.rh_snapshot.specs.Reading.{◌>>=◌, Fails, Reads, always, number_at, numbers_at}
+use Rattle.rh_snapshot.proofs.Reader.{Fails-then}
+
+abbrev Read : Type 0
+Read = Result (List ℕ × List ℕ) SnapFault
+
+abbrev pub with_front : List ℕ → List ℕ × List ℕ → Read
+with_front front p = Ok (front ++ p.0, p.1)
+
+abbrev pub with_head : ℕ → List ℕ × List ℕ → Read
+with_head n p = Ok (n ∷ p.0, p.1)
+
+-- These numbers were read, and others may follow.
+abbrev pub ReadsOn : Option (List ℕ) → Option (List ℕ) → ℕ → List ℕ → Type 0
+ReadsOn None b i front = Unit {0}
+ReadsOn (Some x) None i front = ⊥
+ReadsOn (Some x) (Some y) i front = (m : ℕ) → numbers_at (i + m) x ≡ (numbers_at m y >>= with_front front)
+
+nothing_before : (r : Read) → r ≡ (r >>= with_front [])
+nothing_before (Ok p) = refl
+nothing_before (Err e) = refl
+
+pub none_read : (a : Option (List ℕ)) → ReadsOn a a 0 []
+none_read None = tt
+none_read (Some x) = λ m.
+    let k : 0 + m ≡ m = omega arith in
+    ap (λ j. numbers_at j x) k ∙ nothing_before (numbers_at m x)
+
+one_more : (front : List ℕ) (n : ℕ) (r : Read) → ((r >>= with_head n) >>= with_front front) ≡ (r >>= with_front (front ++ n ∷ []))
+one_more front n (Ok p) = ap (λ l. Ok (l, p.1)) (sym (append_assoc front (n ∷ []) p.0))
+one_more front n (Err e) = refl
+
+pub reads_on : (a b c : Option (List ℕ)) (i n : ℕ) (front next : List ℕ) → next ≡ front ++ n ∷ [] → ReadsOn a b i front → Reads b c number_at (λ (n : ℕ). n) (Ok n) → ReadsOn a c (i + 1) next
+unfolding numbers_at
+reads_on None b c i n front next is p q = tt
+reads_on (Some x) None c i n front next is p q = absurd p
+reads_on (Some x) (Some y) None i n front next is p q = absurd q
+reads_on (Some x) (Some y) (Some z) i n front next is p q = λ m.
+    let k : i + 1 + m ≡ i + suc m = omega arith in
+    ap (λ j. numbers_at j x) k ∙ p (suc m)
+    ∙ ap (λ (r : Result (ℕ × List ℕ) SnapFault). (r >>= (λ first. numbers_at m first.1 >>= with_head first.0)) >>= with_front front) q
+    ∙ one_more front n (numbers_at m z) ∙ ap (λ l. numbers_at m z >>= with_front l) (sym is)
+
+pub stops : {X : Type 0} (a b c : Option (List ℕ)) (i n : ℕ) (front : List ℕ) (w : X → List ℕ) (e : SnapFault) → i < n → ReadsOn a b i front → Reads b c number_at (λ (n : ℕ). n) (Err e) → Reads a c (numbers_at n) w (Err e)
+unfolding numbers_at
+stops None b c i n front w e lt p q = tt
+stops (Some x) None c i n front w e lt p q = absurd p
+stops (Some x) (Some y) c i n front w e lt p q =
+    let rest : ℕ = n - (i + 1) in
+    let k : i + suc rest ≡ n = omega arith in
+    let later = λ (first : ℕ × List ℕ). numbers_at rest first.1 >>= with_head first.0 in
+    subst (λ j. Fails e (numbers_at j x)) k
+    (subst (Fails e) (sym (p (suc rest))) (Fails-then e (number_at y >>= later) (with_front front) (Fails-then e (number_at y) later q)))
+
+pub all_read : {X : Type 0} (a b : Option (List ℕ)) (n : ℕ) (numbers : List ℕ) (x : X) → ReadsOn a b n numbers → Reads a b (numbers_at n) (always numbers) (Ok x)
+unfolding numbers_at
+all_read None b n numbers x p = tt
+all_read (Some bytes) None n numbers x p = absurd p
+all_read (Some bytes) (Some rest) n numbers x p =
+    let k : n ≡ n + 0 = omega arith in
+    ap (λ j. numbers_at j bytes) k ∙ p 0 ∙ ap (λ l. Ok (l, rest)) (append-nil numbers)
+
+-- ---- the text so far
+
+pub spelled-more : (numbers : List ℕ) (n : ℕ) → spelled_numbers (numbers ++ n ∷ []) ≡ spelled_numbers numbers ++ eight_bytes n
+spelled-more [] n = append-nil (eight_bytes n)
+spelled-more (k ∷ numbers) n = ap (λ l. eight_bytes k ++ l) (spelled-more numbers n) ∙ sym (append_assoc (eight_bytes k) (spelled_numbers numbers) (eight_bytes n))
+
+pub text-more : (header : Header) (numbers : List ℕ) (n : ℕ) → text_of header numbers ++ eight_bytes n ≡ text_of header (numbers ++ n ∷ [])
+text-more header numbers n =
+    append_assoc (spelled_header header) (spelled_numbers numbers) (eight_bytes n) ∙ ap (λ l. spelled_header header ++ l) (sym (spelled-more numbers n))

@@ -1,0 +1,143 @@
+-- Reading a snapshot from left to right, up to the first fault. A step gives a value and the bytes after it.
+use Rattle.std.specs.Prelude.{◌≡◌, ℕ, zero, suc, ◌^◌, Bool, ◌&&◌, ◌==◌, nat_lt, nat_le, if◌then◌else◌, List, [], ◌∷◌, take, drop, slice_index, count_by, Option, Some, None, Result, Ok, Err}
+use Rattle.std.specs.Int.{w64, from_be_bytes}
+use Rattle.std.specs.Str.{bytes_eq}
+use Rattle.sha2.specs.Sha256.{sha256}
+use Rattle.rh_layout.specs.declared.limits.TheConstants.{MIN_BITS}
+use Rattle.rh_layout.specs.Key.{is_full}
+use Rattle.rh_layout.specs.Test.{layout_test}
+use Rattle.rh_files.specs.Reading.{begins_with_bytes}
+use Rattle.rh_snapshot.specs.declared.version.Version.{Version}
+use Rattle.rh_snapshot.specs.declared.version.Version.TheVariants.{First, Second}
+use Rattle.rh_snapshot.specs.declared.header.Header.{Header}
+use Rattle.rh_snapshot.specs.declared.snapshot.Snapshot.{Snapshot}
+use Rattle.rh_snapshot.specs.declared.fault.SnapFault.{SnapFault}
+use Rattle.rh_snapshot.specs.declared.fault.SnapFault.TheVariants as faults
+use Rattle.rh_snapshot.specs.declared.fault.SnapFault.TheVariants.{NotSnapshot, Short, BadBits, Damaged, NotALayout, Long}
+use Rattle.rh_snapshot.specs.Snapshot.{magic, most_bits, cells_as, text_of, Table, table_with, IsSnapshot}
+
+-- one step, and then the next
+infixl 10 ◌>>=◌
+abbrev pub ◌>>=◌ : {A B : Type 0} → Result A SnapFault → (A → Result B SnapFault) → Result B SnapFault
+(Ok x) >>= f = f x
+(Err e) >>= f = Err e
+
+unfoldable pub bytes_at : ℕ → List ℕ → Result (List ℕ × List ℕ) SnapFault
+bytes_at n bytes = if begins_with_bytes n bytes then Ok (take n bytes, drop n bytes) else Err Short
+
+-- the version whose magic the four bytes are
+abbrev pub named : List ℕ × List ℕ → Result (Version × List ℕ) SnapFault
+named four =
+    if bytes_eq four.0 (magic First) then Ok (First, four.1)
+    else if bytes_eq four.0 (magic Second) then Ok (Second, four.1)
+    else Err NotSnapshot
+
+unfoldable pub version_at : List ℕ → Result (Version × List ℕ) SnapFault
+version_at bytes = bytes_at 4 bytes >>= named
+
+abbrev pub are_bits : Version → ℕ → Bool
+are_bits version bits = nat_le MIN_BITS bits && nat_le bits (most_bits version)
+
+abbrev pub bits_in : Version → List ℕ × List ℕ → Result (ℕ × List ℕ) SnapFault
+bits_in version one = if are_bits version (slice_index one.0 0) then Ok (slice_index one.0 0, one.1) else Err BadBits
+
+unfoldable pub bits_at : Version → List ℕ → Result (ℕ × List ℕ) SnapFault
+bits_at version bytes = bytes_at 1 bytes >>= bits_in version
+
+abbrev pub number_in : List ℕ × List ℕ → Result (ℕ × List ℕ) SnapFault
+number_in eight = Ok (from_be_bytes w64 eight.0, eight.1)
+
+unfoldable pub number_at : List ℕ → Result (ℕ × List ℕ) SnapFault
+number_at bytes = bytes_at 8 bytes >>= number_in
+
+abbrev pub with_count : Version → (bits : ℕ) → ℕ × List ℕ → Result (Header × List ℕ) SnapFault
+with_count version bits count = Ok (record { version = version; bits = bits; count = count.0 }, count.1)
+
+abbrev pub after_bits : Version → ℕ × List ℕ → Result (Header × List ℕ) SnapFault
+after_bits version bits = number_at bits.1 >>= with_count version bits.0
+
+abbrev pub after_version : Version × List ℕ → Result (Header × List ℕ) SnapFault
+after_version version = bits_at version.0 version.1 >>= after_bits version.0
+
+-- the version, the bits and the count
+unfoldable pub header_at : List ℕ → Result (Header × List ℕ) SnapFault
+header_at bytes = version_at bytes >>= after_version
+
+-- so many numbers
+unfoldable pub numbers_at : ℕ → List ℕ → Result (List ℕ × List ℕ) SnapFault
+numbers_at zero bytes = Ok ([], bytes)
+numbers_at (suc n) bytes =
+    number_at bytes >>= (λ first. numbers_at n first.1 >>= (λ others. Ok (first.0 ∷ others.0, others.1)))
+
+abbrev pub is_sealed : Header → (numbers seal : List ℕ) → Bool
+is_sealed header numbers seal = bytes_eq (sha256 (text_of header numbers)) seal
+
+-- The cells are a layout with a free cell, and the count is that of the full ones.
+abbrev pub is_table : Header → List ℕ → Bool
+is_table header numbers =
+    ((count_by is_full numbers == header.count) && nat_lt header.count (2 ^ header.bits))
+    && layout_test header.bits (cells_as header.version numbers)
+
+-- the table in what was read, tested
+unfoldable pub table_in : Header → (numbers seal : List ℕ) → Result Table SnapFault
+table_in header numbers seal =
+    if is_sealed header numbers seal then (if is_table header numbers then Ok (table_with header numbers seal) else Err NotALayout)
+    else Err Damaged
+
+-- nothing comes after the seal
+unfoldable pub end_at : List ℕ → Result (List ℕ × List ℕ) SnapFault
+end_at [] = Ok ([], [])
+end_at (b ∷ bytes) = Err Long
+
+abbrev pub ended : List ℕ → Table → Result (Table × List ℕ) SnapFault
+ended bytes table = end_at bytes >>= (λ end. Ok (table, end.1))
+
+abbrev pub after_numbers : Header → List ℕ × List ℕ → Result (Table × List ℕ) SnapFault
+after_numbers header numbers =
+    bytes_at 32 numbers.1 >>= (λ seal. table_in header numbers.0 seal.0 >>= ended seal.1)
+
+abbrev pub after_header : Header × List ℕ → Result (Table × List ℕ) SnapFault
+after_header header = numbers_at (2 ^ header.0.bits) header.1 >>= after_numbers header.0
+
+-- a whole file: the table, and nothing after it
+unfoldable pub file_table : List ℕ → Result (Table × List ℕ) SnapFault
+file_table bytes = header_at bytes >>= after_header
+
+-- ---- what is said of a reader's bytes
+
+-- A failed read and want of memory say nothing of the bytes.
+abbrev pub Fails : {X : Type 0} → SnapFault → Result X SnapFault → Type 0
+Fails faults.Read said = Unit {0}
+Fails faults.Memory said = Unit {0}
+Fails NotSnapshot said = said ≡ Err NotSnapshot
+Fails Short said = said ≡ Err Short
+Fails BadBits said = said ≡ Err BadBits
+Fails Damaged said = said ≡ Err Damaged
+Fails NotALayout said = said ≡ Err NotALayout
+Fails Long said = said ≡ Err Long
+
+-- a view of a call that hands its value out behind a reference
+abbrev pub always : {X Y : Type 0} → Y → X → Y
+always y x = y
+
+-- Where the bytes are known, the answer, seen by view, and the bytes that are left are what this
+-- reading of them gives.
+abbrev pub Reads : {X Y : Type 0} → Option (List ℕ) → Option (List ℕ) → (List ℕ → Result (Y × List ℕ) SnapFault) → (X → Y) → Result X SnapFault → Type 0
+Reads None new reading view r = Unit {0}
+Reads (Some bytes) new reading view (Err e) = Fails e (reading bytes)
+Reads (Some bytes) None reading view (Ok x) = ⊥
+Reads (Some bytes) (Some rest) reading view (Ok x) = reading bytes ≡ Ok (view x, rest)
+
+-- known bytes begin with a header that can be read
+abbrev pub BeginsWithHeader : Option (List ℕ) → Type 0
+BeginsWithHeader None = Unit {0}
+BeginsWithHeader (Some bytes) = (header : Header × List ℕ) × (header_at bytes ≡ Ok header)
+
+abbrev pub table_as : Snapshot → Table
+table_as s = record { bits = s.bits; count = s.count; cells = s.cells.items; seal = s.seal }
+
+-- Known bytes are a snapshot of this table, and none is left.
+abbrev pub IsReadFrom : Option (List ℕ) → Option (List ℕ) → Table → Type 0
+IsReadFrom None new table = Unit {0}
+IsReadFrom (Some bytes) None table = ⊥
+IsReadFrom (Some bytes) (Some rest) table = IsSnapshot bytes table × (rest ≡ [])

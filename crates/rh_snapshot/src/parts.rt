@@ -1,0 +1,181 @@
+//! The parts of a snapshot, read one after the other.
+
+ghost use Rattle.std.specs.Prelude.{◌≡◌, ◌≢◌, ◌^◌, [], length, Err, IfOk, IsErrOf};
+ghost use Rattle.sha2.specs.Sha256.{sha256};
+ghost use Rattle.rh_layout.specs.Key.{IsBits};
+ghost use Rattle.rh_files.specs.Counting.{Rose, failures_of, inner_of};
+ghost use Rattle.rh_snapshot.specs.Snapshot.{text_of};
+ghost use Rattle.rh_snapshot.specs.Reading.{Reads, always, bytes_at, version_at, bits_at};
+ghost use Rattle.rh_snapshot.specs.Reading.{number_at, header_at, numbers_at, end_at};
+
+use crate::fault::SnapFault;
+use crate::header::Header;
+use crate::version::Version;
+use rh_files::{Counted, fill};
+use sha2::{Digest, Sha256};
+use std::alloc::Global;
+use std::io::Read;
+
+/// Fills the buffer.
+fn read_bytes<R: Read>(reader: &mut Counted<R>, buf: &mut [u8]) -> Result<(), SnapFault>
+    ensures known { Reads (R.remaining (inner_of reader.old)) (R.remaining (inner_of reader.new))
+        (bytes_at (length buf.new)) (always buf.new) result }
+    ensures read { IsErrOf result SnapFault.Read →
+        Rose (failures_of reader.old) (failures_of reader.new) }
+    ensures no_memory { IsErrOf result SnapFault.Memory → ⊥ }
+    ensures fine { result ≢ Err SnapFault.Read → failures_of reader.new ≡ failures_of reader.old }
+{
+    let Some(n) = fill(reader, buf) else {
+        return Err(SnapFault::Read);
+    };
+    if n < buf.len() {
+        return Err(SnapFault::Short);
+    }
+    Ok(())
+}
+
+fn read_version<R: Read>(reader: &mut Counted<R>) -> Result<Version, SnapFault>
+    ensures known { Reads (R.remaining (inner_of reader.old)) (R.remaining (inner_of reader.new))
+        version_at (λ v. v) result }
+    ensures read { IsErrOf result SnapFault.Read →
+        Rose (failures_of reader.old) (failures_of reader.new) }
+    ensures no_memory { IsErrOf result SnapFault.Memory → ⊥ }
+    ensures fine { result ≢ Err SnapFault.Read → failures_of reader.new ≡ failures_of reader.old }
+{
+    let mut four = [0u8; 4];
+    read_bytes(reader, &mut four)?;
+    if four == Version::First.magic() {
+        return Ok(Version::First);
+    }
+    if four == Version::Second.magic() {
+        return Ok(Version::Second);
+    }
+    Err(SnapFault::NotSnapshot)
+}
+
+fn read_bits<R: Read>(reader: &mut Counted<R>, version: Version) -> Result<u32, SnapFault>
+    ensures known { Reads (R.remaining (inner_of reader.old)) (R.remaining (inner_of reader.new))
+        (bits_at version) (λ b. b) result }
+    ensures in_range { IfOk result IsBits }
+    ensures read { IsErrOf result SnapFault.Read →
+        Rose (failures_of reader.old) (failures_of reader.new) }
+    ensures no_memory { IsErrOf result SnapFault.Memory → ⊥ }
+    ensures fine { result ≢ Err SnapFault.Read → failures_of reader.new ≡ failures_of reader.old }
+{
+    let mut one = [0u8; 1];
+    read_bytes(reader, &mut one)?;
+    let bits = u32::from(one[0]);
+    if !version.allows(bits) {
+        return Err(SnapFault::BadBits);
+    }
+    Ok(bits)
+}
+
+fn read_number<R: Read>(reader: &mut Counted<R>) -> Result<u64, SnapFault>
+    ensures known { Reads (R.remaining (inner_of reader.old)) (R.remaining (inner_of reader.new))
+        number_at (λ n. n) result }
+    ensures read { IsErrOf result SnapFault.Read →
+        Rose (failures_of reader.old) (failures_of reader.new) }
+    ensures no_memory { IsErrOf result SnapFault.Memory → ⊥ }
+    ensures fine { result ≢ Err SnapFault.Read → failures_of reader.new ≡ failures_of reader.old }
+{
+    let mut eight = [0u8; 8];
+    read_bytes(reader, &mut eight)?;
+    Ok(u64::from_be_bytes(eight))
+}
+
+pub(crate) fn read_header<R: Read>(reader: &mut Counted<R>) -> Result<Header, SnapFault>
+    ensures known { Reads (R.remaining (inner_of reader.old)) (R.remaining (inner_of reader.new))
+        header_at (λ h. h) result }
+    ensures in_range { IfOk result (λ h. IsBits h.bits) }
+    ensures read { IsErrOf result SnapFault.Read →
+        Rose (failures_of reader.old) (failures_of reader.new) }
+    ensures no_memory { IsErrOf result SnapFault.Memory → ⊥ }
+    ensures fine { result ≢ Err SnapFault.Read → failures_of reader.new ≡ failures_of reader.old }
+{
+    let version = read_version(reader)?;
+    let bits = read_bits(reader, version)?;
+    let count = read_number(reader)?;
+    Ok(Header {
+        version,
+        bits,
+        count,
+    })
+}
+
+/// Fills the slice with numbers, and hashes them as they come, after their header. The digest is
+/// the seal that they should have.
+fn fill_numbers<R: Read>(
+    reader: &mut Counted<R>,
+    header: Header,
+    numbers: &mut [u64],
+) -> Result<[u8; 32], SnapFault>
+    requires { IsBits header.bits }
+    ensures known { Reads (R.remaining (inner_of reader.old)) (R.remaining (inner_of reader.new))
+        (numbers_at (length numbers.new)) (always numbers.new) result }
+    ensures digest { IfOk result (λ d. d ≡ sha256 (text_of header numbers.new)) }
+    ensures read { IsErrOf result SnapFault.Read →
+        Rose (failures_of reader.old) (failures_of reader.new) }
+    ensures no_memory { IsErrOf result SnapFault.Memory → ⊥ }
+    ensures fine { result ≢ Err SnapFault.Read → failures_of reader.new ≡ failures_of reader.old }
+{
+    let mut hasher = header.hasher();
+    for slot in numbers.iter_mut() {
+        let number = read_number(reader)?;
+        hasher.update(number.to_be_bytes());
+        *slot = number;
+    }
+    Ok(hasher.finalize())
+}
+
+/// The numbers, and the seal that they should have. The memory for them is taken at once.
+pub(crate) fn read_numbers<R: Read>(
+    alloc: Global,
+    reader: &mut Counted<R>,
+    header: Header,
+) -> Result<(Vec<u64>, [u8; 32]), SnapFault>
+    requires { IsBits header.bits }
+    ensures known { Reads (R.remaining (inner_of reader.old)) (R.remaining (inner_of reader.new))
+        (numbers_at (2 ^ header.bits)) (λ n. n.0.items) result }
+    ensures digest { IfOk result (λ n. n.1 ≡ sha256 (text_of header n.0.items)) }
+    ensures read { IsErrOf result SnapFault.Read →
+        Rose (failures_of reader.old) (failures_of reader.new) }
+    ensures fine { result ≢ Err SnapFault.Read → failures_of reader.new ≡ failures_of reader.old }
+{
+    let Ok(mut numbers) = vec![in alloc; 0u64; 1 << header.bits] else {
+        return Err(SnapFault::Memory);
+    };
+    let digest = fill_numbers(reader, header, &mut numbers)?;
+    Ok((numbers, digest))
+}
+
+pub(crate) fn read_seal<R: Read>(reader: &mut Counted<R>) -> Result<[u8; 32], SnapFault>
+    ensures known { Reads (R.remaining (inner_of reader.old)) (R.remaining (inner_of reader.new))
+        (bytes_at 32) (λ s. s) result }
+    ensures read { IsErrOf result SnapFault.Read →
+        Rose (failures_of reader.old) (failures_of reader.new) }
+    ensures no_memory { IsErrOf result SnapFault.Memory → ⊥ }
+    ensures fine { result ≢ Err SnapFault.Read → failures_of reader.new ≡ failures_of reader.old }
+{
+    let mut seal = [0u8; 32];
+    read_bytes(reader, &mut seal)?;
+    Ok(seal)
+}
+
+pub(crate) fn read_end<R: Read>(reader: &mut Counted<R>) -> Result<(), SnapFault>
+    ensures known { Reads (R.remaining (inner_of reader.old)) (R.remaining (inner_of reader.new))
+        end_at (λ _. []) result }
+    ensures read { IsErrOf result SnapFault.Read →
+        Rose (failures_of reader.old) (failures_of reader.new) }
+    ensures no_memory { IsErrOf result SnapFault.Memory → ⊥ }
+    ensures fine { result ≢ Err SnapFault.Read → failures_of reader.new ≡ failures_of reader.old }
+{
+    let mut more = [0u8; 1];
+    let Some(n) = fill(reader, &mut more) else {
+        return Err(SnapFault::Read);
+    };
+    if n > 0 {
+        return Err(SnapFault::Long);
+    }
+    Ok(())
+}

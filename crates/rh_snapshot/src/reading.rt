@@ -1,0 +1,47 @@
+//! A whole snapshot, read and tested.
+
+ghost use Rattle.std.specs.Prelude.{◌≡◌, ◌≢◌, ◌<◌, ◌^◌, Err, IfOk, IsErrOf};
+ghost use Rattle.std.specs.FinSet as set;
+ghost use Rattle.rh_layout.specs.Layout.{IsLayout, keys_of};
+ghost use Rattle.rh_files.specs.Counting.{Rose, failures_of, inner_of};
+ghost use Rattle.rh_snapshot.specs.Reading.{BeginsWithHeader, IsReadFrom, Reads, file_table};
+ghost use Rattle.rh_snapshot.specs.Reading.{table_as};
+
+use crate::cells::table_in;
+use crate::fault::SnapFault;
+use crate::parts::{read_end, read_header, read_numbers, read_seal};
+use crate::snapshot::Snapshot;
+use rh_files::Counted;
+use std::alloc::Global;
+use std::io::Read;
+
+/// The table of a snapshot of either version. The memory for its cells is taken at once, after the
+/// header and before a cell is read, and `Memory` comes only where that growth was refused. The
+/// bytes are tested as they come; the seal, then the cells and then the end are tested once the
+/// seal was read.
+pub fn read_snapshot<R: Read>(alloc: Global, reader: &mut Counted<R>) -> Result<Snapshot, SnapFault>
+    ensures known { Reads (R.remaining (inner_of reader.old)) (R.remaining (inner_of reader.new))
+        file_table table_as result }
+    ensures spelled { IfOk result (λ s. IsReadFrom
+        (R.remaining (inner_of reader.old)) (R.remaining (inner_of reader.new)) (table_as s)) }
+    ensures layout { IfOk result (λ s. IsLayout s.bits s.cells.items) }
+    ensures count { IfOk result (λ s. s.count ≡ set.len (keys_of s.cells.items)) }
+    ensures free { IfOk result (λ s. set.len (keys_of s.cells.items) < 2 ^ s.bits) }
+    ensures read { IsErrOf result SnapFault.Read →
+        Rose (failures_of reader.old) (failures_of reader.new) }
+    ensures fine { result ≢ Err SnapFault.Read → failures_of reader.new ≡ failures_of reader.old }
+    ensures memory { IsErrOf result SnapFault.Memory →
+        BeginsWithHeader (R.remaining (inner_of reader.old)) }
+{
+    let header = read_header(reader)?;
+    let (numbers, digest) = read_numbers(alloc, reader, header)?;
+    let seal = read_seal(reader)?;
+    if digest != seal {
+        return Err(SnapFault::Damaged);
+    }
+    let Some(snapshot) = table_in(header, numbers, seal) else {
+        return Err(SnapFault::NotALayout);
+    };
+    read_end(reader)?;
+    Ok(snapshot)
+}

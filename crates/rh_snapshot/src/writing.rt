@@ -1,0 +1,67 @@
+//! Snapshots, written.
+
+ghost use Rattle.std.specs.Prelude.{◌≡◌, ◌++◌, ◌<◌, ◌^◌, ℕ, [], List, Ok, OnErr, OnOk};
+ghost use Rattle.std.specs.FinSet as set;
+ghost use Rattle.rh_layout.specs.Key.{IsBits};
+ghost use Rattle.rh_layout.specs.Layout.{IsLayout, keys_of};
+ghost use Rattle.rh_snapshot.specs.Snapshot.{header_of, spelled_header, spelled_numbers, spelling};
+ghost use Rattle.rh_snapshot.specs.Snapshot.{table_of};
+ghost use Rattle.rh_snapshot.specs.Reading.{file_table};
+ghost use Rattle.rh_snapshot.specs.declared.version.Version.TheVariants.{Second};
+
+use crate::version::Version;
+use sha2::{Digest, Sha256};
+use std::alloc::AllocError;
+
+/// Appends a snapshot of the table, of the second version. `read_snapshot` takes it back to the
+/// same cells. Where a growth of the vector was refused, the vector is as it was.
+pub fn write_snapshot(bits: u32, cells: &[u64], out: &mut Vec<u8>) -> Result<(), AllocError>
+    requires layout { IsLayout bits cells.now }
+    requires free { set.len (keys_of cells.now) < 2 ^ bits }
+    ensures appended { OnOk result (out.new.items ≡ out.old.items ++ spelling Second bits cells.now) }
+    ensures refused { OnErr result (out.new.items ≡ out.old.items) }
+    ensures read_back { file_table (spelling Second bits cells.now)
+        ≡ Ok (table_of Second bits cells.now, []) }
+{
+    let before = out.len();
+    let outcome = put_snapshot(bits, cells, out);
+    if outcome.is_err() {
+        out.truncate(before);
+    }
+    outcome
+}
+
+/// Appends the text and its seal.
+fn put_snapshot(bits: u32, cells: &[u64], out: &mut Vec<u8>) -> Result<(), AllocError>
+    requires { IsBits bits }
+    ensures appended { OnOk result (out.new.items ≡ out.old.items ++ spelling Second bits cells.now) }
+    ensures longer { (part : List ℕ) × (out.new.items ≡ out.old.items ++ part) }
+{
+    let before = out.len();
+    put_header(bits, cells, out)?;
+    put_cells(cells, out)?;
+    let seal = Sha256::digest(&out[before..]);
+    out.extend_from_slice(&seal)
+}
+
+fn put_header(bits: u32, cells: &[u64], out: &mut Vec<u8>) -> Result<(), AllocError>
+    requires { IsBits bits }
+    ensures appended { OnOk result (out.new.items
+        ≡ out.old.items ++ spelled_header (header_of Second bits cells.now)) }
+    ensures longer { (part : List ℕ) × (out.new.items ≡ out.old.items ++ part) }
+{
+    let count = cells.iter().filter(|cell| **cell != 0).count() as u64;
+    out.extend_from_slice(&Version::Second.magic())?;
+    out.push(bits as u8)?;
+    out.extend_from_slice(&count.to_be_bytes())
+}
+
+fn put_cells(cells: &[u64], out: &mut Vec<u8>) -> Result<(), AllocError>
+    ensures appended { OnOk result (out.new.items ≡ out.old.items ++ spelled_numbers cells.now) }
+    ensures longer { (part : List ℕ) × (out.new.items ≡ out.old.items ++ part) }
+{
+    for cell in cells {
+        out.extend_from_slice(&cell.to_be_bytes())?;
+    }
+    Ok(())
+}
