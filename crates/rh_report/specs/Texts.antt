@@ -35,6 +35,12 @@ saved_text name count = codes "save " ++ (name ++ with_number (codes " ") count 
 abbrev pub cleared_text : List ℕ
 cleared_text = codes "clear\n"
 
+abbrev pub sealed_text : (path : List ℕ) → (held bits : ℕ) → List ℕ
+sealed_text path held bits = codes "snapshot " ++ (path ++ table_text held bits)
+
+abbrev pub restored_text : (path : List ℕ) → (held bits : ℕ) → List ℕ
+restored_text path held bits = codes "restore " ++ (path ++ table_text held bits)
+
 -- ---- look-ups
 
 abbrev pub digit_of : Bool → ℕ

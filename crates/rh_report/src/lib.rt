@@ -6,7 +6,8 @@ mod lines;
 
 pub use answers::{ANSWERS_PER_LINE, write_asked};
 pub use lines::{
-    write_added, write_cleared, write_dropped, write_flipped, write_kept, write_saved, write_used,
+    write_added, write_cleared, write_dropped, write_flipped, write_kept, write_restored,
+    write_saved, write_sealed, write_used,
 };
 
 #[cfg(test)]

@@ -5,6 +5,7 @@ ghost use Rattle.std.specs.Prelude.{◌≡◌, OnErr, OnOk};
 ghost use Rattle.rh_files.specs.Counting.{Rose, Writes, failures_of, inner_of};
 ghost use Rattle.rh_report.specs.Texts.{used_text, added_text, dropped_text, kept_text};
 ghost use Rattle.rh_report.specs.Texts.{flipped_text, saved_text, cleared_text};
+ghost use Rattle.rh_report.specs.Texts.{sealed_text, restored_text};
 
 use itoa::Buffer;
 use rh_files::{Counted, WriteFault, write_texts};
@@ -215,4 +216,58 @@ pub fn write_cleared<W: Write>(writer: &mut Counted<W>) -> Result<(), WriteFault
     ensures fine { OnOk result (failures_of writer.new ≡ failures_of writer.old) }
 {
     write_texts(writer, &[b"clear\n"])
+}
+
+/// `snapshot PATH held H bits B`: the table was put under the path.
+pub fn write_sealed<W: Write>(
+    writer: &mut Counted<W>,
+    path: &str,
+    held: u64,
+    bits: u32,
+) -> Result<(), WriteFault>
+    ensures text { Writes (W.contents (inner_of writer.old)) (W.contents (inner_of writer.new))
+        (sealed_text path.now held bits) result }
+    ensures failed { OnErr result (Rose (failures_of writer.old) (failures_of writer.new)) }
+    ensures fine { OnOk result (failures_of writer.new ≡ failures_of writer.old) }
+{
+    let (mut first, mut second) = (Buffer::new(), Buffer::new());
+    let held = first.format(held).as_bytes();
+    let bits = second.format(bits).as_bytes();
+    let texts: [&[u8]; 7] = [
+        b"snapshot ",
+        path.as_bytes(),
+        b" held ",
+        held,
+        b" bits ",
+        bits,
+        b"\n",
+    ];
+    write_texts(writer, &texts)
+}
+
+/// `restore PATH held H bits B`: the table is that of the snapshot now.
+pub fn write_restored<W: Write>(
+    writer: &mut Counted<W>,
+    path: &str,
+    held: u64,
+    bits: u32,
+) -> Result<(), WriteFault>
+    ensures text { Writes (W.contents (inner_of writer.old)) (W.contents (inner_of writer.new))
+        (restored_text path.now held bits) result }
+    ensures failed { OnErr result (Rose (failures_of writer.old) (failures_of writer.new)) }
+    ensures fine { OnOk result (failures_of writer.new ≡ failures_of writer.old) }
+{
+    let (mut first, mut second) = (Buffer::new(), Buffer::new());
+    let held = first.format(held).as_bytes();
+    let bits = second.format(bits).as_bytes();
+    let texts: [&[u8]; 7] = [
+        b"restore ",
+        path.as_bytes(),
+        b" held ",
+        held,
+        b" bits ",
+        bits,
+        b"\n",
+    ];
+    write_texts(writer, &texts)
 }

@@ -8,7 +8,9 @@ const LINES: &str = "use a 3\n\
     keep b read 2 found 2 held 2 bits 3\n\
     flip b read 2 removed 2 added 0 held 3 bits 3\n\
     save s 5\n\
-    clear\n";
+    clear\n\
+    snapshot s.rhs2 held 3 bits 4\n\
+    restore s.rhs2 held 3 bits 4\n";
 
 #[test]
 fn each_command_has_its_line(rt: HostRuntime) -> Result<(), Fail> {
@@ -20,6 +22,8 @@ fn each_command_has_its_line(rt: HostRuntime) -> Result<(), Fail> {
     write_flipped(&mut writer, "b", 2, 2, 0, 3, 3)?;
     write_saved(&mut writer, "s", 5)?;
     write_cleared(&mut writer)?;
+    write_sealed(&mut writer, "s.rhs2", 3, 4)?;
+    write_restored(&mut writer, "s.rhs2", 3, 4)?;
     assert_eq!(rt; writer.failures(), 0);
     assert_eq!(rt; writer.into_inner().as_slice(), LINES.as_bytes());
     Ok(())

@@ -3,7 +3,7 @@ use Rattle.std.proofs.Common.{◌≡◌, ℕ, true, false, List, [], ◌∷◌, 
 use Rattle.rh_script.specs.declared.fault.ScriptFaultKind.{ScriptFaultKind}
 use Rattle.rh_script.specs.declared.fault.ScriptFaultKind.TheVariants.{BadName}
 use Rattle.rh_script.specs.Instruction.{Clear}
-use Rattle.rh_script.specs.Grammar.{is_name, name_and_path, no_word, one_name}
+use Rattle.rh_script.specs.Grammar.{is_name, name_and_path, no_word, one_name, one_path}
 
 none_left : (rest : List (List ℕ)) → no_word Clear rest ≡ Ok Clear → rest ≡ []
 unfolding no_word
@@ -24,6 +24,17 @@ bad_name words rest name is end bad = rw (is, none_left rest end, bad) refl
 pub good_name : (words rest : List (List ℕ)) (name text : List ℕ) → words ≡ name ∷ rest → no_word Clear rest ≡ Ok Clear → is_name name ≡ true → text ≡ name → one_name words ≡ Ok text
 unfolding one_name
 good_name words rest name text is end good same = rw (is, none_left rest end, good, same) refl
+
+-- ---- a path
+
+pub more_than_one_path : (words rest : List (List ℕ)) (path : List ℕ) (kind : ScriptFaultKind) → words ≡ path ∷ rest → no_word Clear rest ≡ Err kind → one_path words ≡ Err kind
+unfolding one_path no_word
+more_than_one_path words [] path kind is h = absurd cc
+more_than_one_path words (word ∷ rest) path kind is h = rw is (cc)
+
+pub good_path : (words rest : List (List ℕ)) (path text : List ℕ) → words ≡ path ∷ rest → no_word Clear rest ≡ Ok Clear → text ≡ path → one_path words ≡ Ok text
+unfolding one_path
+good_path words rest path text is end same = rw (is, none_left rest end, same) refl
 
 -- ---- a name and a path
 

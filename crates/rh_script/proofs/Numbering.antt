@@ -1,13 +1,12 @@
 -- A step more of a plan.
-use Rattle.std.proofs.Common.{◌≡◌, ◌∙◌, ap, sym, ℕ, ◌+◌, ◌<◌, ◌≤◌, true, List, [], ◌∷◌, ◌++◌, length, get_or, take, drop, map, append_assoc, is_ok, Bor, refl}
+use Rattle.std.proofs.Common.{◌≡◌, ◌∙◌, ap, sym, ℕ, ◌+◌, ◌<◌, ◌≤◌, true, List, [], ◌∷◌, ◌++◌, length, get_or, take, drop, map, append_assoc, take-append-drop, is_ok, Bor, refl}
 use Rattle.std.proofs.Math.ListN.{drop_of_length-le}
-use Rattle.std.proofs.lemmas.Bool.{and_parts}
 use Rattle.std.proofs.lemmas.List.{append-nil, drop_more, map-append, take_more}
 use Rattle.std.specs.BTreeMap.{BTreeMap, IsEmpty}
 use Rattle.rh_script.specs.declared.script.Step.{Step}
 use Rattle.rh_script.specs.declared.task.PlannedStep.{PlannedStep}
 use Rattle.rh_script.specs.Instruction.{Numbered}
-use Rattle.rh_script.specs.Names.{admitted, given_by, in_order, names_in}
+use Rattle.rh_script.specs.Names.{InOrder, admitted, given_by, names_in}
 use Rattle.rh_script.specs.Steps.{instruction_as, step_as}
 use Rattle.rh_script.specs.Plan.{Planned, number_after, place_of, plan_of, planned_after}
 use Rattle.rh_script.specs.Tasks.{HasPlaces, planned_as, task_as}
@@ -39,13 +38,13 @@ pub no_places : (lists : BTreeMap (Bor (List ℕ)) ℕ) → IsEmpty lists → Ha
 unfolding names_in place_of
 no_places lists empty = (ap length empty, λ name. rw empty refl)
 
-pub first_admitted : (given : List (List ℕ)) (step : Numbered) (rest : List Numbered) → in_order given (step ∷ rest) ≡ true → is_ok (admitted given step.instruction) ≡ true
-unfolding in_order
-first_admitted given step rest h = (and_parts _ (in_order (given ++ given_by step.instruction) rest) h).0
-
-pub rest_in_order : (given : List (List ℕ)) (step : Numbered) (rest : List Numbered) → in_order given (step ∷ rest) ≡ true → in_order (given ++ given_by step.instruction) rest ≡ true
-unfolding in_order
-rest_in_order given step rest h = (and_parts (is_ok (admitted given step.instruction)) _ h).1
+-- each step may stand after the steps to it
+pub step_admitted : (steps : List Step) (i : ℕ) (step : Step) → InOrder (map step_as steps) → i < length steps → step ≡ get_or steps i step → is_ok (admitted (map step_as (take i steps)) (instruction_as step.command)) ≡ true
+step_admitted steps i step ordered within is =
+    ordered (map step_as (take i steps)) (steps_from steps (i + 1)) (step_as step)
+    (ap (map step_as) (sym (take-append-drop i steps))
+    ∙ map-append step_as (take i steps) (drop i steps)
+    ∙ ap (λ rest. map step_as (take i steps) ++ rest) (next_step steps i step within is))
 
 pub plan_begun : (steps : List Numbered) (done : List PlannedStep) → done ≡ [] → plan_of steps ≡ map planned_as done ++ planned_after (names_in []) steps
 plan_begun steps done none = rw (none, no_names) refl

@@ -1,25 +1,21 @@
 -- A line more of a script.
-use Rattle.std.proofs.Common.{◌≡◌, ◌∙◌, ap, sym, subst, ℕ, ◌+◌, ◌<◌, arith, length, List, [], ◌∷◌, ◌++◌, map, String, Ok, Err, refl}
+use Rattle.std.proofs.Common.{◌≡◌, ◌∙◌, ap, sym, subst, ℕ, ◌+◌, ◌<◌, arith, length, List, [], ◌∷◌, ◌++◌, map, Ok, Err, refl}
 use Rattle.std.proofs.lemmas.List.{map-append}
-use Rattle.std.specs.Global.{Global}
-use Rattle.std.specs.BTreeSet.{BTreeSet, IsEmpty}
 use Rattle.std.specs.List.{before_first, after_first}
 use Rattle.rh_script.specs.Lines.{is_line_feed, lines_of}
 use Rattle.rh_script.specs.declared.fault.ScriptFaultKind.{ScriptFaultKind}
+use Rattle.rh_script.specs.declared.given.Given.{Given}
 use Rattle.rh_script.specs.declared.script.Step.{Step}
 use Rattle.rh_script.specs.Instruction.{Numbered}
 use Rattle.rh_script.specs.Grammar.{after_line, after_lines, script_of}
-use Rattle.rh_script.specs.Names.{given_by, is_given, names_in}
 use Rattle.rh_script.specs.Steps.{instruction_as, step_as}
-use Rattle.rh_script.specs.Script.{HasNames}
-use Rattle.rh_script.proofs.Naming.{names_more}
+use Rattle.rh_script.specs.Script.{GivenBy}
 use Rattle.rh_script.proofs.Splitting.{lines_step, no_line}
 
-pub known_more : (names new : BTreeSet (String Global)) (before after : List Step) (step : Step) → HasNames names (names_in (map step_as before)) → ((given : List (List ℕ)) → HasNames names given → HasNames new (given ++ given_by (instruction_as step.command))) → after ≡ before ++ step ∷ [] → HasNames new (names_in (map step_as after))
-known_more names new before after step has kept is =
-    let more : names_in (map step_as before) ++ given_by (instruction_as step.command) ≡ names_in (map step_as after) =
-    sym (ap (λ steps. names_in (map step_as steps)) is ∙ ap names_in (map-append step_as before (step ∷ [])) ∙ names_more (map step_as before) (step_as step)) in
-    subst (λ given. HasNames new given) more (kept _ has)
+pub known_more : (old new : Given) (before after : List Step) (step : Step) → GivenBy (map step_as before) old → ((steps : List Numbered) (line : ℕ) → GivenBy steps old → GivenBy (steps ++ record { line = line; instruction = instruction_as step.command } ∷ []) new) → after ≡ before ++ step ∷ [] → GivenBy (map step_as after) new
+known_more old new before after step has kept is =
+    let more : map step_as before ++ step_as step ∷ [] ≡ map step_as after = sym (ap (map step_as) is ∙ map-append step_as before (step ∷ [])) in
+    subst (λ steps. GivenBy steps new) more (kept (map step_as before) step.line has)
 
 pub line_read : (number : ℕ) (before more : List Numbered) (line : List ℕ) (lines : List (List ℕ)) → after_line number before line ≡ Ok more → after_lines number before (line ∷ lines) ≡ after_lines (number + 1) more lines
 unfolding after_lines
@@ -38,9 +34,8 @@ cut text line rest some is then = rw (is, then) (lines_step text some)
 
 -- ---- the loop over the lines
 
-pub nothing_known : (names : BTreeSet (String Global)) (before : List Step) → IsEmpty names → before ≡ [] → HasNames names (names_in (map step_as before))
-unfolding is_given names_in
-nothing_known names before empty none = λ name. rw none (grind (arith, empty))
+pub nothing_known : (given : Given) (before : List Step) → GivenBy [] given → before ≡ [] → GivenBy (map step_as before) given
+nothing_known given before has none = rw none has
 
 pub counted_more : (n lines : ℕ) (text rest : List ℕ) → 0 < length text → rest ≡ after_first is_line_feed text → n + length (lines_of text) ≡ lines → n + 1 + length (lines_of rest) ≡ lines
 counted_more n lines text rest some then h =

@@ -1,22 +1,24 @@
 -- The places of the names that are given.
-use Rattle.std.proofs.Common.{◌≡◌, ◌∙◌, ap, sym, ℕ, ◌+◌, ◌<◌, Bool, true, false, List, [], ◌∷◌, ◌++◌, length, length-append, Some, None, IsSome, Bor, String, string_bytes, is_ok, inl, inr, refl, arith}
+use Rattle.std.proofs.Common.{◌≡◌, ◌∙◌, ap, sym, ℕ, ◌+◌, ◌<◌, Bool, true, false, List, [], ◌∷◌, ◌++◌, length, length-append, Some, None, IsSome, Bor, String, string_bytes, is_ok, ◌⊎◌, inl, inr, refl, arith}
 use Rattle.std.specs.Global.{Global}
 use Rattle.std.specs.BTreeMap.{BTreeMap, btree_map_len}
 use Rattle.std.specs.List.{list_any, position_or_len}
 use Rattle.std.specs.Map.{update}
 use Rattle.std.specs.Str.{bytes_eq}
-use Rattle.std.proofs.lemmas.Bool.{cases_Bool}
+use Rattle.std.proofs.lemmas.Bool.{cases_Bool, or_parts}
 use Rattle.std.proofs.lemmas.Bool.Decides.{nat_tests}
 use Rattle.std.proofs.lemmas.Grind.{common_steps}
 use Rattle.std.proofs.lemmas.List.Folds.{position_or_len_push}
 use Rattle.std.proofs.lemmas.List.Sums.{prefix_len-le-length}
 use Rattle.std.proofs.lemmas.Slice.Eq.{bytes_eq-Decides}
 use Rattle.rh_script.specs.declared.script.Command.{Command}
-use Rattle.rh_script.specs.Names.{admitted, is_given, known, once}
+use Rattle.rh_script.specs.declared.script.Command.TheVariants as commands
+use Rattle.rh_script.specs.Instruction.{Numbered}
+use Rattle.rh_script.specs.Names.{admitted, is_given, known, names_in, snapshots_in}
 use Rattle.rh_script.specs.Steps.{instruction_as}
 use Rattle.rh_script.specs.Plan.{place_of}
 use Rattle.rh_script.specs.Tasks.{HasPlaces, number_in}
-use Rattle.rh_script.proofs.Naming.{Gives, Uses, gave, used}
+use Rattle.rh_script.proofs.Naming.{Uses, may_stand_once, used}
 
 none_before : {X : Type 0} (p : X → Bool) (xs : List X) → list_any p xs ≡ false → position_or_len p xs ≡ length xs
 none_before p [] h = refl
@@ -66,20 +68,25 @@ places_kept lists new given name number fresh has next more updated = (
 
 -- ---- the names of commands that may stand here
 
+abbrev pub Gives : Command → String Global → Type 0
+Gives command name = ((path : String Global) × (command ≡ commands.Use name path)) ⊎ (command ≡ commands.Save name)
+
 use_is_given : (b : Bool) → is_ok (known b) ≡ true → b ≡ true
 use_is_given true h = refl
 use_is_given false h = absurd cc
 
-gift_is_once : (b : Bool) → is_ok (once b) ≡ true → b ≡ false
-gift_is_once true h = absurd cc
-gift_is_once false h = refl
+gift_is_once : (before : List Numbered) (command : Command) (name : String Global) → is_ok (admitted before (instruction_as command)) ≡ true → Gives command name → is_given (string_bytes name) (names_in before) ≡ false
+unfolding admitted
+gift_is_once before command name ok (inl is) =
+    (or_parts (is_given (string_bytes is.0) (snapshots_in before)) _ (may_stand_once _ (sym (ap (λ c. is_ok (admitted before (instruction_as c))) is.1) ∙ ok))).1
+gift_is_once before command name ok (inr is) =
+    may_stand_once _ (sym (ap (λ c. is_ok (admitted before (instruction_as c))) is) ∙ ok)
 
-pub place_found : (lists : BTreeMap (Bor (List ℕ)) ℕ) (given : List (List ℕ)) (command : Command) (name : String Global) (text : List ℕ) → HasPlaces lists given → is_ok (admitted given (instruction_as command)) ≡ true → Uses command name → text ≡ string_bytes name → IsSome (number_in lists text)
-place_found lists given command name text has ok uses is =
-    let there : is_given (string_bytes name) given ≡ true = use_is_given _ (rw (used given command name uses) at ok) in
-    rw (has.1 text, is) (place_there (string_bytes name) given there)
+pub place_found : (lists : BTreeMap (Bor (List ℕ)) ℕ) (before : List Numbered) (command : Command) (name : String Global) (text : List ℕ) → HasPlaces lists (names_in before) → is_ok (admitted before (instruction_as command)) ≡ true → Uses command name → text ≡ string_bytes name → IsSome (number_in lists text)
+place_found lists before command name text has ok uses is =
+    let there : is_given (string_bytes name) (names_in before) ≡ true = use_is_given _ (rw (used before command name uses) at ok) in
+    rw (has.1 text, is) (place_there (string_bytes name) (names_in before) there)
 
-pub gift_is_new : (lists : BTreeMap (Bor (List ℕ)) ℕ) (given : List (List ℕ)) (command : Command) (name : String Global) (text : List ℕ) → HasPlaces lists given → is_ok (admitted given (instruction_as command)) ≡ true → Gives command name → text ≡ string_bytes name → number_in lists text ≡ None
-gift_is_new lists given command name text has ok gives is =
-    let none : is_given (string_bytes name) given ≡ false = gift_is_once _ (rw (gave given command name gives) at ok) in
-    rw (has.1 text, is) (no_place (string_bytes name) given none)
+pub gift_is_new : (lists : BTreeMap (Bor (List ℕ)) ℕ) (before : List Numbered) (command : Command) (name : String Global) (text : List ℕ) → HasPlaces lists (names_in before) → is_ok (admitted before (instruction_as command)) ≡ true → Gives command name → text ≡ string_bytes name → number_in lists text ≡ None
+gift_is_new lists before command name text has ok gives is =
+    rw (has.1 text, is) (no_place (string_bytes name) (names_in before) (gift_is_once before command name ok gives))

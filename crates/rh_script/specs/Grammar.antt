@@ -9,9 +9,9 @@ use Rattle.rh_script.specs.declared.fault.ScriptFaultKind.TheVariants.{TooLong, 
 use Rattle.rh_script.specs.declared.verb.Verb.{Verb}
 use Rattle.rh_script.specs.declared.verb.Verb.TheVariants as verbs
 use Rattle.rh_script.specs.declared.limits.TheConstants.{MAX_LINES, MAX_LINE_BYTES, MAX_NAME_BYTES}
-use Rattle.rh_script.specs.Instruction.{Instruction, Use, Add, Drop, Ask, Keep, Flip, Save, Clear, Dump, Numbered}
+use Rattle.rh_script.specs.Instruction.{Instruction, Use, Add, Drop, Ask, Keep, Flip, Save, Clear, Dump, Snapshot, Restore, Numbered}
 use Rattle.rh_script.specs.Lines.{is_printable, is_skipped, lines_of, without_return, words_of}
-use Rattle.rh_script.specs.Names.{admitted, names_in}
+use Rattle.rh_script.specs.Names.{admitted}
 
 -- one step, and then the next
 infixl 10 ◌>>=◌
@@ -42,6 +42,8 @@ verb_of word =
     else if bytes_eq word (codes "save") then Some verbs.Save
     else if bytes_eq word (codes "clear") then Some verbs.Clear
     else if bytes_eq word (codes "dump") then Some verbs.Dump
+    else if bytes_eq word (codes "snapshot") then Some verbs.Snapshot
+    else if bytes_eq word (codes "restore") then Some verbs.Restore
     else None
 
 abbrev pub verb_in : List ℕ → Result Verb ScriptFaultKind
@@ -57,6 +59,11 @@ unfoldable pub name_and_path : List (List ℕ) → Result (List ℕ × List ℕ)
 name_and_path (name ∷ path ∷ []) = if is_name name then Ok (name, path) else Err BadName
 name_and_path _ = Err BadCommand
 
+-- the words are a path
+unfoldable pub one_path : List (List ℕ) → Result (List ℕ) ScriptFaultKind
+one_path (path ∷ []) = Ok path
+one_path _ = Err BadCommand
+
 -- there is no word
 unfoldable pub no_word : Instruction → List (List ℕ) → Result Instruction ScriptFaultKind
 no_word instruction [] = Ok instruction
@@ -64,6 +71,9 @@ no_word instruction _ = Err BadCommand
 
 abbrev pub on_name : (List ℕ → Instruction) → List (List ℕ) → Result Instruction ScriptFaultKind
 on_name instruction words = one_name words >>= (λ name. Ok (instruction name))
+
+abbrev pub on_path : (List ℕ → Instruction) → List (List ℕ) → Result Instruction ScriptFaultKind
+on_path instruction words = one_path words >>= (λ path. Ok (instruction path))
 
 -- the instruction of a verb with the words after it
 unfoldable pub instruction_of : Verb → List (List ℕ) → Result Instruction ScriptFaultKind
@@ -76,6 +86,8 @@ instruction_of verbs.Flip words = on_name Flip words
 instruction_of verbs.Save words = on_name Save words
 instruction_of verbs.Clear words = no_word Clear words
 instruction_of verbs.Dump words = no_word Dump words
+instruction_of verbs.Snapshot words = on_path Snapshot words
+instruction_of verbs.Restore words = on_path Restore words
 
 unfoldable pub instruction_in : List (List ℕ) → Result Instruction ScriptFaultKind
 instruction_in [] = Err BadCommand
@@ -98,7 +110,7 @@ within_limits number line =
 unfoldable pub entered : ℕ → List Numbered → Option Instruction → Result (List Numbered) ScriptFaultKind
 entered number before None = Ok before
 entered number before (Some said) =
-    admitted (names_in before) said >>= (λ _. Ok (before ++ record { line = number; instruction = said } ∷ []))
+    admitted before said >>= (λ _. Ok (before ++ record { line = number; instruction = said } ∷ []))
 
 unfoldable pub after_line : ℕ → List Numbered → List ℕ → Result (List Numbered) ScriptFaultKind
 after_line number before line =

@@ -12,6 +12,8 @@ pub data Instruction : Type 0 where
   Save : (name : List ℕ) → Instruction
   Clear : Instruction
   Dump : Instruction
+  Snapshot : (path : List ℕ) → Instruction
+  Restore : (path : List ℕ) → Instruction
 
 -- an instruction, and the line on which it stands; the first is line 1
 pub record Numbered : Type 0 where

@@ -1,10 +1,10 @@
--- The names that a script's steps give to lists (this project's own).
-use Rattle.std.specs.Prelude.{ℕ, Bool, true, ◌&&◌, if◌then◌else◌, List, [], ◌∷◌, ◌++◌, Result, Ok, Err, is_ok}
+-- What a script's steps give: names to lists, and paths to files (this project's own).
+use Rattle.std.specs.Prelude.{◌≡◌, ℕ, Bool, false, ◌||◌, IsTrue, if◌then◌else◌, List, [], ◌∷◌, ◌++◌, Result, Ok, Err, is_ok}
 use Rattle.std.specs.Str.{bytes_eq}
 use Rattle.std.specs.List.{flat_map, list_any}
 use Rattle.rh_script.specs.declared.fault.ScriptFaultKind.{ScriptFaultKind}
 use Rattle.rh_script.specs.declared.fault.ScriptFaultKind.TheVariants.{Unknown, Twice}
-use Rattle.rh_script.specs.Instruction.{Instruction, Use, Add, Drop, Ask, Keep, Flip, Save, Clear, Dump, Numbered}
+use Rattle.rh_script.specs.Instruction.{Instruction, Use, Add, Drop, Ask, Keep, Flip, Save, Clear, Dump, Snapshot, Restore, Numbered}
 
 -- the name that an instruction gives, if it gives one
 abbrev pub given_by : Instruction → List (List ℕ)
@@ -12,14 +12,32 @@ given_by (Use name path) = name ∷ []
 given_by (Save name) = name ∷ []
 given_by _ = []
 
+-- the path of the key file that an instruction reads, if it reads one
+abbrev pub file_of : Instruction → List (List ℕ)
+file_of (Use name path) = path ∷ []
+file_of _ = []
+
+-- the path that an instruction puts a snapshot under, if it makes one
+abbrev pub snapshot_of : Instruction → List (List ℕ)
+snapshot_of (Snapshot path) = path ∷ []
+snapshot_of _ = []
+
 -- the names that the steps give, in order
 unfoldable pub names_in : List Numbered → List (List ℕ)
 names_in steps = flat_map (λ step. given_by step.instruction) steps
 
+-- the paths of the key files that the steps read, in order
+unfoldable pub files_in : List Numbered → List (List ℕ)
+files_in steps = flat_map (λ step. file_of step.instruction) steps
+
+-- the paths that the steps put snapshots under, in order
+unfoldable pub snapshots_in : List Numbered → List (List ℕ)
+snapshots_in steps = flat_map (λ step. snapshot_of step.instruction) steps
+
 unfoldable pub is_given : List ℕ → List (List ℕ) → Bool
 is_given name given = list_any (λ other. bytes_eq other name) given
 
--- a name is given once
+-- what may be given once was not given before
 abbrev pub once : Bool → Result (Unit {0}) ScriptFaultKind
 once given = if given then Err Twice else Ok tt
 
@@ -27,20 +45,30 @@ once given = if given then Err Twice else Ok tt
 abbrev pub known : Bool → Result (Unit {0}) ScriptFaultKind
 known given = if given then Ok tt else Err Unknown
 
--- whether an instruction may stand where these names are given
-unfoldable pub admitted : List (List ℕ) → Instruction → Result (Unit {0}) ScriptFaultKind
-admitted given (Use name path) = once (is_given name given)
-admitted given (Add name) = known (is_given name given)
-admitted given (Drop name) = known (is_given name given)
-admitted given (Ask name) = known (is_given name given)
-admitted given (Keep name) = known (is_given name given)
-admitted given (Flip name) = known (is_given name given)
-admitted given (Save name) = once (is_given name given)
-admitted given Clear = Ok tt
-admitted given Dump = Ok tt
+-- Whether an instruction may stand after these steps. A name is given once. No path is both read as keys and written
+-- as a snapshot, and no snapshot is written twice.
+unfoldable pub admitted : List Numbered → Instruction → Result (Unit {0}) ScriptFaultKind
+admitted before (Use name path) = once (is_given path (snapshots_in before) || is_given name (names_in before))
+admitted before (Add name) = known (is_given name (names_in before))
+admitted before (Drop name) = known (is_given name (names_in before))
+admitted before (Ask name) = known (is_given name (names_in before))
+admitted before (Keep name) = known (is_given name (names_in before))
+admitted before (Flip name) = known (is_given name (names_in before))
+admitted before (Save name) = once (is_given name (names_in before))
+admitted before Clear = Ok tt
+admitted before Dump = Ok tt
+admitted before (Snapshot path) = once (is_given path (files_in before) || is_given path (snapshots_in before))
+admitted before (Restore path) = Ok tt
 
--- whether each step may stand after these names and those of the steps before it
-unfoldable pub in_order : List (List ℕ) → List Numbered → Bool
-in_order given [] = true
-in_order given (step ∷ steps) =
-    is_ok (admitted given step.instruction) && in_order (given ++ given_by step.instruction) steps
+-- each step may stand after those before it
+abbrev pub InOrder : List Numbered → Type 0
+InOrder steps =
+    (before after : List Numbered) (step : Numbered) → steps ≡ before ++ step ∷ after
+    → IsTrue (is_ok (admitted before step.instruction))
+
+-- no snapshot is put under a path that an earlier step reads keys from, or puts a snapshot under
+abbrev pub SnapshotsAreNew : List Numbered → Type 0
+SnapshotsAreNew steps =
+    (before after : List Numbered) (step : Numbered) (path : List ℕ) → steps ≡ before ++ step ∷ after
+    → step.instruction ≡ Snapshot path
+    → (is_given path (files_in before) ≡ false) × (is_given path (snapshots_in before) ≡ false)

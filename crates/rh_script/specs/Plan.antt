@@ -1,7 +1,7 @@
 -- The plan of a script: its steps, with their lists numbered (this project's own).
 use Rattle.std.specs.Prelude.{ℕ, List, [], ◌∷◌, ◌++◌, length, position, Option, Some, None}
 use Rattle.std.specs.Str.{bytes_eq}
-use Rattle.rh_script.specs.Instruction.{Instruction, Use, Add, Drop, Ask, Keep, Flip, Save, Clear, Dump, Numbered}
+use Rattle.rh_script.specs.Instruction.{Instruction, Use, Add, Drop, Ask, Keep, Flip, Save, Clear, Dump, Snapshot, Restore, Numbered}
 use Rattle.rh_script.specs.Names.{given_by}
 
 -- an instruction with its line and the number of its list
@@ -25,6 +25,8 @@ number_after given (Flip name) = place_of name given
 number_after given (Save name) = Some (length given)
 number_after given Clear = None
 number_after given Dump = None
+number_after given (Snapshot path) = None
+number_after given (Restore path) = None
 
 -- the steps with their numbers, after these names
 unfoldable pub planned_after : List (List ℕ) → List Numbered → List Planned

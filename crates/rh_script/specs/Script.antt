@@ -1,12 +1,13 @@
--- What the code's scripts, names and answers stand for.
+-- What the code's scripts, answers and kept texts stand for.
 use Rattle.std.specs.Prelude.{◌≡◌, ◌≢◌, ℕ, List, map, String, Result, Ok, Err, MatchResult}
 use Rattle.std.specs.Global.{Global}
 use Rattle.std.specs.BTreeSet.{BTreeSet, contains_text}
 use Rattle.rh_script.specs.declared.fault.ScriptFaultKind.{ScriptFaultKind}
 use Rattle.rh_script.specs.declared.fault.ScriptFaultKind.TheVariants.{Memory}
 use Rattle.rh_script.specs.declared.script.Script.{Script}
+use Rattle.rh_script.specs.declared.given.Given.{Given}
 use Rattle.rh_script.specs.Instruction.{Numbered}
-use Rattle.rh_script.specs.Names.{is_given}
+use Rattle.rh_script.specs.Names.{is_given, names_in, files_in, snapshots_in}
 use Rattle.rh_script.specs.Steps.{step_as}
 
 -- the steps of a script, in order
@@ -17,6 +18,12 @@ steps_of script = map step_as script.steps.items
 abbrev pub Answers : {X Y : Type 0} → Result Y ScriptFaultKind → (X → Y) → Result X ScriptFaultKind → Type 0
 Answers said view r = MatchResult r (λ x. said ≡ Ok (view x)) (λ kind. kind ≢ Memory → said ≡ Err kind)
 
--- the set has just the names that are given
-abbrev pub HasNames : BTreeSet (String Global) → List (List ℕ) → Type 0
-HasNames names given = (name : List ℕ) → contains_text names name ≡ is_given name given
+-- the set has just the texts that are given
+abbrev pub HasJust : BTreeSet (String Global) → List (List ℕ) → Type 0
+HasJust texts given = (text : List ℕ) → contains_text texts text ≡ is_given text given
+
+-- what is kept is what these steps give
+pub record GivenBy (steps : List Numbered) (given : Given) : Type 0 where
+  pub names : HasJust given.names (names_in steps)
+  pub files : HasJust given.files (files_in steps)
+  pub snapshots : HasJust given.snapshots (snapshots_in steps)

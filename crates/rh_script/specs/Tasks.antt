@@ -8,7 +8,7 @@ use Rattle.rh_script.specs.declared.task.Task.{Task}
 use Rattle.rh_script.specs.declared.task.Task.TheVariants as tasks
 use Rattle.rh_script.specs.declared.task.PlannedStep.{PlannedStep}
 use Rattle.rh_script.specs.declared.task.Plan.{Plan}
-use Rattle.rh_script.specs.Instruction.{Instruction, Use, Add, Drop, Ask, Keep, Flip, Save, Clear, Dump}
+use Rattle.rh_script.specs.Instruction.{Instruction, Use, Add, Drop, Ask, Keep, Flip, Save, Clear, Dump, Snapshot, Restore}
 use Rattle.rh_script.specs.Plan.{Planned, place_of}
 
 -- the instruction that a task carries out, and the number of its list
@@ -22,6 +22,8 @@ task_as (tasks.Flip list name) = (Flip name.now, Some list)
 task_as (tasks.Save list name) = (Save name.now, Some list)
 task_as tasks.Clear = (Clear, None)
 task_as tasks.Dump = (Dump, None)
+task_as (tasks.Snapshot path) = (Snapshot path.now, None)
+task_as (tasks.Restore path) = (Restore path.now, None)
 
 abbrev pub planned_as : PlannedStep → Planned
 planned_as step = record { line = step.line; instruction = (task_as step.task).0; list = (task_as step.task).1 }

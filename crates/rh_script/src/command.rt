@@ -3,7 +3,7 @@
 ghost use Rattle.std.specs.Prelude.{◌≡◌, option_map, string_bytes};
 ghost use Rattle.rh_script.specs.Instruction.{Instruction};
 ghost use Rattle.rh_script.specs.Lines.{words_of};
-ghost use Rattle.rh_script.specs.Grammar.{name_and_path, no_word, one_name};
+ghost use Rattle.rh_script.specs.Grammar.{name_and_path, no_word, one_name, one_path};
 ghost use Rattle.rh_script.specs.Grammar.{instruction_in, instruction_of, said_in};
 ghost use Rattle.rh_script.specs.Steps.{instruction_as};
 ghost use Rattle.rh_script.specs.Script.{Answers};
@@ -72,6 +72,12 @@ fn command_of(alloc: Global, verb: Verb, rest: &str) -> Result<Command, ScriptFa
             end_of_words(rest)?;
             Command::Dump
         }
+        Verb::Snapshot => Command::Snapshot {
+            path: read_path(alloc, rest)?,
+        },
+        Verb::Restore => Command::Restore {
+            path: read_path(alloc, rest)?,
+        },
     })
 }
 
@@ -104,6 +110,17 @@ fn read_name(alloc: Global, rest: &str) -> Result<String, ScriptFaultKind>
     }
     let name = String::from_str(alloc, name)?;
     Ok(name)
+}
+
+/// A path, and nothing after it.
+#[tactic(auto, unfolding(crate::specs::Grammar::one_path))]
+fn read_path(alloc: Global, rest: &str) -> Result<String, ScriptFaultKind>
+    ensures { Answers (one_path (words_of rest.now)) string_bytes result }
+{
+    let (word, rest) = next_word(rest).ok_or(ScriptFaultKind::BadCommand)?;
+    end_of_words(rest)?;
+    let path = String::from_str(alloc, word)?;
+    Ok(path)
 }
 
 #[tactic(auto, unfolding(crate::specs::Grammar::no_word))]

@@ -20,7 +20,7 @@ pub enum ScriptFaultKind {
     /// No earlier line gave the name.
     #[error("unknown name")]
     Unknown,
-    /// An earlier line gave the name.
+    /// An earlier line gave the name, or took the path.
     #[error("given twice")]
     Twice,
     #[error("out of memory")]

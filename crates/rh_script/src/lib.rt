@@ -3,9 +3,9 @@
 
 mod command;
 mod fault;
+mod given;
 mod limits;
 mod lines;
-mod names;
 mod planning;
 mod reading;
 mod script;

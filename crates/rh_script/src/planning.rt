@@ -2,7 +2,8 @@
 
 ghost use Rattle.std.specs.Prelude.{◌≡◌, ℕ, [], ◌∷◌, ◌++◌, List, IsTrue, IfOk, OnOk, None, is_ok};
 ghost use Rattle.std.specs.BTreeMap.{btree_map_len};
-ghost use Rattle.rh_script.specs.Names.{admitted, given_by};
+ghost use Rattle.rh_script.specs.Instruction.{Numbered};
+ghost use Rattle.rh_script.specs.Names.{SnapshotsAreNew, admitted, given_by, names_in};
 ghost use Rattle.rh_script.specs.Steps.{instruction_as};
 ghost use Rattle.rh_script.specs.Script.{steps_of};
 ghost use Rattle.rh_script.specs.Plan.{number_after, plan_of};
@@ -15,7 +16,8 @@ use std::collections::BTreeMap;
 
 /// One step for each command, with its line. `AllocError` comes only where a growth was refused.
 pub fn plan(alloc: Global, script: &Script) -> Result<Plan<'_>, AllocError>
-    ensures { IfOk result (λ plan. planned_of plan ≡ plan_of (steps_of script.now)) }
+    ensures planned { IfOk result (λ plan. planned_of plan ≡ plan_of (steps_of script.now)) }
+    ensures snapshots { SnapshotsAreNew (steps_of script.now) }
 {
     let mut lists = BTreeMap::new(alloc);
     let mut steps = Vec::with_capacity(alloc, script.len())?;
@@ -27,14 +29,14 @@ pub fn plan(alloc: Global, script: &Script) -> Result<Plan<'_>, AllocError>
     Ok(Plan { steps })
 }
 
-/// The task of a command that may stand after the names of these lists.
+/// The task of a command that may stand after the steps that gave these lists.
 #[tactic(auto, unfolding(crate::specs::Plan::number_after))]
 fn task_of<'a>(
     lists: &mut BTreeMap<&'a str, usize>,
     command: &'a Command,
 ) -> Result<Task<'a>, AllocError>
-    requires { (given : List (List ℕ)) × HasPlaces lists.old given
-        × IsTrue (is_ok (admitted given (instruction_as command.now))) }
+    requires { (before : List Numbered) × HasPlaces lists.old (names_in before)
+        × IsTrue (is_ok (admitted before (instruction_as command.now))) }
     ensures task { (given : List (List ℕ)) → HasPlaces lists.old given →
         IfOk result (λ task. task_as task ≡
         (instruction_as command.now, number_after given (instruction_as command.now))) }
@@ -72,6 +74,8 @@ fn task_of<'a>(
         }),
         Command::Clear => Ok(Task::Clear),
         Command::Dump => Ok(Task::Dump),
+        Command::Snapshot { path } => Ok(Task::Snapshot { path }),
+        Command::Restore { path } => Ok(Task::Restore { path }),
     }
 }
 

@@ -4,25 +4,23 @@ ghost use Rattle.std.specs.Prelude.{◌≡◌, ◌≢◌, IfOk, IfErr, Ok, Err, 
 ghost use Rattle.rh_script.specs.declared.limits.TheConstants.{MAX_LINES};
 ghost use Rattle.rh_script.specs.Grammar.{after_line, script_of};
 ghost use Rattle.rh_script.specs.Lines.{lines_of};
-ghost use Rattle.rh_script.specs.Names.{names_in};
 ghost use Rattle.rh_script.specs.Steps.{step_as};
-ghost use Rattle.rh_script.specs.Script.{Answers, HasNames, steps_of};
+ghost use Rattle.rh_script.specs.Script.{Answers, GivenBy, steps_of};
 
 use crate::command::read_command;
 use crate::fault::{ScriptFault, ScriptFaultKind};
+use crate::given::Given;
 use crate::limits::{MAX_LINE_BYTES, MAX_LINES};
 use crate::lines::{next_line, without_return};
-use crate::names::admit;
 use crate::script::{Script, Step};
 use std::alloc::Global;
-use std::collections::BTreeSet;
 
 /// How far a script was read.
 #[derive(Drop)]
 struct Reading {
     alloc: Global,
     line: u64,
-    names: BTreeSet<String>,
+    given: Given,
     steps: Vec<Step>,
 }
 
@@ -30,11 +28,11 @@ impl Reading {
     #[tactic(auto, unfolding(crate::specs::Grammar::after_line, crate::specs::Grammar::entered))]
     fn read_line(&mut self, line: &[u8]) -> Result<(), ScriptFaultKind>
         requires few { self.old.line ≤ MAX_LINES }
-        requires known { HasNames self.old.names (names_in (map step_as self.old.steps.items)) }
+        requires known { GivenBy (map step_as self.old.steps.items) self.old.given }
         ensures line { self.new.line ≡ self.old.line + 1 }
         ensures few { OnOk result (self.new.line ≤ MAX_LINES) }
         ensures known { OnOk result
-            (HasNames self.new.names (names_in (map step_as self.new.steps.items))) }
+            (GivenBy (map step_as self.new.steps.items) self.new.given) }
         ensures read { Answers
             (after_line self.new.line (map step_as self.old.steps.items) line.now)
             (λ _. map step_as self.new.steps.items) result }
@@ -44,8 +42,8 @@ impl Reading {
             return Err(ScriptFaultKind::TooLong);
         }
         if let Some(command) = read_command(self.alloc, without_return(line))? {
-            admit(self.alloc, &mut self.names, &command)?;
             let line = self.line;
+            self.given.admit(self.alloc, &command)?;
             self.steps.push(Step { line, command })?;
         }
         Ok(())
@@ -64,7 +62,7 @@ pub fn parse(alloc: Global, text: &[u8]) -> Result<Script, ScriptFault>
     let mut reading = Reading {
         alloc,
         line: 0,
-        names: BTreeSet::new(alloc),
+        given: Given::new(alloc),
         steps: Vec::new(alloc),
     };
     let mut rest = text;

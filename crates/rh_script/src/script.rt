@@ -1,7 +1,7 @@
 //! Scripts that were read.
 
-ghost use Rattle.std.specs.Prelude.{◌≡◌, ◌==◌, IsTrue, [], length, map};
-ghost use Rattle.rh_script.specs.Names.{in_order};
+ghost use Rattle.std.specs.Prelude.{◌≡◌, ◌==◌, length, map};
+ghost use Rattle.rh_script.specs.Names.{InOrder};
 ghost use Rattle.rh_script.specs.Steps.{step_as};
 
 /// A command with its words. A name stands for a list of keys, a path for a file.
@@ -16,6 +16,8 @@ pub enum Command {
     Save { name: String },
     Clear,
     Dump,
+    Snapshot { path: String },
+    Restore { path: String },
 }
 
 /// A command, and the number of its line. Lines are numbered from 1.
@@ -29,8 +31,8 @@ pub struct Step {
 #[derive(Debug, PartialEq, Eq, Drop)]
 pub struct Script {
     pub(crate) steps: Vec<Step>,
-    // Each name is given once, and before it is used.
-    ghost named: { IsTrue (in_order [] (map step_as steps.items)) },
+    // Each name is given once, and before it is used, and no snapshot takes an earlier path.
+    ghost in_order: { InOrder (map step_as steps.items) },
 }
 
 impl Script {

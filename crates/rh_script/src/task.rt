@@ -37,6 +37,12 @@ pub enum Task<'a> {
     },
     Clear,
     Dump,
+    Snapshot {
+        path: &'a str,
+    },
+    Restore {
+        path: &'a str,
+    },
 }
 
 /// A task, and the number of its command's line.

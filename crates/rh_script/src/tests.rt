@@ -13,13 +13,16 @@ fn words(command: &Command) -> [&str; 3] {
         Command::Save { name } => ["save", name.as_str(), ""],
         Command::Clear => ["clear", "", ""],
         Command::Dump => ["dump", "", ""],
+        Command::Snapshot { path } => ["snapshot", path.as_str(), ""],
+        Command::Restore { path } => ["restore", path.as_str(), ""],
     }
 }
 
 const ALL_COMMANDS: &[u8] =
-    b"use a a.keys\nadd a\ndrop a\nask a\nkeep a\nflip a\nsave b\nclear\ndump\n";
+    b"use a a.keys\nadd a\ndrop a\nask a\nkeep a\nflip a\nsave b\nclear\ndump\n\
+snapshot Some_Path.1\nrestore /a=b\n";
 
-const ALL_WORDS: [(u64, [&str; 3]); 9] = [
+const ALL_WORDS: [(u64, [&str; 3]); 11] = [
     (1, ["use", "a", "a.keys"]),
     (2, ["add", "a", ""]),
     (3, ["drop", "a", ""]),
@@ -29,12 +32,14 @@ const ALL_WORDS: [(u64, [&str; 3]); 9] = [
     (7, ["save", "b", ""]),
     (8, ["clear", "", ""]),
     (9, ["dump", "", ""]),
+    (10, ["snapshot", "Some_Path.1", ""]),
+    (11, ["restore", "/a=b", ""]),
 ];
 
 #[test]
 fn each_command_is_read(rt: HostRuntime) -> Result<(), Fail> {
     let script = parse(rt.alloc(), ALL_COMMANDS)?;
-    assert_eq!(rt; script.len(), 9);
+    assert_eq!(rt; script.len(), 11);
     assert!(rt; !script.is_empty());
     for (step, (line, wanted)) in script.steps().iter().zip(&ALL_WORDS) {
         assert_eq!(rt; step.line, *line);
@@ -44,7 +49,8 @@ fn each_command_is_read(rt: HostRuntime) -> Result<(), Fail> {
 }
 
 // Scripts, and the lines of their commands.
-const LINES: [(&[u8], &[u64]); 13] = [
+#[rattlefmt::skip]
+const LINES: [(&[u8], &[u64]); 21] = [
     (b"", &[]),
     (b"\n", &[]),
     (b"\n\n", &[]),
@@ -58,6 +64,15 @@ const LINES: [(&[u8], &[u64]); 13] = [
     (b"use  a   ~!\x22#\nadd  a ", &[1, 2]),
     (b"save abcdefghijklmnop\nask abcdefghijklmnop", &[1, 2]),
     (b"use a9z use\nsave b\nflip b\nkeep a9z", &[1, 2, 3, 4]),
+    (b" snapshot  1s\n\nrestore 1s \r\n", &[1, 3]),
+    // Two lists may have one path, and any path may be restored.
+    (b"use a x\nuse b x", &[1, 2]),
+    (b"use a x\nrestore x", &[1, 2]),
+    (b"restore x\nsnapshot x\nrestore x\nrestore x", &[1, 2, 3, 4]),
+    (b"restore x\nuse a x", &[1, 2]),
+    (b"use a x\nsnapshot y\nuse b z\nsnapshot X", &[1, 2, 3, 4]),
+    (b"snapshot x\nsnapshot xx\nuse a ./x", &[1, 2, 3]),
+    (b"save x\nsnapshot x\nuse y y\nsnapshot a\nsave a", &[1, 2, 3, 4, 5]),
 ];
 
 #[test]
@@ -72,11 +87,17 @@ fn commands_stand_on_their_lines(rt: HostRuntime) -> Result<(), Fail> {
     Ok(())
 }
 
-const FAULTS: [(&[u8], u64, ScriptFaultKind); 34] = [
+#[rattlefmt::skip]
+const FAULTS: [(&[u8], u64, ScriptFaultKind); 52] = [
     (b"grow", 1, ScriptFaultKind::BadCommand),
     (b"\n#\ngrow a", 3, ScriptFaultKind::BadCommand),
-    (b"snapshot s", 1, ScriptFaultKind::BadCommand),
-    (b"restore s", 1, ScriptFaultKind::BadCommand),
+    (b"snapshots s", 1, ScriptFaultKind::BadCommand),
+    (b"Restore s", 1, ScriptFaultKind::BadCommand),
+    (b"snapshot", 1, ScriptFaultKind::BadCommand),
+    (b"restore  ", 1, ScriptFaultKind::BadCommand),
+    (b"snapshot s s", 1, ScriptFaultKind::BadCommand),
+    (b"restore a s", 1, ScriptFaultKind::BadCommand),
+    (b"snapshot \xc3\xa9", 1, ScriptFaultKind::BadCommand),
     (b"Dump", 1, ScriptFaultKind::BadCommand),
     (b" #", 1, ScriptFaultKind::BadCommand),
     (b"dump\t", 1, ScriptFaultKind::BadCommand),
@@ -107,6 +128,20 @@ const FAULTS: [(&[u8], u64, ScriptFaultKind); 34] = [
     (b"save a\nuse a y", 2, ScriptFaultKind::Twice),
     (b"use a x\n\nsave a\ngrow", 3, ScriptFaultKind::Twice),
     (b"save a\nask a\nsave a", 3, ScriptFaultKind::Twice),
+    (b"use a x\nsnapshot x", 2, ScriptFaultKind::Twice),
+    (b"use a x\nuse b y\nsnapshot z\nsnapshot x", 4, ScriptFaultKind::Twice),
+    (b"snapshot x\nsnapshot x", 2, ScriptFaultKind::Twice),
+    (b"snapshot x\nrestore x\nsnapshot x", 3, ScriptFaultKind::Twice),
+    (b"snapshot x\nuse a x", 2, ScriptFaultKind::Twice),
+    (b"snapshot x\n#\nuse a y\nuse b x", 4, ScriptFaultKind::Twice),
+    (b"save a\nsnapshot x\nuse a x", 3, ScriptFaultKind::Twice),
+    // The first fault of a line is answered.
+    (b"snapshot x\nuse a", 2, ScriptFaultKind::BadCommand),
+    (b"snapshot x\nsnapshot x x", 2, ScriptFaultKind::BadCommand),
+    (b"snapshot x\nuse A x", 2, ScriptFaultKind::BadName),
+    (b"snapshot x\nadd x", 2, ScriptFaultKind::Unknown),
+    (b"use a x\nsnapshot a\nadd b\nsnapshot x", 3, ScriptFaultKind::Unknown),
+    (b"snapshot x\nuse a x\nadd b", 2, ScriptFaultKind::Twice),
 ];
 
 #[test]
@@ -153,10 +188,10 @@ fn scripts_have_a_limit(rt: HostRuntime) -> Result<(), Fail> {
 }
 
 const MIXED: &[u8] = b"use a a.keys\n# two lists\nuse b b.keys\nadd a\ndrop b\nask a\n\n\
-save c\nkeep c\nflip b\nclear\ndump\nuse d d.keys\nask d\n";
+save c\nkeep c\nflip b\nclear\ndump\nuse d d.keys\nask d\nsnapshot s.snap\nuse e a.keys\nrestore s.snap\n";
 
 #[rattlefmt::skip]
-const MIXED_PLAN: [(u64, Task); 12] = [
+const MIXED_PLAN: [(u64, Task); 15] = [
     (1, Task::Use { list: 0, name: "a", path: "a.keys" }),
     (3, Task::Use { list: 1, name: "b", path: "b.keys" }),
     (4, Task::Add { list: 0, name: "a" }),
@@ -169,13 +204,16 @@ const MIXED_PLAN: [(u64, Task); 12] = [
     (12, Task::Dump),
     (13, Task::Use { list: 3, name: "d", path: "d.keys" }),
     (14, Task::Ask { list: 3, name: "d" }),
+    (15, Task::Snapshot { path: "s.snap" }),
+    (16, Task::Use { list: 4, name: "e", path: "a.keys" }),
+    (17, Task::Restore { path: "s.snap" }),
 ];
 
 #[test]
 fn lists_are_numbered(rt: HostRuntime) -> Result<(), Fail> {
     let script = parse(rt.alloc(), MIXED)?;
     let planned = plan(rt.alloc(), &script)?;
-    assert_eq!(rt; planned.len(), 12);
+    assert_eq!(rt; planned.len(), 15);
     assert!(rt; !planned.is_empty());
     for (step, (line, task)) in planned.steps().iter().zip(&MIXED_PLAN) {
         assert_eq!(rt; step.line, *line);

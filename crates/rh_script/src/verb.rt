@@ -15,6 +15,8 @@ pub(crate) enum Verb {
     Save,
     Clear,
     Dump,
+    Snapshot,
+    Restore,
 }
 
 impl Verb {
@@ -32,6 +34,8 @@ impl Verb {
             "save" => Some(Verb::Save),
             "clear" => Some(Verb::Clear),
             "dump" => Some(Verb::Dump),
+            "snapshot" => Some(Verb::Snapshot),
+            "restore" => Some(Verb::Restore),
             _ => None,
         }
     }

@@ -1,5 +1,5 @@
 -- What is known of a shelf: the bytes of its paths.
-use Rattle.std.specs.Prelude.{◌≡◌, ℕ, List, Option, Some, None}
+use Rattle.std.specs.Prelude.{◌≡◌, ◌≢◌, ℕ, List, Option, Some, None, option_map}
 use Rattle.std.specs.Str.{bytes_eq}
 use Rattle.std.specs.Map.{update}
 
@@ -20,3 +20,12 @@ Finds (Some files) path bytes = (found : List ℕ) × (files path ≡ Some found
 abbrev pub Lacks : Option Files → (path : List ℕ) → Type 0
 Lacks None path = ⊥
 Lacks (Some files) path = files path ≡ None
+
+-- these bytes were put at the path, where the files are known
+abbrev pub Puts : Option Files → Option Files → (path bytes : List ℕ) → Type 0
+Puts old new path bytes = new ≡ option_map (λ files. with_file files path bytes) old
+
+-- each other path has the bytes that it had, where the files are known
+abbrev pub InDoubt : Option Files → Option Files → (path : List ℕ) → Type 0
+InDoubt None new path = new ≡ None
+InDoubt (Some files) new path = (now : Files) × (new ≡ Some now) × ((other : List ℕ) → other ≢ path → now other ≡ files other)

@@ -1,9 +1,11 @@
 //! A shelf in memory that fails once, for tests.
 
-ghost use Rattle.std.specs.Prelude.{◌≡◌, ◌≢◌, ◌⊎◌, Some, IfOk, IsErrOf, OnOk};
+ghost use Rattle.std.specs.Prelude.{◌≡◌, ◌≢◌, ◌⊎◌, ◌↔◌, Some, IfOk, IsErrOf, IsTrue};
+ghost use Rattle.std.specs.Prelude.{OnErr, OnOk};
+ghost use Rattle.std.specs.Bool.{OnFalse, OnTrue};
 ghost use Rattle.rh_files.specs.Counting.{Rose};
 ghost use Rattle.rh_files.specs.Faulty.{fails_in, rest_of};
-ghost use Rattle.rh_shelf.specs.Shelf.{Finds, Lacks};
+ghost use Rattle.rh_shelf.specs.Shelf.{Finds, InDoubt, Lacks, Puts};
 ghost use Rattle.rh_shelf.specs.Kinds.{files_of, shelf_of, failure_of, calls_of, next_call};
 ghost use Rattle.rh_shelf.specs.Kinds.{failures_in, known_bytes, read_that_fails};
 
@@ -45,6 +47,24 @@ impl FaultyShelf {
             failures: 0,
         }
     }
+
+    /// Counts a call, and its failure where it is to fail.
+    fn fails_now(&mut self) -> bool
+        ensures counts { calls_of self.new ≡ next_call self.old }
+        ensures fails { IsTrue result
+            ↔ (failure_of self.old ≡ ShelfFailure.Call (next_call self.old)) }
+        ensures told { OnTrue result (Rose (failures_in self.old) (failures_in self.new)) }
+        ensures fine { OnFalse result (failures_in self.new ≡ failures_in self.old) }
+        ensures same_failure { failure_of self.new ≡ failure_of self.old }
+        ensures same_shelf { shelf_of self.new ≡ shelf_of self.old }
+    {
+        self.calls = self.calls.saturating_add(1);
+        let fails = self.failure == ShelfFailure::Call(self.calls);
+        if fails {
+            self.failures = self.failures.saturating_add(1);
+        }
+        fails
+    }
 }
 
 impl Shelf for FaultyShelf {
@@ -74,9 +94,7 @@ impl Shelf for FaultyShelf {
             fails_in r ≡ read_that_fails (failure_of self.old) (next_call self.old)) }
         ensures same_failure { failure_of self.new ≡ failure_of self.old }
     {
-        self.calls = self.calls.saturating_add(1);
-        if self.failure == ShelfFailure::Call(self.calls) {
-            self.failures = self.failures.saturating_add(1);
+        if self.fails_now() {
             return Err(ShelfFault::Missing);
         }
         let bytes = self.shelf.copy_of(alloc, path)?;
@@ -85,5 +103,31 @@ impl Shelf for FaultyShelf {
             _ => 0,
         };
         Ok(FaultyReader::new(bytes, fails_at))
+    }
+
+    fn put(&mut self, alloc: Global, path: &str, bytes: &[u8]) -> Result<(), ShelfFault>
+        ensures put { OnOk result (Puts (Some (files_of (shelf_of self.old)))
+            (Some (files_of (shelf_of self.new))) path.now bytes.now) }
+        ensures doubt { OnErr result (InDoubt (Some (files_of (shelf_of self.old)))
+            (Some (files_of (shelf_of self.new))) path.now) }
+        ensures refused { OnErr result (files_of (shelf_of self.new)
+            ≡ files_of (shelf_of self.old)) }
+        ensures write { IsErrOf result ShelfFault.Write →
+            Rose (failures_in self.old) (failures_in self.new) }
+        ensures not_missing { IsErrOf result ShelfFault.Missing → ⊥ }
+        ensures fine { OnOk result (failures_in self.new ≡ failures_in self.old) }
+
+        // Which call fails.
+        ensures counts { calls_of self.new ≡ next_call self.old }
+        ensures fails { failure_of self.old ≡ ShelfFailure.Call (next_call self.old) →
+            IsErrOf result ShelfFault.Write }
+        ensures fails_once { failure_of self.old ≢ ShelfFailure.Call (next_call self.old) →
+            failures_in self.new ≡ failures_in self.old }
+        ensures same_failure { failure_of self.new ≡ failure_of self.old }
+    {
+        if self.fails_now() {
+            return Err(ShelfFault::Write);
+        }
+        self.shelf.put(alloc, path, bytes)
     }
 }

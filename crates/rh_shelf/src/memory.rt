@@ -1,7 +1,7 @@
 //! A shelf in memory.
 
 ghost use Rattle.std.specs.Prelude.{◌≡◌, None, Some, IfErr, IfOk, IsErrOf, OnErr, OnOk};
-ghost use Rattle.rh_shelf.specs.Shelf.{with_file};
+ghost use Rattle.rh_shelf.specs.Shelf.{InDoubt, Puts};
 ghost use Rattle.rh_shelf.specs.Kinds.{files_of};
 
 use crate::shelf::{Shelf, ShelfFault};
@@ -9,7 +9,8 @@ use std::alloc::Global;
 use std::collections::BTreeMap;
 use std::io::Cursor;
 
-/// Files whose paths and bytes stand in memory. It never fails.
+/// Files whose paths and bytes stand in memory. It never fails: `put` refuses want of memory alone,
+/// and then the files are as they were.
 #[derive(Drop)]
 pub struct MemShelf {
     files: BTreeMap<String, Vec<u8>>,
@@ -23,19 +24,6 @@ impl MemShelf {
         MemShelf {
             files: BTreeMap::new(alloc),
         }
-    }
-
-    /// Puts the bytes at the path, in place of what stood there. The fault is want of memory, and
-    /// then the files are as they were.
-    pub fn put(&mut self, alloc: Global, path: &str, bytes: &[u8]) -> Result<(), ShelfFault>
-        ensures put { OnOk result (files_of self.new ≡ with_file (files_of self.old) path.now bytes.now) }
-        ensures refused { OnErr result (files_of self.new ≡ files_of self.old) }
-        ensures memory { IfErr result (λ fault. fault ≡ ShelfFault.Memory) }
-    {
-        let path = String::from_str(alloc, path)?;
-        let bytes = copied(alloc, bytes)?;
-        self.files.insert(path, bytes)?;
-        Ok(())
     }
 
     /// The bytes of the path, as a vector of their own.
@@ -59,6 +47,20 @@ impl Shelf for MemShelf {
 
     fn fetch(&mut self, alloc: Global, path: &str) -> Result<Cursor<Vec<u8>>, ShelfFault> {
         Ok(Cursor::new(self.copy_of(alloc, path)?))
+    }
+
+    fn put(&mut self, alloc: Global, path: &str, bytes: &[u8]) -> Result<(), ShelfFault>
+        ensures put { OnOk result (Puts (Some (files_of self.old)) (Some (files_of self.new))
+            path.now bytes.now) }
+        ensures doubt { OnErr result (InDoubt (Some (files_of self.old))
+            (Some (files_of self.new)) path.now) }
+        ensures refused { OnErr result (files_of self.new ≡ files_of self.old) }
+        ensures memory { IfErr result (λ fault. fault ≡ ShelfFault.Memory) }
+    {
+        let path = String::from_str(alloc, path)?;
+        let bytes = copied(alloc, bytes)?;
+        self.files.insert(path, bytes)?;
+        Ok(())
     }
 }
 

@@ -1,8 +1,8 @@
 //! What a shelf is.
 
-ghost use Rattle.std.specs.Prelude.{◌≡◌, ◌⊎◌, ℕ, Option, IfOk, IsErrOf, OnOk};
+ghost use Rattle.std.specs.Prelude.{◌≡◌, ◌⊎◌, ℕ, Option, IfOk, IsErrOf, OnErr, OnOk};
 ghost use Rattle.rh_files.specs.Counting.{Rose};
-ghost use Rattle.rh_shelf.specs.Shelf.{Files, Finds, Lacks};
+ghost use Rattle.rh_shelf.specs.Shelf.{Files, Finds, InDoubt, Lacks, Puts};
 ghost use Rattle.rh_shelf.specs.declared.shelf.ShelfFault.TheVariants.{Memory};
 
 use std::alloc::{AllocError, AllocFailed, Global};
@@ -56,4 +56,14 @@ pub trait Shelf {
         ensures no_write { IsErrOf result ShelfFault.Write → ⊥ }
         ensures fine { OnOk result (failures self.new ≡ failures self.old) }
         ensures same_files { files self.new ≡ files self.old };
+
+    /// Puts the bytes at the path, in place of what stood there. After a fault that path alone is
+    /// in doubt. Never `Missing`.
+    fn put(&mut self, alloc: Global, path: &str, bytes: &[u8]) -> Result<(), ShelfFault>
+        ensures put { OnOk result (Puts (files self.old) (files self.new) path.now bytes.now) }
+        ensures doubt { OnErr result (InDoubt (files self.old) (files self.new) path.now) }
+        ensures write { IsErrOf result ShelfFault.Write →
+            Rose (failures self.old) (failures self.new) }
+        ensures not_missing { IsErrOf result ShelfFault.Missing → ⊥ }
+        ensures fine { OnOk result (failures self.new ≡ failures self.old) };
 }

@@ -41,6 +41,21 @@ fn one_call_fails(rt: HostRuntime) -> Result<(), Fail> {
 }
 
 #[test]
+fn one_put_fails(rt: HostRuntime) -> Result<(), Fail> {
+    let mut shelf = FaultyShelf::new(two_files(rt.alloc())?, ShelfFailure::Call(2));
+    // Calls of both kinds are counted: the second one of all fails.
+    assert!(rt; shelf.fetch(rt.alloc(), "b").is_ok());
+    for (fault, byte) in [(Some(ShelfFault::Write), b'o'), (None, b's')] {
+        assert_eq!(rt; shelf.put(rt.alloc(), "a", b"six").err(), fault);
+        let mut first = [0];
+        let read = shelf.fetch(rt.alloc(), "a")?.read(&mut first);
+        assert_eq!(rt; read.ok(), Some(1));
+        assert_eq!(rt; first, [byte]);
+    }
+    Ok(())
+}
+
+#[test]
 fn one_read_fails(rt: HostRuntime) -> Result<(), Fail> {
     let failure = ShelfFailure::Read { call: 1, read: 2 };
     let mut shelf = FaultyShelf::new(two_files(rt.alloc())?, failure);

@@ -8,7 +8,7 @@ pub loop-rest-init : goal.loop-rest-init
 loop-rest-init c = record {
   few = omega arith;
   counted = omega arith;
-  known = nothing_known c.new.result c.new-2.result.items c.new.ensures.empty c.new-2.ensures.items;
+  known = nothing_known c.new.result c.new-2.result.items c.new.ensures c.new-2.ensures.items;
   so_far = begun c.args.text.now c.new-2.result.items c.new-2.ensures.items;
 }
 
@@ -32,7 +32,7 @@ loop-rest-preserved c = record {
 }
 
 pub invariant_of-result : goal.invariant_of-result
-invariant_of-result c = record { named = read_in_order _ _ (c.loop-rest.invariant.so_far ∙ ended_there _ _ c.loop-rest.rest.now (grind arith)) }
+invariant_of-result c = record { in_order = read_in_order _ _ (c.loop-rest.invariant.so_far ∙ ended_there _ _ c.loop-rest.rest.now (grind arith)) }
 
 pub returns-clause-parsed : goal.returns-clause-parsed
 returns-clause-parsed c = c.loop-rest.invariant.so_far ∙ ended_there _ _ c.loop-rest.rest.now (grind arith)

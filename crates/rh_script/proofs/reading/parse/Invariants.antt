@@ -2,9 +2,8 @@ use Rattle.std.proofs.Common.{◌≡◌, ◌+◌, ◌≤◌, length, map}
 use Rattle.rh_script.specs.declared.limits.TheConstants.{MAX_LINES}
 use Rattle.rh_script.specs.Lines.{lines_of}
 use Rattle.rh_script.specs.Grammar.{after_lines, script_of}
-use Rattle.rh_script.specs.Names.{names_in}
 use Rattle.rh_script.specs.Steps.{step_as}
-use Rattle.rh_script.specs.Script.{HasNames}
+use Rattle.rh_script.specs.Script.{GivenBy}
 use Rattle.rh_script.proofs.reading.parse.Given as goal
 
 -- what is left gives the script, after the steps so far
@@ -12,7 +11,7 @@ abbrev pub invariant-loop-rest : goal.invariant-loop-rest
 invariant-loop-rest l = record {
   few : l.reading.line ≤ MAX_LINES;
   counted : l.reading.line + length (lines_of l.rest) ≡ length (lines_of l.text);
-  known : HasNames l.reading.names (names_in (map step_as l.reading.steps.items));
+  known : GivenBy (map step_as l.reading.steps.items) l.reading.given;
   so_far : script_of l.text ≡ after_lines (l.reading.line + 1) (map step_as l.reading.steps.items) (lines_of l.rest);
 }
 
