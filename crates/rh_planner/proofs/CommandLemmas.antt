@@ -8,6 +8,7 @@ use Rattle.rh_ledger.specs.declared.tally.Kind.TheVariants.{Insert, Remove}
 use Rattle.rh_ledger.specs.declared.tally.Tally.{Tally}
 use Rattle.rh_ledger.proofs.PhaseLemmas.{len-insert_all}
 use Rattle.rh_files.specs.declared.fault.KeyFault.TheVariants as faults
+use Rattle.rh_snapshot.specs.declared.fault.SnapFault.TheVariants as snap_faults
 use Rattle.rh_runner.specs.Lists.{Ran}
 use Rattle.rh_runner.proofs.SingleLemmas.{len-remove_all}
 use Rattle.rh_planner.specs.declared.fault.Cause.{Cause}
@@ -35,8 +36,18 @@ outside_any n m (causes.Keys faults.Long) h = absurd h
 outside_any n m (causes.Keys faults.Memory) h = absurd h
 outside_any n m causes.Missing (inl less) = absurd (omega (arith, less))
 outside_any n m causes.Missing (inr last) = absurd (omega (arith, last))
+outside_any n m (causes.Snap snap_faults.Read) h = tt
+outside_any n m (causes.Snap snap_faults.NotSnapshot) h = absurd h
+outside_any n m (causes.Snap snap_faults.Short) h = absurd h
+outside_any n m (causes.Snap snap_faults.BadBits) h = absurd h
+outside_any n m (causes.Snap snap_faults.Damaged) h = absurd h
+outside_any n m (causes.Snap snap_faults.NotALayout) h = absurd h
+outside_any n m (causes.Snap snap_faults.Long) h = absurd h
+outside_any n m (causes.Snap snap_faults.Memory) h = absurd h
 outside_any n m causes.Changed h = absurd h
 outside_any n m causes.TooLarge h = absurd h
+outside_any n m causes.Put (inl less) = absurd (omega (arith, less))
+outside_any n m causes.Put (inr last) = absurd (omega (arith, last))
 outside_any n m causes.Write h = absurd h
 
 -- no table is large enough, or there is no memory for it

@@ -1,3 +1,4 @@
+pub mod FileLemmas
 pub mod SizeLemmas
 pub mod CommandLemmas
 pub mod StepLemmas

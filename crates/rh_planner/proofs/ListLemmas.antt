@@ -1,6 +1,8 @@
 -- The lists that have a name.
 use Rattle.std.proofs.Common.{◌≡◌, ◌∙◌, ap, sym, subst, refl, arith, ℕ, suc, ◌+◌, ◌^◌, ◌<◌, inl, inr, Bool, List, [], ◌∷◌, ◌++◌, length, get_or, Option, Some, None, Result, Ok, Err}
 use Rattle.std.specs.Prelude.{nat_lt, unwrap_or}
+use Rattle.std.proofs.lemmas.Grind.{flat_map-append}
+use Rattle.std.proofs.lemmas.List.{append-nil}
 use Rattle.std.specs.List.{position_or_len}
 use Rattle.std.specs.Str.{bytes_eq}
 use Rattle.std.proofs.lemmas.Bool.{cases_Bool, ltb-true}
@@ -17,8 +19,9 @@ use Rattle.rh_shelf.specs.Shelf.{Files}
 use Rattle.rh_script.specs.Plan.{place_of}
 use Rattle.rh_planner.specs.declared.fault.Cause.{Cause}
 use Rattle.rh_planner.specs.declared.key_lists.KeyList.{KeyList}
-use Rattle.rh_planner.specs.KeyLists.{Stands}
-use Rattle.rh_planner.specs.Meaning.{keys_in, keys_or_cause, list_of}
+use Rattle.rh_planner.specs.KeyLists.{Stands, path_of, paths_of}
+use Rattle.rh_planner.specs.Commands.{keys_found}
+use Rattle.rh_planner.specs.Meaning.{keys_or_cause, list_of}
 use Rattle.rh_planner.specs.Steps.{ListsStand, Named, names_of}
 
 pub one_more_stands : (files : Option Files) (lists : List KeyList) (named : Named) (list : KeyList) (name keys : List ℕ) → ListsStand files lists named → Stands files list keys → ListsStand files (lists ++ list ∷ []) (named ++ (name, keys) ∷ [])
@@ -31,7 +34,7 @@ the_keys : (said : Result (List ℕ) KeyFault) (keys : List ℕ) → keys_or_cau
 the_keys (Ok k) keys h = ap (λ (r : Result (List ℕ) Cause). elim r [ Ok x ↦ Ok x | Err e ↦ Ok k ]) h
 the_keys (Err e) keys h = absurd cc
 
-pub bytes_of_keys : (found : Option (List ℕ)) (keys : List ℕ) → keys_in found ≡ Ok keys → (bytes : List ℕ) × (found ≡ Some bytes) × (keys_of_file bytes ≡ Ok keys)
+pub bytes_of_keys : (found : Option (List ℕ)) (keys : List ℕ) → keys_found found ≡ Ok keys → (bytes : List ℕ) × (found ≡ Some bytes) × (keys_of_file bytes ≡ Ok keys)
 bytes_of_keys None keys h = absurd cc
 bytes_of_keys (Some bytes) keys h = (bytes, refl, the_keys (keys_of_file bytes) keys h)
 
@@ -84,3 +87,9 @@ spelled_in_memory keys saved old new none written in_range few same =
       in_range = λ k d inside. (omega arith, in_range k d inside);
     } in
     ap source.keys_in (file_given Second new keys file) ∙ ap (λ (k : List ℕ). Ok k) same
+
+-- ---- the paths of lists
+
+pub paths_more : (lists new : List KeyList) (list : KeyList) → new ≡ lists ++ list ∷ [] → paths_of new ≡ paths_of lists ++ path_of list.place
+paths_more lists new list is =
+    ap paths_of is ∙ flat_map-append (λ (l : KeyList). path_of l.place) lists (list ∷ []) ∙ ap (λ paths. paths_of lists ++ paths) (append-nil (path_of list.place))

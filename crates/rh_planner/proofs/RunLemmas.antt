@@ -1,7 +1,8 @@
 -- A script step by step.
-use Rattle.std.proofs.Common.{◌≡◌, ◌∙◌, ap, sym, subst, refl, arith, ℕ, zero, suc, ◌+◌, ◌<◌, ◌≤◌, List, [], ◌∷◌, ◌++◌, length, take, drop, get_or, append_assoc, append-nil, Option, Some, Result, Ok, Err}
+use Rattle.std.proofs.Common.{◌≡◌, ◌∙◌, ap, sym, subst, refl, arith, false, ℕ, zero, suc, ◌+◌, ◌<◌, ◌≤◌, List, [], ◌∷◌, ◌++◌, length, take, drop, get_or, append_assoc, append-nil, Option, Some, Result, Ok, Err}
 use Rattle.std.proofs.Common.{slice_index_or, take-append-drop}
 use Rattle.std.proofs.lemmas.List.{take_all, take_more, length-append, length-map}
+use Rattle.std.proofs.lemmas.Grind.{flat_map-append}
 use Rattle.std.specs.Prelude.{map}
 use Rattle.std.specs.FinSet as finset
 use Rattle.rh_layout.specs.declared.limits.TheConstants.{MIN_BITS}
@@ -12,17 +13,20 @@ use Rattle.rh_script.specs.Tasks.{planned_as, task_as}
 use Rattle.std.proofs.KnownBytes.{Appends-nil, Appends-trans}
 use Rattle.rh_edit.specs.Held.{Held}
 use Rattle.rh_report.specs.Account.{Account, Says}
-use Rattle.rh_script.specs.Instruction.{Instruction, Numbered, Use, Add, Drop, Ask, Keep, Flip, Save, Clear, Dump}
-use Rattle.rh_script.specs.Names.{given_by, names_in}
+use Rattle.rh_script.specs.Instruction.{Instruction, Numbered, Use, Add, Drop, Ask, Keep, Flip, Save, Clear, Dump, Snapshot, Restore}
+use Rattle.rh_script.specs.Names.{SnapshotsAreNew, file_of, files_in, given_by, is_given, names_in}
 use Rattle.rh_script.specs.Plan.{Planned, number_after, plan_of, planned_after}
 use Rattle.rh_shelf.specs.Shelf.{Files}
 use Rattle.rh_planner.specs.declared.fault.Cause.{Cause}
 use Rattle.rh_planner.specs.declared.fault.RunFault.{RunFault}
 use Rattle.rh_planner.specs.declared.key_lists.KeyList.{KeyList}
-use Rattle.rh_planner.specs.Meaning.{◌>>=◌, World, Outcome, at_line, keys_in, meaning, outcome_of, size_for, start}
-use Rattle.rh_planner.specs.Ends.{Done, EndsBy, SaysAll, Stopped, Tells}
-use Rattle.rh_planner.specs.Steps.{HasList, ListsStand, Named, names_of, world_of}
+use Rattle.rh_planner.specs.Files.{HasFiles, given_files}
+use Rattle.rh_planner.specs.KeyLists.{paths_of}
+use Rattle.rh_planner.specs.Meaning.{◌>>=◌, World, Outcome, at_line, keys_in, meaning, outcome_of, size_for, start, table_in}
+use Rattle.rh_planner.specs.Ends.{Done, EndsBy, LeavesFiles, SaysAll, Stopped}
+use Rattle.rh_planner.specs.Steps.{HasList, IsApart, ListsStand, Named, StepDone, names_of, world_of}
 use Rattle.rh_planner.specs.Reached.{CarriedOut, Reached}
+use Rattle.rh_planner.proofs.FileLemmas.{given_file}
 use Rattle.rh_planner.proofs.ListLemmas.{place_inside}
 
 -- ---- what a step does to the names
@@ -58,6 +62,8 @@ names_after w (Flip name) done is = let s = then_ok (size_for _ _) _ done is in 
 names_after w (Save name) done is = ap (λ (o : Outcome). names_of (lists_of o)) (sym is) ∙ names_push w.lists name _
 names_after w Clear done is = same_names w _ done _ is refl
 names_after w Dump done is = same_names w w done _ is refl
+names_after w (Snapshot path) done is = same_names w _ done _ is refl
+names_after w (Restore path) done is = let s = then_ok (table_in (w.files path)) _ done is in same_names w _ done _ s.2 refl
 
 -- ---- one step more
 
@@ -96,6 +102,12 @@ unfolding names_in
 names_more [] step = append-nil (given_by step.instruction)
 names_more (s ∷ before) step = ap (λ l. given_by s.instruction ++ l) (names_more before step) ∙ sym (append_assoc (given_by s.instruction) (names_in before) (given_by step.instruction))
 
+files_more : (before : List Numbered) (step : Numbered) → files_in (before ++ step ∷ []) ≡ files_in before ++ file_of step.instruction
+unfolding files_in
+files_more before step =
+    flat_map-append (λ (s : Numbered). file_of s.instruction) before (step ∷ [])
+    ∙ ap (λ paths. files_in before ++ paths) (append-nil (file_of step.instruction))
+
 planned_at : (given : List (List ℕ)) (steps : List Numbered) (i : ℕ) (d : Planned) (e : Numbered) → i < length steps
     → get_or (planned_after given steps) i d ≡ record { line = (get_or steps i e).line; instruction = (get_or steps i e).instruction; list = number_after (given ++ names_in (take i steps)) (get_or steps i e).instruction }
 unfolding planned_after names_in
@@ -112,34 +124,43 @@ planned_long given (s ∷ steps) = ap suc (planned_long (given ++ given_by s.ins
 
 -- ---- the loop over the plan
 
-module _ (files : Files) (before : List Numbered) (step : Numbered) (set after : Held) (lists lists' : List KeyList) (old middle new : Option (List ℕ)) (so_far : Reached files before set lists old middle) where
-  reached_more : (named : Named) (account : Account) → outcome_of (world_of set so_far.done.named files) step.instruction ≡ Ok (world_of after named files, account) → ListsStand (Some files) lists' named → Tells account middle new → Reached files (before ++ step ∷ []) after lists' old new
-  reached_more named account is stand told = record {
+module _ (files : Files) (before : List Numbered) (step : Numbered) (set after : Held) (lists lists' : List KeyList) (was now : Option Files) (old middle new : Option (List ℕ)) (so_far : Reached files was before set lists old middle) where
+  abbrev world : World
+  world = world_of set so_far.done.named so_far.done.made
+
+  reached_more : (did : StepDone (outcome_of world step.instruction) now after lists' middle new) → paths_of lists' ≡ paths_of lists ++ file_of step.instruction → Reached files now (before ++ step ∷ []) after lists' old new
+  reached_more did paths = record {
     done = record {
-      named = named;
-      accounts = so_far.done.accounts ++ account ∷ [];
-      text = so_far.done.text ++ told.0;
-      means = meaning_more (start files) before step (world_of set so_far.done.named files) so_far.done.accounts (world_of after named files, account) so_far.done.means is;
-      says = says_more so_far.done.accounts so_far.done.text account told.0 so_far.done.says told.1;
-      written = Appends-trans old middle new so_far.done.text told.0 so_far.done.written told.2;
+      named = did.named;
+      made = did.files;
+      accounts = so_far.done.accounts ++ did.account ∷ [];
+      text = so_far.done.text ++ did.told.0;
+      means = meaning_more (start files) before step world so_far.done.accounts (world_of after did.named did.files, did.account) so_far.done.means did.is;
+      has = did.has;
+      says = says_more so_far.done.accounts so_far.done.text did.account did.told.0 so_far.done.says did.told.1;
+      written = Appends-trans old middle new so_far.done.text did.told.0 so_far.done.written did.told.2;
     };
-    stand = stand;
-    names = names_after (world_of set so_far.done.named files) step.instruction (world_of after named files, account) is ∙ ap (λ l. l ++ given_by step.instruction) so_far.names ∙ sym (names_more before step);
+    stand = did.stand;
+    names = names_after world step.instruction (world_of after did.named did.files, did.account) did.is ∙ ap (λ l. l ++ given_by step.instruction) so_far.names ∙ sym (names_more before step);
+    paths = paths ∙ ap (λ l. l ++ file_of step.instruction) so_far.paths ∙ sym (files_more before step);
   }
 
-pub reached_start : (files : Files) (set : Held) (lists : List KeyList) (old : Option (List ℕ)) → set.keys ≡ finset.empty → set.bits ≡ MIN_BITS → lists ≡ [] → Reached files [] set lists old old
-unfolding meaning names_in
-reached_start files set lists old keys bits none = record {
+pub reached_start : (files : Files) (now : Option Files) (set : Held) (lists : List KeyList) (old : Option (List ℕ)) → now ≡ Some files → set.keys ≡ finset.empty → set.bits ≡ MIN_BITS → lists ≡ [] → Reached files now [] set lists old old
+unfolding meaning names_in files_in
+reached_start files now set lists old known keys bits none = record {
   done = record {
     named = [];
+    made = given_files files;
     accounts = [];
     text = [];
-    means = λ i. Ok (record { held = sym keys i; bits = sym bits i; lists = []; files = files }, []);
+    means = λ i. Ok (record { held = sym keys i; bits = sym bits i; lists = []; files = given_files files }, []);
+    has = subst (HasFiles (given_files files)) (sym known) (λ path. given_file (files path));
     says = refl;
     written = Appends-nil old;
   };
-  stand = subst (λ l. ListsStand (Some files) l []) (sym none) tt;
+  stand = subst (λ l. ListsStand now l []) (sym none) tt;
   names = refl;
+  paths = ap paths_of none;
 }
 
 -- ---- a step of a plan
@@ -185,6 +206,25 @@ step_at items steps i d planned inside =
       number = ap (number_after (names_in (take i steps))) said ∙ sym (ap (λ (p : Planned). p.list) is);
     }
 
+module _ (lists : List KeyList) where
+  apart_of : (task : Task) (said : Instruction) → (task_as task).0 ≡ said → ((path : List ℕ) → said ≡ Snapshot path → is_given path (paths_of lists) ≡ false) → IsApart task lists
+  apart_of (tasks.Use list name path) said is apart = tt
+  apart_of (tasks.Add list name) said is apart = tt
+  apart_of (tasks.Drop list name) said is apart = tt
+  apart_of (tasks.Ask list name) said is apart = tt
+  apart_of (tasks.Keep list name) said is apart = tt
+  apart_of (tasks.Flip list name) said is apart = tt
+  apart_of (tasks.Save list name) said is apart = tt
+  apart_of tasks.Clear said is apart = tt
+  apart_of tasks.Dump said is apart = tt
+  apart_of (tasks.Snapshot path) said is apart = apart path.now (sym is)
+  apart_of (tasks.Restore path) said is apart = tt
+
+  pub is_apart : (steps : List Numbered) (i : ℕ) (step : PlannedStep) → SnapshotsAreNew steps → StepAt steps i step → paths_of lists ≡ files_in (take i steps) → IsApart step.task lists
+  is_apart steps i step new here paths =
+      apart_of step.task here.numbered.instruction here.said (λ path is.
+      subst (λ given. is_given path given ≡ false) (sym paths) (new (take i steps) (drop (i + 1) steps) here.numbered path here.parts is).0)
+
 pub has_list : (task : Task) (given : List (List ℕ)) (n : ℕ) → number_after given (task_as task).0 ≡ (task_as task).1 → n ≡ length given → HasList task n
 unfolding number_after
 has_list (tasks.Use list name path) given n number is = tt
@@ -196,6 +236,8 @@ has_list (tasks.Flip list name) given n number is = rw is (place_inside name.now
 has_list (tasks.Save list name) given n number is = tt
 has_list tasks.Clear given n number is = tt
 has_list tasks.Dump given n number is = tt
+has_list (tasks.Snapshot path) given n number is = tt
+has_list (tasks.Restore path) given n number is = tt
 
 pub more_lists : (steps : List Numbered) (i : ℕ) (step : Numbered) (said : Instruction) (n m : ℕ) → take (i + 1) steps ≡ take i steps ++ step ∷ [] → said ≡ step.instruction → n ≡ length (names_in (take i steps)) → m ≡ n + length (given_by said) → m ≡ length (names_in (take (i + 1) steps))
 more_lists steps i step said n m more is so_far grown =
@@ -204,50 +246,53 @@ more_lists steps i step said n m more is so_far grown =
     let now : length (names_in (take (i + 1) steps)) ≡ length (names_in (take i steps) ++ given_by step.instruction) = ap length (ap names_in more ∙ names_more (take i steps) step) in
     omega (arith, both, same, now, so_far, grown)
 
-module _ (files : Files) (steps : List Numbered) (i : ℕ) (step : PlannedStep) (set : Held) (lists : List KeyList) (old middle : Option (List ℕ)) (here : StepAt steps i step) (so_far : Reached files (take i steps) set lists old middle) where
+module _ (files : Files) (steps : List Numbered) (i : ℕ) (step : PlannedStep) (set : Held) (lists : List KeyList) (was : Option Files) (old middle : Option (List ℕ)) (here : StepAt steps i step) (so_far : Reached files was (take i steps) set lists old middle) where
+  abbrev world_here : World
+  world_here = world_of set so_far.done.named so_far.done.made
+
   pub its_number : number_after (names_of so_far.done.named) (task_as step.task).0 ≡ (task_as step.task).1
   its_number = subst (λ given. number_after given (task_as step.task).0 ≡ (task_as step.task).1) (sym so_far.names) here.number
 
-  pub goes_on : (after : Held) (lists' : List KeyList) (new : Option (List ℕ)) (named : Named) (account : Account) → outcome_of (world_of set so_far.done.named files) (task_as step.task).0 ≡ Ok (world_of after named files, account) → ListsStand (Some files) lists' named → Tells account middle new → Reached files (take (i + 1) steps) after lists' old new
-  goes_on after lists' new named account is stand told =
-      let its = subst (λ said. outcome_of (world_of set so_far.done.named files) said ≡ Ok (world_of after named files, account)) here.said is in
-      subst (λ l. Reached files l after lists' old new) (sym here.more) (reached_more files (take i steps) here.numbered set after lists lists' old middle new so_far named account its stand told)
+  pub goes_on : (after : Held) (lists' : List KeyList) (now : Option Files) (new : Option (List ℕ)) → StepDone (outcome_of world_here (task_as step.task).0) now after lists' middle new → paths_of lists' ≡ paths_of lists ++ file_of (task_as step.task).0 → Reached files now (take (i + 1) steps) after lists' old new
+  goes_on after lists' now new did paths =
+      let its = subst (λ said. StepDone (outcome_of world_here said) now after lists' middle new) here.said did in
+      let its_paths = subst (λ said. paths_of lists' ≡ paths_of lists ++ file_of said) here.said paths in
+      subst (λ l. Reached files now l after lists' old new) (sym here.more) (reached_more files (take i steps) here.numbered set after lists lists' was now old middle new so_far its its_paths)
 
-  pub stops_here : (n m k : ℕ) (new : Option (List ℕ)) (cause : Cause) → k ≡ n → EndsBy (outcome_of (world_of set so_far.done.named files) (task_as step.task).0) k m middle new cause → Stopped files n m steps old new (record { line = step.line; cause = cause })
-  stops_here n m k new cause same ends =
-      let w = world_of set so_far.done.named files in
-      record {
-        before = take i steps;
-        step = here.numbered;
-        after = drop (i + 1) steps;
-        parts = here.parts;
-        line = here.line;
-        world = w;
-        accounts = so_far.done.accounts;
-        text = so_far.done.text;
-        means = so_far.done.means;
-        says = so_far.done.says;
-        middle = middle;
-        written = so_far.done.written;
-        ends = subst (λ f. EndsBy (outcome_of w here.numbered.instruction) f m middle new cause) same (subst (λ said. EndsBy (outcome_of w said) k m middle new cause) here.said ends);
-      }
+  pub stops_here : (now : Option Files) (n m k : ℕ) (new : Option (List ℕ)) (cause : Cause) → k ≡ n → EndsBy (outcome_of world_here (task_as step.task).0) k m middle new cause × LeavesFiles (outcome_of world_here (task_as step.task).0) (task_as step.task).0 so_far.done.made now cause → Stopped files now n m steps old new (record { line = step.line; cause = cause })
+  stops_here now n m k new cause same ends = record {
+    before = take i steps;
+    step = here.numbered;
+    after = drop (i + 1) steps;
+    parts = here.parts;
+    line = here.line;
+    world = world_here;
+    accounts = so_far.done.accounts;
+    text = so_far.done.text;
+    means = so_far.done.means;
+    says = so_far.done.says;
+    middle = middle;
+    written = so_far.done.written;
+    ends = subst (λ f. EndsBy (outcome_of world_here here.numbered.instruction) f m middle new cause) same (subst (λ said. EndsBy (outcome_of world_here said) k m middle new cause) here.said ends.0);
+    files_now = subst (λ said. LeavesFiles (outcome_of world_here said) said so_far.done.made now cause) here.said ends.1;
+  }
 
-pub all_carried_out : (files : Files) (items : List PlannedStep) (steps : List Numbered) (i : ℕ) (set : Held) (lists : List KeyList) (old new : Option (List ℕ)) → map planned_as items ≡ plan_of steps → length items ≤ i → Reached files (take i steps) set lists old new → CarriedOut files steps set old new
-all_carried_out files items steps i set lists old new planned ended so_far =
+pub all_carried_out : (files : Files) (now : Option Files) (items : List PlannedStep) (steps : List Numbered) (i : ℕ) (set : Held) (lists : List KeyList) (old new : Option (List ℕ)) → map planned_as items ≡ plan_of steps → length items ≤ i → Reached files now (take i steps) set lists old new → CarriedOut files now steps set old new
+all_carried_out files now items steps i set lists old new planned ended so_far =
     let all : take i steps ≡ steps = take_all i steps (omega (arith, all_planned items steps planned, ended)) in
-    subst (λ l. CarriedOut files l set old new) all so_far.done
+    subst (λ l. CarriedOut files now l set old new) all so_far.done
 
 pub steps_of_plan : (planned : List Planned) (steps : List Numbered) → planned ≡ plan_of steps → length planned ≡ length steps
 steps_of_plan planned steps is = ap length is ∙ planned_long [] steps
 
-pub all_done : (files : Files) (now : Option Files) (steps : List Numbered) (set : Held) (old new : Option (List ℕ)) (commands held bits : ℕ) → CarriedOut files steps set old new → now ≡ Some files → commands ≡ length steps → held ≡ finset.len set.keys → bits ≡ set.bits → Done files now steps old new (record { commands = commands; held = held; bits = bits })
-all_done files now steps set old new commands held bits carried same many held_is bits_is = record {
-  world = world_of set carried.named files;
+pub all_done : (files : Files) (now : Option Files) (steps : List Numbered) (set : Held) (old new : Option (List ℕ)) (commands held bits : ℕ) → CarriedOut files now steps set old new → commands ≡ length steps → held ≡ finset.len set.keys → bits ≡ set.bits → Done files now steps old new (record { commands = commands; held = held; bits = bits })
+all_done files now steps set old new commands held bits carried many held_is bits_is = record {
+  world = world_of set carried.named carried.made;
   accounts = carried.accounts;
   text = carried.text;
   means = carried.means;
   says = carried.says;
   written = carried.written;
-  files_now = same;
+  files_now = carried.has;
   told = λ i. record { commands = many i; held = held_is i; bits = bits_is i };
 }

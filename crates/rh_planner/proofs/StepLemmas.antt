@@ -1,5 +1,5 @@
 -- How a step ends.
-use Rattle.std.proofs.Common.{◌≡◌, ◌∙◌, ap, sym, refl, arith, ℕ, true, false, inl, inr, List, [], ◌∷◌, ◌++◌, length, Option, Some, None, Result, Ok}
+use Rattle.std.proofs.Common.{◌≡◌, ◌∙◌, ap, subst, sym, refl, arith, ℕ, true, false, inl, inr, List, [], ◌∷◌, ◌++◌, length, Option, Some, None, Result, Ok}
 use Rattle.std.specs.FinSet as set
 use Rattle.std.proofs.KnownBytes.{Appends-nil}
 use Rattle.rh_edit.specs.Held.{Held}
@@ -11,11 +11,12 @@ use Rattle.rh_ledger.specs.Phase.{set_after, set_with, tally_of}
 use Rattle.rh_files.specs.Counting.{AppendsFront}
 use Rattle.rh_runner.specs.Lists.{chosen}
 use Rattle.rh_shelf.specs.Shelf.{Files}
+use Rattle.rh_planner.specs.Files.{FileMap, with_snapshot}
 use Rattle.rh_report.specs.Account.{Account, Says}
 use Rattle.rh_report.specs.Account as accounts
 use Rattle.rh_planner.specs.declared.fault.Cause.{Cause}
 use Rattle.rh_planner.specs.declared.fault.Cause.TheVariants.{Write}
-use Rattle.rh_planner.specs.Meaning.{◌>>=◌, World, Outcome, adds, drops, keeps, flips, keys_in, uses}
+use Rattle.rh_planner.specs.Meaning.{◌>>=◌, World, Outcome, adds, drops, keeps, flips, keys_in, restores, snapshots, table_in, uses}
 use Rattle.rh_planner.specs.Commands.{Added, Dropped, Kept, Flipped}
 use Rattle.rh_planner.specs.Ends.{EndsBy, IsOutside, RefusedBy, TellsFront}
 use Rattle.rh_planner.specs.Steps.{Named, world_of}
@@ -35,6 +36,9 @@ pub step_refused : {Y : Type 0} (said : Result Y Cause) (make : Y → Outcome) (
 step_refused said make n m old cause (inl is) = inl (Appends-nil old, inl (ap (λ r. r >>= make) is))
 step_refused said make n m old cause (inr outside) = inl (Appends-nil old, inr outside)
 
+pub found_refused : {Y : Type 0} (found said : Result Y Cause) (make : Y → Outcome) (n m : ℕ) (old : Option (List ℕ)) (cause : Cause) → found ≡ said → RefusedBy found n m cause → EndsBy (said >>= make) n m old old cause
+found_refused found said make n m old cause same refused = step_refused said make n m old cause (subst (λ r. RefusedBy r n m cause) same refused)
+
 pub step_outside : (outcome : Outcome) (n m : ℕ) (old : Option (List ℕ)) (cause : Cause) → IsOutside n m cause → EndsBy outcome n m old old cause
 step_outside outcome n m old cause outside = inl (Appends-nil old, inr outside)
 
@@ -45,7 +49,7 @@ not_told outcome old new after account text is says front = (refl, (after, accou
 -- ---- what the commands make
 
 -- `held` and `bits` are those of the set after the command
-module _ (old new : Held) (lists : Named) (files : Files) (name keys : List ℕ) (held bits : ℕ) (held_is : held ≡ set.len new.keys) (bits_is : bits ≡ new.bits) where
+module _ (old new : Held) (lists : Named) (files : FileMap) (name keys : List ℕ) (held bits : ℕ) (held_is : held ≡ set.len new.keys) (bits_is : bits ≡ new.bits) where
   pub adds_is : (t : Tally) → Added keys old new t → adds (world_of old lists files) name keys ≡ Ok (world_of new lists files, accounts.Added name t.read t.added held bits)
   adds_is t added =
       ap (λ r. r >>= (λ bits. Ok (record (world_of old lists files) { held = set_after Insert old.keys keys; bits = bits }, accounts.Added name (length keys) (tally_of Insert old.keys keys).added (set.len (set_after Insert old.keys keys)) bits))) added.size
@@ -93,7 +97,20 @@ list_count (Some files) list keys stands = stands.3
 
 -- ---- a list more
 
-pub uses_is : (set : Held) (named : Named) (files : Files) (name path keys : List ℕ) (count : ℕ) → keys_in (files path) ≡ Ok keys → length keys ≡ count → uses (world_of set named files) name path ≡ Ok (world_of set (named ++ (name, keys) ∷ []) files, accounts.Used name count)
+pub uses_is : (set : Held) (named : Named) (files : FileMap) (name path keys : List ℕ) (count : ℕ) → keys_in (files path) ≡ Ok keys → length keys ≡ count → uses (world_of set named files) name path ≡ Ok (world_of set (named ++ (name, keys) ∷ []) files, accounts.Used name count)
 uses_is set named files name path keys count found many =
     ap (λ r. r >>= (λ (keys : List ℕ). Ok (world_of set (named ++ (name, keys) ∷ []) files, accounts.Used name (length keys)))) found
     ∙ (λ i. Ok (world_of set (named ++ (name, keys) ∷ []) files, accounts.Used name (many i)))
+
+-- ---- snapshots
+
+pub restores_is : (old new : Held) (named : Named) (files : FileMap) (path : List ℕ) (held bits : ℕ) → table_in (files path) ≡ Ok new → held ≡ set.len new.keys → bits ≡ new.bits
+    → restores (world_of old named files) path ≡ Ok (world_of new named files, accounts.Restored path held bits)
+restores_is old new named files path held bits found held_is bits_is =
+    ap (λ r. r >>= (λ (table : Held). Ok (world_of table named files, accounts.Restored path (set.len table.keys) table.bits))) found
+    ∙ (λ i. Ok (world_of new named files, accounts.Restored path (sym held_is i) (sym bits_is i)))
+
+pub snapshots_is : (set' : Held) (named : Named) (files : FileMap) (path : List ℕ) (held bits : ℕ) → held ≡ set.len set'.keys → bits ≡ set'.bits
+    → snapshots (world_of set' named files) path ≡ Ok (world_of set' named (with_snapshot files path set'), accounts.Sealed path held bits)
+snapshots_is set' named files path held bits held_is bits_is =
+    λ i. Ok (world_of set' named (with_snapshot files path set'), accounts.Sealed path (sym held_is i) (sym bits_is i))

@@ -1,21 +1,30 @@
 -- From a step to what is left of the script's state.
-use Rattle.std.proofs.Common.{◌≡◌, sym, subst, slice_index_or, ℕ, inl, inr, List, Option, Some, Result, Ok, Err}
+use Rattle.std.proofs.Common.{◌≡◌, ◌∙◌, ap, sym, subst, refl, slice_index_or, ℕ, inl, inr, List, Option, Some, None, Result, Ok, Err}
 use Rattle.rh_edit.specs.Held.{Held}
+use Rattle.rh_report.specs.Account.{Account}
+use Rattle.rh_files.specs.declared.fault.KeyFault.{KeyFault}
+use Rattle.rh_files.specs.Source.{keys_of_file}
+use Rattle.rh_snapshot.specs.declared.fault.SnapFault.{SnapFault}
+use Rattle.rh_snapshot.specs.Snapshot.{Table}
+use Rattle.rh_snapshot.specs.Reading.{file_table}
 use Rattle.rh_shelf.specs.Shelf.{Files}
-use Rattle.rh_planner.specs.declared.fault.Cause.{Cause}
-use Rattle.rh_planner.specs.declared.key_lists.KeyList.{KeyList}
+use Rattle.rh_script.specs.Instruction.{Instruction, Use, Add, Drop, Ask, Keep, Flip, Save, Clear, Dump, Snapshot, Restore}
 use Rattle.rh_script.specs.Plan.{place_of}
+use Rattle.rh_planner.specs.declared.fault.Cause.{Cause}
+use Rattle.rh_planner.specs.declared.fault.Cause.TheVariants as causes
+use Rattle.rh_planner.specs.declared.key_lists.KeyList.{KeyList}
+use Rattle.rh_planner.specs.Files.{Bytes, File, FileMap, HasFiles, Sealed}
 use Rattle.rh_planner.specs.KeyLists.{Stands}
-use Rattle.rh_planner.specs.Meaning.{Outcome, list_of}
-use Rattle.rh_planner.specs.Ends.{EndsBy}
-use Rattle.rh_planner.specs.Steps.{ListsStand, Named, StateEnds, StepEnds, names_of, world_of}
+use Rattle.rh_planner.specs.Meaning.{◌>>=◌, World, Outcome, keys_in, keys_or_cause, list_of, outcome_of, size_for, size_or_cause, table_in, table_or_cause}
+use Rattle.rh_planner.specs.Ends.{EndsBy, LeavesFiles, LeavesOthers}
+use Rattle.rh_planner.specs.Steps.{ListsStand, Named, PlainEnds, StateEnds, StepEnds, names_of, world_of}
 use Rattle.rh_planner.proofs.CommandLemmas.{outside_any}
 use Rattle.rh_planner.proofs.ListLemmas.{stands_at}
 
 -- a step that left the lists as they were
-pub step_state : (outcome : Outcome) (files : Files) (set : Held) (lists : List KeyList) (named : Named) (n m : ℕ) (old new : Option (List ℕ)) (r : Result (Unit {0}) Cause) → StepEnds outcome (world_of set named files) n m old new r → ListsStand (Some files) lists named → StateEnds outcome files set lists n m old new r
-step_state outcome files set lists named n m old new (Ok x) step stand = (named, step.0, step.1, stand, step.2)
-step_state outcome files set lists named n m old new (Err cause) step stand = step
+pub step_plain : (outcome : Outcome) (files : FileMap) (now : Option Files) (set : Held) (lists : List KeyList) (named : Named) (n m : ℕ) (old new : Option (List ℕ)) (r : Result (Unit {0}) Cause) → StepEnds outcome (world_of set named files) n m old new r → ListsStand now lists named → PlainEnds outcome files now set lists n m old new r
+step_plain outcome files now set lists named n m old new (Ok x) step stand = (named, step.0, step.1, stand, step.2)
+step_plain outcome files now set lists named n m old new (Err cause) step stand = step
 
 ends_any : (outcome : Outcome) (n m : ℕ) (old new : Option (List ℕ)) (cause : Cause) → EndsBy outcome 0 0 old new cause → EndsBy outcome n m old new cause
 ends_any outcome n m old new cause (inl (written, inl said)) = inl (written, inl said)
@@ -23,16 +32,126 @@ ends_any outcome n m old new cause (inl (written, inr outside)) = inl (written, 
 ends_any outcome n m old new cause (inr told) = inr told
 
 -- a step that did not use the shelf
-pub still_state : (outcome : Outcome) (files : Files) (set : Held) (lists : List KeyList) (n m : ℕ) (old new : Option (List ℕ)) (r : Result (Unit {0}) Cause) → StateEnds outcome files set lists 0 0 old new r → StateEnds outcome files set lists n m old new r
-still_state outcome files set lists n m old new (Ok x) step = step
-still_state outcome files set lists n m old new (Err cause) step = ends_any outcome n m old new cause step
+still_plain : (outcome : Outcome) (files : FileMap) (now : Option Files) (set : Held) (lists : List KeyList) (n m : ℕ) (old new : Option (List ℕ)) (r : Result (Unit {0}) Cause) → PlainEnds outcome files now set lists 0 0 old new r → PlainEnds outcome files now set lists n m old new r
+still_plain outcome files now set lists n m old new (Ok x) step = step
+still_plain outcome files now set lists n m old new (Err cause) step = ends_any outcome n m old new cause step
 
-pub still_step_state : (outcome : Outcome) (files : Files) (set : Held) (lists : List KeyList) (named : Named) (n m : ℕ) (old new : Option (List ℕ)) (r : Result (Unit {0}) Cause) → StepEnds outcome (world_of set named files) 0 0 old new r → ListsStand (Some files) lists named → StateEnds outcome files set lists n m old new r
-still_step_state outcome files set lists named n m old new r step stand =
-    still_state outcome files set lists n m old new r (step_state outcome files set lists named 0 0 old new r step stand)
+-- ---- a command that puts no file
+
+abbrev pub IsPlain : Instruction → Type 0
+IsPlain (Snapshot path) = ⊥
+IsPlain _ = Unit {0}
+
+abbrev files_in : FileMap → Outcome → FileMap
+files_in files (Ok done) = done.0.files
+files_in files (Err cause) = files
+
+bound_files : {A : Type 0} (r : Result A Cause) (f : A → Outcome) (files : FileMap) → ((x : A) → files_in files (f x) ≡ files) → files_in files (r >>= f) ≡ files
+bound_files (Ok x) f files same = same x
+bound_files (Err cause) f files same = refl
+
+files_stay : (w : World) (said : Instruction) → IsPlain said → files_in w.files (outcome_of w said) ≡ w.files
+unfolding outcome_of
+files_stay w (Use name path) plain = bound_files (keys_in (w.files path)) _ w.files (λ _. refl)
+files_stay w (Add name) plain = bound_files (size_for _ _) _ w.files (λ _. refl)
+files_stay w (Drop name) plain = refl
+files_stay w (Ask name) plain = refl
+files_stay w (Keep name) plain = bound_files (size_for _ _) _ w.files (λ _. refl)
+files_stay w (Flip name) plain = bound_files (size_for _ _) _ w.files (λ _. refl)
+files_stay w (Save name) plain = refl
+files_stay w Clear plain = refl
+files_stay w Dump plain = refl
+files_stay w (Snapshot path) plain = absurd plain
+files_stay w (Restore path) plain = bound_files (table_in (w.files path)) _ w.files (λ _. refl)
+
+-- no command is refused by what its report meets
+bound_told : {A : Type 0} (r : Result A Cause) (f : A → Outcome) → (r ≡ Err causes.Write → ⊥) → ((x : A) → f x ≡ Err causes.Write → ⊥) → (r >>= f) ≡ Err causes.Write → ⊥
+bound_told (Ok x) f first then h = then x h
+bound_told (Err cause) f first then h = first (ap (λ (o : Outcome). elim o [ Ok x ↦ Err cause | Err c ↦ Err c ]) h)
+
+keys_told : (file : Option File) → keys_in file ≡ Err causes.Write → ⊥
+keys_told None h = absurd cc
+keys_told (Some (Bytes bytes)) h = of_file (keys_of_file bytes) h
+  where
+    of_file : (r : Result (List ℕ) KeyFault) → keys_or_cause r ≡ Err causes.Write → ⊥
+    of_file (Ok keys) g = absurd cc
+    of_file (Err fault) g = absurd cc
+keys_told (Some (Sealed table)) h = absurd cc
+
+table_told : (file : Option File) → table_in file ≡ Err causes.Write → ⊥
+table_told None h = absurd cc
+table_told (Some (Bytes bytes)) h = of_file (file_table bytes) h
+  where
+    of_file : (r : Result (Table × List ℕ) SnapFault) → table_or_cause r ≡ Err causes.Write → ⊥
+    of_file (Ok read) g = absurd cc
+    of_file (Err fault) g = absurd cc
+table_told (Some (Sealed table)) h = absurd cc
+
+size_told : (size : Option ℕ) → size_or_cause size ≡ Err causes.Write → ⊥
+size_told (Some bits) h = absurd cc
+size_told None h = absurd cc
+
+never_write : (w : World) (said : Instruction) → outcome_of w said ≡ Err causes.Write → ⊥
+unfolding outcome_of
+never_write w (Use name path) h = bound_told (keys_in (w.files path)) _ (keys_told (w.files path)) (λ x g. absurd cc) h
+never_write w (Add name) h = bound_told (size_for _ _) _ (size_told _) (λ x g. absurd cc) h
+never_write w (Drop name) h = absurd cc
+never_write w (Ask name) h = absurd cc
+never_write w (Keep name) h = bound_told (size_for _ _) _ (size_told _) (λ x g. absurd cc) h
+never_write w (Flip name) h = bound_told (size_for _ _) _ (size_told _) (λ x g. absurd cc) h
+never_write w (Save name) h = absurd cc
+never_write w Clear h = absurd cc
+never_write w Dump h = absurd cc
+never_write w (Snapshot path) h = absurd cc
+never_write w (Restore path) h = bound_told (table_in (w.files path)) _ (table_told (w.files path)) (λ x g. absurd cc) h
+
+others_left : (said : Instruction) (files : FileMap) (now : Option Files) → IsPlain said → HasFiles files now → LeavesOthers said files now
+others_left (Use name path) files now plain has = has
+others_left (Add name) files now plain has = has
+others_left (Drop name) files now plain has = has
+others_left (Ask name) files now plain has = has
+others_left (Keep name) files now plain has = has
+others_left (Flip name) files now plain has = has
+others_left (Save name) files now plain has = has
+others_left Clear files now plain has = has
+others_left Dump files now plain has = has
+others_left (Snapshot path) files now plain has = absurd plain
+others_left (Restore path) files now plain has = has
+
+module _ (w : World) (said : Instruction) (now : Option Files) (plain : IsPlain said) (has : HasFiles w.files now) where
+  made_none : (done : World × Account) → outcome_of w said ≡ Ok done → HasFiles done.0.files now
+  made_none done is = subst (λ files. HasFiles files now) (sym (files_stay w said plain) ∙ ap (files_in w.files) is) has
+
+  left_by : (n m : ℕ) (old new : Option (List ℕ)) (cause : Cause) → EndsBy (outcome_of w said) n m old new cause → LeavesFiles (outcome_of w said) said w.files now cause
+  left_by n m old new causes.Missing ends = others_left said w.files now plain has
+  left_by n m old new (causes.Keys fault) ends = others_left said w.files now plain has
+  left_by n m old new (causes.Snap fault) ends = others_left said w.files now plain has
+  left_by n m old new causes.Changed ends = others_left said w.files now plain has
+  left_by n m old new causes.TooLarge ends = others_left said w.files now plain has
+  left_by n m old new causes.Memory ends = others_left said w.files now plain has
+  left_by n m old new causes.NoThread ends = others_left said w.files now plain has
+  left_by n m old new causes.Put ends = others_left said w.files now plain has
+  left_by n m old new causes.Write (inl (written, inl is)) = absurd (never_write w said is)
+  left_by n m old new causes.Write (inl (written, inr outside)) = absurd outside
+  left_by n m old new causes.Write (inr (is_write, done, is, told)) = (done, is, made_none done is)
+
+  plain_state : (set : Held) (lists : List KeyList) (n m : ℕ) (old new : Option (List ℕ)) (r : Result (Unit {0}) Cause) → PlainEnds (outcome_of w said) w.files now set lists n m old new r → StateEnds (outcome_of w said) said w.files now set lists n m old new r
+  plain_state set lists n m old new (Ok x) step = record { named = step.0; files = w.files; account = step.1; is = step.2; stand = step.3; has = has; told = step.4 }
+  plain_state set lists n m old new (Err cause) step = (step, left_by n m old new cause step)
+
+pub plain_now : (w : World) (said : Instruction) → IsPlain said → (before now : Option Files) (set : Held) (lists : List KeyList) (n m : ℕ) (old new : Option (List ℕ)) (r : Result (Unit {0}) Cause) → now ≡ before → HasFiles w.files before → PlainEnds (outcome_of w said) w.files before set lists n m old new r
+    → StateEnds (outcome_of w said) said w.files now set lists n m old new r
+plain_now w said plain before now set lists n m old new r same has step =
+    subst (λ files. StateEnds (outcome_of w said) said w.files files set lists n m old new r) (sym same) (plain_state w said before plain has set lists n m old new r step)
+
+-- a step that did not use the shelf, whose files are known
+pub still_now : (w : World) (said : Instruction) → IsPlain said → (now : Option Files) (named : Named) (set : Held) (lists lists' : List KeyList) (n m : ℕ) (old new : Option (List ℕ)) (r : Result (Unit {0}) Cause) → HasFiles w.files now → ListsStand now lists named
+    → ((known : Files) → ListsStand (Some known) lists named → PlainEnds (outcome_of w said) w.files (Some known) set lists' 0 0 old new r) → StateEnds (outcome_of w said) said w.files now set lists' n m old new r
+still_now w said plain None named set lists lists' n m old new r has stand step = absurd has
+still_now w said plain (Some known) named set lists lists' n m old new r has stand step =
+    plain_state w said (Some known) plain has set lists' n m old new r (still_plain (outcome_of w said) w.files (Some known) set lists' n m old new r (step known stand))
 
 -- the list that a task names
-pub list_at : (lists : List KeyList) (named : Named) (files : Files) (now : Option Files) (name : List ℕ) (i : ℕ) (list : KeyList) → now ≡ Some files → ListsStand (Some files) lists named → place_of name (names_of named) ≡ Some i → list ≡ slice_index_or lists i list → Stands now list (list_of name named)
-list_at lists named files now name i list known stand place is =
-    subst (λ f. Stands f list (list_of name named)) (sym known)
-    (subst (λ l. Stands (Some files) l (list_of name named)) (sym is) (stands_at (Some files) lists named name i list stand place))
+pub list_at : (lists : List KeyList) (named : Named) (now : Option Files) (name : List ℕ) (i : ℕ) (list : KeyList) → ListsStand now lists named → place_of name (names_of named) ≡ Some i → list ≡ slice_index_or lists i list → Stands now list (list_of name named)
+list_at lists named now name i list stand place is =
+    subst (λ l. Stands now l (list_of name named)) (sym is) (stands_at now lists named name i list stand place)

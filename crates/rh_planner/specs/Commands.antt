@@ -1,14 +1,34 @@
 -- What the commands that change the set make of it.
-use Rattle.std.specs.Prelude.{◌≡◌, ℕ, ◌+◌, true, false, List, length, Ok}
+use Rattle.std.specs.Prelude.{◌≡◌, ℕ, ◌+◌, ◌<◌, ◌^◌, true, false, List, length, Option, Some, None, Result, Ok, Err}
 use Rattle.std.specs.FinSet as set
-use Rattle.rh_layout.specs.Layout.{Keys}
+use Rattle.rh_layout.specs.Layout.{Keys, Layout}
 use Rattle.rh_layout.specs.declared.limits.TheConstants.{MIN_BITS}
 use Rattle.rh_edit.specs.Held.{Held}
 use Rattle.rh_ledger.specs.declared.tally.Kind.TheVariants.{Insert, Remove}
 use Rattle.rh_ledger.specs.declared.tally.Tally.{Tally}
 use Rattle.rh_ledger.specs.Phase.{set_after, tally_of}
 use Rattle.rh_runner.specs.Lists.{chosen}
-use Rattle.rh_planner.specs.Meaning.{size_for}
+use Rattle.rh_files.specs.Source.{keys_of_file}
+use Rattle.rh_snapshot.specs.Reading.{file_table}
+use Rattle.rh_snapshot.specs.declared.version.Version.TheVariants.{Second}
+use Rattle.rh_snapshot.specs.Snapshot.{spelling}
+use Rattle.rh_planner.specs.declared.fault.Cause.{Cause}
+use Rattle.rh_planner.specs.declared.fault.Cause.TheVariants.{Missing}
+use Rattle.rh_planner.specs.Meaning.{keys_or_cause, size_for, table_or_cause}
+
+-- the keys of the bytes that were found, or why there are none
+abbrev pub keys_found : Option (List ℕ) → Result (List ℕ) Cause
+keys_found None = Err Missing
+keys_found (Some bytes) = keys_or_cause (keys_of_file bytes)
+
+-- the table of the bytes that were found, or why there is none
+abbrev pub table_found : Option (List ℕ) → Result Held Cause
+table_found None = Err Missing
+table_found (Some bytes) = table_or_cause (file_table bytes)
+
+-- the bytes are the snapshot of a table: they spell a layout of its keys that has a free cell
+abbrev pub IsSnapshotOf : Held → List ℕ → Type 0
+IsSnapshotOf table bytes = (cells : List ℕ) × Layout cells table.bits table.keys × (set.len table.keys < 2 ^ table.bits) × (bytes ≡ spelling Second table.bits cells)
 
 -- the keys were added
 pub record Added (keys : List ℕ) (old new : Held) (told : Tally) : Type 0 where

@@ -3,14 +3,16 @@ use Rattle.std.specs.Prelude.{◌≡◌, ℕ, ◌⊎◌, List, [], ◌∷◌, �
 use Rattle.std.specs.FinSet as set
 use Rattle.std.specs.Io.KnownBytes.{Appends}
 use Rattle.rh_files.specs.declared.fault.KeyFault.TheVariants as faults
+use Rattle.rh_snapshot.specs.declared.fault.SnapFault.TheVariants as snap_faults
 use Rattle.rh_files.specs.Counting.{AppendsFront, Rose}
-use Rattle.rh_script.specs.Instruction.{Numbered}
+use Rattle.rh_script.specs.Instruction.{Instruction, Numbered, Snapshot}
 use Rattle.rh_shelf.specs.Shelf.{Files}
 use Rattle.rh_report.specs.Account.{Account, Says}
 use Rattle.rh_planner.specs.declared.fault.Cause.{Cause}
-use Rattle.rh_planner.specs.declared.fault.Cause.TheVariants.{Missing, Keys, Changed, TooLarge, Memory, NoThread, Write}
+use Rattle.rh_planner.specs.declared.fault.Cause.TheVariants.{Missing, Keys, Snap, Changed, TooLarge, Memory, NoThread, Put, Write}
 use Rattle.rh_planner.specs.declared.fault.RunFault.{RunFault}
 use Rattle.rh_planner.specs.declared.report.Report.{Report}
+use Rattle.rh_planner.specs.Files.{FileMap, HasFiles, HasOthers}
 use Rattle.rh_planner.specs.Meaning.{World, Outcome, start, meaning, outcome_of}
 
 -- the text says these accounts, one after the other
@@ -19,13 +21,16 @@ SaysAll [] text = text ≡ []
 SaysAll (account ∷ accounts) text = (first : List ℕ) × (rest : List ℕ) × Says account first × SaysAll accounts rest × (text ≡ first ++ rest)
 
 -- A cause that the script and the files do not have: want of memory, a thread that was refused, a read that failed,
--- and a file that the shelf did not give, where its count of failures rose.
+-- and a file that the shelf did not give or take, where its count of failures rose.
 abbrev pub IsOutside : (failures failures' : ℕ) → Cause → Type 0
 IsOutside n m Memory = Unit {0}
 IsOutside n m NoThread = Unit {0}
 IsOutside n m (Keys faults.Read) = Unit {0}
 IsOutside n m (Keys _) = ⊥
+IsOutside n m (Snap snap_faults.Read) = Unit {0}
+IsOutside n m (Snap _) = ⊥
 IsOutside n m Missing = Rose n m
+IsOutside n m Put = Rose n m
 IsOutside n m Changed = ⊥
 IsOutside n m TooLarge = ⊥
 IsOutside n m Write = ⊥
@@ -34,12 +39,20 @@ IsOutside n m Write = ⊥
 abbrev pub RefusedBy : {Y : Type 0} → Result Y Cause → (failures failures' : ℕ) → Cause → Type 0
 RefusedBy said n m cause = (said ≡ Err cause) ⊎ IsOutside n m cause
 
--- What a command leaves of a shelf: it gives the same files; it did not fail where the command was carried out; and where
--- its files are not known, it failed if one was missing.
+-- What a command that puts no file leaves of a shelf: it gives the same files; it did not fail where the command was
+-- carried out; and where its files are not known, it failed if one was missing.
 pub record KeepsShelf {X : Type 0} (files files' : Option Files) (failures failures' : ℕ) (r : Result X Cause) : Type 0 where
   pub same_files : files' ≡ files
   pub fine : OnOk r (failures' ≡ failures)
   pub missing : IfErr r (λ cause. cause ≡ Missing → files ≡ None → Rose failures failures')
+  pub not_put : IfErr r (λ cause. cause ≡ Put → ⊥)
+
+-- What any command leaves of a shelf. It failed where it did not take a file.
+pub record LeavesShelf {X : Type 0} (files files' : Option Files) (failures failures' : ℕ) (r : Result X Cause) : Type 0 where
+  pub still_unknown : files ≡ None → files' ≡ None
+  pub fine : OnOk r (failures' ≡ failures)
+  pub missing : IfErr r (λ cause. cause ≡ Missing → files ≡ None → Rose failures failures')
+  pub put : IfErr r (λ cause. cause ≡ Put → Rose failures failures')
 
 -- a text that says this account was appended
 abbrev pub Tells : Account → Option (List ℕ) → Option (List ℕ) → Type 0
@@ -54,7 +67,18 @@ abbrev pub EndsBy : Outcome → (failures failures' : ℕ) → Option (List ℕ)
 EndsBy outcome n m old new cause =
     (Appends old new [] × RefusedBy outcome n m cause) ⊎ ((cause ≡ Write) × (done : World × Account) × (outcome ≡ Ok done) × TellsFront done.1 old new)
 
--- All steps were carried out: the text is what they have to report, and the report counts them and tells the table.
+-- What a command that was refused leaves of the files: those that it found, but for the path of a snapshot.
+abbrev pub LeavesOthers : Instruction → FileMap → (now : Option Files) → Type 0
+LeavesOthers (Snapshot path) files now = HasOthers path files now
+LeavesOthers _ files now = HasFiles files now
+
+-- And where its account could not be written, those that it made.
+abbrev pub LeavesFiles : Outcome → Instruction → FileMap → (now : Option Files) → Cause → Type 0
+LeavesFiles outcome said files now Write = (done : World × Account) × (outcome ≡ Ok done) × HasFiles done.0.files now
+LeavesFiles outcome said files now _ = LeavesOthers said files now
+
+-- All steps were carried out: the text is what they have to report, the shelf has the files that they made, and the
+-- report counts them and tells the table.
 pub record Done (files : Files) (now : Option Files) (steps : List Numbered) (old new : Option (List ℕ)) (report : Report) : Type 0 where
   pub world : World
   pub accounts : List Account
@@ -62,12 +86,12 @@ pub record Done (files : Files) (now : Option Files) (steps : List Numbered) (ol
   pub means : meaning (start files) steps ≡ Ok (world, accounts)
   pub says : SaysAll accounts text
   pub written : Appends old new text
-  pub files_now : now ≡ Some world.files
+  pub files_now : HasFiles world.files now
   pub told : report ≡ record { commands = length steps; held = set.len world.held; bits = world.bits }
 
 -- The steps before one were carried out, and at that one the run ended with its line: by the cause that the meaning
 -- has there, or by one that comes from outside.
-pub record Stopped (files : Files) (failures failures' : ℕ) (steps : List Numbered) (old new : Option (List ℕ)) (fault : RunFault) : Type 0 where
+pub record Stopped (files : Files) (now : Option Files) (failures failures' : ℕ) (steps : List Numbered) (old new : Option (List ℕ)) (fault : RunFault) : Type 0 where
   pub before : List Numbered
   pub step : Numbered
   pub after : List Numbered
@@ -81,11 +105,12 @@ pub record Stopped (files : Files) (failures failures' : ℕ) (steps : List Numb
   pub middle : Option (List ℕ)
   pub written : Appends old middle text
   pub ends : EndsBy (outcome_of world step.instruction) failures failures' middle new fault.cause
+  pub files_now : LeavesFiles (outcome_of world step.instruction) step.instruction world.files now fault.cause
 
 -- memory ran out before the first command
-abbrev pub NotBegun : Option (List ℕ) → Option (List ℕ) → RunFault → Type 0
-NotBegun old new fault = (fault ≡ record { line = 0; cause = Memory }) × Appends old new []
+abbrev pub NotBegun : (files : Files) → (now : Option Files) → Option (List ℕ) → Option (List ℕ) → RunFault → Type 0
+NotBegun files now old new fault = (fault ≡ record { line = 0; cause = Memory }) × Appends old new [] × (now ≡ Some files)
 
 abbrev pub Ends : (files : Files) → (now : Option Files) → (failures failures' : ℕ) → List Numbered → Option (List ℕ) → Option (List ℕ) → Result Report RunFault → Type 0
 Ends files now n m steps old new (Ok report) = Done files now steps old new report
-Ends files now n m steps old new (Err fault) = NotBegun old new fault ⊎ Stopped files n m steps old new fault
+Ends files now n m steps old new (Err fault) = NotBegun files now old new fault ⊎ Stopped files now n m steps old new fault

@@ -1,5 +1,6 @@
 -- The lists that have a name, as the code has them.
-use Rattle.std.specs.Prelude.{◌≡◌, ℕ, List, length, Option, Some, None, Ok}
+use Rattle.std.specs.Prelude.{◌≡◌, ℕ, List, [], ◌∷◌, length, Option, Some, None, Ok}
+use Rattle.std.specs.List.{flat_map}
 use Rattle.rh_files.specs.Source.{keys_of_file}
 use Rattle.rh_shelf.specs.Shelf.{Files}
 use Rattle.rh_planner.specs.declared.key_lists.KeyList.{KeyList}
@@ -26,3 +27,11 @@ Stands (Some files) list keys = (bytes : List ℕ) × (bytes_at files list.place
 abbrev pub HasKeys : Option (List ℕ) → List ℕ → Type 0
 HasKeys None keys = ⊥
 HasKeys (Some bytes) keys = keys_of_file bytes ≡ Ok keys
+
+abbrev pub path_of : Place → List (List ℕ)
+path_of (Path path) = path.now ∷ []
+path_of (Memory bytes) = []
+
+-- the paths of the lists that are files of the shelf, in order
+abbrev pub paths_of : List KeyList → List (List ℕ)
+paths_of lists = flat_map (λ list. path_of list.place) lists

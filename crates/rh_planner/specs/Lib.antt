@@ -1,5 +1,6 @@
 pub mod Size
 pub mod Causes
+pub mod Files
 pub mod Meaning
 pub mod Ends
 pub mod KeyLists

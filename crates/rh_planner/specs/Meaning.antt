@@ -1,26 +1,34 @@
 -- What a script means (this project's own): what its commands make, one after the other, of a set, the bits of its
--- table, and the lists that have a name, and what each has to report. It ends at the first command that is refused.
+-- table, the lists that have a name and the files, and what each has to report. It ends at the first command that is
+-- refused.
 use Rattle.std.specs.Prelude.{ℕ, ◌+◌, true, false, List, [], ◌∷◌, ◌++◌, length, Option, Some, None, Result, Ok, Err, unwrap_or}
 use Rattle.std.specs.FinSet as set
 use Rattle.std.specs.Str.{bytes_eq}
 use Rattle.std.specs.Map.{lookup}
-use Rattle.rh_layout.specs.Layout.{Keys}
+use Rattle.rh_layout.specs.Layout.{Keys, keys_of}
 use Rattle.rh_layout.specs.declared.limits.TheConstants.{MIN_BITS}
+use Rattle.rh_edit.specs.Held.{Held}
 use Rattle.rh_edit.specs.Rising.{rising_keys}
 use Rattle.rh_ledger.specs.declared.tally.Kind.TheVariants.{Insert, Remove}
 use Rattle.rh_ledger.specs.Phase.{set_after, tally_of, looked_up}
 use Rattle.rh_files.specs.declared.fault.KeyFault.{KeyFault}
+use Rattle.rh_files.specs.declared.fault.KeyFault.TheVariants.{NotKeys}
 use Rattle.rh_files.specs.Source.{keys_of_file}
+use Rattle.rh_snapshot.specs.declared.fault.SnapFault.{SnapFault}
+use Rattle.rh_snapshot.specs.Snapshot.{Table}
+use Rattle.rh_snapshot.specs.Reading.{file_table}
 use Rattle.rh_runner.specs.Lists.{chosen}
 use Rattle.rh_script.specs.Instruction.{Instruction, Numbered}
 use Rattle.rh_script.specs.Instruction as instructions
 use Rattle.rh_shelf.specs.Shelf.{Files}
-use Rattle.rh_report.specs.Account.{Account, Used, Added, Dropped, Asked, Kept, Flipped, Saved, Cleared, Dumped}
+use Rattle.rh_report.specs.Account.{Account, Used, Added, Dropped, Asked, Kept, Flipped, Saved, Cleared, Dumped, Restored}
+use Rattle.rh_report.specs.Account as accounts
 use Rattle.rh_planner.specs.declared.fault.Cause.{Cause}
 use Rattle.rh_planner.specs.declared.fault.Cause.TheVariants as causes
 use Rattle.rh_planner.specs.declared.fault.Cause.TheVariants.{Missing, TooLarge}
 use Rattle.rh_planner.specs.declared.fault.RunFault.{RunFault}
 use Rattle.rh_planner.specs.Size.{capacity}
+use Rattle.rh_planner.specs.Files.{File, FileMap, Bytes, Sealed, given_files, with_snapshot}
 
 -- what there is between two commands: the keys that are held, the bits of their table, the lists by their names in the
 -- order in which they were given, and the files
@@ -28,11 +36,11 @@ pub record World : Type 0 where
   pub held : Keys
   pub bits : ℕ
   pub lists : List (List ℕ × List ℕ)
-  pub files : Files
+  pub files : FileMap
 
 -- before the first command
 abbrev pub start : Files → World
-start files = record { held = set.empty; bits = MIN_BITS; lists = []; files = files }
+start files = record { held = set.empty; bits = MIN_BITS; lists = []; files = given_files files }
 
 -- the list of this name; a script names no other
 abbrev pub list_of : (name : List ℕ) → List (List ℕ × List ℕ) → List ℕ
@@ -53,10 +61,21 @@ abbrev pub keys_or_cause : Result (List ℕ) KeyFault → Result (List ℕ) Caus
 keys_or_cause (Ok keys) = Ok keys
 keys_or_cause (Err fault) = Err (causes.Keys fault)
 
--- the keys of the file at a path, or why it has none
-abbrev pub keys_in : Option (List ℕ) → Result (List ℕ) Cause
+-- the keys of the file at a path, or why it has none; a snapshot is no key file
+abbrev pub keys_in : Option File → Result (List ℕ) Cause
 keys_in None = Err Missing
-keys_in (Some bytes) = keys_or_cause (keys_of_file bytes)
+keys_in (Some (Bytes bytes)) = keys_or_cause (keys_of_file bytes)
+keys_in (Some (Sealed table)) = Err (causes.Keys NotKeys)
+
+abbrev pub table_or_cause : Result (Table × List ℕ) SnapFault → Result Held Cause
+table_or_cause (Ok read) = Ok (record { bits = read.0.bits; keys = keys_of read.0.cells })
+table_or_cause (Err fault) = Err (causes.Snap fault)
+
+-- the table of the snapshot at a path, or why there is none
+abbrev pub table_in : Option File → Result Held Cause
+table_in None = Err Missing
+table_in (Some (Bytes bytes)) = table_or_cause (file_table bytes)
+table_in (Some (Sealed table)) = Ok table
 
 abbrev pub size_or_cause : Option ℕ → Result ℕ Cause
 size_or_cause (Some size) = Ok size
@@ -117,6 +136,19 @@ clears w = Ok (record w { held = set.empty; bits = MIN_BITS }, Cleared)
 abbrev pub dumps : World → Outcome
 dumps w = Ok (w, Dumped w.held w.bits)
 
+abbrev pub table_of : World → Held
+table_of w = record { bits = w.bits; keys = w.held }
+
+-- the path has a snapshot of the table from now on
+abbrev pub snapshots : World → (path : List ℕ) → Outcome
+snapshots w path = Ok (record w { files = with_snapshot w.files path (table_of w) }, accounts.Sealed path (set.len w.held) w.bits)
+
+-- the table is that of the snapshot
+abbrev pub restores : World → (path : List ℕ) → Outcome
+restores w path =
+    table_in (w.files path)
+    >>= (λ table. Ok (record w { held = table.keys; bits = table.bits }, Restored path (set.len table.keys) table.bits))
+
 unfoldable pub outcome_of : World → Instruction → Outcome
 outcome_of w (instructions.Use name path) = uses w name path
 outcome_of w (instructions.Add name) = adds w name (list_of name w.lists)
@@ -127,6 +159,8 @@ outcome_of w (instructions.Flip name) = flips w name (list_of name w.lists)
 outcome_of w (instructions.Save name) = saves w name
 outcome_of w instructions.Clear = clears w
 outcome_of w instructions.Dump = dumps w
+outcome_of w (instructions.Snapshot path) = snapshots w path
+outcome_of w (instructions.Restore path) = restores w path
 
 -- ---- the steps of a script
 

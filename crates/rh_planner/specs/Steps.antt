@@ -1,22 +1,25 @@
 -- What the code has of a script's world, and how a step ends.
-use Rattle.std.specs.Prelude.{◌≡◌, ℕ, ◌<◌, List, [], ◌∷◌, map, Option, Some, Result, Ok, MatchResult}
+use Rattle.std.specs.Prelude.{◌≡◌, ℕ, ◌<◌, false, List, [], ◌∷◌, map, Option, Result, Ok, MatchResult}
 use Rattle.rh_edit.specs.Held.{Held}
 use Rattle.rh_report.specs.Account.{Account}
 use Rattle.rh_shelf.specs.Shelf.{Files}
+use Rattle.rh_script.specs.Instruction.{Instruction}
+use Rattle.rh_script.specs.Names.{is_given}
 use Rattle.rh_script.specs.declared.task.Task.{Task}
 use Rattle.rh_script.specs.declared.task.Task.TheVariants as tasks
 use Rattle.rh_planner.specs.declared.fault.Cause.{Cause}
 use Rattle.rh_planner.specs.declared.key_lists.KeyList.{KeyList}
-use Rattle.rh_planner.specs.KeyLists.{Stands}
+use Rattle.rh_planner.specs.KeyLists.{Stands, paths_of}
+use Rattle.rh_planner.specs.Files.{FileMap, HasFiles}
 use Rattle.rh_planner.specs.Meaning.{World, Outcome}
-use Rattle.rh_planner.specs.Ends.{EndsBy, Tells}
+use Rattle.rh_planner.specs.Ends.{EndsBy, LeavesFiles, Tells}
 
 -- the names of lists, each with its keys
 abbrev pub Named : Type 0
 Named = List (List ℕ × List ℕ)
 
 -- the world of a set, some named lists and the files
-abbrev pub world_of : Held → Named → Files → World
+abbrev pub world_of : Held → Named → FileMap → World
 world_of set lists files = record { held = set.keys; bits = set.bits; lists = lists; files = files }
 
 -- each list has its keys
@@ -33,11 +36,26 @@ abbrev pub StepEnds : Outcome → World → (failures failures' : ℕ) → Optio
 StepEnds outcome after n m old new r =
     MatchResult r (λ _. (account : Account) × (outcome ≡ Ok (after, account)) × Tells account old new) (EndsBy outcome n m old new)
 
--- A step made this set and these lists of the world that it found, and told its account; or it was refused, or could
--- not be told.
-abbrev pub StateEnds : Outcome → Files → Held → List KeyList → (failures failures' : ℕ) → Option (List ℕ) → Option (List ℕ) → Result (Unit {0}) Cause → Type 0
-StateEnds outcome files set lists n m old new r =
-    MatchResult r (λ _. (named : Named) × (account : Account) × (outcome ≡ Ok (world_of set named files, account)) × ListsStand (Some files) lists named × Tells account old new) (EndsBy outcome n m old new)
+-- A step that puts no file made this set and these lists of the world that it found, and told its account; or it was
+-- refused, or could not be told.
+abbrev pub PlainEnds : Outcome → FileMap → (now : Option Files) → Held → List KeyList → (failures failures' : ℕ) → Option (List ℕ) → Option (List ℕ) → Result (Unit {0}) Cause → Type 0
+PlainEnds outcome files now set lists n m old new r =
+    MatchResult r (λ _. (named : Named) × (account : Account) × (outcome ≡ Ok (world_of set named files, account)) × ListsStand now lists named × Tells account old new) (EndsBy outcome n m old new)
+
+-- A step made this set, these lists and the files that the shelf has now, and told its account.
+pub record StepDone (outcome : Outcome) (now : Option Files) (set : Held) (lists : List KeyList) (old new : Option (List ℕ)) : Type 0 where
+  pub named : Named
+  pub files : FileMap
+  pub account : Account
+  pub is : outcome ≡ Ok (world_of set named files, account)
+  pub stand : ListsStand now lists named
+  pub has : HasFiles files now
+  pub told : Tells account old new
+
+-- Any step ends so; or it was refused, or could not be told, and this is what it left of the files.
+abbrev pub StateEnds : Outcome → Instruction → FileMap → (now : Option Files) → Held → List KeyList → (failures failures' : ℕ) → Option (List ℕ) → Option (List ℕ) → Result (Unit {0}) Cause → Type 0
+StateEnds outcome said files now set lists n m old new r =
+    MatchResult r (λ _. StepDone outcome now set lists old new) (λ cause. EndsBy outcome n m old new cause × LeavesFiles outcome said files now cause)
 
 -- the list of a task is among so many
 abbrev pub HasList : Task → ℕ → Type 0
@@ -47,3 +65,8 @@ HasList (tasks.Ask list name) n = list < n
 HasList (tasks.Keep list name) n = list < n
 HasList (tasks.Flip list name) n = list < n
 HasList _ n = Unit {0}
+
+-- a task puts its snapshot under a path at which no list stands
+abbrev pub IsApart : Task → List KeyList → Type 0
+IsApart (tasks.Snapshot path) lists = is_given path.now (paths_of lists) ≡ false
+IsApart _ lists = Unit {0}

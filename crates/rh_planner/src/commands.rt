@@ -1,6 +1,6 @@
 //! What the commands do with the set that is held and with the lists.
 
-ghost use Rattle.std.specs.Prelude.{◌≡◌, ◌+◌, ◌^◌, ◌<◌, ℕ, true, false, List, Some, Ok};
+ghost use Rattle.std.specs.Prelude.{◌≡◌, ◌+◌, ◌^◌, ◌<◌, ℕ, true, false, List, [], Some, Ok};
 ghost use Rattle.std.specs.Prelude.{IfOk, IfErr, OnOk, length};
 ghost use Rattle.std.specs.FinSet as finset;
 ghost use Rattle.rh_shelf.specs.Shelf.{Files};
@@ -11,9 +11,9 @@ ghost use Rattle.rh_layout.specs.Layout.{IsLayout, keys_of};
 ghost use Rattle.rh_layout.specs.declared.limits.TheConstants.{MIN_BITS};
 ghost use Rattle.rh_edit.specs.Rising.{rising_keys};
 ghost use Rattle.rh_planner.specs.Ends.{IsOutside, KeepsShelf, RefusedBy};
-ghost use Rattle.rh_planner.specs.KeyLists.{Stands};
-ghost use Rattle.rh_planner.specs.Meaning.{keys_in, size_for};
-ghost use Rattle.rh_planner.specs.Commands.{Added, Dropped, Flipped, Kept, flipped_most};
+ghost use Rattle.rh_planner.specs.KeyLists.{Stands, path_of};
+ghost use Rattle.rh_planner.specs.Meaning.{size_for};
+ghost use Rattle.rh_planner.specs.Commands.{Added, Dropped, Flipped, Kept, flipped_most, keys_found};
 
 use crate::fault::Cause;
 use crate::key_lists::{KeyList, Place};
@@ -33,9 +33,9 @@ use std::sync::Wait;
 /// How many keys the file at the path has. It is read to its end.
 pub(crate) fn use_file<S: Shelf>(alloc: Global, shelf: &mut S, path: &str) -> Result<u64, Cause>
     ensures used { (files : Files) → S.files shelf.old ≡ Some files → IfOk result (λ count.
-        (keys : List ℕ) × (keys_in (files path.now) ≡ Ok keys) × (length keys ≡ count)) }
+        (keys : List ℕ) × (keys_found (files path.now) ≡ Ok keys) × (length keys ≡ count)) }
     ensures refused { (files : Files) → S.files shelf.old ≡ Some files → IfErr result
-        (RefusedBy (keys_in (files path.now)) (S.failures shelf.old) (S.failures shelf.new)) }
+        (RefusedBy (keys_found (files path.now)) (S.failures shelf.old) (S.failures shelf.new)) }
     ensures shelf { KeepsShelf (S.files shelf.old) (S.files shelf.new) (S.failures shelf.old)
         (S.failures shelf.new) result }
     ensures no_write { IfErr result (λ cause. cause ≡ Cause.Write → ⊥) }
@@ -280,6 +280,7 @@ pub(crate) fn saved<'a>(alloc: Global, set: &SeqSet) -> Result<KeyList<'a>, Caus
     ensures saved { (files : Files) →
         IfOk result (λ list. Stands (Some files) list (rising_keys set.now.keys)) }
     ensures count { IfOk result (λ list. list.count ≡ finset.len set.now.keys) }
+    ensures no_path { IfOk result (λ list. path_of list.place ≡ []) }
     ensures memory { IfErr result (λ cause. cause ≡ Cause.Memory) }
 {
     let keys = set.sorted_keys(alloc)?;

@@ -2,10 +2,11 @@
 
 ghost use Rattle.std.specs.Prelude.{◌≡◌};
 ghost use Rattle.rh_planner.specs.declared.fault.Cause.TheVariants.{Memory, Write};
-ghost use Rattle.rh_planner.specs.Causes.{of_keys, of_list};
+ghost use Rattle.rh_planner.specs.Causes.{of_keys, of_list, of_snapshot};
 
 use rh_files::{KeyFault, WriteFault};
 use rh_runner::{ListFault, PhaseFault};
+use rh_snapshot::SnapFault;
 use std::alloc::{AllocError, AllocFailed};
 use thiserror::Error;
 
@@ -18,6 +19,9 @@ pub enum Cause {
     /// The key file is refused, or could not be read. Never want of memory.
     #[error(transparent)]
     Keys(KeyFault),
+    /// The snapshot is refused, or could not be read. Never want of memory.
+    #[error(transparent)]
+    Snap(SnapFault),
     /// The key file is not the one that `use` read.
     #[error("key file has changed")]
     Changed,
@@ -28,6 +32,8 @@ pub enum Cause {
     Memory,
     #[error("cannot start a worker")]
     NoThread,
+    #[error("cannot write the snapshot")]
+    Put,
     #[error("cannot write the output")]
     Write,
 }
@@ -48,6 +54,17 @@ impl From<KeyFault> for Cause {
         match fault {
             KeyFault::Memory => Cause::Memory,
             other => Cause::Keys(other),
+        }
+    }
+}
+
+impl From<SnapFault> for Cause {
+    ghost from_gives = { λ fault cause. cause ≡ of_snapshot fault };
+
+    fn from(fault: SnapFault) -> Cause {
+        match fault {
+            SnapFault::Memory => Cause::Memory,
+            other => Cause::Snap(other),
         }
     }
 }

@@ -8,6 +8,7 @@ mod opening;
 mod report;
 mod running;
 mod size;
+mod snapshots;
 mod steps;
 mod tasks;
 

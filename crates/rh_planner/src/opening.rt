@@ -66,6 +66,7 @@ pub(crate) fn keys_again<R: Read>(
     ensures refused { (keys : List ℕ) → HasKeys (R.remaining (inner_of reader.old)) keys →
         length keys ≡ count → IfErr result (IsOutside 0 0) }
     ensures not_missing { IfErr result (λ cause. cause ≡ Cause.Missing → ⊥) }
+    ensures not_put { IfErr result (λ cause. cause ≡ Cause.Put → ⊥) }
     ensures no_write { IfErr result (λ cause. cause ≡ Cause.Write → ⊥) }
 {
     let keys = open_keys(reader)?;

@@ -5,6 +5,7 @@ ghost use Rattle.std.specs.FinSet as finset;
 ghost use Rattle.rh_layout.specs.declared.limits.TheConstants.{MIN_BITS};
 ghost use Rattle.rh_files.specs.Counting.{Rose, failures_of, inner_of};
 ghost use Rattle.rh_script.specs.Instruction.{Numbered};
+ghost use Rattle.rh_script.specs.Names.{SnapshotsAreNew};
 ghost use Rattle.rh_script.specs.Plan.{plan_of};
 ghost use Rattle.rh_script.specs.Script.{steps_of};
 ghost use Rattle.rh_script.specs.Tasks.{planned_of};
@@ -27,8 +28,10 @@ use std::sync::Wait;
 
 /// Carries out the commands of a script, from an empty table of the least size, and writes their
 /// reports. It ends at the first command that is refused; what was written then is the text of the
-/// commands before it, and with `Write` a front of its own text too. A list of `use` is kept as its
-/// path and its number of keys, and its file is read again by each command that names it.
+/// commands before it, and with `Write` a front of its own text too. The files are then those that
+/// the commands before it made; where it was a `snapshot`, its path alone is in doubt, and has the
+/// snapshot with `Write`. A list of `use` is kept as its path and its number of keys, and its file
+/// is read again by each command that names it.
 ///
 /// Each text is a few writes, so give it a writer with a buffer. A run may wait for ever where its
 /// runner does.
@@ -46,9 +49,10 @@ pub fn run<T: Wait, S: Shelf, N: Runner, W: Write>(
         result }
     ensures missing { IfErr result (λ fault. fault.cause ≡ Cause.Missing →
         S.files shelf.old ≡ None → Rose (S.failures shelf.old) (S.failures shelf.new)) }
+    ensures put { IfErr result (λ fault. fault.cause ≡ Cause.Put →
+        Rose (S.failures shelf.old) (S.failures shelf.new)) }
     ensures write { IfErr result (λ fault. fault.cause ≡ Cause.Write →
         Rose (failures_of writer.old) (failures_of writer.new)) }
-    ensures same_files { S.files shelf.new ≡ S.files shelf.old }
 {
     let Ok((plan, mut set)) = begin(alloc, script) else {
         let (line, cause) = (0, Cause::Memory);
@@ -65,6 +69,7 @@ pub fn run<T: Wait, S: Shelf, N: Runner, W: Write>(
 /// The plan of a script, and the set that it begins with.
 fn begin(alloc: Global, script: &Script) -> Result<(Plan<'_>, SeqSet), AllocError>
     ensures plan { IfOk result (λ b. planned_of b.0 ≡ plan_of (steps_of script.now)) }
+    ensures snapshots { SnapshotsAreNew (steps_of script.now) }
     ensures keys { IfOk result (λ b. b.1.keys ≡ finset.empty) }
     ensures bits { IfOk result (λ b. b.1.bits ≡ MIN_BITS) }
 {
@@ -87,14 +92,15 @@ fn carry_out_all<T: Wait, S: Shelf, N: Runner, W: Write>(
     requires keys { set.old.keys ≡ finset.empty }
     requires bits { set.old.bits ≡ MIN_BITS }
     ensures meant { (files : Files) (steps : List Numbered) → S.files shelf.old ≡ Some files →
-        planned_of plan.now ≡ plan_of steps →
-        AllEnds files (S.failures shelf.old) (S.failures shelf.new) steps set.new
+        planned_of plan.now ≡ plan_of steps → SnapshotsAreNew steps →
+        AllEnds files (S.files shelf.new) (S.failures shelf.old) (S.failures shelf.new) steps set.new
         (W.contents (inner_of writer.old)) (W.contents (inner_of writer.new)) result }
     ensures missing { IfErr result (λ fault. fault.cause ≡ Cause.Missing →
         S.files shelf.old ≡ None → Rose (S.failures shelf.old) (S.failures shelf.new)) }
+    ensures put { IfErr result (λ fault. fault.cause ≡ Cause.Put →
+        Rose (S.failures shelf.old) (S.failures shelf.new)) }
     ensures write { IfErr result (λ fault. fault.cause ≡ Cause.Write →
         Rose (failures_of writer.old) (failures_of writer.new)) }
-    ensures same_files { S.files shelf.new ≡ S.files shelf.old }
 {
     let mut lists = Vec::new(alloc);
     for step in plan.steps() {

@@ -1,23 +1,30 @@
 //! The commands with their reports.
 
-ghost use Rattle.std.specs.Prelude.{◌≡◌, ◌+◌, ℕ, List, Some, IfErr, OnOk, length};
+ghost use Rattle.std.specs.Prelude.{◌≡◌, ◌+◌, ℕ, false, List, [], ◌∷◌, ◌++◌, Some, IfErr, OnOk};
+ghost use Rattle.std.specs.Prelude.{length};
 ghost use Rattle.rh_edit.specs.Held.{Held};
 ghost use Rattle.rh_files.specs.Counting.{Rose, failures_of, inner_of};
+ghost use Rattle.rh_script.specs.Instruction.{Snapshot};
+ghost use Rattle.rh_script.specs.Names.{is_given};
 ghost use Rattle.rh_shelf.specs.Shelf.{Files};
-ghost use Rattle.rh_planner.specs.Ends.{KeepsShelf};
-ghost use Rattle.rh_planner.specs.KeyLists.{Stands};
-ghost use Rattle.rh_planner.specs.Meaning.{adds, asks, clears, drops, dumps, flips, keeps, saves, uses};
-ghost use Rattle.rh_planner.specs.Steps.{ListsStand, Named, StateEnds, StepEnds, world_of};
+ghost use Rattle.rh_planner.specs.declared.key_lists.KeyList.{KeyList};
+ghost use Rattle.rh_planner.specs.Ends.{KeepsShelf, LeavesShelf};
+ghost use Rattle.rh_planner.specs.Files.{FileMap, HasFiles};
+ghost use Rattle.rh_planner.specs.KeyLists.{Stands, paths_of};
+ghost use Rattle.rh_planner.specs.Meaning.{adds, asks, clears, drops, dumps, flips, keeps, restores};
+ghost use Rattle.rh_planner.specs.Meaning.{saves, snapshots, uses};
+ghost use Rattle.rh_planner.specs.Steps.{ListsStand, Named, PlainEnds, StateEnds, StepEnds, world_of};
 
 use crate::commands::{add, ask, drop_keys, flip, keep, saved, use_file};
 use crate::fault::Cause;
 use crate::key_lists::{KeyList, Place};
+use crate::snapshots::{put_snapshot, restored};
 use rh_edit::SeqSet;
 use rh_files::{Counted, write_dump};
 use rh_layout::MIN_BITS;
 use rh_report::{
-    write_added, write_asked, write_cleared, write_dropped, write_flipped, write_kept, write_saved,
-    write_used,
+    write_added, write_asked, write_cleared, write_dropped, write_flipped, write_kept,
+    write_restored, write_saved, write_sealed, write_used,
 };
 use rh_runner::Runner;
 use rh_shelf::Shelf;
@@ -36,7 +43,7 @@ pub(crate) fn add_step<T: Wait, S: Shelf, N: Runner, W: Write>(
     list: &KeyList<'_>,
     name: &str,
 ) -> Result<(), Cause>
-    ensures step { (lists : Named) (files : Files) (keys : List ℕ) →
+    ensures step { (lists : Named) (files : FileMap) (keys : List ℕ) →
         Stands (S.files shelf.old) list.now keys →
         StepEnds (adds (world_of set.old lists files) name.now keys) (world_of set.new lists files)
         (S.failures shelf.old) (S.failures shelf.new)
@@ -64,7 +71,7 @@ pub(crate) fn drop_step<T: Wait, S: Shelf, N: Runner, W: Write>(
     list: &KeyList<'_>,
     name: &str,
 ) -> Result<(), Cause>
-    ensures step { (lists : Named) (files : Files) (keys : List ℕ) →
+    ensures step { (lists : Named) (files : FileMap) (keys : List ℕ) →
         Stands (S.files shelf.old) list.now keys →
         StepEnds (drops (world_of set.old lists files) name.now keys) (world_of set.new lists files)
         (S.failures shelf.old) (S.failures shelf.new)
@@ -92,7 +99,7 @@ pub(crate) fn ask_step<T: Wait, S: Shelf, N: Runner, W: Write>(
     list: &KeyList<'_>,
     name: &str,
 ) -> Result<(), Cause>
-    ensures step { (lists : Named) (files : Files) (keys : List ℕ) →
+    ensures step { (lists : Named) (files : FileMap) (keys : List ℕ) →
         Stands (S.files shelf.old) list.now keys →
         StepEnds (asks (world_of set.now lists files) name.now keys) (world_of set.now lists files)
         (S.failures shelf.old) (S.failures shelf.new)
@@ -119,7 +126,7 @@ pub(crate) fn keep_step<T: Wait, S: Shelf, N: Runner, W: Write>(
     list: &KeyList<'_>,
     name: &str,
 ) -> Result<(), Cause>
-    ensures step { (lists : Named) (files : Files) (keys : List ℕ) →
+    ensures step { (lists : Named) (files : FileMap) (keys : List ℕ) →
         Stands (S.files shelf.old) list.now keys →
         StepEnds (keeps (world_of set.old lists files) name.now keys) (world_of set.new lists files)
         (S.failures shelf.old) (S.failures shelf.new)
@@ -147,7 +154,7 @@ pub(crate) fn flip_step<T: Wait, S: Shelf, N: Runner, W: Write>(
     list: &KeyList<'_>,
     name: &str,
 ) -> Result<(), Cause>
-    ensures step { (lists : Named) (files : Files) (keys : List ℕ) →
+    ensures step { (lists : Named) (files : FileMap) (keys : List ℕ) →
         Stands (S.files shelf.old) list.now keys →
         StepEnds (flips (world_of set.old lists files) name.now keys) (world_of set.new lists files)
         (S.failures shelf.old) (S.failures shelf.new)
@@ -173,12 +180,14 @@ pub(crate) fn use_step<'a, S: Shelf, W: Write>(
     name: &str,
     path: &'a str,
 ) -> Result<(), Cause>
-    ensures step { (set : Held) (named : Named) (files : Files) →
-        S.files shelf.old ≡ Some files → ListsStand (Some files) lists.old.items named →
-        StateEnds (uses (world_of set named files) name.now path.now) files set lists.new.items
-        (S.failures shelf.old) (S.failures shelf.new)
+    ensures step { (set : Held) (named : Named) (files : FileMap) →
+        HasFiles files (S.files shelf.old) → ListsStand (S.files shelf.old) lists.old.items named →
+        PlainEnds (uses (world_of set named files) name.now path.now) files (S.files shelf.old) set
+        lists.new.items (S.failures shelf.old) (S.failures shelf.new)
         (W.contents (inner_of writer.old)) (W.contents (inner_of writer.new)) result }
     ensures more { OnOk result (length lists.new.items ≡ length lists.old.items + 1) }
+    ensures paths { OnOk result
+        (paths_of lists.new.items ≡ paths_of lists.old.items ++ path.now ∷ []) }
     ensures shelf { KeepsShelf (S.files shelf.old) (S.files shelf.new) (S.failures shelf.old)
         (S.failures shelf.new) result }
     ensures write { IfErr result (λ cause. cause ≡ Cause.Write →
@@ -200,14 +209,18 @@ pub(crate) fn save_step<W: Write>(
     lists: &mut Vec<KeyList<'_>>,
     name: &str,
 ) -> Result<(), Cause>
-    ensures step { (named : Named) (files : Files) → ListsStand (Some files) lists.old.items named →
-        StateEnds (saves (world_of set.now named files) name.now) files set.now lists.new.items 0 0
+    ensures step { (named : Named) (files : FileMap) (now : Files) →
+        ListsStand (Some now) lists.old.items named →
+        PlainEnds (saves (world_of set.now named files) name.now) files (Some now) set.now
+        lists.new.items 0 0
         (W.contents (inner_of writer.old)) (W.contents (inner_of writer.new)) result }
     ensures more { OnOk result (length lists.new.items ≡ length lists.old.items + 1) }
+    ensures paths { OnOk result (paths_of lists.new.items ≡ paths_of lists.old.items) }
     ensures write { IfErr result (λ cause. cause ≡ Cause.Write →
         Rose (failures_of writer.old) (failures_of writer.new)) }
     ensures written { OnOk result (failures_of writer.new ≡ failures_of writer.old) }
     ensures not_missing { IfErr result (λ cause. cause ≡ Cause.Missing → ⊥) }
+    ensures not_put { IfErr result (λ cause. cause ≡ Cause.Put → ⊥) }
 {
     let list = saved(alloc, set)?;
     let count = list.count;
@@ -222,13 +235,14 @@ pub(crate) fn clear_step<W: Write>(
     writer: &mut Counted<W>,
     set: &mut SeqSet,
 ) -> Result<(), Cause>
-    ensures step { (lists : Named) (files : Files) →
+    ensures step { (lists : Named) (files : FileMap) →
         StepEnds (clears (world_of set.old lists files)) (world_of set.new lists files) 0 0
         (W.contents (inner_of writer.old)) (W.contents (inner_of writer.new)) result }
     ensures write { IfErr result (λ cause. cause ≡ Cause.Write →
         Rose (failures_of writer.old) (failures_of writer.new)) }
     ensures written { OnOk result (failures_of writer.new ≡ failures_of writer.old) }
     ensures not_missing { IfErr result (λ cause. cause ≡ Cause.Missing → ⊥) }
+    ensures not_put { IfErr result (λ cause. cause ≡ Cause.Put → ⊥) }
 {
     *set = SeqSet::new(alloc, MIN_BITS)?;
     write_cleared(writer)?;
@@ -237,14 +251,63 @@ pub(crate) fn clear_step<W: Write>(
 
 /// `dump`: the table is told.
 pub(crate) fn dump_step<W: Write>(writer: &mut Counted<W>, set: &SeqSet) -> Result<(), Cause>
-    ensures step { (lists : Named) (files : Files) →
+    ensures step { (lists : Named) (files : FileMap) →
         StepEnds (dumps (world_of set.now lists files)) (world_of set.now lists files) 0 0
         (W.contents (inner_of writer.old)) (W.contents (inner_of writer.new)) result }
     ensures write { IfErr result (λ cause. cause ≡ Cause.Write →
         Rose (failures_of writer.old) (failures_of writer.new)) }
     ensures written { OnOk result (failures_of writer.new ≡ failures_of writer.old) }
     ensures not_missing { IfErr result (λ cause. cause ≡ Cause.Missing → ⊥) }
+    ensures not_put { IfErr result (λ cause. cause ≡ Cause.Put → ⊥) }
 {
     write_dump(set.bits(), set.cells(), writer)?;
+    Ok(())
+}
+
+/// `snapshot`: a snapshot of the table is put under the path.
+pub(crate) fn snapshot_step<S: Shelf, W: Write>(
+    alloc: Global,
+    shelf: &mut S,
+    writer: &mut Counted<W>,
+    set: &SeqSet,
+    path: &str,
+) -> Result<(), Cause>
+    ensures step { (lists : List KeyList) (named : Named) (files : FileMap) →
+        HasFiles files (S.files shelf.old) → ListsStand (S.files shelf.old) lists named →
+        is_given path.now (paths_of lists) ≡ false →
+        StateEnds (snapshots (world_of set.now named files) path.now) (Snapshot path.now) files
+        (S.files shelf.new) set.now lists (S.failures shelf.old) (S.failures shelf.new)
+        (W.contents (inner_of writer.old)) (W.contents (inner_of writer.new)) result }
+    ensures shelf { LeavesShelf (S.files shelf.old) (S.files shelf.new) (S.failures shelf.old)
+        (S.failures shelf.new) result }
+    ensures write { IfErr result (λ cause. cause ≡ Cause.Write →
+        Rose (failures_of writer.old) (failures_of writer.new)) }
+    ensures written { OnOk result (failures_of writer.new ≡ failures_of writer.old) }
+{
+    put_snapshot(alloc, shelf, path, set)?;
+    write_sealed(writer, path, set.len() as u64, set.bits())?;
+    Ok(())
+}
+
+/// `restore`: the table is that of the snapshot at the path.
+pub(crate) fn restore_step<S: Shelf, W: Write>(
+    alloc: Global,
+    shelf: &mut S,
+    writer: &mut Counted<W>,
+    set: &mut SeqSet,
+    path: &str,
+) -> Result<(), Cause>
+    ensures step { (lists : Named) (files : FileMap) → HasFiles files (S.files shelf.old) →
+        StepEnds (restores (world_of set.old lists files) path.now) (world_of set.new lists files)
+        (S.failures shelf.old) (S.failures shelf.new)
+        (W.contents (inner_of writer.old)) (W.contents (inner_of writer.new)) result }
+    ensures shelf { KeepsShelf (S.files shelf.old) (S.files shelf.new) (S.failures shelf.old)
+        (S.failures shelf.new) result }
+    ensures write { IfErr result (λ cause. cause ≡ Cause.Write →
+        Rose (failures_of writer.old) (failures_of writer.new)) }
+    ensures written { OnOk result (failures_of writer.new ≡ failures_of writer.old) }
+{
+    *set = restored(alloc, shelf, path)?;
+    write_restored(writer, path, set.len() as u64, set.bits())?;
     Ok(())
 }

@@ -1,19 +1,22 @@
 //! The steps of a plan.
 
-ghost use Rattle.std.specs.Prelude.{◌≡◌, ◌+◌, Some, IfErr, OnOk, length};
+ghost use Rattle.std.specs.Prelude.{◌≡◌, ◌+◌, ◌++◌, IfErr, OnOk, length};
 ghost use Rattle.rh_files.specs.Counting.{Rose, failures_of, inner_of};
-ghost use Rattle.rh_script.specs.Names.{given_by};
+ghost use Rattle.rh_script.specs.Names.{file_of, given_by};
 ghost use Rattle.rh_script.specs.Plan.{number_after};
 ghost use Rattle.rh_script.specs.Tasks.{task_as};
-ghost use Rattle.rh_shelf.specs.Shelf.{Files};
-ghost use Rattle.rh_planner.specs.Ends.{KeepsShelf};
+ghost use Rattle.rh_planner.specs.Ends.{LeavesShelf};
+ghost use Rattle.rh_planner.specs.Files.{FileMap, HasFiles};
+ghost use Rattle.rh_planner.specs.KeyLists.{paths_of};
 ghost use Rattle.rh_planner.specs.Meaning.{outcome_of};
-ghost use Rattle.rh_planner.specs.Steps.{HasList, ListsStand, Named, StateEnds, names_of, world_of};
+ghost use Rattle.rh_planner.specs.Steps.{HasList, IsApart, ListsStand, Named, StateEnds};
+ghost use Rattle.rh_planner.specs.Steps.{names_of, world_of};
 
 use crate::fault::Cause;
 use crate::key_lists::KeyList;
 use crate::steps::{
-    add_step, ask_step, clear_step, drop_step, dump_step, flip_step, keep_step, save_step, use_step,
+    add_step, ask_step, clear_step, drop_step, dump_step, flip_step, keep_step, restore_step,
+    save_step, snapshot_step, use_step,
 };
 use rh_edit::SeqSet;
 use rh_files::Counted;
@@ -25,7 +28,7 @@ use std::io::Write;
 use std::sync::Wait;
 
 /// Carries a task out and writes its report.
-#[tactic(auto, unfolding(crate::specs::Meaning::outcome_of, rh_script::specs::Plan::number_after), using(crate::proofs::TaskLemmas::still_state))]
+#[tactic(auto, unfolding(crate::specs::Meaning::outcome_of, rh_script::specs::Plan::number_after))]
 pub(crate) fn carry_out<'a, T: Wait, S: Shelf, N: Runner, W: Write>(
     rt: &T,
     alloc: Global,
@@ -37,15 +40,19 @@ pub(crate) fn carry_out<'a, T: Wait, S: Shelf, N: Runner, W: Write>(
     task: &Task<'a>,
 ) -> Result<(), Cause>
     requires { HasList task.now (length lists.old.items) }
-    ensures step { (named : Named) (files : Files) → S.files shelf.old ≡ Some files →
-        ListsStand (Some files) lists.old.items named →
+    ensures step { (named : Named) (files : FileMap) → HasFiles files (S.files shelf.old) →
+        ListsStand (S.files shelf.old) lists.old.items named →
         number_after (names_of named) (task_as task.now).0 ≡ (task_as task.now).1 →
+        IsApart task.now lists.old.items →
         StateEnds (outcome_of (world_of set.old named files) (task_as task.now).0)
-        files set.new lists.new.items (S.failures shelf.old) (S.failures shelf.new)
+        (task_as task.now).0 files (S.files shelf.new) set.new lists.new.items
+        (S.failures shelf.old) (S.failures shelf.new)
         (W.contents (inner_of writer.old)) (W.contents (inner_of writer.new)) result }
     ensures lists { OnOk result (length lists.new.items
         ≡ length lists.old.items + length (given_by (task_as task.now).0)) }
-    ensures shelf { KeepsShelf (S.files shelf.old) (S.files shelf.new) (S.failures shelf.old)
+    ensures paths { OnOk result (paths_of lists.new.items
+        ≡ paths_of lists.old.items ++ file_of (task_as task.now).0) }
+    ensures shelf { LeavesShelf (S.files shelf.old) (S.files shelf.new) (S.failures shelf.old)
         (S.failures shelf.new) result }
     ensures write { IfErr result (λ cause. cause ≡ Cause.Write →
         Rose (failures_of writer.old) (failures_of writer.new)) }
@@ -71,5 +78,7 @@ pub(crate) fn carry_out<'a, T: Wait, S: Shelf, N: Runner, W: Write>(
         Task::Save { name, .. } => save_step(alloc, writer, set, lists, name),
         Task::Clear => clear_step(alloc, writer, set),
         Task::Dump => dump_step(writer, set),
+        Task::Snapshot { path } => snapshot_step(alloc, shelf, writer, set, path),
+        Task::Restore { path } => restore_step(alloc, shelf, writer, set, path),
     }
 }

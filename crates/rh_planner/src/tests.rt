@@ -1,13 +1,16 @@
 use super::*;
-use rh_files::{Counted, FaultyWriter, KeyFault, Refusal, write_keys};
+use rh_files::{Counted, KeyFault, write_keys};
 use rh_runner::Single;
 use rh_script::parse;
-use rh_shelf::{FaultyShelf, MemShelf, Shelf, ShelfFailure, ShelfFault};
+use rh_shelf::{MemShelf, Shelf, ShelfFault};
+use rh_snapshot::SnapFault;
 use std::alloc::Global;
 use std::io::Cursor;
-use std::process::Abort;
 use std::sync::Wait;
 use std::test::*;
+
+mod failures;
+mod snapshots;
 
 // A key file of these keys.
 fn key_file(alloc: Global, keys: &[u64]) -> Result<Vec<u8>, Fail> {
@@ -48,10 +51,10 @@ const TOLD: [&str; 9] = [
     "table 3 0\nend\n",
 ];
 
-// The text of the first lines.
-fn told_before(alloc: Global, line: u64) -> Result<Vec<u8>, Fail> {
+// What the commands before this line tell, of these, one for each line.
+fn told_before(alloc: Global, told: &[&str], line: u64) -> Result<Vec<u8>, Fail> {
     let mut text = Vec::new(alloc);
-    for told in TOLD.iter().take((line as usize).saturating_sub(1)) {
+    for told in told.iter().take((line as usize).saturating_sub(1)) {
         text.extend_from_slice(told.as_bytes())?;
     }
     Ok(text)
@@ -73,7 +76,8 @@ fn run_over(
 fn a_script_is_carried_out(rt: HostRuntime) -> Result<(), Fail> {
     let mut shelf = three_files(rt.alloc())?;
     let (text, outcome) = run_over(&rt, &mut shelf, SCRIPT)?;
-    assert_eq!(rt; text.as_slice(), told_before(rt.alloc(), 10)?.as_slice());
+    let whole = told_before(rt.alloc(), &TOLD, 10)?;
+    assert_eq!(rt; text.as_slice(), whole.as_slice());
     let report = Report {
         commands: 9,
         held: 0,
@@ -257,6 +261,10 @@ impl Shelf for ForgetfulShelf {
         self.fetched = true;
         Ok(Cursor::new(file))
     }
+
+    fn put(&mut self, _alloc: Global, _path: &str, _bytes: &[u8]) -> Result<(), ShelfFault> {
+        Err(ShelfFault::Memory)
+    }
 }
 
 #[test]
@@ -278,114 +286,20 @@ fn a_file_that_changes(rt: HostRuntime) -> Result<(), Fail> {
     Ok(())
 }
 
-// The files in the order in which the script fetches them, `flip` and `keep` each twice: the line
-// that does, and the keys of the file.
-const FETCHES: [(u64, u64); 11] = [
-    (1, 3),
-    (2, 2),
-    (3, 3),
-    (4, 3),
-    (5, 3),
-    (6, 2),
-    (6, 2),
-    (7, 2),
-    (7, 2),
-    (8, 2),
-    (8, 2),
-];
-
-// How the script ends over a shelf that fails so, at this line by this cause.
-fn fails_at(
-    rt: &(impl Wait + Abort + AllocGlobal),
-    failure: ShelfFailure,
-    line: u64,
-    cause: Cause,
-) -> Result<(), Fail> {
-    let script = parse(rt.alloc(), SCRIPT.as_bytes())?;
-    let mut shelf = FaultyShelf::new(three_files(rt.alloc())?, failure);
-    let mut writer = Counted::new(Vec::new(rt.alloc()));
-    let outcome = run(
-        rt,
-        rt.alloc(),
-        &script,
-        &mut shelf,
-        &mut Single,
-        &mut writer,
-    );
-    assert_eq!(rt; outcome, Err(RunFault { line, cause }), "{failure:?}");
-    let text = told_before(rt.alloc(), line)?;
-    assert_eq!(rt;
-        writer.into_inner().as_slice(),
-        text.as_slice(),
-        "{failure:?}"
-    );
-    Ok(())
-}
-
-#[test]
-fn each_fetch_and_each_read_fails(rt: HostRuntime) -> Result<(), Fail> {
-    for (call, (line, keys)) in (1..).zip(FETCHES) {
-        fails_at(&rt, ShelfFailure::Call(call), line, Cause::Missing)?;
-        // The header has two reads, each key one, and the end one.
-        for read in 1..=2 + keys + 1 {
-            let failure = ShelfFailure::Read { call, read };
-            fails_at(&rt, failure, line, Cause::Keys(KeyFault::Read))?;
-        }
-    }
-    Ok(())
-}
-
-#[test]
-fn each_write_fails(rt: HostRuntime) -> Result<(), Fail> {
-    let script = parse(rt.alloc(), SCRIPT.as_bytes())?;
-    let whole = told_before(rt.alloc(), 10)?;
-    for n in 1..1000 {
-        let refusal = if n % 2 == 0 {
-            Refusal::Error
-        } else {
-            Refusal::TakesNothing
-        };
-        let mut writer = Counted::new(FaultyWriter::new(rt.alloc(), n, refusal));
-        let mut shelf = three_files(rt.alloc())?;
-        let outcome = run(
-            &rt,
-            rt.alloc(),
-            &script,
-            &mut shelf,
-            &mut Single,
-            &mut writer,
-        );
-        let text = writer.get_ref().text();
-        assert!(rt; whole.starts_with(text), "at {n}");
-        match outcome {
-            Ok(_) => {
-                assert_eq!(rt; text, whole.as_slice());
-                return Ok(());
-            }
-            Err(fault) => {
-                assert_eq!(rt; fault.cause, Cause::Write, "at {n}");
-                // What the commands before told is whole, and what the next ones tell is not there.
-                let before = told_before(rt.alloc(), fault.line)?;
-                let with = told_before(rt.alloc(), fault.line.saturating_add(1))?;
-                assert!(rt;
-                    text.starts_with(&before) && text.len() < with.len(),
-                    "at {n}"
-                );
-            }
-        }
-    }
-    Err("each write failed".into())
-}
-
 #[test]
 fn texts_of_faults(rt: HostRuntime) -> Result<(), Fail> {
     let texts = [
         (Cause::Missing, "line 7: cannot open the file"),
         (Cause::Keys(KeyFault::Short), "line 7: key file ends early"),
+        (
+            Cause::Snap(SnapFault::Damaged),
+            "line 7: seal does not match",
+        ),
         (Cause::Changed, "line 7: key file has changed"),
         (Cause::TooLarge, "line 7: table too large"),
         (Cause::Memory, "line 7: out of memory"),
         (Cause::NoThread, "line 7: cannot start a worker"),
+        (Cause::Put, "line 7: cannot write the snapshot"),
         (Cause::Write, "line 7: cannot write the output"),
     ];
     for (cause, text) in texts {

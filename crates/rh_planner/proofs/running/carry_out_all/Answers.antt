@@ -1,6 +1,6 @@
 use Rattle.std.proofs.Common.{◌∙◌, ap, refl, length, take}
 use Rattle.rh_script.specs.Names.{names_in}
-use Rattle.rh_planner.proofs.RunLemmas.{all_carried_out, goes_on, has_list, its_number, more_lists, reached_start, step_at, stops_here}
+use Rattle.rh_planner.proofs.RunLemmas.{all_carried_out, goes_on, has_list, is_apart, its_number, more_lists, reached_start, step_at, stops_here}
 use Rattle.rh_planner.proofs.running.carry_out_all.Goals as goal
 
 pub carry_out-told-requires : goal.carry_out-told-requires
@@ -13,38 +13,40 @@ carry_out-told-requires g c =
 pub loop-step-init : goal.loop-step-init
 unfolding names_in
 loop-step-init g c = record {
-  same_files = refl;
+  still_unknown = λ unknown. unknown;
   fine = refl;
   written = refl;
   many = λ steps planned. ap length c.new-lists.ensures.items;
-  reached = λ files steps known planned. reached_start files c.args.set.now c.new-lists.result.items _ c.requires.keys c.requires.bits c.new-lists.ensures.items;
+  reached = λ files steps known planned fresh. reached_start files (g.S.Shelf.files c.args.shelf.now) c.args.set.now c.new-lists.result.items _ known c.requires.keys c.requires.bits c.new-lists.ensures.items;
 }
 
 pub returns-in-Err-clause-meant : goal.returns-in-Err-clause-meant
-returns-in-Err-clause-meant g c files steps known planned =
+returns-in-Err-clause-meant g c files steps known planned fresh =
     let i = c.loop-step.step-index in
     let here = step_at c.steps-step-items.result.now steps i _ (c.steps-step-items.ensures ∙ planned) c.loop-step-test.true in
-    let so_far = c.loop-step.invariant.reached files steps known planned in
-    let ends = c.in-Err.ensures.step so_far.done.named files (c.loop-step.invariant.same_files ∙ known) so_far.stand (its_number files steps i _ _ _ _ _ here so_far) in
-    stops_here files steps i _ _ _ _ _ here so_far _ _ _ _ _ c.loop-step.invariant.fine ends
+    let so_far = c.loop-step.invariant.reached files steps known planned fresh in
+    let apart = is_apart c.loop-step.lists.items steps i _ fresh here so_far.paths in
+    let ends = c.in-Err.ensures.step so_far.done.named so_far.done.made so_far.done.has so_far.stand (its_number files steps i _ _ _ _ _ _ here so_far) apart in
+    stops_here files steps i _ _ _ _ _ _ here so_far _ _ _ _ _ _ c.loop-step.invariant.fine ends
 
 pub loop-step-preserved : goal.loop-step-preserved
 loop-step-preserved g c =
     let i = c.loop-step.step-index in
     record {
-      same_files = c.in_default.ensures.shelf.same_files ∙ c.loop-step.invariant.same_files;
+      still_unknown = λ unknown. c.in_default.ensures.shelf.still_unknown (c.loop-step.invariant.still_unknown unknown);
       fine = c.in_default.ensures.shelf.fine ∙ c.loop-step.invariant.fine;
       written = c.in_default.ensures.written ∙ c.loop-step.invariant.written;
       many = λ steps planned.
           let here = step_at c.steps-step-items.result.now steps i _ (c.steps-step-items.ensures ∙ planned) c.loop-step-test.true in
           more_lists steps i here.numbered _ _ _ here.more here.said (c.loop-step.invariant.many steps planned) c.in_default.ensures.lists;
-      reached = λ files steps known planned.
+      reached = λ files steps known planned fresh.
           let here = step_at c.steps-step-items.result.now steps i _ (c.steps-step-items.ensures ∙ planned) c.loop-step-test.true in
-          let so_far = c.loop-step.invariant.reached files steps known planned in
-          let did = c.in_default.ensures.step so_far.done.named files (c.loop-step.invariant.same_files ∙ known) so_far.stand (its_number files steps i _ _ _ _ _ here so_far) in
-          goes_on files steps i _ _ _ _ _ here so_far _ _ _ did.0 did.1 did.2 did.3 did.4;
+          let so_far = c.loop-step.invariant.reached files steps known planned fresh in
+          let apart = is_apart c.loop-step.lists.items steps i _ fresh here so_far.paths in
+          let did = c.in_default.ensures.step so_far.done.named so_far.done.made so_far.done.has so_far.stand (its_number files steps i _ _ _ _ _ _ here so_far) apart in
+          goes_on files steps i _ _ _ _ _ _ here so_far _ _ _ _ did c.in_default.ensures.paths;
     }
 
 pub returns-clause-meant : goal.returns-clause-meant
-returns-clause-meant g c files steps known planned =
-    all_carried_out files c.steps-step-items.result.now steps c.loop-step.step-index _ _ _ _ (c.steps-step-items.ensures ∙ planned) c.loop-step-test.false (c.loop-step.invariant.reached files steps known planned)
+returns-clause-meant g c files steps known planned fresh =
+    all_carried_out files _ c.steps-step-items.result.now steps c.loop-step.step-index _ _ _ _ (c.steps-step-items.ensures ∙ planned) c.loop-step-test.false (c.loop-step.invariant.reached files steps known planned fresh)

@@ -1,6 +1,6 @@
-use Rattle.std.proofs.Common.{◌≡◌, List, Some, length, take}
+use Rattle.std.proofs.Common.{◌≡◌, List, None, Some, length, take}
 use Rattle.rh_script.specs.Instruction.{Numbered}
-use Rattle.rh_script.specs.Names.{names_in}
+use Rattle.rh_script.specs.Names.{SnapshotsAreNew, names_in}
 use Rattle.rh_script.specs.Plan.{plan_of}
 use Rattle.rh_script.specs.Tasks.{planned_of}
 use Rattle.rh_shelf.specs.Shelf.{Files}
@@ -9,9 +9,9 @@ use Rattle.rh_planner.proofs.running.carry_out_all.Given as goal
 
 abbrev pub invariant-loop-step : goal.invariant-loop-step
 invariant-loop-step g l = record {
-  same_files : g.S.Shelf.files l.shelf ≡ g.S.Shelf.files l.fn.shelf;
+  still_unknown : g.S.Shelf.files l.fn.shelf ≡ None → g.S.Shelf.files l.shelf ≡ None;
   fine : g.S.Shelf.failures l.shelf ≡ g.S.Shelf.failures l.fn.shelf;
   written : l.writer.failures ≡ l.fn.writer.failures;
   many : (steps : List Numbered) → planned_of l.fn.plan ≡ plan_of steps → length l.lists.items ≡ length (names_in (take l.step-index steps));
-  reached : (files : Files) (steps : List Numbered) → g.S.Shelf.files l.fn.shelf ≡ Some files → planned_of l.fn.plan ≡ plan_of steps → Reached files (take l.step-index steps) l.set l.lists.items (g.W.Write.contents l.fn.writer.inner) (g.W.Write.contents l.writer.inner);
+  reached : (files : Files) (steps : List Numbered) → g.S.Shelf.files l.fn.shelf ≡ Some files → planned_of l.fn.plan ≡ plan_of steps → SnapshotsAreNew steps → Reached files (g.S.Shelf.files l.shelf) (take l.step-index steps) l.set l.lists.items (g.W.Write.contents l.fn.writer.inner) (g.W.Write.contents l.writer.inner);
 }

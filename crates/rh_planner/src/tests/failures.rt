@@ -1,0 +1,185 @@
+use super::*;
+use rh_files::{FaultyWriter, Refusal};
+use rh_shelf::{FaultyShelf, ShelfFailure};
+use std::process::Abort;
+
+// What a command asks of the shelf: a list of so many keys, to take a snapshot, or to give one of
+// 8 cells.
+#[derive(Clone, Copy)]
+enum Asked {
+    List(u8),
+    Put,
+    Snapshot,
+}
+
+impl Asked {
+    fn failure(self) -> Cause {
+        match self {
+            Asked::Put => Cause::Put,
+            _ => Cause::Missing,
+        }
+    }
+
+    // The parts of a file, each one read: the magic, the bits, the count, the numbers, the seal and
+    // the end.
+    fn reads(self) -> u64 {
+        match self {
+            Asked::List(keys) => u64::from(keys) + 3,
+            Asked::Put => 0,
+            Asked::Snapshot => 3 + 8 + 2,
+        }
+    }
+
+    fn failed_read(self) -> Cause {
+        match self {
+            Asked::Snapshot => Cause::Snap(SnapFault::Read),
+            _ => Cause::Keys(KeyFault::Read),
+        }
+    }
+}
+
+// Scripts, what each line tells, and what the lines ask of the shelf in turn; `flip` and `keep`
+// fetch twice.
+const SCRIPTS: [(&str, &[&str], &[(u64, Asked)]); 2] = [
+    (
+        SCRIPT,
+        &TOLD,
+        &[
+            (1, Asked::List(3)),
+            (2, Asked::List(2)),
+            (3, Asked::List(3)),
+            (4, Asked::List(3)),
+            (5, Asked::List(3)),
+            (6, Asked::List(2)),
+            (6, Asked::List(2)),
+            (7, Asked::List(2)),
+            (7, Asked::List(2)),
+            (8, Asked::List(2)),
+            (8, Asked::List(2)),
+        ],
+    ),
+    (
+        "use a a.keys\nadd a\nsnapshot s\nclear\nrestore s\ndump\n",
+        &[
+            "use a 3\n",
+            "add a read 3 added 3 held 3 bits 3\n",
+            "snapshot s held 3 bits 3\n",
+            "clear\n",
+            "restore s held 3 bits 3\n",
+            "table 3 3\n4 1 0\n5 9 1\n6 17 2\nend\n",
+        ],
+        &[
+            (1, Asked::List(3)),
+            (2, Asked::List(3)),
+            (3, Asked::Put),
+            (5, Asked::Snapshot),
+        ],
+    ),
+];
+
+// How a script ends over a shelf that fails so, at this line by this cause.
+fn fails_at(
+    rt: &(impl Wait + Abort + AllocGlobal),
+    script: &str,
+    told: &[&str],
+    failure: ShelfFailure,
+    end: RunFault,
+) -> Result<(), Fail> {
+    let script = parse(rt.alloc(), script.as_bytes())?;
+    let mut shelf = FaultyShelf::new(three_files(rt.alloc())?, failure);
+    let mut writer = Counted::new(Vec::new(rt.alloc()));
+    let outcome = run(
+        rt,
+        rt.alloc(),
+        &script,
+        &mut shelf,
+        &mut Single,
+        &mut writer,
+    );
+    let expected = told_before(rt.alloc(), told, end.line)?;
+    assert_eq!(rt; outcome, Err(end), "{failure:?}");
+    assert_eq!(rt;
+        writer.into_inner().as_slice(),
+        expected.as_slice(),
+        "{failure:?}"
+    );
+    if end.cause == Cause::Put {
+        let found = shelf.fetch(rt.alloc(), "s").err();
+        assert_eq!(rt; found, Some(ShelfFault::Missing));
+    }
+    Ok(())
+}
+
+#[test]
+fn each_call_and_each_read_fails(rt: HostRuntime) -> Result<(), Fail> {
+    for (script, told, calls) in SCRIPTS {
+        for (call, (line, asked)) in (1..).zip(calls) {
+            let line = *line;
+            let cause = asked.failure();
+            let end = RunFault { line, cause };
+            fails_at(&rt, script, told, ShelfFailure::Call(call), end)?;
+            for read in 1..=asked.reads() {
+                let failure = ShelfFailure::Read { call, read };
+                let cause = asked.failed_read();
+                fails_at(&rt, script, told, failure, RunFault { line, cause })?;
+            }
+        }
+    }
+    Ok(())
+}
+
+// How the script ends where its write of this number is refused; whether it met that write.
+fn write_fails(
+    rt: &(impl Wait + Abort + AllocGlobal),
+    script: &str,
+    told: &[&str],
+    n: u64,
+) -> Result<bool, Fail> {
+    let refusal = if n % 2 == 0 {
+        Refusal::Error
+    } else {
+        Refusal::TakesNothing
+    };
+    let script = parse(rt.alloc(), script.as_bytes())?;
+    let whole = told_before(rt.alloc(), told, u64::MAX)?;
+    let mut writer = Counted::new(FaultyWriter::new(rt.alloc(), n, refusal));
+    let mut shelf = three_files(rt.alloc())?;
+    let outcome = run(
+        rt,
+        rt.alloc(),
+        &script,
+        &mut shelf,
+        &mut Single,
+        &mut writer,
+    );
+    let text = writer.get_ref().text();
+    let Err(fault) = outcome else {
+        assert_eq!(rt; text, whole.as_slice());
+        return Ok(false);
+    };
+    assert_eq!(rt; fault.cause, Cause::Write, "at {n}");
+    // What the commands before told is whole, and what the next ones tell is not there.
+    let before = told_before(rt.alloc(), told, fault.line)?;
+    let with = told_before(rt.alloc(), told, fault.line.saturating_add(1))?;
+    assert!(rt; whole.starts_with(text), "at {n}");
+    assert!(rt;
+        text.starts_with(&before) && text.len() < with.len(),
+        "at {n}"
+    );
+    Ok(true)
+}
+
+#[test]
+fn each_write_fails(rt: HostRuntime) -> Result<(), Fail> {
+    for (script, told, _) in SCRIPTS {
+        let mut failed = 0;
+        for n in 1..200 {
+            if write_fails(&rt, script, told, n)? {
+                failed = n;
+            }
+        }
+        // Each line is some writes, and the last ones of these meet none.
+        assert!(rt; failed > 20 && failed < 150, "{failed}");
+    }
+    Ok(())
+}
