@@ -1,4 +1,5 @@
 pub mod BuilderLemmas
+pub mod CheckLemmas
 pub mod CommandLemmas
 pub mod HelpLemmas
 pub mod ReadLemmas

@@ -15,7 +15,7 @@ Exit status:
   1  the input was refused
   2  the command line was refused
   3  out of memory
-  4  the output could not be written";
+  4  the output or a snapshot could not be written";
 
 /// The command `dump`, in a line.
 pub const DUMP: &str = "Writes the table of the keys of a key file";
@@ -64,11 +64,40 @@ A script is a text with one command on a line. A line that begins with # or has 
   save NAME      call the list of keys of the table by NAME
   clear          remove all keys
   dump           write the table, as `rhset dump` does
+  snapshot PATH  keep the table in the file PATH, sealed
+  restore PATH   take the table of the snapshot PATH
 
 A NAME is a small letter and up to 15 more small letters or digits. `use` and `save` give a name
-once, and the commands after them take it. `rhset dump --help` says what a key file is.
+once, and the commands after them take it. No PATH of a `snapshot` is that of an earlier `use` or
+`snapshot`, and no PATH of a `use` that of an earlier `snapshot`. `rhset dump --help` says what a
+key file is, `rhset check --help` what a snapshot is.
 
 Example of a script:
   use a three.keys
   add a
   dump";
+
+/// The command `check`, in a line.
+pub const CHECK: &str = "Tells of a snapshot what table it holds";
+
+/// The command `check`, on `rhset check --help` alone.
+pub const CHECK_AT_LENGTH: &str = "\
+Reads a snapshot, tests its seal and its table, and writes a line that tells of both to standard
+output.";
+
+/// The argument `SNAPSHOT`.
+pub const SNAPSHOT: &str = "The file that holds the snapshot";
+
+/// What `check` reads and writes.
+pub const CHECK_FORMATS: &str = "\
+A snapshot is the bytes RHS2, one byte BITS, the number of keys, the cells of the table, 2 to the
+power of BITS, and a seal. A cell is 0 where it is empty, else its key plus 1. The number and each
+cell are 8 bytes, the highest byte first. The seal is the SHA-256 of all bytes before it, in 32
+bytes. A file that begins with RHS1 is read too: its cells are the keys themselves, and it has no
+key 0.
+
+The line is `bits BITS held COUNT seal SEAL`, for COUNT keys, the seal in hexadecimal digits. A file
+whose seal does not match, or whose cells are not a table of their keys, is refused.
+
+Example, of the keys 1, 9 and 17:
+  bits 3 held 3 seal 933c80314ceef5b1cccf877c8ebb0d07add088d534e5ac936e13d5b7e70d3bec";

@@ -4,8 +4,8 @@ ghost use Rattle.std.specs.Prelude.{◌≡◌, [], IfOk, IfErr, codes, false};
 ghost use Rattle.clap.specs.Words.{app_of, fault_of, found_of, rows_of, rule_of};
 ghost use Rattle.clap.specs.Words.{subcommand_of, subcommand_rows_of};
 ghost use Rattle.rh_line.specs.App.{Asks, Gives, GivesNumber, HasNumber, HasRunArguments, HasText};
-ghost use Rattle.rh_line.specs.App.{NamesCommand, Says, dump_app, path_rule, program_app};
-ghost use Rattle.rh_line.specs.App.{rhset_app, run_app, texts_of, workers_rule};
+ghost use Rattle.rh_line.specs.App.{NamesCommand, Says, check_app, dump_app, path_rule};
+ghost use Rattle.rh_line.specs.App.{program_app, rhset_app, run_app, texts_of, workers_rule};
 ghost use Rattle.rh_line.specs.Faults.{IsOneOf};
 
 use crate::asked::{Line, LineFault};
@@ -47,6 +47,7 @@ fn asked(alloc: Global, matches: &ArgMatches<'_>) -> Result<Line, AllocError>
     match matches.subcommand() {
         Some(("dump", _)) => Ok(Line::Dump),
         Some(("run", given)) => run_asked(alloc, given),
+        Some(("check", given)) => check_asked(alloc, given),
         _ => unreachable!(),
     }
 }
@@ -58,6 +59,14 @@ fn run_asked(alloc: Global, given: &ArgMatches<'_>) -> Result<Line, AllocError>
     let workers = workers(given);
     let script = text(alloc, given, "script")?;
     Ok(Line::Run { workers, script })
+}
+
+fn check_asked(alloc: Global, given: &ArgMatches<'_>) -> Result<Line, AllocError>
+    requires { HasText (codes "snapshot") (rows_of (found_of given.now)) }
+    ensures { IfOk result (λ l. Says (codes "check") (rows_of (found_of given.now)) l) }
+{
+    let snapshot = text(alloc, given, "snapshot")?;
+    Ok(Line::Check { snapshot })
 }
 
 // The text for an argument that has to be given.
@@ -80,7 +89,8 @@ fn command<'a>(alloc: Global) -> Result<Command<'a>, AllocError>
 {
     program_command(alloc)?
         .subcommand(dump_command(alloc))?
-        .subcommand(run_command(alloc)?)
+        .subcommand(run_command(alloc)?)?
+        .subcommand(check_command(alloc)?)
 }
 
 fn program_command<'a>(alloc: Global) -> Result<Command<'a>, AllocError>
@@ -113,6 +123,16 @@ fn run_command<'a>(alloc: Global) -> Result<Command<'a>, AllocError>
         .after_help(help::SCRIPTS)
         .arg(workers_arg(alloc))?
         .arg(path_arg(alloc, "script", "SCRIPT", help::SCRIPT))
+}
+
+fn check_command<'a>(alloc: Global) -> Result<Command<'a>, AllocError>
+    ensures { IfOk result (λ c. app_of c ≡ check_app) }
+{
+    Command::new(alloc, "check")
+        .about(help::CHECK)
+        .long_about(help::CHECK_AT_LENGTH)
+        .after_help(help::CHECK_FORMATS)
+        .arg(path_arg(alloc, "snapshot", "SNAPSHOT", help::SNAPSHOT))
 }
 
 fn workers_arg<'a>(alloc: Global) -> Arg<'a>

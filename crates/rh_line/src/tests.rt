@@ -17,7 +17,18 @@ fn run_of(alloc: Global, words: &[&str]) -> Result<Option<(usize, String)>, Fail
     Ok(match line_of(alloc, words)? {
         Ok(line) => match line {
             Line::Run { workers, script } => Some((workers, script)),
-            Line::Dump => None,
+            Line::Dump | Line::Check { .. } => None,
+        },
+        Err(_fault) => None,
+    })
+}
+
+// The snapshot, of words that are `check`.
+fn check_of(alloc: Global, words: &[&str]) -> Result<Option<String>, Fail> {
+    Ok(match line_of(alloc, words)? {
+        Ok(line) => match line {
+            Line::Check { snapshot } => Some(snapshot),
+            Line::Dump | Line::Run { .. } => None,
         },
         Err(_fault) => None,
     })
@@ -68,8 +79,23 @@ fn a_script_may_have_any_name(rt: HostRuntime) -> Result<(), Fail> {
 }
 
 #[test]
+fn check_is_a_command(rt: HostRuntime) -> Result<(), Fail> {
+    let asked: [(&[&str], &str); 4] = [
+        (&["check", "s"], "s"),
+        (&["check", "--", "-s"], "-s"),
+        (&["check", "check"], "check"),
+        (&["check", ""], ""),
+    ];
+    for (words, name) in asked {
+        let snapshot = check_of(rt.alloc(), words)?.ok_or("no check")?;
+        assert!(rt; snapshot.as_str() == name, "{words:?}");
+    }
+    Ok(())
+}
+
+#[test]
 fn other_words_are_refused(rt: HostRuntime) -> Result<(), Fail> {
-    let refused: [&[&str]; 13] = [
+    let refused: [&[&str]; 16] = [
         &[],
         &["dumb"],
         &["dump", "extra"],
@@ -83,6 +109,9 @@ fn other_words_are_refused(rt: HostRuntime) -> Result<(), Fail> {
         &["run", "--workers=", "s"],
         &["run", "--workers=1", "--workers=1", "s"],
         &["run", "a", "b"],
+        &["check"],
+        &["check", "a", "b"],
+        &["check", "--workers", "1", "a"],
     ];
     for words in refused {
         let error = told_of(rt.alloc(), words)?.ok_or("not refused")?;
@@ -93,7 +122,7 @@ fn other_words_are_refused(rt: HostRuntime) -> Result<(), Fail> {
 
 #[test]
 fn help_and_version_are_no_mistake(rt: HostRuntime) -> Result<(), Fail> {
-    let asked: [&[&str]; 8] = [
+    let asked: [&[&str]; 11] = [
         &["--help"],
         &["-h"],
         &["help", "dump"],
@@ -101,6 +130,9 @@ fn help_and_version_are_no_mistake(rt: HostRuntime) -> Result<(), Fail> {
         &["help", "run"],
         &["run", "--help"],
         &["run", "-h", "s"],
+        &["help", "check"],
+        &["check", "--help"],
+        &["check", "-h"],
         &["--version"],
     ];
     for words in asked {

@@ -4,9 +4,12 @@ use Rattle.clap.specs.declared.error.kind.ErrorKind.{ErrorKind}
 use Rattle.clap.specs.declared.error.kind.ErrorKind.TheVariants.{DisplayHelp, DisplayVersion}
 use Rattle.rh_script.specs.declared.fault.ScriptFaultKind.{ScriptFaultKind}
 use Rattle.rh_script.specs.declared.fault.ScriptFaultKind.TheVariants as kinds
+use Rattle.rh_snapshot.specs.declared.fault.SnapFault.{SnapFault}
+use Rattle.rh_snapshot.specs.declared.fault.SnapFault.TheVariants as snap
 use Rattle.rh_planner.specs.declared.fault.Cause.{Cause}
 use Rattle.rh_planner.specs.declared.fault.Cause.TheVariants as causes
-use Rattle.rhset.specs.declared.dump.DumpFault.TheVariants as dump
+use Rattle.rh_commands.specs.declared.check.CheckFault.TheVariants as check
+use Rattle.rh_commands.specs.declared.dump.DumpFault.TheVariants as dump
 use Rattle.rhset.specs.declared.status.Fault.{Fault}
 use Rattle.rhset.specs.declared.status.Fault.TheVariants as fault
 use Rattle.rhset.specs.declared.status.Status.{Status}
@@ -26,6 +29,11 @@ ending_of DisplayHelp = Done
 ending_of DisplayVersion = Done
 ending_of _ = CommandLine
 
+-- how a run ends whose snapshot could not be read, or is none
+abbrev pub ending_by_snapshot : SnapFault → Status
+ending_by_snapshot snap.Memory = Memory
+ending_by_snapshot fault = Refused
+
 -- how a run ends whose script was refused
 abbrev pub ending_by_line : ScriptFaultKind → Status
 ending_by_line kinds.Memory = Memory
@@ -35,6 +43,7 @@ ending_by_line kind = Refused
 abbrev pub ending_by_cause : Cause → Status
 ending_by_cause causes.Memory = Memory
 ending_by_cause causes.NoThread = Memory
+ending_by_cause causes.Put = Write
 ending_by_cause causes.Write = Write
 ending_by_cause cause = Refused
 
@@ -49,5 +58,7 @@ ending_by (fault.Dump (dump.Keys fault)) = Refused
 ending_by (fault.Dump dump.TooLarge) = Refused
 ending_by (fault.Dump dump.Memory) = Memory
 ending_by (fault.Dump dump.Write) = Write
+ending_by (fault.Check (check.Snap fault)) = ending_by_snapshot fault
+ending_by (fault.Check check.Write) = Write
 ending_by (fault.Script fault) = ending_by_line fault.kind
 ending_by (fault.Run fault) = ending_by_cause fault.cause

@@ -1,11 +1,21 @@
 //! The files of the current folder, as a shelf.
 
+ghost use Rattle.std.specs.Prelude.{◌≡◌, ◌⊎◌};
+ghost use Rattle.rh_files.specs.Counting.{Rose};
+
 use rh_shelf::{Shelf, ShelfFault};
 use std::alloc::Global;
-use std::fs::{self, Files};
-use std::io::{BufReader, ErrorKind};
+use std::fs::{self, Files, OpenFile};
+use std::io::{self, BufReader, ErrorKind, Write};
 
-/// Real files. It tells no bytes, and counts the files that it could not open.
+/// What is written beside a path, before it takes its place, has this at the end of its name, and a
+/// number.
+const BESIDE: &str = ".rhset-part-";
+
+/// How many names are tried for it: a run that was cut may have left some.
+const NAMES: u32 = 100;
+
+/// Real files. It tells no bytes, and counts the files that it could not open or write.
 #[derive(Drop)]
 pub struct FileShelf<'a, F> {
     files: &'a F,
@@ -15,6 +25,20 @@ pub struct FileShelf<'a, F> {
 impl<'a, F> FileShelf<'a, F> {
     pub fn new(files: &'a F) -> FileShelf<'a, F> {
         FileShelf { files, failures: 0 }
+    }
+}
+
+impl<F> FileShelf<'_, F> {
+    // Want of memory, or else this fault, which is counted.
+    fn fault_of(&mut self, error: &io::Error, fault: ShelfFault) -> ShelfFault
+        ensures { (result ≡ ShelfFault.Memory)
+            ⊎ ((result ≡ fault) × Rose self.old.failures self.new.failures) }
+    {
+        if error.kind() == ErrorKind::OutOfMemory {
+            return ShelfFault::Memory;
+        }
+        self.failures = self.failures.saturating_add(1);
+        fault
     }
 }
 
@@ -30,13 +54,47 @@ impl<F: Files> Shelf for FileShelf<'_, F> {
     fn fetch(&mut self, alloc: Global, path: &str) -> Result<BufReader<F::File>, ShelfFault> {
         match fs::open(self.files, path) {
             Ok(file) => BufReader::new(alloc, file).map_err(|_| ShelfFault::Memory),
-            Err(error) => match error.kind() {
-                ErrorKind::OutOfMemory => Err(ShelfFault::Memory),
-                _ => {
-                    self.failures = self.failures.saturating_add(1);
-                    Err(ShelfFault::Missing)
-                }
-            },
+            Err(error) => Err(self.fault_of(&error, ShelfFault::Missing)),
         }
     }
+
+    /// The bytes are written to a new file beside the path, which then takes its place: a run that is
+    /// cut leaves there what stood there before. No other file is touched.
+    fn put(&mut self, alloc: Global, path: &str, bytes: &[u8]) -> Result<(), ShelfFault> {
+        match put_whole(alloc, self.files, path, bytes) {
+            Ok(()) => Ok(()),
+            Err(error) => Err(self.fault_of(&error, ShelfFault::Write)),
+        }
+    }
+}
+
+// Where it fails, the new file is removed again, as far as that can be done.
+fn put_whole<F: Files>(alloc: Global, files: &F, path: &str, bytes: &[u8]) -> io::Result<()> {
+    let (file, beside) = create_beside(alloc, files, path)?;
+    let written = write_whole(file, bytes).and_then(|()| fs::rename(files, &beside, path));
+    if written.is_err() {
+        let _ = fs::remove_file(files, &beside);
+    }
+    written
+}
+
+// A new file beside the path, and its path. A file that is there already is left as it is.
+fn create_beside<F: Files>(alloc: Global, files: &F, path: &str) -> io::Result<(F::File, String)> {
+    for number in 0..NAMES {
+        let Ok(beside) = format!(in alloc; "{path}{BESIDE}{number}") else {
+            return Err(io::Error::from(ErrorKind::OutOfMemory));
+        };
+        match fs::File::create_new(files, &beside) {
+            Ok(file) => return Ok((file, beside)),
+            Err(error) if error.kind() == ErrorKind::AlreadyExists => {}
+            Err(error) => return Err(error),
+        }
+    }
+    Err(io::Error::from(ErrorKind::AlreadyExists))
+}
+
+// The bytes are on the disk once this is done.
+fn write_whole<T: Write + OpenFile + Drop>(mut file: T, bytes: &[u8]) -> io::Result<()> {
+    file.write_all(bytes)?;
+    file.sync_all()
 }

@@ -5,19 +5,20 @@ ghost use Rattle.std.specs.Prelude.{◌≡◌, IfOk, IfErr};
 ghost use Rattle.clap.specs.Words.{kind_of};
 ghost use Rattle.rhset.specs.Endings.{ending_by, ending_of};
 
-mod dump;
 mod file_shelf;
+mod input;
 mod script;
 mod status;
 
-use dump::dump_keys;
+use input::open;
+use rh_commands::{check_snapshot, dump_keys};
 use rh_files::Counted;
 use rh_line::{Line, LineFault, line};
 use script::run_script;
 use status::{Fault, Status};
 use std::env::Env;
 use std::fs::Files;
-use std::io::{BufReader, BufWriter, Write};
+use std::io::{BufReader, BufWriter, ErrorKind, Write};
 use std::process::ExitCode;
 use std::sync::Wait;
 use std::{env, io};
@@ -40,6 +41,7 @@ fn carry_out(
             run_script(rt, &script)?;
             Ok(Status::Done)
         }
+        Ok(Line::Check { snapshot }) => check_file(rt, &snapshot),
         Err(LineFault::Words(error)) => answer(rt, &error),
         Err(LineFault::Memory) => Err(Fault::Memory),
     }
@@ -47,7 +49,7 @@ fn carry_out(
 
 fn words(rt: &(impl Env + AllocGlobal)) -> Result<Vec<String>, Fault> {
     let args = env::args(rt).map_err(|error| match error.kind() {
-        io::ErrorKind::OutOfMemory => Fault::Memory,
+        ErrorKind::OutOfMemory => Fault::Memory,
         _ => Fault::NotText,
     })?;
     args.collect(rt.alloc()).map_err(|_| Fault::Memory)
@@ -60,6 +62,18 @@ fn dump_streams(rt: &(impl Input + Print + AllocGlobal)) -> Result<Status, Fault
     let mut reader = Counted::new(input);
     let mut writer = Counted::new(output);
     dump_keys(rt.alloc(), &mut reader, &mut writer).map_err(Fault::Dump)?;
+    writer.flush().map_err(|_| Fault::Write)?;
+    Ok(Status::Done)
+}
+
+// Writes the line of the snapshot at the path to standard output. Both go through a buffer.
+fn check_file(rt: &(impl Files + Print + AllocGlobal), path: &str) -> Result<Status, Fault> {
+    let file = open(rt, path)?;
+    let input = BufReader::new(rt.alloc(), file).map_err(|_| Fault::Memory)?;
+    let output = BufWriter::new(rt.alloc(), io::writer(rt)).map_err(|_| Fault::Memory)?;
+    let mut reader = Counted::new(input);
+    let mut writer = Counted::new(output);
+    check_snapshot(rt.alloc(), &mut reader, &mut writer).map_err(Fault::Check)?;
     writer.flush().map_err(|_| Fault::Write)?;
     Ok(Status::Done)
 }

@@ -1,12 +1,13 @@
 //! The command `run`: a script over the files of the current folder.
 
 use crate::file_shelf::FileShelf;
+use crate::input::open;
 use crate::status::Fault;
 use rh_files::Counted;
 use rh_planner::run;
 use rh_runner::Single;
 use rh_script::{MAX_LINE_BYTES, MAX_LINES, parse};
-use std::fs::{self, Files};
+use std::fs::Files;
 use std::io::{self, BufReader, BufWriter, ErrorKind, Read, Write};
 use std::sync::Wait;
 
@@ -35,10 +36,7 @@ pub fn run_script(rt: &(impl Files + Print + AllocGlobal + Wait), path: &str) ->
 }
 
 fn script_text(rt: &(impl Files + AllocGlobal), path: &str) -> Result<Vec<u8>, Fault> {
-    let file = fs::open(rt, path).map_err(|error| match error.kind() {
-        ErrorKind::OutOfMemory => Fault::Memory,
-        _ => Fault::Open,
-    })?;
+    let file = open(rt, path)?;
     let mut text = Vec::new(rt.alloc());
     match file.take(MAX_BYTES).read_to_end(&mut text) {
         Ok(_) => Ok(text),

@@ -1,8 +1,9 @@
 //! How the program ends.
 
-use crate::dump::DumpFault;
+use rh_commands::{CheckFault, DumpFault};
 use rh_planner::{Cause, RunFault};
 use rh_script::{ScriptFault, ScriptFaultKind};
+use rh_snapshot::SnapFault;
 use std::process::ExitCode;
 use thiserror::Error;
 
@@ -37,13 +38,15 @@ pub enum Fault {
     Memory,
     #[error("cannot write the output")]
     Write,
-    /// The script's file.
+    /// The file of a script or a snapshot.
     #[error("cannot open the file")]
     Open,
     #[error("read failed")]
     Read,
     #[error(transparent)]
     Dump(DumpFault),
+    #[error(transparent)]
+    Check(CheckFault),
     #[error(transparent)]
     Script(ScriptFault),
     #[error(transparent)]
@@ -66,13 +69,18 @@ impl Fault {
             Fault::Dump(DumpFault::Keys(_) | DumpFault::TooLarge) => Status::Refused,
             Fault::Dump(DumpFault::Memory) => Status::Memory,
             Fault::Dump(DumpFault::Write) => Status::Write,
+            Fault::Check(CheckFault::Snap(fault)) => match fault {
+                SnapFault::Memory => Status::Memory,
+                _ => Status::Refused,
+            },
+            Fault::Check(CheckFault::Write) => Status::Write,
             Fault::Script(fault) => match fault.kind {
                 ScriptFaultKind::Memory => Status::Memory,
                 _ => Status::Refused,
             },
             Fault::Run(fault) => match fault.cause {
                 Cause::Memory | Cause::NoThread => Status::Memory,
-                Cause::Write => Status::Write,
+                Cause::Put | Cause::Write => Status::Write,
                 _ => Status::Refused,
             },
         }

@@ -1,13 +1,15 @@
 use Rattle.std.proofs.Common.{refl}
 use Rattle.std.proofs.lemmas.Result.{IfOk-weaker}
 use Rattle.clap.specs.Words.{with_subcommand}
-use Rattle.rh_line.specs.App.{dump_app, program_app, run_app}
+use Rattle.rh_line.specs.App.{check_app, dump_app, program_app, run_app}
 use Rattle.rh_line.proofs.BuilderLemmas.{app_with_subcommand}
 use Rattle.rh_line.proofs.parse.command.Goals as goal
 
 pub returns : goal.returns
 returns c =
     let with_dump = app_with_subcommand _ _ _ program_app dump_app c.in_ok-subcommand.ensures c.in_ok-program_command.ensures c.dump_command.ensures refl in
-    IfOk-weaker c.subcommand-2.result _ _
-    (λ command adds. app_with_subcommand _ _ command (with_subcommand program_app dump_app.top) run_app adds with_dump c.in_ok-run_command.ensures refl)
-    c.subcommand-2.ensures
+    let with_run = app_with_subcommand _ _ _ (with_subcommand program_app dump_app.top) run_app c.in_ok-subcommand-2.ensures with_dump c.in_ok-run_command.ensures refl in
+    IfOk-weaker c.subcommand-3.result _ _
+    (λ command adds. app_with_subcommand _ _ command (with_subcommand (with_subcommand program_app dump_app.top) run_app.top) check_app adds with_run
+    c.in_ok-check_command.ensures refl)
+    c.subcommand-3.ensures

@@ -1,5 +1,5 @@
 use Rattle.rh_layout.proofs.LayoutLemmas.{layout_own}
-use Rattle.rhset.proofs.dump.dump_keys.Goals as goal
+use Rattle.rh_commands.proofs.dump.dump_keys.Goals as goal
 
 pub write_dump-requires : goal.write_dump-requires
 write_dump-requires g c =

@@ -2,7 +2,7 @@
 
 ghost use Rattle.std.specs.Prelude.{◌≡◌, ◌≢◌, IfErr, IsErrOf};
 ghost use Rattle.rh_files.specs.Counting.{Rose, failures_of, inner_of};
-ghost use Rattle.rhset.specs.Dump.{Dumps};
+ghost use Rattle.rh_commands.specs.Dump.{Dumps};
 
 use rh_edit::SeqSet;
 use rh_files::{Counted, KeyFault, WriteFault, read_keys, write_dump};
@@ -29,7 +29,7 @@ pub enum DumpFault {
 
 impl From<KeyFault> for DumpFault {
     ghost use Rattle.std.specs.Prelude.{◌≡◌};
-    ghost use Rattle.rhset.specs.Dump.{from_keys};
+    ghost use Rattle.rh_commands.specs.Dump.{from_keys};
 
     ghost from_gives = { λ fault given. given ≡ from_keys fault };
 
@@ -43,7 +43,7 @@ impl From<KeyFault> for DumpFault {
 
 impl From<AllocError> for DumpFault {
     ghost use Rattle.std.specs.Prelude.{◌≡◌};
-    ghost use Rattle.rhset.specs.declared.dump.DumpFault.TheVariants.{Memory};
+    ghost use Rattle.rh_commands.specs.declared.dump.DumpFault.TheVariants.{Memory};
 
     ghost from_gives = { λ _ fault. fault ≡ Memory };
 
@@ -54,7 +54,7 @@ impl From<AllocError> for DumpFault {
 
 impl From<WriteFault> for DumpFault {
     ghost use Rattle.std.specs.Prelude.{◌≡◌};
-    ghost use Rattle.rhset.specs.declared.dump.DumpFault.TheVariants.{Write};
+    ghost use Rattle.rh_commands.specs.declared.dump.DumpFault.TheVariants.{Write};
 
     ghost from_gives = { λ _ fault. fault ≡ Write };
 

@@ -10,8 +10,8 @@ use Rattle.rh_files.specs.declared.fault.KeyFault.TheVariants as faults
 use Rattle.rh_files.specs.Counting.{AppendsFront}
 use Rattle.rh_files.specs.Reading.{Fails, IsReadFrom, file_keys}
 use Rattle.rh_files.specs.Dump.{dump_text}
-use Rattle.rhset.specs.declared.dump.DumpFault.{DumpFault}
-use Rattle.rhset.specs.declared.dump.DumpFault.TheVariants.{Keys, TooLarge, Memory, Write}
+use Rattle.rh_commands.specs.declared.dump.DumpFault.{DumpFault}
+use Rattle.rh_commands.specs.declared.dump.DumpFault.TheVariants.{Keys, TooLarge, Memory, Write}
 
 -- the text is the dump of a layout of the set of the keys, in the least table that they fit
 pub record IsDumpOf (keys text : List ℕ) : Type 0 where

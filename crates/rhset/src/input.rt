@@ -1,0 +1,13 @@
+//! The files that the command line names.
+
+use crate::status::Fault;
+use std::fs::{self, Files};
+use std::io::ErrorKind;
+
+/// The file at the path, opened to be read.
+pub fn open<F: Files>(files: &F, path: &str) -> Result<F::File, Fault> {
+    fs::open(files, path).map_err(|error| match error.kind() {
+        ErrorKind::OutOfMemory => Fault::Memory,
+        _ => Fault::Open,
+    })
+}
