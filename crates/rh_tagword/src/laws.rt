@@ -1,0 +1,32 @@
+//! Laws of words and controls. They do nothing when they run.
+
+ghost use Rattle.std.specs.Prelude.{◌≡◌, ℕ, ◌^◌, ◌<◌};
+ghost use Rattle.rh_tagword.specs.Word.{IsWord, word_in, word_number};
+ghost use Rattle.rh_tagword.specs.Control.{IsControl, control_in, control_number};
+ghost use Rattle.rh_tagword.specs.declared.word.Word.{Word};
+ghost use Rattle.rh_tagword.specs.declared.control.Control.{Control};
+
+use crate::control::Control;
+use crate::word::Word;
+
+/// The number of a word is a `u64`. It is the only one that is read as this word, and no other word
+/// has it.
+pub fn one_word(word: Word)
+    requires { IsWord word }
+    ensures fits { word_number word < 2 ^ 64 }
+    ensures read { (n : ℕ) → word_in n ≡ Some word → n ≡ word_number word }
+    ensures one { (w : Word) → IsWord w → word_number w ≡ word_number word → w ≡ word }
+{
+    let _ = word;
+}
+
+/// The same of controls.
+pub fn one_control(control: Control)
+    requires { IsControl control }
+    ensures fits { control_number control < 2 ^ 64 }
+    ensures read { (n : ℕ) → control_in n ≡ Some control → n ≡ control_number control }
+    ensures one { (k : Control) → IsControl k →
+        control_number k ≡ control_number control → k ≡ control }
+{
+    let _ = control;
+}
