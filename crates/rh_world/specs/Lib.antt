@@ -1,0 +1,14 @@
+pub mod World
+pub mod Logical
+pub mod Notes
+pub mod Later
+pub mod Sides
+pub mod Rows
+pub mod Acts
+pub mod Prefixes
+pub mod Claims
+pub mod Rule
+pub mod Moves
+pub mod Ends
+pub mod Laws
+pub mod Example

@@ -1,0 +1,278 @@
+-- The kinds of atomic step: when a worker may make one, the world after it, and the worker's Side after it. The swaps
+-- are those of Harris, Fraser and Pratt 2002; that each helper leaves marks of its own, and Claims, are this project's.
+-- What a step of the table asks for that stands in no place here, as the range of cells and the room for marks, is
+-- asked where the words are.
+use Rattle.std.specs.Prelude.{zero, suc, ◌≡◌, ℕ, ◌+◌, ◌<◌, ◌==◌, ◌&&◌, Option, Some, None, Bool, true, false, cond, List, [], ◌∷◌}
+use Rattle.rh_world.specs.World.{Ref, Cell, Control, World, In, is_ref, updated, updated_ref}
+use Rattle.rh_world.specs.World.Cell.{plain, mark, desc}
+use Rattle.rh_world.specs.World.Control.{unused, undecided, succeeded, withdrawn, failed}
+use Rattle.rh_world.specs.Logical.{entry_value, changed_by}
+use Rattle.rh_world.specs.Notes.{Note, HoldsIn}
+use Rattle.rh_world.specs.Notes.Note.{known, size_is, entry_is, mark_is, decided, found, may_promote, may_demote, held, mismatch}
+use Rattle.rh_world.specs.Sides.{Side, is_number, note_side, open_side, place_side, settle_side, forget_side, paid_side, release_side, close_side, read_side, claim_side}
+
+-- the entries that an own row has when it is opened
+pub record Entries : Type 0 where
+  pub size : ℕ
+  pub target : ℕ → ℕ
+  pub old : ℕ → ℕ
+  pub new : ℕ → ℕ
+
+pub data Move : Type 0 where
+  -- Write or Read of a row's word: the worker learns what a row says. A row that is not opened yet, and a mark that was
+  -- not placed, are no part of the world: what was written there is noted with the Open or the Place.
+  learns : Note → Move
+  -- Open
+  opens : Entries → Move
+  -- Read of a cell; of a descriptor's control; of the control of a mark that was found in a cell
+  reads_cell : ℕ → Move
+  reads_control : Ref → Move
+  reads_mark_control : Ref → ℕ → Move
+  -- Place for an entry of a descriptor
+  places : Ref → ℕ → Move
+  -- Settle of a mark in a cell: to its descriptor if `true`, else to the old value of its entry
+  settles : Ref → ℕ → Bool → Move
+  -- Decide of a descriptor
+  decides : Ref → Control → Move
+  -- Release of an entry of a descriptor
+  releases : Ref → ℕ → Move
+  -- Claim: the counter is fetched and grows by 1
+  claims : Move
+
+abbrev pub next_desc : World → (who : ℕ) → Ref
+next_desc w who = record { worker = who; number = w.next_number who }
+
+abbrev pub next_mark : World → (who : ℕ) → Ref
+next_mark w who = record { worker = who; number = w.marks_used who }
+
+-- When it is allowed.
+
+-- what a row says, of an opened descriptor or of a used mark
+abbrev pub IsRowNote : Note → Type 0
+IsRowNote (known d) = ⊥
+IsRowNote (size_is d n) = Unit {0}
+IsRowNote (entry_is d e c old new) = Unit {0}
+IsRowNote (decided d k) = ⊥
+IsRowNote (mark_is x d e) = Unit {0}
+IsRowNote (found x c) = ⊥
+IsRowNote (may_promote x c) = ⊥
+IsRowNote (may_demote x) = ⊥
+IsRowNote (held d e) = ⊥
+IsRowNote (mismatch d e n) = ⊥
+
+-- There is an entry, the cells rise, and nothing of the worker is open. That the cells are in range and the values plain
+-- is asked where the words are.
+pub record CanOpen (side : ℕ → Side) (who : ℕ) (p : Entries) : Type 0 where
+  pub nonempty : 0 < p.size
+  pub rising : (e f : ℕ) → e < f → f < p.size → p.target e < p.target f
+  pub closed : (side who).current ≡ None
+
+-- The worker knows that d was opened and has an entry e. A Place and a Release ask for both: a swap for an entry that d
+-- does not have would leave a mark, or take a descriptor, that nobody owes.
+pub record MayWork (s : Side) (d : Ref) (e : ℕ) : Type 0 where
+  pub size : ℕ
+  pub known : In (size_is d size) s.notes
+  pub within : e < size
+
+-- Succeeded: each entry is noted as held, of the entries that d is known to have. Failed: a mismatch is noted at the
+-- entry. Withdrawn: d is the worker's own. That no mark is left to it then is asked where the marks have room: the rule
+-- is kept without it.
+abbrev pub MayDecide : Side → (who : ℕ) → Ref → Control → Type 0
+MayDecide s who d unused = ⊥
+MayDecide s who d undecided = ⊥
+MayDecide s who d succeeded = (n : ℕ) × In (size_is d n) s.notes × ((e : ℕ) → e < n → In (held d e) s.notes)
+MayDecide s who d withdrawn = d.worker ≡ who
+MayDecide s who d (failed e) = (n : ℕ) × In (mismatch d e n) s.notes
+
+-- nothing is open, and no earlier Claim found the end
+pub record MayClaim (w : World) (s : Side) (who : ℕ) : Type 0 where
+  pub worker : who < w.workers
+  pub closed : s.current ≡ None
+  pub keys : (n : ℕ) → In n s.claims → n < w.keys
+
+-- A Read of a mark's control needs the mark found before, so that it comes after it. A Settle is allowed with a mark that
+-- was found in that cell, where the worker placed it or met it; and to its descriptor only if that was read as undecided
+-- after that, else only if it was read as decided. A Decide also asks that d is known as opened, since only
+-- then is there a control to swap. A Release asks that d is known as decided.
+abbrev pub IsAllowed : World → (ℕ → Side) → (who : ℕ) → Move → Type 0
+IsAllowed w side who (learns n) = IsRowNote n × HoldsIn w n
+IsAllowed w side who (opens p) = CanOpen side who p
+IsAllowed w side who (reads_cell c) = Unit {0}
+IsAllowed w side who (reads_control d) = Unit {0}
+IsAllowed w side who (reads_mark_control x c) = In (found x c) (side who).notes
+IsAllowed w side who (places d e) = MayWork (side who) d e × ((side who).unsettled ≡ None)
+IsAllowed w side who (settles x c true) = In (found x c) (side who).notes × In (may_promote x c) (side who).notes
+IsAllowed w side who (settles x c false) = In (found x c) (side who).notes × In (may_demote x) (side who).notes
+IsAllowed w side who (decides d k) = In (known d) (side who).notes × MayDecide (side who) who d k
+IsAllowed w side who (releases d e) = MayWork (side who) d e × ((k : Control) × In (decided d k) (side who).notes)
+IsAllowed w side who claims = MayClaim w (side who) who
+
+-- The world after it.
+
+-- d is opened, with these entries
+abbrev pub open_world : World → Ref → Entries → World
+open_world w d p = record w {
+  control = updated_ref w.control d undecided;
+  size = updated_ref w.size d p.size;
+  target = updated_ref w.target d p.target;
+  old = updated_ref w.old d p.old;
+  new = updated_ref w.new d p.new;
+  acts_before = updated_ref w.acts_before d w.act_count;
+  next_number = updated w.next_number d.worker (d.number + p.size);
+}
+
+-- mark x is placed for entry e of d
+abbrev pub place_world : World → Ref → Ref → ℕ → World
+place_world w x d e = record w {
+  cell = updated w.cell (w.target d e) (mark x);
+  marks_used = updated w.marks_used x.worker (suc x.number);
+  mark_desc = updated_ref w.mark_desc x d;
+  mark_entry = updated_ref w.mark_entry x e;
+}
+
+-- a cell alone changes
+abbrev pub cell_world : World → (c : ℕ) → Cell → World
+cell_world w c k = record w { cell = updated w.cell c k }
+
+-- d is decided, and did not succeed
+abbrev pub decide_world : World → Ref → Control → World
+decide_world w d k = record w { control = updated_ref w.control d k }
+
+-- d succeeded: it is the next act
+abbrev pub succeed_world : World → Ref → World
+succeed_world w d = record w {
+  control = updated_ref w.control d succeeded;
+  act_count = suc w.act_count;
+  act = updated w.act w.act_count d;
+  logical = updated w.logical (suc w.act_count) (changed_by w d (w.size d) (w.logical w.act_count));
+}
+
+abbrev pub claim_world : World → World
+claim_world w = record w { counter = suc w.counter }
+
+-- whether a cell holds what a swap asks for
+abbrev pub is_plain : Cell → ℕ → Bool
+is_plain (plain u) v = u == v
+is_plain (mark x) v = false
+is_plain (desc d) v = false
+
+abbrev pub is_mark : Cell → Ref → Bool
+is_mark (plain u) x = false
+is_mark (mark y) x = is_ref y x
+is_mark (desc d) x = false
+
+abbrev pub is_desc : Cell → Ref → Bool
+is_desc (plain u) d = false
+is_desc (mark x) d = false
+is_desc (desc f) d = is_ref f d
+
+-- d, whose control is the first, is swapped from undecided to the second
+abbrev pub decided_world : World → Ref → Control → Control → World
+decided_world w d unused k = w
+decided_world w d undecided unused = w
+decided_world w d undecided undecided = w
+decided_world w d undecided succeeded = succeed_world w d
+decided_world w d undecided withdrawn = decide_world w d withdrawn
+decided_world w d undecided (failed e) = decide_world w d (failed e)
+decided_world w d succeeded k = w
+decided_world w d withdrawn k = w
+decided_world w d (failed e) k = w
+
+-- what a Settle of mark x puts in its place
+abbrev pub settled_cell : World → Ref → Bool → Cell
+settled_cell w x true = desc (w.mark_desc x)
+settled_cell w x false = plain (w.old (w.mark_desc x) (w.mark_entry x))
+
+-- what a Release of entry e of d puts in its place
+abbrev pub released_cell : World → Ref → (e : ℕ) → Cell
+released_cell w d e = plain (entry_value (w.control d) (w.old d e) (w.new d e))
+
+-- a swap that finds another word changes nothing
+abbrev pub world_after : World → (who : ℕ) → Move → World
+world_after w who (learns n) = w
+world_after w who (opens p) = open_world w (next_desc w who) p
+world_after w who (reads_cell c) = w
+world_after w who (reads_control d) = w
+world_after w who (reads_mark_control x c) = w
+world_after w who (places d e) = cond (is_plain (w.cell (w.target d e)) (w.old d e)) (place_world w (next_mark w who) d e) w
+world_after w who (settles x c to) = cond (is_mark (w.cell c) x) (cell_world w c (settled_cell w x to)) w
+world_after w who (decides d k) = decided_world w d (w.control d) k
+world_after w who (releases d e) = cond (is_desc (w.cell (w.target d e)) d) (cell_world w (w.target d e) (released_cell w d e)) w
+world_after w who claims = claim_world w
+
+-- The Side after it: what the worker notes.
+
+-- of its own descriptor all that the row says
+abbrev pub note_entries : Side → Ref → Entries → (n : ℕ) → Side
+note_entries s d p zero = note_side (note_side s (known d)) (size_is d p.size)
+note_entries s d p (suc n) = note_side (note_entries s d p n) (entry_is d n (p.target n) (p.old n) (p.new n))
+
+-- of a cell; a plain word is kept as read where nothing is open
+abbrev pub cell_noted : World → Side → (who c : ℕ) → Cell → (current : Option ℕ) → Side
+cell_noted w s who c (plain u) None = read_side w s who c u
+cell_noted w s who c (plain u) (Some p) = s
+cell_noted w s who c (mark x) p = note_side s (found x c)
+cell_noted w s who c (desc d) p = note_side s (known d)
+
+-- of the control of d
+abbrev pub control_noted : Side → Ref → Control → Side
+control_noted s d unused = s
+control_noted s d undecided = note_side (forget_side s d) (known d)
+control_noted s d succeeded = note_side s (decided d succeeded)
+control_noted s d withdrawn = note_side s (decided d withdrawn)
+control_noted s d (failed e) = note_side s (decided d (failed e))
+
+-- of mark x, found in cell c, whose descriptor has this control
+abbrev pub mark_noted : Side → Ref → (c : ℕ) → Control → Side
+mark_noted s x c unused = s
+mark_noted s x c undecided = note_side s (may_promote x c)
+mark_noted s x c succeeded = note_side s (may_demote x)
+mark_noted s x c withdrawn = note_side s (may_demote x)
+mark_noted s x c (failed e) = note_side s (may_demote x)
+
+-- the own mark was placed for entry e of d
+abbrev pub placed_noted : World → Side → (who : ℕ) → Ref → (e : ℕ) → Side
+placed_noted w s who d e =
+    note_side (note_side (place_side s (w.marks_used who)) (mark_is (next_mark w who) d e)) (found (next_mark w who) (w.target d e))
+
+-- of what a Place for entry e of d found
+abbrev pub place_noted : World → Side → (who : ℕ) → Ref → (e : ℕ) → Cell → Side
+place_noted w s who d e (plain u) = cond (u == w.old d e) (placed_noted w s who d e) (note_side s (mismatch d e w.act_count))
+place_noted w s who d e (mark x) = note_side s (found x (w.target d e))
+place_noted w s who d e (desc f) = cond (is_ref f d) (note_side s (held d e)) (note_side s (known f))
+
+-- An own mark is settled, whatever the swap found; where it was swapped to its descriptor, that is held.
+abbrev pub settle_noted : World → Side → Ref → (c : ℕ) → (promoted : Bool) → Side
+settle_noted w s x c promoted =
+    cond promoted (note_side (settle_side s (w.mark_desc x) c) (held (w.mark_desc x) (w.mark_entry x))) (settle_side s (w.mark_desc x) c)
+
+abbrev pub has : (e : ℕ) → List ℕ → Bool
+has e [] = false
+has e (x ∷ xs) = cond (e == x) true (has e xs)
+
+-- whether each number below n stands in the list
+abbrev pub covers : (n : ℕ) → List ℕ → Bool
+covers zero l = true
+covers (suc n) l = has n l && covers n l
+
+-- entry e of the own open descriptor, which has n entries, is released; with the last one the descriptor is closed
+abbrev pub release_noted : Side → (e n : ℕ) → Side
+release_noted s e n = cond (covers n (e ∷ s.released)) (close_side (release_side s e)) (release_side s e)
+
+abbrev pub side_after : World → Side → (who : ℕ) → Move → Side
+side_after w s who (learns n) = note_side s n
+side_after w s who (opens p) = note_entries (open_side s (w.next_number who)) (next_desc w who) p p.size
+side_after w s who (reads_cell c) = cell_noted w s who c (w.cell c) s.current
+side_after w s who (reads_control d) = control_noted s d (w.control d)
+side_after w s who (reads_mark_control x c) =
+    mark_noted (control_noted s (w.mark_desc x) (w.control (w.mark_desc x))) x c (w.control (w.mark_desc x))
+side_after w s who (places d e) = place_noted w s who d e (w.cell (w.target d e))
+side_after w s who (settles x c to) = cond (is_number s.unsettled who x) (settle_noted w s x c (to && is_mark (w.cell c) x)) s
+side_after w s who (decides d k) = control_noted s d ((world_after w who (decides d k)).control d)
+side_after w s who (releases d e) =
+    cond (is_number s.current who d) (release_noted (paid_side s d (w.target d e)) e (w.size d)) (paid_side s d (w.target d e))
+side_after w s who claims = claim_side s w.counter
+
+-- the Sides after it: those of the other workers stay
+abbrev pub sides_after : World → (ℕ → Side) → (who : ℕ) → Move → ℕ → Side
+sides_after w side who m = updated side who (side_after w (side who) who m)

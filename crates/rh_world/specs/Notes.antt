@@ -1,0 +1,65 @@
+-- What a worker may note: facts that stay true, whatever the other workers do. (own)
+use Rattle.std.specs.Prelude.{◌≡◌, ◌≢◌, ℕ, ◌<◌, ◌≤◌}
+use Rattle.rh_world.specs.World.{Ref, Control, World, IsOpened, IsDecided, IsUsed}
+use Rattle.rh_world.specs.World.Cell.{mark, desc}
+use Rattle.rh_world.specs.World.Control.{undecided, succeeded}
+
+pub data Note : Type 0 where
+  -- of a descriptor: it was opened; how many entries it has; an entry's cell, old and new value; how it was decided
+  known : Ref → Note
+  size_is : Ref → ℕ → Note
+  entry_is : Ref → ℕ → ℕ → ℕ → ℕ → Note
+  decided : Ref → Control → Note
+  -- of a mark: its descriptor and entry; the cell where it was found
+  mark_is : Ref → Ref → ℕ → Note
+  found : Ref → ℕ → Note
+  -- what may be done with a mark that was found in a cell: swapped to its descriptor, or back to the old value
+  may_promote : Ref → ℕ → Note
+  may_demote : Ref → Note
+  -- of an entry of a descriptor: its cell was seen to hold the descriptor; it did not hold the old value after n acts
+  held : Ref → ℕ → Note
+  mismatch : Ref → ℕ → ℕ → Note
+
+-- The first n acts are a prefix for number p of worker v: the acts of v among them are exactly those of its
+-- descriptors below p.
+pub record IsPrefix (w : World) (v p n : ℕ) : Type 0 where
+  pub within : n ≤ w.act_count
+  pub low : (i : ℕ) → i < n → (w.act i).worker ≡ v → (w.act i).number < p
+  pub high : (i : ℕ) → n ≤ i → i < w.act_count → (w.act i).worker ≡ v → p ≤ (w.act i).number
+
+-- After the first n acts entry e of d does not hold its old value. They are a prefix for d, and were not fewer when
+-- it was opened.
+pub record IsMismatch (w : World) (d : Ref) (e n : ℕ) : Type 0 where
+  pub prefix : IsPrefix w d.worker d.number n
+  pub acts_before : w.acts_before d ≤ n
+  pub differs : w.logical n (w.target d e) ≢ w.old d e
+
+-- The note holds in the world. While a mark stands in the cell of an entry of d, d does not stand there, so d cannot
+-- succeed: that is why a mark may be promoted however late, if d was undecided after the mark was found.
+abbrev pub HoldsIn : World → Note → Type 0
+HoldsIn w (known d) = IsOpened (w.control d)
+HoldsIn w (size_is d n) = IsOpened (w.control d) × (w.size d ≡ n)
+HoldsIn w (entry_is d e c old new) = IsOpened (w.control d) × (w.target d e ≡ c) × (w.old d e ≡ old) × (w.new d e ≡ new)
+HoldsIn w (decided d k) = IsDecided k × (w.control d ≡ k)
+HoldsIn w (mark_is x d e) = IsUsed w x × (w.mark_desc x ≡ d) × (w.mark_entry x ≡ e)
+HoldsIn w (found x c) = IsUsed w x × (w.target (w.mark_desc x) (w.mark_entry x) ≡ c)
+HoldsIn w (may_promote x c) = IsUsed w x × (w.cell c ≡ mark x → w.control (w.mark_desc x) ≢ succeeded)
+HoldsIn w (may_demote x) = IsUsed w x × IsDecided (w.control (w.mark_desc x))
+HoldsIn w (held d e) = IsOpened (w.control d) × (w.control d ≡ undecided → w.cell (w.target d e) ≡ desc d)
+HoldsIn w (mismatch d e n) = IsOpened (w.control d) × (w.control d ≡ undecided → IsMismatch w d e n)
+
+-- which part of the rule says that the note holds
+pub data Part : Type 0 where
+  of_rows of_acts of_prefixes : Part
+
+abbrev pub part_of : Note → Part
+part_of (known d) = of_rows
+part_of (size_is d n) = of_rows
+part_of (entry_is d e c old new) = of_rows
+part_of (decided d k) = of_rows
+part_of (mark_is x d e) = of_rows
+part_of (found x c) = of_rows
+part_of (may_promote x c) = of_acts
+part_of (may_demote x) = of_rows
+part_of (held d e) = of_acts
+part_of (mismatch d e n) = of_prefixes
