@@ -48,12 +48,11 @@ entries_claims : (s : Side) (d : Ref) (p : Entries) (n : ℕ) → (note_entries 
 entries_claims s d p zero = refl
 entries_claims s d p (suc n) = entries_claims s d p n
 
-cell_claims : (w : World) (s : Side) (who c : ℕ) (k : Cell) (q : Option ℕ)
-    → (cell_noted w s who c k q).claims ≡ s.claims
-cell_claims w s who c (plain u) None = refl
-cell_claims w s who c (plain u) (Some p) = refl
-cell_claims w s who c (mark x) q = refl
-cell_claims w s who c (desc d) q = refl
+cell_claims : (s : Side) (c : ℕ) (k : Cell) (q : Option ℕ) (acts next : ℕ) → (cell_noted s c k q acts next).claims ≡ s.claims
+cell_claims s c (plain u) None acts next = refl
+cell_claims s c (plain u) (Some p) acts next = refl
+cell_claims s c (mark x) q acts next = refl
+cell_claims s c (desc d) q acts next = refl
 
 control_claims : (s : Side) (d : Ref) (k : Control) → (control_noted s d k).claims ≡ s.claims
 control_claims s d unused = refl
@@ -73,15 +72,14 @@ either_claims : (s t r : Side) (b : Bool) → s.claims ≡ r.claims → t.claims
 either_claims s t r true p q = p
 either_claims s t r false p q = q
 
-place_claims : (w : World) (s : Side) (who : ℕ) (d : Ref) (e : ℕ) (k : Cell)
-    → (place_noted w s who d e k).claims ≡ s.claims
-place_claims w s who d e (plain u) = either_claims (placed_noted w s who d e) (note_side s (mismatch d e w.act_count)) s (eqb u (w.old d e)) refl refl
-place_claims w s who d e (mark x) = refl
-place_claims w s who d e (desc f) = either_claims (note_side s (held d e)) (note_side s (known f)) s (is_ref f d) refl refl
+place_claims : (s : Side) (x d : Ref) (e c old : ℕ) (k : Cell) (acts : ℕ) → (place_noted s x d e c old k acts).claims ≡ s.claims
+place_claims s x d e c old (plain u) acts = either_claims (placed_noted s x d e c) (note_side s (mismatch d e acts)) s (eqb u old) refl refl
+place_claims s x d e c old (mark y) acts = refl
+place_claims s x d e c old (desc f) acts = either_claims (note_side s (held d e)) (note_side s (known f)) s (is_ref f d) refl refl
 
-settle_claims : (w : World) (s : Side) (x : Ref) (c : ℕ) (b : Bool) → (settle_noted w s x c b).claims ≡ s.claims
-settle_claims w s x c true = refl
-settle_claims w s x c false = refl
+settle_claims : (s : Side) (d : Ref) (e c : ℕ) (b : Bool) → (settle_noted s d e c b).claims ≡ s.claims
+settle_claims s d e c true = refl
+settle_claims s d e c false = refl
 
 release_claims : (s : Side) (e n : ℕ) → (release_noted s e n).claims ≡ s.claims
 release_claims s e n = either_claims (close_side (release_side s e)) (release_side s e) s (covers n (e ∷ s.released)) refl refl
@@ -181,18 +179,18 @@ pub claims_kept : (w : World) (side : ℕ → Side) (who : ℕ) (m : Move) → C
 claims_kept w side who claims c may = claim_keeps w side who may c
 claims_kept w side who (learns n) c may = others w side who (learns n) (uncounted w) refl c
 claims_kept w side who (opens p) c may = others w side who (opens p) record { counter = refl; keys = refl; workers = refl } (entries_claims (open_side (side who) (w.next_number who)) (next_desc w who) p p.size) c
-claims_kept w side who (reads_cell j) c may = others w side who (reads_cell j) (uncounted w) (cell_claims w (side who) who j (w.cell j) (side who).current) c
+claims_kept w side who (reads_cell j) c may = others w side who (reads_cell j) (uncounted w) (cell_claims (side who) j (w.cell j) (side who).current w.act_count (w.next_number who)) c
 claims_kept w side who (reads_control d) c may = others w side who (reads_control d) (uncounted w) (control_claims (side who) d (w.control d)) c
 claims_kept w side who (reads_mark_control x j) c may =
     let d : Ref = w.mark_desc x in
     others w side who (reads_mark_control x j) (uncounted w) (mark_claims (control_noted (side who) d (w.control d)) x j (w.control d) ∙ control_claims (side who) d (w.control d)) c
 claims_kept w side who (places d e) c may =
     others w side who (places d e) (either_uncounted w (place_world w (next_mark w who) d e) (is_plain (w.cell (w.target d e)) (w.old d e)) record { counter = refl; keys = refl; workers = refl })
-    (place_claims w (side who) who d e (w.cell (w.target d e))) c
+    (place_claims (side who) (next_mark w who) d e (w.target d e) (w.old d e) (w.cell (w.target d e)) w.act_count) c
 claims_kept w side who (settles x j to) c may =
     let b : Bool = to && is_mark (w.cell j) x in
     others w side who (settles x j to) (either_uncounted w (cell_world w j (settled_cell w x to)) (is_mark (w.cell j) x) record { counter = refl; keys = refl; workers = refl })
-    (either_claims (settle_noted w (side who) x j b) (side who) (side who) (is_number (side who).unsettled who x) (settle_claims w (side who) x j b) refl) c
+    (either_claims (settle_noted (side who) (w.mark_desc x) (w.mark_entry x) j b) (side who) (side who) (is_number (side who).unsettled who x) (settle_claims (side who) (w.mark_desc x) (w.mark_entry x) j b) refl) c
 claims_kept w side who (decides d k) c may =
     others w side who (decides d k) (decided_uncounted w d (w.control d) k) (control_claims (side who) d ((world_after w who (decides d k)).control d)) c
 claims_kept w side who (releases d e) c may =

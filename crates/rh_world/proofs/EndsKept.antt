@@ -10,7 +10,7 @@ use Rattle.rh_world.specs.Sides.{Side, new_side}
 use Rattle.rh_world.specs.Rows.{ByDebt, ByOpener, ByPlacer, Rows}
 use Rattle.rh_world.specs.Acts.{Acts, cells_after}
 use Rattle.rh_world.specs.Prefixes.{FailedAt, Prefixes}
-use Rattle.rh_world.specs.Claims.{ends_found, found_end}
+use Rattle.rh_world.specs.Claims.{Claims, ends_found, found_end}
 use Rattle.rh_world.specs.Rule.{Rule}
 use Rattle.rh_world.specs.Ends.{AllAtRest, opening_world, round_side, round_world}
 use Rattle.rh_world.specs.Laws.{ActsAreOneOrder, ClaimsShareOut, NewRoundMeets, PrefixesSay, RestIsSettled, StartMeets}
@@ -64,27 +64,29 @@ module _ (workers keys counter : ℕ) (opening : ℕ → ℕ) (claims_of : ℕ �
     notes = λ v n h. absurd h;
   }
 
+-- plain cells meet the rule, on a counter whose Claims are kept
+pub opening_meets : (workers keys counter : ℕ) (opening : ℕ → ℕ) (claims_of : ℕ → List ℕ)
+    → Claims (opening_world workers keys counter opening) (sides workers keys counter opening claims_of)
+    → Rule (opening_world workers keys counter opening) (sides workers keys counter opening claims_of)
+opening_meets workers keys counter opening claims_of claims = record {
+  rows = opening_rows workers keys counter opening claims_of;
+  acts = opening_acts workers keys counter opening claims_of;
+  prefixes = opening_prefixes workers keys counter opening claims_of;
+  claims = claims;
+}
+
 pub start_meets : StartMeets
-start_meets workers keys opening = record {
-  rows = opening_rows workers keys 0 opening (λ v. []);
-  acts = opening_acts workers keys 0 opening (λ v. []);
-  prefixes = opening_prefixes workers keys 0 opening (λ v. []);
-  claims = record {
-    all = λ n h. absurd (omega arith);
-    below = λ v n h. absurd h;
-    one_worker = λ u v n h. absurd h;
-    once = λ v. tt;
-    ends = omega arith;
-  };
+start_meets workers keys opening = opening_meets workers keys 0 opening (λ v. []) record {
+  all = λ n h. absurd (omega arith);
+  below = λ v n h. absurd h;
+  one_worker = λ u v n h. absurd h;
+  once = λ v. tt;
+  ends = omega arith;
 }
 
 pub new_round_meets : NewRoundMeets
-new_round_meets w side r rest = record {
-  rows = opening_rows w.workers w.keys w.counter (w.logical w.act_count) (λ v. (side v).claims);
-  acts = opening_acts w.workers w.keys w.counter (w.logical w.act_count) (λ v. (side v).claims);
-  prefixes = opening_prefixes w.workers w.keys w.counter (w.logical w.act_count) (λ v. (side v).claims);
-  claims = claims_stay w (round_world w) side (λ v. round_side (side v)) record { counter = refl; keys = refl; workers = refl } (λ u. refl) r.claims;
-}
+new_round_meets w side r rest = opening_meets w.workers w.keys w.counter (w.logical w.act_count) (λ v. (side v).claims)
+    (claims_stay w (round_world w) side (λ v. round_side (side v)) record { counter = refl; keys = refl; workers = refl } (λ u. refl) r.claims)
 
 -- the cells after n acts are those of the rule
 pub cells_are : (w : World) (side : ℕ → Side) → Rule w side → (n : ℕ) → n ≤ w.act_count → (c : ℕ)
@@ -209,6 +211,7 @@ ends_within keys side (suc n) = over (found_end keys (side n).claims) (ends_with
 pub claims_share_out : ClaimsShareOut
 claims_share_out w side r = record {
   found = λ n h. ((λ t. r.claims.below t.0 n t.2), (λ l. r.claims.all n l));
+  below = r.claims.below;
   one_worker = r.claims.one_worker;
   once = r.claims.once;
   counter =

@@ -36,7 +36,7 @@ are_allowed : AreAllowed (start_world 2 1 (λ c. 5)) start_sides helped_run
 are_allowed = (
   record { nonempty = omega arith; rising = λ e f a b. omega arith; closed = refl },
   (
-    (record { size = 2; known = inr (inr (inl refl)); within = omega arith }, refl),
+    (record { size = 2; known = inr (inr (inr (inr (inr (inr (inl refl)))))); within = omega arith }, refl),
     (
       tt,
       (
@@ -58,25 +58,25 @@ are_allowed = (
                       (
                         (inr (inr (inl refl)), inl refl),
                         (
-                          (inr (inr (inl refl)), (2, inr (inr (inr (inr (inr (inr (inl refl)))))), below_two _ (inr (inr (inr (inr (inr (inl refl)))))) (inl refl))),
+                          (inr (inr (inl refl)), (2, inr (inr (inr (inr (inr (inr (inr (inl refl))))))), below_two _ (inr (inr (inr (inr (inr (inr (inl refl))))))) (inl refl))),
                           (
                             tt,
                             (
-                              (record { size = 2; known = inr (inr (inr (inr (inr (inr (inr (inl refl))))))); within = omega arith }, (succeeded, inl refl)),
+                              (record { size = 2; known = inr (inr (inr (inr (inr (inr (inr (inr (inr (inr (inr (inr (inl refl)))))))))))); within = omega arith }, (succeeded, inl refl)),
                               (
-                                (record { size = 2; known = inr (inr (inr (inr (inr (inr (inr (inl refl))))))); within = omega arith }, (succeeded, inl refl)),
+                                (record { size = 2; known = inr (inr (inr (inr (inr (inr (inr (inr (inl refl)))))))); within = omega arith }, (succeeded, inl refl)),
                                 (
-                                  (record { size = 2; known = inr (inr (inr (inr (inr (inr (inr (inl refl))))))); within = omega arith }, (succeeded, inl refl)),
+                                  (record { size = 2; known = inr (inr (inr (inr (inr (inr (inr (inr (inr (inr (inr (inr (inl refl)))))))))))); within = omega arith }, (succeeded, inl refl)),
                                   (
                                     record { nonempty = omega arith; rising = λ e f a b. absurd (omega arith); closed = refl },
                                     (
-                                      (record { size = 1; known = inr (inl refl); within = omega arith }, refl),
+                                      (record { size = 1; known = inr (inr (inr (inl refl))); within = omega arith }, refl),
                                       (
                                         tt,
                                         (
                                           inl refl,
                                           (
-                                            (inr (inr (inr (inr (inl refl)))), refl),
+                                            (inr (inr (inr (inr (inr (inr (inr (inl refl))))))), refl),
                                             (
                                               (inr (inr (inl refl)), inl refl),
                                               (
@@ -84,15 +84,15 @@ are_allowed = (
                                                 (
                                                   (inr (inr (inr (inl refl))), inl refl),
                                                   (
-                                                    (record { size = 1; known = inr (inr (inr (inr (inr (inr (inl refl)))))); within = omega arith }, (withdrawn, inr (inl refl))),
+                                                    (record { size = 1; known = inr (inr (inr (inr (inr (inr (inr (inr (inr (inl refl))))))))); within = omega arith }, (withdrawn, inr (inl refl))),
                                                     (
                                                       record { nonempty = omega arith; rising = λ e f a b. absurd (omega arith); closed = refl },
                                                       (
-                                                        (record { size = 1; known = inr (inl refl); within = omega arith }, refl),
+                                                        (record { size = 1; known = inr (inr (inr (inl refl))); within = omega arith }, refl),
                                                         (
-                                                          (inr (inr (inr (inl refl))), (1, inl refl)),
+                                                          (inr (inr (inr (inr (inr (inl refl))))), (1, inl refl)),
                                                           (
-                                                            (record { size = 1; known = inr (inr (inr (inl refl))); within = omega arith }, ((failed 0), inl refl)),
+                                                            (record { size = 1; known = inr (inr (inr (inr (inr (inl refl))))); within = omega arith }, ((failed 0), inl refl)),
                                                             (
                                                               record { worker = omega arith; closed = refl; keys = λ n h. absurd h },
                                                               (

@@ -176,10 +176,10 @@ module _ (A P : Type 0) where
     parts_claimed n = parts_side w side who (claim_side (side who) n) refl refl (λ p h. h) (rows_reads w side who r.rows (side who).reads (claim_side (side who) n).claims) r
 
     pub parts_read : (c u : ℕ) → (side who).current ≡ None → w.cell c ≡ plain u
-        → Partly A P w (updated side who (read_side w (side who) who c u))
+        → Partly A P w (updated side who (read_side (side who) c u w.act_count (w.next_number who)))
     parts_read c u closed here = record {
-      rows = rows_reads w side who r.rows (read_side w (side who) who c u).reads (side who).claims;
-      acts = λ a. acts_side w side who (read_side w (side who) who c u) ((r.acts a).notes who) (r.acts a);
+      rows = rows_reads w side who r.rows (read_side (side who) c u w.act_count (w.next_number who)).reads (side who).claims;
+      acts = λ a. acts_side w side who (read_side (side who) c u w.act_count (w.next_number who)) ((r.acts a).notes who) (r.acts a);
       prefixes = λ a p. prefixes_read w side who c u r.rows (r.acts a) closed here (r.prefixes a p);
     }
 

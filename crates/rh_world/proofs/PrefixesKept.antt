@@ -188,9 +188,9 @@ prefixes_open w side d p rows acts can pre =
 
 pub prefixes_read : (w : World) (side : ℕ → Side) (who c x : ℕ) → Rows w side → Acts w side
     → (side who).current ≡ None → w.cell c ≡ plain x → Prefixes w side
-    → Prefixes w (updated side who (read_side w (side who) who c x))
+    → Prefixes w (updated side who (read_side (side who) c x w.act_count (w.next_number who)))
 prefixes_read w side who c x rows acts closed here p =
-    let s : Side = read_side w (side who) who c x in
+    let s : Side = read_side (side who) c x w.act_count (w.next_number who) in
     let k : KeptRead = record { cell = c; word = x; acts = w.act_count; next_number = w.next_number who } in
     let side' : ℕ → Side = updated side who s in
     let says : x ≡ w.logical w.act_count c = subst (λ (y : Cell). StandsFor w c y (w.logical w.act_count c)) here (acts.now c) in

@@ -4,7 +4,7 @@ use native.Mathlib.Decide.{dec_lt}
 use Rattle.rh_world.specs.World.{IsDecided, IsOpened, Ref, World}
 use Rattle.rh_world.specs.World.Control.{undecided, unused}
 use Rattle.rh_world.specs.Notes.{HoldsIn, IsMismatch, IsPrefix, Note, part_of}
-use Rattle.rh_world.specs.Notes.Note.{decided, entry_is, found, held, known, mark_is, may_demote, may_promote, mismatch, size_is}
+use Rattle.rh_world.specs.Notes.Note.{decided, desc_is, found, held, known, may_demote, may_promote, mismatch, new_is, old_is, size_is, target_is, which_is}
 use Rattle.rh_world.specs.Notes.Part.{of_acts, of_prefixes, of_rows}
 use Rattle.rh_world.specs.Later.{Later, Steady}
 use Rattle.rh_world.specs.Sides.{Side}
@@ -54,9 +54,12 @@ module _ (w v : World) (side : ℕ → Side) (rows : Rows w side) where
   pub rows_note_stays : Steady w v → (n : Note) → part_of n ≡ of_rows → HoldsIn w n → HoldsIn v n
   rows_note_stays l (known d) p t = l.opened d t
   rows_note_stays l (size_is d n) p t = (l.opened d t.0, l.size d t.0 ∙ t.1)
-  rows_note_stays l (entry_is d e c o n) p t = (l.opened d t.0, l.target d e t.0 ∙ t.1, l.old d e t.0 ∙ t.2, l.new d e t.0 ∙ t.3)
+  rows_note_stays l (target_is d e c) p t = (l.opened d t.0, l.target d e t.0 ∙ t.1)
+  rows_note_stays l (old_is d e u) p t = (l.opened d t.0, l.old d e t.0 ∙ t.1)
+  rows_note_stays l (new_is d e u) p t = (l.opened d t.0, l.new d e t.0 ∙ t.1)
   rows_note_stays l (decided d k) p t = (t.0, l.decided d (subst IsDecided (sym t.1) t.0) ∙ t.1)
-  rows_note_stays l (mark_is x d e) p t = (l.marks x t.0, l.mark_desc x t.0 ∙ t.1, l.mark_entry x t.0 ∙ t.2)
+  rows_note_stays l (desc_is x d) p t = (l.marks x t.0, l.mark_desc x t.0 ∙ t.1)
+  rows_note_stays l (which_is x e) p t = (l.marks x t.0, l.mark_entry x t.0 ∙ t.1)
   rows_note_stays l (found x c) p t =
       let h = rows.used x t.0 in
       (l.marks x t.0, (ap (λ (f : Ref). v.target f (v.mark_entry x)) (l.mark_desc x t.0) ∙ (ap (λ (e : ℕ). v.target (w.mark_desc x) e) (l.mark_entry x t.0) ∙ (l.target (w.mark_desc x) (w.mark_entry x) h.0 ∙ t.1))))
@@ -68,9 +71,12 @@ module _ (w v : World) (side : ℕ → Side) (rows : Rows w side) where
   pub acts_note_stays : Later w v → (n : Note) → part_of n ≡ of_acts → HoldsIn w n → HoldsIn v n
   acts_note_stays l (known d) p t = cc
   acts_note_stays l (size_is d n) p t = cc
-  acts_note_stays l (entry_is d e c o n) p t = cc
+  acts_note_stays l (target_is d e c) p t = cc
+  acts_note_stays l (old_is d e u) p t = cc
+  acts_note_stays l (new_is d e u) p t = cc
   acts_note_stays l (decided d k) p t = cc
-  acts_note_stays l (mark_is x d e) p t = cc
+  acts_note_stays l (desc_is x d) p t = cc
+  acts_note_stays l (which_is x e) p t = cc
   acts_note_stays l (found x c) p t = cc
   acts_note_stays l (may_promote x c) p t = (l.marks x t.0, λ s q. t.1 (l.stood c x t.0 s) (l.late c x t.0 s (ap v.control (sym (l.mark_desc x t.0)) ∙ q)))
   acts_note_stays l (may_demote x) p t = cc
@@ -80,9 +86,12 @@ module _ (w v : World) (side : ℕ → Side) (rows : Rows w side) where
   pub prefixes_note_stays : Steady w v → (n : Note) → part_of n ≡ of_prefixes → HoldsIn w n → HoldsIn v n
   prefixes_note_stays l (known d) p t = cc
   prefixes_note_stays l (size_is d n) p t = cc
-  prefixes_note_stays l (entry_is d e c o n) p t = cc
+  prefixes_note_stays l (target_is d e c) p t = cc
+  prefixes_note_stays l (old_is d e u) p t = cc
+  prefixes_note_stays l (new_is d e u) p t = cc
   prefixes_note_stays l (decided d k) p t = cc
-  prefixes_note_stays l (mark_is x d e) p t = cc
+  prefixes_note_stays l (desc_is x d) p t = cc
+  prefixes_note_stays l (which_is x e) p t = cc
   prefixes_note_stays l (found x c) p t = cc
   prefixes_note_stays l (may_promote x c) p t = cc
   prefixes_note_stays l (may_demote x) p t = cc

@@ -5,7 +5,7 @@ use Rattle.rh_world.specs.World.Cell.{desc, mark, plain}
 use Rattle.rh_world.specs.World.Control.{failed, succeeded, undecided, unused, withdrawn}
 use Rattle.rh_world.specs.Logical.{StandsFor}
 use Rattle.rh_world.specs.Notes.{HoldsIn, IsMismatch, Note}
-use Rattle.rh_world.specs.Notes.Note.{decided, entry_is, found, held, known, mark_is, may_demote, may_promote, mismatch, size_is}
+use Rattle.rh_world.specs.Notes.Note.{decided, desc_is, found, held, known, may_demote, may_promote, mismatch, new_is, old_is, size_is, target_is, which_is}
 use Rattle.rh_world.specs.Sides.{Side, close_side, forget_side, is_number, note_side, open_side, paid_side, place_side, release_side, settle_side}
 use Rattle.rh_world.specs.Acts.{Acts}
 use Rattle.rh_world.specs.Prefixes.{Prefixes}
@@ -49,7 +49,7 @@ module _ (A P : Type 0) where
     found_is c x e = let m = r.rows.marks c x e in (m.used, m.here)
 
     step_cell : (c : ℕ) (k : Cell) (p : Option ℕ) → w.cell c ≡ k → (side who).current ≡ p
-        → Partly A P w (updated side who (cell_noted w (side who) who c k p))
+        → Partly A P w (updated side who (cell_noted (side who) c k p w.act_count (w.next_number who)))
     step_cell c (plain u) None e q = parts_read A P w side who r c u q e
     step_cell c (plain u) (Some m) e q = parts_none A P w side who r
     step_cell c (mark x) p e q = one_note (found x c) (found_is c x e)
@@ -78,15 +78,17 @@ module _ (A P : Type 0) where
     step_place_plain : (d : Ref) (e u : ℕ) → IsOpened (w.control d) → e < w.size d → (side who).unsettled ≡ None
         → w.cell (w.target d e) ≡ plain u → (b : Bool) → eqb u (w.old d e) ≡ b
         → Partly A P (cond b (place_world w (next_mark w who) d e) w) (updated side who (cond b
-        (placed_noted w (side who) who d e)
+        (placed_noted (side who) (next_mark w who) d e (w.target d e))
         (note_side (side who) (mismatch d e w.act_count))))
     step_place_plain d e u o within free here true q =
         let x : Ref = next_mark w who in
         let v : World = place_world w x d e in
         let placed = parts_place A P w side x d e record { next = refl; settled = free; opened = o; within = within; found = here ∙ ap plain (eqb_yes u (w.old d e) q) } r in
         let m = placed.rows.marks (w.target d e) x (updated_here w.cell (w.target d e) (w.target d e) (mark x) refl) in
-        more_note v side who (note_side (place_side (side who) (w.marks_used who)) (mark_is x d e)) (found x (w.target d e)) (m.used, m.here)
-        (more_note v side who (place_side (side who) (w.marks_used who)) (mark_is x d e) (m.used, updated_ref_here w.mark_desc x x d refl, updated_ref_here w.mark_entry x x e refl) placed)
+        let s : Side = place_side (side who) x.number in
+        more_note v side who (note_side (note_side s (desc_is x d)) (which_is x e)) (found x (w.target d e)) (m.used, m.here)
+        (more_note v side who (note_side s (desc_is x d)) (which_is x e) (m.used, updated_ref_here w.mark_entry x x e refl)
+        (more_note v side who s (desc_is x d) (m.used, updated_ref_here w.mark_desc x x d refl) placed))
     step_place_plain d e u o within free here false q = parts_note A P w side who r (mismatch d e w.act_count)
         record { rows = λ i. cc; acts = λ a i. cc; prefixes = λ a p i. (o, λ und. mismatch_now (r.acts a) (r.prefixes a p) d e u here (eqb_not u (w.old d e) q) und) }
 
@@ -98,7 +100,7 @@ module _ (A P : Type 0) where
 
     step_place : (d : Ref) (e : ℕ) (k : Cell) → IsOpened (w.control d) → e < w.size d → (side who).unsettled ≡ None
         → w.cell (w.target d e) ≡ k
-        → Partly A P (cond (is_plain k (w.old d e)) (place_world w (next_mark w who) d e) w) (updated side who (place_noted w (side who) who d e k))
+        → Partly A P (cond (is_plain k (w.old d e)) (place_world w (next_mark w who) d e) w) (updated side who (place_noted (side who) (next_mark w who) d e (w.target d e) (w.old d e) k w.act_count))
     step_place d e (plain u) o within free here = step_place_plain d e u o within free here (eqb u (w.old d e)) refl
     step_place d e (mark x) o within free here = one_note (found x (w.target d e)) (found_is (w.target d e) x here)
     step_place d e (desc f) o within free here = step_place_desc d f e o here (is_ref f d) refl
@@ -107,7 +109,7 @@ module _ (A P : Type 0) where
     step_settled : (x : Ref) (c : ℕ) → IsUsed w x → w.target (w.mark_desc x) (w.mark_entry x) ≡ c
         → ((j : ℕ) → w.cell j ≢ mark x) → (b : Bool) → (b ≡ true → w.cell c ≡ desc (w.mark_desc x)) → (own : Bool)
         → is_number (side who).unsettled who x ≡ own
-        → Partly A P w (updated side who (cond own (settle_noted w (side who) x c b) (side who)))
+        → Partly A P w (updated side who (cond own (settle_noted (side who) (w.mark_desc x) (w.mark_entry x) c b) (side who)))
     step_settled x c u here gone b holds true q =
         let p = is_number_yes (side who).unsettled who x q in
         let settled = parts_settle A P w side who r x c p.0 p.1 here gone in
@@ -153,7 +155,7 @@ module _ (A P : Type 0) where
 
   step_settle : (w : World) (side : ℕ → Side) (who : ℕ) (x : Ref) (c : ℕ) (to b : Bool) → Partly A P w side
       → IsAllowed w side who (settles x c to) → is_mark (w.cell c) x ≡ b
-      → Partly A P (cond b (cell_world w c (settled_cell w x to)) w) (updated side who (cond (is_number (side who).unsettled who x) (settle_noted w (side who) x c (to && b)) (side who)))
+      → Partly A P (cond b (cell_world w c (settled_cell w x to)) w) (updated side who (cond (is_number (side who).unsettled who x) (settle_noted (side who) (w.mark_desc x) (w.mark_entry x) c (to && b)) (side who)))
   step_settle w side who x c true true r may e =
       let here = is_mark_yes (w.cell c) x e in
       let f = r.rows.notes who (found x c) may.0 refl in
@@ -197,7 +199,12 @@ module _ (A P : Type 0) where
   step_entries w side who d p s r (suc n) =
       let o : updated_ref w.control d undecided d ≢ unused = λ q. let t : undecided ≡ unused = sym (updated_ref_here w.control d d undecided refl) ∙ q in cc in
       let of_entry : (f : Ref → ℕ → ℕ) (g : ℕ → ℕ) → updated_ref f d g d n ≡ g n = λ f g. ap (λ (h : ℕ → ℕ). h n) (updated_ref_here f d d g refl) in
-      more_note (open_world w d p) side who (note_entries s d p n) (entry_is d n (p.target n) (p.old n) (p.new n)) (o, of_entry w.target p.target, of_entry w.old p.old, of_entry w.new p.new) (step_entries w side who d p s r n)
+      let v : World = open_world w d p in
+      let before : Side = note_entries s d p n in
+      let target : Side = note_side before (target_is d n (p.target n)) in
+      more_note v side who (note_side target (old_is d n (p.old n))) (new_is d n (p.new n)) (o, of_entry w.new p.new)
+      (more_note v side who target (old_is d n (p.old n)) (o, of_entry w.old p.old)
+      (more_note v side who before (target_is d n (p.target n)) (o, of_entry w.target p.target) (step_entries w side who d p s r n)))
 
   pub steps_keep : (w : World) (side : ℕ → Side) (who : ℕ) (m : Move) → Partly A P w side → IsAllowed w side who m
       → Partly A P (world_after w who m) (sides_after w side who m)

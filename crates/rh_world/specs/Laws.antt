@@ -93,9 +93,10 @@ abbrev pub PrefixesSay : Type 0
 PrefixesSay = (w : World) (side : ℕ → Side) → Rule w side → Foretold w side
 
 -- The keys are shared out: a number below the keys was found by a Claim exactly if it is below the counter, by one
--- worker alone, and once. Each worker finds the end at most once.
+-- worker alone, and once. Each number that was found is below the counter, so that all keys were found where the end was.
 pub record SharedOut (w : World) (side : ℕ → Side) : Type 0 where
   pub found : (n : ℕ) → n < w.keys → ((v : ℕ) × (v < w.workers) × In n (side v).claims) ↔ (n < w.counter)
+  pub below : (v n : ℕ) → In n (side v).claims → n < w.counter
   pub one_worker : (u v n : ℕ) → In n (side u).claims → In n (side v).claims → u ≡ v
   pub once : (v : ℕ) → IsFalling (side v).claims
   pub counter : w.counter ≤ w.keys + w.workers

@@ -8,7 +8,7 @@ use Rattle.rh_world.specs.World.Cell.{plain, mark, desc}
 use Rattle.rh_world.specs.World.Control.{unused, undecided, succeeded, withdrawn, failed}
 use Rattle.rh_world.specs.Logical.{entry_value, changed_by}
 use Rattle.rh_world.specs.Notes.{Note, HoldsIn}
-use Rattle.rh_world.specs.Notes.Note.{known, size_is, entry_is, mark_is, decided, found, may_promote, may_demote, held, mismatch}
+use Rattle.rh_world.specs.Notes.Note.{known, size_is, target_is, old_is, new_is, desc_is, which_is, decided, found, may_promote, may_demote, held, mismatch}
 use Rattle.rh_world.specs.Sides.{Side, is_number, note_side, open_side, place_side, settle_side, forget_side, paid_side, release_side, close_side, read_side, claim_side}
 
 -- the entries that an own row has when it is opened
@@ -51,9 +51,12 @@ next_mark w who = record { worker = who; number = w.marks_used who }
 abbrev pub IsRowNote : Note → Type 0
 IsRowNote (known d) = ⊥
 IsRowNote (size_is d n) = Unit {0}
-IsRowNote (entry_is d e c old new) = Unit {0}
+IsRowNote (target_is d e c) = Unit {0}
+IsRowNote (old_is d e u) = Unit {0}
+IsRowNote (new_is d e u) = Unit {0}
 IsRowNote (decided d k) = ⊥
-IsRowNote (mark_is x d e) = Unit {0}
+IsRowNote (desc_is x d) = Unit {0}
+IsRowNote (which_is x e) = Unit {0}
 IsRowNote (found x c) = ⊥
 IsRowNote (may_promote x c) = ⊥
 IsRowNote (may_demote x) = ⊥
@@ -205,14 +208,16 @@ world_after w who claims = claim_world w
 -- of its own descriptor all that the row says
 abbrev pub note_entries : Side → Ref → Entries → (n : ℕ) → Side
 note_entries s d p zero = note_side (note_side s (known d)) (size_is d p.size)
-note_entries s d p (suc n) = note_side (note_entries s d p n) (entry_is d n (p.target n) (p.old n) (p.new n))
+note_entries s d p (suc n) =
+    note_side (note_side (note_side (note_entries s d p n) (target_is d n (p.target n))) (old_is d n (p.old n))) (new_is d n (p.new n))
 
--- of a cell; a plain word is kept as read where nothing is open
-abbrev pub cell_noted : World → Side → (who c : ℕ) → Cell → (current : Option ℕ) → Side
-cell_noted w s who c (plain u) None = read_side w s who c u
-cell_noted w s who c (plain u) (Some p) = s
-cell_noted w s who c (mark x) p = note_side s (found x c)
-cell_noted w s who c (desc d) p = note_side s (known d)
+-- of cell c, after so many acts, where the worker's next descriptor has this number; a plain word is kept as read where
+-- nothing is open
+abbrev pub cell_noted : Side → (c : ℕ) → Cell → (current : Option ℕ) → (acts next_number : ℕ) → Side
+cell_noted s c (plain u) None acts next = read_side s c u acts next
+cell_noted s c (plain u) (Some p) acts next = s
+cell_noted s c (mark x) p acts next = note_side s (found x c)
+cell_noted s c (desc d) p acts next = note_side s (known d)
 
 -- of the control of d
 abbrev pub control_noted : Side → Ref → Control → Side
@@ -230,21 +235,19 @@ mark_noted s x c succeeded = note_side s (may_demote x)
 mark_noted s x c withdrawn = note_side s (may_demote x)
 mark_noted s x c (failed e) = note_side s (may_demote x)
 
--- the own mark was placed for entry e of d
-abbrev pub placed_noted : World → Side → (who : ℕ) → Ref → (e : ℕ) → Side
-placed_noted w s who d e =
-    note_side (note_side (place_side s (w.marks_used who)) (mark_is (next_mark w who) d e)) (found (next_mark w who) (w.target d e))
+-- the own mark x was placed in cell c for entry e of d
+abbrev pub placed_noted : Side → (x d : Ref) → (e c : ℕ) → Side
+placed_noted s x d e c = note_side (note_side (note_side (place_side s x.number) (desc_is x d)) (which_is x e)) (found x c)
 
--- of what a Place for entry e of d found
-abbrev pub place_noted : World → Side → (who : ℕ) → Ref → (e : ℕ) → Cell → Side
-place_noted w s who d e (plain u) = cond (u == w.old d e) (placed_noted w s who d e) (note_side s (mismatch d e w.act_count))
-place_noted w s who d e (mark x) = note_side s (found x (w.target d e))
-place_noted w s who d e (desc f) = cond (is_ref f d) (note_side s (held d e)) (note_side s (known f))
+-- of what a Place of the own mark x found in cell c, whose old value is wanted there for entry e of d, after so many acts
+abbrev pub place_noted : Side → (x d : Ref) → (e c old : ℕ) → Cell → (acts : ℕ) → Side
+place_noted s x d e c old (plain u) acts = cond (u == old) (placed_noted s x d e c) (note_side s (mismatch d e acts))
+place_noted s x d e c old (mark y) acts = note_side s (found y c)
+place_noted s x d e c old (desc f) acts = cond (is_ref f d) (note_side s (held d e)) (note_side s (known f))
 
--- An own mark is settled, whatever the swap found; where it was swapped to its descriptor, that is held.
-abbrev pub settle_noted : World → Side → Ref → (c : ℕ) → (promoted : Bool) → Side
-settle_noted w s x c promoted =
-    cond promoted (note_side (settle_side s (w.mark_desc x) c) (held (w.mark_desc x) (w.mark_entry x))) (settle_side s (w.mark_desc x) c)
+-- An own mark for entry e of d is settled, whatever the swap found; where it was swapped to its descriptor, that is held.
+abbrev pub settle_noted : Side → (d : Ref) → (e c : ℕ) → (promoted : Bool) → Side
+settle_noted s d e c promoted = cond promoted (note_side (settle_side s d c) (held d e)) (settle_side s d c)
 
 abbrev pub has : (e : ℕ) → List ℕ → Bool
 has e [] = false
@@ -262,12 +265,13 @@ release_noted s e n = cond (covers n (e ∷ s.released)) (close_side (release_si
 abbrev pub side_after : World → Side → (who : ℕ) → Move → Side
 side_after w s who (learns n) = note_side s n
 side_after w s who (opens p) = note_entries (open_side s (w.next_number who)) (next_desc w who) p p.size
-side_after w s who (reads_cell c) = cell_noted w s who c (w.cell c) s.current
+side_after w s who (reads_cell c) = cell_noted s c (w.cell c) s.current w.act_count (w.next_number who)
 side_after w s who (reads_control d) = control_noted s d (w.control d)
 side_after w s who (reads_mark_control x c) =
     mark_noted (control_noted s (w.mark_desc x) (w.control (w.mark_desc x))) x c (w.control (w.mark_desc x))
-side_after w s who (places d e) = place_noted w s who d e (w.cell (w.target d e))
-side_after w s who (settles x c to) = cond (is_number s.unsettled who x) (settle_noted w s x c (to && is_mark (w.cell c) x)) s
+side_after w s who (places d e) = place_noted s (next_mark w who) d e (w.target d e) (w.old d e) (w.cell (w.target d e)) w.act_count
+side_after w s who (settles x c to) =
+    cond (is_number s.unsettled who x) (settle_noted s (w.mark_desc x) (w.mark_entry x) c (to && is_mark (w.cell c) x)) s
 side_after w s who (decides d k) = control_noted s d ((world_after w who (decides d k)).control d)
 side_after w s who (releases d e) =
     cond (is_number s.current who d) (release_noted (paid_side s d (w.target d e)) e (w.size d)) (paid_side s d (w.target d e))

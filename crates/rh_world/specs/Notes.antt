@@ -5,13 +5,15 @@ use Rattle.rh_world.specs.World.Cell.{mark, desc}
 use Rattle.rh_world.specs.World.Control.{undecided, succeeded}
 
 pub data Note : Type 0 where
-  -- of a descriptor: it was opened; how many entries it has; an entry's cell, old and new value; how it was decided
+  -- of a descriptor: it was opened; how many entries it has; the cell, the old and the new value of an entry; how it was
+  -- decided
   known : Ref → Note
   size_is : Ref → ℕ → Note
-  entry_is : Ref → ℕ → ℕ → ℕ → ℕ → Note
+  target_is old_is new_is : Ref → ℕ → ℕ → Note
   decided : Ref → Control → Note
-  -- of a mark: its descriptor and entry; the cell where it was found
-  mark_is : Ref → Ref → ℕ → Note
+  -- of a mark: its descriptor; its entry; the cell where it was found
+  desc_is : Ref → Ref → Note
+  which_is : Ref → ℕ → Note
   found : Ref → ℕ → Note
   -- what may be done with a mark that was found in a cell: swapped to its descriptor, or back to the old value
   may_promote : Ref → ℕ → Note
@@ -39,9 +41,12 @@ pub record IsMismatch (w : World) (d : Ref) (e n : ℕ) : Type 0 where
 abbrev pub HoldsIn : World → Note → Type 0
 HoldsIn w (known d) = IsOpened (w.control d)
 HoldsIn w (size_is d n) = IsOpened (w.control d) × (w.size d ≡ n)
-HoldsIn w (entry_is d e c old new) = IsOpened (w.control d) × (w.target d e ≡ c) × (w.old d e ≡ old) × (w.new d e ≡ new)
+HoldsIn w (target_is d e c) = IsOpened (w.control d) × (w.target d e ≡ c)
+HoldsIn w (old_is d e u) = IsOpened (w.control d) × (w.old d e ≡ u)
+HoldsIn w (new_is d e u) = IsOpened (w.control d) × (w.new d e ≡ u)
 HoldsIn w (decided d k) = IsDecided k × (w.control d ≡ k)
-HoldsIn w (mark_is x d e) = IsUsed w x × (w.mark_desc x ≡ d) × (w.mark_entry x ≡ e)
+HoldsIn w (desc_is x d) = IsUsed w x × (w.mark_desc x ≡ d)
+HoldsIn w (which_is x e) = IsUsed w x × (w.mark_entry x ≡ e)
 HoldsIn w (found x c) = IsUsed w x × (w.target (w.mark_desc x) (w.mark_entry x) ≡ c)
 HoldsIn w (may_promote x c) = IsUsed w x × (w.cell c ≡ mark x → w.control (w.mark_desc x) ≢ succeeded)
 HoldsIn w (may_demote x) = IsUsed w x × IsDecided (w.control (w.mark_desc x))
@@ -55,9 +60,12 @@ pub data Part : Type 0 where
 abbrev pub part_of : Note → Part
 part_of (known d) = of_rows
 part_of (size_is d n) = of_rows
-part_of (entry_is d e c old new) = of_rows
+part_of (target_is d e c) = of_rows
+part_of (old_is d e u) = of_rows
+part_of (new_is d e u) = of_rows
 part_of (decided d k) = of_rows
-part_of (mark_is x d e) = of_rows
+part_of (desc_is x d) = of_rows
+part_of (which_is x e) = of_rows
 part_of (found x c) = of_rows
 part_of (may_promote x c) = of_acts
 part_of (may_demote x) = of_rows

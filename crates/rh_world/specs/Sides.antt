@@ -1,6 +1,6 @@
 -- What each worker has done and knows: its Side. (own)
 use Rattle.std.specs.Prelude.{◌≡◌, ℕ, ◌==◌, ◌&&◌, Option, Some, None, Bool, false, not, List, [], ◌∷◌, filter}
-use Rattle.rh_world.specs.World.{Ref, World, is_ref}
+use Rattle.rh_world.specs.World.{Ref, is_ref}
 use Rattle.rh_world.specs.Notes.{Note}
 
 -- a cell where the worker's own mark for this descriptor stood: the descriptor may stand there by its doing
@@ -69,9 +69,9 @@ release_side s e = record s { released = e ∷ s.released }
 abbrev pub close_side : Side → Side
 close_side s = record s { current = None; released = [] }
 
--- worker v read the plain word u in cell c
-abbrev pub read_side : World → Side → (v c u : ℕ) → Side
-read_side w s v c u = record s { reads = record { cell = c; word = u; acts = w.act_count; next_number = w.next_number v } ∷ s.reads }
+-- the plain word u was read in cell c, after so many acts, where the worker's next descriptor had this number
+abbrev pub read_side : Side → (c u acts next_number : ℕ) → Side
+read_side s c u acts next = record s { reads = record { cell = c; word = u; acts = acts; next_number = next } ∷ s.reads }
 
 -- a Claim found this number
 abbrev pub claim_side : Side → ℕ → Side
