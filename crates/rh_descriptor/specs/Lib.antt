@@ -1,1 +1,4 @@
 pub mod Places
+pub mod View
+pub mod Words
+pub mod Steps

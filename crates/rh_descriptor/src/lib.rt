@@ -1,13 +1,26 @@
 //! Where descriptors and marks stand in a table that several workers share.
 #![tactic(auto)]
 
+mod entry;
+mod known;
 mod laws;
 mod limits;
+mod reference;
 mod shape;
+mod side;
+mod steps;
 
+pub use entry::Entry;
+pub use known::Known;
 pub use laws::one_part;
 pub use limits::{MAX_ROOM, MAX_WORKERS};
+pub use reference::{Piece, Reading, Ref};
 pub use shape::{Part, Rooms, Shape};
+pub use side::Side;
+pub use steps::{
+    StepKind, claim_key, decide_desc, open_desc, place_mark, read_word, release_cell, settle_mark,
+    write_word,
+};
 
 #[cfg(test)]
 mod tests;

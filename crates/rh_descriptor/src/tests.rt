@@ -1,4 +1,5 @@
 use super::*;
+use rh_tagword::Control;
 use std::test::*;
 
 // Two workers with eight places for entries and eight marks each: 56 words of rows a worker.
@@ -41,5 +42,134 @@ fn the_words_can_be_counted(rt: HostRuntime) -> Result<(), Fail> {
         keys: 1_000_000,
     };
     assert_eq!(rt; shape.words(), 117_702_657);
+    Ok(())
+}
+
+#[test]
+fn a_claim_takes_the_next_place(rt: HostRuntime) -> Result<(), Fail> {
+    let mut words = [0u64; 121];
+    let mut side = Side::new(1, &[0; 8]);
+    assert_eq!(rt; claim_key(&SHAPE, &mut words, &mut side), 0);
+    assert_eq!(rt; words[120], 1);
+    Ok(())
+}
+
+#[test]
+fn a_word_of_an_own_row_is_written_and_read(rt: HostRuntime) -> Result<(), Fail> {
+    let mut words = [0u64; 121];
+    let mut side = Side::new(1, &[0; 8]);
+    let part = Part::EntryOld {
+        worker: 1,
+        entry: 7,
+    };
+    write_word(&SHAPE, &mut words, &mut side, part, 40);
+    assert_eq!(rt; words[102], 40);
+    assert_eq!(rt;
+        read_word(&SHAPE, &words, &mut side, Reading::Place(102)),
+        40
+    );
+    Ok(())
+}
+
+// Cell 4 goes from empty to key 1, by one worker alone.
+#[test]
+fn one_worker_changes_one_cell(rt: HostRuntime) -> Result<(), Fail> {
+    let mut words = [0u64; 121];
+    let mut side = Side::new(0, &[0; 8]);
+    write_word(
+        &SHAPE,
+        &mut words,
+        &mut side,
+        Part::Length {
+            worker: 0,
+            entry: 0,
+        },
+        1,
+    );
+    write_word(
+        &SHAPE,
+        &mut words,
+        &mut side,
+        Part::EntryCell {
+            worker: 0,
+            entry: 0,
+        },
+        4,
+    );
+    write_word(
+        &SHAPE,
+        &mut words,
+        &mut side,
+        Part::EntryOld {
+            worker: 0,
+            entry: 0,
+        },
+        0,
+    );
+    write_word(
+        &SHAPE,
+        &mut words,
+        &mut side,
+        Part::EntryNew {
+            worker: 0,
+            entry: 0,
+        },
+        8,
+    );
+    open_desc(&SHAPE, &mut words, &mut side, 1);
+    let desc = Ref {
+        worker: 0,
+        number: 0,
+    };
+    let piece = Piece {
+        desc,
+        entry: 0,
+        cell: 4,
+    };
+    write_word(
+        &SHAPE,
+        &mut words,
+        &mut side,
+        Part::MarkDesc { worker: 0, mark: 0 },
+        2,
+    );
+    write_word(
+        &SHAPE,
+        &mut words,
+        &mut side,
+        Part::MarkEntry { worker: 0, mark: 0 },
+        0,
+    );
+    let found = place_mark(&SHAPE, &mut words, &mut side, piece, 0);
+    assert_eq!(rt; found, 0);
+    assert_eq!(rt; words[4], 1);
+    let mark = Ref {
+        worker: 0,
+        number: 0,
+    };
+    let reading = Reading::MarkControl {
+        mark,
+        cell: 4,
+        desc,
+    };
+    assert_eq!(rt; read_word(&SHAPE, &words, &mut side, reading), 1);
+    assert_eq!(rt;
+        settle_mark(&SHAPE, &mut words, &mut side, mark, piece, None),
+        1
+    );
+    assert_eq!(rt; words[4], 2);
+    assert_eq!(rt;
+        decide_desc(&SHAPE, &mut words, &mut side, desc, Control::Succeeded),
+        1
+    );
+    assert_eq!(rt;
+        release_cell(&SHAPE, &mut words, &mut side, piece, Control::Succeeded, 8),
+        2
+    );
+    assert_eq!(rt; words[4], 8);
+    assert_eq!(rt; read_word(&SHAPE, &words, &mut side, Reading::Cell(4)), 8);
+    assert_eq!(rt; side.marks_used, 1);
+    side.begin_round(&words[..8]);
+    assert_eq!(rt; side.marks_used, 0);
     Ok(())
 }

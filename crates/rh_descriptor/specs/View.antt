@@ -1,0 +1,59 @@
+-- What a worker's seat keeps of it: what it has done and knows, its own rows, and how far a wipe is. (own)
+use Rattle.std.specs.Prelude.{ℕ, Option, None, List, []}
+use Rattle.rh_world.specs.Sides.{Side, new_side}
+use Rattle.rh_descriptor.specs.declared.entry.Entry.{Entry}
+
+-- a descriptor that the worker opened: its number and its entries
+pub record OwnDesc : Type 0 where
+  pub number : ℕ
+  pub entries : List Entry
+
+-- a word that the worker wrote into its rows: its number among their words, and the word
+pub record Written : Type 0 where
+  pub row : ℕ
+  pub word : ℕ
+
+-- a wipe that is under way: the words of the cells, and how many row words are cleared
+pub record Wiping : Type 0 where
+  pub cells : List ℕ
+  pub cleared : ℕ
+
+-- of opened and written the newest stands first
+pub record View : Type 0 where
+  pub worker : ℕ
+  -- the words of the cells when the round began
+  pub opening : List ℕ
+  -- what it has done and knows. How many acts there were no worker knows: in what it keeps these numbers are 0.
+  pub side : Side
+  -- the number of its next descriptor, and how many marks it used up
+  pub next_number : ℕ
+  pub marks_used : ℕ
+  pub opened : List OwnDesc
+  pub written : List Written
+  pub wiping : Option Wiping
+
+-- what is kept of a worker when a table is made with these cells, which are given as words
+abbrev pub new_view : (cells : List ℕ) → (worker : ℕ) → View
+new_view cells worker = record {
+  worker = worker;
+  opening = cells;
+  side = new_side;
+  next_number = 0;
+  marks_used = 0;
+  opened = [];
+  written = [];
+  wiping = None;
+}
+
+-- what is kept of a worker when a round begins with these cells: all is new but the numbers that its Claims found
+abbrev pub round_view : (cells : List ℕ) → View → View
+round_view cells v = record {
+  worker = v.worker;
+  opening = cells;
+  side = record new_side { claims = v.side.claims };
+  next_number = 0;
+  marks_used = 0;
+  opened = [];
+  written = [];
+  wiping = None;
+}

@@ -1,0 +1,43 @@
+//! References to marks and descriptors.
+
+/// A mark or a descriptor: its worker, and its number among that worker's. Both count from 0.
+#[derive(Clone, Copy, Debug, PartialEq, Eq)]
+pub struct Ref {
+    pub worker: usize,
+    pub number: usize,
+}
+
+/// An entry of a descriptor, as a worker goes about it.
+#[derive(Clone, Copy, Debug, PartialEq, Eq)]
+pub struct Piece {
+    pub desc: Ref,
+    /// Counted from 0 in the descriptor.
+    pub entry: usize,
+    /// The entry's cell.
+    pub cell: usize,
+}
+
+/// A word that a worker reads, and what it is to it.
+#[derive(Clone, Copy, Debug, PartialEq, Eq)]
+pub enum Reading {
+    /// Any word of the table, of which nothing is noted.
+    Place(usize),
+    /// The word of a cell.
+    Cell(usize),
+    /// The control of a descriptor.
+    Control(Ref),
+    /// The control of this descriptor, for which this mark was found in this cell.
+    MarkControl { mark: Ref, cell: usize, desc: Ref },
+    /// The number of a descriptor's entries.
+    Length(Ref),
+    /// The cell of a descriptor's entry.
+    EntryCell { desc: Ref, entry: usize },
+    /// The old value of a descriptor's entry.
+    EntryOld { desc: Ref, entry: usize },
+    /// The new value of a descriptor's entry.
+    EntryNew { desc: Ref, entry: usize },
+    /// The descriptor of a mark.
+    MarkDesc(Ref),
+    /// The entry of a mark.
+    MarkEntry(Ref),
+}
