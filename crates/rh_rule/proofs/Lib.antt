@@ -1,0 +1,16 @@
+pub mod CellsKept
+pub mod DecidesKept
+pub mod Erasing
+pub mod Frames
+pub mod Kept
+pub mod OpensKept
+pub mod PlacesKept
+pub mod ReadsKept
+pub mod Said
+pub mod SeatsKept
+pub mod Soundness
+pub mod StepLaw
+pub mod Telling
+pub mod Touched
+pub mod WipesKept
+pub mod WritesKept

@@ -1,0 +1,126 @@
+-- What a worker may rely on follows from the rule.
+use Rattle.std.proofs.Common.{◌≡◌, ℕ, ◌+◌, ◌<◌, ◌≤◌, List, get_or, sym, refl, ap, ◌∙◌, subst, ⊎_elim, arith}
+use Rattle.rh_tagword.specs.Word.{tag_of}
+use Rattle.rh_tagword.specs.declared.limits.TheConstants.{UNUSED}
+use Rattle.rh_world.specs.World.{Cell, IsOpened, Ref, World}
+use Rattle.rh_world.specs.Notes.Note.{decided, desc_is, found, known, new_is, old_is, size_is, target_is, which_is}
+use Rattle.rh_world.specs.Sides.{Side}
+use Rattle.rh_world.specs.Rule.{Rule}
+use Rattle.rh_world.proofs.EndsKept.{claims_share_out}
+use Rattle.rh_descriptor.specs.declared.shape.Shape.{Shape}
+use Rattle.rh_descriptor.specs.declared.shape.Part.TheVariants as part
+use Rattle.rh_descriptor.specs.declared.reference.Reading.{Reading}
+use Rattle.rh_descriptor.specs.declared.reference.Reading.TheVariants as reading
+use Rattle.rh_descriptor.specs.Places.{IsShape, cell_count}
+use Rattle.rh_descriptor.specs.View.{View}
+use Rattle.rh_descriptor.specs.Words.{cell_in, desc_in, read_control, ref_of}
+use Rattle.rh_descriptor.specs.Steps.{IsDesc, IsNoted, IsRead, IsStep, Step, place, place_read}
+use Rattle.rh_rule.specs.Mirrors.{IsCell, Kept, word_at, Mirrors}
+use Rattle.rh_rule.specs.Sound.{Finds, Reads, Sound, StepsFind, ViewsAreSound}
+use Rattle.rh_rule.proofs.OpensKept.{word_is}
+use Rattle.rh_rule.proofs.ReadsKept.{mark_known, opened_known, reads_desc_control, true_note, work_known}
+use Rattle.rh_rule.proofs.Said.{cell_said_is, desc_said_is}
+
+module _ (z : Shape) (shape : IsShape z) (words : List ℕ) (keep : ℕ → View) (w : World) (side : ℕ → Side) (rule : Rule w side) (m : Mirrors z words keep w side) (who : ℕ) (mine : who < z.workers) where
+  abbrev v : View
+  v = keep who
+
+  h : Kept z words w (side who) who v
+  h = m.kept who mine
+
+  pub sound : Sound z v
+  sound = record {
+    descs_used = h.entry_room;
+    marks_used = h.mark_room;
+    descs = λ d i. m.controls.descs d (opened_known z shape words keep w side rule m who mine d i);
+    sizes = λ d n i.
+        let q = true_note z shape words keep w side rule m who mine (size_is d n) tt refl i in
+        let row = m.rows.descs d q.0 in
+        let is : w.size d ≡ n = q.1 in
+        let some : 0 < w.size d = row.some in
+        let room : d.number + w.size d ≤ w.next_number d.worker = row.room in
+        let k = m.kept d.worker (m.controls.descs d q.0).0 in
+        let a : (keep d.worker).next_number ≡ w.next_number d.worker = k.next_number in
+        let b : (keep d.worker).next_number ≤ z.entry_room = k.entry_room in
+        (omega arith, omega arith);
+    targets = λ d e c i may.
+        let q = true_note z shape words keep w side rule m who mine (target_is d e c) tt refl i in
+        let o = work_known z shape words keep w side rule m who mine d e may in
+        subst (λ (n : ℕ). n < cell_count z) q.1 ((m.rows.descs d o.0).within e o.1);
+    olds = λ d e u i may.
+        let q = true_note z shape words keep w side rule m who mine (old_is d e u) tt refl i in
+        let o = ⊎_elim (work_known z shape words keep w side rule m who mine d e) (mark_known z shape words keep w side rule m who mine d e) may in
+        ap (λ (n : ℕ). tag_of n) (sym q.1) ∙ (m.rows.descs d o.0).plain_olds e o.1;
+    news = λ d e u i may.
+        let q = true_note z shape words keep w side rule m who mine (new_is d e u) tt refl i in
+        let o = work_known z shape words keep w side rule m who mine d e may in
+        ap (λ (n : ℕ). tag_of n) (sym q.1) ∙ (m.rows.descs d o.0).plain_news e o.1;
+    marks = λ x c i.
+        let q = true_note z shape words keep w side rule m who mine (found x c) tt refl i in
+        let o = rule.rows.used x q.0 in
+        ((m.rows.marks x q.0).is_mark, subst (λ (n : ℕ). n < cell_count z) q.1 ((m.rows.descs (w.mark_desc x) o.0).within (w.mark_entry x) o.1));
+    marked = λ d e i.
+        let o = mark_known z shape words keep w side rule m who mine d e i in
+        let at = m.controls.descs d o.0 in
+        let room : d.number + w.size d ≤ w.next_number d.worker = (m.rows.descs d o.0).room in
+        let less : e < w.size d = o.1 in
+        let k = m.kept d.worker at.0 in
+        let a : (keep d.worker).next_number ≡ w.next_number d.worker = k.next_number in
+        let b : (keep d.worker).next_number ≤ z.entry_room = k.entry_room in
+        (at, omega arith);
+    results = λ d k i. (true_note z shape words keep w side rule m who mine (decided d k) tt refl i).0;
+    one_size = λ d a b i j. sym (true_note z shape words keep w side rule m who mine (size_is d a) tt refl i).1 ∙ (true_note z shape words keep w side rule m who mine (size_is d b) tt refl j).1;
+    one_target = λ d e a b i j. sym (true_note z shape words keep w side rule m who mine (target_is d e a) tt refl i).1 ∙ (true_note z shape words keep w side rule m who mine (target_is d e b) tt refl j).1;
+    one_old = λ d e a b i j. sym (true_note z shape words keep w side rule m who mine (old_is d e a) tt refl i).1 ∙ (true_note z shape words keep w side rule m who mine (old_is d e b) tt refl j).1;
+    one_new = λ d e a b i j. sym (true_note z shape words keep w side rule m who mine (new_is d e a) tt refl i).1 ∙ (true_note z shape words keep w side rule m who mine (new_is d e b) tt refl j).1;
+    one_result = λ d a b i j. sym (true_note z shape words keep w side rule m who mine (decided d a) tt refl i).1 ∙ (true_note z shape words keep w side rule m who mine (decided d b) tt refl j).1;
+    one_desc = λ x d f i j. sym (true_note z shape words keep w side rule m who mine (desc_is x d) tt refl i).1 ∙ (true_note z shape words keep w side rule m who mine (desc_is x f) tt refl j).1;
+    one_entry = λ x e f i j. sym (true_note z shape words keep w side rule m who mine (which_is x e) tt refl i).1 ∙ (true_note z shape words keep w side rule m who mine (which_is x f) tt refl j).1;
+  }
+
+  -- a cell holds what can stand in one
+  cell_finds : (c : ℕ) → c < cell_count z → IsCell z (cell_in (get_or words c 0))
+  cell_finds c lt = subst (λ (k : Cell). IsCell z k) (sym (ap cell_in (m.cells.cells c lt) ∙ cell_said_is z shape (w.cell c) (m.cells.standing c lt))) (m.cells.standing c lt)
+
+  -- the control of an opened descriptor
+  control_finds : (d : Ref) → IsDesc z d → IsOpened (w.control d) → IsOpened (read_control (word_at z words (part.Control d.worker d.number)))
+  control_finds d here o e = o (sym (reads_desc_control z shape words keep w side rule m who mine d here (word_at z words (part.Control d.worker d.number)) refl) ∙ e)
+
+  reads_find : (r : Reading) → IsRead z r → IsNoted v r → Reads z v r (get_or words (place_read z r) 0)
+  reads_find (reading.Place p) here may = tt
+  reads_find (reading.Cell c) here may = cell_finds c here
+  reads_find (reading.Control d) here may = λ i. control_finds (ref_of d) here (opened_known z shape words keep w side rule m who mine (ref_of d) i)
+  reads_find (reading.MarkControl x c d) here may =
+      let f = true_note z shape words keep w side rule m who mine (found (ref_of x) c) tt refl may.0 in
+      let is = true_note z shape words keep w side rule m who mine (desc_is (ref_of x) (ref_of d)) tt refl may.1 in
+      control_finds (ref_of d) here (subst (λ (y : Ref). IsOpened (w.control y)) is.1 (rule.rows.used (ref_of x) f.0).0)
+  reads_find (reading.Length d) here may = tt
+  reads_find (reading.EntryCell d e) here may = tt
+  reads_find (reading.EntryOld d e) here may = tt
+  reads_find (reading.EntryNew d e) here may = tt
+  reads_find (reading.MarkDesc x) here may =
+      let f = true_note z shape words keep w side rule m who mine (found (ref_of x) may.0) tt refl may.1 in
+      let d : Ref = w.mark_desc (ref_of x) in
+      (d, ap desc_in (m.rows.marks (ref_of x) f.0).desc ∙ desc_said_is z shape d (m.controls.descs d (rule.rows.used (ref_of x) f.0).0))
+  reads_find (reading.MarkEntry x) here may = tt
+
+  pub finds : (s : Step) → IsStep z v s → Finds z v s (get_or words (place z v s) 0)
+  finds (Step.writes p u) may = tt
+  finds (Step.opens size) may = subst (λ (d : Ref). word_at z words (part.Control d.worker d.number) ≡ UNUSED) (λ i. record { worker = sym h.worker i; number = sym h.next_number i }) (word_is z shape words keep w side rule m who mine size may)
+  finds (Step.reads r) may = reads_find r may.0 may.1
+  finds (Step.places d e c old) may = cell_finds c may.cell
+  finds (Step.settles x c d e old) may = cell_finds c may.cell
+  finds (Step.decides d k) may = control_finds d may.desc (true_note z shape words keep w side rule m who mine (known d) tt refl may.known)
+  finds (Step.releases d e c k value) may = cell_finds c may.cell
+  finds Step.claims may =
+      let bound : w.counter ≤ w.keys + w.workers = (claims_share_out w side rule).counter in
+      let keys : w.keys ≡ z.keys = m.keys in
+      let workers : w.workers ≡ z.workers = m.workers in
+      let is : word_at z words part.Counter ≡ w.counter = m.counter in
+      omega arith
+
+pub views_are_sound : ViewsAreSound
+views_are_sound w z words keep v shape core mine = sound z shape words keep w core.side core.rule core.mirrors v mine
+
+pub steps_find : StepsFind
+steps_find w z words keep v s shape core mine may = finds z shape words keep w core.side core.rule core.mirrors v mine s may.step

@@ -1,0 +1,138 @@
+-- What the rule says of what is kept.
+use Rattle.std.proofs.Common.{◌≡◌, ℕ, ◌⊎◌, Bool, true, false, true≢false, cond, ◌&&◌, ◌||◌, List, [], ◌∷◌, filter, sym, refl, ap, ◌∙◌, subst, inl, inr, ⊎_elim, Some, None}
+use Rattle.rh_tagword.specs.Word.{tag_of}
+use Rattle.rh_world.specs.World.{Cell, Control, In, Ref, World, is_ref}
+use Rattle.rh_world.specs.World.Control.{failed, succeeded, undecided, unused, withdrawn}
+use Rattle.rh_world.specs.Notes.{Note}
+use Rattle.rh_world.specs.Notes.Note.{decided, desc_is, found, held, known, may_demote, may_promote, mismatch, new_is, old_is, size_is, target_is, which_is}
+use Rattle.rh_world.specs.Acts.{is_success}
+use Rattle.rh_world.specs.Sides.{Side}
+use Rattle.rh_world.proofs.ActsKept.{succeeded_opened}
+use Rattle.rh_world.proofs.EndsKept.{claims_share_out, one_order, prefixes_say, rest_is_settled}
+use Rattle.rh_world.proofs.Tests.{both, is_ref_yes}
+use Rattle.rh_world.proofs.Updated.{updated_ref_here}
+use Rattle.rh_descriptor.specs.declared.shape.Shape.{Shape}
+use Rattle.rh_descriptor.specs.View.{OwnDesc, View}
+use Rattle.rh_rule.specs.Mirrors.{IsCell, cell_number, numbers_of}
+use Rattle.rh_rule.specs.Core.{Core}
+use Rattle.rh_rule.specs.Rest.{Rests, Tells, Told, is_noted_success, says_success}
+use Rattle.rh_rule.proofs.Erasing.{in_whole}
+use Rattle.rh_rule.proofs.WipesKept.{all_rest}
+
+told : (w : World) (z : Shape) (words : List ℕ) (keep : ℕ → View) (core : Core w z words keep) → Told w z keep core.side
+told w z words keep core =
+    let m = core.mirrors in
+    let order = one_order w core.side core.rule in
+    record {
+      order = order;
+      foretold = prefixes_say w core.side core.rule;
+      shared = claims_share_out w core.side core.rule;
+      kept = λ v lt. (m.kept v lt).side_is;
+      opening = λ v c lt inside. sym ((m.kept v lt).opening c inside);
+      opened = λ v o lt i. (m.kept v lt).opened o i;
+      results = λ v d k lt i. (core.rule.rows.notes v (decided d k) (in_whole (decided d k) (core.side v) tt (subst (λ (s : Side). In (decided d k) s.notes) (m.kept v lt).side_is i)) refl).1;
+      own = λ v lt. let h = m.kept v lt in order.own v _ h.falling h.all;
+      workers = λ i lt. (m.controls.descs (w.act i) (succeeded_opened (w.control (w.act i)) (order.succeeded i lt))).0;
+    }
+
+pub tells : Tells
+tells w z words keep core = told w z words keep core
+
+-- ---- the acts that were noted
+
+or_true : (a b : Bool) → (a || b) ≡ true → (a ≡ true) ⊎ (b ≡ true)
+or_true true b e = inl refl
+or_true false b e = inr e
+
+true_or : (a b : Bool) → (a ≡ true) ⊎ (b ≡ true) → (a || b) ≡ true
+true_or true b e = refl
+true_or false b e = ⊎_elim (λ q. absurd (true≢false (sym q))) (λ q. q) e
+
+success_is : (k : Control) → is_success k ≡ true → k ≡ succeeded
+success_is unused e = absurd (true≢false (sym e))
+success_is undecided e = absurd (true≢false (sym e))
+success_is succeeded e = refl
+success_is withdrawn e = absurd (true≢false (sym e))
+success_is (failed i) e = absurd (true≢false (sym e))
+
+says_so : (n : Note) (d : Ref) → says_success n d ≡ true → decided d succeeded ≡ n
+says_so (known f) d e = absurd (true≢false (sym e))
+says_so (size_is f i) d e = absurd (true≢false (sym e))
+says_so (target_is f i c) d e = absurd (true≢false (sym e))
+says_so (old_is f i u) d e = absurd (true≢false (sym e))
+says_so (new_is f i u) d e = absurd (true≢false (sym e))
+says_so (decided f k) d e = let q = both (is_ref f d) (is_success k) e in λ i. decided (sym (is_ref_yes f d q.0) i) (sym (success_is k q.1) i)
+says_so (desc_is x f) d e = absurd (true≢false (sym e))
+says_so (which_is x i) d e = absurd (true≢false (sym e))
+says_so (found x c) d e = absurd (true≢false (sym e))
+says_so (may_promote x c) d e = absurd (true≢false (sym e))
+says_so (may_demote x) d e = absurd (true≢false (sym e))
+says_so (held f i) d e = absurd (true≢false (sym e))
+says_so (mismatch f i n) d e = absurd (true≢false (sym e))
+
+ref_self : (d : Ref) → is_ref d d ≡ true
+ref_self d = ⊎_elim (λ p. p) (λ q. absurd (is_ref_no d d q refl)) (bool_cases (is_ref d d))
+  where
+    bool_cases : (b : Bool) → (b ≡ true) ⊎ (b ≡ false)
+    bool_cases true = inl refl
+    bool_cases false = inr refl
+
+    is_ref_no : (x y : Ref) → is_ref x y ≡ false → x ≡ y → ⊥
+    is_ref_no x y e p = true≢false (sym (updated_ref_here (λ q. false) y x true p) ∙ only (is_ref x y) ∙ e)
+      where
+        only : (b : Bool) → cond b true false ≡ b
+        only true = refl
+        only false = refl
+
+noted_in : (ns : List Note) (d : Ref) → is_noted_success ns d ≡ true → In (decided d succeeded) ns
+noted_in [] d e = absurd (true≢false (sym e))
+noted_in (n ∷ ns) d e = ⊎_elim (λ q. inl (says_so n d q)) (λ q. inr (noted_in ns d q)) (or_true (says_success n d) (is_noted_success ns d) e)
+
+in_noted : (ns : List Note) (d : Ref) → In (decided d succeeded) ns → is_noted_success ns d ≡ true
+in_noted [] d i = absurd i
+in_noted (n ∷ ns) d i = true_or (says_success n d) (is_noted_success ns d)
+    (⊎_elim (λ e. inl (ap (λ (m : Note). says_success m d) (sym e) ∙ ap (λ (b : Bool). b && true) (ref_self d))) (λ j. inr (in_noted ns d j)) i)
+
+same_bool : (a b : Bool) → (a ≡ true → b ≡ true) → (b ≡ true → a ≡ true) → a ≡ b
+same_bool true b f g = sym (f refl)
+same_bool false true f g = g refl
+same_bool false false f g = refl
+
+-- a control that is noted is noted as a success exactly where it is one
+success_noted : (ns : List Note) (d : Ref) (c : Control) → ((r : Control) → In (decided d r) ns → c ≡ r)
+    → (r : Control) × In (decided d r) ns → is_success c ≡ is_noted_success ns d
+success_noted ns d c true_of noted = same_bool (is_success c) (is_noted_success ns d)
+    (λ e. in_noted ns d (subst (λ (k : Control). In (decided d k) ns) (sym (true_of noted.0 noted.1) ∙ success_is c e) noted.1))
+    (λ e. ap is_success (true_of succeeded (noted_in ns d e)))
+
+-- a filter by what is so of each
+filtered : (f : ℕ → Bool) (g : OwnDesc → Bool) (os : List OwnDesc) → ((o : OwnDesc) → In o os → f o.number ≡ g o)
+    → filter f (numbers_of os) ≡ numbers_of (filter g os)
+filtered f g [] same = refl
+filtered f g (o ∷ os) same =
+    ap (λ (b : Bool). cond b (o.number ∷ filter f (numbers_of os)) (filter f (numbers_of os))) (same o (inl refl))
+    ∙ over (g o) (filtered f g os (λ p i. same p (inr i)))
+  where
+    over : (b : Bool) → filter f (numbers_of os) ≡ numbers_of (filter g os)
+        → cond b (o.number ∷ filter f (numbers_of os)) (filter f (numbers_of os)) ≡ numbers_of (cond b (o ∷ filter g os) (filter g os))
+    over true e = ap (λ (l : List ℕ). o.number ∷ l) e
+    over false e = e
+
+pub rests : Rests
+rests w z words keep core rest =
+    let m = core.mirrors in
+    let settled = rest_is_settled w core.side core.rule (all_rest w z words keep core rest) in
+    let t = told w z words keep core in
+    record {
+      told = t;
+      cells = λ c lt. m.cells.cells c lt ∙ ap cell_number (settled.cells c);
+      plain = λ c lt. ap (λ (u : ℕ). tag_of u) (m.cells.cells c lt ∙ ap cell_number (settled.cells c)) ∙ subst (λ (k : Cell). IsCell z k) (settled.cells c) (m.cells.standing c lt);
+      acts = λ v lt.
+          let h = m.kept v lt in
+          t.own v lt ∙ filtered (λ n. is_success (w.control (record { worker = v; number = n }))) (λ o. is_noted_success (keep v).side.notes (record { worker = (keep v).worker; number = o.number })) (keep v).opened
+          (λ o i.
+          let d : Ref = record { worker = v; number = o.number } in
+          success_noted (keep v).side.notes d (w.control d) (λ k j. t.results v d k lt j)
+          (⊎_elim (λ q. let bad : None ≡ Some o.number = sym (rest.rest v lt).closed ∙ q in cc) (λ q. q) (h.over o i))
+          ∙ ap (is_noted_success (keep v).side.notes) (λ j. record { worker = sym h.worker j; number = o.number }));
+    }

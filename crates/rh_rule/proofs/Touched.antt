@@ -1,0 +1,82 @@
+-- A step that sets the word of one part: what stays of the mirror.
+use Rattle.std.proofs.Common.{◌≡◌, ◌≢◌, ℕ, ◌<◌, List, length, set, sym, ap, ◌∙◌, subst, length-set}
+use Rattle.rh_world.specs.World.{Cell, IsOpened, IsUsed, Ref, World}
+use Rattle.rh_world.specs.Later.{Steady}
+use Rattle.rh_world.specs.Sides.{Side}
+use Rattle.rh_descriptor.specs.declared.shape.Shape.{Shape}
+use Rattle.rh_descriptor.specs.declared.shape.Part.{Part}
+use Rattle.rh_descriptor.specs.declared.shape.Part.TheVariants as part
+use Rattle.rh_descriptor.specs.Places.{IsPart, place_of, word_count}
+use Rattle.rh_descriptor.specs.View.{View}
+use Rattle.rh_descriptor.specs.Words.{number_of}
+use Rattle.rh_rule.specs.Mirrors.{Cells, Controls, IsCell, IsOwn, Kept, RowWords, cell_number, word_at, Mirrors}
+use Rattle.rh_rule.proofs.Frames.{word_same}
+use Rattle.rh_rule.proofs.Kept.{IsFixed, kept_stays, numbers_within, rows_stay}
+
+-- parts of the rows are parts of the table
+pub own_part : (z : Shape) (u : ℕ) (q : Part) → u < z.workers → IsOwn z u q → IsPart z q
+own_part z u (part.Cell c) lt o = absurd o
+own_part z u (part.Control worker n) lt o = absurd o
+own_part z u (part.Length worker n) lt o = (subst (λ (x : ℕ). x < z.workers) (sym o.0) lt, o.1)
+own_part z u (part.EntryCell worker n) lt o = (subst (λ (x : ℕ). x < z.workers) (sym o.0) lt, o.1)
+own_part z u (part.EntryOld worker n) lt o = (subst (λ (x : ℕ). x < z.workers) (sym o.0) lt, o.1)
+own_part z u (part.EntryNew worker n) lt o = (subst (λ (x : ℕ). x < z.workers) (sym o.0) lt, o.1)
+own_part z u (part.MarkDesc worker n) lt o = (subst (λ (x : ℕ). x < z.workers) (sym o.0) lt, o.1)
+own_part z u (part.MarkEntry worker n) lt o = (subst (λ (x : ℕ). x < z.workers) (sym o.0) lt, o.1)
+own_part z u part.Counter lt o = absurd o
+
+pub fixed_part : (z : Shape) (w : World) (q : Part) → IsFixed z w q → IsPart z q
+fixed_part z w (part.Cell c) o = absurd o
+fixed_part z w (part.Control worker n) o = absurd o
+fixed_part z w (part.Length worker n) o = (o.0, o.2)
+fixed_part z w (part.EntryCell worker n) o = (o.0, o.2)
+fixed_part z w (part.EntryOld worker n) o = (o.0, o.2)
+fixed_part z w (part.EntryNew worker n) o = (o.0, o.2)
+fixed_part z w (part.MarkDesc worker n) o = (o.0, o.2)
+fixed_part z w (part.MarkEntry worker n) o = (o.0, o.2)
+fixed_part z w part.Counter o = absurd o
+
+module _ (z : Shape) (words : List ℕ) (keep : ℕ → View) (w : World) (side : ℕ → Side) (m : Mirrors z words keep w side) (p : Part) (here : IsPart z p) (n : ℕ) (v : World) (l : Steady w v) where
+  abbrev pub then : List ℕ
+  then = set words (place_of z p) n
+
+  pub set_sized : length then ≡ word_count z
+  set_sized = length-set words (place_of z p) n ∙ m.sized
+
+  pub own_same : (u : ℕ) → u < z.workers → (IsOwn z u p → ⊥) → (q : Part) → IsOwn z u q
+      → word_at z then q ≡ word_at z words q
+  own_same u lt clear q o = word_same z words p n here q (own_part z u q lt o) (λ e. clear (subst (λ (x : Part). IsOwn z u x) e o))
+
+  pub fixed_same : (IsFixed z w p → ⊥) → (q : Part) → IsFixed z w q → word_at z then q ≡ word_at z words q
+  fixed_same clear q o = word_same z words p n here q (fixed_part z w q o) (λ e. clear (subst (λ (x : Part). IsFixed z w x) e o))
+
+  pub counter_same : part.Counter ≢ p → v.counter ≡ w.counter → word_at z then part.Counter ≡ v.counter
+  counter_same ne same = word_same z words p n here part.Counter tt ne ∙ m.counter ∙ sym same
+
+  pub cells_same : ((c : ℕ) → part.Cell c ≢ p) → ((c : ℕ) → v.cell c ≡ w.cell c) → Cells z then v
+  cells_same ne same = record {
+    cells = λ c h. word_same z words p n here (part.Cell c) h (ne c) ∙ m.cells.cells c h ∙ ap cell_number (sym (same c));
+    standing = λ c h. subst (λ (k : Cell). IsCell z k) (sym (same c)) (m.cells.standing c h);
+  }
+
+  pub controls_same : ((worker number : ℕ) → part.Control worker number ≢ p) → ((d : Ref) → v.control d ≡ w.control d)
+      → Controls z then v
+  controls_same ne same = record {
+    controls = λ d h. word_same z words p n here (part.Control d.worker d.number) h (ne d.worker d.number) ∙ m.controls.controls d h ∙ ap number_of (sym (same d));
+    descs = λ d o. m.controls.descs d (λ e. o (same d ∙ e));
+    failures = λ d e q. m.controls.failures d e (sym (same d) ∙ q);
+  }
+
+  pub rows_same : (IsFixed z w p → ⊥) → ((u : ℕ) → v.next_number u ≡ w.next_number u)
+      → ((d : Ref) → IsOpened (v.control d) → IsOpened (w.control d)) → ((x : Ref) → IsUsed v x → IsUsed w x) → RowWords z then v
+  rows_same clear numbers back fewer = rows_stay z words then w v l m.controls (numbers_within z words keep w side m) numbers back fewer (fixed_same clear) m.rows
+
+  -- what is kept of the other workers
+  pub others_stay : (who : ℕ) → ((u : ℕ) → u ≢ who → v.next_number u ≡ w.next_number u)
+      → ((u : ℕ) → u ≢ who → v.marks_used u ≡ w.marks_used u)
+      → ((d : Ref) → d.worker ≢ who → IsOpened (v.control d) → IsOpened (w.control d))
+      → ((u : ℕ) → u ≢ who → IsOwn z u p → ⊥)
+      → (u : ℕ) → u < z.workers → u ≢ who → Kept z then v (side u) u (keep u)
+  others_stay who numbers marks back clear u lt ne =
+      let h = m.kept u lt in
+      kept_stays z words then w v l (side u) (side u) u (keep u) (keep u).side (numbers u ne) (marks u ne) (λ i o. back record { worker = u; number = i } ne o) (own_same u lt (clear u ne)) h.side_is h.over h

@@ -1,0 +1,7 @@
+pub mod Erased
+pub mod Mirrors
+pub mod Core
+pub mod Sound
+pub mod Rest
+pub mod Wipes
+pub mod Seats

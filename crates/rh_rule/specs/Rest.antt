@@ -1,0 +1,75 @@
+-- What the rule says of what is kept of the workers, at any moment and where all are at rest.
+use Rattle.std.specs.Prelude.{◌≡◌, ℕ, ◌<◌, Bool, false, ◌&&◌, ◌||◌, List, [], ◌∷◌, filter, slice_index, None}
+use Rattle.rh_world.specs.World.{Ref, Control, World, In, is_ref}
+use Rattle.rh_world.specs.Notes.{Note}
+use Rattle.rh_world.specs.Notes.Note.{known, size_is, target_is, old_is, new_is, decided, desc_is, which_is, found, may_promote, may_demote, held, mismatch}
+use Rattle.rh_world.specs.Sides.{Side, AtRest}
+use Rattle.rh_world.specs.Acts.{cells_after, is_success, own_acts, successes_of}
+use Rattle.rh_world.specs.Laws.{Foretold, OneOrder, SharedOut}
+use Rattle.rh_descriptor.specs.declared.shape.Shape.{Shape}
+use Rattle.rh_descriptor.specs.Places.{cell_count}
+use Rattle.rh_descriptor.specs.View.{OwnDesc, View}
+use Rattle.rh_descriptor.specs.Words.{IsPlain}
+use Rattle.rh_rule.specs.Erased.{erased}
+use Rattle.rh_rule.specs.Mirrors.{IsOpenedSo, numbers_of}
+use Rattle.rh_rule.specs.Core.{Core}
+
+-- The acts of the world stand in one order, and it tells of what is kept: the reads that are kept and the descriptors that
+-- failed have their prefixes, and the numbers that Claims found are shared out. What is kept of a worker is true of it: its
+-- opening cells, its opened descriptors, and how they were decided.
+pub record Told (w : World) (z : Shape) (keep : ℕ → View) (side : ℕ → Side) : Type 0 where
+  pub order : OneOrder w
+  pub foretold : Foretold w side
+  pub shared : SharedOut w side
+  pub kept : (v : ℕ) → v < z.workers → (keep v).side ≡ erased (side v)
+  pub opening : (v c : ℕ) → v < z.workers → c < cell_count z → cells_after w 0 c ≡ slice_index (keep v).opening c
+  pub opened : (v : ℕ) (o : OwnDesc) → v < z.workers → In o (keep v).opened
+      → IsOpenedSo w (record { worker = v; number = o.number }) o
+  pub results : (v : ℕ) (d : Ref) (k : Control) → v < z.workers → In (decided d k) (keep v).side.notes → w.control d ≡ k
+  -- a worker's own acts, newest first, are those of its opened descriptors that succeeded
+  pub own : (v : ℕ) → v < z.workers → own_acts w v w.act_count ≡ successes_of w v (numbers_of (keep v).opened)
+  -- and each act is of a worker of the table
+  pub workers : (i : ℕ) → i < w.act_count → (w.act i).worker < z.workers
+
+abbrev pub Tells : Type 0
+Tells = (w : World) (z : Shape) (words : List ℕ) (keep : ℕ → View) → (core : Core w z words keep) → Told w z keep core.side
+
+-- all workers of the table are at rest, and no wipe is under way
+pub record AllRest (z : Shape) (keep : ℕ → View) : Type 0 where
+  pub still : (v : ℕ) → v < z.workers → (keep v).wiping ≡ None
+  pub rest : (v : ℕ) → v < z.workers → AtRest (keep v).side
+
+-- whether a note says that d succeeded
+abbrev pub says_success : Note → Ref → Bool
+says_success (known f) d = false
+says_success (size_is f n) d = false
+says_success (target_is f e c) d = false
+says_success (old_is f e u) d = false
+says_success (new_is f e u) d = false
+says_success (decided f k) d = is_ref f d && is_success k
+says_success (desc_is x f) d = false
+says_success (which_is x e) d = false
+says_success (found x c) d = false
+says_success (may_promote x c) d = false
+says_success (may_demote x) d = false
+says_success (held f e) d = false
+says_success (mismatch f e n) d = false
+
+abbrev pub is_noted_success : List Note → Ref → Bool
+is_noted_success [] d = false
+is_noted_success (n ∷ ns) d = says_success n d || is_noted_success ns d
+
+-- the acts that a worker at rest has made, newest first: its opened descriptors that it noted as succeeded
+abbrev pub made : View → List OwnDesc
+made k = filter (λ o. is_noted_success k.side.notes (record { worker = k.worker; number = o.number })) k.opened
+
+-- where all are at rest, these are the cells
+pub record Rested (w : World) (z : Shape) (words : List ℕ) (keep : ℕ → View) (side : ℕ → Side) : Type 0 where
+  pub told : Told w z keep side
+  pub cells : (c : ℕ) → c < cell_count z → slice_index words c ≡ cells_after w w.act_count c
+  pub plain : (c : ℕ) → c < cell_count z → IsPlain (slice_index words c)
+  pub acts : (v : ℕ) → v < z.workers → own_acts w v w.act_count ≡ numbers_of (made (keep v))
+
+abbrev pub Rests : Type 0
+Rests = (w : World) (z : Shape) (words : List ℕ) (keep : ℕ → View) → (core : Core w z words keep) → AllRest z keep
+    → Rested w z words keep core.side

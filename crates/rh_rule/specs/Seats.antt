@@ -1,0 +1,125 @@
+-- The rule of a table as its seats have it: each seat's view is the list of what is kept of its workers. A step leaves
+-- where each worker sits; that a view is cut in two, or two are joined, changes this alone. (own)
+use Rattle.std.specs.Prelude.{◌≡◌, ℕ, zero, suc, ◌+◌, ◌<◌, List, [], ◌∷◌, ◌++◌, length, map, replicate, take, drop, slice_index, Some, None}
+use mathlib.Core.Option.{some}
+use lib.ListN.{get_elem?}
+use Rattle.atomic_table.specs.Table.{State, Me, Allows, Joins, Splits, opening}
+use Rattle.rh_world.specs.World.{World}
+use Rattle.rh_world.specs.Sides.{Side, AtRest}
+use Rattle.rh_descriptor.specs.declared.known.Known.{Known}
+use Rattle.rh_descriptor.specs.declared.shape.Shape.{Shape}
+use Rattle.rh_descriptor.specs.Places.{IsShape, cell_count}
+use Rattle.rh_descriptor.specs.View.{View, new_view, round_view}
+use Rattle.rh_descriptor.specs.Words.{IsPlain}
+use Rattle.rh_descriptor.specs.Steps.{Step, Allowed, noted, place, word_after}
+use Rattle.rh_rule.specs.Core.{Ruled}
+use Rattle.rh_rule.specs.Rest.{Rested}
+use Rattle.rh_rule.specs.Sound.{Finds, Sound}
+use Rattle.rh_rule.specs.Wipes.{Rules, row_total, wiping_view}
+
+-- what a seat's view has of one worker
+abbrev pub known : View → Known
+known v = record { view = v }
+
+-- where each worker sits: the seat, and the place in that seat's view
+pub record Seated (z : Shape) (keep : ℕ → View) (views : List (List Known)) : Type 0 where
+  pub seat_of : ℕ → ℕ
+  pub rank_of : ℕ → ℕ
+  pub seated : (j r : ℕ) (vs : List Known) (s : Known) → get_elem? views j ≡ some vs → get_elem? vs r ≡ some s
+      → (s.view.worker < z.workers) × (keep s.view.worker ≡ s.view) × (seat_of s.view.worker ≡ j) × (rank_of s.view.worker ≡ r)
+
+-- the rule of the table
+pub record Holds {S : Type 0} (z : Shape) (t : State S (List Known)) : Type 0 where
+  pub keep : ℕ → View
+  pub seated : Seated z keep t.views
+  pub rules : Rules z t.words keep
+
+-- the view of a seat has the workers from the first on, so many
+pub record Spans (vs : List Known) (first count : ℕ) : Type 0 where
+  pub long : length vs ≡ count
+  pub each : (r : ℕ) (s : Known) → get_elem? vs r ≡ some s → s.view.worker ≡ first + r
+
+abbrev pub InView : (View → Type 0) → List Known → Type 0
+InView P vs = (r : ℕ) (s : Known) → get_elem? vs r ≡ some s → P s.view
+
+abbrev pub all_views : (View → View) → List Known → List Known
+all_views f vs = map (λ s. known (f s.view)) vs
+
+-- the workers from the first on, so many
+abbrev pub new_views : (cells : List ℕ) → (first count : ℕ) → List Known
+new_views cells first zero = []
+new_views cells first (suc n) = known (new_view cells first) ∷ new_views cells (suc first) n
+
+-- the view of the first seat
+abbrev pub first_view : Shape → (cells : List ℕ) → List Known
+first_view z cells = new_views cells 0 z.workers
+
+-- the worker is in the midst of a wipe
+abbrev pub IsWiping : (cells : List ℕ) → (cleared : ℕ) → View → Type 0
+IsWiping cells cleared v = v.wiping ≡ Some (record { cells = cells; cleared = cleared })
+
+-- ---- what the laws of seats say
+
+-- the table has no slots: such a value is the one of their type
+abbrev pub NoSlot : Type 0
+NoSlot = Unit {0}
+
+-- A table starts with plain cells, whose other words are 0, and with one seat for all workers.
+abbrev pub Starts : Type 0
+Starts = (z : Shape) (cells : List ℕ) (slots : List NoSlot) → IsShape z → length cells ≡ cell_count z
+    → ((c : ℕ) → c < cell_count z → IsPlain (slice_index cells c))
+    → Holds z (opening (cells ++ replicate (row_total z + 1) 0) slots (first_view z cells))
+
+-- what a step tells the seat of one worker, of whom this was kept before
+pub record StepTells (z : Shape) (v : View) (s : Step) (word : ℕ) (me : Me NoSlot (List Known)) : Type 0 where
+  pub view : me ≡ (known (noted z v s word) ∷ [], [])
+  pub finds : Finds z v s word
+  pub sound : Sound z (noted z v s word)
+
+-- The seat of one worker may make each step that is allowed: it touches the step's word, notes what it found, and learns
+-- what it may rely on.
+abbrev pub StepsAreAllowed : Type 0
+StepsAreAllowed = (z : Shape) (slots id : ℕ) (v : View) (s : Step) → IsShape z → Allowed z v s
+    → Allows {S = NoSlot} (Holds z) slots id (known v ∷ [], []) (place z v s) (word_after v s) (StepTells z v s)
+
+-- A view may be cut in two at any place, and two views may be joined.
+abbrev pub ViewsSplit : Type 0
+ViewsSplit = (z : Shape) (id n : ℕ) (vs : List Known) → Splits {S = NoSlot} (Holds z) id vs (take n vs) (drop n vs)
+
+abbrev pub ViewsJoin : Type 0
+ViewsJoin = (z : Shape) (id : ℕ) (vs : List Known) (other : ℕ) (us : List Known)
+    → Joins {S = NoSlot} (Holds z) id vs other us (vs ++ us) []
+
+-- what the seat of all workers learns where it begins a wipe: the cells, which are those that all the acts made
+pub record Begun (z : Shape) (vs : List Known) (me : Me NoSlot (List Known)) : Type 0 where
+  pub cells : List ℕ
+  pub long : length cells ≡ cell_count z
+  pub w : World
+  pub keep : ℕ → View
+  pub side : ℕ → Side
+  pub rested : Rested w z cells keep side
+  pub of_view : (r : ℕ) (s : Known) → get_elem? vs r ≡ some s → keep r ≡ s.view
+  pub view : me ≡ (all_views (wiping_view cells 0) vs, [])
+
+-- what the seat of all workers does in a wipe
+pub record WipeSteps (z : Shape) (slots id : ℕ) (vs : List Known) : Type 0 where
+  -- where all are at rest it begins one, by a load of any word
+  pub begins : (i : ℕ) → InView (λ v. v.wiping ≡ None) vs → InView (λ v. AtRest v.side) vs
+      → Allows {S = NoSlot} (Holds z) slots id (vs, []) i (λ n. n) (λ word. Begun z vs)
+  -- it clears the next row word
+  pub stores : (cells : List ℕ) (n : ℕ) → n < row_total z → InView (IsWiping cells n) vs
+      → Allows {S = NoSlot} (Holds z) slots id (vs, []) (cell_count z + n) (λ word. 0)
+      (λ word me. me ≡ (all_views (wiping_view cells (n + 1)) vs, []))
+  -- it ends the wipe, by a load of any word
+  pub ends : (cells : List ℕ) (i : ℕ) → InView (IsWiping cells (row_total z)) vs
+      → Allows {S = NoSlot} (Holds z) slots id (vs, []) i (λ n. n) (λ word me. me ≡ (all_views (round_view cells) vs, []))
+
+abbrev pub AllMayWipe : Type 0
+AllMayWipe = (z : Shape) (slots id : ℕ) (vs : List Known) → IsShape z → 0 < z.workers → Spans vs 0 z.workers
+    → WipeSteps z slots id vs
+
+-- At the close the seat of all workers has what the rule speaks of.
+abbrev pub CloseSees : Type 0
+CloseSees = (z : Shape) (id : ℕ) (vs : List Known) (t : State NoSlot (List Known)) → 0 < z.workers → Spans vs 0 z.workers
+    → Holds z t → get_elem? t.views id ≡ some vs → InView (λ v. v.wiping ≡ None) vs
+    → (keep : ℕ → View) × Ruled z t.words keep × ((r : ℕ) (s : Known) → get_elem? vs r ≡ some s → keep r ≡ s.view)

@@ -1,0 +1,72 @@
+-- What a worker may rely on: what the words say that it finds, and that what it noted fits the table and does not
+-- contradict itself. (own)
+use Rattle.std.specs.Prelude.{◌≡◌, ℕ, ◌+◌, ◌<◌, ◌≤◌, ◌⊎◌, Some, List, slice_index}
+use Rattle.rh_tagword.specs.declared.limits.TheConstants.{UNUSED}
+use Rattle.rh_world.specs.World.{Ref, Control, World, IsOpened, IsDecided, In}
+use Rattle.rh_world.specs.Notes.Note.{size_is, target_is, old_is, new_is, decided, desc_is, which_is, found}
+use Rattle.rh_world.specs.Moves.{MayWork}
+use Rattle.rh_descriptor.specs.declared.shape.Shape.{Shape}
+use Rattle.rh_descriptor.specs.declared.reference.Reading.{Reading}
+use Rattle.rh_descriptor.specs.declared.reference.Reading.TheVariants as reading
+use Rattle.rh_descriptor.specs.Places.{IsShape, cell_count}
+use Rattle.rh_descriptor.specs.View.{View}
+use Rattle.rh_descriptor.specs.Words.{IsPlain, cell_in, desc_in, read_control, ref_of}
+use Rattle.rh_descriptor.specs.Steps.{Allowed, IsDesc, IsKnown, IsMark, KnowsMark, Step, place}
+use Rattle.rh_rule.specs.Mirrors.{IsCell}
+use Rattle.rh_rule.specs.Core.{Core}
+
+-- what is noted of a worker's view
+pub record Sound (z : Shape) (v : View) : Type 0 where
+  -- its own numbers lie within the room
+  pub descs_used : v.next_number ≤ z.entry_room
+  pub marks_used : v.marks_used ≤ z.mark_room
+  -- descriptors and marks that it met are of the table, and so are their entries
+  pub descs : (d : Ref) → IsKnown v.side.notes d → IsDesc z d
+  pub sizes : (d : Ref) (n : ℕ) → In (size_is d n) v.side.notes → (0 < n) × (d.number + n ≤ z.entry_room)
+  pub targets : (d : Ref) (e c : ℕ) → In (target_is d e c) v.side.notes → MayWork v.side d e → c < cell_count z
+  pub olds : (d : Ref) (e u : ℕ) → In (old_is d e u) v.side.notes → MayWork v.side d e ⊎ KnowsMark v.side.notes d e → IsPlain u
+  pub news : (d : Ref) (e u : ℕ) → In (new_is d e u) v.side.notes → MayWork v.side d e → IsPlain u
+  pub marks : (x : Ref) (c : ℕ) → In (found x c) v.side.notes → IsMark z x × (c < cell_count z)
+  pub marked : (d : Ref) (e : ℕ) → KnowsMark v.side.notes d e → IsDesc z d × (d.number + e < z.entry_room)
+  pub results : (d : Ref) (k : Control) → In (decided d k) v.side.notes → IsDecided k
+  -- it noted no two answers to one question
+  pub one_size : (d : Ref) (m n : ℕ) → In (size_is d m) v.side.notes → In (size_is d n) v.side.notes → m ≡ n
+  pub one_target : (d : Ref) (e b c : ℕ) → In (target_is d e b) v.side.notes → In (target_is d e c) v.side.notes → b ≡ c
+  pub one_old : (d : Ref) (e t u : ℕ) → In (old_is d e t) v.side.notes → In (old_is d e u) v.side.notes → t ≡ u
+  pub one_new : (d : Ref) (e t u : ℕ) → In (new_is d e t) v.side.notes → In (new_is d e u) v.side.notes → t ≡ u
+  pub one_result : (d : Ref) (j k : Control) → In (decided d j) v.side.notes → In (decided d k) v.side.notes → j ≡ k
+  pub one_desc : (x d f : Ref) → In (desc_is x d) v.side.notes → In (desc_is x f) v.side.notes → d ≡ f
+  pub one_entry : (x : Ref) (e f : ℕ) → In (which_is x e) v.side.notes → In (which_is x f) v.side.notes → e ≡ f
+
+-- what a word says that is read
+abbrev pub Reads : Shape → View → Reading → (word : ℕ) → Type 0
+Reads z v (reading.Place p) word = Unit {0}
+Reads z v (reading.Cell c) word = IsCell z (cell_in word)
+Reads z v (reading.Control d) word = IsKnown v.side.notes (ref_of d) → IsOpened (read_control word)
+Reads z v (reading.MarkControl x c d) word = IsOpened (read_control word)
+Reads z v (reading.Length d) word = Unit {0}
+Reads z v (reading.EntryCell d e) word = Unit {0}
+Reads z v (reading.EntryOld d e) word = Unit {0}
+Reads z v (reading.EntryNew d e) word = Unit {0}
+Reads z v (reading.MarkDesc x) word = (d : Ref) × (desc_in word ≡ Some d)
+Reads z v (reading.MarkEntry x) word = Unit {0}
+
+-- what a step of a worker finds, of whom this was kept before
+abbrev pub Finds : Shape → View → Step → (word : ℕ) → Type 0
+Finds z v (Step.writes p u) word = Unit {0}
+Finds z v (Step.opens size) word = word ≡ UNUSED
+Finds z v (Step.reads r) word = Reads z v r word
+Finds z v (Step.places d e c old) word = IsCell z (cell_in word)
+Finds z v (Step.settles x c d e old) word = IsCell z (cell_in word)
+Finds z v (Step.decides d k) word = IsOpened (read_control word)
+Finds z v (Step.releases d e c k value) word = IsCell z (cell_in word)
+Finds z v Step.claims word = word ≤ z.keys + z.workers
+
+-- Under the rule what is kept of each worker is sound, and each allowed step finds what it may rely on.
+abbrev pub ViewsAreSound : Type 0
+ViewsAreSound = (w : World) (z : Shape) (words : List ℕ) (keep : ℕ → View) (v : ℕ) → IsShape z → Core w z words keep → v < z.workers
+    → Sound z (keep v)
+
+abbrev pub StepsFind : Type 0
+StepsFind = (w : World) (z : Shape) (words : List ℕ) (keep : ℕ → View) (v : ℕ) (s : Step) → IsShape z → Core w z words keep
+    → v < z.workers → Allowed z (keep v) s → Finds z (keep v) s (slice_index words (place z (keep v) s))

@@ -1,0 +1,44 @@
+//! Laws of the rule. They do nothing when they run.
+
+ghost use Rattle.rh_rule.specs.Core.{EachStepKeeps};
+ghost use Rattle.rh_rule.specs.Rest.{Tells, Rests};
+ghost use Rattle.rh_rule.specs.Sound.{ViewsAreSound, StepsFind};
+ghost use Rattle.rh_rule.specs.Wipes.{TableStarts, WipeBegins, WipeStores, WipeEnds};
+
+/// Each allowed step of any worker keeps the rule of the table, whatever the number of workers, and
+/// takes its world to the next one.
+pub fn each_step_keeps()
+    ensures { EachStepKeeps }
+{}
+
+/// What a worker may rely on: what its steps find, and that what it noted fits the table and does not
+/// contradict itself.
+pub fn workers_rely()
+    ensures sound { ViewsAreSound }
+    ensures find { StepsFind }
+{}
+
+/// What the rule says at any moment of what is kept of the workers: the acts stand in one order, and
+/// each kept read and each failed descriptor has its prefix of them, which never goes back.
+pub fn tells()
+    ensures { Tells }
+{}
+
+/// Where all workers are at rest, no mark and no descriptor stands in a cell: each holds the opening
+/// cell changed act by act, and the acts of a worker are those of its descriptors that it noted as
+/// succeeded.
+pub fn rests()
+    ensures { Rests }
+{}
+
+/// A table starts under the rule, with plain cells and no word but theirs.
+pub fn table_starts()
+    ensures { TableStarts }
+{}
+
+/// A wipe keeps the rule, from its begin to its end.
+pub fn a_wipe_keeps()
+    ensures begins { WipeBegins }
+    ensures stores { WipeStores }
+    ensures ends { WipeEnds }
+{}

@@ -1,0 +1,23 @@
+//! The rule of a table of words that several workers share.
+
+use atomic_table::TableRule;
+use rh_descriptor::{Known, Shape};
+use std::collections::LinkedList;
+
+/// What a table is made with: its shape, and the words of its cells.
+#[derive(Drop)]
+pub struct Opening {
+    pub shape: Shape,
+    pub cells: Vec<u64>,
+}
+
+/// The rule of a table whose seats have views of what is kept of their workers. It has no slots.
+pub struct RowRule;
+
+impl TableRule<(), LinkedList<Known>, Opening> for RowRule {
+    ghost use Rattle.rh_rule.specs.Seats.{Holds, first_view};
+
+    ghost holds = { λ o. Holds o.shape };
+
+    ghost first = { λ o. first_view o.shape o.cells.items };
+}
