@@ -1,0 +1,174 @@
+-- Acts from what a scan has seen: the part of a front up to where it ends, and its entries in the order of their cells.
+use Rattle.std.proofs.Common.{◌≡◌, ℕ, ◌+◌, ◌-◌, ◌^◌, ◌<◌, ◌≤◌, ◌⊎◌, inl, inr, sym, ap, ◌∙◌, subst, arith, List, ◌++◌, length, get_or, take, get_or-take, length-take-le}
+use Rattle.std.specs.Prelude.{nat_lt}
+use Rattle.std.proofs.lemmas.Bool.{cases_lt}
+use Rattle.std.proofs.lemmas.Bool.Decides.{nat_tests}
+use Rattle.std.proofs.lemmas.List.{take_at}
+use Rattle.rh_layout.specs.Round.{place_after}
+use Rattle.rh_layout.specs.Key.{IsBits, IsKey, cell_of}
+use Rattle.rh_layout.specs.Order.{home_of}
+use Rattle.rh_layout.proofs.LayoutLemmas.{low_of}
+use Rattle.rh_layout.proofs.RoundLemmas.{place_cases}
+use Rattle.rh_probe.specs.Look.{Finds}
+use Rattle.rh_probe.specs.Segment.{IsFirstFree, IsFirstStop}
+use Rattle.rh_probe.specs.declared.answer.Look.TheVariants.{Here, Goes}
+use Rattle.rh_edit.specs.News.{put_in, taken_out}
+use Rattle.rh_edit.proofs.NewsLemmas.{put_in_len, taken_out_len}
+use Rattle.rh_acts.specs.Act.{Act}
+use Rattle.rh_acts.specs.KeyActs.{IsFrontAct, PutsIn, TakesOut, ShowsAbsent}
+use Rattle.rh_acts.specs.CellOrder.{past_end, place_at, entry_of, IsInCellOrder}
+use Rattle.rh_acts.proofs.FoldLemmas.{then_is, else_is}
+
+-- ---- what a scan found holds of the part that it looked at
+
+module _ (seen : List ℕ) (m : ℕ) (within : m ≤ length seen) where
+  part_at : (p : ℕ) → p < m → get_or (take m seen) p 0 ≡ get_or seen p 0
+  part_at p l = get_or-take m seen p 0 l
+
+  part_len : length (take m seen) ≡ m
+  part_len = length-take-le m seen within
+
+  goes_part : (b k i : ℕ) → i < m → Finds b k seen (Goes i) → Finds b k (take m seen) (Goes i)
+  goes_part b k i l goes = (
+    omega (arith, part_len),
+    λ p less. rw (part_at p (omega arith)) (goes.1 p less),
+    λ e. goes.2 (sym (part_at i l) ∙ e),
+    λ passed. goes.3 (rw (part_at i l) at passed),
+  )
+
+  here_part : (b k i : ℕ) → i < m → Finds b k seen (Here i) → Finds b k (take m seen) (Here i)
+  here_part b k i l here = (
+    omega (arith, part_len),
+    λ p less. rw (part_at p (omega arith)) (here.1 p less),
+    part_at i l ∙ here.2,
+  )
+
+free_part : (seen : List ℕ) (i j : ℕ) → IsFirstFree seen i j → IsFirstFree (take (j + 1) seen) i j
+free_part seen i j first =
+    let l : j + 1 ≤ length seen = omega (arith, first.within) in
+    record {
+      from = first.from;
+      within = omega (arith, part_len seen (j + 1) l);
+      free = part_at seen (j + 1) l j (omega arith) ∙ first.free;
+      full = λ p lo hi. rw (part_at seen (j + 1) l p (omega arith)) (first.full p lo hi);
+    }
+
+stop_part : (b h : ℕ) (seen : List ℕ) (i j : ℕ) → IsFirstStop b h seen i j → IsFirstStop b h (take (j + 1) seen) i j
+stop_part b h seen i j first =
+    let l : j + 1 ≤ length seen = omega (arith, first.within) in
+    record {
+      from = first.from;
+      within = omega (arith, part_len seen (j + 1) l);
+      stop = λ away. first.stop (rw (part_at seen (j + 1) l j (omega arith)) at away);
+      between = λ p lo hi. rw (part_at seen (j + 1) l p (omega arith)) (first.between p lo hi);
+    }
+
+-- ---- the order of the cells
+
+module _ (n h m : ℕ) (h_in : h < n) (room : m ≤ n) where
+  low_place : (t : ℕ) → t < past_end n h m → place_at n h m t ≡ n - h + t
+  low_place t l = then_is (nat_lt t (past_end n h m)) (n - h + t) (t - past_end n h m) (grind (arith, nat_tests))
+
+  high_place : (t : ℕ) → past_end n h m ≤ t → place_at n h m t ≡ t - past_end n h m
+  high_place t l = else_is (nat_lt t (past_end n h m)) (n - h + t) (t - past_end n h m) (grind (arith, nat_tests))
+
+  place_within : (t : ℕ) → t < m → place_at n h m t < m
+  place_within t l = elim (cases_lt t (past_end n h m)) [ inl low ↦ omega (arith, low_place t low) | inr high ↦ omega (arith, high_place t high) ]
+
+  cell_cases : (t : ℕ) → t < m → ((t < past_end n h m) × (place_after n h (place_at n h m t) ≡ t)) ⊎ ((past_end n h m ≤ t) × (place_after n h (place_at n h m t) ≡ h + (t - past_end n h m)))
+  cell_cases t l =
+      let in' = place_within t l in
+      elim (cases_lt t (past_end n h m)) [
+        | inl low ↦ inl (low, elim (place_cases n h (place_at n h m t) h_in (omega arith)) [ inl a ↦ absurd (omega (arith, low_place t low, a.0)) | inr a ↦ omega (arith, low_place t low, a.1) ])
+        | inr high ↦ inr (high, elim (place_cases n h (place_at n h m t) h_in (omega arith)) [ inl a ↦ omega (arith, high_place t high, a.1) | inr a ↦ absurd (omega (arith, high_place t high, a.0)) ])
+      ]
+
+  cells_rise : (i j : ℕ) → i < j → j < m → place_after n h (place_at n h m i) < place_after n h (place_at n h m j)
+  cells_rise i j l j_in =
+      elim (cell_cases i (omega arith)) [
+        | inl a ↦ elim (cell_cases j j_in) [ inl c ↦ omega (arith, a.1, c.1) | inr c ↦ omega (arith, a.0, a.1, c.0, c.1) ]
+        | inr a ↦ elim (cell_cases j j_in) [ inl c ↦ absurd (omega (arith, a.0, c.0)) | inr c ↦ omega (arith, a.0, a.1, c.0, c.1) ]
+      ]
+
+  -- each place has its turn
+  turn_of : (p : ℕ) → p < m → (t : ℕ) × (t < m) × (place_at n h m t ≡ p)
+  turn_of p l =
+      elim (cases_lt p (n - h)) [
+        | inl before ↦ (p + past_end n h m, omega arith, high_place (p + past_end n h m) (omega arith) ∙ omega arith)
+        | inr behind ↦ (p - (n - h), omega arith, low_place (p - (n - h)) (omega arith) ∙ omega arith)
+      ]
+
+-- Entries in the order of their cells are an act on the front.
+front_in_cell_order : (n h : ℕ) (act : Act) (olds news : List ℕ) → h < n → length olds ≤ n → IsInCellOrder n h act olds news → IsFrontAct n h act olds news
+front_in_cell_order n h act olds news h_in room order =
+    let m = length olds in
+    record {
+      rising = λ i j d l j_in. rw (order.at i d (omega arith), order.at j d j_in) (cells_rise n h m h_in room i j l (omega (arith, order.size)));
+      room = room;
+      has = λ p p_in.
+          let t = turn_of n h m h_in room p p_in in
+          let e = entry_of n h olds news p in
+          (t.0, omega (arith, t.1, order.size), order.at t.0 e (omega (arith, t.1, order.size)) ∙ ap (entry_of n h olds news) t.2);
+      only = λ e in'. (place_at n h m in'.0, place_within n h m h_in room in'.0 (omega (arith, in'.1, order.size)), sym in'.2 ∙ order.at in'.0 e in'.1);
+    }
+
+-- ---- acts, as the slices show them
+
+-- the written entries are an act on the first m places
+module _ (b k m first : ℕ) (seen news : List ℕ) (act more : Act) (fits : IsBits b) (room : length seen ≤ 2 ^ b) (within : m ≤ length seen) (home : first ≡ home_of b k) where
+  written_front : IsInCellOrder (2 ^ b) first act (take m seen) news → IsFrontAct (2 ^ b) (home_of b k) (take m (act ++ more)) (take m seen) news
+  written_front order =
+      let size = part_len seen m within in
+      let act_is : take m (act ++ more) ≡ act = take_at act more m (omega (arith, order.size, size)) in
+      subst (λ (a : Act). IsFrontAct (2 ^ b) (home_of b k) a (take m seen) news) (sym act_is)
+      (front_in_cell_order (2 ^ b) (home_of b k) act (take m seen) news (low_of b fits k) (omega (arith, size))
+      (subst (λ h. IsInCellOrder (2 ^ b) h act (take m seen) news) home order))
+
+pub insert_written : (b k place last first : ℕ) (seen news rest : List ℕ) (act more : Act) → IsBits b → IsKey k → length seen ≤ 2 ^ b → Finds b k seen (Goes place) → IsFirstFree seen place last → first ≡ home_of b k → news ≡ put_in (cell_of k) (take (last + 1) seen) place → IsInCellOrder (2 ^ b) first act (take (last + 1) seen) (take (last + 1) (news ++ rest)) → (last + 1 ≤ length seen) × PutsIn b k (take (last + 1) seen) (take (last + 1) (act ++ more))
+insert_written b k place last first seen news rest act more fits key room goes free home is order =
+    let l : last + 1 ≤ length seen = omega (arith, free.within) in
+    let size = part_len seen (last + 1) l in
+    let news_len : length news ≡ last + 1 = ap length is ∙ put_in_len (cell_of k) (take (last + 1) seen) place (omega (arith, size, free.from)) ∙ size in
+    let news_is : take (last + 1) (news ++ rest) ≡ put_in (cell_of k) (take (last + 1) seen) place = take_at news rest (last + 1) news_len ∙ is in (
+      l,
+      record {
+        key = key;
+        place = place;
+        last = last;
+        goes = goes_part seen (last + 1) l b k place (omega (arith, free.from)) goes;
+        free = free_part seen place last free;
+        ends = sym size;
+        front = written_front b k (last + 1) first seen (put_in (cell_of k) (take (last + 1) seen) place) act more fits room l home
+            (subst (λ (ns : List ℕ). IsInCellOrder (2 ^ b) first act (take (last + 1) seen) ns) news_is order);
+      },
+    )
+
+pub remove_written : (b k place last first : ℕ) (seen news rest : List ℕ) (act more : Act) → IsBits b → length seen ≤ 2 ^ b → Finds b k seen (Here place) → IsFirstStop b first seen place last → first ≡ home_of b k → news ≡ taken_out (take (last + 1) seen) place → IsInCellOrder (2 ^ b) first act (take (last + 1) seen) (take (last + 1) (news ++ rest)) → (last + 1 ≤ length seen) × TakesOut b k (take (last + 1) seen) (take (last + 1) (act ++ more))
+remove_written b k place last first seen news rest act more fits room here stop home is order =
+    let l : last + 1 ≤ length seen = omega (arith, stop.within) in
+    let size = part_len seen (last + 1) l in
+    let news_len : length news ≡ last + 1 = ap length is ∙ taken_out_len (take (last + 1) seen) place (omega (arith, size, stop.from)) ∙ size in
+    let news_is : take (last + 1) (news ++ rest) ≡ taken_out (take (last + 1) seen) place = take_at news rest (last + 1) news_len ∙ is in (
+      l,
+      record {
+        place = place;
+        last = last;
+        here = here_part seen (last + 1) l b k place (omega (arith, stop.from)) here;
+        stop = stop_part b (home_of b k) seen place last (subst (λ h. IsFirstStop b h seen place last) home stop);
+        ends = sym size;
+        front = written_front b k (last + 1) first seen (taken_out (take (last + 1) seen) place) act more fits room l home
+            (subst (λ (ns : List ℕ). IsInCellOrder (2 ^ b) first act (take (last + 1) seen) ns) news_is order);
+      },
+    )
+
+pub absence_written : (b k place first : ℕ) (seen : List ℕ) (act more : Act) → IsBits b → length seen ≤ 2 ^ b → Finds b k seen (Goes place) → first ≡ home_of b k → IsInCellOrder (2 ^ b) first act (take (place + 1) seen) (take (place + 1) seen) → (place + 1 ≤ length seen) × ShowsAbsent b k (take (place + 1) seen) (take (place + 1) (act ++ more))
+absence_written b k place first seen act more fits room goes home order =
+    let l : place + 1 ≤ length seen = omega (arith, goes.0) in (
+      l,
+      record {
+        place = place;
+        goes = goes_part seen (place + 1) l b k place (omega arith) goes;
+        ends = sym (part_len seen (place + 1) l);
+        front = written_front b k (place + 1) first seen (take (place + 1) seen) act more fits room l home order;
+      },
+    )

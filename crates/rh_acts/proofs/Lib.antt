@@ -1,0 +1,16 @@
+pub mod ActLemmas
+pub mod OneAct
+pub mod Told
+pub mod DoneLemmas
+pub mod FoldLemmas
+pub mod Chain
+pub mod OwnLemmas
+pub mod SumLemmas
+pub mod JoinedLemmas
+pub mod PhaseLemmas
+pub mod PhaseLaws
+pub mod ShuffleLemmas
+pub mod SharedLaws
+pub mod FrontLemmas
+pub mod ListLemmas
+pub mod InOrder

@@ -1,0 +1,15 @@
+use Rattle.rh_acts.proofs.OneAct.{insert_act, remove_act, absence_act}
+use Rattle.rh_acts.proofs.Told.{remove_changes, absence_changes}
+use Rattle.rh_acts.proofs.laws.one_act.Goals as goal
+
+pub returns-clause-insert : goal.returns-clause-insert
+returns-clause-insert c = insert_act
+
+pub returns-clause-remove : goal.returns-clause-remove
+returns-clause-remove c = remove_act
+
+pub returns-clause-absence : goal.returns-clause-absence
+returns-clause-absence c = absence_act
+
+pub returns-clause-told : goal.returns-clause-told
+returns-clause-told c b k act = (remove_changes b k act, absence_changes b k act)

@@ -1,0 +1,60 @@
+-- The acts that put a key in, take it out, or show that it is not there. Each is an act on a front of the table from the
+-- key's home on. (own; what becomes of the front is Celis's insertion, and the usual backward shift)
+use Rattle.std.specs.Prelude.{ℕ, ◌+◌, ◌^◌, ◌<◌, ◌≤◌, ◌≡◌, ◌⊎◌, List, length, slice_index}
+use Rattle.std.specs.List.{Contains}
+use Rattle.rh_layout.specs.Round.{place_after}
+use Rattle.rh_layout.specs.Key.{IsKey, cell_of}
+use Rattle.rh_layout.specs.Order.{home_of}
+use Rattle.rh_probe.specs.Look.{Finds}
+use Rattle.rh_probe.specs.Segment.{IsFirstFree, IsFirstStop}
+use Rattle.rh_probe.specs.declared.answer.Look.TheVariants.{Here, Goes}
+use Rattle.rh_edit.specs.News.{put_in, taken_out}
+use Rattle.rh_acts.specs.declared.entry.Entry.{Entry}
+use Rattle.rh_acts.specs.Act.{entry, Act, IsRising}
+
+-- The entries take the cells from cell h on, in a circle of n, from `olds` to `news`. This is said by membership: where
+-- the front goes round the end, the order of its places is not that of its cells.
+pub record IsFrontAct (n h : ℕ) (act : Act) (olds news : List ℕ) : Type 0 where
+  pub rising : IsRising act
+  pub room : length olds ≤ n
+  pub has : (p : ℕ) → p < length olds → Contains act (entry (place_after n h p) (slice_index olds p) (slice_index news p))
+  pub only : (e : Entry) → Contains act e → (p : ℕ) × (p < length olds) × (e ≡ entry (place_after n h p) (slice_index olds p) (slice_index news p))
+
+-- The act puts k in: `seen` is what it finds from the home of k to the first empty cell from where k goes.
+pub record PutsIn (b k : ℕ) (seen : List ℕ) (act : Act) : Type 0 where
+  pub key : IsKey k
+  pub place : ℕ
+  pub last : ℕ
+  pub goes : Finds b k seen (Goes place)
+  pub free : IsFirstFree seen place last
+  pub ends : last + 1 ≡ length seen
+  pub front : IsFrontAct (2 ^ b) (home_of b k) act seen (put_in (cell_of k) seen place)
+
+-- The act takes k out: `seen` is what it finds from the home of k to the first stop after k.
+pub record TakesOut (b k : ℕ) (seen : List ℕ) (act : Act) : Type 0 where
+  pub place : ℕ
+  pub last : ℕ
+  pub here : Finds b k seen (Here place)
+  pub stop : IsFirstStop b (home_of b k) seen place last
+  pub ends : last + 1 ≡ length seen
+  pub front : IsFrontAct (2 ^ b) (home_of b k) act seen (taken_out seen place)
+
+-- The act changes nothing: `seen` is what it finds from the home of k to the place that shows that k is not there.
+pub record ShowsAbsent (b k : ℕ) (seen : List ℕ) (act : Act) : Type 0 where
+  pub place : ℕ
+  pub goes : Finds b k seen (Goes place)
+  pub ends : place + 1 ≡ length seen
+  pub front : IsFrontAct (2 ^ b) (home_of b k) act seen seen
+
+abbrev pub IsInsertAct : (b k : ℕ) (act : Act) → Type 0
+IsInsertAct b k act = (seen : List ℕ) × PutsIn b k seen act
+
+abbrev pub IsRemoveAct : (b k : ℕ) (act : Act) → Type 0
+IsRemoveAct b k act = (seen : List ℕ) × TakesOut b k seen act
+
+abbrev pub IsAbsenceAct : (b k : ℕ) (act : Act) → Type 0
+IsAbsenceAct b k act = (seen : List ℕ) × ShowsAbsent b k seen act
+
+-- the act of a removal: it takes k out, or shows that it is not there
+abbrev pub IsRemovalAct : (b k : ℕ) (act : Act) → Type 0
+IsRemovalAct b k act = IsRemoveAct b k act ⊎ IsAbsenceAct b k act

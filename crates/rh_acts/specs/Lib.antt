@@ -1,0 +1,9 @@
+pub mod Act
+pub mod CellOrder
+pub mod Decision
+pub mod Done
+pub mod KeyActs
+pub mod Laws
+pub mod Moments
+pub mod Shared
+pub mod Workers

@@ -1,0 +1,53 @@
+-- The acts of several workers in one list, and what the workers count. (own)
+use Rattle.std.specs.Prelude.{ℕ, ◌^◌, ◌<◌, ◌==◌, zero, suc, List, [], ◌∷◌, ◌++◌, length, map, filter, count_by, Bool}
+use Rattle.std.specs.List.{Contains, slice_index_or}
+use Rattle.std.specs.FinSet as set
+use Rattle.rh_layout.specs.Layout.{Keys}
+use Rattle.rh_ledger.specs.declared.tally.Kind.{Kind}
+use Rattle.rh_ledger.specs.declared.tally.Kind.TheVariants.{Insert, Remove, Ask}
+use Rattle.rh_ledger.specs.declared.tally.Tally.{Tally}
+use Rattle.rh_ledger.specs.Tally.{sum_of, none_yet, added_of, removed_of}
+use Rattle.rh_ledger.specs.Phase.{set_after}
+use Rattle.rh_acts.specs.Act.{Act, changes}
+
+-- an act and the worker whose it is
+pub record Made : Type 0 where
+  pub worker : ℕ
+  pub act : Act
+
+abbrev pub acts_of : List Made → List Act
+acts_of made = map (λ m. m.act) made
+
+-- the acts of worker w, in their order
+abbrev pub own : (w : ℕ) (made : List Made) → List Act
+own w made = acts_of (filter (λ m. m.worker == w) made)
+
+-- each act is of one of the workers
+abbrev pub AreOf : (workers : ℕ) (made : List Made) → Type 0
+AreOf workers made = (m : Made) → Contains made m → m.worker < workers
+
+-- the lists of the workers, one after the other
+abbrev pub joined : {X : Type 0} → List (List X) → List X
+joined [] = []
+joined (piece ∷ pieces) = piece ++ joined pieces
+
+-- the list of worker w
+abbrev pub piece : {X : Type 0} → List (List X) → (w : ℕ) → List X
+piece pieces w = slice_index_or pieces w []
+
+-- what a worker counts of its keys, its own acts and its answers
+abbrev pub counted : Kind → (keys : List ℕ) (acts : List Act) (answers : List Bool) → Tally
+counted Insert keys acts answers = added_of (length keys) (length acts)
+counted Remove keys acts answers = removed_of (length keys) (count_by changes acts)
+counted Ask keys acts answers = record none_yet { read = length keys; found = count_by (λ there. there) answers }
+
+-- the tallies of the first n workers, joined
+abbrev pub sum_of_all : (tally : ℕ → Tally) (n : ℕ) → Tally
+sum_of_all tally zero = none_yet
+sum_of_all tally (suc n) = sum_of (sum_of_all tally n) (tally n)
+
+-- where keys are inserted, a cell is free at the end
+abbrev pub LeavesRoom : Kind → (b : ℕ) (S : Keys) (keys : List ℕ) → Type 0
+LeavesRoom Insert b S keys = set.len (set_after Insert S keys) < 2 ^ b
+LeavesRoom Remove b S keys = Unit {0}
+LeavesRoom Ask b S keys = Unit {0}
