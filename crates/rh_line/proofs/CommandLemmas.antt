@@ -63,7 +63,7 @@ level_passes walk below settle defaults check passes =
     (past_walk.0, past_below.0, (both_pass defaults check past_settle.1).1)
 
 -- what holds of the place where the walk stops
-taken_stop : (a : App) (words : List Text) → a.top.disable_help_subcommand ≡ false → a.top.subcommand_required ≡ true → built_fault a nothing_held words ≡ []
+pub taken_stop : (a : App) (words : List Text) → a.top.disable_help_subcommand ≡ false → a.top.subcommand_required ≡ true → built_fault a nothing_held words ≡ []
     → AvoidsHelp (stop_after a.top.rules (names_of a) words) × (entered_fault a (stop_after a.top.rules (names_of a) words) ≡ [])
     × (is_some (entered a (stop_after a.top.rules (names_of a) words)) ≡ true)
 taken_stop a words enabled required passes =

@@ -1,0 +1,12 @@
+//! The command line of `rhkeys`: its commands, and what the words ask for.
+#![tactic(auto)]
+
+mod asked;
+mod help;
+mod parse;
+
+pub use asked::Line;
+pub use parse::line;
+
+#[cfg(test)]
+mod tests;

@@ -1,0 +1,121 @@
+-- What is read is a text of its keys.
+use Rattle.std.proofs.Common.{◌≡◌, ◌≢◌, ℕ, ◌+◌, ◌<◌, ◌≤◌, List, [], ◌∷◌, ◌++◌, length, Option, Some, None, Result, Ok, Err, inl, inr, refl, sym, ap, subst, ◌∙◌, arith, append_assoc, append-nil, length-append}
+use Rattle.std.specs.Prelude.{All, IfOk, nat_eq, nat_lt, nat_le}
+use Rattle.std.specs.Str.Parse.{digits_value}
+use Rattle.std.proofs.lemmas.Bool.{cases_Bool, eqb-true, eqb-false, ltb-false, leb-false}
+use Rattle.std.proofs.lemmas.List.Elements.{All-nil, All-cons, All-append}
+use Rattle.rh_layout.specs.Key.{IsKey}
+use Rattle.rh_layout.specs.declared.limits.TheConstants.{MAX_KEY}
+use Rattle.rh_files.specs.declared.parts.TheConstants.{MAX_KEYS}
+use Rattle.rh_numbers.specs.declared.fault.TextFault.{TextFault}
+use Rattle.rh_numbers.specs.declared.place.Place.{Place}
+use Rattle.rh_numbers.specs.declared.place.Place.TheVariants.{Start, Blank, Comment, Number, After, Return, Other}
+use Rattle.rh_numbers.specs.Grammar.{AreLines, IsKeyText, IsOneLine, IsReturn, Says, blank, comment, last, more, number}
+use Rattle.rh_numbers.specs.Reading.{◌>>=◌, IsReadFrom, Reads, keys_from, next, text_keys, with_key, with_line}
+use Rattle.rh_numbers.proofs.Places.{Means, Numeral, capped, means_next, no_spaces}
+
+-- what a line or a text gave: these keys, after those before
+record Gave (Spells : List ℕ → Type 0) (keys all : List ℕ) : Type 0 where
+  given : List ℕ
+  spells : Spells given
+  whole : all ≡ keys ++ given
+  fit : All IsKey given
+  few : length keys ≤ MAX_KEYS → length all ≤ MAX_KEYS
+
+abbrev read_to : List ℕ → Result (List ℕ) TextFault
+read_to keys = Ok keys
+
+same_keys : (xs ys : List ℕ) → read_to xs ≡ Ok ys → xs ≡ ys
+same_keys xs ys h = cc
+
+nothing : (line keys all : List ℕ) → Says line [] → read_to keys ≡ Ok all → Gave (Says line) keys all
+nothing line keys all says h =
+    let same = same_keys keys all h in
+    record { given = []; spells = says; whole = sym same ∙ sym (append-nil keys); fit = All-nil IsKey; few = λ few. subst (λ l. length l ≤ MAX_KEYS) same few }
+
+-- a number that was taken is a key
+taken : (keys : List ℕ) (line n : ℕ) (all : List ℕ) → with_key keys line n ≡ Ok all → (n ≤ MAX_KEY) × (length keys < MAX_KEYS) × (all ≡ keys ++ (n ∷ []))
+taken keys line n all h =
+    elim (cases_Bool (nat_lt MAX_KEY n)) [
+      | inl t ↦ absurd (let bad = rw t at h in cc)
+      | inr f ↦
+          let h' = rw f at h in
+          elim (cases_Bool (nat_le MAX_KEYS (length keys))) [
+            | inl t ↦ absurd (let bad = rw t at h' in cc)
+            | inr g ↦ (ltb-false MAX_KEY n f, leb-false MAX_KEYS (length keys) g, sym (same_keys _ all (rw g at h')))
+          ]
+    ]
+
+-- the number that a line says, of any size
+pub says_number : (n : ℕ) (line return : List ℕ) → Numeral n line → IsReturn return → (v : ℕ) × (n ≡ capped v) × Says (line ++ return) (v ∷ [])
+says_number n line return m ends =
+    let d = m.number in
+    let front : (d.before ++ d.digits) ++ m.after ≡ line = ap (λ l. l ++ m.after) (sym d.spelled) ∙ sym m.spelled in
+    (digits_value 10 d.digits, d.value, subst (λ l. Says (l ++ return) (digits_value 10 d.digits ∷ [])) front (number d.before d.digits m.after return d.spaces d.numeral m.spaces ends))
+
+says_key : (n : ℕ) (line return : List ℕ) → Numeral n line → IsReturn return → n ≤ MAX_KEY → Says (line ++ return) (n ∷ [])
+says_key n line return m ends small =
+    let s = says_number n line return m ends in
+    let value : s.0 ≡ n = omega (arith, s.1) in
+    subst (λ v. Says (line ++ return) (v ∷ [])) value s.2
+
+a_number : (keys : List ℕ) (at n : ℕ) (line all : List ℕ) → (n ≤ MAX_KEY → Says line (n ∷ [])) → with_key keys at n ≡ Ok all → Gave (Says line) keys all
+a_number keys at n line all says h =
+    let t = taken keys at n all h in
+    record { given = n ∷ []; spells = says t.0; whole = t.2; fit = All-cons IsKey n [] t.0 (All-nil IsKey); few = λ few. subst (λ l. length l ≤ MAX_KEYS) (sym t.2) (omega (arith, length-append keys (n ∷ []), t.1)) }
+
+ended : (keys : List ℕ) (at : ℕ) (place : Place) (line all : List ℕ) → Means place line → with_line keys at place ≡ Ok all → Gave (Says line) keys all
+ended keys at Start line all told h = nothing line keys all (subst (λ l. Says l []) (sym told) (blank [] [] tt (inl refl))) h
+ended keys at Blank line all told h = nothing line keys all (subst (λ l. Says l []) (append-nil line) (blank line [] told (inl refl))) h
+ended keys at Comment line all told h = nothing line keys all (subst (λ l. Says l []) (sym told.1) (comment told.0)) h
+ended keys at (Number n) line all told h = a_number keys at n line all (λ small. subst (λ l. Says l (n ∷ [])) (append-nil line) (says_key n line [] (no_spaces n line told) (inl refl) small)) h
+ended keys at (After n) line all told h = a_number keys at n line all (λ small. subst (λ l. Says l (n ∷ [])) (append-nil line) (says_key n line [] told (inl refl) small)) h
+ended keys at (Return None) line all told h = nothing line keys all (subst (λ l. Says l []) (sym told.1) (blank told.0 (13 ∷ []) told.2 (inr refl))) h
+ended keys at (Return (Some n)) line all told h = a_number keys at n line all (λ small. subst (λ l. Says l (n ∷ [])) (sym told.1) (says_key n told.0 (13 ∷ []) told.2 (inr refl) small)) h
+ended keys at Other line all told h = absurd cc
+
+then_ok : {A B : Type 0} (r : Result A TextFault) (f : A → Result B TextFault) (y : B) → (r >>= f) ≡ Ok y → (x : A) × (r ≡ Ok x) × (f x ≡ Ok y)
+then_ok (Ok x) f y h = (x, refl, h)
+then_ok (Err e) f y h = absurd cc
+
+one_line_push : (line : List ℕ) (b : ℕ) → IsOneLine line → b ≢ 10 → IsOneLine (line ++ (b ∷ []))
+one_line_push [] b one not = (not, tt)
+one_line_push (x ∷ line) b one not = (one.0, one_line_push line b one.1 not)
+
+-- the lines from this place on, with what stands before it in its line
+lines_read : (keys : List ℕ) (at : ℕ) (place : Place) (line bytes all : List ℕ) → IsOneLine line → Means place line → keys_from keys at place bytes ≡ Ok all
+    → Gave (AreLines (line ++ bytes)) keys all
+unfolding keys_from
+lines_read keys at place line [] all one told h =
+    let g = ended keys at place line all told h in
+    record { given = g.given; spells = subst (λ l. AreLines l g.given) (sym (append-nil line)) (last line g.given one g.spells); whole = g.whole; fit = g.fit; few = g.few }
+lines_read keys at place line (b ∷ bytes) all one told h =
+    elim (cases_Bool (nat_eq b 10)) [
+      | inl t ↦
+          let s = then_ok (with_line keys at place) (λ later. keys_from later (at + 1) Start bytes) all (rw t at h) in
+          let g = ended keys at place line s.0 told s.1 in
+          let k = lines_read s.0 (at + 1) Start [] bytes all tt refl s.2 in
+          record {
+            given = g.given ++ k.given;
+            spells = subst (λ c. AreLines (line ++ (c ∷ bytes)) (g.given ++ k.given)) (sym (eqb-true b 10 t)) (more line g.given bytes k.given one g.spells k.spells);
+            whole = k.whole ∙ ap (λ l. l ++ k.given) g.whole ∙ append_assoc keys g.given k.given;
+            fit = All-append IsKey g.given k.given g.fit k.fit;
+            few = λ few. k.few (g.few few);
+          }
+      | inr f ↦
+          let k = lines_read keys at (next place b) (line ++ (b ∷ [])) bytes all (one_line_push line b one (eqb-false b 10 f)) (means_next place line b told) (rw f at h) in
+          record { given = k.given; spells = subst (λ l. AreLines l k.given) (append_assoc line (b ∷ []) bytes) k.spells; whole = k.whole; fit = k.fit; few = k.few }
+    ]
+
+pub text_read : (text keys : List ℕ) → text_keys text ≡ Ok keys → IsKeyText text keys
+text_read text keys h =
+    let g = lines_read [] 1 Start [] text keys tt refl h in
+    record { lines = subst (AreLines text) (sym g.whole) g.spells; few = g.few (omega arith); in_range = subst (All IsKey) (sym g.whole) g.fit }
+
+-- what a reader's known bytes were read to
+pub read_from : {X : Type 0} (a b : Option (List ℕ)) (view : X → List ℕ) (r : Result X TextFault) → Reads a b view r → IfOk r (λ x. IsReadFrom a b (view x))
+read_from None b view (Ok x) h = tt
+read_from None b view (Err e) h = tt
+read_from (Some bytes) b view (Err e) h = tt
+read_from (Some bytes) None view (Ok x) h = absurd h
+read_from (Some bytes) (Some rest) view (Ok x) h = (text_read bytes (view x) h.0, h.1)

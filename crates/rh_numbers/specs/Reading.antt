@@ -1,0 +1,103 @@
+-- Reading a text of numbers from left to right, byte by byte, up to its first fault.
+use Rattle.std.specs.Prelude.{◌≡◌, ℕ, ◌+◌, ◌-◌, ◌*◌, ◌≤◌, min, ◌==◌, nat_lt, nat_le, if◌then◌else◌, List, [], ◌∷◌, ◌++◌, length, Option, Some, None, Result, Ok, Err}
+use Rattle.std.specs.Char.{is_ascii_digit}
+use Rattle.rh_layout.specs.declared.limits.TheConstants.{MAX_KEY}
+use Rattle.rh_files.specs.declared.parts.TheConstants.{MAX_KEYS}
+use Rattle.rh_numbers.specs.declared.fault.TextFault.{TextFault}
+use Rattle.rh_numbers.specs.declared.fault.TextFault.TheVariants as faults
+use Rattle.rh_numbers.specs.declared.fault.TextFault.TheVariants.{NotAKey, OutOfRange, TooMany, TooLong}
+use Rattle.rh_numbers.specs.declared.place.Place.{Place}
+use Rattle.rh_numbers.specs.declared.place.Place.TheVariants.{Start, Blank, Comment, Number, After, Return, Other}
+use Rattle.rh_numbers.specs.declared.limits.TheConstants.{MAX_BYTES}
+use Rattle.rh_numbers.specs.Grammar.{IsKeyText}
+
+-- ---- a line
+
+-- the number with one more digit; all numbers above the greatest key count as the first of them
+abbrev pub grown : ℕ → ℕ → ℕ
+grown n b = min (n * 10 + (b - 48)) (MAX_KEY + 1)
+
+-- after a byte that is no digit, where the line has said this so far
+abbrev pub past : (blank : Place) → Option ℕ → ℕ → Place
+past blank said b = if b == 32 then blank else if b == 13 then Return said else Other
+
+-- after a byte with only spaces before it
+abbrev pub first : ℕ → Place
+first b = if is_ascii_digit b then Number (grown 0 b) else past Blank None b
+
+-- the place in a line after its next byte
+abbrev pub next : Place → ℕ → Place
+next Start b = if b == 35 then Comment else first b
+next Blank b = first b
+next Comment b = Comment
+next (Number n) b = if is_ascii_digit b then Number (grown n b) else past (After n) (Some n) b
+next (After n) b = past (After n) (Some n) b
+next (Return said) b = Other
+next Other b = Other
+
+-- the keys, and this number, in this line
+abbrev pub with_key : (keys : List ℕ) (line n : ℕ) → Result (List ℕ) TextFault
+with_key keys line n =
+    if nat_lt MAX_KEY n then Err (OutOfRange line)
+    else if nat_le MAX_KEYS (length keys) then Err TooMany
+    else Ok (keys ++ n ∷ [])
+
+-- the keys, and what this line said, which ends here
+abbrev pub with_line : (keys : List ℕ) (line : ℕ) → Place → Result (List ℕ) TextFault
+with_line keys line (Number n) = with_key keys line n
+with_line keys line (After n) = with_key keys line n
+with_line keys line (Return (Some n)) = with_key keys line n
+with_line keys line Other = Err (NotAKey line)
+with_line keys line _ = Ok keys
+
+-- ---- a text
+
+-- one step, and then the next
+infixl 10 ◌>>=◌
+abbrev pub ◌>>=◌ : {A B : Type 0} → Result A TextFault → (A → Result B TextFault) → Result B TextFault
+(Ok x) >>= f = f x
+(Err e) >>= f = Err e
+
+-- what there is to read after these keys, from this place in this line on
+unfoldable pub keys_from : (keys : List ℕ) (line : ℕ) → Place → List ℕ → Result (List ℕ) TextFault
+keys_from keys line place [] = with_line keys line place
+keys_from keys line place (b ∷ bytes) =
+    if b == 10 then with_line keys line place >>= (λ more. keys_from more (line + 1) Start bytes)
+    else keys_from keys line (next place b) bytes
+
+-- What was to be read stops at this fault. Want of memory says nothing of it, and the bytes alone give no other.
+abbrev pub Stops : TextFault → Result (List ℕ) TextFault → Type 0
+Stops faults.Memory said = Unit {0}
+Stops faults.Read said = ⊥
+Stops TooLong said = ⊥
+Stops (NotAKey line) said = said ≡ Err (NotAKey line)
+Stops (OutOfRange line) said = said ≡ Err (OutOfRange line)
+Stops TooMany said = said ≡ Err TooMany
+
+-- the keys of a text, or the first fault in it
+abbrev pub text_keys : List ℕ → Result (List ℕ) TextFault
+text_keys text = keys_from [] 1 Start text
+
+-- ---- what is said of a reader's bytes
+
+-- A failed read and want of memory say nothing of the bytes, and a text that is too long may have faults too.
+abbrev pub Fails : TextFault → List ℕ → Type 0
+Fails faults.Read bytes = Unit {0}
+Fails faults.Memory bytes = Unit {0}
+Fails TooLong bytes = MAX_BYTES ≤ length bytes
+Fails (NotAKey line) bytes = text_keys bytes ≡ Err (NotAKey line)
+Fails (OutOfRange line) bytes = text_keys bytes ≡ Err (OutOfRange line)
+Fails TooMany bytes = text_keys bytes ≡ Err TooMany
+
+-- Where the bytes are known, they were read to their end, and what view sees are the keys of the text; or this is the fault.
+abbrev pub Reads : {X : Type 0} → Option (List ℕ) → Option (List ℕ) → (X → List ℕ) → Result X TextFault → Type 0
+Reads None new view r = Unit {0}
+Reads (Some bytes) new view (Err e) = Fails e bytes
+Reads (Some bytes) None view (Ok x) = ⊥
+Reads (Some bytes) (Some rest) view (Ok x) = (text_keys bytes ≡ Ok (view x)) × (rest ≡ [])
+
+-- Known bytes are a text of these keys, and none is left.
+abbrev pub IsReadFrom : Option (List ℕ) → Option (List ℕ) → List ℕ → Type 0
+IsReadFrom None new keys = Unit {0}
+IsReadFrom (Some bytes) None keys = ⊥
+IsReadFrom (Some bytes) (Some rest) keys = IsKeyText bytes keys × (rest ≡ [])

@@ -1,0 +1,9 @@
+-- The text that is written of a list of numbers: one a line, in decimal digits without leading zeros.
+use Rattle.std.specs.Prelude.{ℕ, List, ◌++◌, codes, decimal}
+use Rattle.std.specs.List.{flat_map}
+
+abbrev pub line_of : ℕ → List ℕ
+line_of n = decimal n ++ codes "\n"
+
+abbrev pub text_of : List ℕ → List ℕ
+text_of numbers = flat_map line_of numbers

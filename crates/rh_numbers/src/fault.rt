@@ -1,0 +1,35 @@
+//! What can be wrong with a text of numbers.
+
+ghost use Rattle.std.specs.Prelude.{◌≡◌};
+ghost use Rattle.rh_numbers.specs.declared.fault.TextFault.TheVariants.{Memory};
+
+use rh_files::MAX_KEYS;
+use std::alloc::{AllocError, AllocFailed};
+use thiserror::Error;
+
+/// Why a text of numbers could not be read. Lines are numbered from 1.
+#[derive(Clone, Copy, Debug, PartialEq, Eq, Error)]
+pub enum TextFault {
+    #[error("line {line}: not a key")]
+    NotAKey { line: u64 },
+    /// The number is greater than the greatest key, however many digits it has.
+    #[error("line {line}: key out of range")]
+    OutOfRange { line: u64 },
+    #[error("more than {} keys", MAX_KEYS)]
+    TooMany,
+    /// The text has `MAX_BYTES` or more, and no fault was met before.
+    #[error("text too long")]
+    TooLong,
+    #[error("read failed")]
+    Read,
+    #[error("out of memory")]
+    Memory,
+}
+
+impl<T: Drop> From<AllocFailed<T>> for TextFault {
+    ghost from_gives = { λ _ fault. fault ≡ Memory };
+
+    fn from(_error: AllocFailed<T>) -> TextFault {
+        TextFault::Memory
+    }
+}

@@ -1,0 +1,35 @@
+//! The laws of texts of numbers, as functions that do nothing.
+
+ghost use Rattle.std.specs.Prelude.{◌≡◌, ◌≤◌, ◌<◌, ℕ, List, [], ◌∷◌, All, Err, Ok, length};
+ghost use Rattle.rh_layout.specs.Key.{IsKey};
+ghost use Rattle.rh_files.specs.declared.parts.TheConstants.{MAX_KEYS};
+ghost use Rattle.rh_layout.specs.declared.limits.TheConstants.{MAX_KEY};
+ghost use Rattle.rh_numbers.specs.declared.fault.TextFault.TheVariants.{NotAKey, OutOfRange, TooMany};
+ghost use Rattle.rh_numbers.specs.Grammar.{ComesTo, IsKeyText, Says};
+ghost use Rattle.rh_numbers.specs.Reading.{text_keys};
+ghost use Rattle.rh_numbers.specs.Writing.{text_of};
+
+/// A text has one meaning: what the grammar calls a text of these keys is read to them, with no
+/// fault, and what is read so is one. So is the text that is written of them.
+pub fn one_meaning(text: &[u8], keys: &[u64])
+    ensures given { IsKeyText text.now keys.now → text_keys text.now ≡ Ok keys.now }
+    ensures read { text_keys text.now ≡ Ok keys.now → IsKeyText text.now keys.now }
+    ensures written { length keys.now ≤ MAX_KEYS → All IsKey keys.now →
+        IsKeyText (text_of keys.now) keys.now }
+{}
+
+/// The first faulty line gives the fault, with its number: one that the grammar does not know is
+/// not a key; a number above the greatest key is out of range; and after a million keys one more is
+/// too many.
+pub fn first_fault(text: &[u8])
+    ensures not_a_key { (keys : List ℕ) (number : ℕ) (line : List ℕ) →
+        ComesTo text.now keys number line →
+        ((numbers : List ℕ) → Says line numbers → ⊥) →
+        text_keys text.now ≡ Err (NotAKey number) }
+    ensures out_of_range { (keys : List ℕ) (number : ℕ) (line : List ℕ) (n : ℕ) →
+        ComesTo text.now keys number line → Says line (n ∷ []) → MAX_KEY < n →
+        text_keys text.now ≡ Err (OutOfRange number) }
+    ensures too_many { (keys : List ℕ) (number : ℕ) (line : List ℕ) (n : ℕ) →
+        ComesTo text.now keys number line → Says line (n ∷ []) → n ≤ MAX_KEY →
+        length keys ≡ MAX_KEYS → text_keys text.now ≡ Err TooMany }
+{}

@@ -1,0 +1,9 @@
+//! The limit of a text, and the parts that it is read in.
+
+/// A text of so many bytes, 2^63, or more is not read to its end.
+pub const MAX_BYTES: u64 = PART_BYTES as u64 * MAX_PARTS;
+
+/// A text is read in parts of so many bytes.
+pub(crate) const PART_BYTES: usize = 8192;
+
+pub(crate) const MAX_PARTS: u64 = 1 << 50;

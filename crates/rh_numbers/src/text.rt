@@ -1,0 +1,41 @@
+//! A whole text of numbers.
+
+ghost use Rattle.std.specs.Prelude.{◌≡◌, ◌≢◌, ◌≤◌, length, All, Err, IfOk, IsErrOf};
+ghost use Rattle.rh_layout.specs.Key.{IsKey};
+ghost use Rattle.rh_files.specs.declared.parts.TheConstants.{MAX_KEYS};
+ghost use Rattle.rh_files.specs.Counting.{Rose, failures_of, inner_of};
+ghost use Rattle.rh_numbers.specs.Reading.{IsReadFrom, Reads};
+
+use crate::fault::TextFault;
+use crate::limits::{MAX_PARTS, PART_BYTES};
+use crate::reading::Reading;
+use rh_files::{Counted, fill};
+use std::alloc::Global;
+use std::io::Read;
+
+/// The keys of a text, in its order. No line is kept in memory: only the keys take some, and
+/// `Memory` comes only where a growth was refused.
+pub fn read_numbers<R: Read>(alloc: Global, reader: &mut Counted<R>) -> Result<Vec<u64>, TextFault>
+    ensures known { Reads (R.remaining (inner_of reader.old)) (R.remaining (inner_of reader.new))
+        (λ v. v.items) result }
+    ensures spelled { IfOk result (λ v. IsReadFrom
+        (R.remaining (inner_of reader.old)) (R.remaining (inner_of reader.new)) v.items) }
+    ensures in_range { IfOk result (λ v. All IsKey v.items) }
+    ensures few { IfOk result (λ v. length v.items ≤ MAX_KEYS) }
+    ensures read { IsErrOf result TextFault.Read →
+        Rose (failures_of reader.old) (failures_of reader.new) }
+    ensures fine { result ≢ Err TextFault.Read → failures_of reader.new ≡ failures_of reader.old }
+{
+    let mut reading = Reading::new(alloc);
+    let mut part = [0; PART_BYTES];
+    for _ in 0..MAX_PARTS {
+        let Some(n) = fill(reader, &mut part) else {
+            return Err(TextFault::Read);
+        };
+        reading.read(&part[..n])?;
+        if n < PART_BYTES {
+            return reading.finish();
+        }
+    }
+    Err(TextFault::TooLong)
+}

@@ -1,0 +1,58 @@
+-- How the program ends.
+use Rattle.std.specs.Prelude.{ℕ}
+use Rattle.clap.specs.declared.error.kind.ErrorKind.{ErrorKind}
+use Rattle.clap.specs.declared.error.kind.ErrorKind.TheVariants.{DisplayHelp, DisplayVersion}
+use Rattle.rh_files.specs.declared.fault.KeyFault.{KeyFault}
+use Rattle.rh_files.specs.declared.fault.KeyFault.TheVariants as keys
+use Rattle.rh_snapshot.specs.declared.fault.SnapFault.{SnapFault}
+use Rattle.rh_snapshot.specs.declared.fault.SnapFault.TheVariants as snap
+use Rattle.rh_numbers.specs.declared.fault.TextFault.{TextFault}
+use Rattle.rh_numbers.specs.declared.fault.TextFault.TheVariants as text
+use Rattle.rh_packing.specs.declared.packing.PackFault.TheVariants as pack
+use Rattle.rh_packing.specs.declared.listing.ListFault.TheVariants as list
+use Rattle.rh_packing.specs.declared.snapshot.HeldFault.TheVariants as held
+use Rattle.rhkeys.specs.declared.status.Fault.{Fault}
+use Rattle.rhkeys.specs.declared.status.Fault.TheVariants as fault
+use Rattle.rhkeys.specs.declared.status.Status.{Status}
+use Rattle.rhkeys.specs.declared.status.Status.TheVariants.{Done, Refused, CommandLine, Memory, Write}
+
+-- the exit status of each ending
+abbrev pub number_of : Status → ℕ
+number_of Done = 0
+number_of Refused = 1
+number_of CommandLine = 2
+number_of Memory = 3
+number_of Write = 4
+
+-- how a run ends that printed what clap told: a text that was asked for, or a mistake in the words
+abbrev pub ending_of : ErrorKind → Status
+ending_of DisplayHelp = Done
+ending_of DisplayVersion = Done
+ending_of _ = CommandLine
+
+-- how a run ends whose text could not be read, or is none
+abbrev pub ending_by_text : TextFault → Status
+ending_by_text text.Memory = Memory
+ending_by_text fault = Refused
+
+-- how a run ends whose key file could not be read, or is none
+abbrev pub ending_by_keys : KeyFault → Status
+ending_by_keys keys.Memory = Memory
+ending_by_keys fault = Refused
+
+-- how a run ends whose snapshot could not be read, or is none
+abbrev pub ending_by_snapshot : SnapFault → Status
+ending_by_snapshot snap.Memory = Memory
+ending_by_snapshot fault = Refused
+
+-- how a run ends that a fault ended early
+abbrev pub ending_by : Fault → Status
+ending_by fault.NotText = CommandLine
+ending_by fault.Memory = Memory
+ending_by fault.Write = Write
+ending_by (fault.Pack (pack.Text fault)) = ending_by_text fault
+ending_by (fault.Pack pack.Write) = Write
+ending_by (fault.List (list.Keys fault)) = ending_by_keys fault
+ending_by (fault.List list.Write) = Write
+ending_by (fault.Held (held.Snap fault)) = ending_by_snapshot fault
+ending_by (fault.Held held.Write) = Write
