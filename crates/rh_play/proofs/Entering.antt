@@ -1,0 +1,188 @@
+-- A line more of a draft.
+use Rattle.std.proofs.Common.{◌≡◌, ◌∙◌, ap, sym, refl, ℕ, ◌≤◌, Vec, true, false, List, [], ◌∷◌, ◌++◌, map, Some, None, Result, Ok, Err, IsTrue, inl, inr, append_assoc, append-nil, arith}
+use Rattle.std.specs.Global.{Global}
+use Rattle.std.proofs.lemmas.Bool.{cases_Bool}
+use Rattle.std.proofs.lemmas.Bool.Decides.{nat_tests}
+use Rattle.std.proofs.lemmas.List.{map-append}
+use Rattle.rh_ledger.specs.declared.tally.Kind.{Kind}
+use Rattle.rh_play.specs.declared.draft.Table.{Table}
+use Rattle.rh_play.specs.declared.fault.PlayTextKind.{PlayTextKind}
+use Rattle.rh_play.specs.declared.fault.PlayTextKind.TheVariants.{BadLine}
+use Rattle.rh_play.specs.declared.limits.TheConstants.{MIN_BITS, MAX_BITS, MAX_ROOM}
+use Rattle.rh_play.specs.declared.line.Line.{Line}
+use Rattle.rh_play.specs.declared.line.Line.TheVariants as lines
+use Rattle.rh_play.specs.declared.play.Play as plays
+use Rattle.rh_play.specs.declared.play.Work.TheVariants as work
+use Rattle.rh_play.specs.declared.schedule.Order.{Order}
+use Rattle.rh_play.specs.Saying.{Saying, Play, Bits, Held, Work, Share, Schedule, Place, AtStart, AfterPlay, AfterBits, AfterHeld, AfterRooms, AmongWork, AmongSchedule}
+use Rattle.rh_play.specs.Grammar.{Way, entered, fits, follow}
+use Rattle.rh_play.specs.Play.{rooms_said, said_of, saying_as, table_said, with_work, work_said}
+
+-- ---- a line that may stand there, or not
+
+abbrev To : Place → List Saying → Result Way PlayTextKind
+To place said = Ok (place, said)
+
+pub goes : (way : Way) (line : Line) (said : Saying) (place : Place) (more : List Saying) → IsTrue (fits (saying_as line)) → saying_as line ≡ said → follow way.0 said ≡ Some place → way.1 ++ said ∷ [] ≡ more → entered way (saying_as line) ≡ Ok (place, more)
+unfolding entered
+goes way line said place more fit is next same =
+    let fits_too : fits said ≡ true = rw is at fit in
+    rw (is, fits_too, next) (ap (To place) same)
+
+pub stays : (way : Way) (said : Saying) → follow way.0 said ≡ None → entered way said ≡ Err BadLine
+unfolding entered
+stays way said none =
+    elim (cases_Bool (fits said)) [
+      | inl fit ↦ rw (fit, none) refl
+      | inr out ↦ rw out refl
+    ]
+
+pub out_of_range : (way : Way) (said : Saying) → fits said ≡ false → entered way said ≡ Err BadLine
+unfolding entered
+out_of_range way said out = rw out refl
+
+-- ---- the lines that may not
+
+pub not_first : (line : Line) → ((kind : Kind) → line ≡ lines.Play kind → ⊥) → follow AtStart (saying_as line) ≡ None
+unfolding follow
+not_first (lines.Play k) not_play = absurd (not_play k refl)
+not_first (lines.Bits b) not_play = refl
+not_first (lines.Held v) not_play = refl
+not_first (lines.Rooms e m) not_play = refl
+not_first (lines.Work v) not_play = refl
+not_first (lines.Share w v) not_play = refl
+not_first (lines.Schedule o) not_play = refl
+
+pub not_sized : (line : Line) → ((bits : ℕ) → line ≡ lines.Bits bits → ⊥) → follow AfterPlay (saying_as line) ≡ None
+unfolding follow
+not_sized (lines.Play k) not_bits = refl
+not_sized (lines.Bits b) not_bits = absurd (not_bits b refl)
+not_sized (lines.Held v) not_bits = refl
+not_sized (lines.Rooms e m) not_bits = refl
+not_sized (lines.Work v) not_bits = refl
+not_sized (lines.Share w v) not_bits = refl
+not_sized (lines.Schedule o) not_bits = refl
+
+pub not_filled : (line : Line) → ((keys : Vec ℕ Global) → line ≡ lines.Held keys → ⊥) → follow AfterBits (saying_as line) ≡ None
+unfolding follow
+not_filled (lines.Play k) not_held = refl
+not_filled (lines.Bits b) not_held = refl
+not_filled (lines.Held v) not_held = absurd (not_held v refl)
+not_filled (lines.Rooms e m) not_held = refl
+not_filled (lines.Work v) not_held = refl
+not_filled (lines.Share w v) not_held = refl
+not_filled (lines.Schedule o) not_held = refl
+
+pub not_begun : (line : Line) → ((keys : Vec ℕ Global) → line ≡ lines.Work keys → ⊥) → ((workers : ℕ) (keys : Vec ℕ Global) → line ≡ lines.Share workers keys → ⊥) → follow AfterRooms (saying_as line) ≡ None
+unfolding follow
+not_begun (lines.Play k) not_work not_share = refl
+not_begun (lines.Bits b) not_work not_share = refl
+not_begun (lines.Held v) not_work not_share = refl
+not_begun (lines.Rooms e m) not_work not_share = refl
+not_begun (lines.Work v) not_work not_share = absurd (not_work v refl)
+not_begun (lines.Share w v) not_work not_share = absurd (not_share w v refl)
+not_begun (lines.Schedule o) not_work not_share = refl
+
+pub not_worked : (line : Line) → ((keys : Vec ℕ Global) → line ≡ lines.Work keys → ⊥) → ((order : Order) → line ≡ lines.Schedule order → ⊥) → follow AmongWork (saying_as line) ≡ None
+unfolding follow
+not_worked (lines.Play k) not_work not_schedule = refl
+not_worked (lines.Bits b) not_work not_schedule = refl
+not_worked (lines.Held v) not_work not_schedule = refl
+not_worked (lines.Rooms e m) not_work not_schedule = refl
+not_worked (lines.Work v) not_work not_schedule = absurd (not_work v refl)
+not_worked (lines.Share w v) not_work not_schedule = refl
+not_worked (lines.Schedule o) not_work not_schedule = absurd (not_schedule o refl)
+
+pub not_scheduled : (line : Line) → ((order : Order) → line ≡ lines.Schedule order → ⊥) → follow AmongSchedule (saying_as line) ≡ None
+unfolding follow
+not_scheduled (lines.Play k) not_schedule = refl
+not_scheduled (lines.Bits b) not_schedule = refl
+not_scheduled (lines.Held v) not_schedule = refl
+not_scheduled (lines.Rooms e m) not_schedule = refl
+not_scheduled (lines.Work v) not_schedule = refl
+not_scheduled (lines.Share w v) not_schedule = refl
+not_scheduled (lines.Schedule o) not_schedule = absurd (not_schedule o refl)
+
+-- without rooms the line is read as after them
+pub no_rooms : (line : Line) → ((entries marks : ℕ) → line ≡ lines.Rooms entries marks → ⊥) → follow AfterHeld (saying_as line) ≡ follow AfterRooms (saying_as line)
+unfolding follow
+no_rooms (lines.Play k) not_rooms = refl
+no_rooms (lines.Bits b) not_rooms = refl
+no_rooms (lines.Held v) not_rooms = refl
+no_rooms (lines.Rooms e m) not_rooms = absurd (not_rooms e m refl)
+no_rooms (lines.Work v) not_rooms = refl
+no_rooms (lines.Share w v) not_rooms = refl
+no_rooms (lines.Schedule o) not_rooms = refl
+
+pub entered_alike : (place other : Place) (said : List Saying) (line : Saying) → follow place line ≡ follow other line → entered (place, said) line ≡ entered (other, said) line
+unfolding entered
+entered_alike place other said line same = rw same refl
+
+-- ---- ranges
+
+pub bits_fit : (line : Line) (bits : ℕ) → IsTrue (fits (saying_as line)) → line ≡ lines.Bits bits → (MIN_BITS ≤ bits) × (bits ≤ MAX_BITS)
+unfolding fits
+bits_fit (lines.Bits b) bits fit is = grind (arith, nat_tests)
+bits_fit (lines.Play k) bits fit is = absurd cc
+bits_fit (lines.Held v) bits fit is = absurd cc
+bits_fit (lines.Rooms e m) bits fit is = absurd cc
+bits_fit (lines.Work v) bits fit is = absurd cc
+bits_fit (lines.Share w v) bits fit is = absurd cc
+bits_fit (lines.Schedule o) bits fit is = absurd cc
+
+pub rooms_fit : (line : Line) (entries marks : ℕ) → IsTrue (fits (saying_as line)) → line ≡ lines.Rooms entries marks → (1 ≤ entries) × (entries ≤ MAX_ROOM) × (1 ≤ marks) × (marks ≤ MAX_ROOM)
+unfolding fits
+rooms_fit (lines.Rooms e m) entries marks fit is = grind (arith, nat_tests)
+rooms_fit (lines.Play k) entries marks fit is = absurd cc
+rooms_fit (lines.Bits b) entries marks fit is = absurd cc
+rooms_fit (lines.Held v) entries marks fit is = absurd cc
+rooms_fit (lines.Work v) entries marks fit is = absurd cc
+rooms_fit (lines.Share w v) entries marks fit is = absurd cc
+rooms_fit (lines.Schedule o) entries marks fit is = absurd cc
+
+-- ---- what was said, and a line more
+
+mapped_more : {A : Type 0} (f : A → Saying) (said : List Saying) (before after : List A) (x : A) → after ≡ before ++ x ∷ [] → (said ++ map f before) ++ f x ∷ [] ≡ said ++ map f after
+mapped_more f said before after x is =
+    append_assoc said (map f before) (f x ∷ []) ∙ ap (λ more. said ++ more) (sym (map-append f before (x ∷ [])))
+    ∙ ap (λ all. said ++ map f all) (sym is)
+
+abbrev piece_said : Vec ℕ Global → Saying
+piece_said piece = Work piece.items
+
+pub first_piece : (table : Table) (line : Line) (keys : Vec ℕ Global) (pieces : List (Vec ℕ Global)) → IsTrue (fits (saying_as line)) → line ≡ lines.Work keys → pieces ≡ keys ∷ [] → entered (AfterRooms, table_said table) (saying_as line) ≡ Ok (AmongWork, table_said table ++ map piece_said pieces)
+unfolding follow
+first_piece table line keys pieces fit is one =
+    goes (AfterRooms, table_said table) line (Work keys.items) AmongWork _ fit (ap saying_as is) refl (ap (λ all. table_said table ++ map piece_said all) (sym one))
+
+pub shared_work : (table : Table) (line : Line) (workers : ℕ) (keys : Vec ℕ Global) (schedule : Vec Order Global) (play : plays.Play) → IsTrue (fits (saying_as line)) → line ≡ lines.Share workers keys → schedule.items ≡ [] → play ≡ with_work table (work.Share workers keys) schedule → entered (AfterRooms, table_said table) (saying_as line) ≡ Ok (AmongSchedule, said_of play)
+unfolding follow
+shared_work table line workers keys schedule play fit is none made =
+    goes (AfterRooms, table_said table) line (Share workers keys.items) AmongSchedule _ fit (ap saying_as is) refl
+    (sym (ap said_of made ∙ ap (λ all. (table_said table ++ Share workers keys.items ∷ []) ++ map Schedule all) none ∙ append-nil (table_said table ++ Share workers keys.items ∷ [])))
+
+pub one_more_piece : (table : Table) (line : Line) (keys : Vec ℕ Global) (before after : List (Vec ℕ Global)) → IsTrue (fits (saying_as line)) → line ≡ lines.Work keys → after ≡ before ++ keys ∷ [] → entered (AmongWork, table_said table ++ map piece_said before) (saying_as line) ≡ Ok (AmongWork, table_said table ++ map piece_said after)
+unfolding follow
+one_more_piece table line keys before after fit is more =
+    goes (AmongWork, table_said table ++ map piece_said before) line (Work keys.items) AmongWork _ fit (ap saying_as is) refl (mapped_more piece_said (table_said table) before after keys more)
+
+pub first_order : (table : Table) (line : Line) (order : Order) (pieces : Vec (Vec ℕ Global) Global) (schedule : Vec Order Global) (play : plays.Play) → IsTrue (fits (saying_as line)) → line ≡ lines.Schedule order → schedule.items ≡ order ∷ [] → play ≡ with_work table (work.Pieces pieces) schedule → entered (AmongWork, table_said table ++ map piece_said pieces.items) (saying_as line) ≡ Ok (AmongSchedule, said_of play)
+unfolding follow
+first_order table line order pieces schedule play fit is one made =
+    goes (AmongWork, table_said table ++ map piece_said pieces.items) line (Schedule order) AmongSchedule _ fit (ap saying_as is) refl
+    (sym (ap said_of made ∙ ap (λ all. (table_said table ++ map piece_said pieces.items) ++ map Schedule all) one))
+
+-- the lines before the schedule
+abbrev before_orders : plays.Play → List Saying
+before_orders play =
+    Play play.kind ∷ Bits play.bits.value ∷ Held play.held.items ∷ rooms_said play.rooms ++ work_said play.work
+
+pub one_more_order : (play : plays.Play) (line : Line) (order : Order) (schedule : Vec Order Global) → IsTrue (fits (saying_as line)) → line ≡ lines.Schedule order → schedule.items ≡ play.schedule.items ++ order ∷ [] → entered (AmongSchedule, said_of play) (saying_as line) ≡ Ok (AmongSchedule, said_of (record play { schedule = schedule }))
+unfolding follow
+one_more_order play line order schedule fit is more =
+    goes (AmongSchedule, said_of play) line (Schedule order) AmongSchedule _ fit (ap saying_as is) refl
+    (mapped_more Schedule (before_orders play) play.schedule.items schedule.items order more)
+
+pub all_given : (table : Table) (pieces : Vec (Vec ℕ Global) Global) (schedule : Vec Order Global) (play : plays.Play) → schedule.items ≡ [] → play ≡ with_work table (work.Pieces pieces) schedule → table_said table ++ map piece_said pieces.items ≡ said_of play
+all_given table pieces schedule play none made =
+    sym (ap said_of made ∙ ap (λ all. (table_said table ++ map piece_said pieces.items) ++ map Schedule all) none ∙ append-nil (table_said table ++ map piece_said pieces.items))

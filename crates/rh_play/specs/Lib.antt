@@ -1,0 +1,4 @@
+pub mod Lines
+pub mod Saying
+pub mod Grammar
+pub mod Play

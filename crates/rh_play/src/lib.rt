@@ -1,0 +1,23 @@
+//! The text of a play: how workers take turns, read to its values.
+#![tactic(auto)]
+
+mod draft;
+mod fault;
+mod limits;
+mod line;
+mod lines;
+mod numbers;
+mod play;
+mod reading;
+mod schedule;
+mod verb;
+mod words;
+
+pub use fault::{PlayTextFault, PlayTextKind};
+pub use limits::{MAX_BITS, MAX_ROOM, MAX_TEXT_BYTES, MAX_TURNS, MIN_BITS};
+pub use play::{Bits, Play, Rooms, Work};
+pub use reading::parse_play;
+pub use schedule::{Order, Step};
+
+#[cfg(test)]
+mod tests;

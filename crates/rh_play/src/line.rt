@@ -1,0 +1,143 @@
+//! What a line says.
+
+ghost use Rattle.std.specs.Prelude.{◌≡◌, option_map};
+ghost use Rattle.rh_play.specs.Lines.{words_of};
+ghost use Rattle.rh_play.specs.Grammar.{fits, is_within, no_word, number_and_step, one_kind};
+ghost use Rattle.rh_play.specs.Grammar.{said_in, saying_in, saying_of, shared};
+ghost use Rattle.rh_play.specs.Play.{Answers, saying_as};
+
+use crate::fault::PlayTextKind;
+use crate::limits::{MAX_BITS, MAX_ROOM, MAX_TURNS, MIN_BITS};
+use crate::lines::is_skipped;
+use crate::numbers::{number, numbers, one_number, two_numbers};
+use crate::schedule::{Order, Step};
+use crate::verb::{Verb, kind_from_word, step_from_word};
+use crate::words::{end_of_words, next_word, printable};
+use rh_ledger::Kind;
+use std::alloc::Global;
+
+/// A line that is not skipped.
+#[derive(Drop)]
+pub(crate) enum Line {
+    Play(Kind),
+    Bits(u64),
+    Held(Vec<u64>),
+    Rooms { entries: u64, marks: u64 },
+    Work(Vec<u64>),
+    Share { workers: u64, keys: Vec<u64> },
+    Schedule(Order),
+}
+
+impl Line {
+    /// Whether its numbers lie in their ranges.
+    #[tactic(auto, unfolding(crate::specs::Grammar::fits))]
+    pub(crate) fn fits(&self) -> bool
+        ensures { result ≡ fits (saying_as self.now) }
+    {
+        match self {
+            Line::Bits(bits) => MIN_BITS <= *bits && *bits <= MAX_BITS,
+            Line::Rooms { entries, marks } => is_room(*entries) && is_room(*marks),
+            Line::Schedule(Order::Turn { turns, .. }) => 1 <= *turns && *turns <= MAX_TURNS,
+            _ => true,
+        }
+    }
+}
+
+fn is_room(room: u64) -> bool
+    ensures { result ≡ is_within 1 MAX_ROOM room }
+{
+    1 <= room && room <= MAX_ROOM
+}
+
+/// What a line says, if it is not skipped.
+#[tactic(auto, unfolding(crate::specs::Grammar::said_in))]
+pub(crate) fn read_said(alloc: Global, line: &[u8]) -> Result<Option<Line>, PlayTextKind>
+    ensures { Answers (said_in line.now) (option_map saying_as) result }
+{
+    if is_skipped(line) {
+        return Ok(None);
+    }
+    let text = printable(line)?;
+    let said = said(alloc, text)?;
+    Ok(Some(said))
+}
+
+#[tactic(auto, unfolding(crate::specs::Grammar::saying_in))]
+fn said(alloc: Global, text: &str) -> Result<Line, PlayTextKind>
+    ensures { Answers (saying_in (words_of text.now)) saying_as result }
+{
+    let (word, rest) = next_word(text).ok_or(PlayTextKind::BadLine)?;
+    let verb = Verb::from_word(word).ok_or(PlayTextKind::BadLine)?;
+    said_after(alloc, verb, rest)
+}
+
+#[tactic(auto, unfolding(crate::specs::Grammar::saying_of))]
+fn said_after(alloc: Global, verb: Verb, rest: &str) -> Result<Line, PlayTextKind>
+    ensures { Answers (saying_of verb (words_of rest.now)) saying_as result }
+{
+    Ok(match verb {
+        Verb::Play => Line::Play(one_kind(rest)?),
+        Verb::Bits => Line::Bits(one_number(rest)?),
+        Verb::Held => Line::Held(numbers(alloc, rest)?),
+        Verb::Rooms => {
+            let (entries, marks) = two_numbers(rest)?;
+            Line::Rooms { entries, marks }
+        }
+        Verb::Work => Line::Work(numbers(alloc, rest)?),
+        Verb::Share => shared(alloc, rest)?,
+        Verb::Turn => {
+            let (worker, turns) = two_numbers(rest)?;
+            Line::Schedule(Order::Turn { worker, turns })
+        }
+        Verb::Until => {
+            let (worker, step) = number_and_step(rest)?;
+            Line::Schedule(Order::Until { worker, step })
+        }
+        Verb::Rest => alone(Order::Rest, rest)?,
+        Verb::Round => alone(Order::Round, rest)?,
+        Verb::Show => alone(Order::Show, rest)?,
+    })
+}
+
+/// A kind of phase, and nothing after it.
+#[tactic(auto, unfolding(crate::specs::Grammar::one_kind))]
+fn one_kind(rest: &str) -> Result<Kind, PlayTextKind>
+    ensures { result ≡ one_kind (words_of rest.now) }
+{
+    let (word, rest) = next_word(rest).ok_or(PlayTextKind::BadLine)?;
+    end_of_words(rest)?;
+    kind_from_word(word).ok_or(PlayTextKind::BadLine)
+}
+
+/// A worker and a kind of step, and nothing after them.
+#[tactic(auto, unfolding(crate::specs::Grammar::number_and_step))]
+fn number_and_step(rest: &str) -> Result<(u64, Step), PlayTextKind>
+    ensures { result ≡ number_and_step (words_of rest.now) }
+{
+    let (worker, rest) = next_word(rest).ok_or(PlayTextKind::BadLine)?;
+    let (step, rest) = next_word(rest).ok_or(PlayTextKind::BadLine)?;
+    end_of_words(rest)?;
+    let worker = number(worker)?;
+    let step = step_from_word(step).ok_or(PlayTextKind::BadLine)?;
+    Ok((worker, step))
+}
+
+/// The number of workers, and the keys that they share.
+#[tactic(auto, unfolding(crate::specs::Grammar::shared))]
+fn shared(alloc: Global, rest: &str) -> Result<Line, PlayTextKind>
+    ensures { Answers (shared (words_of rest.now)) saying_as result }
+{
+    let (word, rest) = next_word(rest).ok_or(PlayTextKind::BadLine)?;
+    let workers = number(word)?;
+    let keys = numbers(alloc, rest)?;
+    Ok(Line::Share { workers, keys })
+}
+
+/// An order of one word.
+#[tactic(auto, unfolding(crate::specs::Grammar::no_word))]
+fn alone(order: Order, rest: &str) -> Result<Line, PlayTextKind>
+    ensures { Answers (no_word order (words_of rest.now)) saying_as result }
+{
+    end_of_words(rest)?;
+    Ok(Line::Schedule(order))
+}
