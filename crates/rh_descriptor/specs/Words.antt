@@ -19,7 +19,7 @@ mark_number x = word_number (Mark x.worker x.number)
 abbrev pub desc_number : Ref → ℕ
 desc_number d = word_number (Desc d.worker d.number)
 
--- the word says what a cell holds
+-- a plain word: it says what a cell holds
 abbrev pub IsPlain : ℕ → Type 0
 IsPlain n = tag_of n ≡ PLAIN
 

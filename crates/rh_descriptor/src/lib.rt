@@ -1,4 +1,5 @@
-//! Where descriptors and marks stand in a table that several workers share.
+//! Where descriptors and marks stand in a table that several workers share, and the steps of one
+//! worker on its words.
 #![tactic(auto)]
 
 mod entry;
