@@ -19,8 +19,8 @@ pub use reference::{Piece, Reading, Ref};
 pub use shape::{Part, Rooms, Shape};
 pub use side::Side;
 pub use steps::{
-    StepKind, claim_key, decide_desc, open_desc, place_mark, read_word, release_cell, settle_mark,
-    write_word,
+    StepKind, claim_key, decide_desc, desc_word, mark_word, open_desc, place_mark, read_word,
+    release_cell, settle_mark, write_word,
 };
 
 #[cfg(test)]

@@ -295,7 +295,8 @@ fn place_of_reading(shape: &Shape, reading: Reading) -> usize
     }
 }
 
-fn mark_word(shape: &Shape, mark: Ref) -> u64
+/// The word that refers to a mark of the table.
+pub fn mark_word(shape: &Shape, mark: Ref) -> u64
     requires shape { IsShape shape.now }
     requires mark { IsMark shape.now (ref_of mark) }
     ensures { result ≡ mark_number (ref_of mark) }
@@ -307,7 +308,8 @@ fn mark_word(shape: &Shape, mark: Ref) -> u64
     })
 }
 
-fn desc_word(shape: &Shape, desc: Ref) -> u64
+/// The word that refers to a descriptor of the table.
+pub fn desc_word(shape: &Shape, desc: Ref) -> u64
     requires shape { IsShape shape.now }
     requires desc { IsDesc shape.now (ref_of desc) }
     ensures { result ≡ desc_number (ref_of desc) }

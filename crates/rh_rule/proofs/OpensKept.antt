@@ -29,7 +29,7 @@ use Rattle.rh_rule.proofs.Kept.{desc_row_stays, mark_row_stays, mirrors, numbers
 use Rattle.rh_rule.proofs.Touched.{cells_same, counter_same, fixed_same, others_stay, own_same, set_sized}
 
 -- the entries that the rows say
-entries_length : (rows : List Written) (place n : ℕ) → length (entries_at rows place n) ≡ n
+pub entries_length : (rows : List Written) (place n : ℕ) → length (entries_at rows place n) ≡ n
 entries_length rows place zero = refl
 entries_length rows place (suc n) = ap suc (entries_length rows (suc place) n)
 
@@ -43,11 +43,11 @@ entries_said rows place (suc n) zero h = ap (entry_said rows) (let q : place ≡
 entries_said rows place (suc n) (suc e) h = entries_said rows (suc place) n e (omega arith) ∙ ap (entry_said rows) (let q : suc place + e ≡ place + suc e = omega arith in q)
 
 -- the notes grow, and the last descriptor is open
-entries_current : (s : Side) (d : Ref) (p : Entries) (n : ℕ) → (note_entries s d p n).current ≡ s.current
+pub entries_current : (s : Side) (d : Ref) (p : Entries) (n : ℕ) → (note_entries s d p n).current ≡ s.current
 entries_current s d p zero = refl
 entries_current s d p (suc n) = entries_current s d p n
 
-entries_notes : (s : Side) (d : Ref) (p : Entries) (n : ℕ) (i : Note) → In i s.notes → In i (note_entries s d p n).notes
+pub entries_notes : (s : Side) (d : Ref) (p : Entries) (n : ℕ) (i : Note) → In i s.notes → In i (note_entries s d p n).notes
 entries_notes s d p zero i h = inr (inr h)
 entries_notes s d p (suc n) i h = inr (inr (inr (entries_notes s d p n i h)))
 

@@ -24,7 +24,7 @@ full_or : (b : Bool) (n key : ℕ) → cell_said (Some (if b then tagged.Key key
 full_or true n key = refl
 full_or false n key = refl
 
-plain_said : (n : ℕ) → IsPlain n → cell_in n ≡ plain n
+pub plain_said : (n : ℕ) → IsPlain n → cell_in n ≡ plain n
 plain_said n h = rw h (full_or (is_full (n / 4)) n (key_in (n / 4)))
 
 module _ (z : Shape) (shape : IsShape z) where

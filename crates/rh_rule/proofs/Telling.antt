@@ -84,16 +84,16 @@ ref_self d = ⊎_elim (λ p. p) (λ q. absurd (is_ref_no d d q refl)) (bool_case
         only true = refl
         only false = refl
 
-noted_in : (ns : List Note) (d : Ref) → is_noted_success ns d ≡ true → In (decided d succeeded) ns
+pub noted_in : (ns : List Note) (d : Ref) → is_noted_success ns d ≡ true → In (decided d succeeded) ns
 noted_in [] d e = absurd (true≢false (sym e))
 noted_in (n ∷ ns) d e = ⊎_elim (λ q. inl (says_so n d q)) (λ q. inr (noted_in ns d q)) (or_true (says_success n d) (is_noted_success ns d) e)
 
-in_noted : (ns : List Note) (d : Ref) → In (decided d succeeded) ns → is_noted_success ns d ≡ true
+pub in_noted : (ns : List Note) (d : Ref) → In (decided d succeeded) ns → is_noted_success ns d ≡ true
 in_noted [] d i = absurd i
 in_noted (n ∷ ns) d i = true_or (says_success n d) (is_noted_success ns d)
     (⊎_elim (λ e. inl (ap (λ (m : Note). says_success m d) (sym e) ∙ ap (λ (b : Bool). b && true) (ref_self d))) (λ j. inr (in_noted ns d j)) i)
 
-same_bool : (a b : Bool) → (a ≡ true → b ≡ true) → (b ≡ true → a ≡ true) → a ≡ b
+pub same_bool : (a b : Bool) → (a ≡ true → b ≡ true) → (b ≡ true → a ≡ true) → a ≡ b
 same_bool true b f g = sym (f refl)
 same_bool false true f g = g refl
 same_bool false false f g = refl
