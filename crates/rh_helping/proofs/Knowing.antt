@@ -1,0 +1,46 @@
+-- What a worker knows of a task lets it go on: the descriptor and its entries are of the table.
+use Rattle.std.proofs.Common.{ℕ, ◌+◌, ◌<◌, ◌≤◌, List, sym, subst, arith}
+use Rattle.rh_world.specs.Moves.{MayWork}
+use Rattle.rh_descriptor.specs.declared.shape.Shape.{Shape}
+use Rattle.rh_descriptor.specs.Places.{cell_count}
+use Rattle.rh_descriptor.specs.View.{View}
+use Rattle.rh_descriptor.specs.Words.{ref_of}
+use Rattle.rh_descriptor.specs.Steps.{Allowed, IsDesc, IsKnown, IsStep, Step, StepsTo}
+use Rattle.rh_rule.specs.Sound.{Finds}
+use Rattle.rh_helping.specs.declared.goal.Task.{Task}
+use Rattle.rh_helping.specs.declared.goal.Goal.{Goal}
+use Rattle.rh_helping.specs.Goal.{KnowsGoal, KnowsTask}
+use Rattle.rh_helping.specs.Relies.{Relies, Trusts}
+use Rattle.rh_helping.proofs.Growing.{stands_known}
+
+-- what a step found
+pub finds_it : (z : Shape) (words : List ℕ) (v : View) → Relies z words v → (s : Step) → Allowed z v s → (word : ℕ) (then : List ℕ) (next : View)
+    → StepsTo z s words v word then next → Finds z v s word
+finds_it z words v r s may word then next to = subst (λ (n : ℕ). Finds z v s n) (sym to.found_is) (r.finds s may)
+
+module _ (z : Shape) (words : List ℕ) (v : View) (trusts : Trusts z words v) where
+  pub allowed : (s : Step) → IsStep z v s → Allowed z v s
+  allowed s h = record { worker = trusts.worker; still = trusts.still; step = h }
+
+  module _ (t : Task) (k : KnowsTask v t) where
+    pub task_known : IsKnown v.side.notes (ref_of t.desc)
+    task_known = stands_known v.side.notes (ref_of t.desc) t.control t.entry k.stands
+
+    pub task_desc : IsDesc z (ref_of t.desc)
+    task_desc = trusts.sound.descs (ref_of t.desc) task_known
+
+    pub task_room : t.desc.number + t.size ≤ z.entry_room
+    task_room = (trusts.sound.sizes (ref_of t.desc) t.size k.size).1
+
+    pub task_work : (e : ℕ) → e < t.size → MayWork v.side (ref_of t.desc) e
+    task_work e lt = record { size = t.size; known = k.size; within = lt }
+
+    pub entry_here : t.entry < t.size → (t.desc.worker < z.workers) × (t.desc.number + t.entry < z.entry_room)
+    entry_here lt = let room = task_room in (task_desc.0, omega arith)
+
+  module _ (g : Goal) (k : KnowsGoal v g) where
+    pub goal_work : MayWork v.side (ref_of g.task.desc) g.task.entry
+    goal_work = task_work g.task k.task g.task.entry k.entry
+
+    pub goal_cell : g.cell < cell_count z
+    goal_cell = trusts.sound.targets (ref_of g.task.desc) g.task.entry g.cell k.cell goal_work

@@ -1,0 +1,5 @@
+pub mod Relies
+pub mod Met
+pub mod Goal
+pub mod Settling
+pub mod Work

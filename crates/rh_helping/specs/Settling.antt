@@ -1,0 +1,75 @@
+-- What is so while a mark that was met in a cell is settled. (own)
+use Rattle.std.specs.Prelude.{◌≡◌, ℕ, Option, Some, None, List}
+use Rattle.rh_world.specs.World.{In}
+use Rattle.rh_world.specs.Notes.{Note}
+use Rattle.rh_world.specs.Notes.Note.{found, desc_is, which_is, may_promote, may_demote, old_is}
+use Rattle.rh_descriptor.specs.declared.shape.Shape.{Shape}
+use Rattle.rh_descriptor.specs.declared.reference.Ref.{Ref as Reference}
+use Rattle.rh_descriptor.specs.declared.reference.Piece.{Piece}
+use Rattle.rh_descriptor.specs.declared.steps.StepKind.{StepKind}
+use Rattle.rh_descriptor.specs.declared.steps.StepKind.TheVariants as kind
+use Rattle.rh_descriptor.specs.View.{View}
+use Rattle.rh_descriptor.specs.Words.{ref_of}
+use Rattle.rh_descriptor.specs.Steps.{Allowed, Step, StepsTo}
+use Rattle.rh_helping.specs.declared.settling.Settling.{Settling}
+use Rattle.rh_helping.specs.declared.settling.Settling.TheVariants as settling
+
+abbrev pub kind_of : Step → StepKind
+kind_of (Step.writes p u) = kind.Write
+kind_of (Step.opens size) = kind.Open
+kind_of (Step.reads r) = kind.Read
+kind_of (Step.places d e c old) = kind.Place
+kind_of (Step.settles x c d e old) = kind.Settle
+kind_of (Step.decides d k) = kind.Decide
+kind_of (Step.releases d e c k value) = kind.Release
+kind_of Step.claims = kind.Claim
+
+-- One allowed step of this kind was made, which opened no descriptor, and by which no cell was kept as read and no key
+-- claimed.
+pub record HasMade (z : Shape) (k : StepKind) (words : List ℕ) (v : View) (then : List ℕ) (next : View) : Type 0 where
+  pub step : Step
+  pub word : ℕ
+  pub kind : kind_of step ≡ k
+  pub allowed : Allowed z v step
+  pub steps : StepsTo z step words v word then next
+  pub opened : next.opened ≡ v.opened
+  pub reads : next.side.reads ≡ v.side.reads
+  pub claims : next.side.claims ≡ v.side.claims
+
+-- more is noted, and nothing else is changed
+pub record Grows (v next : View) : Type 0 where
+  pub worker : next.worker ≡ v.worker
+  pub next_number : next.next_number ≡ v.next_number
+  pub marks_used : next.marks_used ≡ v.marks_used
+  pub opened : next.opened ≡ v.opened
+  pub written : next.written ≡ v.written
+  pub current : next.side.current ≡ v.side.current
+  pub released : next.side.released ≡ v.side.released
+  pub unsettled : next.side.unsettled ≡ v.side.unsettled
+  pub debts : next.side.debts ≡ v.side.debts
+  pub notes : (n : Note) → In n v.side.notes → In n next.side.notes
+
+abbrev pub kind_of_settling : Settling → StepKind
+kind_of_settling (settling.Desc x c) = kind.Read
+kind_of_settling (settling.Entry x c d) = kind.Read
+kind_of_settling (settling.Control x p) = kind.Read
+kind_of_settling (settling.Old x p) = kind.Read
+kind_of_settling (settling.Settle x p old) = kind.Settle
+
+-- the mark was found in the piece's cell, and is for this piece
+pub record IsFound (v : View) (x : Reference) (p : Piece) : Type 0 where
+  pub met : In (found (ref_of x) p.cell) v.side.notes
+  pub of_desc : In (desc_is (ref_of x) (ref_of p.desc)) v.side.notes
+  pub of_entry : In (which_is (ref_of x) p.entry) v.side.notes
+
+-- it may be swapped to its descriptor, or to this old value
+abbrev pub MaySwap : View → Reference → Piece → Option ℕ → Type 0
+MaySwap v x p None = In (may_promote (ref_of x) p.cell) v.side.notes
+MaySwap v x p (Some old) = In (may_demote (ref_of x)) v.side.notes × In (old_is (ref_of p.desc) p.entry old) v.side.notes
+
+abbrev pub IsSettling : View → Settling → Type 0
+IsSettling v (settling.Desc x c) = In (found (ref_of x) c) v.side.notes
+IsSettling v (settling.Entry x c d) = In (found (ref_of x) c) v.side.notes × In (desc_is (ref_of x) (ref_of d)) v.side.notes
+IsSettling v (settling.Control x p) = IsFound v x p
+IsSettling v (settling.Old x p) = IsFound v x p × In (may_demote (ref_of x)) v.side.notes
+IsSettling v (settling.Settle x p old) = IsFound v x p × MaySwap v x p old

@@ -1,0 +1,35 @@
+//! What a worker goes about: a descriptor, its own or another's, and an entry of it.
+
+use rh_descriptor::Ref;
+use rh_tagword::Control;
+
+/// A descriptor that a worker goes about, and how far it has come.
+#[derive(Clone, Copy, Debug, PartialEq, Eq)]
+pub struct Task {
+    pub desc: Ref,
+    /// The number of its entries.
+    pub size: usize,
+    /// Undecided while its entries are to be held, else how it was decided, and then its entries are
+    /// to be released.
+    pub control: Control,
+    /// The entries before this one are held, or released.
+    pub entry: usize,
+}
+
+/// The next entry of a task.
+#[derive(Clone, Copy, Debug, PartialEq, Eq)]
+pub struct Goal {
+    pub task: Task,
+    pub cell: usize,
+    /// The word that the entry is to find in the cell.
+    pub old: u64,
+    /// The word that it is to put there.
+    pub new: u64,
+}
+
+/// An own mark that was placed for a goal.
+#[derive(Clone, Copy, Debug, PartialEq, Eq)]
+pub struct Placed {
+    pub goal: Goal,
+    pub mark: Ref,
+}

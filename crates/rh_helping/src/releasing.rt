@@ -1,0 +1,71 @@
+//! Releasing a decided descriptor.
+
+ghost use Rattle.std.specs.Prelude.{◌≡◌, length, Some, Decides};
+ghost use Rattle.rh_descriptor.specs.Places.{IsShape, word_count};
+ghost use Rattle.rh_helping.specs.Relies.{Relies};
+ghost use Rattle.rh_helping.specs.Settling.{HasMade};
+ghost use Rattle.rh_helping.specs.Goal.{KnowsOwn, released_value};
+ghost use Rattle.rh_helping.specs.Work.{Stands, Leads};
+ghost use Rattle.rh_helping.specs.declared.work.Work.TheVariants.{Release};
+
+use crate::goal::{Goal, Task};
+use crate::going::{at_entry, resume};
+use crate::work::Outcome;
+use rh_descriptor::{Piece, Ref, Shape, Side, StepKind, release_cell};
+use rh_tagword::Control;
+
+/// Releases an entry. With the last one the own descriptor is closed, if it is that one that was open.
+pub(crate) fn release(
+    shape: &Shape,
+    words: &mut [u64],
+    side: &mut Side,
+    opens: Option<usize>,
+    goal: Goal,
+) -> Outcome
+    requires shape { IsShape shape.now }
+    requires sized { length words.old ≡ word_count shape.now }
+    requires relies { Relies shape.now words.old side.old.known.view }
+    requires own { KnowsOwn side.old.known.view opens }
+    requires stands { Stands shape.now side.old.known.view (Release goal) }
+    ensures made { HasMade shape.now StepKind.Release words.old side.old.known.view
+        words.new side.new.known.view }
+    ensures leads { Leads shape.now side.new.known.view opens result }
+{
+    let task = goal.task;
+    let own = is_open(side.worker, opens, task.desc);
+    let value = released_value(goal);
+    let piece = Piece {
+        desc: task.desc,
+        entry: task.entry,
+        cell: goal.cell,
+    };
+    release_cell(shape, words, side, piece, task.control, value);
+    let next = Task {
+        entry: task.entry + 1,
+        ..task
+    };
+    if next.entry < next.size {
+        at_entry(shape, words, side, opens, next)
+    } else if own {
+        Outcome::Closed(task.control)
+    } else {
+        resume(side, opens)
+    }
+}
+
+/// What the cell gets: the new value if the descriptor succeeded, else the old one.
+fn released_value(goal: Goal) -> u64
+    ensures { result ≡ released_value goal.task.control goal.old goal.new }
+{
+    match goal.task.control {
+        Control::Succeeded => goal.new,
+        _ => goal.old,
+    }
+}
+
+/// Whether the descriptor is the own one that is open.
+fn is_open(worker: usize, opens: Option<usize>, desc: Ref) -> bool
+    ensures { Decides result ((desc.worker ≡ worker) × (opens ≡ Some desc.number)) }
+{
+    desc.worker == worker && opens == Some(desc.number)
+}
