@@ -1,0 +1,232 @@
+-- The acts that a worker has finished, from step to step.
+use Rattle.std.proofs.Common.{◌≡◌, ◌≢◌, ℕ, ◌+◌, ◌<◌, inl, inr, ⊎_elim, refl, sym, ap, ◌∙◌, subst, arith, eq-eqb, ne_eqb, Bool, true, false, true≢false, cond, not, ◌&&◌, List, [], ◌∷◌, ◌++◌, length, map, filter, reverse, Option, Some, None}
+use mathlib.Core.List.{reverse-cons}
+use Rattle.rh_world.specs.World.{Control, In, IsFalling, Ref}
+use Rattle.rh_world.specs.World.Control.{succeeded}
+use Rattle.rh_world.specs.Notes.{Note}
+use Rattle.rh_world.specs.Notes.Note.{decided}
+use Rattle.rh_world.specs.Sides.{Side, close_side, is_number, open_side, paid_side, release_side}
+use Rattle.rh_world.specs.Acts.{is_success}
+use Rattle.rh_world.specs.Moves.{covers, release_noted}
+use Rattle.rh_world.proofs.Tests.{is_number_yes}
+use Rattle.rh_world.proofs.Updated.{ref_path, some_injective, some_not_none}
+use Rattle.rh_descriptor.specs.declared.shape.Shape.{Shape}
+use Rattle.rh_descriptor.specs.View.{OwnDesc, View, Written}
+use Rattle.rh_descriptor.specs.Steps.{CanOpen, Step, entries_of, next_entries, noted, own_desc, size_in, with_side}
+use Rattle.rh_rule.specs.Mirrors.{numbers_of}
+use Rattle.rh_rule.specs.Rest.{is_noted_success}
+use Rattle.rh_rule.proofs.OpensKept.{entries_current, entries_length}
+use Rattle.rh_rule.proofs.Telling.{in_noted, noted_in, same_bool}
+use Rattle.rh_acts.specs.Act.{Act}
+use Rattle.rh_history.specs.History.{act_of, is_current, is_finished, own_acts_of, own_ref}
+use Rattle.rh_history.specs.OwnActs.{Orderly, StepFinishes, StepsFinish}
+use Rattle.rh_history.proofs.Filtered.{same_filtered}
+use Rattle.rh_history.proofs.Learning.{KeepsCurrent, Learns, steps_grow, steps_learn}
+
+abbrev OneResult : List Note → Type 0
+OneResult ns = (d : Ref) (j k : Control) → In (decided d j) ns → In (decided d k) ns → j ≡ k
+
+-- ---- what is noted as succeeded
+
+-- of what is noted as decided, no more is noted as succeeded later
+noted_same : (ns more : List Note) (d : Ref) (k : Control) → ((n : Note) → In n ns → In n more) → OneResult more → In (decided d k) ns
+    → is_noted_success more d ≡ is_noted_success ns d
+noted_same ns more d k grow one i = same_bool (is_noted_success more d) (is_noted_success ns d)
+    (λ e. in_noted ns d (subst (λ (r : Control). In (decided d r) ns) (one d k succeeded (grow (decided d k) i) (noted_in more d e)) i))
+    (λ e. in_noted more d (grow (decided d succeeded) (noted_in ns d e)))
+
+noted_no : (ns : List Note) (d : Ref) (k : Control) → OneResult ns → In (decided d k) ns → is_success k ≡ false → is_noted_success ns d ≡ false
+noted_no ns d k one i fails = same_bool (is_noted_success ns d) false
+    (λ e. sym fails ∙ ap is_success (one d k succeeded i (noted_in ns d e)))
+    (λ e. absurd (true≢false (sym e)))
+
+-- ---- what is finished
+
+open_yes : (q : Option ℕ) (n : ℕ) → q ≡ Some n → is_current q n ≡ true
+open_yes q n e = ap (λ (x : Option ℕ). is_current x n) e ∙ eq-eqb n n refl
+
+open_no : (q : Option ℕ) (p n : ℕ) → q ≡ Some p → p ≢ n → is_current q n ≡ false
+open_no q p n e ne = ap (λ (x : Option ℕ). is_current x n) e ∙ ne_eqb p n ne
+
+none_open : (q : Option ℕ) (n : ℕ) → q ≡ None → is_current q n ≡ false
+none_open q n e = ap (λ (x : Option ℕ). is_current x n) e
+
+while_open : (v : View) (o : OwnDesc) → v.side.current ≡ Some o.number → is_finished v o ≡ false
+while_open v o e = ap (λ b. not b && is_noted_success v.side.notes (own_ref v o.number)) (open_yes v.side.current o.number e)
+
+once_closed : (v : View) (o : OwnDesc) → is_current v.side.current o.number ≡ false → is_finished v o ≡ is_noted_success v.side.notes (own_ref v o.number)
+once_closed v o e = ap (λ b. not b && is_noted_success v.side.notes (own_ref v o.number)) e
+
+abbrev acts_by : List OwnDesc → List Act
+acts_by os = reverse (map (λ o. act_of o.entries) os)
+
+pub in_numbers : (os : List OwnDesc) (o : OwnDesc) → In o os → In o.number (numbers_of os)
+in_numbers [] o i = absurd i
+in_numbers (x ∷ os) o i = ⊎_elim (λ (e : o ≡ x). inl (ap (λ (y : OwnDesc). y.number) e)) (λ j. inr (in_numbers os o j)) i
+
+-- ---- three kinds of step
+
+module _ (v : View) (t : Side) (learns : Learns v.side t) (one : OneResult t.notes) (tidy : Orderly v) where
+  -- what is closed stays as it was
+  closed_same : (u : View) → u.side.notes ≡ t.notes → u.worker ≡ v.worker → (o : OwnDesc) → In o v.opened → (v.side.current ≡ Some o.number → ⊥)
+      → is_current v.side.current o.number ≡ false → is_current u.side.current o.number ≡ false → is_finished u o ≡ is_finished v o
+  closed_same u notes own o i closed before after =
+      let k = ⊎_elim (λ q. absurd (closed q)) (λ q. q) (tidy.over o i) in
+      once_closed u o after
+      ∙ (λ j. is_noted_success (notes j) record { worker = own j; number = o.number })
+      ∙ noted_same v.side.notes t.notes (own_ref v o.number) k.0 learns.notes one k.1
+      ∙ sym (once_closed v o before)
+
+  -- nothing is opened or closed
+  module _ (marks : ℕ) (rows : List Written) where
+    abbrev next : View
+    next = record v { side = t; marks_used = marks; written = rows }
+
+    as_before : t.current ≡ v.side.current → StepFinishes v next
+    as_before same = record {
+      orderly = record {
+        falling = tidy.falling;
+        below = tidy.below;
+        newest = λ p e. tidy.newest p (sym same ∙ e);
+        over = λ o i. ⊎_elim (λ q. inl (same ∙ q)) (λ q. inr (q.0, learns.notes (decided (own_ref v o.number) q.0) q.1)) (tidy.over o i);
+      };
+      stays = λ still. ap acts_by (same_filtered (is_finished next) (is_finished v) v.opened (λ o i. ⊎_elim
+          (λ q. while_open next o (same ∙ q) ∙ sym (while_open v o q))
+          (λ q.
+          ap (λ (x : Option ℕ). not (is_current x o.number) && is_noted_success t.notes (own_ref v o.number)) same
+          ∙ ap (λ b. not (is_current v.side.current o.number) && b) (noted_same v.side.notes t.notes (own_ref v o.number) q.0 learns.notes one q.1))
+          (tidy.over o i)));
+      succeeds = λ o c i. absurd (some_not_none o.number (sym c.current ∙ sym same ∙ c.closed));
+      fails = λ o k c i f. absurd (some_not_none o.number (sym c.current ∙ sym same ∙ c.closed));
+    }
+
+    -- the open descriptor, which is decided, is closed
+    module _ (p : ℕ) (k : Control) (current : v.side.current ≡ Some p) (noted_so : In (decided (own_ref v p) k) v.side.notes) (closed : t.current ≡ None) where
+      head : (o : OwnDesc) × (earlier : List OwnDesc) × (v.opened ≡ o ∷ earlier) × (o.number ≡ p)
+      head = tidy.newest p current
+
+      abbrev last : OwnDesc
+      last = head.0
+
+      falls : IsFalling (numbers_of (last ∷ head.1))
+      falls = subst (λ (os : List OwnDesc). IsFalling (numbers_of os)) head.2 tidy.falling
+
+      -- the closed one is the last, and the earlier ones are finished if they were
+      is_last : (o : OwnDesc) → In o v.opened → v.side.current ≡ Some o.number → o ≡ last
+      is_last o i e = ⊎_elim (λ q. q)
+          (λ j.
+          let n : p ≡ o.number = some_injective p o.number (sym current ∙ e) in
+          let l : o.number < last.number = falls.0 o.number (in_numbers head.1 o j) in
+          let h : last.number ≡ p = head.3 in
+          absurd (omega arith))
+          (subst (In o) head.2 i)
+
+      earlier_same : (o : OwnDesc) → In o head.1 → is_finished next o ≡ is_finished v o
+      earlier_same o j =
+          let l : o.number < last.number = falls.0 o.number (in_numbers head.1 o j) in
+          let h : last.number ≡ p = head.3 in
+          let ne : p ≢ o.number = λ q. omega arith in
+          closed_same next refl refl o (subst (In o) (sym head.2) (inr j)) (λ e. ne (some_injective p o.number (sym current ∙ e))) (open_no v.side.current p o.number current ne) (none_open t.current o.number closed)
+
+      -- so all depends on the last one
+      finished_next : (b : Bool) → is_noted_success t.notes (own_ref v last.number) ≡ b
+          → filter (is_finished next) v.opened ≡ cond b (last ∷ filter (is_finished v) v.opened) (filter (is_finished v) v.opened)
+      finished_next b is =
+          let before : filter (is_finished v) v.opened ≡ filter (is_finished v) head.1 =
+          ap (filter (is_finished v)) head.2 ∙ ap (λ c. cond c (last ∷ filter (is_finished v) head.1) (filter (is_finished v) head.1)) (while_open v last (current ∙ ap (λ (n : ℕ). Some n) (sym head.3))) in
+          ap (filter (is_finished next)) head.2
+          ∙ ap (λ c. cond c (last ∷ filter (is_finished next) head.1) (filter (is_finished next) head.1)) (once_closed next last (none_open t.current last.number closed) ∙ is)
+          ∙ ap (λ (os : List OwnDesc). cond b (last ∷ os) os) (same_filtered (is_finished next) (is_finished v) head.1 earlier_same ∙ sym before)
+
+      as_closed : StepFinishes v next
+      as_closed = record {
+        orderly = record {
+          falling = tidy.falling;
+          below = tidy.below;
+          newest = λ n e. absurd (some_not_none n (sym e ∙ closed));
+          over = λ o i. inr (⊎_elim
+              (λ q. (k, learns.notes (decided (own_ref v o.number) k) (subst (λ (n : ℕ). In (decided (own_ref v n) k) v.side.notes) (some_injective p o.number (sym current ∙ q)) noted_so)))
+              (λ q. (q.0, learns.notes (decided (own_ref v o.number) q.0) q.1)) (tidy.over o i));
+        };
+        stays = λ still. absurd (some_not_none p (sym (still p current) ∙ closed));
+        succeeds = λ o c i.
+            let is : o ≡ last = is_last o c.opened c.current in
+            ap acts_by (finished_next true (in_noted t.notes (own_ref v last.number) (learns.notes (decided (own_ref v last.number) succeeded) (subst (λ (x : OwnDesc). In (decided (own_ref v x.number) succeeded) v.side.notes) is i))))
+            ∙ reverse-cons (act_of last.entries) (map (λ (x : OwnDesc). act_of x.entries) (filter (is_finished v) v.opened))
+            ∙ ap (λ (x : OwnDesc). own_acts_of v ++ act_of x.entries ∷ []) (sym is);
+        fails = λ o r c i failed.
+            let is : o ≡ last = is_last o c.opened c.current in
+            ap acts_by (finished_next false (noted_no t.notes (own_ref v last.number) r one (learns.notes (decided (own_ref v last.number) r) (subst (λ (x : OwnDesc). In (decided (own_ref v x.number) r) v.side.notes) is i)) failed));
+      }
+
+  -- the next descriptor is opened
+  module _ (o : OwnDesc) (number : ℕ) (is : o.number ≡ v.next_number) (grows : v.next_number < number) (closed : v.side.current ≡ None) (current : t.current ≡ Some v.next_number) where
+    abbrev opened : View
+    opened = record v { side = t; next_number = number; opened = o ∷ v.opened }
+
+    as_opened : StepFinishes v opened
+    as_opened = record {
+      orderly = record {
+        falling = (λ m i. rw is (tidy.below m i), tidy.falling);
+        below = λ m i. ⊎_elim (λ (e : m ≡ o.number). omega arith) (λ j. let l = tidy.below m j in omega arith) i;
+        newest = λ p e. (o, v.opened, refl, is ∙ some_injective v.next_number p (sym current ∙ e));
+        over = λ x i. ⊎_elim (λ (e : x ≡ o). inl (current ∙ ap (λ (n : ℕ). Some n) (sym is) ∙ ap (λ (y : OwnDesc). Some y.number) (sym e)))
+            (λ j. inr (⊎_elim (λ q. absurd (some_not_none x.number (sym q ∙ closed))) (λ q. (q.0, learns.notes (decided (own_ref v x.number) q.0) q.1)) (tidy.over x j))) i;
+      };
+      stays = λ still.
+          ap (λ b. acts_by (cond b (o ∷ filter (is_finished opened) v.opened) (filter (is_finished opened) v.opened))) (while_open opened o (current ∙ ap (λ (n : ℕ). Some n) (sym is)))
+          ∙ ap acts_by (same_filtered (is_finished opened) (is_finished v) v.opened (λ x i.
+          let l : x.number < v.next_number = tidy.below x.number (in_numbers v.opened x i) in
+          closed_same opened refl refl x i (λ e. some_not_none x.number (sym e ∙ closed)) (none_open v.side.current x.number closed) (open_no t.current v.next_number x.number current (λ q. omega arith))));
+      succeeds = λ x c i. absurd (some_not_none x.number (sym c.current ∙ closed));
+      fails = λ x k c i f. absurd (some_not_none x.number (sym c.current ∙ closed));
+    }
+
+-- ---- the steps
+
+kept_open : (z : Shape) (v : View) (s : Step) (word : ℕ) → KeepsCurrent s → OneResult (noted z v s word).side.notes → Orderly v
+    → StepFinishes v (record v { side = (noted z v s word).side; marks_used = (noted z v s word).marks_used; written = (noted z v s word).written })
+kept_open z v s word h one tidy =
+    let g = steps_grow z v s word h in
+    as_before v (noted z v s word).side g.learns one tidy (noted z v s word).marks_used (noted z v s word).written g.current
+
+opens_next : (z : Shape) (v : View) (size word : ℕ) → CanOpen z v size → OneResult (noted z v (Step.opens size) word).side.notes → Orderly v
+    → StepFinishes v (noted z v (Step.opens size) word)
+opens_next z v size word can one tidy =
+    let some : 0 < length (next_entries v size) = can.entries.some in
+    as_opened v (noted z v (Step.opens size) word).side (steps_learn z v (Step.opens size) word) one tidy
+    record { number = v.next_number; entries = next_entries v size } (v.next_number + size) refl (omega (arith, entries_length v.written v.next_number size)) can.closed
+    (entries_current (open_side v.side v.next_number) (own_desc v) (entries_of (next_entries v size)) size)
+
+module _ (v : View) (d : Ref) (e c : ℕ) (k : Control) (tidy : Orderly v) (decided_so : In (decided d k) v.side.notes) where
+  abbrev paid : Side
+  paid = paid_side v.side d c
+
+  abbrev fewer : Side
+  fewer = release_side paid e
+
+  same : (t : Side) → t.notes ≡ v.side.notes → t.reads ≡ v.side.reads → Learns v.side t
+  same t notes reads = record { notes = λ n i. rw notes i; reads = λ r i. rw reads i }
+
+  -- where all entries are released the descriptor is closed
+  releases_own : d.worker ≡ v.worker → v.side.current ≡ Some d.number → (all : Bool) → OneResult (cond all (close_side fewer) fewer).notes
+      → StepFinishes v (with_side v (cond all (close_side fewer) fewer))
+  releases_own own current true one =
+      as_closed v (close_side fewer) (same (close_side fewer) refl refl) one tidy v.marks_used v.written d.number k current
+      (subst (λ (x : Ref). In (decided x k) v.side.notes) (ref_path d (own_ref v d.number) own refl) decided_so) refl
+  releases_own own current false one = as_before v fewer (same fewer refl refl) one tidy v.marks_used v.written refl
+
+  releases_entry : (n : ℕ) (own : Bool) → is_number v.side.current v.worker d ≡ own → OneResult (cond own (release_noted paid e n) paid).notes
+      → StepFinishes v (with_side v (cond own (release_noted paid e n) paid))
+  releases_entry n true is one = let at = is_number_yes v.side.current v.worker d is in releases_own at.0 at.1 (covers n (e ∷ v.side.released)) one
+  releases_entry n false is one = as_before v paid (same paid refl refl) one tidy v.marks_used v.written refl
+
+pub steps_finish : StepsFinish
+steps_finish z v (Step.writes p u) word may sound tidy = kept_open z v (Step.writes p u) word tt sound.one_result tidy
+steps_finish z v (Step.opens size) word may sound tidy = opens_next z v size word may.step sound.one_result tidy
+steps_finish z v (Step.reads r) word may sound tidy = kept_open z v (Step.reads r) word tt sound.one_result tidy
+steps_finish z v (Step.places d e c old) word may sound tidy = kept_open z v (Step.places d e c old) word tt sound.one_result tidy
+steps_finish z v (Step.settles x c d e old) word may sound tidy = kept_open z v (Step.settles x c d e old) word tt sound.one_result tidy
+steps_finish z v (Step.decides d k) word may sound tidy = kept_open z v (Step.decides d k) word tt sound.one_result tidy
+steps_finish z v (Step.releases d e c k value) word may sound tidy = releases_entry v d e c k tidy may.step.decided (size_in v.opened d.number) (is_number v.side.current v.worker d) refl sound.one_result
+steps_finish z v Step.claims word may sound tidy = kept_open z v Step.claims word tt sound.one_result tidy

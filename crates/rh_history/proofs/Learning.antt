@@ -1,0 +1,182 @@
+-- What a worker knows only grows: in each step its notes and its reads stay.
+use Rattle.std.proofs.Common.{◌≡◌, ℕ, zero, suc, inl, inr, refl, sym, ◌∙◌, subst, arith, eqb, Bool, true, false, cond, ◌&&◌, List, ◌∷◌, Option, Some, None}
+use Rattle.std.specs.Prelude.{nat_lt}
+use Rattle.std.specs.List.{Contains}
+use Rattle.std.proofs.lemmas.Bool.Decides.{nat_tests}
+use Rattle.rh_world.specs.World.{Cell, Control, In, Ref, is_ref}
+use Rattle.rh_world.specs.World.Cell.{desc, mark, plain}
+use Rattle.rh_world.specs.World.Control.{failed, succeeded, undecided, unused, withdrawn}
+use Rattle.rh_world.specs.Notes.{Note}
+use Rattle.rh_world.specs.Notes.Note.{decided, desc_is, found, held, known, may_demote, may_promote, mismatch, new_is, old_is, size_is, target_is, which_is}
+use Rattle.rh_world.specs.Sides.{KeptRead, Side, close_side, is_number, note_side, open_side, paid_side, read_side, release_side, settle_side}
+use Rattle.rh_world.specs.Moves.{Entries, cell_noted, control_noted, covers, mark_noted, note_entries, place_noted, placed_noted, release_noted, settle_noted}
+use Rattle.rh_descriptor.specs.declared.reference.Reading.{Reading}
+use Rattle.rh_descriptor.specs.declared.reference.Reading.TheVariants as reading
+use Rattle.rh_descriptor.specs.declared.shape.Shape.{Shape}
+use Rattle.rh_descriptor.specs.Places.{cell_count}
+use Rattle.rh_descriptor.specs.View.{View}
+use Rattle.rh_descriptor.specs.Words.{cell_in, desc_in, mark_number, read_control, ref_of}
+use Rattle.rh_descriptor.specs.Steps.{Step, decided_now, desc_noted, entries_of, is_none, next_entries, noted, own_desc, own_mark, read_noted, size_in}
+use Rattle.rh_rule.proofs.OpensKept.{entries_notes}
+use Rattle.rh_rule.proofs.Said.{plain_said}
+use Rattle.rh_acts.specs.Done.{Kept, kept}
+use Rattle.rh_history.specs.History.{value_of, kept_of}
+use Rattle.rh_history.proofs.Filtered.{from_filtered, in_filtered}
+use Rattle.rh_history.specs.OwnActs.{PlainReadsAreKept, ReadsAreKept, ReadsStay}
+
+-- t knows what s knows
+pub record Learns (s t : Side) : Type 0 where
+  pub notes : (n : Note) → In n s.notes → In n t.notes
+  pub reads : (r : KeptRead) → In r s.reads → In r t.reads
+
+-- and has the same descriptor open
+pub record Grows (s t : Side) : Type 0 where
+  pub learns : Learns s t
+  pub current : t.current ≡ s.current
+
+-- ---- what is noted
+
+nothing : (s : Side) → Grows s s
+nothing s = record { learns = record { notes = λ n i. i; reads = λ r i. i }; current = refl }
+
+a_note : (s : Side) (n : Note) → Grows s (note_side s n)
+a_note s n = record { learns = record { notes = λ m i. inr i; reads = λ r i. i }; current = refl }
+
+a_cell : (s : Side) (c : ℕ) (k : Cell) (q : Option ℕ) (acts next : ℕ) → Grows s (cell_noted s c k q acts next)
+a_cell s c (plain u) None acts next = record { learns = record { notes = λ n i. i; reads = λ r i. inr i }; current = refl }
+a_cell s c (plain u) (Some p) acts next = nothing s
+a_cell s c (mark x) q acts next = a_note s (found x c)
+a_cell s c (desc d) q acts next = a_note s (known d)
+
+a_control : (s : Side) (d : Ref) (k : Control) → Grows s (control_noted s d k)
+a_control s d unused = nothing s
+a_control s d undecided = record { learns = record { notes = λ n i. inr i; reads = λ r i. i }; current = refl }
+a_control s d succeeded = a_note s (decided d succeeded)
+a_control s d withdrawn = a_note s (decided d withdrawn)
+a_control s d (failed e) = a_note s (decided d (failed e))
+
+a_mark : (s : Side) (x : Ref) (c : ℕ) (k : Control) → Grows s (mark_noted s x c k)
+a_mark s x c unused = nothing s
+a_mark s x c undecided = a_note s (may_promote x c)
+a_mark s x c succeeded = a_note s (may_demote x)
+a_mark s x c withdrawn = a_note s (may_demote x)
+a_mark s x c (failed e) = a_note s (may_demote x)
+
+a_desc : (s : Side) (x : Ref) (d : Option Ref) → Grows s (desc_noted s x d)
+a_desc s x None = nothing s
+a_desc s x (Some d) = a_note s (desc_is x d)
+
+both : (s t r : Side) → Grows s t → Grows t r → Grows s r
+both s t r g h = record {
+  learns = record { notes = λ n i. h.learns.notes n (g.learns.notes n i); reads = λ k i. h.learns.reads k (g.learns.reads k i) };
+  current = h.current ∙ g.current;
+}
+
+either : (P : Side → Type 0) (b : Bool) (t r : Side) → P t → P r → P (cond b t r)
+either P true t r g h = g
+either P false t r g h = h
+
+a_place : (s : Side) (x d : Ref) (e c old : ℕ) (k : Cell) → Grows s (place_noted s x d e c old k 0)
+a_place s x d e c old (plain u) = either (Grows s) (eqb u old) (placed_noted s x d e c) (note_side s (mismatch d e 0))
+    record { learns = record { notes = λ n i. inr (inr (inr i)); reads = λ r i. i }; current = refl } (a_note s (mismatch d e 0))
+a_place s x d e c old (mark y) = a_note s (found y c)
+a_place s x d e c old (desc f) = either (Grows s) (is_ref f d) (note_side s (held d e)) (note_side s (known f)) (a_note s (held d e)) (a_note s (known f))
+
+a_settle : (s : Side) (d : Ref) (e c : ℕ) (promoted : Bool) → Grows s (settle_noted s d e c promoted)
+a_settle s d e c promoted = either (Grows s) promoted (note_side (settle_side s d c) (held d e)) (settle_side s d c)
+    record { learns = record { notes = λ n i. inr i; reads = λ r i. i }; current = refl }
+    record { learns = record { notes = λ n i. i; reads = λ r i. i }; current = refl }
+
+a_reading : (v : View) (r : Reading) (word : ℕ) → Grows v.side (read_noted v r word)
+a_reading v (reading.Place p) word = nothing v.side
+a_reading v (reading.Cell c) word = a_cell v.side c (cell_in word) v.side.current 0 v.next_number
+a_reading v (reading.Control d) word = a_control v.side (ref_of d) (read_control word)
+a_reading v (reading.MarkControl x c d) word =
+    let k = read_control word in
+    both v.side (control_noted v.side (ref_of d) k) (mark_noted (control_noted v.side (ref_of d) k) (ref_of x) c k)
+    (a_control v.side (ref_of d) k) (a_mark (control_noted v.side (ref_of d) k) (ref_of x) c k)
+a_reading v (reading.Length d) word = a_note v.side (size_is (ref_of d) word)
+a_reading v (reading.EntryCell d e) word = a_note v.side (target_is (ref_of d) e word)
+a_reading v (reading.EntryOld d e) word = a_note v.side (old_is (ref_of d) e word)
+a_reading v (reading.EntryNew d e) word = a_note v.side (new_is (ref_of d) e word)
+a_reading v (reading.MarkDesc x) word = a_desc v.side (ref_of x) (desc_in word)
+a_reading v (reading.MarkEntry x) word = a_note v.side (which_is (ref_of x) word)
+
+a_release : (s : Side) (d : Ref) (e c n : ℕ) (own : Bool) → Learns s (cond own (release_noted (paid_side s d c) e n) (paid_side s d c))
+a_release s d e c n own =
+    let same : Learns s s = (nothing s).learns in
+    let r = release_side (paid_side s d c) e in
+    either (Learns s) own (release_noted (paid_side s d c) e n) (paid_side s d c)
+    (either (Learns s) (covers n (e ∷ s.released)) (close_side r) r record { notes = same.notes; reads = same.reads } record { notes = same.notes; reads = same.reads })
+    record { notes = same.notes; reads = same.reads }
+
+entries_reads : (s : Side) (d : Ref) (p : Entries) (n : ℕ) → (note_entries s d p n).reads ≡ s.reads
+entries_reads s d p zero = refl
+entries_reads s d p (suc n) = entries_reads s d p n
+
+-- ---- steps
+
+-- a step that opens and closes nothing
+abbrev pub KeepsCurrent : Step → Type 0
+KeepsCurrent (Step.writes p u) = Unit {0}
+KeepsCurrent (Step.opens size) = ⊥
+KeepsCurrent (Step.reads r) = Unit {0}
+KeepsCurrent (Step.places d e c old) = Unit {0}
+KeepsCurrent (Step.settles x c d e old) = Unit {0}
+KeepsCurrent (Step.decides d k) = Unit {0}
+KeepsCurrent (Step.releases d e c k value) = ⊥
+KeepsCurrent Step.claims = Unit {0}
+
+pub steps_grow : (z : Shape) (v : View) (s : Step) (word : ℕ) → KeepsCurrent s → Grows v.side (noted z v s word).side
+steps_grow z v (Step.writes p u) word h = nothing v.side
+steps_grow z v (Step.opens size) word h = absurd h
+steps_grow z v (Step.reads r) word h = a_reading v r word
+steps_grow z v (Step.places d e c old) word h = a_place v.side (own_mark v) d e c old (cell_in word)
+steps_grow z v (Step.settles x c d e old) word h =
+    let promoted = is_none old && eqb word (mark_number x) in
+    either (Grows v.side) (is_number v.side.unsettled v.worker x) (settle_noted v.side d e c promoted) v.side (a_settle v.side d e c promoted) (nothing v.side)
+steps_grow z v (Step.decides d k) word h = a_control v.side d (decided_now k word)
+steps_grow z v (Step.releases d e c k value) word h = absurd h
+steps_grow z v Step.claims word h = record { learns = record { notes = λ n i. i; reads = λ r i. i }; current = refl }
+
+pub steps_learn : (z : Shape) (v : View) (s : Step) (word : ℕ) → Learns v.side (noted z v s word).side
+steps_learn z v (Step.writes p u) word = (steps_grow z v (Step.writes p u) word tt).learns
+steps_learn z v (Step.opens size) word =
+    let d = own_desc v in
+    let p = entries_of (next_entries v size) in
+    record {
+      notes = entries_notes (open_side v.side v.next_number) d p size;
+      reads = λ r i. subst (λ (rs : List KeptRead). In r rs) (sym (entries_reads (open_side v.side v.next_number) d p size)) i;
+    }
+steps_learn z v (Step.reads r) word = (steps_grow z v (Step.reads r) word tt).learns
+steps_learn z v (Step.places d e c old) word = (steps_grow z v (Step.places d e c old) word tt).learns
+steps_learn z v (Step.settles x c d e old) word = (steps_grow z v (Step.settles x c d e old) word tt).learns
+steps_learn z v (Step.decides d k) word = (steps_grow z v (Step.decides d k) word tt).learns
+steps_learn z v (Step.releases d e c k value) word = a_release v.side d e c (size_in v.opened d.number) (is_number v.side.current v.worker d)
+steps_learn z v Step.claims word = (steps_grow z v Step.claims word tt).learns
+
+-- ---- reads of the cells of a table
+
+abbrev of_table : Shape → KeptRead → Bool
+of_table z r = nat_lt r.cell (cell_count z)
+
+abbrev valued : KeptRead → Kept
+valued r = kept r.cell (value_of r.word)
+
+pub reads_are_kept : ReadsAreKept
+reads_are_kept z v r i inside = in_filtered (of_table z) valued v.side.reads r i (grind (arith, nat_tests))
+
+pub plain_reads_are_kept : PlainReadsAreKept
+plain_reads_are_kept z v c word closed inside plain_word =
+    let read : KeptRead = record { cell = c; word = word; acts = 0; next_number = v.next_number } in
+    let is : read_side v.side c word 0 v.next_number ≡ read_noted v (reading.Cell c) word =
+    λ i. cell_noted v.side c (sym (plain_said word plain_word) i) (sym closed i) 0 v.next_number in
+    reads_are_kept z (noted z v (Step.reads (reading.Cell c)) word) read (subst (λ (s : Side). In read s.reads) is (inl refl)) inside
+
+pub reads_stay : ReadsStay
+reads_stay z v s word = (
+  (steps_learn z v s word).reads,
+  λ k h.
+      let it = from_filtered (of_table z) valued v.side.reads k h in
+      subst (Contains (kept_of z (noted z v s word))) it.3 (in_filtered (of_table z) valued (noted z v s word).side.reads it.0 ((steps_learn z v s word).reads it.0 it.1) it.2),
+)

@@ -1,0 +1,9 @@
+use Rattle.rh_history.proofs.Finishing.{steps_finish}
+use Rattle.rh_history.proofs.Ordered.{kept_is_orderly}
+use Rattle.rh_history.proofs.laws.own_acts.Goals as goal
+
+pub returns-clause-steps : goal.returns-clause-steps
+returns-clause-steps c = steps_finish
+
+pub returns-clause-kept : goal.returns-clause-kept
+returns-clause-kept c = kept_is_orderly
