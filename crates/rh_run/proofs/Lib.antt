@@ -1,0 +1,9 @@
+pub mod Growing
+pub mod Stepping
+pub mod Saying
+pub mod Showing
+pub mod Standing
+pub mod Ending
+pub mod Turning
+pub mod Sharing
+pub mod Alike

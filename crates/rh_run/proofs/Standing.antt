@@ -1,0 +1,159 @@
+-- What the cells of a run stand for: the acts of all its rounds are a phase over their own keys.
+use Rattle.std.proofs.Common.{◌≡◌, ℕ, ◌<◌, ◌≤◌, inl, inr, ⊎_elim, refl, sym, ap, ◌∙◌, subst, arith, Bool, true, false, List, [], ◌∷◌, ◌++◌}
+use Rattle.std.specs.List.{Contains}
+use Rattle.std.specs.FinSet as set
+use Rattle.std.proofs.lemmas.List.{map-append}
+use Rattle.std.proofs.lemmas.List.FromFn.{fill_by_all}
+use Rattle.std.proofs.lemmas.List.Elements.{Contains-append_cases, Contains-append_left, Contains-append_right}
+use Rattle.rh_layout.specs.Layout.{Keys, Layout}
+use Rattle.rh_ledger.specs.declared.tally.Kind.{Kind}
+use Rattle.rh_ledger.specs.declared.tally.Kind.TheVariants.{Insert, Remove, Ask}
+use Rattle.rh_ledger.specs.Phase.{set_after}
+use Rattle.rh_world.specs.Acts.{cells_after}
+use Rattle.rh_descriptor.specs.declared.shape.Shape.{Shape}
+use Rattle.rh_descriptor.specs.Places.{IsShape, cell_count}
+use Rattle.rh_descriptor.specs.View.{View}
+use Rattle.rh_acts.specs.Act.{Act, AllMeet, apply_acts}
+use Rattle.rh_acts.specs.Done.{IsDone, KeyDone, WereTrue}
+use Rattle.rh_acts.specs.Workers.{AreOf, LeavesRoom, Made, acts_of, own}
+use Rattle.rh_acts.proofs.ActLemmas.{contains_cases, contains_head, contains_none, contains_tail}
+use Rattle.rh_acts.proofs.DoneLemmas.{done_key}
+use Rattle.rh_acts.proofs.FoldLemmas.{all_kept, all_there, len_part, there_cases}
+use Rattle.rh_acts.proofs.InOrder.{acts_are_a_phase}
+use Rattle.rh_acts.proofs.OwnLemmas.{own_among}
+use Rattle.rh_history.specs.History.{cells_of, history, kept_of, logical_cells, own_acts_of, value_of}
+use Rattle.rh_history.specs.Laws.{HappenedSo}
+use Rattle.rh_history.specs.Rounds.{JoinedSo}
+use Rattle.rh_history.proofs.Happening.{happened}
+use Rattle.rh_history.proofs.Joining.{rounds_join}
+use Rattle.rh_history.proofs.Values.{cells_length, get_cells}
+use Rattle.rh_run.specs.Advance.{Does}
+use Rattle.rh_run.specs.Laws.{RunMoment, StandsSo}
+use Rattle.rh_run.specs.Run.{DoesOneOf, Running, answers_of}
+use Rattle.rh_run.specs.Words.{cells_now, logical_word}
+use Rattle.rh_run.proofs.Saying.{words_say}
+use Rattle.rh_run.proofs.Showing.{finished_among, key_shows}
+
+-- cells that stand for the same words
+pub same_cells : (z : Shape) (f g : ℕ → ℕ) → ((c : ℕ) → c < cell_count z → f c ≡ g c) → cells_of z f ≡ cells_of z g
+same_cells z f g same = fill_by_all (λ c. value_of (g c)) (cells_of z f) (cell_count z) 0 (cells_length z f) (λ c inside. get_cells z f c inside ∙ ap (λ u. value_of u) (same c inside))
+
+-- ---- acts and their keys
+
+does_key : (kind : Kind) (b k : ℕ) (changes : Bool) (act : Act) → Does kind b k changes act → KeyDone kind b [] k (act ∷ []) []
+does_key Insert b k true act does = (refl, inr (act, refl, does))
+does_key Insert b k false act does = absurd does
+does_key Remove b k true act does = (refl, (act, refl, inl does))
+does_key Remove b k false act does = (refl, (act, refl, inr does))
+does_key Ask b k changes act does = absurd does
+
+-- acts that each do a key of a worker do these keys
+record DoKeys (kind : Kind) (b : ℕ) (keys : ℕ → List ℕ) (made : List Made) : Type 0 where
+  pub so_far : List ℕ
+  pub done : IsDone kind b [] so_far (acts_of made) []
+  pub among : (k : ℕ) → Contains so_far k → (m : Made) × Contains made m × Contains (keys m.worker) k
+
+keys_done : (kind : Kind) (b : ℕ) (keys : ℕ → List ℕ) (made : List Made) → ((m : Made) → Contains made m → DoesOneOf kind b (keys m.worker) m.act)
+    → DoKeys kind b keys made
+keys_done kind b keys [] each = record { so_far = []; done = (refl, refl); among = λ k h. absurd (contains_none k h) }
+keys_done kind b keys (m ∷ made) each =
+    let one = each m (contains_head m made) in
+    let k = one.0 in
+    let rest = keys_done kind b keys made (λ x h. each x (contains_tail m x made h)) in
+    record {
+      so_far = k ∷ rest.so_far;
+      done = (m.act ∷ [], acts_of made, [], [], refl, refl, does_key kind b k one.2.0 m.act one.2.1, rest.done);
+      among = λ q h. ⊎_elim
+          (λ (e : k ≡ q). (m, contains_head m made, subst (Contains (keys m.worker)) e one.1))
+          (λ later. let it = rest.among q later in (it.0, contains_tail m it.0 made it.1, it.2))
+          (contains_cases k q rest.so_far h);
+    }
+
+-- where there is room for all keys, there is room for some
+room_for_some : (kind : Kind) (b : ℕ) (S : Keys) (some_keys all : List ℕ) → ((k : ℕ) → Contains some_keys k → Contains all k)
+    → LeavesRoom kind b S all → LeavesRoom kind b S some_keys
+room_for_some Insert b S some_keys all among room =
+    let part : set.len (set_after Insert S some_keys) ≤ set.len (set_after Insert S all) =
+    len_part (set_after Insert S some_keys) (set_after Insert S all)
+    (λ q h. ⊎_elim (λ old. all_kept S all q old) (λ new. all_there S all q (among q new)) (there_cases S some_keys q h)) in
+    omega (arith, part, room)
+room_for_some Remove b S some_keys all among room = tt
+room_for_some Ask b S some_keys all among room = tt
+
+from_acts : (made : List Made) (a : Act) → Contains (acts_of made) a → (m : Made) × Contains made m × (m.act ≡ a)
+from_acts [] a h = absurd (contains_none a h)
+from_acts (m ∷ made) a h = ⊎_elim (λ e. (m, contains_head m made, e)) (λ later. let it = from_acts made a later in (it.0, contains_tail m it.0 made it.1, it.2)) (contains_cases m.act a (acts_of made) h)
+
+-- ---- the acts of all rounds
+
+module _ (kind : Kind) (z : Shape) (opening words : List ℕ) (keep : ℕ → View) (keys done : ℕ → List ℕ) (told : ℕ → List Bool) (run : Running kind z opening words keep keys done told) where
+  abbrev now : List Made
+  now = history run.world
+
+  abbrev pub all_made : List Made
+  all_made = run.before ++ now
+
+  pub so : HappenedSo run.world z keep
+  so = happened run.world z words keep run.core
+
+  pub both : JoinedSo opening run.before now
+  both = rounds_join opening run.before now
+
+  pub meet : AllMeet (acts_of all_made) opening
+  meet = both.meet run.meet (subst (AllMeet (acts_of now)) run.cells so.meet)
+
+  pub workers : AreOf z.workers all_made
+  workers = both.workers z.workers run.workers so.workers
+
+  pub was : (v : ℕ) → v < z.workers → WereTrue opening (acts_of all_made) (run.reads v ++ kept_of z (keep v))
+  was v mine = both.reads (run.reads v) (kept_of z (keep v)) (run.was v mine) (subst (λ (cells : List ℕ). WereTrue cells (acts_of now) (kept_of z (keep v))) run.cells (so.reads v mine))
+
+  -- they lead to what the cells stand for
+  pub lead : logical_cells run.world z ≡ apply_acts (acts_of all_made) opening
+  lead = so.cells ∙ ap (apply_acts (acts_of now)) run.cells ∙ sym both.cells
+
+  pub each_does : (m : Made) → Contains all_made m → DoesOneOf kind z.bits (keys m.worker) m.act
+  each_does m h = ⊎_elim (run.acts m)
+      (λ i.
+      let o = so.opened m i in
+      subst (DoesOneOf kind z.bits (keys m.worker)) (sym o.2) ((run.doing m.worker (so.workers m i)).opened o.0 o.1))
+      (Contains-append_cases run.before now m h)
+
+  -- what a worker made of its own is among them
+  own_among_all : (v : ℕ) → v < z.workers → (a : Act) → Contains (own v run.before ++ own_acts_of (keep v)) a → Contains (acts_of all_made) a
+  own_among_all v mine a h = subst (λ (acts : List Act). Contains acts a) (sym (map-append (λ (m : Made). m.act) run.before now)) (⊎_elim
+      (λ i. Contains-append_left (acts_of run.before) (acts_of now) a (own_among v run.before a i))
+      (λ i. Contains-append_right (acts_of run.before) (acts_of now) a (finished_among run.world z words keep run.core v mine a i))
+      (Contains-append_cases (own v run.before) (own_acts_of (keep v)) a h))
+
+  module _ (S : Keys) (all : List ℕ) (shape : IsShape z) (layout : Layout opening z.bits S) (asked : (v k : ℕ) → v < z.workers → Contains (keys v) k → Contains all k) (room : LeavesRoom kind z.bits S all) where
+    does_asked : (a : Act) → Contains (acts_of all_made) a → DoesOneOf kind z.bits all a
+    does_asked a h =
+        let it = from_acts all_made a h in
+        let one = each_does it.0 it.1 in
+        subst (DoesOneOf kind z.bits all) it.2 (one.0, asked it.0.worker one.0 (workers it.0 it.1) one.1, one.2)
+
+    stands : StandsSo kind z opening words keys done S (acts_of all_made)
+    stands =
+        let ks = keys_done kind z.bits keys all_made each_does in
+        let told_so : cells_now z words ≡ apply_acts (acts_of all_made) opening =
+        same_cells z (logical_word z words) (cells_after run.world run.world.act_count) (words_say run.world z words keep shape run.core) ∙ lead in
+        let among_all : (k : ℕ) → Contains ks.so_far k → Contains all k = λ k h. let it = ks.among k h in asked it.0.worker k (workers it.0 it.1) it.2 in
+        let phase = acts_are_a_phase kind z.bits opening S ks.so_far (acts_of all_made) layout meet (room_for_some kind z.bits S ks.so_far all among_all room) ks.done in
+        record {
+          so_far = ks.so_far;
+          meet = meet;
+          cells = told_so;
+          each = ks.done;
+          among = λ k h. let it = ks.among k h in (it.0.worker, workers it.0 it.1, it.2);
+          layout = subst (λ (cells : List ℕ). Layout cells z.bits (set_after kind S ks.so_far)) (sym told_so) phase.0;
+          shows = λ v k mine h.
+              let is = (run.doing v mine).so_far in
+              let one = done_key kind z.bits (run.reads v ++ kept_of z (keep v)) (done v) (own v run.before ++ own_acts_of (keep v)) (answers_of kind (told v)) is.each k h in
+              key_shows kind z.bits opening S (set_after kind S ks.so_far) all (acts_of all_made) one.0 (run.reads v ++ kept_of z (keep v)) k one.1 layout meet room does_asked phase.0 (was v mine) one.2
+              (λ a i. own_among_all v mine a (one.3 a i));
+        }
+
+pub run_moment : RunMoment
+run_moment kind z opening words keep keys done told S all run shape layout asked room =
+    stands kind z opening words keep keys done told run S all shape layout asked room

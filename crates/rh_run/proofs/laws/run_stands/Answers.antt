@@ -1,0 +1,12 @@
+use Rattle.rh_run.proofs.Standing.{run_moment}
+use Rattle.rh_run.proofs.Saying.{logical_words, words_lead_inside}
+use Rattle.rh_run.proofs.laws.run_stands.Goals as goal
+
+pub returns-clause-words : goal.returns-clause-words
+returns-clause-words c = logical_words
+
+pub returns-clause-moment : goal.returns-clause-moment
+returns-clause-moment c = run_moment
+
+pub returns-clause-inside : goal.returns-clause-inside
+returns-clause-inside c = words_lead_inside

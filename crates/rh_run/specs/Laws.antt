@@ -1,0 +1,168 @@
+-- What the laws of this crate say.
+use Rattle.std.specs.Prelude.{◌≡◌, ℕ, ◌+◌, ◌<◌, Option, Bool, true, false, List, [], ◌++◌, length, map, replicate, slice_index, slice_index_or}
+use Rattle.std.specs.List.{Contains}
+use Rattle.std.specs.FinSet.{contains}
+use Rattle.rh_layout.specs.Layout.{Keys, Layout}
+use Rattle.rh_ledger.specs.declared.tally.Kind.{Kind}
+use Rattle.rh_ledger.specs.declared.tally.Kind.TheVariants.{Insert, Remove, Ask}
+use Rattle.rh_ledger.specs.Phase.{set_after, tally_of, looked_up}
+use Rattle.rh_tagword.specs.Word.{plain_number}
+use Rattle.rh_world.specs.World.{World, updated}
+use Rattle.rh_world.specs.Acts.{cells_after}
+use Rattle.rh_descriptor.specs.declared.shape.Shape.{Shape}
+use Rattle.rh_descriptor.specs.Places.{IsShape, cell_count}
+use Rattle.rh_descriptor.specs.View.{View, new_view, round_view}
+use Rattle.rh_descriptor.specs.Words.{cell_in}
+use Rattle.rh_descriptor.specs.Steps.{Allowed, Step, StepsTo}
+use Rattle.rh_rule.specs.Core.{Core}
+use Rattle.rh_rule.specs.Rest.{AllRest}
+use Rattle.rh_rule.specs.Sound.{Sound}
+use Rattle.rh_rule.specs.Wipes.{row_total}
+use Rattle.rh_acts.specs.Act.{Act, AllMeet, apply_acts}
+use Rattle.rh_acts.specs.Done.{IsDone, Kept}
+use Rattle.rh_acts.specs.Workers.{LeavesRoom, acts_of, joined, own, piece, sum_of_all}
+use Rattle.rh_history.specs.History.{history, kept_of, own_acts_of}
+use Rattle.rh_run.specs.Advance.{Advances}
+use Rattle.rh_run.specs.Run.{Doing, Running, also_done, also_told, tally_told}
+use Rattle.rh_run.specs.Words.{IsWiped, LeadsInside, cells_held, cells_now, logical_word}
+use Rattle.rh_run.specs.Claimed.{FoundEnd, claimed}
+
+-- ---- how one worker goes on, by its own steps alone
+
+-- It starts with nothing done.
+abbrev pub WorkerStarts : Type 0
+WorkerStarts = (kind : Kind) (z : Shape) (cells : List ℕ) (worker : ℕ) (keys : List ℕ) → Doing z kind (new_view cells worker) keys [] [] [] []
+
+-- A step at one of its keys, where what the step leaves noted is sound, as each step tells its worker.
+abbrev pub WorkerSteps : Type 0
+WorkerSteps = (kind : Kind) (z : Shape) (v next : View) (keys : List ℕ) (acts : List Act) (reads : List Kept) (done : List ℕ) (told : List Bool)
+    (s : Step) (words then : List ℕ) (word k : ℕ) (answer : Option Bool)
+    → Allowed z v s → StepsTo z s words v word then next → Sound z next → Contains keys k → Advances z kind k v next answer
+    → Doing z kind v keys acts reads done told → Doing z kind next keys acts reads (also_done done k answer) (also_told told answer)
+
+-- A Claim does nothing of a key.
+abbrev pub WorkerClaims : Type 0
+WorkerClaims = (kind : Kind) (z : Shape) (v next : View) (keys : List ℕ) (acts : List Act) (reads : List Kept) (done : List ℕ) (told : List Bool)
+    (words then : List ℕ) (word : ℕ)
+    → Allowed z v Step.claims → StepsTo z Step.claims words v word then next → Sound z next
+    → Doing z kind v keys acts reads done told → Doing z kind next keys acts reads done told
+
+-- In a further round what it did and read is of an earlier one.
+abbrev pub WorkerTurns : Type 0
+WorkerTurns = (kind : Kind) (z : Shape) (cells : List ℕ) (v : View) (keys : List ℕ) (acts : List Act) (reads : List Kept) (done : List ℕ) (told : List Bool)
+    → Doing z kind v keys acts reads done told
+    → Doing z kind (round_view cells v) keys (acts ++ own_acts_of v) (reads ++ kept_of z v) done told
+
+-- ---- how a run goes on
+
+-- It starts from any cells, with nothing done.
+abbrev pub RunStarts : Type 0
+RunStarts = (kind : Kind) (z : Shape) (cells : List ℕ) (keys : ℕ → List ℕ) → IsShape z → length cells ≡ cell_count z
+    → Running kind z cells (map plain_number cells ++ replicate (row_total z + 1) 0) (new_view (map plain_number cells)) keys (λ v. []) (λ v. [])
+
+-- In a round it comes as far as its workers: it is enough that the table is ruled, and opened as one of them kept it.
+abbrev pub RunGathers : Type 0
+RunGathers = (kind : Kind) (z : Shape) (opening words then : List ℕ) (keep next : ℕ → View) (keys done more_done : ℕ → List ℕ) (told more_told : ℕ → List Bool)
+    (run : Running kind z opening words keep keys done told) (w : World) (who : ℕ)
+    → Core w z then next → who < z.workers → (next who).opening ≡ (keep who).opening
+    → ((v : ℕ) → v < z.workers → Doing z kind (next v) (keys v) (own v run.before) (run.reads v) (more_done v) (more_told v))
+    → Running kind z opening then next keys more_done more_told
+
+-- A step of a worker that is at one of its keys.
+abbrev pub RunSteps : Type 0
+RunSteps = (kind : Kind) (z : Shape) (opening words then : List ℕ) (keep : ℕ → View) (keys done : ℕ → List ℕ) (told : ℕ → List Bool)
+    (who : ℕ) (s : Step) (word : ℕ) (next : View) (k : ℕ) (answer : Option Bool)
+    → IsShape z → who < z.workers → Allowed z (keep who) s → StepsTo z s words (keep who) word then next
+    → Contains (keys who) k → Advances z kind k (keep who) next answer
+    → Running kind z opening words keep keys done told
+    → Running kind z opening then (updated keep who next) keys (updated done who (also_done (done who) k answer)) (updated told who (also_told (told who) answer))
+
+-- A Claim.
+abbrev pub RunClaims : Type 0
+RunClaims = (kind : Kind) (z : Shape) (opening words then : List ℕ) (keep : ℕ → View) (keys done : ℕ → List ℕ) (told : ℕ → List Bool)
+    (who word : ℕ) (next : View)
+    → IsShape z → who < z.workers → Allowed z (keep who) Step.claims → StepsTo z Step.claims words (keep who) word then next
+    → Running kind z opening words keep keys done told
+    → Running kind z opening then (updated keep who next) keys done told
+
+-- A further round, where all are at rest.
+abbrev pub RunRounds : Type 0
+RunRounds = (kind : Kind) (z : Shape) (opening words then cells : List ℕ) (keep : ℕ → View) (keys done : ℕ → List ℕ) (told : ℕ → List Bool)
+    → IsShape z → 0 < z.workers → AllRest z keep → ((c : ℕ) → c < cell_count z → slice_index words c ≡ slice_index cells c) → IsWiped z words then
+    → Running kind z opening words keep keys done told
+    → Running kind z opening then (λ v. round_view cells (keep v)) keys done told
+
+-- two workers are alike: what is kept of them, what they have done, and what they were told
+pub record AreAlike (v w : View) (keys list done did : List ℕ) (told tells : List Bool) : Type 0 where
+  pub kept : v ≡ w
+  pub keys_are : keys ≡ list
+  pub done_are : done ≡ did
+  pub told_are : told ≡ tells
+
+-- The workers of the table alone count.
+abbrev pub RunsAlike : Type 0
+RunsAlike = (kind : Kind) (z : Shape) (opening words : List ℕ) (keep next : ℕ → View) (keys list done did : ℕ → List ℕ) (told tells : ℕ → List Bool)
+    → ((v : ℕ) → v < z.workers → AreAlike (keep v) (next v) (keys v) (list v) (done v) (did v) (told v) (tells v))
+    → Running kind z opening words keep keys done told → Running kind z opening words next list did tells
+
+-- ---- at each moment
+
+-- The words alone tell what the cells stand for,
+abbrev pub LogicalWords : Type 0
+LogicalWords = (w : World) (z : Shape) (words : List ℕ) (keep : ℕ → View) (c : ℕ) → IsShape z → Core w z words keep → c < cell_count z
+    → logical_word z words c ≡ cells_after w w.act_count c
+
+-- and those that they lead to are words of the table.
+abbrev pub WordsLeadInside : Type 0
+WordsLeadInside = (w : World) (z : Shape) (words : List ℕ) (keep : ℕ → View) (c : ℕ) → IsShape z → Core w z words keep → c < cell_count z
+    → LeadsInside z words (cell_in (slice_index words c))
+
+-- the set shows that the key is done
+abbrev pub Shows : Kind → Keys → (k : ℕ) → Type 0
+Shows Insert S k = contains S k ≡ true
+Shows Remove S k = contains S k ≡ false
+Shows Ask S k = Unit {0}
+
+-- These are the acts so far, and the cells stand for the layout of the set after the keys of these acts, in their order. Each
+-- is a key of a worker; and each key that is done shows.
+pub record StandsSo (kind : Kind) (z : Shape) (opening words : List ℕ) (keys done : ℕ → List ℕ) (S : Keys) (acts : List Act) : Type 0 where
+  pub so_far : List ℕ
+  pub meet : AllMeet acts opening
+  pub cells : cells_now z words ≡ apply_acts acts opening
+  pub each : IsDone kind z.bits [] so_far acts []
+  pub among : (k : ℕ) → Contains so_far k → (v : ℕ) × (v < z.workers) × Contains (keys v) k
+  pub layout : Layout (cells_now z words) z.bits (set_after kind S so_far)
+  pub shows : (v k : ℕ) → v < z.workers → Contains (done v) k → Shows kind (set_after kind S so_far) k
+
+abbrev pub RunMoment : Type 0
+RunMoment = (kind : Kind) (z : Shape) (opening words : List ℕ) (keep : ℕ → View) (keys done : ℕ → List ℕ) (told : ℕ → List Bool) (S : Keys) (all : List ℕ)
+    (run : Running kind z opening words keep keys done told)
+    → IsShape z → Layout opening z.bits S
+    → ((v k : ℕ) → v < z.workers → Contains (keys v) k → Contains all k) → LeavesRoom kind z.bits S all
+    → StandsSo kind z opening words keys done S (acts_of (run.before ++ history run.world))
+
+-- ---- at the end
+
+-- The workers have made what one worker makes of this list: the layout of the same set, and the same tally.
+pub record EndsSo (kind : Kind) (z : Shape) (words : List ℕ) (told : ℕ → List Bool) (S : Keys) (list : List ℕ) : Type 0 where
+  pub layout : Layout (cells_held z words) z.bits (set_after kind S list)
+  pub tally : sum_of_all (λ v. tally_told kind (told v)) z.workers ≡ tally_of kind S list
+
+-- Where each worker has done its list, and all are at rest; and what is asked for is answered so.
+abbrev pub RunEnds : Type 0
+RunEnds = (kind : Kind) (z : Shape) (opening words : List ℕ) (keep : ℕ → View) (keys done : ℕ → List ℕ) (told : ℕ → List Bool) (S : Keys) (pieces : List (List ℕ))
+    → Running kind z opening words keep keys done told → AllRest z keep → Layout opening z.bits S
+    → length pieces ≡ z.workers → ((v : ℕ) → v < z.workers → done v ≡ piece pieces v) → LeavesRoom kind z.bits S (joined pieces)
+    → EndsSo kind z words told S (joined pieces)
+    × (kind ≡ Ask → (v : ℕ) → v < z.workers → told v ≡ looked_up S (piece pieces v))
+
+-- Where the workers have claimed a shared list to its end, and each has done the keys that it claimed: each answer stands
+-- at its place.
+abbrev pub RunSharedEnds : Type 0
+RunSharedEnds = (kind : Kind) (z : Shape) (opening words : List ℕ) (keep : ℕ → View) (keys done : ℕ → List ℕ) (told : ℕ → List Bool) (S : Keys) (list : List ℕ)
+    → Running kind z opening words keep keys done told → AllRest z keep → Layout opening z.bits S
+    → 0 < z.workers → length list ≡ z.keys → ((v : ℕ) → v < z.workers → FoundEnd z (keep v))
+    → ((v : ℕ) → v < z.workers → done v ≡ map (slice_index list) (claimed z (keep v))) → LeavesRoom kind z.bits S list
+    → EndsSo kind z words told S list
+    × (kind ≡ Ask → (v j : ℕ) → v < z.workers → j < length (claimed z (keep v))
+    → slice_index_or (told v) j false ≡ slice_index_or (looked_up S list) (slice_index (claimed z (keep v)) j) false)

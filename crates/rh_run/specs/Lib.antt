@@ -1,0 +1,5 @@
+pub mod Advance
+pub mod Claimed
+pub mod Laws
+pub mod Run
+pub mod Words

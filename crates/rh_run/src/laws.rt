@@ -1,0 +1,39 @@
+//! Laws of runs. They do nothing when they run.
+
+ghost use Rattle.rh_run.specs.Laws.{WorkerStarts, WorkerSteps, WorkerClaims, WorkerTurns};
+ghost use Rattle.rh_run.specs.Laws.{RunStarts, RunGathers, RunSteps, RunClaims, RunRounds, RunsAlike};
+ghost use Rattle.rh_run.specs.Laws.{LogicalWords, WordsLeadInside, RunMoment, RunEnds, RunSharedEnds};
+
+/// What a worker has done of its keys grows by its own steps alone, and stays in a further round.
+pub fn worker_goes_on()
+    ensures starts { WorkerStarts }
+    ensures steps { WorkerSteps }
+    ensures claims { WorkerClaims }
+    ensures turns { WorkerTurns }
+{}
+
+/// A run starts with nothing done, and goes on with each step of a worker at a key, with each Claim,
+/// and with each further round; or it is gathered at the end of a round from what each worker knows.
+pub fn run_goes_on()
+    ensures starts { RunStarts }
+    ensures gathers { RunGathers }
+    ensures steps { RunSteps }
+    ensures claims { RunClaims }
+    ensures rounds { RunRounds }
+    ensures alike { RunsAlike }
+{}
+
+/// At each moment the cells stand for the layout of the set after the keys of the acts so far, and
+/// the words alone tell what they stand for.
+pub fn run_stands()
+    ensures words { LogicalWords }
+    ensures inside { WordsLeadInside }
+    ensures moment { RunMoment }
+{}
+
+/// Where all keys are done and all workers are at rest, the cells, the tally and the answers are those
+/// of one worker with the lists joined, or with the one list that was shared out.
+pub fn run_ends()
+    ensures pieces { RunEnds }
+    ensures shared { RunSharedEnds }
+{}

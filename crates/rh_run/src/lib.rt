@@ -1,0 +1,7 @@
+//! Runs of a table: how far its workers have come with their keys, at each moment, over its rounds,
+//! and what they have made of the set at the end.
+#![tactic(auto)]
+
+mod laws;
+
+pub use laws::{run_ends, run_goes_on, run_stands, worker_goes_on};
