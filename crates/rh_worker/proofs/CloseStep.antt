@@ -1,0 +1,89 @@
+-- The step that closes an own descriptor is a Release, which notes nothing.
+use Rattle.std.proofs.Common.{◌≡◌, ℕ, Bool, false, Some, None, List, refl, sym, ap, ◌∙◌, subst, inl}
+use Rattle.rh_world.specs.World.{In, Ref}
+use Rattle.rh_world.specs.Notes.{Note}
+use Rattle.rh_world.specs.Sides.{Side, is_number, open_side}
+use Rattle.rh_world.proofs.Tests.{by_cond}
+use Rattle.rh_world.specs.Notes.Note.{decided}
+use Rattle.rh_world.specs.Acts.{is_success}
+use Rattle.rh_tagword.specs.declared.control.Control.{Control}
+use Rattle.rh_tagword.specs.declared.control.Control.TheVariants.{Succeeded}
+use Rattle.rh_ledger.specs.declared.tally.Kind.{Kind}
+use Rattle.rh_history.specs.OwnActs.{Closes}
+use Rattle.rh_history.proofs.Learning.{steps_grow}
+use Rattle.rh_descriptor.specs.declared.steps.StepKind.{StepKind}
+use Rattle.rh_descriptor.specs.Words.{control_of}
+use Rattle.rh_helping.specs.declared.work.Outcome.TheVariants.{Closed}
+use Rattle.rh_helping.specs.Goal.{KnowsOwn, own_ref}
+use Rattle.rh_helping.specs.Settling.{HasMade}
+use Rattle.rh_helping.specs.Work.{Leads}
+use Rattle.rh_worker.specs.Worker.{IsAbout}
+use Rattle.rh_run.specs.Advance.{Fails, Succeeds}
+use Rattle.rh_descriptor.specs.declared.shape.Shape.{Shape}
+use Rattle.rh_descriptor.specs.View.{OwnDesc, View}
+use Rattle.rh_descriptor.specs.Steps.{Step, entries_of, next_entries, noted, own_desc, release_view}
+use Rattle.rh_rule.proofs.OpensKept.{entries_current}
+
+released_notes : (v : View) (d : Ref) (e c : ℕ) → (release_view v d e c).notes ≡ v.side.notes
+released_notes v d e c = by_cond (λ (t : Side). t.notes ≡ v.side.notes) (is_number v.side.current v.worker d) _ _
+    (λ h. by_cond (λ (t : Side). t.notes ≡ v.side.notes) _ _ _ (λ i. refl) (λ i. refl)) (λ h. refl)
+
+module _ (z : Shape) (v : View) (word n : ℕ) (opened : v.side.current ≡ Some n) where
+  stays_open : (s : Step) → (noted z v s word).side.current ≡ v.side.current → (noted z v s word).side.current ≡ None → ⊥
+  stays_open s same closed = let q : None ≡ Some n = sym closed ∙ same ∙ opened in cc
+
+  pub noted_before : (s : Step) → (noted z v s word).side.current ≡ None → (m : Note) → In m (noted z v s word).side.notes → In m v.side.notes
+  noted_before (Step.writes p u) closed m i = absurd (stays_open (Step.writes p u) refl closed)
+  noted_before (Step.opens size) closed m i =
+      let q : None ≡ Some v.next_number = sym closed ∙ entries_current (open_side v.side v.next_number) (own_desc v) (entries_of (next_entries v size)) size in absurd (cc)
+  noted_before (Step.reads r) closed m i = absurd (stays_open (Step.reads r) (steps_grow z v (Step.reads r) word tt).current closed)
+  noted_before (Step.places d e c old) closed m i = absurd (stays_open (Step.places d e c old) (steps_grow z v (Step.places d e c old) word tt).current closed)
+  noted_before (Step.settles x c d e old) closed m i = absurd (stays_open (Step.settles x c d e old) (steps_grow z v (Step.settles x c d e old) word tt).current closed)
+  noted_before (Step.decides d k) closed m i = absurd (stays_open (Step.decides d k) (steps_grow z v (Step.decides d k) word tt).current closed)
+  noted_before (Step.releases d e c k value) closed m i = subst (λ (ns : List Note). In m ns) (released_notes v d e c) i
+  noted_before Step.claims closed m i = absurd (stays_open Step.claims refl closed)
+
+worker_stays : (z : Shape) (v : View) (word : ℕ) (s : Step) → (noted z v s word).worker ≡ v.worker
+worker_stays z v word (Step.writes p u) = refl
+worker_stays z v word (Step.opens size) = refl
+worker_stays z v word (Step.reads r) = refl
+worker_stays z v word (Step.places d e c old) = refl
+worker_stays z v word (Step.settles x c d e old) = refl
+worker_stays z v word (Step.decides d k) = refl
+worker_stays z v word (Step.releases d e c k value) = refl
+worker_stays z v word Step.claims = refl
+
+module _ (z : Shape) (kp : StepKind) (words : List ℕ) (v : View) (then : List ℕ) (next : View) (made : HasMade z kp words v then next)
+    (kind : Kind) (key number : ℕ) (changes : Bool) (knows : KnowsOwn v (Some number)) (about : IsAbout z v kind key number changes)
+    (k : Control) (leads : Leads z next (Some number) (Closed k)) where
+  same_number : leads.0 ≡ about.own.number
+  same_number = let e : Some number ≡ Some leads.0 = leads.1 in let n : number ≡ leads.0 = cc in sym n ∙ sym about.number_is
+
+  closes : Closes v next about.own
+  closes = record {
+    opened = subst (λ (os : List OwnDesc). In about.own os) (sym about.newest) (inl refl);
+    current = knows.current ∙ ap Some (sym about.number_is);
+    closed = leads.2.own.current;
+  }
+
+  before : In (decided (own_ref v about.own.number) (control_of k)) v.side.notes
+  before =
+      let is = made.steps.view_is in
+      let closed : (noted z v made.step made.word).side.current ≡ None = sym (ap (λ (n : View). n.side.current) is) ∙ leads.2.own.current in
+      let same : next.worker ≡ v.worker = ap (λ (n : View). n.worker) is ∙ worker_stays z v made.word made.step in
+      let here : In (decided (own_ref next leads.0) (control_of k)) (noted z v made.step made.word).side.notes = subst (λ (n : View). In (decided (own_ref next leads.0) (control_of k)) n.side.notes) is leads.2.result in
+      subst (λ (n : ℕ). In (decided (own_ref v n) (control_of k)) v.side.notes) same_number
+      (subst (λ (w : ℕ). In (decided (record { worker = w; number = leads.0 }) (control_of k)) v.side.notes) same
+      (noted_before z v made.word number knows.current made.step closed _ here))
+
+  pub swap_succeeds : k ≡ Succeeded → Succeeds z kind key v next changes
+  swap_succeeds is = record {
+    own = about.own;
+    closes = closes;
+    opened = made.opened;
+    before = subst (λ (r : Control). In (decided (own_ref v about.own.number) (control_of r)) v.side.notes) is before;
+    does = about.does;
+  }
+
+  pub swap_fails : is_success (control_of k) ≡ false → Fails v next
+  swap_fails in_vain = record { own = about.own; control = control_of k; closes = closes; opened = made.opened; before = before; in_vain = in_vain }

@@ -1,0 +1,51 @@
+-- What a scan has seen, and what it tells.
+use Rattle.std.proofs.Common.{◌≡◌, ◌≢◌, ℕ, ◌+◌, ◌<◌, ◌≤◌, Bool, List, [], ◌∷◌, ◌++◌, length, get_or, set, take, length-take-le, sym, ap, ◌∙◌, subst, ⊎_elim, arith}
+use Rattle.std.specs.List.{Contains}
+use Rattle.std.proofs.lemmas.List.{get_or_append_left, get_or_push, length_push, take_more_set}
+use Rattle.rh_layout.specs.Round.{place_after}
+use Rattle.rh_layout.specs.Order.{home_of}
+use Rattle.rh_ledger.specs.declared.tally.Kind.{Kind}
+use Rattle.rh_ledger.specs.declared.tally.Kind.TheVariants.{Insert, Remove, Ask}
+use Rattle.rh_world.proofs.Updated.{same_nat}
+use Rattle.rh_acts.specs.declared.entry.Entry.{Entry}
+use Rattle.rh_acts.specs.Done.{Kept, kept}
+use Rattle.rh_history.specs.History.{kept_of}
+use Rattle.rh_descriptor.specs.declared.shape.Shape.{Shape}
+use Rattle.rh_descriptor.specs.Places.{cell_count}
+use Rattle.rh_descriptor.specs.View.{View}
+use Rattle.rh_worker.specs.declared.sights.Sights.{Sights}
+use Rattle.rh_worker.specs.declared.sights.Decision.TheVariants.{Done}
+use Rattle.rh_worker.specs.Sights.{Decides}
+use Rattle.rh_worker.specs.Worker.{HasSeen, WereRead}
+use Rattle.rh_run.specs.Advance.{IsTold}
+
+pub told_is : (kind : Kind) (z : Shape) (v : View) (k : ℕ) (seen : List ℕ) (entries : List Entry) (told : Bool) → length seen ≤ cell_count z → WereRead z v k seen
+    → Decides kind z.bits k seen entries (Done told) → IsTold kind z v k told
+told_is Insert z v k seen entries told room read d =
+    let c = place_after (cell_count z) (home_of z.bits k) d.1.0 in
+    (d.0, (c, subst (λ (x : ℕ). Contains (kept_of z v) (kept c x)) d.1.1.2 (read d.1.0 d.1.1.0)))
+told_is Remove z v k seen entries told room read d = absurd d
+told_is Ask z v k seen entries told room read d = record { seen = seen; room = room; read = read; tells = d }
+
+pub seen_again : (z : Shape) (v : View) (k : ℕ) (s t : Sights) (n : ℕ) → n < cell_count z → t.seen.items ≡ s.seen.items → WereRead z v k (take n s.seen.items) → HasSeen z v k t n
+seen_again z v k s t n inside same h = record { within = inside; were_read = subst (λ (l : List ℕ). WereRead z v k (take n l)) (sym same) h }
+
+pub none_seen : (z : Shape) (v : View) (k : ℕ) (s : Sights) → 0 < cell_count z → HasSeen z v k s 0
+none_seen z v k s more = record { within = more; were_read = λ p l. absurd (omega arith) }
+
+-- one more cell is read
+pub more_seen : (z : Shape) (v next : View) (k n c value : ℕ) (items : List ℕ) → ((r : Kept) → Contains (kept_of z v) r → Contains (kept_of z next) r)
+    → WereRead z v k (take n items) → n < length items → c ≡ place_after (cell_count z) (home_of z.bits k) n → Contains (kept_of z next) (kept c value)
+    → WereRead z next k (take (n + 1) (set items n value))
+more_seen z v next k n c value items stay before inside at now =
+    subst (WereRead z next k) (sym (take_more_set items n value inside)) (λ p l.
+    let size = length-take-le n items (omega arith) in
+    let is : ℕ → ℕ = place_after (cell_count z) (home_of z.bits k) in
+    ⊎_elim (λ (q : p ≡ n).
+    let e : get_or (take n items ++ value ∷ []) p 0 ≡ value = ap (λ (m : ℕ). get_or (take n items ++ value ∷ []) m 0) q ∙ get_or_push (take n items) value 0 n size in
+    let c_is : c ≡ is p = at ∙ ap is (sym q) in
+    subst (λ (x : ℕ). Contains (kept_of z next) (kept (is p) x)) (sym e) (subst (λ (x : ℕ). Contains (kept_of z next) (kept x value)) c_is now))
+    (λ (ne : p ≢ n).
+    let less : p < length (take n items) = omega (arith, length_push (take n items) value) in
+    subst (λ (x : ℕ). Contains (kept_of z next) (kept (is p) x)) (sym (get_or_append_left (take n items) (value ∷ []) 0 p less)) (stay _ (before p less)))
+    (same_nat p n))

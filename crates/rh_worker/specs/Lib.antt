@@ -1,0 +1,4 @@
+pub mod Sights
+pub mod Worker
+pub mod Makes
+pub mod Laws

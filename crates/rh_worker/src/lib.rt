@@ -1,0 +1,20 @@
+//! How one worker does the keys of its list, step by step: it scans the cells from a key's home on,
+//! changes those that the key asks for by a descriptor of its own, and helps the descriptors that it
+//! meets (Robin Hood tables on a swap of several cells: Kelly, Pearlmutter and Maguire 2018).
+#![tactic(auto)]
+
+mod laws;
+mod place;
+mod scanning;
+mod sights;
+mod swapping;
+mod worker;
+mod writing;
+
+pub use laws::keys_are_done;
+pub use place::{Place, Plan};
+pub use sights::Sights;
+pub use worker::{Stepped, Worker};
+
+#[cfg(test)]
+mod tests;

@@ -1,0 +1,65 @@
+//! An own descriptor that is open, up to its end.
+
+ghost use Rattle.std.specs.Prelude.{◌≡◌, length};
+ghost use Rattle.rh_descriptor.specs.Places.{IsShape, word_count};
+ghost use Rattle.rh_run.specs.Advance.{Advances};
+ghost use Rattle.rh_worker.specs.Makes.{Makes};
+ghost use Rattle.rh_helping.specs.Relies.{Relies};
+ghost use Rattle.rh_worker.specs.Worker.{EndsAt, IsAt, IsWorker};
+ghost use Rattle.rh_worker.specs.declared.place.Place.TheVariants as place;
+ghost use Rattle.rh_helping.specs.Work.{kind_of_work};
+
+use crate::place::Place;
+use crate::worker::Worker;
+use rh_descriptor::Shape;
+use rh_helping::{Outcome, Work};
+use rh_tagword::Control;
+
+/// Goes on with it. Where it is over, the key is done, or begins again, or the worker is spent.
+/// Answers whether the key is done, and how.
+pub(crate) fn swap(
+    worker: &mut Worker,
+    shape: &Shape,
+    words: &mut [u64],
+    work: Work,
+    number: usize,
+    changes: bool,
+) -> Option<bool>
+    requires shape { IsShape shape.now }
+    requires sized { length words.old ≡ word_count shape.now }
+    requires relies { Relies shape.now words.old worker.old.side.known.view }
+    requires worker { IsAt shape.now worker.old (place.Swap work number changes) }
+    ensures makes { Makes shape.now (kind_of_work work) words.old worker.old.side.known.view
+        words.new worker.new.side.known.view }
+    ensures worker { IsWorker shape.now worker.new }
+    ensures same_kind { worker.new.kind ≡ worker.old.kind }
+    ensures same_key { worker.new.key ≡ worker.old.key }
+    ensures advances { Advances shape.now worker.old.kind worker.old.key worker.old.side.known.view
+        worker.new.side.known.view result }
+    ensures ends { EndsAt result worker.new.place }
+{
+    match work.step(shape, words, &mut worker.side, Some(number)) {
+        Outcome::On(work) => {
+            worker.place = Place::Swap {
+                work,
+                number,
+                changes,
+            };
+            None
+        }
+        Outcome::Closed(Control::Succeeded) => {
+            worker.place = Place::Idle;
+            Some(changes)
+        }
+        Outcome::Closed(Control::Withdrawn) => {
+            worker.place = Place::Spent;
+            None
+        }
+        Outcome::Closed(Control::Failed { .. }) => {
+            worker.place = Place::Scan { seen: 0 };
+            None
+        }
+        Outcome::Closed(Control::Unused | Control::Undecided) => unreachable!(),
+        Outcome::Over | Outcome::Spent => unreachable!(),
+    }
+}

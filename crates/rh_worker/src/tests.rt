@@ -1,0 +1,25 @@
+use super::*;
+use rh_descriptor::Shape;
+use rh_ledger::Kind;
+use std::test::*;
+
+const SHAPE: Shape = Shape {
+    bits: 3,
+    workers: 2,
+    entry_room: 32,
+    mark_room: 64,
+    keys: 0,
+};
+
+#[test]
+fn a_worker_begins_a_key(rt: HostRuntime) -> Result<(), Fail> {
+    let mut worker = Worker::new(rt.alloc(), &SHAPE, Kind::Insert, 1, &[0; 8])?;
+    assert!(rt; worker.is_idle());
+    worker.begin_round(&[0; 8]);
+    assert!(rt; worker.is_idle());
+    worker.begin(9);
+    assert!(rt; !worker.is_idle() && !worker.is_spent());
+    assert_eq!(rt; worker.key, 9);
+    assert_eq!(rt; worker.place, Place::Scan { seen: 0 });
+    Ok(())
+}

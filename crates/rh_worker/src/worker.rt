@@ -1,0 +1,191 @@
+//! One worker: what it does next, key by key.
+
+ghost use Rattle.std.specs.Prelude.{◌≡◌, ◌↔◌, ◌<◌, ◌⊎◌, ℕ, IfOk, IsTrue, length};
+ghost use Rattle.rh_layout.specs.Key.{IsKey};
+ghost use Rattle.rh_world.specs.World.{In};
+ghost use Rattle.rh_descriptor.specs.Places.{IsShape, word_count};
+ghost use Rattle.rh_descriptor.specs.declared.shape.Shape.{Shape};
+ghost use Rattle.rh_descriptor.specs.View.{new_view, round_view};
+ghost use Rattle.rh_descriptor.specs.Steps.{StepsTo};
+ghost use Rattle.rh_descriptor.specs.Steps.Step.{claims};
+ghost use Rattle.rh_run.specs.Advance.{Advances};
+ghost use Rattle.rh_worker.specs.Makes.{Makes};
+ghost use Rattle.rh_helping.specs.Relies.{Relies};
+ghost use Rattle.rh_worker.specs.Worker.{EndsAt, IsBusy, IsWorker};
+ghost use Rattle.rh_worker.specs.declared.place.Place.TheVariants as place;
+
+use crate::place::Place;
+use crate::sights::Sights;
+use crate::{scanning, swapping, writing};
+use rh_descriptor::{Shape, Side, StepKind, claim_key};
+use rh_ledger::Kind;
+use std::alloc::{AllocError, Global};
+
+/// A worker that does keys one after the other.
+#[derive(Drop)]
+pub struct Worker {
+    /// What it counts, and what it has done and knows.
+    pub side: Side,
+    /// What it does with each key.
+    pub kind: Kind,
+    /// The key that was begun last.
+    pub key: u64,
+    /// What it does next.
+    pub place: Place,
+    /// What it has seen of the table for the key.
+    pub sights: Sights,
+}
+
+/// A step that was made.
+#[derive(Clone, Copy, Debug, PartialEq, Eq)]
+pub struct Stepped {
+    pub kind: StepKind,
+    /// Where the key was done with it, the answer: whether the key was added, removed or found.
+    pub done: Option<bool>,
+}
+
+impl Worker {
+    /// A worker of a table that is made with these cells, given as words. No key is begun.
+    pub fn new(
+        alloc: Global,
+        shape: &Shape,
+        kind: Kind,
+        worker: usize,
+        cells: &[u64],
+    ) -> Result<Worker, AllocError>
+        requires { IsShape shape.now }
+        ensures worker { IfOk result (IsWorker shape.now) }
+        ensures idle { IfOk result (λ w. w.place ≡ place.Idle) }
+        ensures kind { IfOk result (λ w. w.kind ≡ kind) }
+        ensures view { IfOk result (λ w. w.side.known.view ≡ new_view cells.now worker) }
+    {
+        let sights = Sights::new(alloc, shape.bits)?;
+        Ok(Worker {
+            side: Side::new(worker, cells),
+            kind,
+            key: 0,
+            place: Place::Idle,
+            sights,
+        })
+    }
+
+    /// Whether no key is begun, or the last one is done.
+    pub fn is_idle(&self) -> bool
+        ensures { IsTrue result ↔ (self.now.place ≡ place.Idle) }
+    {
+        self.place == Place::Idle
+    }
+
+    /// Whether no step is left before the next round.
+    pub fn is_spent(&self) -> bool
+        ensures { IsTrue result ↔ (self.now.place ≡ place.Spent) }
+    {
+        self.place == Place::Spent
+    }
+
+    /// Begins a key.
+    pub fn begin(&mut self, key: u64)
+        requires idle { self.old.place ≡ place.Idle }
+        requires key { IsKey key }
+        ensures worker { (z : Shape) → IsWorker z self.old → IsWorker z self.new }
+        ensures busy { IsBusy self.new.place }
+        ensures same_view { self.new.side.known.view ≡ self.old.side.known.view }
+        ensures same_kind { self.new.kind ≡ self.old.kind }
+        ensures key { self.new.key ≡ key }
+    {
+        self.key = key;
+        self.place = Place::Scan { seen: 0 };
+    }
+
+    /// Claims the next place of the list of keys, and answers it.
+    pub fn claim(&mut self, shape: &Shape, words: &mut [u64]) -> u64
+        requires shape { IsShape shape.now }
+        requires sized { length words.old ≡ word_count shape.now }
+        requires relies { Relies shape.now words.old self.old.side.known.view }
+        requires worker { IsWorker shape.now self.old }
+        requires idle { self.old.place ≡ place.Idle }
+        requires keys { (n : ℕ) → In n self.old.side.known.view.side.claims → n < shape.now.keys }
+        ensures steps { StepsTo shape.now claims words.old self.old.side.known.view
+            result words.new self.new.side.known.view }
+        ensures worker { IsWorker shape.now self.new }
+        ensures idle { self.new.place ≡ place.Idle }
+        ensures same_kind { self.new.kind ≡ self.old.kind }
+        ensures same_key { self.new.key ≡ self.old.key }
+    {
+        claim_key(shape, words, &mut self.side)
+    }
+
+    /// A round begins with these cells, given as words. A spent worker begins its key again.
+    pub fn begin_round(&mut self, cells: &[u64])
+        requires { (self.old.place ≡ place.Idle) ⊎ (self.old.place ≡ place.Spent) }
+        ensures worker { (z : Shape) → IsWorker z self.old → IsWorker z self.new }
+        ensures idle { self.old.place ≡ place.Idle → self.new.place ≡ place.Idle }
+        ensures again { self.old.place ≡ place.Spent → IsBusy self.new.place }
+        ensures view { self.new.side.known.view ≡ round_view cells.now self.old.side.known.view }
+        ensures same_kind { self.new.kind ≡ self.old.kind }
+        ensures same_key { self.new.key ≡ self.old.key }
+    {
+        self.side.begin_round(cells);
+        if self.is_spent() {
+            self.place = Place::Scan { seen: 0 };
+        }
+    }
+
+    /// Makes the next step.
+    pub fn step(&mut self, shape: &Shape, words: &mut [u64]) -> Stepped
+        requires shape { IsShape shape.now }
+        requires sized { length words.old ≡ word_count shape.now }
+        requires relies { Relies shape.now words.old self.old.side.known.view }
+        requires worker { IsWorker shape.now self.old }
+        requires busy { IsBusy self.old.place }
+        ensures makes { Makes shape.now result.kind words.old self.old.side.known.view
+            words.new self.new.side.known.view }
+        ensures worker { IsWorker shape.now self.new }
+        ensures same_kind { self.new.kind ≡ self.old.kind }
+        ensures same_key { self.new.key ≡ self.old.key }
+        ensures advances { Advances shape.now self.old.kind self.old.key self.old.side.known.view
+            self.new.side.known.view result.done }
+        ensures ends { EndsAt result.done self.new.place }
+    {
+        let place = self.place;
+        let kind = place.kind();
+        let done = match place {
+            Place::Idle | Place::Spent => unreachable!(),
+            Place::Scan { seen } => scanning::read(self, shape, words, seen),
+            Place::Settle { settling, seen } => {
+                scanning::settle(self, shape, words, settling, seen);
+                None
+            }
+            Place::Help { work, seen } => {
+                scanning::help(self, shape, words, work, seen);
+                None
+            }
+            Place::WriteLength(plan) => {
+                writing::write_length(self, shape, words, plan);
+                None
+            }
+            Place::WriteCell { plan, entry } => {
+                writing::write_cell(self, shape, words, plan, entry);
+                None
+            }
+            Place::WriteOld { plan, entry } => {
+                writing::write_old(self, shape, words, plan, entry);
+                None
+            }
+            Place::WriteNew { plan, entry } => {
+                writing::write_new(self, shape, words, plan, entry);
+                None
+            }
+            Place::Open(plan) => {
+                writing::open(self, shape, words, plan);
+                None
+            }
+            Place::Swap {
+                work,
+                number,
+                changes,
+            } => swapping::swap(self, shape, words, work, number, changes),
+        };
+        Stepped { kind, done }
+    }
+}
