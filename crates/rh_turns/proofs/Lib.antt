@@ -1,0 +1,9 @@
+mod Refers
+mod Turns
+pub mod AtHands
+pub mod Playing
+pub mod Apart
+pub mod Turned
+pub mod Ended
+pub mod Rounds
+pub mod Started

@@ -1,0 +1,352 @@
+-- A turn of a worker keeps what is so of the game.
+use Rattle.std.proofs.Common.{◌≡◌, ◌≢◌, ℕ, ◌+◌, ◌<◌, ◌≤◌, ◌⊎◌, inl, inr, ⊎_elim, sym, refl, ap, ◌∙◌, subst, arith, Bool, true, false, cond, Option, Some, None, List, [], ◌∷◌, ◌++◌, length, map, filter, reverse, set, take, get_or}
+use mathlib.Core.List.{reverse-cons}
+use Rattle.std.specs.Prelude.{nat_lt, slice_index, slice_index_or, count_by, All}
+use Rattle.std.specs.List.{Contains, range_with_len}
+use Rattle.std.proofs.lemmas.Bool.{cases_eq, cases_lt}
+use Rattle.std.proofs.lemmas.List.{get_or-set_other, get_or-set_same, get_or_append_left, get_or_push, length-map, length-set, length_push, map-id, map_push, set-get_or, take-append-le, take_all}
+use Rattle.std.proofs.lemmas.List.Elements.{All-set}
+use Rattle.std.proofs.lemmas.List.FromFn.{map-range_with_len_more}
+use Rattle.std.proofs.lemmas.List.Sums.{sum_by_push}
+use Rattle.rh_ledger.specs.declared.tally.Kind.{Kind}
+use Rattle.rh_ledger.specs.declared.tally.Kind.TheVariants.{Ask}
+use Rattle.rh_world.specs.World.{updated}
+use Rattle.rh_world.proofs.Updated.{updated_at, updated_else, updated_here}
+use Rattle.rh_descriptor.specs.declared.shape.Shape.{Shape}
+use Rattle.rh_descriptor.specs.declared.steps.StepKind.{StepKind}
+use Rattle.rh_descriptor.specs.View.{View, new_view}
+use Rattle.rh_descriptor.specs.Steps.{Allowed, Step, StepsTo}
+use Rattle.rh_run.specs.Advance.{Advances}
+use Rattle.rh_run.specs.Claimed.{claimed}
+use Rattle.rh_run.specs.Laws.{AreAlike}
+use Rattle.rh_run.specs.Run.{Running, also_done, also_told}
+use Rattle.rh_run.proofs.Alike.{runs_alike}
+use Rattle.rh_run.proofs.Stepping.{run_claims, run_steps}
+use Rattle.rh_turns.specs.declared.hand.Hand.{Hand}
+use Rattle.rh_turns.specs.declared.hand.Share.{Share}
+use Rattle.rh_turns.specs.declared.hand.Share.TheVariants.{Piece, Claims}
+use Rattle.rh_turns.specs.declared.turning.Turn.{Turn}
+use Rattle.rh_turns.specs.declared.turning.Turn.TheVariants.{Did, Finished, Spent, NoSuchWorker}
+use Rattle.rh_turns.specs.Hands.{ClaimsOn, IsClaiming, IsHand, IsIdle, IsShare, StepsOn, TurnsOn, answered, counted, done_keys, keys_for, keys_in, place_now, place_of, places, places_of, view_of}
+use Rattle.rh_turns.specs.Game.{ArePieces, Game, IsDealt, Plays, at_hand, changed_at, done_at, keep, keys_at, places_at}
+use Rattle.rh_turns.specs.Laws.{turned}
+use Rattle.rh_turns.proofs.AtHands.{at_hand_is, at_hand_set}
+use Rattle.rh_turns.proofs.Apart.{apart, piece_at, piece_not_claims, pieces_set}
+use Rattle.rh_turns.proofs.Playing.{done_claimed, hand_of, in_hands, kept_at, next_among}
+
+-- the game after a turn
+-- ---- the places of its done keys
+
+-- one place more, where the key there is done
+abbrev also_at : List ℕ → (place : ℕ) → Option Bool → List ℕ
+also_at l place None = l
+also_at l place (Some told) = l ++ place ∷ []
+
+-- of the first of the claimed places none changes where one more is claimed
+first_stay : (z : Shape) (v next : View) (n : ℕ) → next.side.claims ≡ n ∷ v.side.claims → (m : ℕ) → m ≤ length (claimed z v) → take m (claimed z next) ≡ take m (claimed z v)
+first_stay z v next n more m most = ap (λ (l : List ℕ). take m (reverse (filter (λ i. nat_lt i z.keys) l))) more ∙ go (nat_lt n z.keys)
+  where
+    go : (b : Bool) → take m (reverse (cond b (n ∷ filter (λ i. nat_lt i z.keys) v.side.claims) (filter (λ i. nat_lt i z.keys) v.side.claims))) ≡ take m (claimed z v)
+    go true = ap (λ (l : List ℕ). take m l) (reverse-cons n (filter (λ i. nat_lt i z.keys) v.side.claims)) ∙ take-append-le m (claimed z v) (n ∷ []) most
+    go false = refl
+
+range_more : (first n : ℕ) → range_with_len first (n + 1) ≡ range_with_len first n ++ (first + n) ∷ []
+range_more first n =
+    sym (map-id (range_with_len first (n + 1))) ∙ map-range_with_len_more (λ (i : ℕ). i) first n (first + n) refl ∙ ap (λ (l : List ℕ). l ++ (first + n) ∷ []) (map-id (range_with_len first n))
+
+-- they go by what was claimed
+pub same_claims : (z : Shape) (v next : View) (s : Share) (done : ℕ) → next.side.claims ≡ v.side.claims → places_of z s next done ≡ places_of z s v done
+same_claims z v next (Piece first end) done same = refl
+same_claims z v next (Claims last ended) done same = ap (λ (l : List ℕ). take done (reverse (filter (λ i. nat_lt i z.keys) l))) same
+
+module _ (z : Shape) (keys : List ℕ) (h next : Hand) (claims : (view_of next).side.claims ≡ (view_of h).side.claims) where
+  claimed_same : claimed z (view_of next) ≡ claimed z (view_of h)
+  claimed_same = ap (λ (l : List ℕ). reverse (filter (λ i. nat_lt i z.keys) l)) claims
+
+  -- a worker that claims its keys is at the last that it claimed
+  last_done : (last : ℕ) (ended : Bool) → h.share ≡ Claims last ended → IsShare z keys h (Claims last ended) → IsShare z keys next (Claims last ended) → next.done ≡ h.done + 1
+      → take (h.done + 1) (claimed z (view_of h)) ≡ take h.done (claimed z (view_of h)) ++ last ∷ []
+  last_done last ended is was now done =
+      let more : next.done ≤ length (claimed z (view_of next)) = done_claimed z next last ended now.1 in
+      let size : length (claimed z (view_of next)) ≡ length (claimed z (view_of h)) = ap length claimed_same in
+      ⊎_elim
+      (λ (idle : IsIdle h). let few : length (claimed z (view_of h)) ≡ h.done = was.1.idle idle in absurd (omega (arith, more, size, few, done)))
+      (λ b.
+      let here : places z h ≡ take h.done (claimed z (view_of h)) = ap (λ (s : Share). places_of z s (view_of h) h.done) is in
+      let long : length (claimed z (view_of h)) ≡ h.done + 1 = ap length b.0 ∙ length_push (places z h) last ∙ ap (λ (n : ℕ). n + 1) b.1 in
+      take_all (h.done + 1) (claimed z (view_of h)) (omega (arith, long)) ∙ b.0 ∙ ap (λ (l : List ℕ). l ++ last ∷ []) here) was.1.busy
+
+  one_done : (s : Share) → h.share ≡ s → IsShare z keys h s → IsShare z keys next s → next.done ≡ h.done + 1
+      → places_of z s (view_of h) (h.done + 1) ≡ places_of z s (view_of h) h.done ++ place_of s h.done ∷ []
+  one_done (Piece first end) is was now done = range_more first h.done
+  one_done (Claims last ended) is was now done = last_done last ended is was now done
+
+  places_then : (answer : Option Bool) → next.share ≡ h.share → IsShare z keys h h.share → IsShare z keys next next.share → counted h answer next
+      → places z next ≡ also_at (places z h) (place_now h) answer
+  places_then answer share was now counts =
+      ap (λ (s : Share). places_of z s (view_of next) next.done) share ∙ same_claims z (view_of h) (view_of next) h.share next.done claims ∙ go answer counts
+    where
+      go : (answer : Option Bool) → counted h answer next → places_of z h.share (view_of h) next.done ≡ also_at (places z h) (place_now h) answer
+      go None counts = ap (places_of z h.share (view_of h)) counts.0
+      go (Some told) counts = ap (places_of z h.share (view_of h)) counts.0 ∙ one_done h.share refl was (subst (IsShare z keys next) share now) counts.0
+
+keys_then : (z : Shape) (keys : List ℕ) (h next : Hand) (answer : Option Bool) → places z next ≡ also_at (places z h) (place_now h) answer
+    → also_done (done_keys z keys h) (slice_index keys (place_now h)) answer ≡ done_keys z keys next
+keys_then z keys h next answer is = go answer ∙ sym (ap (map (slice_index keys)) is)
+  where
+    go : (answer : Option Bool) → also_done (done_keys z keys h) (slice_index keys (place_now h)) answer ≡ map (slice_index keys) (also_at (places z h) (place_now h) answer)
+    go None = refl
+    go (Some told) = sym (map_push (slice_index keys) (places z h) (place_now h))
+
+-- ---- what it was told
+
+how_many_more : (told : List Bool) (so : Bool) → count_by (λ so. so) (told ++ so ∷ []) ≡ count_by (λ so. so) told + cond so 1 0
+how_many_more told so = sum_by_push (λ (so : Bool). cond so 1 0) told so
+
+counts_then : (h next : Hand) (told : List Bool) (answer : Option Bool) → counted h answer next → h.changed ≡ count_by (λ so. so) told → next.changed ≡ count_by (λ so. so) (also_told told answer)
+counts_then h next told None counts was = counts.1 ∙ was
+counts_then h next told (Some so) counts was = counts.1 ∙ ap (λ (n : ℕ). n + cond so 1 0) was ∙ sym (how_many_more told so)
+
+-- ---- the answers
+
+-- at the place of the j-th done key stands what was told of it
+abbrev Stands : List (Option Bool) → (at : List ℕ) (told : List Bool) (j : ℕ) → Type 0
+Stands answers at told j = slice_index_or answers (slice_index at j) None ≡ Some (slice_index_or told j false)
+
+stands_so : (answers : List (Option Bool)) (l m : List ℕ) (t u : List Bool) (j : ℕ) → l ≡ m → t ≡ u → (j < length u → Stands answers m u j) → j < length t → Stands answers l t j
+stands_so answers l m t u j places told so inside =
+    (λ i. slice_index_or answers (slice_index (places i) j) None) ∙ so (subst (λ (x : List Bool). j < length x) told inside) ∙ sym (λ i. Some (slice_index_or (told i) j false))
+
+stands_still : (answers : List (Option Bool)) (at : List ℕ) (told : List Bool) (place : ℕ) (so : Option Bool) (j : ℕ) → slice_index at j ≢ place → Stands answers at told j → Stands (set answers place so) at told j
+stands_still answers at told place so j other was = get_or-set_other answers place (slice_index at j) so None other ∙ was
+
+stands_more : (answers : List (Option Bool)) (at : List ℕ) (told : List Bool) (place : ℕ) (so : Bool) (j : ℕ) → length told ≡ length at → place < length answers
+    → (j < length told → Stands answers at told j) → (j < length told → slice_index at j ≢ place) → j < length (told ++ so ∷ [])
+    → Stands (set answers place (Some so)) (at ++ place ∷ []) (told ++ so ∷ []) j
+stands_more answers at told place so j size within was other inside =
+    let long : length (told ++ so ∷ []) ≡ length told + 1 = length_push told so in
+    ⊎_elim
+    (λ (l : j < length told).
+    let m : j < length at = omega (arith, l, size) in
+    ap (λ (p : ℕ). slice_index_or (set answers place (Some so)) p None) (get_or_append_left at (place ∷ []) 0 j m)
+    ∙ stands_still answers at told place (Some so) j (other l) (was l)
+    ∙ ap (λ (b : Bool). Some b) (sym (get_or_append_left told (so ∷ []) false j l)))
+    (λ (m : length told ≤ j).
+    let e : length told ≡ j = omega (arith, m, inside, long) in
+    ap (λ (p : ℕ). slice_index_or (set answers place (Some so)) p None) (get_or_push at place 0 j (sym size ∙ e))
+    ∙ get_or-set_same answers place (Some so) None within
+    ∙ ap (λ (b : Bool). Some b) (sym (get_or_push told so false j e))) (cases_lt j (length told))
+
+-- ---- the game
+
+dealt_then : (g : Game) (who : ℕ) (d next : Hand) → who < length g.hands → next.share ≡ (get_or g.hands who d).share → IsDealt g
+    → ArePieces 0 (set g.hands who next) (length g.keys) ⊎ All IsClaiming (set g.hands who next)
+dealt_then g who d next l same dealt = ⊎_elim
+    (λ (are : ArePieces 0 g.hands (length g.keys)). inl (pieces_set 0 g.hands (length g.keys) who d next l same are))
+    (λ (are : All IsClaiming g.hands). let c = are who d l in inr (All-set IsClaiming g.hands who next (c.0, c.1, same ∙ c.2) are)) dealt
+
+claiming_then : (g : Game) (who : ℕ) (d next : Hand) → who < length g.hands → IsClaiming (get_or g.hands who d) → IsClaiming next → IsDealt g
+    → ArePieces 0 (set g.hands who next) (length g.keys) ⊎ All IsClaiming (set g.hands who next)
+claiming_then g who d next l was is dealt = ⊎_elim
+    (λ (are : ArePieces 0 g.hands (length g.keys)). absurd (piece_not_claims (get_or g.hands who d).share (piece_at 0 g.hands (length g.keys) are who d l).0 was.0 was.1 was.2))
+    (λ (are : All IsClaiming g.hands). inr (All-set IsClaiming g.hands who next is are)) dealt
+
+pub same_as_was : {A : Type 0} (f : ℕ → A) (k : ℕ) (a : A) → f k ≡ a → (v : ℕ) → f v ≡ updated f k a v
+same_as_was f k a is v = ⊎_elim (λ r. ap f r.0 ∙ is ∙ sym r.1) (λ r. sym r.1) (updated_at f k v a)
+
+module _ (g : Game) (plays : Plays g) (who : ℕ) (mine : who < g.shape.workers) (d next : Hand) (then : List ℕ) (answers : List (Option Bool)) where
+  abbrev z : Shape
+  z = g.shape
+
+  abbrev h : Hand
+  h = get_or g.hands who d
+
+  abbrev game : Game
+  game = turned g who then answers next
+
+  is : who < length g.hands
+  is = in_hands g plays who mine
+
+  at_who : {A : Type 0} (f : Hand → A) (default : A) → at_hand f default g.hands who ≡ f h
+  at_who f default = at_hand_is f default g.hands who d is
+
+  at_then : {A : Type 0} (f : Hand → A) (default : A) (v : ℕ) → updated (at_hand f default g.hands) who (f next) v ≡ at_hand f default (set g.hands who next) v
+  at_then f default v = sym (at_hand_set f default g.hands who next is v)
+
+  told_size : (v : ℕ) → v < z.workers → length (plays.told v) ≡ length (places_at g v)
+  told_size v l =
+      let x : Hand = get_or g.hands v d in
+      let inside : v < length g.hands = in_hands g plays v l in
+      (plays.running.doing v l).so_far.size ∙ ap length (at_hand_is (done_keys z g.keys) [] g.hands v d inside)
+      ∙ length-map (places z x) (slice_index g.keys) ∙ ap length (sym (at_hand_is (places z) [] g.hands v d inside))
+
+  abbrev Fits : Option Bool → Type 0
+  Fits None = Unit {0}
+  Fits (Some so) = place_now h < length g.keys
+
+  -- what the places of the game after the turn say of the place that is written
+  abbrev IsFresh : Option Bool → Type 0
+  IsFresh None = Unit {0}
+  IsFresh (Some so) = (v j : ℕ) → v < z.workers → j < length (places_at game v) → get_or (places_at game v) j 0 ≡ place_now h → (who ≡ v) × (length (places z h) ≡ j)
+
+  places_here : (v : ℕ) → v ≡ who → places_at game v ≡ places z next
+  places_here v e = sym (at_then (places z) [] v) ∙ updated_here (places_at g) who v (places z next) e
+
+  places_else : (v : ℕ) → v ≢ who → places_at game v ≡ places_at g v
+  places_else v ne = sym (at_then (places z) [] v) ∙ updated_else (places_at g) who v (places z next) ne
+
+  stand_then : (answer : Option Bool) → g.kind ≡ Ask → Fits answer → IsFresh answer → places z next ≡ also_at (places z h) (place_now h) answer → answers ≡ answered g.answers (place_now h) answer
+      → (v j : ℕ) → v < z.workers → j < length (updated plays.told who (also_told (plays.told who) answer) v)
+      → Stands answers (places_at game v) (updated plays.told who (also_told (plays.told who) answer) v) j
+  stand_then None asks fits fresh places_are is_now v j l inside =
+      let same : places_at game v ≡ places_at g v = sym (at_then (places z) [] v) ∙ sym (same_as_was (places_at g) who (places z next) (at_who (places z) [] ∙ sym places_are) v) in
+      subst (λ (a : List (Option Bool)). Stands a (places_at game v) (updated plays.told who (plays.told who) v) j) (sym is_now)
+      (stands_so g.answers (places_at game v) (places_at g v) (updated plays.told who (plays.told who) v) (plays.told v) j same (sym (same_as_was plays.told who (plays.told who) refl v)) (plays.answered asks v j l) inside)
+  stand_then (Some so) asks fits fresh places_are is_now v j l inside =
+      let p : ℕ = place_now h in
+      let within : p < length g.answers = omega (arith, fits, plays.answers) in
+      let mine_at : places_at g who ≡ places z h = at_who (places z) [] in
+      let more : List Bool = plays.told who ++ so ∷ [] in
+      subst (λ (a : List (Option Bool)). Stands a (places_at game v) (updated plays.told who (plays.told who ++ so ∷ []) v) j) (sym is_now)
+      (⊎_elim
+      (λ (e : v ≡ who).
+      let here : places_at game v ≡ places_at g who ++ p ∷ [] = places_here v e ∙ places_are ∙ ap (λ (l : List ℕ). l ++ p ∷ []) (sym mine_at) in
+      let size : length (plays.told who) ≡ length (places_at g who) = told_size who mine in
+      let long : length (places_at game v) ≡ length (places_at g who) + 1 = ap length here ∙ length_push (places_at g who) p in
+      stands_so (set g.answers p (Some so)) (places_at game v) (places_at g who ++ p ∷ []) (updated plays.told who (plays.told who ++ so ∷ []) v) (plays.told who ++ so ∷ []) j here (updated_here plays.told who v (plays.told who ++ so ∷ []) e)
+      (stands_more g.answers (places_at g who) (plays.told who) p so j size within (plays.answered asks who j mine)
+      (λ (m : j < length (plays.told who)) (same : slice_index (places_at g who) j ≡ p).
+      let last = (fresh v j l (omega (arith, m, size, long)) (ap (λ (l : List ℕ). get_or l j 0) here ∙ get_or_append_left (places_at g who) (p ∷ []) 0 j (omega (arith, m, size)) ∙ same)).1 in
+      let at_size : length (places_at g who) ≡ length (places z h) = ap length mine_at in
+      absurd (omega (arith, last, m, size, at_size))))
+      inside)
+      (λ (ne : v ≢ who).
+      stands_so (set g.answers p (Some so)) (places_at game v) (places_at g v) (updated plays.told who (plays.told who ++ so ∷ []) v) (plays.told v) j (places_else v ne) (updated_else plays.told who v (plays.told who ++ so ∷ []) ne)
+      (λ (m : j < length (plays.told v)).
+      let size : length (plays.told v) ≡ length (places_at g v) = told_size v l in
+      stands_still g.answers (places_at g v) (plays.told v) p (Some so) j
+      (λ (same : slice_index (places_at g v) j ≡ p).
+      let long : length (places_at game v) ≡ length (places_at g v) = ap length (places_else v ne) in
+      ne (sym (fresh v j l (omega (arith, m, size, long)) (ap (λ (l : List ℕ). get_or l j 0) (places_else v ne) ∙ same)).0))
+      (plays.answered asks v j l m))
+      inside)
+      (cases_eq v who))
+
+  -- its keys, its done keys and what it was told
+  module _ (answer : Option Bool) (share : keys_for g.keys next ≡ keys_for g.keys h) (places_are : places z next ≡ also_at (places z h) (place_now h) answer) (counts : counted h answer next) (hand : IsHand z g.kind g.keys next) (dealt : IsDealt game) where
+    abbrev told : ℕ → List Bool
+    told = updated plays.told who (also_told (plays.told who) answer)
+
+    alike : (v : ℕ) → v < z.workers → AreAlike (updated (keep g) who (view_of next) v) (keep game v) (keys_at g v) (keys_at game v) (updated (done_at g) who (done_keys z g.keys next) v) (done_at game v) (told v) (told v)
+    alike v l = record {
+      kept = at_then view_of (new_view [] 0) v;
+      keys_are = same_as_was (keys_at g) who (keys_for g.keys next) (at_who (keys_for g.keys) [] ∙ sym share) v ∙ at_then (keys_for g.keys) [] v;
+      done_are = at_then (done_keys z g.keys) [] v;
+      told_are = refl;
+    }
+
+    module _ (run : Running g.kind z g.opening then (updated (keep g) who (view_of next)) (keys_at g) (updated (done_at g) who (done_keys z g.keys next)) told) where
+      running : Running g.kind z g.opening then (keep game) (keys_at game) (done_at game) told
+      running = runs_alike g.kind z g.opening then (updated (keep g) who (view_of next)) (keep game) (keys_at g) (keys_at game) (updated (done_at g) who (done_keys z g.keys next)) (done_at game) told told alike run
+
+      size_then : length (set g.hands who next) ≡ z.workers
+      size_then = length-set g.hands who next ∙ plays.workers
+
+      hands_then : All (IsHand z g.kind g.keys) (set g.hands who next)
+      hands_then = All-set (IsHand z g.kind g.keys) g.hands who next hand plays.hands
+
+      changed_then : (v : ℕ) → v < z.workers → changed_at game v ≡ count_by (λ so. so) (told v)
+      changed_then v l = at_hand_set (λ x. x.changed) 0 g.hands who next is v ∙ ⊎_elim
+          (λ r. r.1 ∙ counts_then h next (plays.told who) answer counts (sym (at_who (λ x. x.changed) 0) ∙ plays.changed who mine) ∙ ap (λ (l : List Bool). count_by (λ so. so) l) (sym (updated_here plays.told who v (also_told (plays.told who) answer) r.0)))
+          (λ r. r.1 ∙ plays.changed v l ∙ ap (λ (l : List Bool). count_by (λ so. so) l) (sym (updated_else plays.told who v (also_told (plays.told who) answer) r.0)))
+          (updated_at (changed_at g) who v next.changed)
+
+      -- the place of the key is that of no other
+      fresh_then : (so : Option Bool) → so ≡ answer → IsFresh so
+      fresh_then None e = tt
+      fresh_then (Some so) e = λ v j l inside same.
+          let at_v : places_at game v ≡ places z (get_or (set g.hands who next) v next) = at_hand_is (places z) [] (set g.hands who next) v next (omega (arith, l, size_then)) in
+          let me : places z (get_or (set g.hands who next) who next) ≡ places z h ++ place_now h ∷ [] =
+          ap (places z) (get_or-set_same g.hands who next next is) ∙ places_are ∙ ap (also_at (places z h) (place_now h)) (sym e) in
+          let n : ℕ = length (places z h) in
+          let long : length (places z (get_or (set g.hands who next) who next)) ≡ n + 1 = ap length me ∙ length_push (places z h) (place_now h) in
+          apart z g.kind g.keys then (set g.hands who next) running.world running.core size_then hands_then next dealt who v n j mine l
+          (omega (arith, long)) (subst (λ (l : List ℕ). j < length l) at_v inside)
+          (ap (λ (l : List ℕ). get_or l n 0) me ∙ get_or_push (places z h) (place_now h) 0 n refl ∙ sym same ∙ ap (λ (l : List ℕ). get_or l j 0) at_v)
+
+      plays_then : Fits answer → answers ≡ answered g.answers (place_now h) answer → Plays game
+      plays_then fits is_now = record {
+        shape = plays.shape;
+        some = plays.some;
+        workers = size_then;
+        opening = plays.opening;
+        room = plays.room;
+        keys = plays.keys;
+        answers = ap length is_now ∙ same_size answer ∙ plays.answers;
+        hands = hands_then;
+        dealt = dealt;
+        told = told;
+        running = running;
+        changed = changed_then;
+        answered = λ asks v j l inside. stand_then answer asks fits (fresh_then answer refl) places_are is_now v j l inside;
+      }
+        where
+          same_size : (answer : Option Bool) → length (answered g.answers (place_now h) answer) ≡ length g.answers
+          same_size None = refl
+          same_size (Some so) = length-set g.answers (place_now h) (Some so)
+
+  by_step : (k : StepKind) → StepsOn z g.keys k g.words g.answers h then answers next → IsHand z g.kind g.keys next → Plays game
+  by_step k s hand =
+      let was : IsHand z g.kind g.keys h = hand_of g plays who mine d in
+      let key : ℕ = slice_index g.keys (place_now h) in
+      let kept : view_of h ≡ keep g who = sym (kept_at g plays who mine d) in
+      let places_are : places z next ≡ also_at (places z h) (place_now h) s.done = places_then z g.keys h next s.makes.claims s.done s.share was.share hand.share s.counts in
+      let done : also_done (done_at g who) key s.done ≡ done_keys z g.keys next = ap (λ (l : List ℕ). also_done l key s.done) (at_who (done_keys z g.keys) []) ∙ keys_then z g.keys h next s.done places_are in
+      let run = run_steps g.kind z g.opening g.words then (keep g) (keys_at g) (done_at g) plays.told who s.makes.step s.makes.word (view_of next) key s.done plays.shape mine
+      (subst (λ (x : View). Allowed z x s.makes.step) kept s.makes.allowed)
+      (subst (λ (x : View). StepsTo z s.makes.step g.words x s.makes.word then (view_of next)) kept s.makes.steps)
+      (subst (λ (l : List ℕ). Contains l key) (sym (at_who (keys_for g.keys) [])) (next_among g.keys h.share h.done s.next_key s.within))
+      (subst (λ (x : View). Advances z g.kind key x (view_of next) s.done) kept (subst (λ (k : Kind). Advances z k key (view_of h) (view_of next) s.done) was.kind_is s.advances))
+      plays.running in
+      plays_then s.done (ap (keys_in g.keys) s.share) places_are s.counts hand (dealt_then g who d next is s.share plays.dealt)
+      (subst (λ (l : List ℕ). Running g.kind z g.opening then (updated (keep g) who (view_of next)) (keys_at g) (updated (done_at g) who l) (updated plays.told who (also_told (plays.told who) s.done))) done run)
+      (fits s.done s.within) s.told_is
+    where
+      fits : (answer : Option Bool) → place_now h < length g.keys → Fits answer
+      fits None within = tt
+      fits (Some so) within = within
+
+  by_claim : ClaimsOn z g.words g.answers h then answers next → IsHand z g.kind g.keys next → Plays game
+  by_claim c hand =
+      let was : IsHand z g.kind g.keys h = hand_of g plays who mine d in
+      let kept : view_of h ≡ keep g who = sym (kept_at g plays who mine d) in
+      let share = c.claiming.0.2 in
+      let share_then = c.claiming.1.2 in
+      let keys_are : keys_for g.keys next ≡ keys_for g.keys h = ap (keys_in g.keys) share_then ∙ sym (ap (keys_in g.keys) share) in
+      let most : h.done ≤ length (claimed z (view_of h)) = done_claimed z h c.claiming.0.0 c.claiming.0.1 (subst (IsShare z g.keys h) share was.share).1 in
+      let places_are : places z next ≡ places z h =
+      ap (λ (s : Share). places_of z s (view_of next) next.done) share_then ∙ ap (λ (n : ℕ). take n (claimed z (view_of next))) c.counts.0
+      ∙ first_stay z (view_of h) (view_of next) c.word (ap (λ (x : View). x.side.claims) c.steps.view_is) h.done most ∙ sym (ap (λ (s : Share). places_of z s (view_of h) h.done) share) in
+      let run = run_claims g.kind z g.opening g.words then (keep g) (keys_at g) (done_at g) plays.told who c.word (view_of next) plays.shape mine
+      (subst (λ (x : View). Allowed z x Step.claims) kept c.allowed)
+      (subst (λ (x : View). StepsTo z Step.claims g.words x c.word then (view_of next)) kept c.steps) plays.running in
+      let done : done_at g who ≡ done_keys z g.keys next = at_who (done_keys z g.keys) [] ∙ sym (ap (map (slice_index g.keys)) places_are) in
+      plays_then None keys_are places_are c.counts hand (claiming_then g who d next is c.claiming.0 c.claiming.1 plays.dealt)
+      (subst (λ (t : ℕ → List Bool). Running g.kind z g.opening then (updated (keep g) who (view_of next)) (keys_at g) (updated (done_at g) who (done_keys z g.keys next)) t) (λ i v. same_as_was plays.told who (plays.told who) refl v i)
+      (subst (λ (l : ℕ → List ℕ). Running g.kind z g.opening then (updated (keep g) who (view_of next)) (keys_at g) l plays.told) (λ i v. same_as_was (done_at g) who (done_keys z g.keys next) done v i) run))
+      tt c.told_is
+
+  -- nothing is changed
+  by_nothing : then ≡ g.words → answers ≡ g.answers → next ≡ h → Plays game
+  by_nothing words_are answers_are hand_is =
+      let hands_are : set g.hands who next ≡ g.hands = ap (set g.hands who) hand_is ∙ set-get_or g.hands who d in
+      subst Plays (λ i. record g { words = sym words_are i; answers = sym answers_are i; hands = sym hands_are i }) plays
+
+pub plays_turn : (g : Game) → Plays g → (who : ℕ) → who < g.shape.workers → (d : Hand) (turn : Turn) (then : List ℕ) (told : List (Option Bool)) (next : Hand)
+    → TurnsOn g.shape g.keys g.words g.answers (get_or g.hands who d) turn then told next → IsHand g.shape g.kind g.keys next → Plays (turned g who then told next)
+plays_turn g plays who mine d (Did k) then told next turns hand = ⊎_elim
+    (λ (s : StepsOn g.shape g.keys k g.words g.answers (get_or g.hands who d) then told next). by_step g plays who mine d next then told k s hand)
+    (λ c. by_claim g plays who mine d next then told c.1 hand) turns
+plays_turn g plays who mine d Finished then told next turns hand = by_nothing g plays who mine d next then told turns.0 turns.1 turns.2
+plays_turn g plays who mine d Spent then told next turns hand = by_nothing g plays who mine d next then told turns.0 turns.1 turns.2
+plays_turn g plays who mine d NoSuchWorker then told next turns hand = absurd turns

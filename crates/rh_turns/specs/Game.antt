@@ -1,0 +1,84 @@
+-- A player, as its calls see it: the table, the keys, and the workers with what each has done of them. (own)
+use Rattle.std.specs.Prelude.{zero, suc, ◌≡◌, ℕ, ◌<◌, ◌≤◌, ◌⊎◌, Option, Some, None, Bool, false, List, [], ◌∷◌, length, slice_index, slice_index_or, count_by, All}
+use Rattle.rh_layout.specs.Key.{IsKey}
+use Rattle.rh_layout.specs.Layout.{IsLayout, keys_of}
+use Rattle.rh_ledger.specs.declared.tally.Kind.{Kind}
+use Rattle.rh_ledger.specs.declared.tally.Kind.TheVariants.{Ask}
+use Rattle.rh_descriptor.specs.declared.shape.Shape.{Shape}
+use Rattle.rh_descriptor.specs.Places.{IsShape}
+use Rattle.rh_descriptor.specs.View.{View, new_view}
+use Rattle.rh_acts.specs.Workers.{LeavesRoom}
+use Rattle.rh_run.specs.Run.{Running}
+use Rattle.rh_turns.specs.declared.hand.Hand.{Hand}
+use Rattle.rh_turns.specs.declared.hand.Share.TheVariants.{Piece}
+use Rattle.rh_turns.specs.Hands.{IsClaiming, IsFinished, IsHand, IsSpent, done_keys, keys_for, places, view_of}
+
+pub record Game : Type 0 where
+  pub kind : Kind
+  pub shape : Shape
+  -- what the cells held when the player was made, and the words of the table now
+  pub opening : List ℕ
+  pub words : List ℕ
+  -- the keys of all workers, in one list, and the answer to each that was asked for
+  pub keys : List ℕ
+  pub answers : List (Option Bool)
+  pub hands : List Hand
+
+-- of the worker of this number
+abbrev pub at_hand : {A : Type 0} → (Hand → A) → (default : A) → List Hand → (v : ℕ) → A
+at_hand f default [] v = default
+at_hand f default (h ∷ hs) zero = f h
+at_hand f default (h ∷ hs) (suc v) = at_hand f default hs v
+
+abbrev pub keep : Game → (v : ℕ) → View
+keep g = at_hand view_of (new_view [] 0) g.hands
+
+abbrev pub keys_at : Game → (v : ℕ) → List ℕ
+keys_at g = at_hand (keys_for g.keys) [] g.hands
+
+abbrev pub done_at : Game → (v : ℕ) → List ℕ
+done_at g = at_hand (done_keys g.shape g.keys) [] g.hands
+
+abbrev pub places_at : Game → (v : ℕ) → List ℕ
+places_at g = at_hand (places g.shape) [] g.hands
+
+abbrev pub changed_at : Game → (v : ℕ) → ℕ
+changed_at g = at_hand (λ h. h.changed) 0 g.hands
+
+-- ---- how the keys are dealt
+
+-- the pieces follow one another in the list of all keys, from this place to its end
+abbrev pub ArePieces : (from : ℕ) → List Hand → (count : ℕ) → Type 0
+ArePieces from [] count = from ≡ count
+ArePieces from (h ∷ hs) count = (end : ℕ) × (h.share ≡ Piece from end) × (from ≤ end) × ArePieces end hs count
+
+-- each worker has a piece, or all share the list
+abbrev pub IsDealt : Game → Type 0
+IsDealt g = ArePieces 0 g.hands (length g.keys) ⊎ All IsClaiming g.hands
+
+-- ---- what is so of it between two calls
+
+pub record Plays (g : Game) : Type 0 where
+  pub shape : IsShape g.shape
+  pub some : 0 < g.shape.workers
+  pub workers : length g.hands ≡ g.shape.workers
+  pub opening : IsLayout g.shape.bits g.opening
+  pub room : LeavesRoom g.kind g.shape.bits (keys_of g.opening) g.keys
+  pub keys : All IsKey g.keys
+  pub answers : length g.answers ≡ length g.keys
+  pub hands : All (IsHand g.shape g.kind g.keys) g.hands
+  pub dealt : IsDealt g
+  -- what the workers were told of the keys that they have done
+  pub told : ℕ → List Bool
+  pub running : Running g.kind g.shape g.opening g.words (keep g) (keys_at g) (done_at g) told
+  pub changed : (v : ℕ) → v < g.shape.workers → changed_at g v ≡ count_by (λ so. so) (told v)
+  pub answered : g.kind ≡ Ask → (v j : ℕ) → v < g.shape.workers → j < length (told v)
+      → slice_index_or g.answers (slice_index (places_at g v) j) None ≡ Some (slice_index_or (told v) j false)
+
+-- all keys of all workers are done
+abbrev pub AllFinished : Game → Type 0
+AllFinished g = All IsFinished g.hands
+
+-- no worker has a step left in this round
+abbrev pub AllStopped : Game → Type 0
+AllStopped g = All (λ h. IsFinished h ⊎ IsSpent h) g.hands

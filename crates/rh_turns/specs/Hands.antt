@@ -1,0 +1,144 @@
+-- A worker of a player, and how far it has come with its keys. (own)
+use Rattle.std.specs.Prelude.{◌≡◌, ℕ, ◌+◌, ◌-◌, ◌<◌, ◌≤◌, ◌⊎◌, Option, Some, None, Bool, true, false, cond, List, [], ◌∷◌, ◌++◌, length, map, take, set, slice_index}
+use Rattle.std.specs.List.{range_with_len}
+use Rattle.rh_ledger.specs.declared.tally.Kind.{Kind}
+use Rattle.rh_world.specs.World.{In}
+use Rattle.rh_descriptor.specs.declared.shape.Shape.{Shape}
+use Rattle.rh_descriptor.specs.declared.steps.StepKind.{StepKind}
+use Rattle.rh_descriptor.specs.declared.steps.StepKind.TheVariants as kind
+use Rattle.rh_descriptor.specs.View.{View}
+use Rattle.rh_descriptor.specs.Steps.{Allowed, Step, StepsTo}
+use Rattle.rh_worker.specs.Makes.{Makes}
+use Rattle.rh_run.specs.Advance.{Advances}
+use Rattle.rh_worker.specs.Worker.{HasNoRoom, IsWorker}
+use Rattle.rh_worker.specs.declared.place.Place.TheVariants as place
+use Rattle.rh_run.specs.Claimed.{claimed, FoundEnd}
+use Rattle.rh_turns.specs.declared.hand.Hand.{Hand}
+use Rattle.rh_turns.specs.declared.hand.Share.{Share}
+use Rattle.rh_turns.specs.declared.hand.Share.TheVariants.{Piece, Claims}
+use Rattle.rh_turns.specs.declared.turning.Turn.{Turn}
+use Rattle.rh_turns.specs.declared.turning.Turn.TheVariants.{Did, Finished, Spent, NoSuchWorker}
+
+-- what is kept of the worker
+abbrev pub view_of : Hand → View
+view_of h = h.worker.side.known.view
+
+abbrev pub IsIdle : Hand → Type 0
+IsIdle h = h.worker.place ≡ place.Idle
+
+abbrev pub IsSpent : Hand → Type 0
+IsSpent h = h.worker.place ≡ place.Spent
+
+-- ---- its keys, by their places in the list of all keys
+
+-- those that are done, in the order in which they were
+abbrev pub places_of : Shape → Share → View → (done : ℕ) → List ℕ
+places_of z (Piece first end) v done = range_with_len first done
+places_of z (Claims last ended) v done = take done (claimed z v)
+
+abbrev pub places : Shape → Hand → List ℕ
+places z h = places_of z h.share (view_of h) h.done
+
+-- that of the key that it is at, or of the next one of its piece
+abbrev pub place_of : Share → (done : ℕ) → ℕ
+place_of (Piece first end) done = first + done
+place_of (Claims last ended) done = last
+
+abbrev pub place_now : Hand → ℕ
+place_now h = place_of h.share h.done
+
+-- it claims its keys
+abbrev pub IsClaiming : Hand → Type 0
+IsClaiming h = (last : ℕ) × (ended : Bool) × (h.share ≡ Claims last ended)
+
+-- all keys that it may come to do: its piece, or the list that is shared
+abbrev pub keys_in : (keys : List ℕ) → Share → List ℕ
+keys_in keys (Piece first end) = map (slice_index keys) (range_with_len first (end - first))
+keys_in keys (Claims last ended) = keys
+
+abbrev pub keys_for : (keys : List ℕ) → Hand → List ℕ
+keys_for keys h = keys_in keys h.share
+
+abbrev pub done_keys : Shape → (keys : List ℕ) → Hand → List ℕ
+done_keys z keys h = map (slice_index keys) (places z h)
+
+-- ---- what is so of it
+
+abbrev pub IsAtEnd : Share → (done : ℕ) → Type 0
+IsAtEnd (Piece first end) done = first + done ≡ end
+IsAtEnd (Claims last ended) done = ended ≡ true
+
+-- its done keys lie within its piece
+abbrev pub IsWithin : Share → (done : ℕ) → Type 0
+IsWithin (Piece first end) done = first + done ≤ end
+IsWithin (Claims last ended) done = Unit {0}
+
+-- a key comes after those that are done
+abbrev pub HasNext : Share → (done : ℕ) → Type 0
+HasNext (Piece first end) done = first + done < end
+HasNext (Claims last ended) done = ended ≡ false
+
+-- all its keys are done
+abbrev pub IsFinished : Hand → Type 0
+IsFinished h = IsIdle h × IsAtEnd h.share h.done
+
+-- it is at a key, which stands at this place of the list
+pub record IsAtKey (keys : List ℕ) (h : Hand) : Type 0 where
+  pub within : place_now h < length keys
+  pub key : slice_index keys (place_now h) ≡ h.worker.key
+
+-- the places that it claimed are done, but for the last one while it is at that key
+pub record HasClaimed (z : Shape) (h : Hand) (last : ℕ) (ended : Bool) : Type 0 where
+  pub idle : IsIdle h → length (claimed z (view_of h)) ≡ h.done
+  pub busy : IsIdle h ⊎ ((claimed z (view_of h) ≡ places z h ++ last ∷ []) × (length (places z h) ≡ h.done) × (ended ≡ false))
+  pub within : ended ≡ false → (n : ℕ) → In n (view_of h).side.claims → n < z.keys
+  pub end : ended ≡ true → FoundEnd z (view_of h)
+
+abbrev pub IsShare : Shape → (keys : List ℕ) → Hand → Share → Type 0
+IsShare z keys h (Piece first end) = (first + h.done ≤ end) × (end ≤ length keys) × (IsIdle h ⊎ (first + h.done < end))
+IsShare z keys h (Claims last ended) = (z.keys ≡ length keys) × HasClaimed z h last ended
+
+pub record IsHand (z : Shape) (kind : Kind) (keys : List ℕ) (h : Hand) : Type 0 where
+  pub worker : IsWorker z h.worker
+  pub kind_is : h.worker.kind ≡ kind
+  pub share : IsShare z keys h h.share
+  pub key : IsIdle h ⊎ IsAtKey keys h
+  pub some : h.changed ≤ h.done
+
+-- ---- a turn of it
+
+-- what it has counted once it is told of a key
+abbrev pub counted : Hand → Option Bool → Hand → Type 0
+counted h None next = (next.done ≡ h.done) × (next.changed ≡ h.changed)
+counted h (Some told) next = (next.done ≡ h.done + 1) × (next.changed ≡ h.changed + cond told 1 0)
+
+abbrev pub answered : (answers : List (Option Bool)) → (place : ℕ) → Option Bool → List (Option Bool)
+answered answers place None = answers
+answered answers place (Some told) = set answers place (Some told)
+
+-- One step of this kind on the key at this place, which is done by it or is not.
+pub record StepsOn (z : Shape) (keys : List ℕ) (k : StepKind) (words : List ℕ) (answers : List (Option Bool)) (h : Hand) (then : List ℕ) (told : List (Option Bool)) (next : Hand) : Type 0 where
+  pub next_key : HasNext h.share h.done
+  pub within : place_now h < length keys
+  pub makes : Makes z k words (view_of h) then (view_of next)
+  pub done : Option Bool
+  pub advances : Advances z h.worker.kind (slice_index keys (place_now h)) (view_of h) (view_of next) done
+  pub share : next.share ≡ h.share
+  pub counts : counted h done next
+  pub told_is : told ≡ answered answers (place_now h) done
+
+-- One Claim.
+pub record ClaimsOn (z : Shape) (words : List ℕ) (answers : List (Option Bool)) (h : Hand) (then : List ℕ) (told : List (Option Bool)) (next : Hand) : Type 0 where
+  pub word : ℕ
+  pub allowed : Allowed z (view_of h) Step.claims
+  pub steps : StepsTo z Step.claims words (view_of h) word then (view_of next)
+  pub claiming : IsClaiming h × IsClaiming next
+  pub counts : (next.done ≡ h.done) × (next.changed ≡ h.changed)
+  pub told_is : told ≡ answers
+
+abbrev pub TurnsOn : Shape → (keys words : List ℕ) (answers : List (Option Bool)) (h : Hand) → Turn → (then : List ℕ) (told : List (Option Bool)) (next : Hand) → Type 0
+TurnsOn z keys words answers h (Did k) then told next =
+    StepsOn z keys k words answers h then told next ⊎ ((k ≡ kind.Claim) × ClaimsOn z words answers h then told next)
+TurnsOn z keys words answers h Finished then told next = (then ≡ words) × (told ≡ answers) × (next ≡ h) × IsFinished h
+TurnsOn z keys words answers h Spent then told next = (then ≡ words) × (told ≡ answers) × (next ≡ h) × IsSpent h × HasNoRoom z (view_of h)
+TurnsOn z keys words answers h NoSuchWorker then told next = ⊥

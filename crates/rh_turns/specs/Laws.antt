@@ -1,0 +1,124 @@
+-- What the laws of this crate say: what is so of a game, and that each call of a player keeps it. A worker is named by its
+-- number; beyond the last one there is any other.
+use Rattle.std.specs.Prelude.{◌≡◌, ℕ, ◌+◌, ◌<◌, ◌≤◌, ◌⊎◌, Option, Some, None, Bool, false, List, ◌++◌, length, map, replicate, set, count_by, slice_index, slice_index_or, All}
+use Rattle.rh_layout.specs.Key.{IsKey}
+use Rattle.rh_layout.specs.Layout.{IsLayout, Layout, keys_of}
+use Rattle.rh_ledger.specs.declared.tally.Kind.TheVariants.{Ask}
+use Rattle.rh_ledger.specs.Phase.{looked_up, set_after, tally_of}
+use Rattle.rh_tagword.specs.Word.{plain_number}
+use Rattle.rh_descriptor.specs.declared.shape.Shape.{Shape}
+use Rattle.rh_descriptor.specs.Places.{IsShape, cell_count}
+use Rattle.rh_descriptor.specs.View.{new_view, round_view}
+use Rattle.rh_rule.specs.Rest.{AllRest}
+use Rattle.rh_rule.specs.Wipes.{row_total}
+use Rattle.rh_acts.specs.Workers.{LeavesRoom, acts_of, sum_of_all}
+use Rattle.rh_helping.specs.Relies.{Relies}
+use Rattle.rh_worker.specs.Worker.{IsBusy, IsWorker}
+use Rattle.rh_history.specs.History.{history}
+use Rattle.rh_run.specs.Laws.{StandsSo}
+use Rattle.rh_run.specs.Run.{tally_told}
+use Rattle.rh_run.specs.Words.{IsWiped, cells_held, cells_now}
+use Rattle.rh_turns.specs.declared.hand.Hand.{Hand}
+use Rattle.rh_turns.specs.declared.hand.Share.TheVariants.{Claims}
+use Rattle.rh_turns.specs.declared.turning.Turn.{Turn}
+use Rattle.rh_turns.specs.Hands.{IsHand, IsIdle, IsSpent, TurnsOn, view_of}
+use Rattle.rh_turns.specs.Readable.{IsReadable}
+use Rattle.rh_turns.specs.Game.{AllFinished, AllStopped, ArePieces, Game, Plays, done_at, keep, keys_at}
+
+abbrev pub hand : Game → (v : ℕ) (other : Hand) → Hand
+hand g v other = slice_index_or g.hands v other
+
+-- ---- a start
+
+-- a worker that has no key done, nor claimed
+pub record IsNew (g : Game) (v : ℕ) (h : Hand) : Type 0 where
+  pub worker : IsWorker g.shape h.worker
+  pub kind_is : h.worker.kind ≡ g.kind
+  pub idle : IsIdle h
+  pub view : view_of h ≡ new_view (map plain_number g.opening) v
+  pub done : h.done ≡ 0
+  pub changed : h.changed ≡ 0
+
+-- it has found no end of the list
+abbrev pub WillClaim : Hand → Type 0
+WillClaim h = (last : ℕ) × (h.share ≡ Claims last false)
+
+-- the pieces follow one another, or all will claim their keys
+abbrev pub IsNewlyDealt : Game → Type 0
+IsNewlyDealt g = ArePieces 0 g.hands (length g.keys) ⊎ ((g.shape.keys ≡ length g.keys) × All WillClaim g.hands)
+
+pub record Starts (g : Game) : Type 0 where
+  pub shape : IsShape g.shape
+  pub some : 0 < g.shape.workers
+  pub workers : length g.hands ≡ g.shape.workers
+  pub opening : IsLayout g.shape.bits g.opening
+  pub room : LeavesRoom g.kind g.shape.bits (keys_of g.opening) g.keys
+  pub keys : All IsKey g.keys
+  pub words : g.words ≡ map plain_number g.opening ++ replicate (row_total g.shape + 1) 0
+  pub answers : length g.answers ≡ length g.keys
+  pub hands : (v : ℕ) (d : Hand) → v < g.shape.workers → IsNew g v (hand g v d)
+  pub dealt : IsNewlyDealt g
+
+abbrev pub StartsPlay : Type 0
+StartsPlay = (g : Game) → Starts g → Plays g
+
+-- ---- a turn
+
+-- Each worker may take its turn.
+abbrev pub MayTurn : Type 0
+MayTurn = (g : Game) → Plays g → (v : ℕ) (other : Hand) → v < g.shape.workers
+    → Relies g.shape g.words (view_of (hand g v other)) × IsHand g.shape g.kind g.keys (hand g v other) × ((hand g v other).done ≤ length g.keys)
+
+-- the game after a turn
+abbrev pub turned : Game → (who : ℕ) → (then : List ℕ) (told : List (Option Bool)) (next : Hand) → Game
+turned g who then told next = record g { words = then; answers = told; hands = set g.hands who next }
+
+abbrev pub TurnsKeep : Type 0
+TurnsKeep = (g : Game) → Plays g → (who : ℕ) → who < g.shape.workers → (other : Hand) (turn : Turn) (then : List ℕ) (told : List (Option Bool)) (next : Hand)
+    → TurnsOn g.shape g.keys g.words g.answers (hand g who other) turn then told next → IsHand g.shape g.kind g.keys next → Plays (turned g who then told next)
+
+-- ---- a round
+
+-- It begins a round with these cells, which are given as words. One that was spent begins its key again.
+pub record Begins (z : Shape) (cells : List ℕ) (h next : Hand) : Type 0 where
+  pub worker : IsWorker z next.worker
+  pub kind_same : next.worker.kind ≡ h.worker.kind
+  pub key_same : next.worker.key ≡ h.worker.key
+  pub idle : IsIdle h → IsIdle next
+  pub again : IsSpent h → IsBusy next.worker.place
+  pub view : view_of next ≡ round_view cells (view_of h)
+  pub share : next.share ≡ h.share
+  pub done : next.done ≡ h.done
+  pub changed : next.changed ≡ h.changed
+
+-- the game in the next round
+abbrev pub begun : Game → (then : List ℕ) → List Hand → Game
+begun g then hands = record g { words = then; hands = hands }
+
+-- It is begun where no worker has a step left: then all are at rest.
+abbrev pub RoundsKeep : Type 0
+RoundsKeep = (g : Game) → Plays g → AllStopped g → AllRest g.shape (keep g)
+    × ((then cells : List ℕ) → IsWiped g.shape g.words then → ((c : ℕ) → c < cell_count g.shape → slice_index g.words c ≡ slice_index cells c)
+    → (hands : List Hand) → length hands ≡ length g.hands → ((v : ℕ) (other : Hand) → v < length g.hands → Begins g.shape cells (hand g v other) (slice_index_or hands v other))
+    → Plays (begun g then hands))
+
+-- ---- what was made
+
+-- At each moment the words tell what the cells stand for: the layout of the set after the keys of the acts so far, in their
+-- order, and each key that is done shows in it.
+abbrev pub MadeSoFar : Type 0
+MadeSoFar = (g : Game) → (plays : Plays g) → ((c : ℕ) → c < cell_count g.shape → IsReadable g.shape g.words c)
+    × StandsSo g.kind g.shape g.opening g.words (keys_at g) (done_at g) (keys_of g.opening)
+    (acts_of (plays.running.before ++ history plays.running.world))
+
+-- Where all keys are done, the cells, the tally and the answers are those of one worker that does the whole list.
+pub record EndsWith (g : Game) (told : ℕ → List Bool) : Type 0 where
+  pub now : cells_now g.shape g.words ≡ cells_held g.shape g.words
+  pub layout : Layout (cells_held g.shape g.words) g.shape.bits (set_after g.kind (keys_of g.opening) g.keys)
+  pub tally : sum_of_all (λ v. tally_told g.kind (told v)) g.shape.workers ≡ tally_of g.kind (keys_of g.opening) g.keys
+  pub done : (v : ℕ) (d : Hand) → v < g.shape.workers → length (told v) ≡ (hand g v d).done
+  pub changed : (v : ℕ) (d : Hand) → v < g.shape.workers → count_by (λ so. so) (told v) ≡ (hand g v d).changed
+  pub answers : g.kind ≡ Ask → (p : ℕ) → p < length g.keys → slice_index_or g.answers p None ≡ Some (slice_index_or (looked_up (keys_of g.opening) g.keys) p false)
+
+abbrev pub MadeAtTheEnd : Type 0
+MadeAtTheEnd = (g : Game) → (plays : Plays g) → AllFinished g → EndsWith g plays.told

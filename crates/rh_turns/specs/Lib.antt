@@ -1,0 +1,4 @@
+pub mod Readable
+pub mod Hands
+pub mod Game
+pub mod Laws

@@ -1,0 +1,64 @@
+//! A worker, and the keys that it does.
+
+use rh_worker::Worker;
+
+/// Which keys of the list a worker does, by their places.
+#[derive(Clone, Copy, Debug, PartialEq, Eq)]
+pub enum Share {
+    /// Those from the first place up to the end.
+    Piece { first: usize, end: usize },
+    /// Those that it claims: the place that it claimed last, and whether a Claim found the end of the
+    /// list.
+    Claims { last: usize, ended: bool },
+}
+
+/// A worker with its share of the keys.
+#[derive(Drop)]
+pub struct Hand {
+    pub worker: Worker,
+    pub share: Share,
+    /// How many of its keys are done.
+    pub done: usize,
+    /// Of how many of these it was told that they were added, removed or found.
+    pub changed: usize,
+}
+
+impl Share {
+    ghost use Rattle.std.specs.Prelude.{◌≡◌, ◌↔◌, IsTrue};
+    ghost use Rattle.rh_turns.specs.Hands.{IsAtEnd, IsWithin, place_of};
+
+    /// The place of the key that comes after those that are done.
+    pub(crate) fn place(self, done: usize) -> usize
+        requires { IsWithin self done }
+        ensures { result ≡ place_of self done }
+    {
+        match self {
+            Share::Piece { first, .. } => first + done,
+            Share::Claims { last, .. } => last,
+        }
+    }
+
+    /// Whether no key comes after those that are done.
+    pub(crate) fn is_at_end(self, done: usize) -> bool
+        requires { IsWithin self done }
+        ensures { IsTrue result ↔ IsAtEnd self done }
+    {
+        match self {
+            Share::Piece { first, end } => first + done == end,
+            Share::Claims { ended, .. } => ended,
+        }
+    }
+}
+
+impl Hand {
+    ghost use Rattle.std.specs.Prelude.{◌↔◌, IsTrue};
+    ghost use Rattle.rh_turns.specs.Hands.{IsFinished, IsWithin};
+
+    /// Whether all its keys are done.
+    pub fn is_finished(&self) -> bool
+        requires { IsWithin self.now.share self.now.done }
+        ensures { IsTrue result ↔ IsFinished self.now }
+    {
+        self.worker.is_idle() && self.share.is_at_end(self.done)
+    }
+}
