@@ -57,7 +57,7 @@ pub enum Work {
 pub enum Outcome {
     /// The next step.
     On(Work),
-    /// Nothing is left to do: no own descriptor is open, and what was met is released.
+    /// Nothing is left to do: no own descriptor is open, and nothing is owed.
     Over,
     /// The own descriptor that was open is decided so, and released.
     Closed(Control),
