@@ -1,0 +1,30 @@
+use Rattle.std.proofs.Common.{◌≡◌, ◌∙◌, ◌^◌, ◌<◌, List, length, map, take, ap, subst, arith}
+use Rattle.std.proofs.lemmas.List.{take_all}
+use Rattle.rh_turns.specs.declared.hand.Hand.{Hand}
+use Rattle.rh_turns.specs.Game.{Game, Plays}
+use Rattle.rh_turns.proofs.Playing.{some_hand}
+use Rattle.rh_player.specs.Made.{counted, tally_by, total}
+use Rattle.rh_player.proofs.Totals.{counted_next, tally_ends}
+use Rattle.rh_player.proofs.player.Player.tally.Goals as goal
+
+pub loop-hand-preserved : goal.loop-hand-preserved
+loop-hand-preserved c =
+    let hs = c.deref-hand-items.result.now in
+    let inside : c.loop-hand.hand-index < length hs = c.loop-hand-test.true in
+    record {
+      done = c.saturating_add-done.ensures ∙ counted_next (λ h. h.done) hs c.loop-hand.hand-index c.hand-item.result inside c.hand-item.is c.loop-hand.done c.loop-hand.invariant.done;
+      changed = c.saturating_add-changed.ensures ∙ counted_next (λ h. h.changed) hs c.loop-hand.hand-index c.hand-item.result inside c.hand-item.is c.loop-hand.changed c.loop-hand.invariant.changed;
+    }
+
+pub returns-clause-finished : goal.returns-clause-finished
+returns-clause-finished c =
+    let g = c.args.self.now in
+    let plays : Plays g = subst Plays c.self.view_is c.self.invariant in
+    let size = ap (λ (g : Game). length g.keys) c.self.view_is in
+    let small : length g.keys < 2 ^ 63 = omega (arith, size, c.self.inside.keys.ok, c.self.inside.keys.small) in
+    let hands_are : take c.loop-hand.hand-index c.deref-hand-items.result.now ≡ g.hands =
+    take_all c.loop-hand.hand-index c.deref-hand-items.result.now c.loop-hand-test.false ∙ c.deref-hand-items.ensures.value ∙ ap (λ (g : Game). g.hands) c.self.view_is in
+    let kind_is = ap (λ (g : Game). g.kind) c.self.view_is in
+    let done_is = c.loop-hand.invariant.done ∙ ap (λ (hs : List Hand). counted (total (map (λ h. h.done) hs))) hands_are in
+    let changed_is = c.loop-hand.invariant.changed ∙ ap (λ (hs : List Hand). counted (total (map (λ h. h.changed) hs))) hands_are in
+    λ finished. c.tally_by.ensures ∙ (λ i. tally_by (kind_is i) (done_is i) (changed_is i)) ∙ tally_ends g plays finished (some_hand g plays) small

@@ -1,0 +1,4 @@
+pub mod Made
+pub mod SetUp
+pub mod Start
+pub mod Turned

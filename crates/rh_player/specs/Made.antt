@@ -1,0 +1,76 @@
+-- What a player shows of what its workers have made. (own)
+use Rattle.std.specs.Prelude.{◌≡◌, ℕ, ◌+◌, ◌-◌, ◌^◌, ◌<◌, Option, Some, None, Bool, true, false, if◌then◌else◌, List, [], ◌∷◌, length, map, min, ltb, slice_index_or}
+use Rattle.rh_layout.specs.Layout.{Keys, keys_of}
+use Rattle.rh_ledger.specs.declared.tally.Kind.{Kind}
+use Rattle.rh_ledger.specs.declared.tally.Kind.TheVariants.{Insert, Remove, Ask}
+use Rattle.rh_ledger.specs.declared.tally.Tally.{Tally}
+use Rattle.rh_ledger.specs.Phase.{looked_up}
+use Rattle.rh_ledger.specs.Tally.{added_of, none_yet, removed_of}
+use Rattle.rh_acts.specs.Act.{Act}
+use Rattle.rh_run.specs.Laws.{StandsSo}
+use Rattle.rh_run.specs.Words.{cells_now}
+use Rattle.rh_turns.specs.declared.hand.Share.{Share}
+use Rattle.rh_turns.specs.declared.hand.Share.TheVariants.{Piece, Claims}
+use Rattle.rh_turns.specs.Game.{AllFinished, Game, at_hand, done_at, keys_at}
+
+-- the set that the cells held when the player was made
+abbrev pub held_first : Game → Keys
+held_first g = keys_of g.opening
+
+-- At each moment: the cells stand for the layout of the first set changed by the acts so far, and each key that is done shows.
+abbrev pub MadeSoFar : Game → (cells : List ℕ) → Type 0
+MadeSoFar g cells = (cells ≡ cells_now g.shape g.words)
+    × ((acts : List Act) × StandsSo g.kind g.shape g.opening g.words (keys_at g) (done_at g) (held_first g) acts)
+
+-- ---- the tally
+
+abbrev pub total : List ℕ → ℕ
+total [] = 0
+total (n ∷ ns) = n + total ns
+
+-- how many keys are done, by all workers, and of how many of them it was told that they were added, removed or found
+abbrev pub done_count : Game → ℕ
+done_count g = total (map (λ h. h.done) g.hands)
+
+abbrev pub changed_count : Game → ℕ
+changed_count g = total (map (λ h. h.changed) g.hands)
+
+abbrev pub tally_by : Kind → (read changed : ℕ) → Tally
+tally_by Insert read changed = added_of read changed
+tally_by Remove read changed = removed_of read changed
+tally_by Ask read changed = record none_yet { read = read; found = changed }
+
+-- a count that ends at the greatest number of its type
+abbrev pub counted : ℕ → ℕ
+counted n = min n (2 ^ 64 - 1)
+
+-- ---- the answers
+
+abbrev pub is_asked : Kind → Bool
+is_asked Insert = false
+is_asked Remove = false
+is_asked Ask = true
+
+-- of the key at this place of the list of all keys
+abbrev pub told_at : Game → (place : ℕ) → Option Bool
+told_at g place = if is_asked g.kind then slice_index_or g.answers place None else None
+
+-- of the key at this place of a worker's own keys
+abbrev pub told_in : Game → Share → (place : ℕ) → Option Bool
+told_in g (Piece first end) place = if ltb (first + place) end then told_at g (first + place) else None
+told_in g (Claims last ended) place = None
+
+abbrev pub told_of : Game → (worker place : ℕ) → Option Bool
+told_of g worker place = at_hand (λ h. told_in g h.share place) None g.hands worker
+
+abbrev pub is_claimed : Share → Bool
+is_claimed (Piece first end) = false
+is_claimed (Claims last ended) = true
+
+-- whether all workers share one list
+abbrev pub is_shared : Game → Bool
+is_shared g = at_hand (λ h. is_claimed h.share) false g.hands 0
+
+-- that of one worker which does the whole list
+abbrev pub AnswersAll : Game → (keys : List ℕ) → (place : ℕ) → Option Bool → Type 0
+AnswersAll g keys place told = AllFinished g → g.kind ≡ Ask → place < length keys → told ≡ Some (slice_index_or (looked_up (held_first g) keys) place false)

@@ -1,0 +1,130 @@
+//! What the workers have made.
+
+ghost use Rattle.std.specs.Prelude.{◌≡◌, ◌<◌, None, Some, false, length, slice_index, true};
+ghost use Rattle.rh_layout.specs.Layout.{Layout};
+ghost use Rattle.rh_ledger.specs.Phase.{set_after, tally_of as tally_after};
+ghost use Rattle.rh_descriptor.specs.Places.{cell_count};
+ghost use Rattle.rh_tagword.specs.Word.{word_in};
+ghost use Rattle.rh_turns.specs.Game.{AllFinished, keys_at};
+ghost use Rattle.rh_player.specs.Made.{AnswersAll, MadeSoFar, changed_count, counted, done_count};
+ghost use Rattle.rh_player.specs.Made.{held_first, is_shared, tally_by, told_at, told_of};
+
+use crate::player::Player;
+use rh_ledger::{Kind, Tally};
+use rh_tagword::{Word, unpack};
+use rh_turns::{Share, logical_value};
+
+impl Player {
+    /// The size of the table, as a power of 2.
+    pub fn bits(&self) -> u32
+        ensures { result ≡ self.now.shape.bits }
+    {
+        self.shape.bits
+    }
+
+    /// Writes what the cells stand for.
+    pub fn logical(&self, cells: &mut [u64])
+        requires { length cells.old ≡ cell_count self.now.shape }
+        ensures so_far { MadeSoFar self.now cells.new }
+        ensures finished { AllFinished self.now →
+            Layout cells.new self.now.shape.bits (set_after self.now.kind (held_first self.now) self.now.keys) }
+    {
+        for cell in 0..cells.len() {
+            cells[cell] = logical_value(&self.shape, &self.words, cell);
+        }
+    }
+
+    /// The word of a cell, as it stands.
+    pub fn raw(&self, cell: usize) -> Word
+        requires { cell < cell_count self.now.shape }
+        ensures { word_in (slice_index self.now.words cell) ≡ Some result }
+    {
+        match unpack(self.words[cell]) {
+            Some(word) => word,
+            None => Word::Empty,
+        }
+    }
+
+    /// What is counted of the keys that are done. A count past the greatest number stays there.
+    pub fn tally(&self) -> Tally
+        ensures counts { result ≡ tally_by self.now.kind (counted (done_count self.now))
+            (counted (changed_count self.now)) }
+        ensures finished { AllFinished self.now →
+            result ≡ tally_after self.now.kind (held_first self.now) self.now.keys }
+    {
+        let mut done = 0u64;
+        let mut changed = 0u64;
+        for hand in &self.hands {
+            done = done.saturating_add(hand.done as u64);
+            changed = changed.saturating_add(hand.changed as u64);
+        }
+        tally_by(self.kind, done, changed)
+    }
+
+    /// Where keys are asked for: what was told of the key at this place of a worker's piece, if it was.
+    pub fn answer(&self, worker: usize, place: usize) -> Option<bool>
+        ensures told { result ≡ told_of self.now worker place }
+        ensures finished { is_shared self.now ≡ false → worker < length self.now.hands →
+            AnswersAll self.now (keys_at self.now worker) place result }
+    {
+        if worker >= self.hands.len() {
+            return None;
+        }
+        match self.hands[worker].share {
+            Share::Piece { first, end } => {
+                if place >= end - first {
+                    return None;
+                }
+                self.told(first + place)
+            }
+            Share::Claims { .. } => None,
+        }
+    }
+
+    /// Where the keys of a shared list are asked for: what was told of the key at this place of the
+    /// list, if it was.
+    pub fn answer_at(&self, place: usize) -> Option<bool>
+        ensures told { is_shared self.now ≡ true → result ≡ told_at self.now place }
+        ensures none { is_shared self.now ≡ false → result ≡ None }
+        ensures finished { is_shared self.now ≡ true → AnswersAll self.now self.now.keys place result }
+    {
+        match self.hands[0].share {
+            Share::Claims { .. } => self.told(place),
+            Share::Piece { .. } => None,
+        }
+    }
+
+    fn told(&self, place: usize) -> Option<bool>
+        ensures told { result ≡ told_at self.now place }
+    {
+        if self.kind == Kind::Ask && place < self.answers.len() {
+            return self.answers[place];
+        }
+        None
+    }
+}
+
+fn tally_by(kind: Kind, read: u64, changed: u64) -> Tally
+    ensures { result ≡ tally_by kind read changed }
+{
+    let counted = Tally {
+        read,
+        added: 0,
+        removed: 0,
+        found: 0,
+    };
+    match kind {
+        Kind::Insert => Tally {
+            added: changed,
+            ..counted
+        },
+        Kind::Remove => Tally {
+            removed: changed,
+            ..counted
+        },
+        Kind::Ask => Tally {
+            found: changed,
+            ..counted
+        },
+    }
+}
