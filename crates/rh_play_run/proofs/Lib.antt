@@ -1,0 +1,6 @@
+mod Begun
+mod Following
+mod Keeping
+mod Played
+mod Read
+mod Written

@@ -1,0 +1,121 @@
+-- What a play that was run has printed.
+use Rattle.std.proofs.Common.{◌≡◌, ℕ, Bool, true, false, ◌↔◌, IsTrue, List, [], ◌++◌, Option, Ok, Err, refl, sym, ap, ◌∙◌, subst}
+use Rattle.rh_layout.specs.Layout.{IsLayout, Keys, Layout, keys_of}
+use Rattle.rh_layout.proofs.LayoutLemmas.{layout_keys, layout_own}
+use Rattle.rh_ledger.specs.declared.tally.Kind.{Kind}
+use Rattle.rh_ledger.specs.Phase.{set_after, tally_of}
+use Rattle.rh_descriptor.specs.declared.shape.Shape.{Shape}
+use Rattle.rh_turns.specs.Game.{AllFinished, Game}
+use Rattle.rh_player.specs.Made.{MadeSoFar, held_first}
+use Rattle.std.specs.Io.KnownBytes.{Appends}
+use Rattle.rh_ledger.specs.declared.tally.Tally.{Tally}
+use Rattle.rh_files.specs.Counting.{AppendsFront}
+use Rattle.rh_play_report.specs.Lines.{end_line, tally_line}
+use Rattle.rh_files.specs.Dump.{dump_text}
+use Rattle.rh_play.specs.declared.play.Play.{Play}
+use Rattle.rh_play_run.specs.Beginning.{Begins, bits_of, held_of, keys_in}
+use Rattle.rh_play_run.specs.declared.fault.PlayRunFault.{PlayRunFault}
+use Rattle.rh_play_run.specs.declared.fault.PlayRunFault.TheVariants.{Read, Text, Start, Memory, Write}
+use Rattle.rh_play_run.specs.Run.{ClosesWith, IsAllFinished, tally_so_far, IsPlayRead, IsPlayed, IsUnplayed, Runs, closing}
+use Rattle.rh_play_run.specs.Schedule.{Follows}
+use Rattle.rh_play_run.proofs.Begun.{matches}
+use Rattle.rh_play_run.proofs.Keeping.{schedule_keeps}
+
+-- what the game at the end has of its play
+pub record IsLast (play : Play) (g : Game) : Type 0 where
+  pub kind : g.kind ≡ play.kind
+  pub bits : g.shape.bits ≡ bits_of play
+  pub held : held_first g ≡ held_of play
+  pub keys : g.keys ≡ keys_in play.work
+
+pub last_game : (play : Play) (first last : Game) (text : List ℕ) → Begins play first → Follows play.schedule.items first text last → IsLast play last
+last_game play first last text begins follows =
+    let kept = schedule_keeps play.schedule.items first text last follows in
+    let start = matches play play.work begins.cells first begins.starts in
+    record {
+      kind = kept.kind ∙ start.kind;
+      bits = ap (λ (z : Shape). z.bits) kept.shape ∙ start.bits;
+      held = ap keys_of (kept.opening ∙ start.opening) ∙ sym (layout_keys begins.cells (bits_of play) (held_of play) begins.layout);
+      keys = kept.keys ∙ start.keys;
+    }
+
+pub is_layout : (play : Play) (g : Game) (cells : List ℕ) → IsLast play g → MadeSoFar g cells → IsLayout (bits_of play) cells
+is_layout play g cells last made =
+    subst (λ (b : ℕ). IsLayout b cells) last.bits (subst (λ (l : List ℕ). IsLayout g.shape.bits l) (sym made.0) (layout_own _ _ _ made.1.1.layout))
+
+same_layout : (cells : List ℕ) (b c : ℕ) (k l : Kind) (S T : Keys) (xs ys : List ℕ) → b ≡ c → k ≡ l → S ≡ T → xs ≡ ys → Layout cells b (set_after k S xs) → Layout cells c (set_after l T ys)
+same_layout cells b c k l S T xs ys p q r s layout =
+    subst (λ (x : ℕ). Layout cells x (set_after l T ys)) p
+    (subst (λ (x : Kind). Layout cells b (set_after x T ys)) q
+    (subst (λ (x : Keys). Layout cells b (set_after k x ys)) r
+    (subst (λ (x : List ℕ). Layout cells b (set_after k S x)) s layout)))
+
+same_closing : (close : List ℕ) (k l : Kind) (S T : Keys) (xs ys : List ℕ) → k ≡ l → S ≡ T → xs ≡ ys → close ≡ closing (tally_of k S xs) true → close ≡ closing (tally_of l T ys) true
+same_closing close k l S T xs ys q r s is =
+    subst (λ (x : Kind). close ≡ closing (tally_of x T ys) true) q
+    (subst (λ (x : Keys). close ≡ closing (tally_of k x ys) true) r
+    (subst (λ (x : List ℕ). close ≡ closing (tally_of k S x) true) s is))
+
+pub played : (play : Play) (first last : Game) (text body cells close : List ℕ) → Begins play first → Follows play.schedule.items first text last → body ≡ text → MadeSoFar last cells
+    → (AllFinished last → Layout cells last.shape.bits (set_after last.kind (held_first last) last.keys)) → ClosesWith last close
+    → (AllFinished last → close ≡ closing (tally_of last.kind (held_first last) last.keys) true) → IsPlayed play (body ++ (dump_text (bits_of play) cells ++ close))
+played play first last text body cells close begins follows is made layout closes closed =
+    let end = last_game play first last text begins follows in
+    record {
+      first = first;
+      last = last;
+      begins = begins;
+      body = body;
+      follows = subst (λ (t : List ℕ). Follows play.schedule.items first t last) (sym is) follows;
+      ending = dump_text (bits_of play) cells ++ close;
+      ends = record { cells = cells; so_far = made; close = close; closes = closes; text_is = refl };
+      as_one = λ done. record {
+        cells = cells;
+        layout = same_layout cells _ _ _ _ _ _ _ _ end.bits end.kind end.held end.keys (layout done);
+        text_is = ap (λ (t : List ℕ). dump_text (bits_of play) cells ++ t) (same_closing close _ _ _ _ _ _ end.kind end.held end.keys (closed done));
+      };
+      text_is = refl;
+    }
+
+-- ---- the lines below the dump
+
+closing_text : (empty first text : List ℕ) (tally : Tally) (finished : Bool) → empty ≡ [] → first ≡ empty ++ tally_line tally → text ≡ first ++ end_line finished → text ≡ closing tally finished
+unfolding closing
+closing_text empty first text tally finished none one two = two ∙ ap (λ (l : List ℕ). l ++ end_line finished) (one ∙ ap (λ (l : List ℕ). l ++ tally_line tally) none)
+
+stand : (g : Game) (finished : Bool) → (IsTrue finished ↔ AllFinished g) → IsAllFinished g finished
+stand g true tells = tells.0 refl
+stand g false tells = λ all. let no : false ≡ true = tells.1 all in absurd cc
+
+pub closed : (g : Game) (empty first text : List ℕ) (tally : Tally) (finished : Bool) → tally ≡ tally_so_far g → (IsTrue finished ↔ AllFinished g)
+    → empty ≡ [] → first ≡ empty ++ tally_line tally → text ≡ first ++ end_line finished → ClosesWith g text
+closed g empty first text tally finished counts tells none one two =
+    (finished, stand g finished tells, closing_text empty first text tally finished none one two ∙ ap (λ (t : Tally). closing t finished) counts)
+
+pub closed_finished : (g : Game) (empty first text : List ℕ) (tally whole : Tally) (finished : Bool) → (AllFinished g → tally ≡ whole) → (IsTrue finished ↔ AllFinished g)
+    → empty ≡ [] → first ≡ empty ++ tally_line tally → text ≡ first ++ end_line finished → AllFinished g → text ≡ closing whole true
+closed_finished g empty first text tally whole finished counts tells none one two all =
+    closing_text empty first text tally finished none one two ∙ ap (λ (t : Tally). closing t finished) (counts all) ∙ ap (λ (b : Bool). closing whole b) (tells.1 all)
+
+-- ---- what comes of a run
+
+pub unplayed : (X : Type 0) (bytes old new : Option (List ℕ)) (play : Play) (fault : PlayRunFault) → IsPlayRead bytes play → IsUnplayed play fault → Runs {X = X} bytes old new (Err fault)
+unplayed X bytes old new play Read read why = absurd why
+unplayed X bytes old new play (Text fault) read why = absurd why
+unplayed X bytes old new play (Start fault) read why = (play, read, why)
+unplayed X bytes old new play Memory read why = tt
+unplayed X bytes old new play Write read why = absurd why
+
+same_parts : (bits : ℕ) (body body' cells cells' close close' : List ℕ) → body' ≡ body → cells' ≡ cells → close' ≡ close
+    → body' ++ (dump_text bits cells' ++ close') ≡ body ++ (dump_text bits cells ++ close)
+same_parts bits body body' cells cells' close close' p q r = rw (p, q, r) refl
+
+pub stopped : (X : Type 0) (bytes old new : Option (List ℕ)) (play : Play) (bits : ℕ) (body body' cells cells' close close' : List ℕ) → body' ≡ body → cells' ≡ cells → close' ≡ close
+    → IsPlayRead bytes play → IsPlayed play (body ++ (dump_text bits cells ++ close)) → AppendsFront old new (body' ++ (dump_text bits cells' ++ close')) → Runs {X = X} bytes old new (Err Write)
+stopped X bytes old new play bits body body' cells cells' close close' p q r read is front =
+    (body ++ (dump_text bits cells ++ close), (play, read, is), subst (λ (t : List ℕ). AppendsFront old new t) (same_parts bits body body' cells cells' close close' p q r) front)
+
+pub done : {X : Type 0} (bytes old new : Option (List ℕ)) (play : Play) (bits : ℕ) (body body' cells cells' close close' : List ℕ) (x : X) → body' ≡ body → cells' ≡ cells → close' ≡ close
+    → IsPlayRead bytes play → IsPlayed play (body ++ (dump_text bits cells ++ close)) → Appends old new (body' ++ (dump_text bits cells' ++ close')) → Runs {X = X} bytes old new (Ok x)
+done bytes old new play bits body body' cells cells' close close' x p q r read is written =
+    (body ++ (dump_text bits cells ++ close), (play, read, is), subst (λ (t : List ℕ). Appends old new t) (same_parts bits body body' cells cells' close close' p q r) written)

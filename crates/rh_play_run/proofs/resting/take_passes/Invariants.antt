@@ -1,0 +1,10 @@
+use Rattle.std.proofs.Common.{◌≡◌, ℕ, ◌+◌, length}
+use Rattle.rh_turns.specs.Game.{Game}
+use Rattle.rh_play_run.specs.Schedule.{Rests}
+use Rattle.rh_play_run.proofs.resting.take_passes.Given as goal
+
+abbrev pub invariant-passes : goal.invariant-passes
+invariant-passes l = record {
+  workers : length l.player.hands ≡ l.workers;
+  rests : (left : ℕ) → l.counter + left ≡ l.passes → (next : Game) → Rests left l.more l.player next → Rests l.passes l.more l.fn.player next;
+}

@@ -1,0 +1,74 @@
+-- The game with which a play begins, and why there is none. (own)
+use Rattle.std.specs.Prelude.{◌≡◌, ℕ, ◌^◌, ◌⊎◌, not, nat_lt, if◌then◌else◌, Option, Some, None, List, length}
+use Rattle.std.specs.FinSet as set
+use Rattle.rh_layout.specs.Layout.{Keys, Layout}
+use Rattle.rh_descriptor.specs.declared.shape.Rooms.{Rooms}
+use Rattle.rh_turns.specs.Game.{Game}
+use Rattle.rh_player.specs.declared.fault.PlayFault.{PlayFault}
+use Rattle.rh_player.specs.declared.fault.PlayFault.TheVariants.{BadKey, NoRoom}
+use Rattle.rh_player.specs.Start.{StartsPieces, StartsShared, are_keys, joined, start_fault, usual_rooms}
+use Rattle.rh_play.specs.declared.play.Play.{Play}
+use Rattle.rh_play.specs.declared.play.Rooms as said
+use Rattle.rh_play.specs.declared.play.Work.TheVariants.{Pieces, Share}
+use Rattle.rh_play.specs.declared.play.Work.{Work}
+
+-- ---- what a play says
+
+abbrev pub bits_of : Play → ℕ
+bits_of play = play.bits.value
+
+-- the set of the keys that the table holds at first
+abbrev pub held_of : Play → Keys
+held_of play = set.from_list play.held.items
+
+abbrev pub workers_in : Work → ℕ
+workers_in (Pieces pieces) = length pieces.items
+workers_in (Share workers keys) = workers
+
+-- the keys of all workers
+abbrev pub keys_in : Work → List ℕ
+keys_in (Pieces pieces) = joined pieces.items
+keys_in (Share workers keys) = keys.items
+
+-- the rooms that are said, or the usual ones
+abbrev pub rooms_in : (bits : ℕ) → Option said.Rooms → Rooms
+rooms_in bits None = usual_rooms bits
+rooms_in bits (Some rooms) = record { entries = rooms.entries; marks = rooms.marks }
+
+-- ---- why a play does not begin
+
+-- the first fault of the keys held, repeats counted
+abbrev pub held_fault : (bits : ℕ) (keys : List ℕ) → Option PlayFault
+held_fault bits keys =
+    if not (are_keys keys) then Some BadKey
+    else if not (nat_lt (length keys) (2 ^ bits)) then Some NoRoom
+    else None
+
+-- the first fault of the player, on these cells
+abbrev pub player_fault : Play → (cells : List ℕ) → Option PlayFault
+player_fault play cells = start_fault play.kind (bits_of play) cells (workers_in play.work) (keys_in play.work)
+
+-- the first fault of the player, on the layout of the keys held
+abbrev pub IsPlayerFault : Play → PlayFault → Type 0
+IsPlayerFault play fault = (cells : List ℕ) × Layout cells (bits_of play) (held_of play) × (player_fault play cells ≡ Some fault)
+
+-- The faults of the keys held come first.
+abbrev pub IsStartFault : Play → PlayFault → Type 0
+IsStartFault play fault =
+    (held_fault (bits_of play) play.held.items ≡ Some fault)
+    ⊎ ((held_fault (bits_of play) play.held.items ≡ None) × IsPlayerFault play fault)
+
+-- ---- how it begins
+
+-- each worker has its piece, or all claim their keys; no step is made yet
+abbrev pub StartsOn : (cells : List ℕ) → Play → Work → Game → Type 0
+StartsOn cells play (Pieces pieces) g = StartsPieces play.kind (bits_of play) (rooms_in (bits_of play) play.rooms) cells pieces.items g
+StartsOn cells play (Share workers keys) g = StartsShared play.kind (bits_of play) workers (rooms_in (bits_of play) play.rooms) cells keys.items g
+
+-- There is no fault, and the table is the layout of the keys held.
+pub record Begins (play : Play) (g : Game) : Type 0 where
+  pub cells : List ℕ
+  pub held : held_fault (bits_of play) play.held.items ≡ None
+  pub layout : Layout cells (bits_of play) (held_of play)
+  pub player : player_fault play cells ≡ None
+  pub starts : StartsOn cells play play.work g

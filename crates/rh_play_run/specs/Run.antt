@@ -1,0 +1,117 @@
+-- The text that a play prints, and what comes of a run. (own)
+use Rattle.std.specs.Prelude.{◌≡◌, ◌≢◌, ◌≤◌, ℕ, Bool, true, false, List, ◌++◌, length, Option, Some, None, Result, Ok, Err}
+use Rattle.std.specs.Io.KnownBytes.{Appends, Consumes}
+use Rattle.rh_layout.specs.Layout.{Layout}
+use Rattle.rh_ledger.specs.declared.tally.Tally.{Tally}
+use Rattle.rh_ledger.specs.Phase.{set_after, tally_of}
+use Rattle.rh_turns.specs.Game.{AllFinished, Game}
+use Rattle.rh_player.specs.declared.fault.PlayFault.{PlayFault}
+use Rattle.rh_player.specs.declared.fault.PlayFault.TheVariants as start
+use Rattle.rh_player.specs.Made.{MadeSoFar, changed_count, counted, done_count, tally_by}
+use Rattle.rh_files.specs.Counting.{AppendsFront}
+use Rattle.rh_files.specs.Dump.{dump_text}
+use Rattle.rh_play.specs.declared.fault.PlayTextFault.{PlayTextFault}
+use Rattle.rh_play.specs.declared.fault.PlayTextKind.TheVariants as kind
+use Rattle.rh_play.specs.declared.play.Play.{Play}
+use Rattle.rh_play.specs.Grammar.{sayings_of}
+use Rattle.rh_play.specs.Play.{said_of}
+use Rattle.rh_play_report.specs.Lines.{end_line, tally_line}
+use Rattle.rh_play_run.specs.declared.fault.PlayRunFault.{PlayRunFault}
+use Rattle.rh_play_run.specs.declared.fault.PlayRunFault.TheVariants.{Read, Text, Start, Memory, Write}
+use Rattle.rh_play_run.specs.Beginning.{Begins, IsStartFault, bits_of, held_of, keys_in}
+use Rattle.rh_play_run.specs.Schedule.{Follows}
+
+-- ---- the end of a play
+
+-- what the keys that are done are counted as
+abbrev pub tally_so_far : Game → Tally
+tally_so_far g = tally_by g.kind (counted (done_count g)) (counted (changed_count g))
+
+abbrev pub IsAllFinished : Game → Bool → Type 0
+IsAllFinished g true = AllFinished g
+IsAllFinished g false = ¬ AllFinished g
+
+-- the lines below the dump
+unfoldable pub closing : Tally → (finished : Bool) → List ℕ
+closing tally finished = tally_line tally ++ end_line finished
+
+-- what is counted so far, and whether all workers are finished
+abbrev pub ClosesWith : Game → (text : List ℕ) → Type 0
+ClosesWith g text = (finished : Bool) × IsAllFinished g finished × (text ≡ closing (tally_so_far g) finished)
+
+-- The cells that are dumped stand for what the workers have made.
+pub record Ends (bits : ℕ) (g : Game) (text : List ℕ) : Type 0 where
+  pub cells : List ℕ
+  pub so_far : MadeSoFar g cells
+  pub close : List ℕ
+  pub closes : ClosesWith g close
+  pub text_is : text ≡ dump_text bits cells ++ close
+
+-- The text tells the layout and the tally of one worker that does all keys one after the other.
+pub record EndsAsOne (play : Play) (text : List ℕ) : Type 0 where
+  pub cells : List ℕ
+  pub layout : Layout cells (bits_of play) (set_after play.kind (held_of play) (keys_in play.work))
+  pub text_is : text ≡ dump_text (bits_of play) cells ++ closing (tally_of play.kind (held_of play) (keys_in play.work)) true
+
+-- ---- the whole text
+
+-- The schedule is followed from the beginning on, and then the end is told.
+pub record IsPlayed (play : Play) (text : List ℕ) : Type 0 where
+  pub first : Game
+  pub last : Game
+  pub begins : Begins play first
+  pub body : List ℕ
+  pub follows : Follows play.schedule.items first body last
+  pub ending : List ℕ
+  pub ends : Ends (bits_of play) last ending
+  pub as_one : AllFinished last → EndsAsOne play ending
+  pub text_is : text ≡ body ++ ending
+
+-- ---- what comes of a run
+
+-- known bytes say this play
+abbrev pub IsPlayRead : Option (List ℕ) → Play → Type 0
+IsPlayRead None play = Unit {0}
+IsPlayRead (Some bytes) play = sayings_of bytes ≡ Ok (said_of play)
+
+-- Known bytes say no play, and this is their first fault; want of memory says nothing of them.
+abbrev pub IsTextFault : Option (List ℕ) → PlayTextFault → Type 0
+IsTextFault None fault = Unit {0}
+IsTextFault (Some bytes) fault = fault.kind ≢ kind.Memory → sayings_of bytes ≡ Err fault
+
+-- the text of the play that the bytes say
+abbrev pub IsRunOf : (bytes : Option (List ℕ)) (text : List ℕ) → Type 0
+IsRunOf bytes text = (play : Play) × IsPlayRead bytes play × IsPlayed play text
+
+-- The play that the bytes say does not begin, and this is the first fault; want of memory says nothing of it.
+abbrev pub IsRefused : (bytes : Option (List ℕ)) → PlayFault → Type 0
+IsRefused bytes fault = (play : Play) × IsPlayRead bytes play × (fault ≢ start.Memory → IsStartFault play fault)
+
+-- No play was read.
+abbrev pub IsUnread : (bytes : Option (List ℕ)) → PlayRunFault → Type 0
+IsUnread bytes Read = Unit {0}
+IsUnread bytes (Text fault) = IsTextFault bytes fault
+IsUnread bytes (Start fault) = ⊥
+IsUnread bytes Memory = Unit {0}
+IsUnread bytes Write = ⊥
+
+-- No text was made of a play.
+abbrev pub IsUnplayed : Play → PlayRunFault → Type 0
+IsUnplayed play Read = ⊥
+IsUnplayed play (Text fault) = ⊥
+IsUnplayed play (Start fault) = fault ≢ start.Memory → IsStartFault play fault
+IsUnplayed play Memory = Unit {0}
+IsUnplayed play Write = ⊥
+
+-- The bytes said a play, and its text or a front of it was written; or they said none; or it does not begin.
+abbrev pub Runs : {X : Type 0} → (bytes old new : Option (List ℕ)) → Result X PlayRunFault → Type 0
+Runs bytes old new (Ok x) = (text : List ℕ) × IsRunOf bytes text × Appends old new text
+Runs bytes old new (Err Write) = (text : List ℕ) × IsRunOf bytes text × AppendsFront old new text
+Runs bytes old new (Err (Text fault)) = IsTextFault bytes fault
+Runs bytes old new (Err (Start fault)) = IsRefused bytes fault
+Runs bytes old new (Err Memory) = Unit {0}
+Runs bytes old new (Err Read) = Unit {0}
+
+-- no more than so many bytes were taken
+abbrev pub TakesAtMost : ℕ → (bytes left : Option (List ℕ)) → Type 0
+TakesAtMost n bytes left = (taken : List ℕ) × Consumes bytes left taken × (length taken ≤ n)

@@ -1,0 +1,129 @@
+-- What the orders of a schedule do to a game, and what they print. (own)
+use Rattle.std.specs.Prelude.{zero, suc, ◌≡◌, ◌≢◌, ℕ, ◌+◌, ◌/◌, ◌%◌, ◌<◌, ◌⊎◌, Bool, true, false, ◌||◌, MatchBool, List, [], ◌∷◌, ◌++◌, length, slice_index, Option, Some, None}
+use Rattle.rh_descriptor.specs.declared.steps.StepKind.{StepKind}
+use Rattle.rh_descriptor.specs.Places.{cell_count}
+use Rattle.rh_tagword.specs.declared.word.Word.{Word}
+use Rattle.rh_tagword.specs.Word.{word_in}
+use Rattle.rh_turns.specs.declared.turning.Turn.{Turn}
+use Rattle.rh_turns.specs.declared.turning.Turn.TheVariants as turn
+use Rattle.rh_turns.specs.Game.{AllFinished, AllStopped, Game}
+use Rattle.rh_player.specs.Turned.{BeginsRound, Turned}
+use Rattle.rh_play.specs.declared.limits.TheConstants.{MAX_TURNS}
+use Rattle.rh_play.specs.declared.schedule.Order.{Order}
+use Rattle.rh_play.specs.declared.schedule.Order.TheVariants as order
+use Rattle.rh_play_report.specs.declared.endings.Last.{Last}
+use Rattle.rh_play_report.specs.declared.endings.Last.TheVariants as last
+use Rattle.rh_play_report.specs.declared.endings.Rest.{Rest}
+use Rattle.rh_play_report.specs.declared.endings.Rest.TheVariants as rest
+use Rattle.rh_play_report.specs.Lines.{raw_line, rest_line, round_line, turn_line, until_line}
+use Rattle.rh_play_report.specs.Words.{step_kind}
+
+-- ---- turns of one worker
+
+-- what a turn came to, as lines tell it
+abbrev pub last_of : Turn → Last
+last_of (turn.Did kind) = last.Did kind
+last_of turn.Finished = last.Finished
+last_of turn.Spent = last.Spent
+last_of turn.NoSuchWorker = last.NoWorker
+
+-- So many turns, of which the last came to this. Before them it was as told before.
+unfoldable pub TurnsOf : (who turns : ℕ) → Game → (before : Last) → (told : Last) → Game → Type 0
+TurnsOf who zero g before told next = (told ≡ before) × (next ≡ g)
+TurnsOf who (suc turns) g before told next =
+    (made : Turn) × (mid : Game) × Turned g who made mid × TurnsOf who turns mid (last_of made) told next
+
+-- The turn is the last one where a step of this kind is wanted: it made one, or it made no step.
+abbrev pub Reaches : StepKind → Turn → Type 0
+Reaches kind (turn.Did made) = made ≡ kind
+Reaches kind turn.Finished = Unit {0}
+Reaches kind turn.Spent = Unit {0}
+Reaches kind turn.NoSuchWorker = Unit {0}
+
+-- It made a step of another kind.
+abbrev pub Misses : StepKind → Turn → Type 0
+Misses kind (turn.Did made) = made ≢ kind
+Misses kind turn.Finished = ⊥
+Misses kind turn.Spent = ⊥
+Misses kind turn.NoSuchWorker = ⊥
+
+-- Turns up to the first that makes a step of this kind or none, so many at most. It is told what that turn came to.
+unfoldable pub TurnsUntil : (limit who : ℕ) → StepKind → Game → (told : Last) → Game → Type 0
+TurnsUntil zero who kind g told next = (told ≡ last.Limit) × (next ≡ g)
+TurnsUntil (suc limit) who kind g told next =
+    (made : Turn) × (mid : Game) × Turned g who made mid
+    × ((Reaches kind made × (told ≡ last_of made) × (next ≡ mid)) ⊎ (Misses kind made × TurnsUntil limit who kind mid told next))
+
+-- ---- turns of all workers
+
+abbrev pub makes_step : Turn → Bool
+makes_step (turn.Did kind) = true
+makes_step turn.Finished = false
+makes_step turn.Spent = false
+makes_step turn.NoSuchWorker = false
+
+-- One turn each of so many workers in order, from this one on: whether some turn made a step, or one before them.
+unfoldable pub TurnOfEach : (count from : ℕ) → Game → (before : Bool) → (some : Bool) → Game → Type 0
+TurnOfEach zero from g before some next = (some ≡ before) × (next ≡ g)
+TurnOfEach (suc count) from g before some next =
+    (made : Turn) × (mid : Game) × Turned g from made mid × TurnOfEach count (from + 1) mid (before || makes_step made) some next
+
+-- Passes over all workers, up to the first in which no turn makes a step: so many at most, and where that is not enough so many turns of one more.
+unfoldable pub Rests : (passes more : ℕ) → Game → Game → Type 0
+Rests zero more g next = (some : Bool) × TurnOfEach more 0 g false some next
+Rests (suc passes) more g next =
+    (some : Bool) × (mid : Game) × TurnOfEach (length g.hands) 0 g false some mid × MatchBool some (Rests passes more mid next) (next ≡ mid)
+
+-- no more turns than a line may ask for
+abbrev pub RestsWithin : (turns : ℕ) → Game → Game → Type 0
+RestsWithin turns g next = Rests (turns / length g.hands) (turns % length g.hands) g next
+
+-- how the workers stand: all are finished, or none has a step left and some are spent, or one has a step left
+abbrev pub StandsAs : Rest → Game → Type 0
+StandsAs rest.Finished g = AllFinished g
+StandsAs rest.Spent g = AllStopped g × ¬ AllFinished g
+StandsAs rest.Limit g = ¬ AllStopped g
+
+-- the next round, where no worker has a step left
+abbrev pub Rounds : Game → (began : Bool) → Game → Type 0
+Rounds g true next = AllStopped g × BeginsRound g next
+Rounds g false next = ¬ AllStopped g × (next ≡ g)
+
+-- ---- what is shown
+
+-- a word that is none has no line
+abbrev pub word_line : (cell : ℕ) → Option Word → List ℕ
+word_line cell None = []
+word_line cell (Some word) = raw_line cell word
+
+-- the lines of the words of so many cells, from the first on
+unfoldable pub words_shown : (words : List ℕ) → (count : ℕ) → List ℕ
+words_shown words zero = []
+words_shown words (suc cell) = words_shown words cell ++ word_line cell (word_in (slice_index words cell))
+
+abbrev pub shown : Game → List ℕ
+shown g = words_shown g.words (cell_count g.shape)
+
+-- ---- a schedule
+
+-- What an order does to a game, and the text that it prints.
+unfoldable pub Does : Order → Game → (text : List ℕ) → Game → Type 0
+Does (order.Turn worker turns) g text next =
+    (told : Last) × TurnsOf worker turns g last.Limit told next × (text ≡ turn_line worker turns told)
+Does (order.Until worker step) g text next =
+    (told : Last) × TurnsUntil MAX_TURNS worker (step_kind step) g told next × (text ≡ until_line worker step told)
+Does order.Rest g text next = (told : Rest) × RestsWithin MAX_TURNS g next × StandsAs told next × (text ≡ rest_line told)
+Does order.Round g text next = (began : Bool) × Rounds g began next × (text ≡ round_line began)
+Does order.Show g text next = (next ≡ g) × (text ≡ shown g)
+
+-- The orders are carried out one after the other, and their texts follow one another.
+unfoldable pub Follows : List Order → Game → (text : List ℕ) → Game → Type 0
+Follows [] g text next = (text ≡ []) × (next ≡ g)
+Follows (order ∷ orders) g text next =
+    (first : List ℕ) × (others : List ℕ) × (mid : Game) × Does order g first mid × Follows orders mid others next × (text ≡ first ++ others)
+
+-- ---- its size
+
+-- how many workers and how many cells a game has
+abbrev pub HasSize : (workers cells : ℕ) → Game → Type 0
+HasSize workers cells g = (length g.hands ≡ workers) × (cell_count g.shape ≡ cells) × (0 < workers)

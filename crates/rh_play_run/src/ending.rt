@@ -1,0 +1,65 @@
+//! What is told at the end of a play.
+
+ghost use Rattle.std.specs.Prelude.{◌≡◌, ◌++◌, IfOk, OnErr, OnOk, true};
+ghost use Rattle.rh_layout.specs.Layout.{IsLayout, Layout};
+ghost use Rattle.rh_ledger.specs.Phase.{set_after, tally_of};
+ghost use Rattle.rh_descriptor.specs.Places.{cell_count};
+ghost use Rattle.rh_turns.specs.Game.{AllFinished};
+ghost use Rattle.rh_player.specs.Made.{MadeSoFar, held_first};
+ghost use Rattle.rh_files.specs.Counting.{Rose, Writes, failures_of, inner_of};
+ghost use Rattle.rh_files.specs.Dump.{dump_text};
+ghost use Rattle.rh_play_run.specs.Run.{ClosesWith, closing};
+
+use rh_files::{Counted, WriteFault, write_dump, write_texts};
+use rh_play_report::{push_end, push_tally};
+use rh_player::Player;
+use std::alloc::{AllocError, Global};
+use std::io::Write;
+
+/// The cells with what they stand for.
+pub(crate) fn made_cells(
+    alloc: Global,
+    player: &Player,
+    cells: usize,
+) -> Result<Vec<u64>, AllocError>
+    requires { cell_count player.now.shape ≡ cells }
+    ensures so_far { IfOk result (λ made. MadeSoFar player.now made.items) }
+    ensures finished { IfOk result (λ made. AllFinished player.now →
+        Layout made.items player.now.shape.bits
+        (set_after player.now.kind (held_first player.now) player.now.keys)) }
+{
+    let mut made = vec![in alloc; 0; cells]?;
+    player.logical(&mut made);
+    Ok(made)
+}
+
+/// The lines below the dump.
+pub(crate) fn closing_lines(alloc: Global, player: &Player) -> Result<Vec<u8>, AllocError>
+    ensures closes { IfOk result (λ text. ClosesWith player.now text.items) }
+    ensures finished { IfOk result (λ text. AllFinished player.now → text.items
+        ≡ closing (tally_of player.now.kind (held_first player.now) player.now.keys) true) }
+{
+    let mut text = Vec::new(alloc);
+    push_tally(&mut text, player.tally())?;
+    push_end(&mut text, player.all_finished())?;
+    Ok(text)
+}
+
+/// Writes what was printed, the dump of the cells, and the lines below it.
+pub(crate) fn write_parts<W: Write>(
+    writer: &mut Counted<W>,
+    body: &[u8],
+    bits: u32,
+    cells: &[u64],
+    closing: &[u8],
+) -> Result<(), WriteFault>
+    requires { IsLayout bits cells.now }
+    ensures text { Writes (W.contents (inner_of writer.old)) (W.contents (inner_of writer.new))
+        (body.now ++ (dump_text bits cells.now ++ closing.now)) result }
+    ensures failed { OnErr result (Rose (failures_of writer.old) (failures_of writer.new)) }
+    ensures fine { OnOk result (failures_of writer.new ≡ failures_of writer.old) }
+{
+    write_texts(writer, &[body])?;
+    write_dump(bits, cells, writer)?;
+    write_texts(writer, &[closing])
+}

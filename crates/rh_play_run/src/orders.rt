@@ -1,0 +1,69 @@
+//! The orders of a schedule.
+
+ghost use Rattle.std.specs.Prelude.{◌≡◌, ◌++◌, List, OnOk, ℕ};
+ghost use Rattle.rh_descriptor.specs.Places.{cell_count};
+ghost use Rattle.rh_play_run.specs.Schedule.{Does, HasSize, Rounds, shown};
+
+use crate::resting::rest;
+use crate::turns::{take_turns, take_turns_until};
+use rh_play::{MAX_TURNS, Order};
+use rh_play_report::{push_raw, push_rest, push_round, push_turn, push_until, step_kind};
+use rh_player::Player;
+use std::alloc::AllocError;
+
+/// How many workers and how many cells a player has.
+#[derive(Clone, Copy)]
+pub(crate) struct Size {
+    pub(crate) workers: usize,
+    pub(crate) cells: usize,
+}
+
+/// Carries out an order, and appends what it prints.
+pub(crate) fn carry_out(
+    player: &mut Player,
+    size: Size,
+    order: Order,
+    out: &mut Vec<u8>,
+) -> Result<(), AllocError>
+    requires { HasSize size.workers size.cells player.old }
+    ensures { OnOk result ((text : List ℕ) × Does order player.old text player.new
+        × (out.new.items ≡ out.old.items ++ text)) }
+{
+    match order {
+        Order::Turn { worker, turns } => {
+            let last = take_turns(player, worker as usize, turns);
+            push_turn(out, worker, turns, last)
+        }
+        Order::Until { worker, step } => {
+            let last = take_turns_until(player, worker as usize, step_kind(step), MAX_TURNS);
+            push_until(out, worker, step, last)
+        }
+        Order::Rest => {
+            let rest = rest(player, size.workers, MAX_TURNS);
+            push_rest(out, rest)
+        }
+        Order::Round => {
+            let began = begin_round(player);
+            push_round(out, began)
+        }
+        Order::Show => show(player, size.cells, out),
+    }
+}
+
+/// Begins the next round, where no worker has a step left.
+fn begin_round(player: &mut Player) -> bool
+    ensures { Rounds player.old result player.new }
+{
+    player.next_round()
+}
+
+/// Appends a line for each cell whose word is not empty.
+fn show(player: &Player, cells: usize, out: &mut Vec<u8>) -> Result<(), AllocError>
+    requires { cell_count player.now.shape ≡ cells }
+    ensures { OnOk result (out.new.items ≡ out.old.items ++ shown player.now) }
+{
+    for cell in 0..cells {
+        push_raw(out, cell, player.raw(cell))?;
+    }
+    Ok(())
+}

@@ -1,0 +1,101 @@
+//! A play, from its text to what it prints.
+
+ghost use Rattle.std.specs.Prelude.{◌≡◌, ◌≢◌, ◌+◌, ◌++◌, Err, IfErr, IfOk, IsErrOf, OnOk};
+ghost use Rattle.rh_layout.specs.Layout.{IsLayout};
+ghost use Rattle.rh_files.specs.Counting.{Rose, failures_of, inner_of};
+ghost use Rattle.rh_files.specs.Dump.{dump_text};
+ghost use Rattle.rh_play.specs.declared.limits.TheConstants.{MAX_TEXT_BYTES};
+ghost use Rattle.rh_play_run.specs.Beginning.{workers_in};
+ghost use Rattle.rh_play_run.specs.Run.{IsPlayed, IsUnplayed, Runs, TakesAtMost};
+
+use crate::beginning::{begin, cells_in};
+use crate::ending::{closing_lines, made_cells, write_parts};
+use crate::fault::PlayRunFault;
+use crate::orders::Size;
+use crate::reading::read_play;
+use crate::schedule::follow;
+use rh_files::Counted;
+use rh_play::{Play, Work};
+use std::alloc::Global;
+use std::io::{Read, Write};
+
+/// What a play prints: the lines of its schedule, the cells that are dumped, and the lines below the
+/// dump.
+#[derive(Drop)]
+struct Played {
+    body: Vec<u8>,
+    bits: u32,
+    cells: Vec<u64>,
+    closing: Vec<u8>,
+}
+
+/// Reads the text of a play, runs the play, and writes what it prints: a line for each order of its
+/// schedule (`show`: one for each full cell), the dump of what the cells stand for, the line
+/// `read R added A removed D found F`, and `finished` or `unfinished`.
+///
+/// All memory is taken before the first byte is written. Each number and each word of the dump is a
+/// write of its own, so give it a writer with a buffer.
+pub fn run_play<R: Read, W: Write>(
+    alloc: Global,
+    reader: &mut Counted<R>,
+    writer: &mut Counted<W>,
+) -> Result<(), PlayRunFault>
+    ensures runs { Runs (R.remaining (inner_of reader.old)) (W.contents (inner_of writer.old))
+        (W.contents (inner_of writer.new)) result }
+    ensures untouched { IfErr result (λ fault. fault ≢ PlayRunFault.Write →
+        writer.new ≡ writer.old) }
+    ensures taken { result ≢ Err PlayRunFault.Read → TakesAtMost (MAX_TEXT_BYTES + 1)
+        (R.remaining (inner_of reader.old)) (R.remaining (inner_of reader.new)) }
+    ensures read { IsErrOf result PlayRunFault.Read →
+        Rose (failures_of reader.old) (failures_of reader.new) }
+    ensures fine { result ≢ Err PlayRunFault.Read →
+        failures_of reader.new ≡ failures_of reader.old }
+    ensures write { IsErrOf result PlayRunFault.Write →
+        Rose (failures_of writer.old) (failures_of writer.new) }
+    ensures written { OnOk result (failures_of writer.new ≡ failures_of writer.old) }
+{
+    let play = read_play(alloc, reader)?;
+    let played = perform(alloc, &play)?;
+    write_parts(
+        writer,
+        &played.body,
+        played.bits,
+        &played.cells,
+        &played.closing,
+    )?;
+    Ok(())
+}
+
+/// Runs a play.
+fn perform(alloc: Global, play: &Play) -> Result<Played, PlayRunFault>
+    ensures played { IfOk result (λ played. IsPlayed play.now (played.body.items
+        ++ (dump_text played.bits played.cells.items ++ played.closing.items))) }
+    ensures layout { IfOk result (λ played. IsLayout played.bits played.cells.items) }
+    ensures refused { IfErr result (IsUnplayed play.now) }
+{
+    let bits = play.bits.value as u32;
+    let size = Size {
+        workers: workers_of(play),
+        cells: cells_in(bits),
+    };
+    let mut player = begin(alloc, play)?;
+    let mut body = Vec::new(alloc);
+    follow(&mut player, size, &play.schedule, &mut body)?;
+    let cells = made_cells(alloc, &player, size.cells)?;
+    let closing = closing_lines(alloc, &player)?;
+    Ok(Played {
+        body,
+        bits,
+        cells,
+        closing,
+    })
+}
+
+fn workers_of(play: &Play) -> usize
+    ensures { result ≡ workers_in play.now.work }
+{
+    match &play.work {
+        Work::Pieces(pieces) => pieces.len(),
+        Work::Share { workers, .. } => *workers as usize,
+    }
+}
