@@ -13,7 +13,7 @@ use Rattle.clap.specs.Simple.{App, Shape, argument_words, built, entered, label_
 use Rattle.clap.specs.Words.{subcommand_name_of, subcommand_rows_of}
 use Rattle.clap.specs.declared.parser.matches.ArgMatches.{ArgMatches}
 use Rattle.rh_line.specs.App.{IsCommand, NamesCommand, rhset_app}
-use Rattle.rh_line.proofs.CheckLemmas.{check_arguments}
+use Rattle.rh_line.proofs.PathLemmas.{check_arguments, play_arguments}
 use Rattle.rh_line.proofs.RunLemmas.{run_arguments}
 use Rattle.rh_line.proofs.ValueLemmas.{Passes}
 use Rattle.rh_line.proofs.HelpLemmas.{AvoidsHelp, both_pass, walk_avoids}
@@ -87,8 +87,11 @@ stop_named (Some stop) avoids passes some =
       (
         λ is below. inr (inl (refl, run_arguments stop.1 below)),
         (
-          λ is below. inr (inr (refl, check_arguments stop.1 below)),
-          (λ is below. absurd (avoids (sym ((bytes_eq-Decides (codes "help") stop.0).0 (sym (or-false _) ∙ is)))), tt),
+          λ is below. inr (inr (inl (refl, play_arguments stop.1 below))),
+          (
+            λ is below. inr (inr (inr (refl, check_arguments stop.1 below))),
+            (λ is below. absurd (avoids (sym ((bytes_eq-Decides (codes "help") stop.0).0 (sym (or-false _) ∙ is)))), tt),
+          ),
         ),
       ),
     )
@@ -103,11 +106,12 @@ words_name_a_command words passes =
 
 -- its name is that of a command
 pub name_told : (rows : Option (Text × List Row)) (told : Option Text) → told ≡ option_map (λ found. found.0) rows → NamesCommand rows
-    → (name : Text) × (told ≡ Some name) × ((name ≡ codes "dump") ⊎ ((name ≡ codes "run") ⊎ (name ≡ codes "check")))
+    → (name : Text) × (told ≡ Some name) × ((name ≡ codes "dump") ⊎ ((name ≡ codes "run") ⊎ ((name ≡ codes "play") ⊎ (name ≡ codes "check"))))
 name_told None told is found = absurd found
 name_told (Some row) told is (inl dump) = (row.0, is, inl dump)
 name_told (Some row) told is (inr (inl run)) = (row.0, is, inr (inl run.0))
-name_told (Some row) told is (inr (inr check)) = (row.0, is, inr (inr check.0))
+name_told (Some row) told is (inr (inr (inl play))) = (row.0, is, inr (inr (inl play.0)))
+name_told (Some row) told is (inr (inr (inr check))) = (row.0, is, inr (inr (inr check.0)))
 
 maps_join : {A B C : Type 0} (g : A → B) (f : B → C) (o : Option A) → option_map (λ x. f (g x)) o ≡ option_map f (option_map g o)
 maps_join g f None = refl

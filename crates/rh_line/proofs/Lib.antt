@@ -1,7 +1,7 @@
 pub mod BuilderLemmas
-pub mod CheckLemmas
 pub mod CommandLemmas
 pub mod HelpLemmas
+pub mod PathLemmas
 pub mod ReadLemmas
 pub mod RowLemmas
 pub mod RunLemmas

@@ -8,7 +8,7 @@ use Rattle.clap.specs.Simple.{App, new_app, new_rule, on_top, with_rule, with_su
 use Rattle.clap.specs.declared.builder.action.ArgAction.TheVariants.{Set}
 use Rattle.clap.specs.declared.builder.value_parser.ValueParser.TheVariants.{Unsigned}
 use Rattle.rh_line.specs.declared.asked.Line.{Line}
-use Rattle.rh_line.specs.declared.asked.Line.TheVariants.{Dump, Run, Check}
+use Rattle.rh_line.specs.declared.asked.Line.TheVariants.{Dump, Run, Play, Check}
 use Rattle.rh_line.specs.declared.limits.TheConstants.{MAX_WORKERS}
 
 -- ---- the commands
@@ -35,6 +35,10 @@ path_rule id = record (new_rule id) { action = Some Set; value_names = 1; requir
 abbrev pub run_app : App
 run_app = with_rule (with_rule (new_app (codes "run")) workers_rule) (path_rule (codes "script"))
 
+-- the command `play` takes a file
+abbrev pub play_app : App
+play_app = with_rule (new_app (codes "play")) (path_rule (codes "file"))
+
 -- the command `check` takes a snapshot
 abbrev pub check_app : App
 check_app = with_rule (new_app (codes "check")) (path_rule (codes "snapshot"))
@@ -44,7 +48,7 @@ abbrev pub program_app : App
 program_app = on_top (λ s. record s { has_version = true; subcommand_required = true }) (new_app (codes "rhset"))
 
 abbrev pub rhset_app : App
-rhset_app = with_subcommand (with_subcommand (with_subcommand program_app dump_app.top) run_app.top) check_app.top
+rhset_app = with_subcommand (with_subcommand (with_subcommand (with_subcommand program_app dump_app.top) run_app.top) play_app.top) check_app.top
 
 -- ---- what was found
 
@@ -66,7 +70,8 @@ HasRunArguments rows = HasNumber (codes "workers") 1 MAX_WORKERS rows × HasText
 -- the name of a command, with what it needs
 abbrev pub IsCommand : Text → List Row → Type 0
 IsCommand name rows =
-    (name ≡ codes "dump") ⊎ (((name ≡ codes "run") × HasRunArguments rows) ⊎ ((name ≡ codes "check") × HasText (codes "snapshot") rows))
+    (name ≡ codes "dump") ⊎ (((name ≡ codes "run") × HasRunArguments rows)
+    ⊎ (((name ≡ codes "play") × HasText (codes "file") rows) ⊎ ((name ≡ codes "check") × HasText (codes "snapshot") rows)))
 
 -- a command was found, with what it needs
 abbrev pub NamesCommand : Option (Text × List Row) → Type 0
@@ -92,6 +97,7 @@ abbrev pub Says : Text → List Row → Line → Type 0
 Says name rows Dump = name ≡ codes "dump"
 Says name rows (Run workers script) =
     (name ≡ codes "run") × GivesNumber (codes "workers") 1 MAX_WORKERS rows workers × Gives (codes "script") rows script
+Says name rows (Play file) = (name ≡ codes "play") × Gives (codes "file") rows file
 Says name rows (Check snapshot) = (name ≡ codes "check") × Gives (codes "snapshot") rows snapshot
 
 -- a command was found, and the line is that

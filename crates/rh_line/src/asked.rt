@@ -11,6 +11,8 @@ pub enum Line {
     Dump,
     /// Carry out the commands of the file `script`, each with this many workers.
     Run { workers: usize, script: String },
+    /// Let workers take turns as the text `file` says.
+    Play { file: String },
     /// Tell of the file `snapshot` what table it holds.
     Check { snapshot: String },
 }

@@ -77,6 +77,55 @@ Example of a script:
   add a
   dump";
 
+/// The command `play`, in a line.
+pub const PLAY: &str = "Lets workers take turns on one table, step by step";
+
+/// The command `play`, on `rhset play --help` alone.
+pub const PLAY_AT_LENGTH: &str = "\
+Reads a play, which says what several workers are to do on one table and in which order they take
+their steps, has them take these steps, and writes what came of it to standard output.";
+
+/// The argument `FILE`.
+pub const FILE: &str = "The file that holds the play";
+
+/// What `play` reads and writes.
+pub const PLAYS: &str = "\
+A play is a text of lines. A line that begins with # or has no word is skipped. The first lines say
+what there is, in this order:
+  play KIND      the workers insert, remove or ask: KIND is one of these words
+  bits B         the table has 2 to the power of B cells, for B from 3 to 18
+  held KEY ..    the keys that the table holds at first, or none
+  rooms E M      each worker has room for E entries and M marks in a round; may be left out
+  work KEY ..    the keys of a worker, or none: a line for each of 1 to 16 workers, from worker 0 on
+  share W KEY .. the keys that W workers share, in place of all lines `work`
+
+Then comes any number of these, in any order:
+  turn W N       N turns of worker W: in each it makes a step, if it has one left
+  until W STEP   turns of worker W until one is such a step: write, open, read, place, settle,
+                 decide, release or claim
+  rest           a turn of each worker, again and again, until none has a step left
+  round          a new round, in which room is free again; only where no worker has a step left
+  show           tell what stands in each cell that is not empty
+
+`turn` and `until` are told with what the last turn was: its step, or `finished` where the worker
+has done its keys, `spent` where it has no room left, `none` where there is no such worker, `limit`
+where 1000000 turns were no such step. `rest` and `round` are told with how they ended. A line of
+`show` is `raw CELL key KEY`, `raw CELL mark W N` or `raw CELL desc W N`, for the mark or the
+descriptor N of worker W.
+
+At the end come the table of what the cells stand for, as `rhset dump` writes it, the line
+`read R added A removed D found F`, and `finished` or `unfinished`.
+
+Example of a play:
+  play insert
+  bits 3
+  held
+  work 9
+  work 1
+  until 0 place
+  show
+  rest";
+
 /// The command `check`, in a line.
 pub const CHECK: &str = "Tells of a snapshot what table it holds";
 

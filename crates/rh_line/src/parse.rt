@@ -5,7 +5,8 @@ ghost use Rattle.clap.specs.Words.{app_of, fault_of, found_of, rows_of, rule_of}
 ghost use Rattle.clap.specs.Words.{subcommand_of, subcommand_rows_of};
 ghost use Rattle.rh_line.specs.App.{Asks, Gives, GivesNumber, HasNumber, HasRunArguments, HasText};
 ghost use Rattle.rh_line.specs.App.{NamesCommand, Says, check_app, dump_app, path_rule};
-ghost use Rattle.rh_line.specs.App.{program_app, rhset_app, run_app, texts_of, workers_rule};
+ghost use Rattle.rh_line.specs.App.{play_app, program_app, rhset_app, run_app, texts_of};
+ghost use Rattle.rh_line.specs.App.{workers_rule};
 ghost use Rattle.rh_line.specs.Faults.{IsOneOf};
 
 use crate::asked::{Line, LineFault};
@@ -47,6 +48,7 @@ fn asked(alloc: Global, matches: &ArgMatches<'_>) -> Result<Line, AllocError>
     match matches.subcommand() {
         Some(("dump", _)) => Ok(Line::Dump),
         Some(("run", given)) => run_asked(alloc, given),
+        Some(("play", given)) => play_asked(alloc, given),
         Some(("check", given)) => check_asked(alloc, given),
         _ => unreachable!(),
     }
@@ -59,6 +61,14 @@ fn run_asked(alloc: Global, given: &ArgMatches<'_>) -> Result<Line, AllocError>
     let workers = workers(given);
     let script = text(alloc, given, "script")?;
     Ok(Line::Run { workers, script })
+}
+
+fn play_asked(alloc: Global, given: &ArgMatches<'_>) -> Result<Line, AllocError>
+    requires { HasText (codes "file") (rows_of (found_of given.now)) }
+    ensures { IfOk result (λ l. Says (codes "play") (rows_of (found_of given.now)) l) }
+{
+    let file = text(alloc, given, "file")?;
+    Ok(Line::Play { file })
 }
 
 fn check_asked(alloc: Global, given: &ArgMatches<'_>) -> Result<Line, AllocError>
@@ -90,6 +100,7 @@ fn command<'a>(alloc: Global) -> Result<Command<'a>, AllocError>
     program_command(alloc)?
         .subcommand(dump_command(alloc))?
         .subcommand(run_command(alloc)?)?
+        .subcommand(play_command(alloc)?)?
         .subcommand(check_command(alloc)?)
 }
 
@@ -123,6 +134,16 @@ fn run_command<'a>(alloc: Global) -> Result<Command<'a>, AllocError>
         .after_help(help::SCRIPTS)
         .arg(workers_arg(alloc))?
         .arg(path_arg(alloc, "script", "SCRIPT", help::SCRIPT))
+}
+
+fn play_command<'a>(alloc: Global) -> Result<Command<'a>, AllocError>
+    ensures { IfOk result (λ c. app_of c ≡ play_app) }
+{
+    Command::new(alloc, "play")
+        .about(help::PLAY)
+        .long_about(help::PLAY_AT_LENGTH)
+        .after_help(help::PLAYS)
+        .arg(path_arg(alloc, "file", "FILE", help::FILE))
 }
 
 fn check_command<'a>(alloc: Global) -> Result<Command<'a>, AllocError>

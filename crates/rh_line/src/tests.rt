@@ -17,7 +17,18 @@ fn run_of(alloc: Global, words: &[&str]) -> Result<Option<(usize, String)>, Fail
     Ok(match line_of(alloc, words)? {
         Ok(line) => match line {
             Line::Run { workers, script } => Some((workers, script)),
-            Line::Dump | Line::Check { .. } => None,
+            Line::Dump | Line::Play { .. } | Line::Check { .. } => None,
+        },
+        Err(_fault) => None,
+    })
+}
+
+// The file, of words that are `play`.
+fn play_of(alloc: Global, words: &[&str]) -> Result<Option<String>, Fail> {
+    Ok(match line_of(alloc, words)? {
+        Ok(line) => match line {
+            Line::Play { file } => Some(file),
+            Line::Dump | Line::Run { .. } | Line::Check { .. } => None,
         },
         Err(_fault) => None,
     })
@@ -28,7 +39,7 @@ fn check_of(alloc: Global, words: &[&str]) -> Result<Option<String>, Fail> {
     Ok(match line_of(alloc, words)? {
         Ok(line) => match line {
             Line::Check { snapshot } => Some(snapshot),
-            Line::Dump | Line::Run { .. } => None,
+            Line::Dump | Line::Run { .. } | Line::Play { .. } => None,
         },
         Err(_fault) => None,
     })
@@ -79,6 +90,21 @@ fn a_script_may_have_any_name(rt: HostRuntime) -> Result<(), Fail> {
 }
 
 #[test]
+fn play_is_a_command(rt: HostRuntime) -> Result<(), Fail> {
+    let asked: [(&[&str], &str); 4] = [
+        (&["play", "f"], "f"),
+        (&["play", "--", "-f"], "-f"),
+        (&["play", "play"], "play"),
+        (&["play", ""], ""),
+    ];
+    for (words, name) in asked {
+        let file = play_of(rt.alloc(), words)?.ok_or("no play")?;
+        assert!(rt; file.as_str() == name, "{words:?}");
+    }
+    Ok(())
+}
+
+#[test]
 fn check_is_a_command(rt: HostRuntime) -> Result<(), Fail> {
     let asked: [(&[&str], &str); 4] = [
         (&["check", "s"], "s"),
@@ -95,7 +121,7 @@ fn check_is_a_command(rt: HostRuntime) -> Result<(), Fail> {
 
 #[test]
 fn other_words_are_refused(rt: HostRuntime) -> Result<(), Fail> {
-    let refused: [&[&str]; 16] = [
+    let refused: [&[&str]; 19] = [
         &[],
         &["dumb"],
         &["dump", "extra"],
@@ -109,6 +135,9 @@ fn other_words_are_refused(rt: HostRuntime) -> Result<(), Fail> {
         &["run", "--workers=", "s"],
         &["run", "--workers=1", "--workers=1", "s"],
         &["run", "a", "b"],
+        &["play"],
+        &["play", "a", "b"],
+        &["play", "--workers", "1", "a"],
         &["check"],
         &["check", "a", "b"],
         &["check", "--workers", "1", "a"],
@@ -122,7 +151,7 @@ fn other_words_are_refused(rt: HostRuntime) -> Result<(), Fail> {
 
 #[test]
 fn help_and_version_are_no_mistake(rt: HostRuntime) -> Result<(), Fail> {
-    let asked: [&[&str]; 11] = [
+    let asked: [&[&str]; 14] = [
         &["--help"],
         &["-h"],
         &["help", "dump"],
@@ -130,6 +159,9 @@ fn help_and_version_are_no_mistake(rt: HostRuntime) -> Result<(), Fail> {
         &["help", "run"],
         &["run", "--help"],
         &["run", "-h", "s"],
+        &["help", "play"],
+        &["play", "--help"],
+        &["play", "-h"],
         &["help", "check"],
         &["check", "--help"],
         &["check", "-h"],

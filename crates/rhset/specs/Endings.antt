@@ -8,6 +8,12 @@ use Rattle.rh_snapshot.specs.declared.fault.SnapFault.{SnapFault}
 use Rattle.rh_snapshot.specs.declared.fault.SnapFault.TheVariants as snap
 use Rattle.rh_planner.specs.declared.fault.Cause.{Cause}
 use Rattle.rh_planner.specs.declared.fault.Cause.TheVariants as causes
+use Rattle.rh_play.specs.declared.fault.PlayTextKind.{PlayTextKind}
+use Rattle.rh_play.specs.declared.fault.PlayTextKind.TheVariants as texts
+use Rattle.rh_player.specs.declared.fault.PlayFault.{PlayFault}
+use Rattle.rh_player.specs.declared.fault.PlayFault.TheVariants as starts
+use Rattle.rh_play_run.specs.declared.fault.PlayRunFault.{PlayRunFault}
+use Rattle.rh_play_run.specs.declared.fault.PlayRunFault.TheVariants as plays
 use Rattle.rh_commands.specs.declared.check.CheckFault.TheVariants as check
 use Rattle.rh_commands.specs.declared.dump.DumpFault.TheVariants as dump
 use Rattle.rhset.specs.declared.status.Fault.{Fault}
@@ -47,6 +53,24 @@ ending_by_cause causes.Put = Write
 ending_by_cause causes.Write = Write
 ending_by_cause cause = Refused
 
+-- how a run ends whose text is no play
+abbrev pub ending_by_text : PlayTextKind → Status
+ending_by_text texts.Memory = Memory
+ending_by_text kind = Refused
+
+-- how a run ends whose play does not begin
+abbrev pub ending_by_start : PlayFault → Status
+ending_by_start starts.Memory = Memory
+ending_by_start fault = Refused
+
+-- how a run ends whose play was not run, or not told to its end
+abbrev pub ending_by_play : PlayRunFault → Status
+ending_by_play plays.Read = Refused
+ending_by_play (plays.Text fault) = ending_by_text fault.kind
+ending_by_play (plays.Start fault) = ending_by_start fault
+ending_by_play plays.Memory = Memory
+ending_by_play plays.Write = Write
+
 -- how a run ends that a fault ended early
 abbrev pub ending_by : Fault → Status
 ending_by fault.NotText = CommandLine
@@ -62,3 +86,4 @@ ending_by (fault.Check (check.Snap fault)) = ending_by_snapshot fault
 ending_by (fault.Check check.Write) = Write
 ending_by (fault.Script fault) = ending_by_line fault.kind
 ending_by (fault.Run fault) = ending_by_cause fault.cause
+ending_by (fault.Play fault) = ending_by_play fault

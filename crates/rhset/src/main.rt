@@ -14,6 +14,7 @@ use input::open;
 use rh_commands::{check_snapshot, dump_keys};
 use rh_files::Counted;
 use rh_line::{Line, LineFault, line};
+use rh_play_run::run_play;
 use script::run_script;
 use status::{Fault, Status};
 use std::env::Env;
@@ -41,6 +42,7 @@ fn carry_out(
             run_script(rt, &script)?;
             Ok(Status::Done)
         }
+        Ok(Line::Play { file }) => play_file(rt, &file),
         Ok(Line::Check { snapshot }) => check_file(rt, &snapshot),
         Err(LineFault::Words(error)) => answer(rt, &error),
         Err(LineFault::Memory) => Err(Fault::Memory),
@@ -62,6 +64,18 @@ fn dump_streams(rt: &(impl Input + Print + AllocGlobal)) -> Result<Status, Fault
     let mut reader = Counted::new(input);
     let mut writer = Counted::new(output);
     dump_keys(rt.alloc(), &mut reader, &mut writer).map_err(Fault::Dump)?;
+    writer.flush().map_err(|_| Fault::Write)?;
+    Ok(Status::Done)
+}
+
+// Runs the play at the path and writes what it prints to standard output. Both go through a buffer.
+fn play_file(rt: &(impl Files + Print + AllocGlobal), path: &str) -> Result<Status, Fault> {
+    let file = open(rt, path)?;
+    let input = BufReader::new(rt.alloc(), file).map_err(|_| Fault::Memory)?;
+    let output = BufWriter::new(rt.alloc(), io::writer(rt)).map_err(|_| Fault::Memory)?;
+    let mut reader = Counted::new(input);
+    let mut writer = Counted::new(output);
+    run_play(rt.alloc(), &mut reader, &mut writer).map_err(Fault::Play)?;
     writer.flush().map_err(|_| Fault::Write)?;
     Ok(Status::Done)
 }

@@ -1,7 +1,13 @@
 //! How the program ends.
 
+ghost use Rattle.std.specs.Prelude.{◌≡◌};
+ghost use Rattle.rhset.specs.Endings.{ending_by, ending_by_play, number_of};
+
 use rh_commands::{CheckFault, DumpFault};
 use rh_planner::{Cause, RunFault};
+use rh_play::PlayTextKind;
+use rh_play_run::PlayRunFault;
+use rh_player::PlayFault;
 use rh_script::{ScriptFault, ScriptFaultKind};
 use rh_snapshot::SnapFault;
 use std::process::ExitCode;
@@ -18,9 +24,7 @@ pub enum Status {
 }
 
 impl From<Status> for ExitCode {
-    ghost use Rattle.std.specs.Prelude.{◌≡◌};
     ghost use Rattle.std.specs.Process.{exit_status};
-    ghost use Rattle.rhset.specs.Endings.{number_of};
 
     ghost from_gives = { λ status code. exit_status code ≡ number_of status };
 
@@ -38,7 +42,7 @@ pub enum Fault {
     Memory,
     #[error("cannot write the output")]
     Write,
-    /// The file of a script or a snapshot.
+    /// The file of a script, a play or a snapshot.
     #[error("cannot open the file")]
     Open,
     #[error("read failed")]
@@ -51,12 +55,11 @@ pub enum Fault {
     Script(ScriptFault),
     #[error(transparent)]
     Run(RunFault),
+    #[error(transparent)]
+    Play(PlayRunFault),
 }
 
 impl Fault {
-    ghost use Rattle.std.specs.Prelude.{◌≡◌};
-    ghost use Rattle.rhset.specs.Endings.{ending_by};
-
     /// How a run ends that this ended early.
     pub fn status(&self) -> Status
         ensures { result ≡ ending_by self.now }
@@ -83,6 +86,21 @@ impl Fault {
                 Cause::Put | Cause::Write => Status::Write,
                 _ => Status::Refused,
             },
+            Fault::Play(fault) => status_of_play(fault),
         }
+    }
+}
+
+fn status_of_play(fault: &PlayRunFault) -> Status
+    ensures { result ≡ ending_by_play fault.now }
+{
+    match fault {
+        PlayRunFault::Memory | PlayRunFault::Start(PlayFault::Memory) => Status::Memory,
+        PlayRunFault::Read | PlayRunFault::Start(_) => Status::Refused,
+        PlayRunFault::Text(fault) => match fault.kind {
+            PlayTextKind::Memory => Status::Memory,
+            _ => Status::Refused,
+        },
+        PlayRunFault::Write => Status::Write,
     }
 }

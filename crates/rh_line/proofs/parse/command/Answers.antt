@@ -1,7 +1,7 @@
 use Rattle.std.proofs.Common.{refl}
 use Rattle.std.proofs.lemmas.Result.{IfOk-weaker}
 use Rattle.clap.specs.Words.{with_subcommand}
-use Rattle.rh_line.specs.App.{check_app, dump_app, program_app, run_app}
+use Rattle.rh_line.specs.App.{check_app, dump_app, play_app, program_app, run_app}
 use Rattle.rh_line.proofs.BuilderLemmas.{app_with_subcommand}
 use Rattle.rh_line.proofs.parse.command.Goals as goal
 
@@ -9,7 +9,9 @@ pub returns : goal.returns
 returns c =
     let with_dump = app_with_subcommand _ _ _ program_app dump_app c.in_ok-subcommand.ensures c.in_ok-program_command.ensures c.dump_command.ensures refl in
     let with_run = app_with_subcommand _ _ _ (with_subcommand program_app dump_app.top) run_app c.in_ok-subcommand-2.ensures with_dump c.in_ok-run_command.ensures refl in
-    IfOk-weaker c.subcommand-3.result _ _
-    (λ command adds. app_with_subcommand _ _ command (with_subcommand (with_subcommand program_app dump_app.top) run_app.top) check_app adds with_run
-    c.in_ok-check_command.ensures refl)
-    c.subcommand-3.ensures
+    let with_play = app_with_subcommand _ _ _ (with_subcommand (with_subcommand program_app dump_app.top) run_app.top) play_app c.in_ok-subcommand-3.ensures with_run
+    c.in_ok-play_command.ensures refl in
+    IfOk-weaker c.subcommand-4.result _ _
+    (λ command adds. app_with_subcommand _ _ command (with_subcommand (with_subcommand (with_subcommand program_app dump_app.top) run_app.top) play_app.top) check_app adds
+    with_play c.in_ok-check_command.ensures refl)
+    c.subcommand-4.ensures
