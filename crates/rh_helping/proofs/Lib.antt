@@ -1,3 +1,4 @@
+mod Refers
 mod Sides
 mod Made
 mod Growing

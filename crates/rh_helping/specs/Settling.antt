@@ -73,3 +73,8 @@ IsSettling v (settling.Entry x c d) = In (found (ref_of x) c) v.side.notes × In
 IsSettling v (settling.Control x p) = IsFound v x p
 IsSettling v (settling.Old x p) = IsFound v x p × In (may_demote (ref_of x)) v.side.notes
 IsSettling v (settling.Settle x p old) = IsFound v x p × MaySwap v x p old
+
+-- what the step leads to: the next one, and none once the mark is settled
+abbrev pub LeadsOn : View → Settling → Option Settling → Type 0
+LeadsOn v s None = kind_of_settling s ≡ kind.Settle
+LeadsOn v s (Some next) = IsSettling v next

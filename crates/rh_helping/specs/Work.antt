@@ -1,5 +1,5 @@
 -- What is so at each next step of a worker on a descriptor, and what a step leads to. (own)
-use Rattle.std.specs.Prelude.{◌≡◌, ℕ, ◌<◌, ◌≤◌, ◌⊎◌, Option, Some, None, Bool, true, [], ◌∷◌}
+use Rattle.std.specs.Prelude.{◌≡◌, ℕ, ◌+◌, ◌<◌, ◌≤◌, ◌⊎◌, Option, Some, None, Bool, true, [], ◌∷◌}
 use Rattle.rh_tagword.specs.declared.control.Control.{Control}
 use Rattle.rh_tagword.specs.declared.control.Control.TheVariants.{Unused, Undecided, Succeeded, Withdrawn, Failed}
 use Rattle.rh_world.specs.World.{Ref, In}
@@ -136,3 +136,14 @@ Leads z v opens (On w) = KnowsOwn v opens × Stands z v w
 Leads z v opens Over = KnowsOwn v None × OwesNothing v × (opens ≡ None)
 Leads z v opens (Closed k) = (number : ℕ) × (opens ≡ Some number) × IsClosed v number k
 Leads z v opens Spent = KnowsOwn v None × OwesNothing v × (opens ≡ None) × (z.mark_room ≤ v.marks_used)
+
+-- the step releases the last entry of a descriptor
+abbrev pub ReleasesLast : Work → Type 0
+ReleasesLast w = (g : Goal) × (w ≡ work.Release g) × (g.task.entry + 1 ≡ g.task.size)
+
+-- Where marks are left, nothing else ends the work.
+abbrev pub MayEnd : Work → Outcome → Type 0
+MayEnd w (On next) = Unit {0}
+MayEnd w Over = ReleasesLast w
+MayEnd w (Closed k) = ReleasesLast w
+MayEnd w Spent = Unit {0}

@@ -7,7 +7,7 @@ ghost use Rattle.rh_descriptor.specs.Words.{control_of};
 ghost use Rattle.rh_helping.specs.Relies.{Relies};
 ghost use Rattle.rh_helping.specs.Settling.{HasMade};
 ghost use Rattle.rh_helping.specs.Goal.{KnowsOwn};
-ghost use Rattle.rh_helping.specs.Work.{Stands, Leads};
+ghost use Rattle.rh_helping.specs.Work.{Stands, Leads, MayEnd};
 ghost use Rattle.rh_helping.specs.declared.work.Work.TheVariants.{Fail, Succeed, Withdraw};
 
 use crate::goal::Task;
@@ -32,6 +32,7 @@ pub(crate) fn fail(
     ensures made { HasMade shape.now StepKind.Decide words.old side.old.known.view
         words.new side.new.known.view }
     ensures leads { Leads shape.now side.new.known.view opens result }
+    ensures ends { MayEnd (Fail task) result }
 {
     let failed = Control::Failed {
         entry: task.entry as u64,
@@ -60,6 +61,7 @@ pub(crate) fn succeed(
     ensures made { HasMade shape.now StepKind.Decide words.old side.old.known.view
         words.new side.new.known.view }
     ensures leads { Leads shape.now side.new.known.view opens result }
+    ensures ends { MayEnd (Succeed task) result }
 {
     let found = decide_desc(shape, words, side, task.desc, Control::Succeeded);
     let next = Task {
@@ -85,6 +87,7 @@ pub(crate) fn withdraw(
     ensures made { HasMade shape.now StepKind.Decide words.old side.old.known.view
         words.new side.new.known.view }
     ensures leads { Leads shape.now side.new.known.view opens result }
+    ensures ends { MayEnd (Withdraw number) result }
 {
     let desc = Ref {
         worker: side.worker,

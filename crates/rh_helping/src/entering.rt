@@ -5,7 +5,7 @@ ghost use Rattle.rh_descriptor.specs.Places.{IsShape, word_count};
 ghost use Rattle.rh_helping.specs.Relies.{Relies};
 ghost use Rattle.rh_helping.specs.Settling.{HasMade};
 ghost use Rattle.rh_helping.specs.Goal.{KnowsOwn};
-ghost use Rattle.rh_helping.specs.Work.{Stands, Leads};
+ghost use Rattle.rh_helping.specs.Work.{Stands, Leads, MayEnd};
 
 use crate::goal::{Goal, Task};
 use crate::going::{at_entry, ready, start};
@@ -29,6 +29,7 @@ pub(crate) fn read_control(
     ensures made { HasMade shape.now StepKind.Read words.now side.old.known.view
         words.now side.new.known.view }
     ensures leads { Leads shape.now side.new.known.view opens result }
+    ensures ends { MayEnd (Work.Control desc) result }
 {
     let control = control_of_word(read_word(shape, words, side, Reading::Control(desc)));
     start(shape, words, side, opens, desc, control)
@@ -50,6 +51,7 @@ pub(crate) fn read_length(
     ensures made { HasMade shape.now StepKind.Read words.now side.old.known.view
         words.now side.new.known.view }
     ensures leads { Leads shape.now side.new.known.view opens result }
+    ensures ends { MayEnd (Work.Length desc control) result }
 {
     let size = read_word(shape, words, side, Reading::Length(desc)) as usize;
     let task = Task {
@@ -76,6 +78,7 @@ pub(crate) fn read_cell(
     ensures made { HasMade shape.now StepKind.Read words.now side.old.known.view
         words.now side.new.known.view }
     ensures leads { Leads shape.now side.new.known.view opens result }
+    ensures ends { MayEnd (Work.EntryCell task) result }
 {
     let reading = Reading::EntryCell {
         desc: task.desc,
@@ -101,6 +104,7 @@ pub(crate) fn read_old(
     ensures made { HasMade shape.now StepKind.Read words.now side.old.known.view
         words.now side.new.known.view }
     ensures leads { Leads shape.now side.new.known.view opens result }
+    ensures ends { MayEnd (Work.EntryOld task cell) result }
 {
     let reading = Reading::EntryOld {
         desc: task.desc,
@@ -127,6 +131,7 @@ pub(crate) fn read_new(
     ensures made { HasMade shape.now StepKind.Read words.now side.old.known.view
         words.now side.new.known.view }
     ensures leads { Leads shape.now side.new.known.view opens result }
+    ensures ends { MayEnd (Work.EntryNew task cell old) result }
 {
     let reading = Reading::EntryNew {
         desc: task.desc,

@@ -7,7 +7,8 @@ ghost use Rattle.rh_descriptor.specs.declared.shape.Part.TheVariants as part;
 ghost use Rattle.rh_descriptor.specs.declared.shape.Shape.{Shape};
 ghost use Rattle.rh_helping.specs.Goal.{KnowsGoal, KnowsOwn, OwesNothing, StandsAt};
 ghost use Rattle.rh_helping.specs.Relies.{Trusts};
-ghost use Rattle.rh_helping.specs.Work.{IsAt, IsNext, Leads, Owes};
+ghost use Rattle.rh_helping.specs.Work.{IsAt, IsNext, Leads, MayEnd, Owes, ReleasesLast};
+ghost use Rattle.rh_helping.specs.declared.work.Work.{Work};
 ghost use Rattle.rh_rule.specs.Mirrors.{word_at};
 
 use crate::goal::{Goal, Task};
@@ -31,7 +32,8 @@ pub(crate) fn start(
     requires own { KnowsOwn side.now.known.view opens }
     requires owes { OwesNothing side.now.known.view }
     requires stands { StandsAt side.now.known.view.side.notes (ref_of desc) control 0 }
-    ensures { Leads shape.now side.now.known.view opens result }
+    ensures leads { Leads shape.now side.now.known.view opens result }
+    ensures ends { (w : Work) → MayEnd w result }
 {
     if desc.worker != side.worker {
         return Outcome::On(Work::Length { desc, control });
@@ -62,7 +64,8 @@ pub(crate) fn at_entry(
     requires trusts { Trusts shape.now words.now side.now.known.view }
     requires own { KnowsOwn side.now.known.view opens }
     requires next { IsNext side.now.known.view task }
-    ensures { Leads shape.now side.now.known.view opens result }
+    ensures leads { Leads shape.now side.now.known.view opens result }
+    ensures ends { (w : Work) → MayEnd w result }
 {
     if task.entry == task.size {
         Outcome::On(Work::Succeed(task))
@@ -78,7 +81,8 @@ pub(crate) fn ready(shape: &Shape, side: &Side, opens: Option<usize>, goal: Goal
     requires own { KnowsOwn side.now.known.view opens }
     requires goal { KnowsGoal side.now.known.view goal }
     requires owes { Owes side.now.known.view (ref_of goal.task.desc) goal.task.control goal.task.entry goal.task.size }
-    ensures { Leads shape.now side.now.known.view opens result }
+    ensures leads { Leads shape.now side.now.known.view opens result }
+    ensures ends { (w : Work) → MayEnd w result }
 {
     if goal.task.control.is_decided() {
         Outcome::On(Work::Release(goal))
@@ -96,7 +100,8 @@ pub(crate) fn ready(shape: &Shape, side: &Side, opens: Option<usize>, goal: Goal
 pub(crate) fn resume(side: &Side, opens: Option<usize>) -> Outcome
     requires own { KnowsOwn side.now.known.view opens }
     requires owes { OwesNothing side.now.known.view }
-    ensures { (z : Shape) → Leads z side.now.known.view opens result }
+    ensures leads { (z : Shape) → Leads z side.now.known.view opens result }
+    ensures ends { (w : Work) → ReleasesLast w → MayEnd w result }
 {
     match opens {
         Some(number) => Outcome::On(Work::Control(Ref {

@@ -6,7 +6,7 @@ ghost use Rattle.rh_descriptor.specs.Places.{IsShape, word_count};
 ghost use Rattle.rh_helping.specs.Relies.{Relies};
 ghost use Rattle.rh_helping.specs.Settling.{HasMade, kind_of_settling};
 ghost use Rattle.rh_helping.specs.Goal.{KnowsOwn};
-ghost use Rattle.rh_helping.specs.Work.{Stands, Leads};
+ghost use Rattle.rh_helping.specs.Work.{Stands, Leads, MayEnd};
 
 use crate::goal::{Goal, Placed, Task};
 use crate::going::{at_entry, ready};
@@ -33,6 +33,7 @@ pub(crate) fn write_desc(
     ensures made { HasMade shape.now StepKind.Write words.old side.old.known.view
         words.new side.new.known.view }
     ensures leads { Leads shape.now side.new.known.view opens result }
+    ensures ends { MayEnd (Work.MarkDesc goal) result }
 {
     let word = desc_word(shape, goal.task.desc);
     let part = Part::MarkDesc {
@@ -58,6 +59,7 @@ pub(crate) fn write_entry(
     ensures made { HasMade shape.now StepKind.Write words.old side.old.known.view
         words.new side.new.known.view }
     ensures leads { Leads shape.now side.new.known.view opens result }
+    ensures ends { MayEnd (Work.MarkEntry goal) result }
 {
     let part = Part::MarkEntry {
         worker: side.worker,
@@ -83,6 +85,7 @@ pub(crate) fn place(
     ensures made { HasMade shape.now StepKind.Place words.old side.old.known.view
         words.new side.new.known.view }
     ensures leads { Leads shape.now side.new.known.view opens result }
+    ensures ends { MayEnd (Work.Place goal) result }
 {
     let task = goal.task;
     let mark = Ref {
@@ -138,6 +141,7 @@ pub(crate) fn settle(
     ensures made { HasMade shape.now (kind_of_settling settling) words.old side.old.known.view
         words.new side.new.known.view }
     ensures leads { Leads shape.now side.new.known.view opens result }
+    ensures ends { MayEnd (Work.Settle settling goal) result }
 {
     match settling.step(shape, words, side) {
         Some(settling) => Outcome::On(Work::Settle { settling, goal }),
@@ -160,6 +164,7 @@ pub(crate) fn read_control(
     ensures made { HasMade shape.now StepKind.Read words.now side.old.known.view
         words.now side.new.known.view }
     ensures leads { Leads shape.now side.new.known.view opens result }
+    ensures ends { MayEnd (Work.MarkControl placed) result }
 {
     let reading = Reading::MarkControl {
         mark: placed.mark,
@@ -197,6 +202,7 @@ pub(crate) fn promote(
     ensures made { HasMade shape.now StepKind.Settle words.old side.old.known.view
         words.new side.new.known.view }
     ensures leads { Leads shape.now side.new.known.view opens result }
+    ensures ends { MayEnd (Work.Promote placed) result }
 {
     let goal = placed.goal;
     let mark = placed.mark;
@@ -225,6 +231,7 @@ pub(crate) fn demote(
     ensures made { HasMade shape.now StepKind.Settle words.old side.old.known.view
         words.new side.new.known.view }
     ensures leads { Leads shape.now side.new.known.view opens result }
+    ensures ends { MayEnd (Work.Demote placed) result }
 {
     let goal = placed.goal;
     let piece = Piece {
@@ -256,6 +263,7 @@ pub(crate) fn recheck(
     ensures made { HasMade shape.now StepKind.Read words.now side.old.known.view
         words.now side.new.known.view }
     ensures leads { Leads shape.now side.new.known.view opens result }
+    ensures ends { MayEnd (Work.Recheck goal promoted) result }
 {
     let task = goal.task;
     let reading = Reading::Control(task.desc);

@@ -16,6 +16,6 @@ mod work;
 
 pub use goal::{Goal, Placed, Task};
 pub use laws::workers_rely;
-pub use reading::{Met, what_stands};
+pub use reading::{Met, named_desc, what_stands};
 pub use settling::Settling;
 pub use work::{Outcome, Work};

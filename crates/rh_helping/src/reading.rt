@@ -1,6 +1,6 @@
 //! What words say.
 
-ghost use Rattle.std.specs.Prelude.{◌≡◌, IfSome, Some};
+ghost use Rattle.std.specs.Prelude.{◌≡◌, option_map};
 ghost use Rattle.rh_descriptor.specs.Words.{cell_in, control_of, desc_in, read_control, ref_of};
 ghost use Rattle.rh_helping.specs.Met.{cell_met};
 
@@ -12,19 +12,6 @@ pub(crate) fn control_of_word(word: u64) -> Control
     ensures { control_of result ≡ read_control word }
 {
     unpack_control(word).unwrap_or(Control::Withdrawn)
-}
-
-/// The descriptor that the row of a placed mark names.
-pub(crate) fn named_desc(word: u64) -> Option<Ref>
-    ensures { IfSome result (λ desc. desc_in word ≡ Some (ref_of desc)) }
-{
-    match unpack(word) {
-        Some(Word::Desc { worker, number }) => Some(Ref {
-            worker: worker as usize,
-            number: number as usize,
-        }),
-        _ => None,
-    }
 }
 
 /// What stands in a cell.
@@ -50,5 +37,16 @@ pub fn what_stands(word: u64) -> Met
             number: number as usize,
         }),
         _ => Met::Value,
+    }
+}
+
+/// The descriptor that a word refers to.
+#[tactic(auto, using(crate::proofs::Refers::refers))]
+pub fn named_desc(word: u64) -> Option<Ref>
+    ensures { option_map ref_of result ≡ desc_in word }
+{
+    match what_stands(word) {
+        Met::Desc(desc) => Some(desc),
+        _ => None,
     }
 }

@@ -5,7 +5,7 @@ ghost use Rattle.rh_descriptor.specs.Places.{IsShape, word_count};
 ghost use Rattle.rh_helping.specs.Relies.{Relies};
 ghost use Rattle.rh_helping.specs.Settling.{HasMade};
 ghost use Rattle.rh_helping.specs.Goal.{KnowsOwn, released_value};
-ghost use Rattle.rh_helping.specs.Work.{Stands, Leads};
+ghost use Rattle.rh_helping.specs.Work.{Stands, Leads, MayEnd};
 ghost use Rattle.rh_helping.specs.declared.work.Work.TheVariants.{Release};
 
 use crate::goal::{Goal, Task};
@@ -30,6 +30,7 @@ pub(crate) fn release(
     ensures made { HasMade shape.now StepKind.Release words.old side.old.known.view
         words.new side.new.known.view }
     ensures leads { Leads shape.now side.new.known.view opens result }
+    ensures ends { MayEnd (Release goal) result }
 {
     let task = goal.task;
     let own = is_open(side.worker, opens, task.desc);

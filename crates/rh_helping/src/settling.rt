@@ -1,10 +1,10 @@
 //! Settling a mark that was met in a cell, as RDCSS is helped (Harris, Fraser and Pratt 2002).
 
-ghost use Rattle.std.specs.Prelude.{◌≡◌, length, None, MatchOption};
+ghost use Rattle.std.specs.Prelude.{◌≡◌, length, None};
 ghost use Rattle.rh_descriptor.specs.Places.{IsShape, word_count};
 ghost use Rattle.rh_helping.specs.Goal.{OwesNothing};
 ghost use Rattle.rh_helping.specs.Relies.{Relies};
-ghost use Rattle.rh_helping.specs.Settling.{Grows, HasMade, IsSettling, kind_of_settling};
+ghost use Rattle.rh_helping.specs.Settling.{Grows, HasMade, IsSettling, LeadsOn, kind_of_settling};
 
 use crate::reading::{control_of_word, named_desc};
 use rh_descriptor::{Piece, Reading, Ref, Shape, Side, StepKind, read_word, settle_mark};
@@ -62,7 +62,7 @@ impl Settling {
         ensures made { HasMade shape.now (kind_of_settling self) words.old side.old.known.view
             words.new side.new.known.view }
         ensures grows { Grows side.old.known.view side.new.known.view }
-        ensures settling { MatchOption result Unit (IsSettling side.new.known.view) }
+        ensures leads { LeadsOn side.new.known.view self result }
     {
         match self {
             Settling::Desc { mark, cell } => read_desc(shape, words, side, mark, cell),
@@ -89,11 +89,13 @@ fn read_desc(
     requires settling { IsSettling side.old.known.view (Settling.Desc mark cell) }
     ensures made { HasMade shape.now StepKind.Read words.now side.old.known.view words.now side.new.known.view }
     ensures grows { Grows side.old.known.view side.new.known.view }
-    ensures settling { MatchOption result Unit (IsSettling side.new.known.view) }
+    ensures leads { LeadsOn side.new.known.view (Settling.Desc mark cell) result }
 {
     let word = read_word(shape, words, side, Reading::MarkDesc(mark));
-    let desc = named_desc(word)?;
-    Some(Settling::Entry { mark, cell, desc })
+    match named_desc(word) {
+        Some(desc) => Some(Settling::Entry { mark, cell, desc }),
+        None => unreachable!(),
+    }
 }
 
 fn read_entry(
@@ -110,7 +112,7 @@ fn read_entry(
     requires settling { IsSettling side.old.known.view (Settling.Entry mark cell desc) }
     ensures made { HasMade shape.now StepKind.Read words.now side.old.known.view words.now side.new.known.view }
     ensures grows { Grows side.old.known.view side.new.known.view }
-    ensures settling { MatchOption result Unit (IsSettling side.new.known.view) }
+    ensures leads { LeadsOn side.new.known.view (Settling.Entry mark cell desc) result }
 {
     let entry = read_word(shape, words, side, Reading::MarkEntry(mark)) as usize;
     let piece = Piece { desc, entry, cell };
@@ -131,7 +133,7 @@ fn read_control(
     requires settling { IsSettling side.old.known.view (Settling.Control mark piece) }
     ensures made { HasMade shape.now StepKind.Read words.now side.old.known.view words.now side.new.known.view }
     ensures grows { Grows side.old.known.view side.new.known.view }
-    ensures settling { MatchOption result Unit (IsSettling side.new.known.view) }
+    ensures leads { LeadsOn side.new.known.view (Settling.Control mark piece) result }
 {
     let reading = Reading::MarkControl {
         mark,
@@ -163,7 +165,7 @@ fn read_old(
     requires settling { IsSettling side.old.known.view (Settling.Old mark piece) }
     ensures made { HasMade shape.now StepKind.Read words.now side.old.known.view words.now side.new.known.view }
     ensures grows { Grows side.old.known.view side.new.known.view }
-    ensures settling { MatchOption result Unit (IsSettling side.new.known.view) }
+    ensures leads { LeadsOn side.new.known.view (Settling.Old mark piece) result }
 {
     let reading = Reading::EntryOld {
         desc: piece.desc,

@@ -5,7 +5,7 @@ ghost use Rattle.rh_descriptor.specs.Places.{IsShape, word_count};
 ghost use Rattle.rh_helping.specs.Relies.{Relies};
 ghost use Rattle.rh_helping.specs.Settling.{HasMade};
 ghost use Rattle.rh_helping.specs.Goal.{KnowsOwn};
-ghost use Rattle.rh_helping.specs.Work.{Stands, Leads, kind_of_work};
+ghost use Rattle.rh_helping.specs.Work.{Stands, Leads, MayEnd, kind_of_work};
 
 use crate::goal::{Goal, Placed, Task};
 use crate::settling::Settling;
@@ -57,7 +57,7 @@ pub enum Work {
 pub enum Outcome {
     /// The next step.
     On(Work),
-    /// Nothing is left to do: no own descriptor is open, and nothing is owed.
+    /// The descriptor is released. No own descriptor is open, and nothing is owed.
     Over,
     /// The own descriptor that was open is decided so, and released.
     Closed(Control),
@@ -98,6 +98,7 @@ impl Work {
         ensures made { HasMade shape.now (kind_of_work self) words.old side.old.known.view
             words.new side.new.known.view }
         ensures leads { Leads shape.now side.new.known.view opens result }
+        ensures ends { MayEnd self result }
     {
         match self {
             Work::Control(desc) => entering::read_control(shape, words, side, opens, desc),

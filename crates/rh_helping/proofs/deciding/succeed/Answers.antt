@@ -29,3 +29,6 @@ at_entry-requires-clause-next c =
 
 pub returns-clause-made : goal.returns-clause-made
 returns-clause-made c = made _ _ _ _ _ _ _ tt (may_succeed _ _ _ c.requires.relies.now c.args.task c.requires.stands.0 c.requires.stands.1 c.requires.stands.2) c.decide_desc-found.ensures
+
+pub returns-clause-ends : goal.returns-clause-ends
+returns-clause-ends c = c.at_entry.ensures.ends _

@@ -26,3 +26,6 @@ start-requires-clause-stands c =
 
 pub returns-clause-made : goal.returns-clause-made
 returns-clause-made c = made _ _ _ _ _ _ _ tt (may_read_control _ _ _ c.requires.relies.now _ c.requires.stands.1) c.read_word.ensures
+
+pub returns-clause-ends : goal.returns-clause-ends
+returns-clause-ends c = c.start.ensures.ends _

@@ -27,3 +27,6 @@ at_entry-requires-clause-next c =
 
 pub returns-clause-made : goal.returns-clause-made
 returns-clause-made c = made _ _ _ _ _ _ _ tt (may_read_length _ _ _ c.requires.relies.now _ c.args.control c.requires.stands.1) c.read_word-size.ensures
+
+pub returns-clause-ends : goal.returns-clause-ends
+returns-clause-ends c = c.at_entry.ensures.ends _

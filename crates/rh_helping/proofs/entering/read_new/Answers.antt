@@ -32,3 +32,6 @@ ready-requires-clause-owes c =
 
 pub returns-clause-made : goal.returns-clause-made
 returns-clause-made c = made _ _ _ _ _ _ _ tt (may_read_new _ _ _ c.requires.relies.now _ c.requires.stands.0) c.read_word-new.ensures
+
+pub returns-clause-ends : goal.returns-clause-ends
+returns-clause-ends c = c.ready.ensures.ends _

@@ -74,3 +74,6 @@ returns-else-eq-clause-leads c =
     let g = grows_note c.args.side.now.known.view n in
     lead c.args.shape.now _ _ _ (On (work.Control c.in-Desc.desc)) (c.place_mark-found.ensures.view_is ∙ noted_next c.args.shape.now _ c.args.side.now.known.view c.requires.relies.now c.args.goal c.requires.stands.0 c.place_mark-found.result c.if-found-goal.false (n) (saw_other c.args.shape.now _ c.args.side.now.known.view c.requires.relies.now c.args.goal c.requires.stands.0 c.place_mark-found.result (ref_of c.in-Desc.desc) c.in-Desc.ensures (sym c.if-eq.ensures)))
     (own_grows _ _ g _ c.requires.own, (nothing_grows _ _ g c.requires.stands.0.owes, inl (inl refl)))
+
+pub returns-then-eq-clause-ends : goal.returns-then-eq-clause-ends
+returns-then-eq-clause-ends c = c.at_entry.ensures.ends _

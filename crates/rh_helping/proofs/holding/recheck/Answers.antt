@@ -50,3 +50,9 @@ returns-then-promoted-clause-made c = made _ _ _ _ _ _ _ tt (may_read_control _ 
 
 pub returns-else-promoted-clause-made : goal.returns-else-promoted-clause-made
 returns-else-promoted-clause-made c = made _ _ _ _ _ _ _ tt (may_read_control _ _ _ c.requires.relies.now c.args.goal.task.desc (task_known _ _ _ c.requires.relies.now c.args.goal.task c.requires.stands.0.goal.task)) c.read_word.ensures
+
+pub returns-then-promoted-clause-ends : goal.returns-then-promoted-clause-ends
+returns-then-promoted-clause-ends c = c.at_entry-then-promoted.ensures.ends _
+
+pub returns-else-promoted-clause-ends : goal.returns-else-promoted-clause-ends
+returns-else-promoted-clause-ends c = c.ready.ensures.ends _

@@ -1,4 +1,4 @@
-use Rattle.std.proofs.Common.{sym, true≢false, ◌∙◌}
+use Rattle.std.proofs.Common.{arith, refl, sym, true≢false, ◌∙◌}
 use Rattle.rh_helping.proofs.Made.{made}
 use Rattle.rh_helping.proofs.Released.{may_release, release_closes, release_leaves, release_next, release_own}
 use Rattle.rh_helping.proofs.releasing.release.Goals as goal
@@ -36,4 +36,13 @@ pub returns-else-own-clause-made : goal.returns-else-own-clause-made
 returns-else-own-clause-made c = made _ _ _ _ _ _ _ tt (may_release _ _ _ c.requires.relies.now c.args.goal c.requires.stands.0 c.requires.stands.1 _ c.released_value-value.ensures) c.release_cell.ensures
 
 pub returns-else-own-clause-leads : goal.returns-else-own-clause-leads
-returns-else-own-clause-leads c = c.resume.ensures c.args.shape.now
+returns-else-own-clause-leads c = c.resume.ensures.leads c.args.shape.now
+
+pub returns-then-own-clause-ends : goal.returns-then-own-clause-ends
+returns-then-own-clause-ends c = (c.args.goal, refl, omega (arith, c.requires.stands.0.entry, c.if-next.false))
+
+pub returns-else-own-clause-ends : goal.returns-else-own-clause-ends
+returns-else-own-clause-ends c = c.resume.ensures.ends _ (c.args.goal, refl, omega (arith, c.requires.stands.0.entry, c.if-next.false))
+
+pub returns-then-next-clause-ends : goal.returns-then-next-clause-ends
+returns-then-next-clause-ends c = c.at_entry.ensures.ends _

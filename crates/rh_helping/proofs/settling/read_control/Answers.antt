@@ -22,8 +22,8 @@ returns-else-is_decided-clause-grows c =
     let j = judged c.args.side.now.known.view _ _ _ c.requires.owes.paid c.control_of_word-control.result _ c.control_of_word-control.ensures found in
     subst (λ (n : View). Grows c.args.side.now.known.view n) (sym c.read_word.ensures.view_is) j.grows
 
-pub returns-else-is_decided-clause-settling : goal.returns-else-is_decided-clause-settling
-returns-else-is_decided-clause-settling c =
+pub returns-else-is_decided-clause-leads : goal.returns-else-is_decided-clause-leads
+returns-else-is_decided-clause-leads c =
     let found = finds_it _ _ _ c.requires.relies _ (may_read_control _ _ _ c.requires.relies.now _ _ c.requires.settling) _ _ _ c.read_word.ensures in
     let j = judged c.args.side.now.known.view _ _ _ c.requires.owes.paid c.control_of_word-control.result _ c.control_of_word-control.ensures found in
     subst (λ (n : View). IsSettling n (Settle c.args.mark c.args.piece None)) (sym c.read_word.ensures.view_is)
