@@ -4,10 +4,9 @@ use Rattle.std.specs.List.{range_with_len, slice_index}
 use Rattle.std.proofs.lemmas.List.FromFn.{get_or-map-range_with_len, fill_by_all}
 use Rattle.rh_layout.specs.Layout.{Keys, Layout}
 use Rattle.rh_ledger.specs.declared.tally.Kind.{Kind}
-use Rattle.rh_ledger.specs.declared.tally.Kind.TheVariants.{Ask}
 use Rattle.rh_ledger.specs.declared.tally.Tally.{Tally}
 use Rattle.rh_ledger.specs.Tally.{sum_of}
-use Rattle.rh_ledger.specs.Phase.{looked_up, set_after}
+use Rattle.rh_ledger.specs.Phase.{set_after}
 use Rattle.rh_descriptor.specs.declared.shape.Shape.{Shape}
 use Rattle.rh_descriptor.specs.Places.{cell_count}
 use Rattle.rh_descriptor.specs.View.{View}
@@ -15,7 +14,7 @@ use Rattle.rh_rule.specs.Rest.{AllRest}
 use Rattle.rh_acts.specs.Act.{Act, apply_acts}
 use Rattle.rh_acts.specs.Done.{IsDone, Kept, WereTrue}
 use Rattle.rh_acts.specs.Workers.{AreOf, LeavesRoom, Made, acts_of, counted, joined, own, piece, sum_of_all}
-use Rattle.rh_acts.proofs.PhaseLaws.{answers_are_look_ups, phase_is_of_joined_lists}
+use Rattle.rh_acts.proofs.PhaseLaws.{phase_is_of_joined_lists}
 use Rattle.rh_history.specs.History.{kept_of, logical_cells, own_acts_of, value_of}
 use Rattle.rh_history.specs.Laws.{EndedSo}
 use Rattle.rh_history.proofs.Resting.{at_rest}
@@ -37,9 +36,6 @@ same_sums s t (suc n) same =
     let rest : sum_of_all s n ≡ sum_of_all t n = same_sums s t n (λ v l. same v (omega arith)) in
     let last : s n ≡ t n = same n (omega arith) in
     λ i. sum_of (rest i) (last i)
-
-answers_asked : (kind : Kind) (told : List Bool) → kind ≡ Ask → answers_of kind told ≡ told
-answers_asked kind told e = ap (λ (k : Kind). answers_of k told) e
 
 done_as : (kind : Kind) (b : ℕ) (reads more : List Kept) (keys list : List ℕ) (acts made : List Act) (answers told : List Bool)
     → reads ≡ more → keys ≡ list → acts ≡ made → answers ≡ told → IsDone kind b reads keys acts answers → IsDone kind b more list made told
@@ -108,14 +104,6 @@ module _ (kind : Kind) (z : Shape) (opening words : List ℕ) (keep : ℕ → Vi
               ∙ phase.1;
         }
 
-    pub answered : kind ≡ Ask → (v : ℕ) → v < z.workers → told v ≡ looked_up S (piece pieces v)
-    answered asks v mine =
-        let l : v < n = omega (arith, size) in
-        let so = answers_are_look_ups z.bits opening S pieces made reads answers layout of_workers were (λ u h. subst (λ (k : Kind). IsDone k z.bits (piece reads u) (piece pieces u) (own u made) (piece answers u)) asks (are_done u h)) in
-        sym (answers_asked kind (told v) asks) ∙ sym (piece_of (λ u. answers_of kind (told u)) n v l) ∙ so.1 v l
-
 pub run_ends : RunEnds
-run_ends kind z opening words keep keys done told S pieces run rest layout size all_done room = (
-  ends kind z opening words keep keys done told run rest S pieces layout size all_done room,
-  answered kind z opening words keep keys done told run rest S pieces layout size all_done,
-)
+run_ends kind z opening words keep keys done told S pieces run rest layout size all_done room =
+    ends kind z opening words keep keys done told run rest S pieces layout size all_done room

@@ -3,6 +3,7 @@ pub mod Stepping
 pub mod Saying
 pub mod Showing
 pub mod Standing
+pub mod Answering
 pub mod Ending
 pub mod Turning
 pub mod Sharing

@@ -102,10 +102,10 @@ module _ (w : World) (z : Shape) (words : List ℕ) (keep : ℕ → View) (shape
       let pool : d.number + w.size d ≤ z.entry_room = inside_pool d opened.0 in
       let here : d.number + w.mark_entry x < z.entry_room = omega arith in
       let known = core.mirrors.controls.descs d opened.0 in
-      (is, (d, ap desc_in row.desc ∙ desc_said_is z shape d known, known.0, subst (λ (e : ℕ). d.number + e < z.entry_room) (sym row.entry) here))
+      record { is_mark = is; desc = d; names = ap desc_in row.desc ∙ desc_said_is z shape d known; is_desc = known; entry = subst (λ (e : ℕ). d.number + e < z.entry_room) (sym row.entry) here }
   leads c (desc d) e is =
       let opened = (core.rule.rows.descs c d e).opened in
-      (is, subst (λ (n : ℕ). d.number + n ≤ z.entry_room) (sym (row_of_opened d opened).length) (inside_pool d opened))
+      record { is_desc = is; entries = subst (λ (n : ℕ). d.number + n ≤ z.entry_room) (sym (row_of_opened d opened).length) (inside_pool d opened) }
 
   pub words_lead : (c : ℕ) → c < cell_count z → LeadsInside z words (cell_in (get_or words c 0))
   words_lead c inside =

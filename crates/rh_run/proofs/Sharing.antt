@@ -1,18 +1,19 @@
 -- A shared list that the workers have claimed to its end, and what they made of it.
-use Rattle.std.proofs.Common.{◌≡◌, ◌≢◌, ℕ, ◌<◌, ◌≤◌, inl, inr, ⊎_elim, refl, sym, ap, ◌∙◌, subst, arith, Bool, true, false, true≢false, cond, List, [], ◌∷◌, ◌++◌, length, get_or, map, filter, reverse}
+use Rattle.std.proofs.Common.{◌≡◌, ◌≢◌, ℕ, ◌<◌, ◌≤◌, inl, inr, ⊎_elim, refl, sym, ap, ◌∙◌, subst, arith, Bool, true, false, true≢false, cond, List, [], ◌∷◌, ◌++◌, length, length-append, get_or, map, filter, min, replicate, reverse}
 use mathlib.Core.List.{reverse-cons}
 use Rattle.std.specs.Prelude.{nat_lt, ◌^◌}
-use Rattle.std.specs.List.{AllPairs, Contains, slice_index, slice_index_or}
+use Rattle.std.specs.List.{AllPairs, Contains, slice_index}
 use Rattle.std.specs.FinSet as set
 use Rattle.std.proofs.lemmas.Bool.Decides.{nat_tests}
-use Rattle.std.proofs.lemmas.List.{get_or-map, length-map}
+use Rattle.std.proofs.lemmas.List.{get_or-map, length-map, length-replicate}
 use Rattle.std.proofs.lemmas.List.Elements.{Contains-append_cases, Contains-append_left, Contains-append_right, Contains-get_or}
 use Rattle.std.proofs.lemmas.List.FromFn.{length-map-range_with_len}
 use Rattle.std.proofs.lemmas.List.Quantifiers.{all_pairs_push}
 use Rattle.rh_layout.specs.Layout.{Keys, Layout}
 use Rattle.rh_ledger.specs.declared.tally.Kind.{Kind}
 use Rattle.rh_ledger.specs.declared.tally.Kind.TheVariants.{Insert, Remove, Ask}
-use Rattle.rh_ledger.specs.Phase.{looked_up, set_after}
+use Rattle.rh_ledger.specs.declared.tally.Tally.{Tally}
+use Rattle.rh_ledger.specs.Phase.{set_after}
 use Rattle.rh_world.specs.World.{In, IsFalling, World}
 use Rattle.rh_world.specs.Sides.{Side}
 use Rattle.rh_descriptor.specs.declared.shape.Shape.{Shape}
@@ -23,11 +24,12 @@ use Rattle.rh_rule.proofs.Telling.{tells}
 use Rattle.rh_acts.specs.Shared.{IsSharedOut, pieces_at}
 use Rattle.rh_acts.specs.Workers.{LeavesRoom, joined, piece}
 use Rattle.rh_acts.proofs.ActLemmas.{contains_cases, contains_head, contains_none}
+use Rattle.rh_acts.proofs.FoldLemmas.{tally_of_ask}
 use Rattle.rh_acts.proofs.SharedLaws.{shared_list_is_one_list}
 use Rattle.rh_run.specs.Laws.{RunSharedEnds}
 use Rattle.rh_run.specs.Claimed.{FoundEnd, all_claimed, claimed}
 use Rattle.rh_run.specs.Words.{cells_held}
-use Rattle.rh_run.proofs.Ending.{answered, ends, piece_of}
+use Rattle.rh_run.proofs.Ending.{ends, piece_of}
 
 -- ---- the numbers of a falling list that pass a test, the other way round
 
@@ -75,6 +77,13 @@ in_list z n l = grind (arith, nat_tests)
 is_in_list : (z : Shape) (n : ℕ) → nat_lt n z.keys ≡ true → n < z.keys
 is_in_list z n e = grind (arith, nat_tests)
 
+joined_size : (f : ℕ → ℕ) (xss : List (List ℕ)) → length (joined (map (map f) xss)) ≡ length (joined xss)
+joined_size f [] = refl
+joined_size f (xs ∷ xss) =
+    let rest : length (joined (map (map f) xss)) ≡ length (joined xss) = joined_size f xss in
+    let first : length (map f xs) ≡ length xs = length-map xs f in
+    omega (arith, length-append (map f xs) (joined (map (map f) xss)), length-append xs (joined xss), first, rest)
+
 module _ (w : World) (z : Shape) (words : List ℕ) (keep : ℕ → View) (core : Core w z words keep) where
   abbrev claims : List (List ℕ)
   claims = all_claimed z keep
@@ -101,26 +110,47 @@ module _ (w : World) (z : Shape) (words : List ℕ) (keep : ℕ → View) (core 
   it_is_claimed v i mine h inside =
       subst (λ (l : List ℕ). Contains l i) (sym (claims_at v mine)) (has (λ n. nat_lt n z.keys) (keep v).side.claims i (subst (In i) (sym (of_world v mine)) h) (in_list z i inside))
 
-  -- each place was, since one Claim found the end
-  pub shared_out : 0 < z.workers → ((v : ℕ) → v < z.workers → FoundEnd z (keep v)) → IsSharedOut z.keys claims
-  shared_out some_one ended =
+  -- each place was that lies below the counter
+  shared_so_far : IsSharedOut (min w.counter z.keys) claims
+  shared_so_far =
       let m = core.mirrors in
       let shared = told.shared in
-      let past = ended 0 some_one in
-      let counter : past.0 < w.counter = shared.below 0 past.0 (subst (In past.0) (of_world 0 some_one) past.1) in
-      let beyond : z.keys ≤ past.0 = past.2 in
       record {
         all = λ i inside.
-            let one = (shared.found i (omega (arith, m.keys))).1 (omega arith) in
+            let one = (shared.found i (omega (arith, inside, m.keys))).1 (omega (arith, inside)) in
             let mine : one.0 < z.workers = omega (arith, m.workers, one.1) in
-            (one.0, omega (arith, claims_size), it_is_claimed one.0 i mine one.2 inside);
-        below = λ v i l h. (claims_it v i (omega (arith, claims_size)) h).1;
+            (one.0, omega (arith, claims_size), it_is_claimed one.0 i mine one.2 (omega (arith, inside)));
+        below = λ v i l h.
+            let it = claims_it v i (omega (arith, claims_size)) h in
+            let low : i < w.counter = shared.below v i it.0 in
+            omega (arith, it.1, low);
         one_worker = λ u v i k l h j. shared.one_worker u v i (claims_it u i (omega (arith, claims_size)) h).0 (claims_it v i (omega (arith, claims_size)) j).0;
         once = λ v l.
             let mine : v < z.workers = omega (arith, claims_size) in
             let rise = rising (λ n. nat_lt n z.keys) (keep v).side.claims (subst IsFalling (sym (of_world v mine)) (shared.once v)) in
             subst (AllPairs (λ i j. i ≢ j)) (sym (claims_at v mine)) (λ i j d less inside same. let r = rise i j d less inside in absurd (omega (arith, same)));
       }
+
+  -- each place of the list was, since one Claim found the end
+  pub shared_out : 0 < z.workers → ((v : ℕ) → v < z.workers → FoundEnd z (keep v)) → IsSharedOut z.keys claims
+  shared_out some_one ended =
+      let past = ended 0 some_one in
+      let counter : past.0 < w.counter = told.shared.below 0 past.0 (subst (In past.0) (of_world 0 some_one) past.1) in
+      let beyond : z.keys ≤ past.0 = past.2 in
+      let all : min w.counter z.keys ≡ z.keys = omega (arith, counter, beyond) in
+      subst (λ (n : ℕ). IsSharedOut n claims) all shared_so_far
+
+  -- no more places were claimed than the list has
+  pub claims_few : (S : Keys) → length (joined claims) ≤ z.keys
+  claims_few S =
+      let n : ℕ = min w.counter z.keys in
+      let list : List ℕ = replicate n 0 in
+      let size : length list ≡ n = length-replicate n 0 in
+      let shared : IsSharedOut (length list) claims = subst (λ (k : ℕ). IsSharedOut k claims) (sym size) shared_so_far in
+      let one = (shared_list_is_one_list Ask S list claims shared).1 in
+      let reads : length (joined (pieces_at list claims)) ≡ length list = ap (λ (t : Tally). t.read) (tally_of_ask S (joined (pieces_at list claims)) ∙ one ∙ sym (tally_of_ask S list)) in
+      let same : length (joined (pieces_at list claims)) ≡ length (joined claims) = joined_size (slice_index list) claims in
+      omega (arith, reads, same, size)
 
 -- ---- what was made of the list
 
@@ -140,11 +170,5 @@ run_shared_ends kind z opening words keep keys done told S list run rest layout 
     let long_pieces : length pieces ≡ z.workers = length-map claims (map (slice_index list)) ∙ size in
     let all_pieces : (v : ℕ) → v < z.workers → done v ≡ piece pieces v =
     λ v mine. all_done v mine ∙ ap (map (slice_index list)) (sym (at v mine)) ∙ sym (get_or-map (map (slice_index list)) claims v [] [] (omega (arith, size))) in
-    let end = ends kind z opening words keep keys done told run rest S pieces layout long_pieces all_pieces (room_same kind z.bits S list (joined pieces) one.0 room) in (
-      record { layout = subst (λ (T : Keys). Layout (cells_held z words) z.bits T) one.0 end.layout; tally = end.tally ∙ one.1 },
-      λ asks v j mine inside.
-          let here : piece claims v ≡ claimed z (keep v) = at v mine in
-          ap (λ (l : List Bool). slice_index_or l j false) (answered kind z opening words keep keys done told run rest S pieces layout long_pieces all_pieces asks v mine)
-          ∙ one.2 v j (omega (arith, size)) (omega (arith, inside, ap (λ (l : List ℕ). length l) here))
-          ∙ ap (λ (l : List ℕ). slice_index_or (looked_up S list) (slice_index l j) false) here,
-    )
+    let end = ends kind z opening words keep keys done told run rest S pieces layout long_pieces all_pieces (room_same kind z.bits S list (joined pieces) one.0 room) in
+    record { layout = subst (λ (T : Keys). Layout (cells_held z words) z.bits T) one.0 end.layout; tally = end.tally ∙ one.1 }

@@ -1,5 +1,5 @@
 -- What the laws of this crate say.
-use Rattle.std.specs.Prelude.{◌≡◌, ℕ, ◌+◌, ◌<◌, Option, Bool, true, false, List, [], ◌++◌, length, map, replicate, slice_index, slice_index_or}
+use Rattle.std.specs.Prelude.{◌≡◌, ℕ, ◌+◌, ◌<◌, Option, Bool, true, false, List, [], ◌++◌, length, map, replicate, slice_index}
 use Rattle.std.specs.List.{Contains}
 use Rattle.std.specs.FinSet.{contains}
 use Rattle.rh_layout.specs.Layout.{Keys, Layout}
@@ -141,6 +141,11 @@ RunMoment = (kind : Kind) (z : Shape) (opening words : List ℕ) (keep : ℕ →
     → ((v k : ℕ) → v < z.workers → Contains (keys v) k → Contains all k) → LeavesRoom kind z.bits S all
     → StandsSo kind z opening words keys done S (acts_of (run.before ++ history run.world))
 
+-- Where keys are asked for, each is answered by whether the first set holds it: no act changes a cell.
+abbrev pub RunAnswers : Type 0
+RunAnswers = (kind : Kind) (z : Shape) (opening words : List ℕ) (keep : ℕ → View) (keys done : ℕ → List ℕ) (told : ℕ → List Bool) (S : Keys)
+    → Running kind z opening words keep keys done told → Layout opening z.bits S → kind ≡ Ask → (v : ℕ) → v < z.workers → told v ≡ looked_up S (done v)
+
 -- ---- at the end
 
 -- The workers have made what one worker makes of this list: the layout of the same set, and the same tally.
@@ -148,21 +153,17 @@ pub record EndsSo (kind : Kind) (z : Shape) (words : List ℕ) (told : ℕ → L
   pub layout : Layout (cells_held z words) z.bits (set_after kind S list)
   pub tally : sum_of_all (λ v. tally_told kind (told v)) z.workers ≡ tally_of kind S list
 
--- Where each worker has done its list, and all are at rest; and what is asked for is answered so.
+-- Where each worker has done its list, and all are at rest.
 abbrev pub RunEnds : Type 0
 RunEnds = (kind : Kind) (z : Shape) (opening words : List ℕ) (keep : ℕ → View) (keys done : ℕ → List ℕ) (told : ℕ → List Bool) (S : Keys) (pieces : List (List ℕ))
     → Running kind z opening words keep keys done told → AllRest z keep → Layout opening z.bits S
     → length pieces ≡ z.workers → ((v : ℕ) → v < z.workers → done v ≡ piece pieces v) → LeavesRoom kind z.bits S (joined pieces)
     → EndsSo kind z words told S (joined pieces)
-    × (kind ≡ Ask → (v : ℕ) → v < z.workers → told v ≡ looked_up S (piece pieces v))
 
--- Where the workers have claimed a shared list to its end, and each has done the keys that it claimed: each answer stands
--- at its place.
+-- Where the workers have claimed a shared list to its end, and each has done the keys that it claimed.
 abbrev pub RunSharedEnds : Type 0
 RunSharedEnds = (kind : Kind) (z : Shape) (opening words : List ℕ) (keep : ℕ → View) (keys done : ℕ → List ℕ) (told : ℕ → List Bool) (S : Keys) (list : List ℕ)
     → Running kind z opening words keep keys done told → AllRest z keep → Layout opening z.bits S
     → 0 < z.workers → length list ≡ z.keys → ((v : ℕ) → v < z.workers → FoundEnd z (keep v))
     → ((v : ℕ) → v < z.workers → done v ≡ map (slice_index list) (claimed z (keep v))) → LeavesRoom kind z.bits S list
     → EndsSo kind z words told S list
-    × (kind ≡ Ask → (v j : ℕ) → v < z.workers → j < length (claimed z (keep v))
-    → slice_index_or (told v) j false ≡ slice_index_or (looked_up S list) (slice_index (claimed z (keep v)) j) false)

@@ -22,11 +22,14 @@ use Rattle.rh_run.specs.Advance.{Does}
 abbrev how_many : List Bool → ℕ
 how_many told = count_by (λ so. so) told
 
--- what a worker counts by it
+-- what is counted of so many keys, of which so many were added, removed or found
+abbrev pub tally_by : Kind → (read changed : ℕ) → Tally
+tally_by Insert read changed = added_of read changed
+tally_by Remove read changed = removed_of read changed
+tally_by Ask read changed = record none_yet { read = read; found = changed }
+
 abbrev pub tally_told : Kind → (told : List Bool) → Tally
-tally_told Insert told = added_of (length told) (how_many told)
-tally_told Remove told = removed_of (length told) (how_many told)
-tally_told Ask told = record none_yet { read = length told; found = how_many told }
+tally_told kind told = tally_by kind (length told) (how_many told)
 
 -- it is an answer where keys are asked for
 abbrev pub answers_of : Kind → (told : List Bool) → List Bool

@@ -41,14 +41,24 @@ stands_for z words c (desc d) = entry_for z words d c (word_at z words (part.Len
 abbrev pub logical_word : Shape → (words : List ℕ) → (c : ℕ) → ℕ
 logical_word z words c = stands_for z words c (cell_in (slice_index words c))
 
+-- the row of a mark names a descriptor of the table, and an entry that has a place
+pub record MarkLeads (z : Shape) (words : List ℕ) (x : Ref) : Type 0 where
+  pub is_mark : IsMark z x
+  pub desc : Ref
+  pub names : desc_in (word_at z words (part.MarkDesc x.worker x.number)) ≡ Some desc
+  pub is_desc : IsDesc z desc
+  pub entry : desc.number + word_at z words (part.MarkEntry x.worker x.number) < z.entry_room
+
+-- a descriptor is one of the table, and its entries have places
+pub record DescLeads (z : Shape) (words : List ℕ) (d : Ref) : Type 0 where
+  pub is_desc : IsDesc z d
+  pub entries : d.number + word_at z words (part.Length d.worker d.number) ≤ z.entry_room
+
 -- What stands in the cell is a plain word, or leads to rows that the table has.
 abbrev pub LeadsInside : Shape → (words : List ℕ) → Cell → Type 0
 LeadsInside z words (plain u) = Unit {0}
-LeadsInside z words (mark x) =
-    IsMark z x
-    × ((d : Ref) × (desc_in (word_at z words (part.MarkDesc x.worker x.number)) ≡ Some d)
-    × (d.worker < z.workers) × (d.number + word_at z words (part.MarkEntry x.worker x.number) < z.entry_room))
-LeadsInside z words (desc d) = IsDesc z d × (d.number + word_at z words (part.Length d.worker d.number) ≤ z.entry_room)
+LeadsInside z words (mark x) = MarkLeads z words x
+LeadsInside z words (desc d) = DescLeads z words d
 
 -- what the cells of the table stand for, as values
 abbrev pub cells_now : Shape → (words : List ℕ) → List ℕ

@@ -2,7 +2,7 @@
 
 ghost use Rattle.rh_run.specs.Laws.{WorkerStarts, WorkerSteps, WorkerClaims, WorkerTurns};
 ghost use Rattle.rh_run.specs.Laws.{RunStarts, RunGathers, RunSteps, RunClaims, RunRounds, RunsAlike};
-ghost use Rattle.rh_run.specs.Laws.{LogicalWords, WordsLeadInside, RunMoment, RunEnds, RunSharedEnds};
+ghost use Rattle.rh_run.specs.Laws.{LogicalWords, WordsLeadInside, RunMoment, RunAnswers, RunEnds, RunSharedEnds};
 
 /// What a worker has done of its keys grows by its own steps alone, and stays in a further round.
 pub fn worker_goes_on()
@@ -23,16 +23,17 @@ pub fn run_goes_on()
     ensures alike { RunsAlike }
 {}
 
-/// At each moment the cells stand for the layout of the set after the keys of the acts so far, and
-/// the words alone tell what they stand for.
+/// At each moment the cells stand for the layout of the set after the keys of the acts so far, the
+/// words alone tell what they stand for, and what was asked for is answered from the first set.
 pub fn run_stands()
     ensures words { LogicalWords }
     ensures inside { WordsLeadInside }
     ensures moment { RunMoment }
+    ensures answers { RunAnswers }
 {}
 
-/// Where all keys are done and all workers are at rest, the cells, the tally and the answers are those
-/// of one worker with the lists joined, or with the one list that was shared out.
+/// Where all keys are done and all workers are at rest, the cells and the tally are those of one worker
+/// with the lists joined, or with the one list that was shared out.
 pub fn run_ends()
     ensures pieces { RunEnds }
     ensures shared { RunSharedEnds }

@@ -1,3 +1,4 @@
+use Rattle.rh_run.proofs.Answering.{run_answers}
 use Rattle.rh_run.proofs.Standing.{run_moment}
 use Rattle.rh_run.proofs.Saying.{logical_words, words_lead_inside}
 use Rattle.rh_run.proofs.laws.run_stands.Goals as goal
@@ -10,3 +11,6 @@ returns-clause-moment c = run_moment
 
 pub returns-clause-inside : goal.returns-clause-inside
 returns-clause-inside c = words_lead_inside
+
+pub returns-clause-answers : goal.returns-clause-answers
+returns-clause-answers c = run_answers
