@@ -14,9 +14,9 @@ use Rattle.rh_rule.specs.Sound.{Sound}
 use Rattle.rh_history.specs.History.{act_of, kept_of, own_acts_of}
 use Rattle.rh_history.specs.OwnActs.{StepFinishes}
 use Rattle.rh_history.proofs.Finishing.{steps_finish}
-use Rattle.rh_run.specs.Advance.{Advances, GoesOn, IsTold}
-use Rattle.rh_worker.specs.Laws.{AfterStep, KeyIsDone, KeysAreDone, count_of}
-use Rattle.rh_run.specs.Advance.{Does}
+use Rattle.rh_run.specs.Advance.{Advances, Does, GoesOn, IsTold}
+use Rattle.rh_run.specs.Run.{tally_by}
+use Rattle.rh_worker.specs.Laws.{AfterStep, KeyIsDone, KeysAreDone}
 
 module _ (z : Shape) (v next : View) (kind : Kind) (k : ℕ) (f : StepFinishes v next) where
   stays : GoesOn v next → own_acts_of next ≡ own_acts_of v
@@ -29,7 +29,7 @@ module _ (z : Shape) (v next : View) (kind : Kind) (k : ℕ) (f : StepFinishes v
 
 -- by an own act
 does_key : (kind : Kind) (z : Shape) (next : View) (k : ℕ) (told : Bool) (act : Act) → Does kind z.bits k told act
-    → KeyDone kind z.bits (kept_of z next) k (act ∷ []) [] × (counted kind (k ∷ []) (act ∷ []) [] ≡ count_of kind told)
+    → KeyDone kind z.bits (kept_of z next) k (act ∷ []) [] × (counted kind (k ∷ []) (act ∷ []) [] ≡ tally_by kind 1 (cond told 1 0))
 does_key Insert z next k true act d = ((refl, inr (act, refl, d)), refl)
 does_key Insert z next k false act d = absurd d
 does_key Remove z next k true act d = ((refl, (act, refl, inl d)), ap (λ (b : Bool). removed_of 1 (0 + cond b 1 0)) (remove_changes z.bits k act d))
@@ -47,7 +47,7 @@ told_key Insert z v next k told same t = record {
   answers = [];
   own = same ∙ sym (append-nil (own_acts_of v));
   done = (refl, inl (refl, t.1));
-  counts = ap (count_of Insert) (sym t.0);
+  counts = ap (λ (told : Bool). tally_by Insert 1 (cond told 1 0)) (sym t.0);
 }
 told_key Remove z v next k told same t = absurd t
 told_key Ask z v next k told same t = record {

@@ -1,9 +1,6 @@
 -- What the steps of a worker make of its own acts, and how its keys are done. (own)
 use Rattle.std.specs.Prelude.{◌≡◌, ℕ, Option, Some, None, Bool, cond, List, [], ◌∷◌, ◌++◌}
 use Rattle.rh_ledger.specs.declared.tally.Kind.{Kind}
-use Rattle.rh_ledger.specs.declared.tally.Kind.TheVariants.{Insert, Remove, Ask}
-use Rattle.rh_ledger.specs.declared.tally.Tally.{Tally}
-use Rattle.rh_ledger.specs.Tally.{none_yet, added_of, removed_of}
 use Rattle.rh_acts.specs.Act.{Act}
 use Rattle.rh_acts.specs.Done.{KeyDone}
 use Rattle.rh_acts.specs.Workers.{counted}
@@ -14,13 +11,8 @@ use Rattle.rh_rule.specs.Sound.{Sound}
 use Rattle.rh_history.specs.History.{kept_of, own_acts_of}
 use Rattle.rh_history.specs.OwnActs.{Orderly}
 use Rattle.rh_run.specs.Advance.{Advances}
+use Rattle.rh_run.specs.Run.{tally_by}
 use Rattle.rh_worker.specs.Makes.{Makes}
-
--- what a worker counts of one key with this answer
-abbrev pub count_of : Kind → (told : Bool) → Tally
-count_of Insert told = added_of 1 (cond told 1 0)
-count_of Remove told = removed_of 1 (cond told 1 0)
-count_of Ask told = record none_yet { read = 1; found = cond told 1 0 }
 
 -- The key is done by the next own acts and with the next answers, and is counted so.
 pub record KeyIsDone (z : Shape) (kind : Kind) (k : ℕ) (v next : View) (told : Bool) : Type 0 where
@@ -28,7 +20,7 @@ pub record KeyIsDone (z : Shape) (kind : Kind) (k : ℕ) (v next : View) (told :
   pub answers : List Bool
   pub own : own_acts_of next ≡ own_acts_of v ++ acts
   pub done : KeyDone kind z.bits (kept_of z next) k acts answers
-  pub counts : counted kind (k ∷ []) acts answers ≡ count_of kind told
+  pub counts : counted kind (k ∷ []) acts answers ≡ tally_by kind 1 (cond told 1 0)
 
 -- in a step of a worker that is in order, with what is sound after it
 abbrev pub AfterStep : (z : Shape) (v next : View) (kind : Kind) (k : ℕ) (done : Option Bool) → Type 0

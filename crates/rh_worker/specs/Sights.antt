@@ -1,5 +1,5 @@
 -- What the cells from a key's home on lead to, and the entries of the key's act. (own)
-use Rattle.std.specs.Prelude.{◌≡◌, ℕ, ◌^◌, ◌<◌, ◌≤◌, ◌⊎◌, true, false, List, length, map, take, slice_index}
+use Rattle.std.specs.Prelude.{◌≡◌, ℕ, ◌^◌, ◌<◌, ◌≤◌, ◌⊎◌, Bool, true, false, List, length, map, take, slice_index}
 use Rattle.std.specs.List.{Contains}
 use Rattle.rh_tagword.specs.Word.{IsValue, plain_number}
 use Rattle.rh_probe.specs.Look.{Finds}
@@ -8,6 +8,7 @@ use Rattle.rh_ledger.specs.declared.tally.Kind.{Kind}
 use Rattle.rh_ledger.specs.declared.tally.Kind.TheVariants.{Insert, Remove, Ask}
 use Rattle.rh_acts.specs.declared.entry.Entry.{Entry}
 use Rattle.rh_acts.specs.declared.answer.Insertion.TheVariants as insertion
+use Rattle.rh_acts.specs.declared.answer.Removal.{Removal}
 use Rattle.rh_acts.specs.declared.answer.Removal.TheVariants as removal
 use Rattle.rh_run.specs.Advance.{Does}
 use Rattle.rh_acts.specs.Decision.{Inserts, Removes}
@@ -42,16 +43,32 @@ pub record HasRoom (b : ℕ) (s : Sights) : Type 0 where
   pub entries : length s.entries.items ≡ 2 ^ b
   pub values : (p : ℕ) → IsValue (slice_index s.seen.items p)
 
--- The key is done where it is to be inserted and is there, or where it is asked for and its place is seen. It is never
--- removed without an act.
-abbrev pub Decides : Kind → (b k : ℕ) → (seen : List ℕ) → (entries : List Entry) → Decision → Type 0
-Decides Insert b k seen entries (Done told) = (told ≡ false) × ((i : ℕ) × Finds b k seen (look.Here i))
-Decides Remove b k seen entries (Done told) = ⊥
-Decides Ask b k seen entries (Done told) =
+-- The key is done by what was seen, with this answer: it is to be inserted and is there, or it is asked for and its place
+-- is seen. It is never removed without an act.
+abbrev pub IsDoneBy : Kind → (b k : ℕ) → (seen : List ℕ) → (told : Bool) → Type 0
+IsDoneBy Insert b k seen told = (told ≡ false) × ((i : ℕ) × Finds b k seen (look.Here i))
+IsDoneBy Remove b k seen told = ⊥
+IsDoneBy Ask b k seen told =
     ((told ≡ true) × ((i : ℕ) × Finds b k seen (look.Here i))) ⊎ ((told ≡ false) × ((i : ℕ) × Finds b k seen (look.Goes i)))
-Decides Insert b k seen entries (Acts p) = IsPlan Insert b k entries p
-Decides Remove b k seen entries (Acts p) = IsPlan Remove b k entries p
-Decides Ask b k seen entries (Acts p) = ⊥
-Decides Insert b k seen entries More = Inserts b k seen entries insertion.More
-Decides Remove b k seen entries More = Removes b k seen entries removal.More
-Decides Ask b k seen entries More = Finds b k seen look.More
+
+-- a removal with so many entries, that changes a cell or does not
+abbrev pub removal_of : (changes : Bool) (entries : ℕ) → Removal
+removal_of true n = removal.TakesOut n
+removal_of false n = removal.ShowsAbsent n
+
+-- what was seen asks for the planned act
+abbrev pub IsAskedBy : Kind → (b k : ℕ) → (seen : List ℕ) → (entries : List Entry) → Plan → Type 0
+IsAskedBy Insert b k seen entries p = Inserts b k seen entries (insertion.PutsIn p.entries)
+IsAskedBy Remove b k seen entries p = Removes b k seen entries (removal_of p.changes p.entries)
+IsAskedBy Ask b k seen entries p = ⊥
+
+-- what was seen leaves it open
+abbrev pub IsLeftOpenBy : Kind → (b k : ℕ) → (seen : List ℕ) → (entries : List Entry) → Type 0
+IsLeftOpenBy Insert b k seen entries = Inserts b k seen entries insertion.More
+IsLeftOpenBy Remove b k seen entries = Removes b k seen entries removal.More
+IsLeftOpenBy Ask b k seen entries = Finds b k seen look.More
+
+abbrev pub Decides : Kind → (b k : ℕ) → (seen : List ℕ) → (entries : List Entry) → Decision → Type 0
+Decides kind b k seen entries (Done told) = IsDoneBy kind b k seen told
+Decides kind b k seen entries (Acts p) = IsPlan kind b k entries p × IsAskedBy kind b k seen entries p
+Decides kind b k seen entries More = IsLeftOpenBy kind b k seen entries

@@ -17,7 +17,7 @@ returns-clause-worker c =
       key = c.requires.worker.key;
       room = c.requires.worker.room;
       stays = elim c.match-step.branch [
-        | in-Some b ↦ subst (Stays z next w.kind w.key w.sights) (sym b.worker-is) (clear, b.in-Some.ensures.settling, seen)
+        | in-Some b ↦ subst (Stays z next w.kind w.key w.sights) (sym b.worker-is) (clear, b.in-Some.ensures.leads, seen)
         | in-None b ↦ subst (Stays z next w.kind w.key w.sights) (sym b.worker-is) (clear, seen)
       ];
     }
