@@ -71,6 +71,13 @@ in_order low (h ∷ hs) count are zero (suc v) d less l =
     omega (arith, r.1, same)
 in_order low (h ∷ hs) count are (suc u) (suc v) d less l = in_order are.0 hs count are.3 u v d (omega (arith, less)) (omega (arith, l))
 
+-- a place is in one piece alone
+pub in_one_piece : (hs : List Hand) (count : ℕ) → ArePieces 0 hs count → (u v : ℕ) (d : Hand) → u < length hs → v < length hs → (p : ℕ)
+    → (first_of (get_or hs u d).share ≤ p) × (p < end_of (get_or hs u d).share) → (first_of (get_or hs v d).share ≤ p) × (p < end_of (get_or hs v d).share) → u ≡ v
+in_one_piece hs count are u v d lu lv p a b = ⊎_elim
+    (λ (less : u < v). let order = in_order 0 hs count are u v d less lv in absurd (omega (arith, order, a.1, b.0)))
+    (λ (most : v ≤ u). ⊎_elim (λ (less : v < u). let order = in_order 0 hs count are v u d less lu in absurd (omega (arith, order, b.1, a.0))) (λ (least : u ≤ v). omega (arith, most, least)) (cases_lt v u)) (cases_lt u v)
+
 -- another worker with the same piece
 pub pieces_set : (low : ℕ) (hs : List Hand) (count who : ℕ) (d next : Hand) → who < length hs → next.share ≡ (get_or hs who d).share → ArePieces low hs count → ArePieces low (set hs who next) count
 pieces_set low [] count who d next l same are = are
@@ -79,7 +86,7 @@ pieces_set low (h ∷ hs) count (suc who) d next l same are = (are.0, are.1, are
 
 -- ---- the places of one worker
 
-in_piece : (z : Shape) (keys : List ℕ) (h : Hand) (s : Share) (i : ℕ) → IsPiece s → IsShare z keys h s → i < length (places_of z s (view_of h) h.done)
+pub in_piece : (z : Shape) (keys : List ℕ) (h : Hand) (s : Share) (i : ℕ) → IsPiece s → IsShare z keys h s → i < length (places_of z s (view_of h) h.done)
     → (get_or (places_of z s (view_of h) h.done) i 0 ≡ first_of s + i) × (first_of s + i < end_of s)
 in_piece z keys h (Piece first end) i piece o l =
     let size : length (range_with_len first h.done) ≡ h.done = length-range_with_len first h.done in

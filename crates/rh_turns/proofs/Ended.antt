@@ -1,6 +1,6 @@
 -- What the workers of a player have made once all their keys are done.
 use Rattle.std.proofs.Common.{◌≡◌, ℕ, zero, suc, ◌+◌, ◌-◌, ◌<◌, ◌≤◌, inl, ⊎_elim, sym, refl, ap, ◌∙◌, subst, arith, Bool, false, Some, None, List, [], ◌∷◌, ◌++◌, length, map, get_or}
-use Rattle.std.specs.Prelude.{slice_index, slice_index_or, count_by, All}
+use Rattle.std.specs.Prelude.{slice_index, slice_index_or, All}
 use Rattle.std.specs.List.{Contains, range_with_len}
 use Rattle.std.specs.FinSet.{contains}
 use Rattle.std.proofs.lemmas.Bool.{cases_lt}
@@ -17,11 +17,12 @@ use Rattle.rh_descriptor.specs.View.{View, new_view}
 use Rattle.rh_rule.specs.Core.{Core}
 use Rattle.rh_rule.specs.Rest.{AllRest}
 use Rattle.rh_rule.proofs.Telling.{rests}
-use Rattle.rh_acts.specs.Workers.{LeavesRoom, joined, piece}
+use Rattle.rh_acts.specs.Workers.{LeavesRoom, joined, piece, sum_of_all}
 use Rattle.rh_run.specs.Claimed.{FoundEnd, claimed}
 use Rattle.rh_run.specs.Laws.{EndsSo}
+use Rattle.rh_run.specs.Run.{tally_by, tally_told}
 use Rattle.rh_run.specs.Words.{cells_held, cells_now, logical_word}
-use Rattle.rh_run.proofs.Ending.{run_ends}
+use Rattle.rh_run.proofs.Ending.{run_ends, same_sums}
 use Rattle.rh_run.proofs.Saying.{logical_words}
 use Rattle.rh_run.proofs.Sharing.{claims_at, claims_size, run_shared_ends, shared_out}
 use Rattle.rh_run.proofs.Standing.{same_cells}
@@ -29,11 +30,12 @@ use Rattle.rh_turns.specs.declared.hand.Hand.{Hand}
 use Rattle.rh_turns.specs.declared.hand.Share.{Share}
 use Rattle.rh_turns.specs.declared.hand.Share.TheVariants.{Piece, Claims}
 use Rattle.rh_turns.specs.Hands.{IsAtEnd, IsClaiming, IsHand, IsIdle, IsShare, done_keys, keys_for, keys_in, places, places_of, view_of}
-use Rattle.rh_turns.specs.Game.{AllFinished, ArePieces, Game, Plays, at_hand, done_at, keep, keys_at, places_at}
+use Rattle.rh_turns.specs.Game.{AllFinished, ArePieces, Game, IsDoneAt, Plays, at_hand, changed_at, done_at, keep, keys_at, places_at}
 use Rattle.rh_turns.specs.Laws.{EndsWith}
 use Rattle.rh_turns.proofs.AtHands.{at_hand_is}
 use Rattle.rh_turns.proofs.Apart.{IsPiece, end_of, first_of, piece_at, up_to}
 use Rattle.rh_turns.proofs.Playing.{hand_of, in_hands, plays_stopped, some_hand}
+use Rattle.rh_turns.proofs.Telling.{plays_tells, told_size}
 
 -- ---- where all are at rest
 
@@ -136,22 +138,18 @@ module _ (g : Game) (plays : Plays g) (finished : AllFinished g) where
   at_v : {A : Type 0} (f : Hand → A) (default : A) (v : ℕ) → v < z.workers → at_hand f default g.hands v ≡ f (hand v)
   at_v f default v mine = at_hand_is f default g.hands v (some_hand g plays) (in_hands g plays v mine)
 
-  any_default : (v : ℕ) (d : Hand) → v < z.workers → hand v ≡ get_or g.hands v d
-  any_default v d mine = sym (at_v (λ (h : Hand). h) d v mine) ∙ at_hand_is (λ (h : Hand). h) d g.hands v d (in_hands g plays v mine)
-
-  all_changed : (v : ℕ) (d : Hand) → v < z.workers → count_by (λ so. so) (plays.told v) ≡ (get_or g.hands v d).changed
-  all_changed v d mine = sym (plays.changed v mine) ∙ at_hand_is (λ h. h.changed) 0 g.hands v d (in_hands g plays v mine)
-
   ended : (v : ℕ) → v < z.workers → IsIdle (hand v) × IsAtEnd (hand v).share (hand v).done
   ended v mine = finished v (some_hand g plays) (in_hands g plays v mine)
 
-  told_size : (v : ℕ) → v < z.workers → length (plays.told v) ≡ length (places z (hand v))
-  told_size v mine = (plays.running.doing v mine).so_far.size ∙ ap length (at_v (done_keys z g.keys) [] v mine) ∙ length-map (places z (hand v)) (slice_index g.keys)
+  -- each worker counts its keys as it was told of them
+  tally_is : {list : List ℕ} → EndsSo g.kind z g.words plays.told S list → sum_of_all (λ v. tally_by g.kind (length (places_at g v)) (changed_at g v)) z.workers ≡ tally_of g.kind S list
+  tally_is ends =
+      same_sums (λ v. tally_by g.kind (length (places_at g v)) (changed_at g v)) (λ v. tally_told g.kind (plays.told v)) z.workers
+      (λ v mine i. tally_by g.kind (sym (told_size g plays v mine) i) (plays.changed v mine i)) ∙ ends.tally
 
   -- an answer is that of its key
-  answer_is : (p v j : ℕ) → g.kind ≡ Ask → v < z.workers → j < length (plays.told v) → slice_index (places_at g v) j ≡ p → slice_index_or (plays.told v) j false ≡ slice_index_or (looked_up S g.keys) p false
-      → slice_index_or g.answers p None ≡ Some (slice_index_or (looked_up S g.keys) p false)
-  answer_is p v j asks mine inside here so = ap (λ (q : ℕ). slice_index_or g.answers q None) (sym here) ∙ plays.answered asks v j mine inside ∙ ap (λ (b : Bool). Some b) so
+  answer_is : g.kind ≡ Ask → (p : ℕ) → p < length g.keys → IsDoneAt g p → slice_index_or g.answers p None ≡ Some (slice_index_or (looked_up S g.keys) p false)
+  answer_is asks p inside done = (plays_tells g plays).answers asks p done ∙ ap Some (sym (get_or-map (contains S) g.keys p 0 false inside))
 
   -- each worker has a piece
   module _ (are : ArePieces 0 g.hands (length g.keys)) where
@@ -173,7 +171,7 @@ module _ (g : Game) (plays : Plays g) (finished : AllFinished g) where
     joined_is : joined pieces ≡ g.keys
     joined_is = pieces_are g.keys g.hands are
 
-    by_pieces : EndsSo g.kind z g.words plays.told S (joined pieces) × (g.kind ≡ Ask → (v : ℕ) → v < z.workers → plays.told v ≡ looked_up S (piece pieces v))
+    by_pieces : EndsSo g.kind z g.words plays.told S (joined pieces)
     by_pieces = run_ends g.kind z g.opening g.words (keep g) (keys_at g) (done_at g) plays.told S pieces plays.running rest plays.opening
         (length-map g.hands (keys_for g.keys) ∙ plays.workers) all_done (subst (λ (l : List ℕ). LeavesRoom g.kind z.bits S l) (sym joined_is) plays.room)
 
@@ -188,23 +186,14 @@ module _ (g : Game) (plays : Plays g) (finished : AllFinished g) where
         let within : j < h.done = omega (arith, at.2, at.3, is.2) in
         let where_it_is : first_of h.share + j ≡ p = omega (arith, at.2) in
         let place : slice_index (places z h) j ≡ p = piece_place z (view_of h) h.share h.done j (has_piece v mine) within ∙ where_it_is in
-        let size : length (plays.told v) ≡ h.done = told_size v mine ∙ is.1 in
-        let keys_are : piece pieces v ≡ map (slice_index g.keys) (places z h) = piece_is v mine ∙ sym is.0 in
-        let key : slice_index (piece pieces v) j ≡ slice_index g.keys p =
-        ap (λ (l : List ℕ). slice_index l j) keys_are ∙ get_or-map (slice_index g.keys) (places z h) j 0 0 (omega (arith, within, is.1)) ∙ ap (slice_index g.keys) place in
-        let long : length (piece pieces v) ≡ h.done = ap length keys_are ∙ length-map (places z h) (slice_index g.keys) ∙ is.1 in
-        answer_is p v j asks mine (omega (arith, within, size)) (ap (λ (l : List ℕ). slice_index l j) (at_v (places z) [] v mine) ∙ place)
-        (ap (λ (l : List Bool). slice_index_or l j false) (by_pieces.1 asks v mine)
-        ∙ get_or-map (contains S) (piece pieces v) j 0 false (omega (arith, within, long))
-        ∙ ap (contains S) key ∙ sym (get_or-map (contains S) g.keys p 0 false inside))
+        let places_are : places_at g v ≡ places z h = at_v (places z) [] v mine in
+        answer_is asks p inside (v, j, mine, omega (arith, within, is.1, ap length places_are), ap (λ (l : List ℕ). slice_index l j) places_are ∙ place)
 
-    ends_pieces : EndsWith g plays.told
+    ends_pieces : EndsWith g
     ends_pieces = record {
       now = now_held plays.running.world z g.words (keep g) plays.shape plays.running.core rest;
-      layout = subst (λ (l : List ℕ). Layout (cells_held z g.words) z.bits (set_after g.kind S l)) joined_is by_pieces.0.layout;
-      tally = by_pieces.0.tally ∙ ap (tally_of g.kind S) joined_is;
-      done = λ v d mine. told_size v mine ∙ (of_piece v mine).1 ∙ ap (λ (h : Hand). h.done) (any_default v d mine);
-      changed = all_changed;
+      layout = subst (λ (l : List ℕ). Layout (cells_held z g.words) z.bits (set_after g.kind S l)) joined_is by_pieces.layout;
+      tally = tally_is by_pieces ∙ ap (tally_of g.kind S) joined_is;
       answers = answers_pieces;
     }
 
@@ -229,7 +218,6 @@ module _ (g : Game) (plays : Plays g) (finished : AllFinished g) where
     all_claimed_done v mine = at_v (done_keys z g.keys) [] v mine ∙ ap (map (slice_index g.keys)) ((of_claims v mine).0 ∙ ap (claimed z) (sym (kept_is v mine)))
 
     by_claims : EndsSo g.kind z g.words plays.told S g.keys
-        × (g.kind ≡ Ask → (v j : ℕ) → v < z.workers → j < length (claimed z (keep g v)) → slice_index_or (plays.told v) j false ≡ slice_index_or (looked_up S g.keys) (slice_index (claimed z (keep g v)) j) false)
     by_claims = run_shared_ends g.kind z g.opening g.words (keep g) (keys_at g) (done_at g) plays.told S g.keys plays.running rest plays.opening
         plays.some (sym (of_claims 0 plays.some).3) found all_claimed_done plays.room
 
@@ -244,19 +232,16 @@ module _ (g : Game) (plays : Plays g) (finished : AllFinished g) where
         let here : Contains (claimed z (keep g v)) p = subst (λ (l : List ℕ). Contains l p) (claims_at run.world z g.words (keep g) run.core v mine) one.2 in
         let j : ℕ = here.0 in
         let place : slice_index (claimed z (keep g v)) j ≡ p = get_or_default (claimed z (keep g v)) j 0 p here.1 ∙ here.2 in
-        let size : length (plays.told v) ≡ length (claimed z (keep g v)) = told_size v mine ∙ ap length (sym (at_v (places z) [] v mine) ∙ places_claimed v mine) in
-        answer_is p v j asks mine (omega (arith, here.1, size)) (ap (λ (l : List ℕ). slice_index l j) (places_claimed v mine) ∙ place)
-        (by_claims.1 asks v j mine here.1 ∙ ap (λ (q : ℕ). slice_index_or (looked_up S g.keys) q false) place)
+        let places_are : places_at g v ≡ claimed z (keep g v) = places_claimed v mine in
+        answer_is asks p inside (v, j, mine, omega (arith, here.1, ap length places_are), ap (λ (l : List ℕ). slice_index l j) places_are ∙ place)
 
-    ends_claims : EndsWith g plays.told
+    ends_claims : EndsWith g
     ends_claims = record {
       now = now_held plays.running.world z g.words (keep g) plays.shape plays.running.core rest;
-      layout = by_claims.0.layout;
-      tally = by_claims.0.tally;
-      done = λ v d mine. told_size v mine ∙ ap length (of_claims v mine).0 ∙ (of_claims v mine).2 ∙ ap (λ (h : Hand). h.done) (any_default v d mine);
-      changed = all_changed;
+      layout = by_claims.layout;
+      tally = tally_is by_claims;
       answers = answers_claims;
     }
 
-  pub plays_ends : EndsWith g plays.told
+  pub plays_ends : EndsWith g
   plays_ends = ⊎_elim ends_pieces ends_claims plays.dealt

@@ -16,7 +16,7 @@ use Rattle.rh_world.specs.Sides.{AtRest, Side}
 use Rattle.rh_descriptor.specs.declared.shape.Shape.{Shape}
 use Rattle.rh_descriptor.specs.Places.{cell_count, word_count}
 use Rattle.rh_descriptor.specs.View.{View, new_view}
-use Rattle.rh_descriptor.specs.Words.{IsPlain, cell_in}
+use Rattle.rh_descriptor.specs.Words.{IsPlain}
 use Rattle.rh_rule.specs.Core.{Core}
 use Rattle.rh_rule.specs.Mirrors.{IsCell}
 use Rattle.rh_rule.specs.Rest.{AllRest}
@@ -26,7 +26,6 @@ use Rattle.rh_helping.proofs.Relying.{workers_may_rely}
 use Rattle.rh_worker.specs.Worker.{IsClear, IsWorker, Stays}
 use Rattle.rh_worker.specs.declared.place.Place.{Place}
 use Rattle.rh_run.specs.Claimed.{claimed}
-use Rattle.rh_run.specs.Words.{LeadsInside}
 use Rattle.rh_run.proofs.Saying.{logical_words, words_lead_inside}
 use Rattle.rh_run.proofs.Standing.{run_moment}
 use Rattle.rh_run.specs.Laws.{StandsSo}
@@ -36,7 +35,7 @@ use Rattle.rh_turns.specs.declared.hand.Hand.{Hand}
 use Rattle.rh_turns.specs.declared.hand.Share.{Share}
 use Rattle.rh_turns.specs.declared.hand.Share.TheVariants.{Piece, Claims}
 use Rattle.rh_turns.specs.Hands.{HasClaimed, HasNext, IsFinished, IsHand, IsIdle, IsShare, IsSpent, keys_for, keys_in, place_of, places, view_of}
-use Rattle.rh_turns.specs.Readable.{IsReadable, ReadsCell}
+use Rattle.rh_turns.specs.Readable.{IsReadable}
 use Rattle.rh_turns.specs.Game.{AllStopped, Game, Plays, keep, keys_at, done_at}
 use Rattle.rh_turns.proofs.AtHands.{at_hand_is, first_of_all}
 
@@ -136,13 +135,6 @@ module _ (w : World) (z : Shape) (words : List ℕ) (keep : ℕ → View) (core 
   pub cells_plain : (c : ℕ) → c < cell_count z → IsPlain (cells_after w w.act_count c)
   cells_plain c inside = stands_plain c (cells_after w w.act_count c) (w.cell c) refl (core.mirrors.cells.standing c inside) ((tells w z words keep core).order.now c)
 
-reads_cell : (z : Shape) (words : List ℕ) (k : Cell) → LeadsInside z words k → ReadsCell z words k
-reads_cell z words (plain u) leads = tt
-reads_cell z words (mark x) leads =
-    let d = leads.1.0 in
-    record { is_mark = leads.0; desc = d; names = leads.1.1; is_desc = (leads.1.2, omega (arith, leads.1.3)); entry = leads.1.3 }
-reads_cell z words (desc d) leads = record { is_desc = leads.0; entries = leads.1 }
-
 -- ---- a game
 
 module _ (g : Game) (plays : Plays g) where
@@ -197,7 +189,7 @@ module _ (g : Game) (plays : Plays g) where
   plays_readable c inside =
       let run = plays.running in
       record {
-        reads = reads_cell z g.words (cell_in (slice_index g.words c)) (words_lead_inside run.world z g.words (keep g) c plays.shape run.core inside);
+        reads = words_lead_inside run.world z g.words (keep g) c plays.shape run.core inside;
         value = subst IsPlain (sym (logical_words run.world z g.words (keep g) c plays.shape run.core inside)) (cells_plain run.world z g.words (keep g) run.core c inside);
       }
 

@@ -161,5 +161,8 @@ module _ (g : Game) (plays : Plays g) (stopped : AllStopped g) (then cells : Lis
     told = plays.told;
     running = running;
     changed = λ v mine. sym (now (λ h. h.changed) 0 v mine) ∙ (of v mine).changed ∙ sym (was (λ h. h.changed) 0 v mine) ∙ plays.changed v mine;
-    answered = λ asks v j mine l. ap (λ (at : List ℕ). slice_index_or g.answers (slice_index at j) None) (sym (places_are v mine)) ∙ plays.answered asks v j mine l;
+    answered = λ v j mine l. ap (λ (at : List ℕ). slice_index_or g.answers (slice_index at j) None) (sym (places_are v mine)) ∙ plays.answered v j mine l;
+    unanswered = λ p undone. plays.unanswered p (λ done.
+        let same : places_at g done.0 ≡ places_at game done.0 = places_are done.0 done.2 in
+        undone (done.0, done.1, done.2, subst (λ (at : List ℕ). done.1 < length at) same done.3, ap (λ (at : List ℕ). slice_index at done.1) (sym same) ∙ done.4));
   }

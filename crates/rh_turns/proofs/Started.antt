@@ -1,6 +1,7 @@
 -- A game that is started is in play.
-use Rattle.std.proofs.Common.{◌≡◌, ℕ, ◌+◌, ◌<◌, inl, inr, ⊎_elim, sym, refl, ap, ◌∙◌, subst, arith, false, true≢false, List, [], ◌++◌, length, map, replicate, get_or}
+use Rattle.std.proofs.Common.{◌≡◌, ℕ, zero, suc, ◌+◌, ◌<◌, inl, inr, ⊎_elim, sym, refl, ap, ◌∙◌, subst, arith, Bool, false, true≢false, Option, None, List, [], ◌++◌, length, map, replicate, get_or}
 use Rattle.std.specs.Prelude.{slice_index, All}
+use Rattle.std.proofs.lemmas.List.{length-replicate}
 use Rattle.rh_tagword.specs.Word.{plain_number}
 use Rattle.rh_world.specs.World.{In}
 use Rattle.rh_descriptor.specs.declared.shape.Shape.{Shape}
@@ -19,6 +20,15 @@ use Rattle.rh_turns.specs.Game.{ArePieces, Game, IsDealt, Plays, at_hand, done_a
 use Rattle.rh_turns.specs.Laws.{Starts, WillClaim}
 use Rattle.rh_turns.proofs.AtHands.{at_hand_is, first_of_all}
 use Rattle.rh_turns.proofs.Apart.{piece_within}
+
+abbrev no_answers : ℕ → List (Option Bool)
+no_answers n = replicate n None
+
+-- no answer stands at any place
+none_at : (n p : ℕ) → get_or (no_answers n) p None ≡ None
+none_at zero p = refl
+none_at (suc n) zero = refl
+none_at (suc n) (suc p) = none_at n p
 
 none_claimed : (z : Shape) (h : Hand) (cells : List ℕ) (v : ℕ) → view_of h ≡ new_view cells v → claimed z (view_of h) ≡ []
 none_claimed z h cells v is = ap (claimed z) is
@@ -104,11 +114,12 @@ module _ (g : Game) (starts : Starts g) where
     opening = starts.opening;
     room = starts.room;
     keys = starts.keys;
-    answers = starts.answers;
+    answers = ap length starts.answers ∙ length-replicate (length g.keys) None;
     hands = λ k e l. hand_is k e (omega (arith, l, starts.workers));
     dealt = dealt;
     told = λ v. [];
     running = running;
     changed = λ v mine. at_v (λ h. h.changed) 0 v mine ∙ (starts.hands v d mine).changed;
-    answered = λ asks v j mine l. absurd (omega (arith, l));
+    answered = λ v j mine l. absurd (omega (arith, l));
+    unanswered = λ p undone. ap (λ (a : List (Option Bool)). get_or a p None) starts.answers ∙ none_at (length g.keys) p;
   }

@@ -1,15 +1,14 @@
 -- A turn of a worker keeps what is so of the game.
-use Rattle.std.proofs.Common.{◌≡◌, ◌≢◌, ℕ, ◌+◌, ◌<◌, ◌≤◌, ◌⊎◌, inl, inr, ⊎_elim, sym, refl, ap, ◌∙◌, subst, arith, Bool, true, false, cond, Option, Some, None, List, [], ◌∷◌, ◌++◌, length, map, filter, reverse, set, take, get_or}
+use Rattle.std.proofs.Common.{◌≡◌, ◌≢◌, ℕ, ◌+◌, ◌<◌, ◌≤◌, ◌⊎◌, inl, inr, ⊎_elim, sym, refl, ap, ◌∙◌, subst, arith, Bool, true, false, cond, Option, Some, None, List, [], ◌∷◌, ◌++◌, length, map, filter, reverse, set, take, get_or, length-append}
 use mathlib.Core.List.{reverse-cons}
 use Rattle.std.specs.Prelude.{nat_lt, slice_index, slice_index_or, count_by, All}
 use Rattle.std.specs.List.{Contains, range_with_len}
 use Rattle.std.proofs.lemmas.Bool.{cases_eq, cases_lt}
-use Rattle.std.proofs.lemmas.List.{get_or-set_other, get_or-set_same, get_or_append_left, get_or_push, length-map, length-set, length_push, map-id, map_push, set-get_or, take-append-le, take_all}
+use Rattle.std.proofs.lemmas.List.{append-nil, get_or-set_other, get_or-set_same, get_or_append_left, get_or_push, length-set, length_push, map-id, map_push, set-get_or, take-append-le, take_all}
 use Rattle.std.proofs.lemmas.List.Elements.{All-set}
 use Rattle.std.proofs.lemmas.List.FromFn.{map-range_with_len_more}
 use Rattle.std.proofs.lemmas.List.Sums.{sum_by_push}
 use Rattle.rh_ledger.specs.declared.tally.Kind.{Kind}
-use Rattle.rh_ledger.specs.declared.tally.Kind.TheVariants.{Ask}
 use Rattle.rh_world.specs.World.{updated}
 use Rattle.rh_world.proofs.Updated.{updated_at, updated_else, updated_here}
 use Rattle.rh_descriptor.specs.declared.shape.Shape.{Shape}
@@ -28,11 +27,12 @@ use Rattle.rh_turns.specs.declared.hand.Share.TheVariants.{Piece, Claims}
 use Rattle.rh_turns.specs.declared.turning.Turn.{Turn}
 use Rattle.rh_turns.specs.declared.turning.Turn.TheVariants.{Did, Finished, Spent, NoSuchWorker}
 use Rattle.rh_turns.specs.Hands.{ClaimsOn, IsClaiming, IsHand, IsIdle, IsShare, StepsOn, TurnsOn, answered, counted, done_keys, keys_for, keys_in, place_now, place_of, places, places_of, view_of}
-use Rattle.rh_turns.specs.Game.{ArePieces, Game, IsDealt, Plays, at_hand, changed_at, done_at, keep, keys_at, places_at}
+use Rattle.rh_turns.specs.Game.{ArePieces, Game, IsDealt, IsDoneAt, Plays, at_hand, changed_at, done_at, keep, keys_at, places_at}
 use Rattle.rh_turns.specs.Laws.{turned}
 use Rattle.rh_turns.proofs.AtHands.{at_hand_is, at_hand_set}
 use Rattle.rh_turns.proofs.Apart.{apart, piece_at, piece_not_claims, pieces_set}
 use Rattle.rh_turns.proofs.Playing.{done_claimed, hand_of, in_hands, kept_at, next_among}
+use Rattle.rh_turns.proofs.Telling.{told_size}
 
 -- the game after a turn
 -- ---- the places of its done keys
@@ -173,13 +173,6 @@ module _ (g : Game) (plays : Plays g) (who : ℕ) (mine : who < g.shape.workers)
   at_then : {A : Type 0} (f : Hand → A) (default : A) (v : ℕ) → updated (at_hand f default g.hands) who (f next) v ≡ at_hand f default (set g.hands who next) v
   at_then f default v = sym (at_hand_set f default g.hands who next is v)
 
-  told_size : (v : ℕ) → v < z.workers → length (plays.told v) ≡ length (places_at g v)
-  told_size v l =
-      let x : Hand = get_or g.hands v d in
-      let inside : v < length g.hands = in_hands g plays v l in
-      (plays.running.doing v l).so_far.size ∙ ap length (at_hand_is (done_keys z g.keys) [] g.hands v d inside)
-      ∙ length-map (places z x) (slice_index g.keys) ∙ ap length (sym (at_hand_is (places z) [] g.hands v d inside))
-
   abbrev Fits : Option Bool → Type 0
   Fits None = Unit {0}
   Fits (Some so) = place_now h < length g.keys
@@ -195,14 +188,14 @@ module _ (g : Game) (plays : Plays g) (who : ℕ) (mine : who < g.shape.workers)
   places_else : (v : ℕ) → v ≢ who → places_at game v ≡ places_at g v
   places_else v ne = sym (at_then (places z) [] v) ∙ updated_else (places_at g) who v (places z next) ne
 
-  stand_then : (answer : Option Bool) → g.kind ≡ Ask → Fits answer → IsFresh answer → places z next ≡ also_at (places z h) (place_now h) answer → answers ≡ answered g.answers (place_now h) answer
+  stand_then : (answer : Option Bool) → Fits answer → IsFresh answer → places z next ≡ also_at (places z h) (place_now h) answer → answers ≡ answered g.answers (place_now h) answer
       → (v j : ℕ) → v < z.workers → j < length (updated plays.told who (also_told (plays.told who) answer) v)
       → Stands answers (places_at game v) (updated plays.told who (also_told (plays.told who) answer) v) j
-  stand_then None asks fits fresh places_are is_now v j l inside =
+  stand_then None fits fresh places_are is_now v j l inside =
       let same : places_at game v ≡ places_at g v = sym (at_then (places z) [] v) ∙ sym (same_as_was (places_at g) who (places z next) (at_who (places z) [] ∙ sym places_are) v) in
       subst (λ (a : List (Option Bool)). Stands a (places_at game v) (updated plays.told who (plays.told who) v) j) (sym is_now)
-      (stands_so g.answers (places_at game v) (places_at g v) (updated plays.told who (plays.told who) v) (plays.told v) j same (sym (same_as_was plays.told who (plays.told who) refl v)) (plays.answered asks v j l) inside)
-  stand_then (Some so) asks fits fresh places_are is_now v j l inside =
+      (stands_so g.answers (places_at game v) (places_at g v) (updated plays.told who (plays.told who) v) (plays.told v) j same (sym (same_as_was plays.told who (plays.told who) refl v)) (plays.answered v j l) inside)
+  stand_then (Some so) fits fresh places_are is_now v j l inside =
       let p : ℕ = place_now h in
       let within : p < length g.answers = omega (arith, fits, plays.answers) in
       let mine_at : places_at g who ≡ places z h = at_who (places z) [] in
@@ -211,10 +204,10 @@ module _ (g : Game) (plays : Plays g) (who : ℕ) (mine : who < g.shape.workers)
       (⊎_elim
       (λ (e : v ≡ who).
       let here : places_at game v ≡ places_at g who ++ p ∷ [] = places_here v e ∙ places_are ∙ ap (λ (l : List ℕ). l ++ p ∷ []) (sym mine_at) in
-      let size : length (plays.told who) ≡ length (places_at g who) = told_size who mine in
+      let size : length (plays.told who) ≡ length (places_at g who) = told_size g plays who mine in
       let long : length (places_at game v) ≡ length (places_at g who) + 1 = ap length here ∙ length_push (places_at g who) p in
       stands_so (set g.answers p (Some so)) (places_at game v) (places_at g who ++ p ∷ []) (updated plays.told who (plays.told who ++ so ∷ []) v) (plays.told who ++ so ∷ []) j here (updated_here plays.told who v (plays.told who ++ so ∷ []) e)
-      (stands_more g.answers (places_at g who) (plays.told who) p so j size within (plays.answered asks who j mine)
+      (stands_more g.answers (places_at g who) (plays.told who) p so j size within (plays.answered who j mine)
       (λ (m : j < length (plays.told who)) (same : slice_index (places_at g who) j ≡ p).
       let last = (fresh v j l (omega (arith, m, size, long)) (ap (λ (l : List ℕ). get_or l j 0) here ∙ get_or_append_left (places_at g who) (p ∷ []) 0 j (omega (arith, m, size)) ∙ same)).1 in
       let at_size : length (places_at g who) ≡ length (places z h) = ap length mine_at in
@@ -223,14 +216,46 @@ module _ (g : Game) (plays : Plays g) (who : ℕ) (mine : who < g.shape.workers)
       (λ (ne : v ≢ who).
       stands_so (set g.answers p (Some so)) (places_at game v) (places_at g v) (updated plays.told who (plays.told who ++ so ∷ []) v) (plays.told v) j (places_else v ne) (updated_else plays.told who v (plays.told who ++ so ∷ []) ne)
       (λ (m : j < length (plays.told v)).
-      let size : length (plays.told v) ≡ length (places_at g v) = told_size v l in
+      let size : length (plays.told v) ≡ length (places_at g v) = told_size g plays v l in
       stands_still g.answers (places_at g v) (plays.told v) p (Some so) j
       (λ (same : slice_index (places_at g v) j ≡ p).
       let long : length (places_at game v) ≡ length (places_at g v) = ap length (places_else v ne) in
       ne (sym (fresh v j l (omega (arith, m, size, long)) (ap (λ (l : List ℕ). get_or l j 0) (places_else v ne) ∙ same)).0))
-      (plays.answered asks v j l m))
+      (plays.answered v j l m))
       inside)
       (cases_eq v who))
+
+  -- what is done stays so
+  done_then : (l : List ℕ) → places z next ≡ places z h ++ l → (p : ℕ) → IsDoneAt g p → IsDoneAt game p
+  done_then l places_are p done =
+      let v : ℕ = done.0 in
+      let j : ℕ = done.1 in
+      ⊎_elim
+      (λ (me : v ≡ who).
+      let mine_at : places_at g v ≡ places z h = ap (places_at g) me ∙ at_who (places z) [] in
+      let now : places_at game v ≡ places z h ++ l = places_here v me ∙ places_are in
+      let less : j < length (places z h) = subst (λ (at : List ℕ). j < length at) mine_at done.3 in
+      let long : length (places_at game v) ≡ length (places z h) + length l = ap length now ∙ length-append (places z h) l in
+      (v, j, done.2, omega (arith, less, long), ap (λ (at : List ℕ). get_or at j 0) now ∙ get_or_append_left (places z h) l 0 j less ∙ ap (λ (at : List ℕ). get_or at j 0) (sym mine_at) ∙ done.4))
+      (λ (ne : v ≢ who).
+      let same : places_at game v ≡ places_at g v = places_else v ne in
+      (v, j, done.2, subst (λ (at : List ℕ). j < length at) (sym same) done.3, ap (λ (at : List ℕ). get_or at j 0) same ∙ done.4))
+      (cases_eq v who)
+
+  -- of a key that is not done nothing is told
+  open_then : (answer : Option Bool) → places z next ≡ also_at (places z h) (place_now h) answer → answers ≡ answered g.answers (place_now h) answer
+      → (p : ℕ) → (IsDoneAt game p → ⊥) → slice_index_or answers p None ≡ None
+  open_then None places_are is_now p undone =
+      ap (λ (a : List (Option Bool)). slice_index_or a p None) is_now ∙ plays.unanswered p (λ done. undone (done_then [] (places_are ∙ sym (append-nil (places z h))) p done))
+  open_then (Some so) places_are is_now p undone =
+      let at : ℕ = place_now h in
+      let n : ℕ = length (places z h) in
+      let now : places_at game who ≡ places z h ++ at ∷ [] = places_here who refl ∙ places_are in
+      let long : length (places_at game who) ≡ n + 1 = ap length now ∙ length_push (places z h) at in
+      let last : slice_index (places_at game who) n ≡ at = ap (λ (l : List ℕ). get_or l n 0) now ∙ get_or_push (places z h) at 0 n refl in
+      ap (λ (a : List (Option Bool)). slice_index_or a p None) is_now
+      ∙ get_or-set_other g.answers at p (Some so) None (λ (e : p ≡ at). undone (who, n, mine, omega (arith, long), last ∙ sym e))
+      ∙ plays.unanswered p (λ done. undone (done_then (at ∷ []) places_are p done))
 
   -- its keys, its done keys and what it was told
   module _ (answer : Option Bool) (share : keys_for g.keys next ≡ keys_for g.keys h) (places_are : places z next ≡ also_at (places z h) (place_now h) answer) (counts : counted h answer next) (hand : IsHand z g.kind g.keys next) (dealt : IsDealt game) where
@@ -288,7 +313,8 @@ module _ (g : Game) (plays : Plays g) (who : ℕ) (mine : who < g.shape.workers)
         told = told;
         running = running;
         changed = changed_then;
-        answered = λ asks v j l inside. stand_then answer asks fits (fresh_then answer refl) places_are is_now v j l inside;
+        answered = λ v j l inside. stand_then answer fits (fresh_then answer refl) places_are is_now v j l inside;
+        unanswered = λ p undone. open_then answer places_are is_now p undone;
       }
         where
           same_size : (answer : Option Bool) → length (answered g.answers (place_now h) answer) ≡ length g.answers

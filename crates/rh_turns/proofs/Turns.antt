@@ -1,15 +1,11 @@
 -- A turn of a worker keeps what is so of it.
-use Rattle.std.proofs.Common.{◌≡◌, ℕ, ◌+◌, ◌<◌, ◌≤◌, ◌⊎◌, Bool, true, false, true≢false, cond, Option, Some, None, List, [], ◌∷◌, ◌++◌, length, filter, reverse, take, get_or, length-append, sym, refl, ap, ◌∙◌, subst, inl, inr, ⊎_elim, arith}
+use Rattle.std.proofs.Common.{◌≡◌, ℕ, ◌+◌, ◌<◌, ◌≤◌, ◌⊎◌, Bool, true, false, true≢false, cond, List, [], ◌∷◌, ◌++◌, length, filter, reverse, take, get_or, length-append, sym, refl, ap, ◌∙◌, subst, inl, inr, ⊎_elim, arith}
 use Rattle.std.specs.Prelude.{nat_lt}
 use Rattle.std.proofs.lemmas.Bool.{le-ltb, lt-ltb}
 use Rattle.std.proofs.Math.Seq.{take-append_seam, take-length}
 use mathlib.Core.List.{reverse-cons}
 use mir.Val.{bool_byte}
-use Rattle.rh_ledger.specs.declared.tally.Kind.{Kind}
 use Rattle.rh_world.specs.World.{In}
-use Rattle.rh_descriptor.specs.declared.steps.StepKind.{StepKind}
-use Rattle.rh_run.specs.Advance.{Advances}
-use Rattle.rh_worker.specs.Makes.{Makes}
 use Rattle.rh_descriptor.specs.declared.shape.Shape.{Shape}
 use Rattle.rh_descriptor.specs.View.{View}
 use Rattle.rh_descriptor.specs.Steps.{Allowed, Step, StepsTo}
@@ -21,11 +17,14 @@ use Rattle.rh_run.specs.Claimed.{claimed}
 use Rattle.rh_turns.specs.declared.hand.Hand.{Hand}
 use Rattle.rh_turns.specs.declared.hand.Share.{Share}
 use Rattle.rh_turns.specs.declared.hand.Share.TheVariants.{Piece, Claims}
-use Rattle.rh_turns.specs.Hands.{HasClaimed, HasNext, StepsOn, answered, counted, IsAtKey, IsIdle, IsShare, place_now, place_of, places, places_of, view_of}
+use Rattle.rh_turns.specs.Hands.{HasClaimed, HasNext, IsAtKey, IsIdle, IsShare, place_now, place_of, places, places_of, view_of}
 
--- who is busy is not idle
+-- who is busy is not idle, nor spent
 pub busy_not_idle : (p : Place) → IsBusy p → p ≡ place.Idle → ⊥
 busy_not_idle p busy e = subst IsBusy e busy
+
+pub busy_not_spent : (p : Place) → IsBusy p → p ≡ place.Spent → ⊥
+busy_not_spent p busy e = subst IsBusy e busy
 
 module _ (z : Shape) (h : Hand) (worker : IsWorker z h.worker) where
   -- nothing of an idle worker is open
@@ -161,29 +160,6 @@ at_key keys h busy o = ⊎_elim (λ e. absurd (busy_not_idle h.worker.place busy
 pub next_of : (z : Shape) (keys : List ℕ) (h : Hand) → IsBusy h.worker.place → (s : Share) → IsShare z keys h s → HasNext s h.done
 next_of z keys h busy (Piece first end) o = ⊎_elim (λ e. absurd (busy_not_idle h.worker.place busy e)) (λ lt. lt) o.2
 next_of z keys h busy (Claims last ended) o = ⊎_elim (λ e. absurd (busy_not_idle h.worker.place busy e)) (λ b. b.2) o.1.busy
-
--- a key is begun without a step
-pub begun_steps : (z : Shape) (keys : List ℕ) (k : StepKind) (words : List ℕ) (answers : List (Option Bool)) (h begun : Hand) (then : List ℕ) (told : List (Option Bool)) (next : Hand)
-    → begun.worker.side.known.view ≡ view_of h → begun.worker.kind ≡ h.worker.kind → begun.share ≡ h.share → begun.done ≡ h.done → begun.changed ≡ h.changed
-    → StepsOn z keys k words answers begun then told next → StepsOn z keys k words answers h then told next
-begun_steps z keys k words answers h begun then told next view kind share done changed o =
-    let place : place_now begun ≡ place_now h = ap (λ (s : Share). place_of s begun.done) share ∙ ap (place_of h.share) done in
-    record {
-      within = subst (λ (p : ℕ). p < length keys) place o.within;
-      next_key = subst (λ (n : ℕ). HasNext h.share n) done (subst (λ (s : Share). HasNext s begun.done) share o.next_key);
-      makes = subst (λ (v : View). Makes z k words v then (view_of next)) view o.makes;
-      done = o.done;
-      advances = subst (λ (v : View). Advances z h.worker.kind (get_or keys (place_now h) 0) v (view_of next) o.done) view
-          (subst (λ (p : ℕ). Advances z h.worker.kind (get_or keys p 0) (view_of begun) (view_of next) o.done) place
-          (subst (λ (q : Kind). Advances z q (get_or keys (place_now begun) 0) (view_of begun) (view_of next) o.done) kind o.advances));
-      share = o.share ∙ share;
-      counts = counts o.done o.counts;
-      told_is = o.told_is ∙ ap (λ (p : ℕ). answered answers p o.done) place;
-    }
-  where
-    counts : (d : Option Bool) → counted begun d next → counted h d next
-    counts None q = (q.0 ∙ done, q.1 ∙ changed)
-    counts (Some so) q = (q.0 ∙ ap (λ (n : ℕ). n + 1) done, q.1 ∙ ap (λ (n : ℕ). n + cond so 1 0) changed)
 
 pub byte_is : (b : Bool) → bool_byte b ≡ cond b 1 0
 byte_is true = refl

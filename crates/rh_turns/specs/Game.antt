@@ -3,7 +3,6 @@ use Rattle.std.specs.Prelude.{zero, suc, ◌≡◌, ℕ, ◌<◌, ◌≤◌, ◌
 use Rattle.rh_layout.specs.Key.{IsKey}
 use Rattle.rh_layout.specs.Layout.{IsLayout, keys_of}
 use Rattle.rh_ledger.specs.declared.tally.Kind.{Kind}
-use Rattle.rh_ledger.specs.declared.tally.Kind.TheVariants.{Ask}
 use Rattle.rh_descriptor.specs.declared.shape.Shape.{Shape}
 use Rattle.rh_descriptor.specs.Places.{IsShape}
 use Rattle.rh_descriptor.specs.View.{View, new_view}
@@ -45,6 +44,10 @@ places_at g = at_hand (places g.shape) [] g.hands
 abbrev pub changed_at : Game → (v : ℕ) → ℕ
 changed_at g = at_hand (λ h. h.changed) 0 g.hands
 
+-- a worker has done the key at this place of the list
+abbrev pub IsDoneAt : Game → (place : ℕ) → Type 0
+IsDoneAt g p = (v j : ℕ) × (v < g.shape.workers) × (j < length (places_at g v)) × (slice_index (places_at g v) j ≡ p)
+
 -- ---- how the keys are dealt
 
 -- the pieces follow one another in the list of all keys, from this place to its end
@@ -72,8 +75,9 @@ pub record Plays (g : Game) : Type 0 where
   pub told : ℕ → List Bool
   pub running : Running g.kind g.shape g.opening g.words (keep g) (keys_at g) (done_at g) told
   pub changed : (v : ℕ) → v < g.shape.workers → changed_at g v ≡ count_by (λ so. so) (told v)
-  pub answered : g.kind ≡ Ask → (v j : ℕ) → v < g.shape.workers → j < length (told v)
+  pub answered : (v j : ℕ) → v < g.shape.workers → j < length (told v)
       → slice_index_or g.answers (slice_index (places_at g v) j) None ≡ Some (slice_index_or (told v) j false)
+  pub unanswered : (p : ℕ) → (IsDoneAt g p → ⊥) → slice_index_or g.answers p None ≡ None
 
 -- all keys of all workers are done
 abbrev pub AllFinished : Game → Type 0

@@ -116,8 +116,9 @@ abbrev pub answered : (answers : List (Option Bool)) → (place : ℕ) → Optio
 answered answers place None = answers
 answered answers place (Some told) = set answers place (Some told)
 
--- One step of this kind on the key at this place, which is done by it or is not.
+-- One step of this kind on the next key of a worker that is not spent; the key is done by it or is not.
 pub record StepsOn (z : Shape) (keys : List ℕ) (k : StepKind) (words : List ℕ) (answers : List (Option Bool)) (h : Hand) (then : List ℕ) (told : List (Option Bool)) (next : Hand) : Type 0 where
+  pub unspent : IsSpent h → ⊥
   pub next_key : HasNext h.share h.done
   pub within : place_now h < length keys
   pub makes : Makes z k words (view_of h) then (view_of next)
@@ -127,8 +128,9 @@ pub record StepsOn (z : Shape) (keys : List ℕ) (k : StepKind) (words : List �
   pub counts : counted h done next
   pub told_is : told ≡ answered answers (place_now h) done
 
--- One Claim.
+-- One Claim of a worker that is at no key.
 pub record ClaimsOn (z : Shape) (words : List ℕ) (answers : List (Option Bool)) (h : Hand) (then : List ℕ) (told : List (Option Bool)) (next : Hand) : Type 0 where
+  pub idle : IsIdle h
   pub word : ℕ
   pub allowed : Allowed z (view_of h) Step.claims
   pub steps : StepsTo z Step.claims words (view_of h) word then (view_of next)

@@ -1,6 +1,7 @@
 -- What the laws of this crate say: what is so of a game, and that each call of a player keeps it. A worker is named by its
 -- number; beyond the last one there is any other.
-use Rattle.std.specs.Prelude.{◌≡◌, ℕ, ◌+◌, ◌<◌, ◌≤◌, ◌⊎◌, Option, Some, None, Bool, false, List, ◌++◌, length, map, replicate, set, count_by, slice_index, slice_index_or, All}
+use Rattle.std.specs.Prelude.{◌≡◌, ℕ, ◌+◌, ◌<◌, ◌≤◌, ◌⊎◌, Option, Some, None, Bool, false, List, ◌++◌, length, map, replicate, set, slice_index, slice_index_or, All}
+use Rattle.std.specs.FinSet.{contains}
 use Rattle.rh_layout.specs.Key.{IsKey}
 use Rattle.rh_layout.specs.Layout.{IsLayout, Layout, keys_of}
 use Rattle.rh_ledger.specs.declared.tally.Kind.TheVariants.{Ask}
@@ -16,14 +17,14 @@ use Rattle.rh_helping.specs.Relies.{Relies}
 use Rattle.rh_worker.specs.Worker.{IsBusy, IsWorker}
 use Rattle.rh_history.specs.History.{history}
 use Rattle.rh_run.specs.Laws.{StandsSo}
-use Rattle.rh_run.specs.Run.{tally_told}
+use Rattle.rh_run.specs.Run.{tally_by}
 use Rattle.rh_run.specs.Words.{IsWiped, cells_held, cells_now}
 use Rattle.rh_turns.specs.declared.hand.Hand.{Hand}
 use Rattle.rh_turns.specs.declared.hand.Share.TheVariants.{Claims}
 use Rattle.rh_turns.specs.declared.turning.Turn.{Turn}
 use Rattle.rh_turns.specs.Hands.{IsHand, IsIdle, IsSpent, TurnsOn, view_of}
 use Rattle.rh_turns.specs.Readable.{IsReadable}
-use Rattle.rh_turns.specs.Game.{AllFinished, AllStopped, ArePieces, Game, Plays, done_at, keep, keys_at}
+use Rattle.rh_turns.specs.Game.{AllFinished, AllStopped, ArePieces, Game, IsDoneAt, Plays, changed_at, done_at, keep, keys_at, places_at}
 
 abbrev pub hand : Game → (v : ℕ) (other : Hand) → Hand
 hand g v other = slice_index_or g.hands v other
@@ -55,7 +56,7 @@ pub record Starts (g : Game) : Type 0 where
   pub room : LeavesRoom g.kind g.shape.bits (keys_of g.opening) g.keys
   pub keys : All IsKey g.keys
   pub words : g.words ≡ map plain_number g.opening ++ replicate (row_total g.shape + 1) 0
-  pub answers : length g.answers ≡ length g.keys
+  pub answers : g.answers ≡ replicate (length g.keys) None
   pub hands : (v : ℕ) (d : Hand) → v < g.shape.workers → IsNew g v (hand g v d)
   pub dealt : IsNewlyDealt g
 
@@ -104,21 +105,27 @@ RoundsKeep = (g : Game) → Plays g → AllStopped g → AllRest g.shape (keep g
 
 -- ---- what was made
 
+-- What is counted and told of the keys that are done. Where keys are asked for, it is told of each whether the first set
+-- holds it; of a key that is not done nothing is told.
+pub record TellsSo (g : Game) : Type 0 where
+  pub counts : (v : ℕ) (d : Hand) → v < g.shape.workers → length (places_at g v) ≡ (hand g v d).done
+  pub answers : g.kind ≡ Ask → (p : ℕ) → IsDoneAt g p → slice_index_or g.answers p None ≡ Some (contains (keys_of g.opening) (slice_index g.keys p))
+  pub unanswered : (p : ℕ) → (IsDoneAt g p → ⊥) → slice_index_or g.answers p None ≡ None
+
 -- At each moment the words tell what the cells stand for: the layout of the set after the keys of the acts so far, in their
 -- order, and each key that is done shows in it.
 abbrev pub MadeSoFar : Type 0
 MadeSoFar = (g : Game) → (plays : Plays g) → ((c : ℕ) → c < cell_count g.shape → IsReadable g.shape g.words c)
     × StandsSo g.kind g.shape g.opening g.words (keys_at g) (done_at g) (keys_of g.opening)
     (acts_of (plays.running.before ++ history plays.running.world))
+    × TellsSo g
 
 -- Where all keys are done, the cells, the tally and the answers are those of one worker that does the whole list.
-pub record EndsWith (g : Game) (told : ℕ → List Bool) : Type 0 where
+pub record EndsWith (g : Game) : Type 0 where
   pub now : cells_now g.shape g.words ≡ cells_held g.shape g.words
   pub layout : Layout (cells_held g.shape g.words) g.shape.bits (set_after g.kind (keys_of g.opening) g.keys)
-  pub tally : sum_of_all (λ v. tally_told g.kind (told v)) g.shape.workers ≡ tally_of g.kind (keys_of g.opening) g.keys
-  pub done : (v : ℕ) (d : Hand) → v < g.shape.workers → length (told v) ≡ (hand g v d).done
-  pub changed : (v : ℕ) (d : Hand) → v < g.shape.workers → count_by (λ so. so) (told v) ≡ (hand g v d).changed
+  pub tally : sum_of_all (λ v. tally_by g.kind (length (places_at g v)) (changed_at g v)) g.shape.workers ≡ tally_of g.kind (keys_of g.opening) g.keys
   pub answers : g.kind ≡ Ask → (p : ℕ) → p < length g.keys → slice_index_or g.answers p None ≡ Some (slice_index_or (looked_up (keys_of g.opening) g.keys) p false)
 
 abbrev pub MadeAtTheEnd : Type 0
-MadeAtTheEnd = (g : Game) → (plays : Plays g) → AllFinished g → EndsWith g plays.told
+MadeAtTheEnd = (g : Game) → Plays g → AllFinished g → EndsWith g

@@ -1,16 +1,16 @@
 //! What a cell stands for.
 
-ghost use Rattle.std.specs.Prelude.{◌≡◌, ℕ, ◌+◌, ◌<◌, length, option_map};
+ghost use Rattle.std.specs.Prelude.{◌≡◌, ℕ, ◌+◌, ◌<◌, length};
 ghost use Rattle.rh_descriptor.specs.Places.{IsShape, cell_count, word_count};
-ghost use Rattle.rh_descriptor.specs.Words.{desc_in, ref_of};
+ghost use Rattle.rh_descriptor.specs.Words.{ref_of};
 ghost use Rattle.rh_descriptor.specs.Steps.{IsDesc};
 ghost use Rattle.rh_history.specs.History.{value_of};
-ghost use Rattle.rh_turns.specs.Readable.{IsReadable, ReadsDesc, ReadsMark};
-ghost use Rattle.rh_run.specs.Words.{entry_for, logical_word, stands_for, value_in};
+ghost use Rattle.rh_turns.specs.Readable.{IsReadable};
+ghost use Rattle.rh_run.specs.Words.{DescLeads, MarkLeads, entry_for, logical_word, stands_for, value_in};
 ghost use Rattle.rh_world.specs.World.Cell.{desc as is_desc, mark as is_mark};
 
 use rh_descriptor::{Part, Ref, Shape};
-use rh_helping::{Met, what_stands};
+use rh_helping::{Met, named_desc, what_stands};
 use rh_tagword::{Control, plain_value, unpack_control};
 
 /// What the cell stands for, as a value: what it holds itself, the old value of a mark's entry, or the
@@ -44,13 +44,13 @@ fn logical_word(shape: &Shape, words: &[u64], cell: usize) -> u64
 fn marked_word(shape: &Shape, words: &[u64], mark: Ref) -> u64
     requires shape { IsShape shape.now }
     requires sized { length words.now ≡ word_count shape.now }
-    requires reads { ReadsMark shape.now words.now (ref_of mark) }
+    requires reads { MarkLeads shape.now words.now (ref_of mark) }
     ensures { (c : ℕ) → result ≡ stands_for shape.now words.now c (is_mark (ref_of mark)) }
 {
     let worker = mark.worker;
     let mark = mark.number;
     let entry = words[shape.place(Part::MarkEntry { worker, mark })] as usize;
-    match reference(words[shape.place(Part::MarkDesc { worker, mark })]) {
+    match named_desc(words[shape.place(Part::MarkDesc { worker, mark })]) {
         Some(desc) => {
             words[shape.place(Part::EntryOld {
                 worker: desc.worker,
@@ -65,7 +65,7 @@ fn marked_word(shape: &Shape, words: &[u64], mark: Ref) -> u64
 fn described_word(shape: &Shape, words: &[u64], desc: Ref, cell: usize) -> u64
     requires shape { IsShape shape.now }
     requires sized { length words.now ≡ word_count shape.now }
-    requires reads { ReadsDesc shape.now words.now (ref_of desc) }
+    requires reads { DescLeads shape.now words.now (ref_of desc) }
     ensures { result ≡ stands_for shape.now words.now cell (is_desc (ref_of desc)) }
 {
     let worker = desc.worker;
@@ -99,16 +99,5 @@ fn counting_word(shape: &Shape, words: &[u64], desc: Ref, entry: usize) -> u64
     match unpack_control(control) {
         Some(Control::Succeeded) => words[shape.place(Part::EntryNew { worker, entry })],
         _ => words[shape.place(Part::EntryOld { worker, entry })],
-    }
-}
-
-/// The descriptor that a word refers to.
-#[tactic(auto, using(crate::proofs::Refers::refers))]
-fn reference(word: u64) -> Option<Ref>
-    ensures { option_map ref_of result ≡ desc_in word }
-{
-    match what_stands(word) {
-        Met::Desc(desc) => Some(desc),
-        _ => None,
     }
 }

@@ -14,6 +14,7 @@ returns-then-place-keys-clause-claims c =
     let s = subst (λ (x : Share). IsShare c.args.shape.now c.args.keys.now c.args.hand.now x) c.requires.share c.requires.hand.share in
     let lt = subst (λ (m : ℕ). c.claim-place.result < m) (sym s.0) c.if-place-keys.true in
     λ answers. record {
+      idle = c.requires.idle;
       word = c.claim-place.result;
       allowed = may_claim c.args.shape.now c.args.hand.now c.requires.hand.worker _ c.requires.relies.now c.requires.idle (s.1.within refl);
       steps = subst (λ (v : View). StepsTo c.args.shape.now Step.claims c.args.words.now c.args.hand.now.worker.side.known.view c.claim-place.result c.claim-place.new.words v) (sym c.begin.ensures.same_view) c.claim-place.ensures.steps;
@@ -39,6 +40,7 @@ returns-else-place-keys-clause-claims c =
     let s = subst (λ (x : Share). IsShare c.args.shape.now c.args.keys.now c.args.hand.now x) c.requires.share c.requires.hand.share in
     let le = subst (λ (m : ℕ). m ≤ c.claim-place.result) (sym s.0) c.if-place-keys.false in
     λ answers. record {
+      idle = c.requires.idle;
       word = c.claim-place.result;
       allowed = may_claim c.args.shape.now c.args.hand.now c.requires.hand.worker _ c.requires.relies.now c.requires.idle (s.1.within refl);
       steps = c.claim-place.ensures.steps;

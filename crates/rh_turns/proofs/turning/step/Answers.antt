@@ -1,7 +1,7 @@
-use Rattle.std.proofs.Common.{Option, Bool, Some, ℕ, ◌+◌, set, ap, inl, inr, refl, subst, sym, ◌∙◌}
+use Rattle.std.proofs.Common.{Option, Bool, Some, None, ℕ, ◌+◌, set, ap, inl, inr, refl, subst, sym, ◌∙◌}
 use Rattle.rh_run.specs.Advance.{Advances}
 use Rattle.rh_worker.specs.Worker.{EndsAt}
-use Rattle.rh_turns.proofs.Turns.{at_key, byte_is, byte_small, key_same, next_of, share_done, share_same}
+use Rattle.rh_turns.proofs.Turns.{at_key, busy_not_spent, byte_is, byte_small, key_same, next_of, share_done, share_same}
 use Rattle.rh_turns.proofs.turning.step.Goals as goal
 
 pub returns-in-Some-clause-hand : goal.returns-in-Some-clause-hand
@@ -32,6 +32,7 @@ returns-in-Some-clause-steps c =
     let h = c.args.hand.now in
     let at = at_key c.args.keys.now h c.requires.busy c.requires.hand.key in
     record {
+      unspent = busy_not_spent h.worker.place c.requires.busy;
       within = at.within;
       next_key = next_of c.args.shape.now c.args.keys.now h c.requires.busy h.share c.requires.hand.share;
       makes = c.step-stepped.ensures.makes;
@@ -41,4 +42,21 @@ returns-in-Some-clause-steps c =
       share = refl;
       counts = (refl, ap (λ (n : ℕ). h.changed + n) (c.from.ensures ∙ byte_is c.in-Some.told));
       told_is = ap (λ (p : ℕ). set c.args.answers.now p (Some c.in-Some.told)) c.place-place.ensures;
+    }
+
+pub returns-in_default-clause-steps : goal.returns-in_default-clause-steps
+returns-in_default-clause-steps c =
+    let h = c.args.hand.now in
+    let at = at_key c.args.keys.now h c.requires.busy c.requires.hand.key in
+    record {
+      unspent = busy_not_spent h.worker.place c.requires.busy;
+      within = at.within;
+      next_key = next_of c.args.shape.now c.args.keys.now h c.requires.busy h.share c.requires.hand.share;
+      makes = c.step-stepped.ensures.makes;
+      done = None;
+      advances = subst (λ (k : ℕ). Advances c.args.shape.now h.worker.kind k h.worker.side.known.view c.step-stepped.new.self.side.known.view None) (sym at.key)
+          (subst (λ (d : Option Bool). Advances c.args.shape.now h.worker.kind h.worker.key h.worker.side.known.view c.step-stepped.new.self.side.known.view d) c.in_default.is c.step-stepped.ensures.advances);
+      share = refl;
+      counts = (refl, refl);
+      told_is = refl;
     }
