@@ -7,7 +7,8 @@ use Rattle.rh_ledger.specs.Phase.{set_after, tally_of}
 use Rattle.rh_turns.specs.Game.{AllFinished, Game}
 use Rattle.rh_player.specs.declared.fault.PlayFault.{PlayFault}
 use Rattle.rh_player.specs.declared.fault.PlayFault.TheVariants as start
-use Rattle.rh_player.specs.Made.{MadeSoFar, changed_count, counted, done_count, tally_by}
+use Rattle.rh_run.specs.Run.{tally_by}
+use Rattle.rh_player.specs.Made.{MadeSoFar, changed_count, done_count}
 use Rattle.rh_files.specs.Counting.{AppendsFront}
 use Rattle.rh_files.specs.Dump.{dump_text}
 use Rattle.rh_play.specs.declared.fault.PlayTextFault.{PlayTextFault}
@@ -25,7 +26,7 @@ use Rattle.rh_play_run.specs.Schedule.{Follows}
 
 -- what the keys that are done are counted as
 abbrev pub tally_so_far : Game → Tally
-tally_so_far g = tally_by g.kind (counted (done_count g)) (counted (changed_count g))
+tally_so_far g = tally_by g.kind (done_count g) (changed_count g)
 
 abbrev pub IsAllFinished : Game → Bool → Type 0
 IsAllFinished g true = AllFinished g

@@ -10,9 +10,8 @@ ghost use Rattle.rh_play_run.specs.Beginning.{player_fault};
 
 use rh_descriptor::Rooms;
 use rh_edit::SeqSet;
-use rh_layout::MAX_KEY;
 use rh_play::{Play, Work};
-use rh_player::{PlayFault, Player};
+use rh_player::{PlayFault, Player, are_keys};
 use std::alloc::Global;
 
 /// The player of a play. The keys held are tested first.
@@ -49,12 +48,6 @@ pub(crate) fn cells_in(bits: u32) -> usize
     ensures { result ≡ 2 ^ bits }
 {
     1 << bits
-}
-
-fn are_keys(keys: &[u64]) -> bool
-    ensures { result ≡ are_keys keys.now }
-{
-    keys.iter().all(|key| *key <= MAX_KEY)
 }
 
 /// The player of a play whose table has these cells at first.

@@ -1,5 +1,5 @@
 -- A player that is set up.
-use Rattle.std.proofs.Common.{◌≡◌, ℕ, ◌+◌, ◌-◌, ◌<◌, ◌≤◌, inl, inr, ⊎_elim, sym, ap, ◌∙◌, subst, arith, Option, Bool, false, List, [], ◌∷◌, ◌++◌, length, map, replicate, take, get_or}
+use Rattle.std.proofs.Common.{◌≡◌, ℕ, ◌+◌, ◌-◌, ◌<◌, ◌≤◌, inl, inr, ⊎_elim, refl, sym, ap, ◌∙◌, subst, arith, Option, Some, None, Bool, false, List, [], ◌∷◌, ◌++◌, length, map, replicate, take, get_or}
 use Rattle.std.specs.Prelude.{slice_index, All}
 use Rattle.std.proofs.lemmas.Bool.{cases_eq, cases_lt}
 use Rattle.std.proofs.lemmas.List.{get_or_append_left, get_or_at, get_or-map, length-append, length-map, length-take, map-append, take_all, take_more}
@@ -57,6 +57,11 @@ module _ (kind : Kind) (z : Shape) (words : List ℕ) (shares : List Share) (han
   pub next_hands : AreNew kind z words hands → IsNewHand kind z words n h → (now : List Hand) → now ≡ hands ++ h ∷ [] → (shares_of now ≡ take (n + 1) shares) × AreNew kind z words now
   next_hands new one now is = (ap shares_of is ∙ more_shares, subst (AreNew kind z words) (sym is) (more_new new one))
 
+-- what is so of no answer is so of None alone
+pub none_alone : (P : Option Bool → Type 0) → ((told : Bool) → P (Some told) → ⊥) → (answer : Option Bool) → P answer → answer ≡ None
+none_alone P not None p = refl
+none_alone P not (Some told) p = absurd (not told p)
+
 -- all claim their keys
 pub will_claim : (shares : List Share) (hands : List Hand) → shares_of hands ≡ shares → All ClaimsAll shares → All WillClaim hands
 will_claim shares hands shares_are all v d inside =
@@ -69,7 +74,7 @@ module _ (kind : Kind) (z : Shape) (cells keys : List ℕ) (shares : List Share)
     (shape : IsShape z) (some : 0 < z.workers) (workers : length shares ≡ z.workers) (layout : IsLayout z.bits cells) (room : LeavesRoom kind z.bits (keys_of cells) keys)
     (are_keys : All IsKey keys) (dealt : AreShares z shares (length keys))
     (opening_is : opening ≡ cells) (words_are : words ≡ map plain_number cells) (plain_is : plain ≡ words) (n : ℕ) (n_is : n ≡ word_count z) (m : ℕ) (m_is : m ≡ length words)
-    (all_is : all ≡ take n words ++ replicate (n - m) 0) (told : length answers ≡ length keys) (shares_are : shares_of hands ≡ shares) (new : AreNew kind z plain hands) where
+    (all_is : all ≡ take n words ++ replicate (n - m) 0) (none_told : answers ≡ replicate (length keys) None) (shares_are : shares_of hands ≡ shares) (new : AreNew kind z plain hands) where
   abbrev game : Game
   game = record { kind = kind; shape = z; opening = opening; words = all; keys = keys; answers = answers; hands = hands }
 
@@ -92,7 +97,7 @@ module _ (kind : Kind) (z : Shape) (cells keys : List ℕ) (shares : List Share)
     room = subst (λ (cs : List ℕ). LeavesRoom kind z.bits (keys_of cs) keys) (sym opening_is) room;
     keys = are_keys;
     words = all_words;
-    answers = told;
+    answers = none_told;
     hands = λ v d mine.
         let h = new v d (omega (arith, mine, as_many)) in
         record {

@@ -1,20 +1,29 @@
 -- What is counted of all workers.
-use Rattle.std.proofs.Common.{◌≡◌, ℕ, zero, suc, ◌+◌, ◌-◌, ◌^◌, ◌<◌, ◌≤◌, min, sym, refl, ap, ◌∙◌, arith, Bool, List, [], ◌∷◌, length, map, take, get_or}
-use Rattle.std.specs.Prelude.{count_by}
+use Rattle.std.proofs.Common.{◌≡◌, ℕ, zero, suc, ◌+◌, ◌-◌, ◌^◌, ◌<◌, ◌≤◌, ⊎_elim, min, sym, refl, ap, ◌∙◌, subst, arith, List, [], ◌∷◌, length, length-append, map, take, get_or}
+use Rattle.std.specs.Prelude.{All}
+use Rattle.std.specs.List.{range_with_len}
 use Rattle.std.proofs.lemmas.List.{take_all}
-use Rattle.rh_layout.specs.Layout.{Keys}
 use Rattle.rh_ledger.specs.declared.tally.Kind.{Kind}
 use Rattle.rh_ledger.specs.declared.tally.Kind.TheVariants.{Insert, Remove, Ask}
-use Rattle.rh_ledger.specs.declared.tally.Tally.{Tally}
-use Rattle.rh_ledger.specs.Phase.{set_with, tally_of}
-use Rattle.rh_ledger.specs.Tally.{sum_of}
-use Rattle.rh_acts.specs.Workers.{sum_of_all}
-use Rattle.rh_run.specs.Run.{tally_told}
+use Rattle.rh_ledger.specs.Phase.{tally_of}
+use Rattle.rh_ledger.specs.Tally.{none_yet, sum_of}
+use Rattle.rh_descriptor.specs.declared.shape.Shape.{Shape}
+use Rattle.rh_descriptor.specs.View.{View}
+use Rattle.rh_acts.specs.Workers.{joined, sum_of_all}
+use Rattle.rh_run.specs.Claimed.{claimed}
+use Rattle.rh_run.specs.Run.{tally_by}
+use Rattle.rh_run.proofs.Sharing.{claims_few}
 use Rattle.rh_turns.specs.declared.hand.Hand.{Hand}
-use Rattle.rh_turns.specs.Game.{AllFinished, Game, Plays}
-use Rattle.rh_turns.specs.Laws.{EndsWith}
+use Rattle.rh_turns.specs.declared.hand.Share.{Share}
+use Rattle.rh_turns.specs.declared.hand.Share.TheVariants.{Piece, Claims}
+use Rattle.rh_turns.specs.Hands.{IsClaiming, IsShare, places, view_of}
+use Rattle.rh_turns.specs.Game.{AllFinished, ArePieces, Game, Plays, changed_at, keep, places_at}
+use Rattle.rh_turns.proofs.Apart.{end_of, first_of, piece_within}
+use Rattle.rh_turns.proofs.AtHands.{at_hand_is}
 use Rattle.rh_turns.proofs.Ended.{plays_ends}
-use Rattle.rh_player.specs.Made.{changed_count, counted, done_count, held_first, tally_by, total}
+use Rattle.rh_turns.proofs.Playing.{done_claimed, in_hands, kept_at, some_hand}
+use Rattle.rh_turns.proofs.Telling.{places_counted}
+use Rattle.rh_player.specs.Made.{changed_count, counted, done_count, held_first, total}
 
 -- one worker more
 total_more : (f : Hand → ℕ) (hs : List Hand) (i : ℕ) (d : Hand) → i < length hs → total (map f (take (suc i) hs)) ≡ total (map f (take i hs)) + f (get_or hs i d)
@@ -40,77 +49,142 @@ total_least f g (h ∷ hs) less =
     let rest : total (map f hs) ≤ total (map g hs) = total_least f g hs (λ v d inside. less (suc v) d (omega (arith, inside))) in
     omega (arith, first, rest)
 
--- ---- the sum of what the workers were told
+total_same : (f g : Hand → ℕ) (hs : List Hand) → ((v : ℕ) (d : Hand) → v < length hs → f (get_or hs v d) ≡ g (get_or hs v d)) → total (map f hs) ≡ total (map g hs)
+total_same f g [] same = refl
+total_same f g (h ∷ hs) same =
+    let first : f h ≡ g h = same 0 h (omega arith) in
+    let rest : total (map f hs) ≡ total (map g hs) = total_same f g hs (λ v d inside. same (suc v) d (omega (arith, inside))) in
+    omega (arith, first, rest)
+
+-- ---- the sum of what the workers count
 
 sum_by : (kind : Kind) (a b c d : ℕ) → sum_of (tally_by kind a b) (tally_by kind c d) ≡ tally_by kind (a + c) (b + d)
 sum_by Insert a b c d = refl
 sum_by Remove a b c d = refl
 sum_by Ask a b c d = refl
 
-told_by : (kind : Kind) (told : List Bool) → tally_told kind told ≡ tally_by kind (length told) (count_by (λ so. so) told)
-told_by Insert told = refl
-told_by Remove told = refl
-told_by Ask told = refl
-
-none_by : (kind : Kind) → sum_of_all (λ v. tally_told kind []) 0 ≡ tally_by kind 0 0
+none_by : (kind : Kind) → none_yet ≡ tally_by kind 0 0
 none_by Insert = refl
 none_by Remove = refl
 none_by Ask = refl
 
-abbrev done_of : List Hand → ℕ
-done_of hs = total (map (λ h. h.done) hs)
-
-abbrev changed_of : List Hand → ℕ
-changed_of hs = total (map (λ h. h.changed) hs)
-
-told_total : (kind : Kind) (hs : List Hand) (told : ℕ → List Bool) (n : ℕ) → n ≤ length hs
-    → ((v : ℕ) (d : Hand) → v < length hs → length (told v) ≡ (get_or hs v d).done) → ((v : ℕ) (d : Hand) → v < length hs → count_by (λ so. so) (told v) ≡ (get_or hs v d).changed)
-    → (other : Hand) → sum_of_all (λ v. tally_told kind (told v)) n ≡ tally_by kind (done_of (take n hs)) (changed_of (take n hs))
-told_total kind hs told zero few done changed other = none_by kind
-told_total kind hs told (suc n) few done changed other =
+sum_is : (kind : Kind) (f c : Hand → ℕ) (done changed : ℕ → ℕ) (hs : List Hand) (d : Hand) → ((v : ℕ) → v < length hs → (done v ≡ f (get_or hs v d)) × (changed v ≡ c (get_or hs v d)))
+    → (n : ℕ) → n ≤ length hs → sum_of_all (λ v. tally_by kind (done v) (changed v)) n ≡ tally_by kind (total (map f (take n hs))) (total (map c (take n hs)))
+sum_is kind f c done changed hs d are zero few = none_by kind
+sum_is kind f c done changed hs d are (suc n) few =
     let inside : n < length hs = omega (arith, few) in
-    let before = told_total kind hs told n (omega (arith, few)) done changed other in
-    (λ i. sum_of (before i) ((told_by kind (told n) ∙ (λ j. tally_by kind (done n other inside j) (changed n other inside j))) i))
-    ∙ sum_by kind (done_of (take n hs)) (changed_of (take n hs)) (get_or hs n other).done (get_or hs n other).changed
-    ∙ (λ i. tally_by kind (sym (total_more (λ h. h.done) hs n other inside) i) (sym (total_more (λ h. h.changed) hs n other inside) i))
+    let here = are n inside in
+    (λ i. sum_of (sum_is kind f c done changed hs d are n (omega (arith, few)) i) (tally_by kind (here.0 i) (here.1 i)))
+    ∙ sum_by kind (total (map f (take n hs))) (total (map c (take n hs))) (f (get_or hs n d)) (c (get_or hs n d))
+    ∙ (λ i. tally_by kind (sym (total_more f hs n d inside) i) (sym (total_more c hs n d inside) i))
 
-reads_all : (kind : Kind) (S : Keys) (keys : List ℕ) → (tally_of kind S keys).read ≡ length keys
-reads_all kind S [] = refl
-reads_all Insert S (k ∷ keys) = let rest : (tally_of Insert (set_with Insert S k) keys).read ≡ length keys = reads_all Insert (set_with Insert S k) keys in omega (arith, rest)
-reads_all Remove S (k ∷ keys) = let rest : (tally_of Remove (set_with Remove S k) keys).read ≡ length keys = reads_all Remove (set_with Remove S k) keys in omega (arith, rest)
-reads_all Ask S (k ∷ keys) = let rest : (tally_of Ask (set_with Ask S k) keys).read ≡ length keys = reads_all Ask (set_with Ask S k) keys in omega (arith, rest)
+-- ---- sums of all workers
 
-read_by : (kind : Kind) (read changed : ℕ) → (tally_by kind read changed).read ≡ read
-read_by Insert read changed = refl
-read_by Remove read changed = refl
-read_by Ask read changed = refl
+-- those of pieces that follow one another are no longer than the list
+pieces_hold : (f : Hand → ℕ) (low : ℕ) (hs : List Hand) (count : ℕ) → ArePieces low hs count → ((v : ℕ) (d : Hand) → v < length hs → first_of (get_or hs v d).share + f (get_or hs v d) ≤ end_of (get_or hs v d).share)
+    → total (map f hs) + low ≤ count
+pieces_hold f low [] count are each = omega (arith, are)
+pieces_hold f low (h ∷ hs) count are each =
+    let first : first_of h.share ≡ low = ap first_of are.1 in
+    let end : end_of h.share ≡ are.0 = ap end_of are.1 in
+    let here = each 0 h (omega arith) in
+    let rest = pieces_hold f are.0 hs count are.3 (λ v d inside. each (suc v) d (omega (arith, inside))) in
+    omega (arith, first, end, here, rest)
+
+few_by : (f : Hand → ℕ) (k : ℕ → ℕ) (hs : List Hand) (first : ℕ) → ((v : ℕ) (d : Hand) → v < length hs → f (get_or hs v d) ≤ k (first + v)) → total (map f hs) ≤ total (map k (range_with_len first (length hs)))
+few_by f k [] first less = omega arith
+few_by f k (h ∷ hs) first less =
+    let start : first + 0 ≡ first = omega arith in
+    let here : f h ≤ k first = subst (λ (n : ℕ). f h ≤ k n) start (less 0 h (omega arith)) in
+    let rest : total (map f hs) ≤ total (map k (range_with_len (first + 1) (length hs))) = few_by f k hs (first + 1) (λ v d inside. subst (λ (n : ℕ). f (get_or hs v d) ≤ k n) (on v) (less (suc v) d (omega (arith, inside)))) in
+    omega (arith, here, rest)
+  where
+    on : (v : ℕ) → first + suc v ≡ first + 1 + v
+    on v = omega arith
+
+joined_total : (f : ℕ → List ℕ) (first n : ℕ) → length (joined (map f (range_with_len first n))) ≡ total (map (λ v. length (f v)) (range_with_len first n))
+joined_total f first zero = refl
+joined_total f first (suc n) =
+    let rest : length (joined (map f (range_with_len (first + 1) n))) ≡ total (map (λ v. length (f v)) (range_with_len (first + 1) n)) = joined_total f (first + 1) n in
+    omega (arith, length-append (f first) (joined (map f (range_with_len (first + 1) n))), rest)
+
+-- ---- at each moment
+
+module _ (g : Game) (plays : Plays g) where
+  counts_done : (v : ℕ) (d : Hand) → v < length g.hands → (get_or g.hands v d).done ≡ length (places g.shape (get_or g.hands v d))
+  counts_done v d inside = let h : Hand = get_or g.hands v d in sym (places_counted g.shape g.keys h h.share (plays.hands v d inside).share)
+
+  pub done_is : total (map (λ h. h.done) g.hands) ≡ done_count g
+  done_is = total_same (λ h. h.done) (λ h. length (places g.shape h)) g.hands counts_done
+
+  -- ---- no more keys are done than the list has
+
+  done_few : (v : ℕ) (d : Hand) (s : Share) → v < length g.hands → (get_or g.hands v d).share ≡ s → IsShare g.shape g.keys (get_or g.hands v d) s
+  done_few v d s inside is = subst (IsShare g.shape g.keys (get_or g.hands v d)) is (plays.hands v d inside).share
+
+  few_pieces : ArePieces 0 g.hands (length g.keys) → done_count g ≤ length g.keys
+  few_pieces are =
+      let all = pieces_hold (λ h. length (places g.shape h)) 0 g.hands (length g.keys) are (λ v d inside.
+      let r = piece_within 0 g.hands (length g.keys) are v d inside in
+      let done : r.0 + (get_or g.hands v d).done ≤ r.1 = (done_few v d (Piece r.0 r.1) inside r.2).0 in
+      let count : (get_or g.hands v d).done ≡ length (places g.shape (get_or g.hands v d)) = counts_done v d inside in
+      let first : first_of (get_or g.hands v d).share ≡ r.0 = ap first_of r.2 in
+      let end : end_of (get_or g.hands v d).share ≡ r.1 = ap end_of r.2 in
+      omega (arith, done, count, first, end)) in
+      omega (arith, all)
+
+  few_claims : All IsClaiming g.hands → done_count g ≤ length g.keys
+  few_claims are =
+      let z : Shape = g.shape in
+      let run = plays.running in
+      let d : Hand = some_hand g plays in
+      let some : 0 < length g.hands = in_hands g plays 0 plays.some in
+      let each : (v : ℕ) (d : Hand) → v < length g.hands → length (places z (get_or g.hands v d)) ≤ length (claimed z (keep g (0 + v))) = λ v d inside.
+      let c = are v d inside in
+      let most = done_claimed z (get_or g.hands v d) c.0 c.1 (done_few v d (Claims c.0 c.1) inside c.2).1 in
+      let count : (get_or g.hands v d).done ≡ length (places z (get_or g.hands v d)) = counts_done v d inside in
+      let kept : length (claimed z (keep g v)) ≡ length (claimed z (view_of (get_or g.hands v d))) = ap (λ (x : View). length (claimed z x)) (kept_at g plays v (omega (arith, inside, plays.workers)) d) in
+      let same : v ≡ 0 + v = omega arith in
+      subst (λ (n : ℕ). length (places z (get_or g.hands v d)) ≤ length (claimed z (keep g n))) same (omega (arith, most, count, kept)) in
+      let few = few_by (λ h. length (places z h)) (λ v. length (claimed z (keep g v))) g.hands 0 each in
+      let joined_is : length (joined (map (λ v. claimed z (keep g v)) (range_with_len 0 (length g.hands)))) ≡ total (map (λ v. length (claimed z (keep g v))) (range_with_len 0 (length g.hands))) =
+      joined_total (λ v. claimed z (keep g v)) 0 (length g.hands) in
+      let all : length (joined (map (λ v. claimed z (keep g v)) (range_with_len 0 (length g.hands)))) ≤ z.keys =
+      subst (λ (n : ℕ). length (joined (map (λ v. claimed z (keep g v)) (range_with_len 0 n))) ≤ z.keys) (sym plays.workers) (claims_few run.world z g.words (keep g) run.core (held_first g)) in
+      let c = are 0 d some in
+      let long : z.keys ≡ length g.keys = (done_few 0 d (Claims c.0 c.1) some c.2).0 in
+      omega (arith, few, joined_is, all, long)
+
+  pub done_within : done_count g ≤ length g.keys
+  done_within = ⊎_elim few_pieces few_claims plays.dealt
+
+  some_changed : changed_count g ≤ done_count g
+  some_changed =
+      let few = total_least (λ h. h.changed) (λ h. h.done) g.hands (λ v d inside. (plays.hands v d inside).some) in
+      let same = done_is in
+      omega (arith, few, same)
+
+  small : (n : ℕ) → n < 2 ^ 63 → counted n ≡ n
+  small n less = omega (arith, less)
+
+  -- so no count ends at the greatest number
+  pub counts_exactly : length g.keys < 2 ^ 63 → (counted (done_count g) ≡ done_count g) × (counted (changed_count g) ≡ changed_count g)
+  counts_exactly short = (small (done_count g) (omega (arith, short, done_within)), small (changed_count g) (omega (arith, short, done_within, some_changed)))
 
 -- ---- at the end
 
-module _ (g : Game) (plays : Plays g) (finished : AllFinished g) (other : Hand) where
-  ends : EndsWith g plays.told
-  ends = plays_ends g plays finished
+module _ (g : Game) (plays : Plays g) (finished : AllFinished g) where
+  d : Hand
+  d = some_hand g plays
 
-  mine : (v : ℕ) → v < length g.hands → v < g.shape.workers
-  mine v inside = omega (arith, inside, plays.workers)
-
-  exact : tally_by g.kind (done_count g) (changed_count g) ≡ tally_of g.kind (held_first g) g.keys
-  exact =
-      (λ i. tally_by g.kind (done_of (all i)) (changed_of (all i)))
-      ∙ sym (told_total g.kind g.hands plays.told (length g.hands) (omega arith) (λ v d inside. ends.done v d (mine v inside)) (λ v d inside. ends.changed v d (mine v inside)) other)
-      ∙ ap (sum_of_all (λ v. tally_told g.kind (plays.told v))) plays.workers ∙ ends.tally
+  pub tally_ends : tally_by g.kind (done_count g) (changed_count g) ≡ tally_of g.kind (held_first g) g.keys
+  tally_ends =
+      (λ i. tally_by g.kind (total (map (λ h. length (places g.shape h)) (all i))) (total (map (λ h. h.changed) (all i))))
+      ∙ sym (sum_is g.kind (λ h. length (places g.shape h)) (λ h. h.changed) (λ v. length (places_at g v)) (changed_at g) g.hands d each (length g.hands) (omega arith))
+      ∙ ap (sum_of_all (λ v. tally_by g.kind (length (places_at g v)) (changed_at g v))) plays.workers ∙ (plays_ends g plays finished).tally
     where
       all : g.hands ≡ take (length g.hands) g.hands
       all = sym (take_all (length g.hands) g.hands (omega arith))
 
-  all_done : done_count g ≡ length g.keys
-  all_done = sym (read_by g.kind (done_count g) (changed_count g)) ∙ ap (λ (t : Tally). t.read) exact ∙ reads_all g.kind (held_first g) g.keys
-
-  some_changed : changed_count g ≤ done_count g
-  some_changed = total_least (λ h. h.changed) (λ h. h.done) g.hands (λ v d inside. (plays.hands v d inside).some)
-
-  pub tally_ends : length g.keys < 2 ^ 63 → tally_by g.kind (counted (done_count g)) (counted (changed_count g)) ≡ tally_of g.kind (held_first g) g.keys
-  tally_ends small = (λ i. tally_by g.kind (same (done_count g) (omega (arith, small, all_done)) i) (same (changed_count g) (omega (arith, small, all_done, some_changed)) i)) ∙ exact
-    where
-      same : (n : ℕ) → n < 2 ^ 63 → counted n ≡ n
-      same n less = omega (arith, less)
+      each : (v : ℕ) → v < length g.hands → (length (places_at g v) ≡ length (places g.shape (get_or g.hands v d))) × (changed_at g v ≡ (get_or g.hands v d).changed)
+      each v inside = (ap length (at_hand_is (places g.shape) [] g.hands v d inside), at_hand_is (λ h. h.changed) 0 g.hands v d inside)

@@ -1,16 +1,16 @@
 -- What a player shows of what its workers have made. (own)
 use Rattle.std.specs.Prelude.{◌≡◌, ℕ, ◌+◌, ◌-◌, ◌^◌, ◌<◌, Option, Some, None, Bool, true, false, if◌then◌else◌, List, [], ◌∷◌, length, map, min, ltb, slice_index_or}
+use Rattle.std.specs.FinSet.{contains}
 use Rattle.rh_layout.specs.Layout.{Keys, keys_of}
 use Rattle.rh_ledger.specs.declared.tally.Kind.{Kind}
 use Rattle.rh_ledger.specs.declared.tally.Kind.TheVariants.{Insert, Remove, Ask}
-use Rattle.rh_ledger.specs.declared.tally.Tally.{Tally}
 use Rattle.rh_ledger.specs.Phase.{looked_up}
-use Rattle.rh_ledger.specs.Tally.{added_of, none_yet, removed_of}
 use Rattle.rh_acts.specs.Act.{Act}
 use Rattle.rh_run.specs.Laws.{StandsSo}
 use Rattle.rh_run.specs.Words.{cells_now}
 use Rattle.rh_turns.specs.declared.hand.Share.{Share}
 use Rattle.rh_turns.specs.declared.hand.Share.TheVariants.{Piece, Claims}
+use Rattle.rh_turns.specs.Hands.{places}
 use Rattle.rh_turns.specs.Game.{AllFinished, Game, at_hand, done_at, keys_at}
 
 -- the set that the cells held when the player was made
@@ -30,15 +30,10 @@ total (n ∷ ns) = n + total ns
 
 -- how many keys are done, by all workers, and of how many of them it was told that they were added, removed or found
 abbrev pub done_count : Game → ℕ
-done_count g = total (map (λ h. h.done) g.hands)
+done_count g = total (map (λ h. length (places g.shape h)) g.hands)
 
 abbrev pub changed_count : Game → ℕ
 changed_count g = total (map (λ h. h.changed) g.hands)
-
-abbrev pub tally_by : Kind → (read changed : ℕ) → Tally
-tally_by Insert read changed = added_of read changed
-tally_by Remove read changed = removed_of read changed
-tally_by Ask read changed = record none_yet { read = read; found = changed }
 
 -- a count that ends at the greatest number of its type
 abbrev pub counted : ℕ → ℕ
@@ -70,6 +65,11 @@ is_claimed (Claims last ended) = true
 -- whether all workers share one list
 abbrev pub is_shared : Game → Bool
 is_shared g = at_hand (λ h. is_claimed h.share) false g.hands 0
+
+-- It is there just where the key is done, and says whether the first set held it.
+abbrev pub IsAnswer : (S : Keys) (k : ℕ) (IsDone : Type 0) → Option Bool → Type 0
+IsAnswer S k IsDone None = IsDone → ⊥
+IsAnswer S k IsDone (Some told) = IsDone × (told ≡ contains S k)
 
 -- that of one worker which does the whole list
 abbrev pub AnswersAll : Game → (keys : List ℕ) → (place : ℕ) → Option Bool → Type 0

@@ -10,6 +10,7 @@ mod turns;
 
 pub use fault::PlayFault;
 pub use player::Player;
+pub use start::are_keys;
 
 #[cfg(test)]
 mod tests;

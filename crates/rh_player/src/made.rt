@@ -3,11 +3,13 @@
 ghost use Rattle.std.specs.Prelude.{◌≡◌, ◌<◌, None, Some, false, length, slice_index, true};
 ghost use Rattle.rh_layout.specs.Layout.{Layout};
 ghost use Rattle.rh_ledger.specs.Phase.{set_after, tally_of as tally_after};
+ghost use Rattle.rh_ledger.specs.declared.tally.Kind.TheVariants.{Ask};
 ghost use Rattle.rh_descriptor.specs.Places.{cell_count};
 ghost use Rattle.rh_tagword.specs.Word.{word_in};
-ghost use Rattle.rh_turns.specs.Game.{AllFinished, keys_at};
-ghost use Rattle.rh_player.specs.Made.{AnswersAll, MadeSoFar, changed_count, counted, done_count};
-ghost use Rattle.rh_player.specs.Made.{held_first, is_shared, tally_by, told_at, told_of};
+ghost use Rattle.rh_run.specs.Run.{tally_by};
+ghost use Rattle.rh_turns.specs.Game.{AllFinished, IsDoneAt, done_at, keys_at};
+ghost use Rattle.rh_player.specs.Made.{AnswersAll, IsAnswer, MadeSoFar, changed_count, done_count};
+ghost use Rattle.rh_player.specs.Made.{held_first, is_shared, told_at, told_of};
 
 use crate::player::Player;
 use rh_ledger::{Kind, Tally};
@@ -45,10 +47,9 @@ impl Player {
         }
     }
 
-    /// What is counted of the keys that are done. A count past the greatest number stays there.
+    /// What is counted of the keys that are done.
     pub fn tally(&self) -> Tally
-        ensures counts { result ≡ tally_by self.now.kind (counted (done_count self.now))
-            (counted (changed_count self.now)) }
+        ensures counts { result ≡ tally_by self.now.kind (done_count self.now) (changed_count self.now) }
         ensures finished { AllFinished self.now →
             result ≡ tally_after self.now.kind (held_first self.now) self.now.keys }
     {
@@ -64,6 +65,9 @@ impl Player {
     /// Where keys are asked for: what was told of the key at this place of a worker's piece, if it was.
     pub fn answer(&self, worker: usize, place: usize) -> Option<bool>
         ensures told { result ≡ told_of self.now worker place }
+        ensures asked { self.now.kind ≡ Ask → is_shared self.now ≡ false → worker < length self.now.hands →
+            IsAnswer (held_first self.now) (slice_index (keys_at self.now worker) place)
+            (place < length (done_at self.now worker)) result }
         ensures finished { is_shared self.now ≡ false → worker < length self.now.hands →
             AnswersAll self.now (keys_at self.now worker) place result }
     {
@@ -86,6 +90,8 @@ impl Player {
     pub fn answer_at(&self, place: usize) -> Option<bool>
         ensures told { is_shared self.now ≡ true → result ≡ told_at self.now place }
         ensures none { is_shared self.now ≡ false → result ≡ None }
+        ensures asked { self.now.kind ≡ Ask → is_shared self.now ≡ true →
+            IsAnswer (held_first self.now) (slice_index self.now.keys place) (IsDoneAt self.now place) result }
         ensures finished { is_shared self.now ≡ true → AnswersAll self.now self.now.keys place result }
     {
         match self.hands[0].share {

@@ -122,7 +122,8 @@ fn test_table(
     Ok(())
 }
 
-fn are_keys(keys: &[u64]) -> bool
+/// Whether each is in the range of keys.
+pub fn are_keys(keys: &[u64]) -> bool
     ensures { result ≡ are_keys keys.now }
 {
     keys.iter().all(|key| *key <= MAX_KEY)

@@ -1,7 +1,7 @@
-use Rattle.std.proofs.Common.{◌∙◌, sym, refl}
+use Rattle.std.proofs.Common.{◌∙◌, ℕ, None, ap, refl, replicate}
 use Rattle.rh_turns.specs.Laws.{Starts}
 use Rattle.rh_turns.proofs.Started.{plays_start}
-use Rattle.rh_player.proofs.Setting.{starts}
+use Rattle.rh_player.proofs.Setting.{none_alone, starts}
 use Rattle.rh_player.proofs.set_up.set_up.Goals as goal
 
 made : (c : goal.In_ok-answers) → Starts (record {
@@ -17,7 +17,7 @@ made c =
     starts c.args.kind c.args.shape c.args.cells.now c.args.keys.items c.args.shares.now c.in_ok-opening.opening.items c.in_ok-words.words.items c.deref.result.now
     c.resize.new.self.items c.in_ok-answers.answers.items c.in_ok-hands.hands.items c.requires.shape c.requires.some c.requires.workers c.requires.opening c.requires.room c.requires.keys
     c.requires.dealt (c.in_ok-opening.ensures.items_if_clones_equal (λ x y e. e)) c.in_ok-words.ensures c.deref.ensures.value c.words.result c.words.ensures c.in_ok-words.words.len
-    c.in_ok-words.words.ok.0 c.in_ok-resize.ensures.items (sym c.in_ok-answers.answers.ok.0 ∙ c.in_ok-answers.ensures.len ∙ c.len.ensures ∙ c.args.keys.ok.0)
+    c.in_ok-words.words.ok.0 c.in_ok-resize.ensures.items (c.in_ok-answers.ensures.items_if_clones_equal (none_alone _ (λ told e. e)) ∙ ap (λ (n : ℕ). replicate n None) (c.len.ensures ∙ c.args.keys.ok.0))
     c.in_ok-hands.ensures.shares c.in_ok-hands.ensures.new
 
 pub invariant_of-result : goal.invariant_of-result

@@ -1,6 +1,6 @@
 use Rattle.std.proofs.Common.{◌∙◌, ◌<◌, length, ap, subst, arith, get_or}
 use Rattle.rh_turns.specs.Game.{Game, Plays}
-use Rattle.rh_player.proofs.Answering.{answers_piece, nobody_told, told_in_piece, told_past_piece, told_where_shared}
+use Rattle.rh_player.proofs.Answering.{answer_piece, answers_piece, nobody_told, told_in_piece, told_past_piece, told_where_shared}
 use Rattle.rh_player.proofs.player.Player.answer.Goals as goal
 
 pub returns-then-worker-len-clause-told : goal.returns-then-worker-len-clause-told
@@ -40,3 +40,15 @@ returns-in-Claims-clause-told c =
 pub returns-in-Claims-clause-finished : goal.returns-in-Claims-clause-finished
 returns-in-Claims-clause-finished c =
     answers_piece c.args.self.now (subst Plays c.self.view_is c.self.invariant) c.args.worker c.args.place _ (returns-in-Claims-clause-told c)
+
+pub returns-then-place-end-clause-asked : goal.returns-then-place-end-clause-asked
+returns-then-place-end-clause-asked c = λ asks.
+    answer_piece c.args.self.now (subst Plays c.self.view_is c.self.invariant) asks c.args.worker c.args.place _ (returns-then-place-end-clause-told c)
+
+pub returns-else-place-end-clause-asked : goal.returns-else-place-end-clause-asked
+returns-else-place-end-clause-asked c = λ asks.
+    answer_piece c.args.self.now (subst Plays c.self.view_is c.self.invariant) asks c.args.worker c.args.place _ (returns-else-place-end-clause-told c)
+
+pub returns-in-Claims-clause-asked : goal.returns-in-Claims-clause-asked
+returns-in-Claims-clause-asked c = λ asks.
+    answer_piece c.args.self.now (subst Plays c.self.view_is c.self.invariant) asks c.args.worker c.args.place _ (returns-in-Claims-clause-told c)

@@ -2,9 +2,9 @@ use Rattle.std.proofs.Common.{◌≡◌, ◌∙◌, ◌^◌, ◌<◌, List, leng
 use Rattle.std.proofs.lemmas.List.{take_all}
 use Rattle.rh_turns.specs.declared.hand.Hand.{Hand}
 use Rattle.rh_turns.specs.Game.{Game, Plays}
-use Rattle.rh_turns.proofs.Playing.{some_hand}
-use Rattle.rh_player.specs.Made.{counted, tally_by, total}
-use Rattle.rh_player.proofs.Totals.{counted_next, tally_ends}
+use Rattle.rh_run.specs.Run.{tally_by}
+use Rattle.rh_player.specs.Made.{counted, total}
+use Rattle.rh_player.proofs.Totals.{counted_next, counts_exactly, done_is, tally_ends}
 use Rattle.rh_player.proofs.player.Player.tally.Goals as goal
 
 pub loop-hand-preserved : goal.loop-hand-preserved
@@ -16,15 +16,18 @@ loop-hand-preserved c =
       changed = c.saturating_add-changed.ensures ∙ counted_next (λ h. h.changed) hs c.loop-hand.hand-index c.hand-item.result inside c.hand-item.is c.loop-hand.changed c.loop-hand.invariant.changed;
     }
 
-pub returns-clause-finished : goal.returns-clause-finished
-returns-clause-finished c =
+pub returns-clause-counts : goal.returns-clause-counts
+returns-clause-counts c =
     let g = c.args.self.now in
-    let plays : Plays g = subst Plays c.self.view_is c.self.invariant in
-    let size = ap (λ (g : Game). length g.keys) c.self.view_is in
-    let small : length g.keys < 2 ^ 63 = omega (arith, size, c.self.inside.keys.ok, c.self.inside.keys.small) in
     let hands_are : take c.loop-hand.hand-index c.deref-hand-items.result.now ≡ g.hands =
     take_all c.loop-hand.hand-index c.deref-hand-items.result.now c.loop-hand-test.false ∙ c.deref-hand-items.ensures.value ∙ ap (λ (g : Game). g.hands) c.self.view_is in
     let kind_is = ap (λ (g : Game). g.kind) c.self.view_is in
-    let done_is = c.loop-hand.invariant.done ∙ ap (λ (hs : List Hand). counted (total (map (λ h. h.done) hs))) hands_are in
-    let changed_is = c.loop-hand.invariant.changed ∙ ap (λ (hs : List Hand). counted (total (map (λ h. h.changed) hs))) hands_are in
-    λ finished. c.tally_by.ensures ∙ (λ i. tally_by (kind_is i) (done_is i) (changed_is i)) ∙ tally_ends g plays finished (some_hand g plays) small
+    let plays : Plays g = subst Plays c.self.view_is c.self.invariant in
+    let size = ap (λ (g : Game). length g.keys) c.self.view_is in
+    let exact = counts_exactly g plays (omega (arith, size, c.self.inside.keys.ok, c.self.inside.keys.small)) in
+    let done = c.loop-hand.invariant.done ∙ ap (λ (hs : List Hand). counted (total (map (λ h. h.done) hs))) hands_are ∙ ap counted (done_is g plays) ∙ exact.0 in
+    let changed = c.loop-hand.invariant.changed ∙ ap (λ (hs : List Hand). counted (total (map (λ h. h.changed) hs))) hands_are ∙ exact.1 in
+    c.tally_by.ensures ∙ (λ i. tally_by (kind_is i) (done i) (changed i))
+
+pub returns-clause-finished : goal.returns-clause-finished
+returns-clause-finished c = λ finished. returns-clause-counts c ∙ tally_ends c.args.self.now (subst Plays c.self.view_is c.self.invariant) finished
