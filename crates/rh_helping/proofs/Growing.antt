@@ -18,9 +18,6 @@ use Rattle.rh_helping.specs.Work.{IsAt, IsOver, Owes}
 abbrev pub Sub : List Note → List Note → Type 0
 Sub l m = (n : Note) → In n l → In n m
 
-pub known_sub : (l m : List Note) → Sub l m → (d : Ref) → IsKnown l d → IsKnown m d
-known_sub l m s d k = ⊎_elim (λ i. inl (s (known d) i)) (λ i. inr (i.0, s (decided d i.0) i.1)) k
-
 pub stands_sub : (l m : List Note) → Sub l m → (d : Ref) (k : Control) (e : ℕ) → StandsAt l d k e → StandsAt m d k e
 stands_sub l m s d Unused e h = h
 stands_sub l m s d Undecided e h = (s (known d) h.0, λ f i. s (held d f) (h.1 f i))

@@ -1,5 +1,5 @@
 -- Settling a mark that was met.
-use Rattle.std.proofs.Common.{◌≡◌, ℕ, Option, Some, None, Bool, true, false, true≢false, List, [], filter, not, cond, ap, ◌∙◌, refl, sym, subst, inl, inr, eqb, ◌&&◌}
+use Rattle.std.proofs.Common.{◌≡◌, ℕ, Option, Some, None, Bool, true, false, true≢false, List, [], filter, not, cond, ◌∙◌, refl, sym, subst, inl, inr, eqb, ◌&&◌}
 use Rattle.rh_tagword.specs.Control.{is_decided}
 use Rattle.rh_tagword.specs.declared.control.Control.{Control}
 use Rattle.rh_tagword.specs.declared.control.Control.TheVariants.{Unused, Undecided, Succeeded, Withdrawn, Failed}
@@ -22,13 +22,9 @@ use Rattle.rh_helping.specs.Settling.{Grows, IsFound, IsSettling, MaySwap}
 use Rattle.rh_helping.specs.Work.{IsOver}
 use Rattle.rh_helping.proofs.Knowing.{allowed}
 
-abbrev is_some : {A : Type 0} → Option A → Bool
-is_some None = false
-is_some (Some a) = true
-
 -- the row of a mark that was met names a descriptor
 pub names_desc : (word : ℕ) → (d : Ref) × (desc_in word ≡ Some d) → None ≡ desc_in word → ⊥
-names_desc word named none = true≢false (sym (ap is_some (none ∙ named.1)))
+names_desc word named none = let both : None ≡ Some named.0 = none ∙ named.1 in cc
 
 module _ (z : Shape) (words : List ℕ) (v : View) (trusts : Trusts z words v) where
   pub may_read_desc : (x : Reference) (c : ℕ) → IsSettling v (settling.Desc x c) → Allowed z v (Step.reads (reading.MarkDesc x))

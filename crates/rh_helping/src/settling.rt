@@ -94,6 +94,7 @@ fn read_desc(
     let word = read_word(shape, words, side, Reading::MarkDesc(mark));
     match named_desc(word) {
         Some(desc) => Some(Settling::Entry { mark, cell, desc }),
+        // (a mark is placed after its row is written)
         None => unreachable!(),
     }
 }

@@ -81,9 +81,6 @@ module _ (kind : Kind) (bits : ℕ) (cells : List ℕ) (workers : ℕ) (keys : L
   abbrev fault : Option PlayFault
   fault = start_fault kind bits cells workers keys
 
-  pub refuses_table : (given : PlayFault) → table ≡ Some given → Refuses fault given
-  refuses_table given is = subst (λ (f : Option PlayFault). Refuses (then_keys f keys) given) (sym is) refl
-
   pub refuses_key : table ≡ None → are_keys keys ≡ false → Refuses fault BadKey
   refuses_key none bad =
       subst (λ (f : Option PlayFault). Refuses (then_keys f keys) BadKey) (sym none) (subst (λ (b : Bool). Refuses (if b then None else Some BadKey) BadKey) (sym bad) refl)

@@ -155,7 +155,7 @@ module _ (g : Game) (plays : Plays g) where
       let long : z.keys ≡ length g.keys = (done_few 0 d (Claims c.0 c.1) some c.2).0 in
       omega (arith, few, joined_is, all, long)
 
-  pub done_within : done_count g ≤ length g.keys
+  done_within : done_count g ≤ length g.keys
   done_within = ⊎_elim few_pieces few_claims plays.dealt
 
   some_changed : changed_count g ≤ done_count g

@@ -53,6 +53,7 @@ impl Player {
         ensures finished { AllFinished self.now →
             result ≡ tally_after self.now.kind (held_first self.now) self.now.keys }
     {
+        // No sum is cut, as none is above the length of the list: so no bound is owed at each addition.
         let mut done = 0u64;
         let mut changed = 0u64;
         for hand in &self.hands {

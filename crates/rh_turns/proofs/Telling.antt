@@ -42,7 +42,7 @@ module _ (g : Game) (plays : Plays g) where
   pub told_size : (v : ℕ) → v < z.workers → length (plays.told v) ≡ length (places_at g v)
   told_size v mine = (plays.running.doing v mine).so_far.size ∙ ap length (done_are v mine) ∙ length-map (places_at g v) (slice_index g.keys)
 
-  pub done_counted : (v : ℕ) (d : Hand) → v < z.workers → length (places_at g v) ≡ (get_or g.hands v d).done
+  done_counted : (v : ℕ) (d : Hand) → v < z.workers → length (places_at g v) ≡ (get_or g.hands v d).done
   done_counted v d mine =
       let h : Hand = get_or g.hands v d in
       ap length (at_hand_is (places z) [] g.hands v d (in_hands g plays v mine)) ∙ places_counted z g.keys h h.share (hand_of g plays v mine d).share

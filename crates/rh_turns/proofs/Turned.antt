@@ -34,7 +34,6 @@ use Rattle.rh_turns.proofs.Apart.{apart, piece_at, piece_not_claims, pieces_set}
 use Rattle.rh_turns.proofs.Playing.{done_claimed, hand_of, in_hands, kept_at, next_among}
 use Rattle.rh_turns.proofs.Telling.{told_size}
 
--- the game after a turn
 -- ---- the places of its done keys
 
 -- one place more, where the key there is done

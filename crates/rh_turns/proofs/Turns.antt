@@ -1,7 +1,7 @@
 -- A turn of a worker keeps what is so of it.
 use Rattle.std.proofs.Common.{◌≡◌, ℕ, ◌+◌, ◌<◌, ◌≤◌, ◌⊎◌, Bool, true, false, true≢false, cond, List, [], ◌∷◌, ◌++◌, length, filter, reverse, take, get_or, length-append, sym, refl, ap, ◌∙◌, subst, inl, inr, ⊎_elim, arith}
 use Rattle.std.specs.Prelude.{nat_lt}
-use Rattle.std.proofs.lemmas.Bool.{le-ltb, lt-ltb}
+use Rattle.std.proofs.lemmas.Bool.{lt-ltb}
 use Rattle.std.proofs.Math.Seq.{take-append_seam, take-length}
 use mathlib.Core.List.{reverse-cons}
 use mir.Val.{bool_byte}
@@ -54,9 +54,6 @@ module _ (z : Shape) (words then : List ℕ) (v next : View) (n : ℕ) (to : Ste
 
   pub claimed_one : n < z.keys → claimed z next ≡ claimed z v ++ n ∷ []
   claimed_one lt = ap (below_end z) more_claims ∙ one_more z n v.side.claims true (lt-ltb n z.keys lt)
-
-  pub claimed_none : z.keys ≤ n → claimed z next ≡ claimed z v
-  claimed_none le = ap (below_end z) more_claims ∙ one_more z n v.side.claims false (le-ltb n z.keys le)
 
 -- ---- the hand after a Claim
 
