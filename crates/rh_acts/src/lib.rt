@@ -13,6 +13,3 @@ pub use entry::Entry;
 pub use laws::{
     at_every_moment, done_keys, finished_phase, lists_of_acts, one_act, rounds_and_shares,
 };
-
-#[cfg(test)]
-mod tests;

@@ -22,6 +22,3 @@ pub use steps::{
     StepKind, claim_key, decide_desc, desc_word, mark_word, open_desc, place_mark, read_word,
     release_cell, settle_mark, write_word,
 };
-
-#[cfg(test)]
-mod tests;

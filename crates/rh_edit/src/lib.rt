@@ -13,6 +13,3 @@ pub use laws::{insert_segment, remove_segment};
 pub use news::{insert_news, remove_news};
 pub use removal::remove;
 pub use set::SeqSet;
-
-#[cfg(test)]
-mod tests;

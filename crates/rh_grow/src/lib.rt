@@ -6,6 +6,3 @@ mod growing;
 
 pub use capacity::{LOAD_DENOMINATOR, LOAD_NUMERATOR, bits_for};
 pub use growing::grow;
-
-#[cfg(test)]
-mod tests;

@@ -13,6 +13,3 @@ pub use laws::{has_free, one_layout};
 pub use limits::{MAX_BITS, MAX_KEY, MIN_BITS};
 pub use order::{beats, dist, home};
 pub use table::is_layout;
-
-#[cfg(test)]
-mod tests;

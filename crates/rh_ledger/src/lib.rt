@@ -6,6 +6,3 @@ mod tally;
 
 pub use laws::phase_in_parts;
 pub use tally::{Kind, Tally, joined};
-
-#[cfg(test)]
-mod tests;

@@ -10,6 +10,3 @@ pub use answer::Look;
 pub use laws::look_tells;
 pub use place::{cell_after, find, next_cell, place_for};
 pub use scan::{free_after, is_movable, look, stop_after};
-
-#[cfg(test)]
-mod tests;

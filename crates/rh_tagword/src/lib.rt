@@ -11,6 +11,3 @@ pub use control::{Control, pack_control, unpack_control};
 pub use laws::{one_control, one_word};
 pub use limits::{ENTRY_BITS, NUMBER_BITS, WORKER_BITS};
 pub use word::{Word, pack, plain_value, plain_word, unpack};
-
-#[cfg(test)]
-mod tests;

@@ -1,4 +1,4 @@
-use super::*;
+use rh_tagword::*;
 
 // Words with their numbers, worked out by hand.
 const WORDS: [(Word, u64); 9] = [

@@ -1,4 +1,4 @@
-use super::*;
+use rh_layout::*;
 
 // The homes at 3 bits, worked out by hand from the multiplier.
 const HOMES: [(usize, &[u64]); 8] = [

@@ -1,4 +1,4 @@
-use super::*;
+use rh_edit::*;
 use std::test::Fail;
 
 // Tables of 3 bits: the keys that are added, the one that is then removed, and the cells after it.

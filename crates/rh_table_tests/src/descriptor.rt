@@ -1,4 +1,4 @@
-use super::*;
+use rh_descriptor::*;
 use rh_tagword::Control;
 use std::test::*;
 

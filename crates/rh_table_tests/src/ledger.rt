@@ -1,4 +1,4 @@
-use super::*;
+use rh_ledger::*;
 
 const NONE: Tally = Tally {
     read: 0,

@@ -1,4 +1,4 @@
-use super::*;
+use rh_probe::*;
 
 // At 3 bits 1, 9, 17 and 22 have home 4. A cell holds its key plus 1.
 #[test]

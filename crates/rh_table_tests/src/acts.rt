@@ -1,4 +1,4 @@
-use super::*;
+use rh_acts::*;
 
 const NOTHING: Entry = Entry {
     cell: 0,

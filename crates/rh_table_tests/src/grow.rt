@@ -1,4 +1,4 @@
-use super::*;
+use rh_grow::*;
 use rh_edit::SeqSet;
 use std::test::Fail;
 
