@@ -1,5 +1,5 @@
 -- What a worker's done keys say of its acts, and how they grow.
-use Rattle.std.proofs.Common.{ℕ, inl, inr, refl, sym, ap, ◌∙◌, subst, ◌^◌, get_or, List, [], ◌∷◌, ◌++◌, Bool, append_assoc}
+use Rattle.std.proofs.Common.{ℕ, inl, inr, refl, sym, ap, ◌∙◌, subst, ◌^◌, get_or, List, [], ◌∷◌, ◌++◌, Bool, append_assoc, true, false}
 use Rattle.std.specs.List.{Contains}
 use Rattle.std.proofs.lemmas.List.{append-nil}
 use Rattle.std.proofs.lemmas.List.Elements.{Contains-append_left, Contains-append_right, Contains-append_cases}
@@ -9,15 +9,16 @@ use Rattle.rh_layout.specs.Order.{home_of}
 use Rattle.rh_ledger.specs.declared.tally.Kind.{Kind}
 use Rattle.rh_ledger.specs.declared.tally.Kind.TheVariants.{Insert, Remove, Ask}
 use Rattle.rh_acts.specs.Act.{Act}
-use Rattle.rh_acts.specs.Done.{Kept, kept, KeyDone, IsDone}
+use Rattle.rh_acts.specs.Done.{Kept, kept, Does, IsTold, KeyDone, IsDone}
+use Rattle.rh_acts.specs.KeyActs.{IsInsertAct, IsRemovalAct}
 use Rattle.rh_acts.proofs.ActLemmas.{contains_head, contains_tail, contains_cases, contains_none}
 
 -- ---- keys and acts
 
 -- each key is done by some of the acts
-pub done_key : (kind : Kind) (b : ℕ) (reads : List Kept) (keys : List ℕ) (acts : List Act) (answers : List Bool) → IsDone kind b reads keys acts answers → (k : ℕ) → Contains keys k → (first : List Act) × (now : List Bool) × KeyDone kind b reads k first now × ((a : Act) → Contains first a → Contains acts a)
-done_key kind b reads [] acts answers done k h = absurd (contains_none k h)
-done_key kind b reads (x ∷ keys) acts answers done k h =
+pub done_key : (kind : Kind) (b : ℕ) (reads : List Kept) (keys : List ℕ) (acts : List Act) (told : List Bool) → IsDone kind b reads keys acts told → (k : ℕ) → Contains keys k → (first : List Act) × (so : Bool) × KeyDone kind b reads k first so × ((a : Act) → Contains first a → Contains acts a)
+done_key kind b reads [] acts told done k h = absurd (contains_none k h)
+done_key kind b reads (x ∷ keys) acts told done k h =
     elim (contains_cases x k keys h) [
       | inl is ↦ (done.0, done.2, subst (λ z. KeyDone kind b reads z done.0 done.2) is done.6, λ a in'. subst (λ (ys : List Act). Contains ys a) (sym done.4) (Contains-append_left done.0 done.1 a in'))
       | inr later ↦
@@ -26,9 +27,9 @@ done_key kind b reads (x ∷ keys) acts answers done k h =
     ]
 
 -- each act is one of those of a key
-pub done_act : (kind : Kind) (b : ℕ) (reads : List Kept) (keys : List ℕ) (acts : List Act) (answers : List Bool) → IsDone kind b reads keys acts answers → (a : Act) → Contains acts a → (k : ℕ) × Contains keys k × (first : List Act) × (now : List Bool) × KeyDone kind b reads k first now × Contains first a
-done_act kind b reads [] acts answers done a h = absurd (contains_none a (subst (λ (ys : List Act). Contains ys a) done.0 h))
-done_act kind b reads (x ∷ keys) acts answers done a h =
+pub done_act : (kind : Kind) (b : ℕ) (reads : List Kept) (keys : List ℕ) (acts : List Act) (told : List Bool) → IsDone kind b reads keys acts told → (a : Act) → Contains acts a → (k : ℕ) × Contains keys k × (first : List Act) × (so : Bool) × KeyDone kind b reads k first so × Contains first a
+done_act kind b reads [] acts told done a h = absurd (contains_none a (subst (λ (ys : List Act). Contains ys a) done.0 h))
+done_act kind b reads (x ∷ keys) acts told done a h =
     elim (Contains-append_cases done.0 done.1 a (subst (λ (ys : List Act). Contains ys a) done.4 h)) [
       | inl in' ↦ (x, contains_head x keys, done.0, done.2, done.6, in')
       | inr later ↦
@@ -36,54 +37,57 @@ done_act kind b reads (x ∷ keys) acts answers done a h =
           (got.0, contains_tail x got.0 keys got.1, got.2, got.3, got.4, got.5)
     ]
 
+-- the act that does a key, by its kind
+pub does_insert : (b k : ℕ) (told : Bool) (act : Act) → Does Insert b k told act → IsInsertAct b k act
+does_insert b k true act does = does
+does_insert b k false act does = absurd does
+
+pub does_removal : (b k : ℕ) (told : Bool) (act : Act) → Does Remove b k told act → IsRemovalAct b k act
+does_removal b k true act does = inl does
+does_removal b k false act does = inr does
+
 -- ---- one key more
 
-pub one_more : (kind : Kind) (b : ℕ) (reads : List Kept) (keys : List ℕ) (k : ℕ) (acts first : List Act) (answers now : List Bool) → IsDone kind b reads keys acts answers → KeyDone kind b reads k first now → IsDone kind b reads (keys ++ k ∷ []) (acts ++ first) (answers ++ now)
-one_more kind b reads [] k acts first answers now done one = (
+pub one_more : (kind : Kind) (b : ℕ) (reads : List Kept) (keys : List ℕ) (k : ℕ) (acts first : List Act) (told : List Bool) (so : Bool) → IsDone kind b reads keys acts told → KeyDone kind b reads k first so → IsDone kind b reads (keys ++ k ∷ []) (acts ++ first) (told ++ so ∷ [])
+one_more kind b reads [] k acts first told so done one = (
   first,
   [],
-  now,
+  so,
   [],
   ap (λ (ys : List Act). ys ++ first) done.0 ∙ sym (append-nil first),
-  ap (λ (ys : List Bool). ys ++ now) done.1 ∙ sym (append-nil now),
+  ap (λ (ys : List Bool). ys ++ so ∷ []) done.1,
   one,
   (refl, refl),
 )
-one_more kind b reads (x ∷ keys) k acts first answers now done one = (
+one_more kind b reads (x ∷ keys) k acts first told so done one = (
   done.0,
   done.1 ++ first,
   done.2,
-  done.3 ++ now,
+  done.3 ++ so ∷ [],
   ap (λ (ys : List Act). ys ++ first) done.4 ∙ append_assoc done.0 done.1 first,
-  ap (λ (ys : List Bool). ys ++ now) done.5 ∙ append_assoc done.2 done.3 now,
+  ap (λ (ys : List Bool). ys ++ so ∷ []) done.5,
   done.6,
-  one_more kind b reads keys k done.1 first done.3 now done.7 one,
+  one_more kind b reads keys k done.1 first done.3 so done.7 one,
 )
 
 -- ---- more reads
 
-key_more : (kind : Kind) (b : ℕ) (reads more : List Kept) (k : ℕ) (acts : List Act) (answers : List Bool) → ((r : Kept) → Contains reads r → Contains more r) → KeyDone kind b reads k acts answers → KeyDone kind b more k acts answers
-key_more Insert b reads more k acts answers all one =
-    (one.0, elim one.1 [ inl held ↦ inl (held.0, (held.1.0, all (kept held.1.0 (cell_of k)) held.1.1)) | inr act ↦ inr act ])
-key_more Remove b reads more k acts answers all one = one
-key_more Ask b reads more k acts answers all one =
-    let ask = one.1.2 in (
-      one.0,
-      (
-        one.1.0,
-        one.1.1,
-        record {
-          seen = ask.seen;
-          room = ask.room;
-          read = λ p l. all (kept (place_after (2 ^ b) (home_of b k) p) (get_or ask.seen p 0)) (ask.read p l);
-          tells = ask.tells;
-        },
-      ),
-    )
+told_more : (kind : Kind) (b : ℕ) (reads more : List Kept) (k : ℕ) (told : Bool) → ((r : Kept) → Contains reads r → Contains more r) → IsTold kind b reads k told → IsTold kind b more k told
+told_more Insert b reads more k told all is = (is.0, (is.1.0, all (kept is.1.0 (cell_of k)) is.1.1))
+told_more Remove b reads more k told all is = is
+told_more Ask b reads more k told all is = record {
+  seen = is.seen;
+  room = is.room;
+  read = λ p l. all (kept (place_after (2 ^ b) (home_of b k) p) (get_or is.seen p 0)) (is.read p l);
+  tells = is.tells;
+}
 
-pub more_read : (kind : Kind) (b : ℕ) (reads more : List Kept) (keys : List ℕ) (acts : List Act) (answers : List Bool) → ((r : Kept) → Contains reads r → Contains more r) → IsDone kind b reads keys acts answers → IsDone kind b more keys acts answers
-more_read kind b reads more [] acts answers all done = done
-more_read kind b reads more (x ∷ keys) acts answers all done = (
+pub key_more : (kind : Kind) (b : ℕ) (reads more : List Kept) (k : ℕ) (acts : List Act) (told : Bool) → ((r : Kept) → Contains reads r → Contains more r) → KeyDone kind b reads k acts told → KeyDone kind b more k acts told
+key_more kind b reads more k acts told all one = elim one [ inl act ↦ inl act | inr read ↦ inr (read.0, told_more kind b reads more k told all read.1) ]
+
+pub more_read : (kind : Kind) (b : ℕ) (reads more : List Kept) (keys : List ℕ) (acts : List Act) (told : List Bool) → ((r : Kept) → Contains reads r → Contains more r) → IsDone kind b reads keys acts told → IsDone kind b more keys acts told
+more_read kind b reads more [] acts told all done = done
+more_read kind b reads more (x ∷ keys) acts told all done = (
   done.0,
   done.1,
   done.2,

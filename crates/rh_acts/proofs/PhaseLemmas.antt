@@ -14,11 +14,10 @@ use Rattle.rh_ledger.specs.declared.tally.Kind.{Kind}
 use Rattle.rh_ledger.specs.declared.tally.Kind.TheVariants.{Insert, Remove, Ask}
 use Rattle.rh_ledger.specs.Phase.{set_after, looked_up}
 use Rattle.rh_acts.specs.Act.{Act, apply_acts, AllMeet, WasWord, changes}
-use Rattle.rh_acts.specs.KeyActs.{IsInsertAct, IsRemovalAct}
-use Rattle.rh_acts.specs.Done.{Kept, kept, WereTrue, IsAsked, KeyDone, IsDone}
+use Rattle.rh_acts.specs.Done.{Kept, kept, WereTrue, IsAsked, Does, KeyDone, IsDone}
 use Rattle.rh_acts.specs.Workers.{Made, acts_of, own, AreOf, joined, piece}
 use Rattle.rh_acts.proofs.ActLemmas.{contains_head, contains_cases, contains_none}
-use Rattle.rh_acts.proofs.DoneLemmas.{done_key, done_act}
+use Rattle.rh_acts.proofs.DoneLemmas.{done_key, done_act, does_insert, does_removal}
 use Rattle.rh_acts.proofs.JoinedLemmas.{all_inserted, all_removed}
 use Rattle.rh_acts.proofs.OwnLemmas.{from_joined, in_joined, own_among, of_its_own}
 
@@ -27,61 +26,64 @@ use Rattle.rh_acts.proofs.OwnLemmas.{from_joined, in_joined, own_among, of_its_o
 only_act : (first : List Act) (a a' : Act) → first ≡ a ∷ [] → Contains first a' → a ≡ a'
 only_act first a a' is h = elim (contains_cases a a' [] (subst (λ (ys : List Act). Contains ys a') is h)) [ inl e ↦ e | inr none ↦ absurd (contains_none a' none) ]
 
-insert_of : (b : ℕ) (reads : List Kept) (k : ℕ) (first : List Act) (now : List Bool) (a : Act) → KeyDone Insert b reads k first now → Contains first a → IsInsertAct b k a
-insert_of b reads k first now a one h =
-    elim one.1 [
-      | inl held ↦ absurd (contains_none a (subst (λ (ys : List Act). Contains ys a) held.0 h))
-      | inr act ↦ subst (λ (z : Act). IsInsertAct b k z) (only_act first act.0 a act.1 h) act.2
+act_of_key : (kind : Kind) (b : ℕ) (reads : List Kept) (k : ℕ) (first : List Act) (so : Bool) (a : Act) → KeyDone kind b reads k first so → Contains first a → Does kind b k so a
+act_of_key kind b reads k first so a one h =
+    elim one [
+      | inl act ↦ subst (λ (z : Act). Does kind b k so z) (only_act first act.0 a act.1 h) act.2
+      | inr read ↦ absurd (contains_none a (subst (λ (ys : List Act). Contains ys a) read.0 h))
     ]
-
-removal_of : (b : ℕ) (reads : List Kept) (k : ℕ) (first : List Act) (now : List Bool) (a : Act) → KeyDone Remove b reads k first now → Contains first a → IsRemovalAct b k a
-removal_of b reads k first now a one h = subst (λ (z : Act). IsRemovalAct b k z) (only_act first one.1.0 a one.1.1 h) one.1.2
 
 first_act : (first : List Act) (a : Act) → first ≡ a ∷ [] → Contains first a
 first_act first a is = subst (λ (ys : List Act). Contains ys a) (sym is) (contains_head a [])
 
 -- ---- phases that change the set
 
-module _ (b : ℕ) (opening : List ℕ) (S : Keys) (pieces : List (List ℕ)) (made : List Made) (reads : List (List Kept)) (answers : List (List Bool)) (layout : Layout opening b S) (meet : AllMeet (acts_of made) opening) (owned : AreOf (length pieces) made) where
-  -- each act is one by which a key of its worker is done
-  act_of_key : (kind : Kind) → ((w : ℕ) → w < length pieces → IsDone kind b (piece reads w) (piece pieces w) (own w made) (piece answers w)) → (a : Act) → Contains (acts_of made) a → (k : ℕ) × Contains (joined pieces) k × (w : ℕ) × (first : List Act) × (now : List Bool) × KeyDone kind b (piece reads w) k first now × Contains first a
-  act_of_key kind done a h =
+module _ (b : ℕ) (opening : List ℕ) (S : Keys) (pieces : List (List ℕ)) (made : List Made) (reads : List (List Kept)) (told : List (List Bool)) (layout : Layout opening b S) (meet : AllMeet (acts_of made) opening) (owned : AreOf (length pieces) made) where
+  -- each act does a key of its worker
+  does_a_key : (kind : Kind) → ((w : ℕ) → w < length pieces → IsDone kind b (piece reads w) (piece pieces w) (own w made) (piece told w)) → (a : Act) → Contains (acts_of made) a → (k : ℕ) × Contains (joined pieces) k × (so : Bool) × Does kind b k so a
+  does_a_key kind done a h =
       let m = of_its_own made a h in
       let w = (m.0).worker in
       let l = owned m.0 m.1 in
-      let got = done_act kind b (piece reads w) (piece pieces w) (own w made) (piece answers w) (done w l) a m.2 in
-      (got.0, in_joined pieces w got.0 l got.1, w, got.2, got.3, got.4, got.5)
+      let got = done_act kind b (piece reads w) (piece pieces w) (own w made) (piece told w) (done w l) a m.2 in
+      (got.0, in_joined pieces w got.0 l got.1, got.3, act_of_key kind b (piece reads w) got.0 got.2 got.3 a got.4 got.5)
 
-  pub phase_inserted : set.len (set_after Insert S (joined pieces)) < 2 ^ b → ((w : ℕ) → w < length pieces → WereTrue opening (acts_of made) (piece reads w)) → ((w : ℕ) → w < length pieces → IsDone Insert b (piece reads w) (piece pieces w) (own w made) (piece answers w)) → Layout (apply_acts (acts_of made) opening) b (set_after Insert S (joined pieces)) × (set.len (set_after Insert S (joined pieces)) ≡ set.len S + length (acts_of made))
+  pub phase_inserted : set.len (set_after Insert S (joined pieces)) < 2 ^ b → ((w : ℕ) → w < length pieces → WereTrue opening (acts_of made) (piece reads w)) → ((w : ℕ) → w < length pieces → IsDone Insert b (piece reads w) (piece pieces w) (own w made) (piece told w)) → Layout (apply_acts (acts_of made) opening) b (set_after Insert S (joined pieces)) × (set.len (set_after Insert S (joined pieces)) ≡ set.len S + length (acts_of made))
   phase_inserted room were done =
       all_inserted b opening S (joined pieces) (acts_of made) layout meet room
       (λ k h.
       let at_w = from_joined pieces k h in
       let w = at_w.0 in
-      let one = done_key Insert b (piece reads w) (piece pieces w) (own w made) (piece answers w) (done w at_w.1) k at_w.2 in
-      elim one.2.1 [
-        | inl held ↦ inr (held.1.0, were w at_w.1 (kept held.1.0 (cell_of k)) held.1.1)
-        | inr act ↦ inl (act.0, own_among w made act.0 (one.3 act.0 (first_act one.0 act.0 act.1)), act.2)
+      let one = done_key Insert b (piece reads w) (piece pieces w) (own w made) (piece told w) (done w at_w.1) k at_w.2 in
+      elim one.2 [
+        | inl act ↦ inl (act.0, own_among w made act.0 (one.3 act.0 (first_act one.0 act.0 act.1)), does_insert b k one.1 act.0 act.2)
+        | inr held ↦ let at = held.1.1 in inr (at.0, were w at_w.1 (kept at.0 (cell_of k)) at.1)
       ])
-      (λ a h. let got = act_of_key Insert done a h in (got.0, got.1, insert_of b (piece reads got.2) got.0 got.3 got.4 a got.5 got.6))
+      (λ a h. let got = does_a_key Insert done a h in (got.0, got.1, does_insert b got.0 got.2 a got.3))
 
-  pub phase_removed : ((w : ℕ) → w < length pieces → IsDone Remove b (piece reads w) (piece pieces w) (own w made) (piece answers w)) → Layout (apply_acts (acts_of made) opening) b (set_after Remove S (joined pieces)) × (set.len (set_after Remove S (joined pieces)) + count_by changes (acts_of made) ≡ set.len S)
+  pub phase_removed : ((w : ℕ) → w < length pieces → IsDone Remove b (piece reads w) (piece pieces w) (own w made) (piece told w)) → Layout (apply_acts (acts_of made) opening) b (set_after Remove S (joined pieces)) × (set.len (set_after Remove S (joined pieces)) + count_by changes (acts_of made) ≡ set.len S)
   phase_removed done =
       all_removed b opening S (joined pieces) (acts_of made) layout meet
       (λ k h.
       let at_w = from_joined pieces k h in
       let w = at_w.0 in
-      let one = done_key Remove b (piece reads w) (piece pieces w) (own w made) (piece answers w) (done w at_w.1) k at_w.2 in
-      let act = one.2.1 in
-      (act.0, own_among w made act.0 (one.3 act.0 (first_act one.0 act.0 act.1)), act.2))
-      (λ a h. let got = act_of_key Remove done a h in (got.0, got.1, removal_of b (piece reads got.2) got.0 got.3 got.4 a got.5 got.6))
+      let one = done_key Remove b (piece reads w) (piece pieces w) (own w made) (piece told w) (done w at_w.1) k at_w.2 in
+      elim one.2 [
+        | inl act ↦ (act.0, own_among w made act.0 (one.3 act.0 (first_act one.0 act.0 act.1)), does_removal b k one.1 act.0 act.2)
+        | inr none ↦ absurd none.1
+      ])
+      (λ a h. let got = does_a_key Remove done a h in (got.0, got.1, does_removal b got.0 got.2 a got.3))
 
 -- ---- phases that ask
 
-pub ask_has_no_act : (b : ℕ) (reads : List Kept) (keys : List ℕ) (acts : List Act) (answers : List Bool) → IsDone Ask b reads keys acts answers → acts ≡ []
-ask_has_no_act b reads [] acts answers done = done.0
-ask_has_no_act b reads (k ∷ keys) acts answers done =
-    done.4 ∙ ap (λ (ys : List Act). ys ++ done.1) (done.6).0 ∙ ask_has_no_act b reads keys done.1 done.3 done.7
+no_act : (b : ℕ) (reads : List Kept) (k : ℕ) (first : List Act) (so : Bool) → KeyDone Ask b reads k first so → first ≡ []
+no_act b reads k first so (inl act) = absurd act.2
+no_act b reads k first so (inr read) = read.0
+
+pub ask_has_no_act : (b : ℕ) (reads : List Kept) (keys : List ℕ) (acts : List Act) (told : List Bool) → IsDone Ask b reads keys acts told → acts ≡ []
+ask_has_no_act b reads [] acts told done = done.0
+ask_has_no_act b reads (k ∷ keys) acts told done =
+    done.4 ∙ ap (λ (ys : List Act). ys ++ done.1) (no_act b reads k done.0 done.2 done.6) ∙ ask_has_no_act b reads keys done.1 done.3 done.7
 
 -- with no act, what was read is what the opening cells held
 abbrev pub AreHeld : (opening : List ℕ) (reads : List Kept) → Type 0
@@ -104,15 +106,18 @@ asked_right b opening S reads k answer layout held ask =
       | inr no' ↦ no'.0 ∙ sym (goes_fresh b opening ask.seen k no'.1.0 S layout front no'.1.1)
     ]
 
-pub piece_asked : (b : ℕ) (opening : List ℕ) (S : Keys) (reads : List Kept) (keys : List ℕ) (acts : List Act) (answers : List Bool) → Layout opening b S → AreHeld opening reads → IsDone Ask b reads keys acts answers → answers ≡ looked_up S keys
-piece_asked b opening S reads [] acts answers layout held done = done.1
-piece_asked b opening S reads (k ∷ keys) acts answers layout held done =
-    let one = (done.6).1 in
-    let head : one.0 ≡ contains S k = asked_right b opening S reads k one.0 layout held one.2 in
-    let tail : done.3 ≡ looked_up S keys = piece_asked b opening S reads keys done.1 done.3 layout held done.7 in
-    done.5 ∙ ap (λ (ys : List Bool). ys ++ done.3) one.1 ∙ ap (λ (x : Bool). x ∷ done.3) head ∙ ap (λ (ys : List Bool). contains S k ∷ ys) tail
+key_asked : (b : ℕ) (opening : List ℕ) (S : Keys) (reads : List Kept) (k : ℕ) (first : List Act) (so : Bool) → Layout opening b S → AreHeld opening reads → KeyDone Ask b reads k first so → so ≡ contains S k
+key_asked b opening S reads k first so layout held (inl act) = absurd act.2
+key_asked b opening S reads k first so layout held (inr read) = asked_right b opening S reads k so layout held read.1
 
-pub joined_look_ups : (S : Keys) (pieces : List (List ℕ)) (answers : List (List Bool)) → length answers ≡ length pieces → ((w : ℕ) → w < length pieces → piece answers w ≡ looked_up S (piece pieces w)) → joined answers ≡ looked_up S (joined pieces)
+pub piece_asked : (b : ℕ) (opening : List ℕ) (S : Keys) (reads : List Kept) (keys : List ℕ) (acts : List Act) (told : List Bool) → Layout opening b S → AreHeld opening reads → IsDone Ask b reads keys acts told → told ≡ looked_up S keys
+piece_asked b opening S reads [] acts told layout held done = done.1
+piece_asked b opening S reads (k ∷ keys) acts told layout held done =
+    let head : done.2 ≡ contains S k = key_asked b opening S reads k done.0 done.2 layout held done.6 in
+    let tail : done.3 ≡ looked_up S keys = piece_asked b opening S reads keys done.1 done.3 layout held done.7 in
+    done.5 ∙ ap (λ (x : Bool). x ∷ done.3) head ∙ ap (λ (ys : List Bool). contains S k ∷ ys) tail
+
+pub joined_look_ups : (S : Keys) (pieces : List (List ℕ)) (told : List (List Bool)) → length told ≡ length pieces → ((w : ℕ) → w < length pieces → piece told w ≡ looked_up S (piece pieces w)) → joined told ≡ looked_up S (joined pieces)
 joined_look_ups S [] [] size are = refl
 joined_look_ups S [] (x ∷ xs) size are = absurd (omega (arith, size))
 joined_look_ups S (p ∷ ps) [] size are = absurd (omega (arith, size))

@@ -86,9 +86,6 @@ ones (x ∷ xs) = omega (arith, sum_by-cons (λ y. 1) x xs, ones xs)
 pub upto_lengths : {X : Type 0} (pieces : List (List X)) → sum_upto (λ w. length (piece pieces w)) (length pieces) ≡ length (joined pieces)
 upto_lengths pieces = upto_same (λ w. length (piece pieces w)) (λ w. sum_by (λ x. 1) (piece pieces w)) (length pieces) (λ w l. sym (ones (piece pieces w))) ∙ upto_joined (λ x. 1) pieces ∙ ones (joined pieces)
 
-pub upto_own_lengths : (workers : ℕ) (made : List Made) → AreOf workers made → sum_upto (λ w. length (own w made)) workers ≡ length (acts_of made)
-upto_own_lengths workers made owned = upto_same (λ w. length (own w made)) (λ w. sum_by (λ a. 1) (own w made)) workers (λ w l. sym (ones (own w made))) ∙ upto_own (λ a. 1) workers made owned ∙ ones (acts_of made)
-
 -- ---- joined tallies, field by field
 
 pub read_of_all : (t : ℕ → Tally) (n : ℕ) → (sum_of_all t n).read ≡ sum_upto (λ w. (t w).read) n

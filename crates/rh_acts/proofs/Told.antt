@@ -1,28 +1,56 @@
--- Which acts of removals change a cell.
-use Rattle.std.proofs.Common.{◌≡◌, ℕ, ◌-◌, ◌^◌, ◌<◌, inl, inr, sym, ap, ◌∙◌, subst, arith, length, get_or, true, false}
+-- Which acts change a cell, and that so many keys are told as changed.
+use Rattle.std.proofs.Common.{◌≡◌, ◌≢◌, ℕ, suc, ◌-◌, ◌^◌, ◌<◌, inl, inr, refl, sym, ap, ◌∙◌, subst, arith, ne_eqb, length, get_or, List, [], ◌∷◌, Bool, true, false, cond, zero-add}
 use Rattle.std.specs.Prelude.{nat_eq, not}
-use Rattle.std.specs.List.{Contains}
+use Rattle.std.specs.List.{Contains, count_by, sum_by}
 use Rattle.std.proofs.lemmas.Bool.{cases_eq}
 use Rattle.std.proofs.lemmas.Bool.Decides.{nat_tests}
 use Rattle.std.proofs.lemmas.List.Elements.{Contains-get_or}
 use Rattle.std.proofs.lemmas.List.Folds.{list_any_at, list_any_none}
+use Rattle.std.proofs.lemmas.List.Sums.{sum_by-append, sum_by-cons}
 use Rattle.rh_layout.specs.Round.{place_after}
 use Rattle.rh_layout.specs.Order.{home_of}
 use Rattle.rh_probe.specs.Segment.{IsAway}
-use Rattle.rh_edit.specs.News.{taken_out}
-use Rattle.rh_edit.proofs.NewsLemmas.{taken_out_cleared}
+use Rattle.rh_layout.specs.Key.{cell_of}
+use Rattle.rh_edit.specs.News.{put_in, taken_out}
+use Rattle.rh_edit.proofs.NewsLemmas.{put_in_above, put_in_at, taken_out_cleared}
+use Rattle.rh_ledger.specs.declared.tally.Kind.{Kind}
+use Rattle.rh_ledger.specs.declared.tally.Kind.TheVariants.{Insert, Remove, Ask}
 use Rattle.rh_acts.specs.declared.entry.Entry.{Entry}
 use Rattle.rh_acts.specs.Act.{entry, Act, changes}
-use Rattle.rh_acts.specs.KeyActs.{IsRemoveAct, IsAbsenceAct}
+use Rattle.rh_acts.specs.Done.{Kept, KeyDone, IsDone}
+use Rattle.rh_acts.specs.KeyActs.{IsFrontAct, IsInsertAct, IsRemoveAct, IsAbsenceAct}
+use Rattle.rh_acts.specs.Laws.{ActsAreTold, ToldIsChanged}
+use Rattle.rh_acts.specs.Workers.{how_many}
 
-test_differ : (o n : ℕ) → 0 < o → 0 ≡ n → not (nat_eq o n) ≡ true
-test_differ o n some none = grind (arith, nat_tests)
+test_differ : (o n : ℕ) → (o ≡ n → ⊥) → not (nat_eq o n) ≡ true
+test_differ o n ne = ap not (ne_eqb o n ne)
 
 test_same : (o n : ℕ) → o ≡ n → not (nat_eq o n) ≡ false
 test_same o n e = grind (arith, nat_tests)
 
 away_full : (b c value : ℕ) → IsAway b c value → 0 < value
 away_full b c value away = omega (arith, away.1)
+
+-- an entry of a front, whose old value is not the new one
+one_changes : (n h : ℕ) (act : Act) (olds news : List ℕ) (front : IsFrontAct n h act olds news) (p : ℕ) → p < length olds → (get_or olds p 0 ≡ get_or news p 0 → ⊥) → changes act ≡ true
+one_changes n h act olds news front p inside ne =
+    let e = entry (place_after n h p) (get_or olds p 0) (get_or news p 0) in
+    let in' : Contains act e = front.has p inside in
+    list_any_at (λ (x : Entry). not (nat_eq x.old x.new)) act in'.0 e in'.1 (subst (λ (x : Entry). not (nat_eq x.old x.new) ≡ true) (sym in'.2) (test_differ e.old e.new ne))
+
+-- The last place was empty and is full.
+insert_changes : (b k : ℕ) (act : Act) → IsInsertAct b k act → changes act ≡ true
+insert_changes b k act ins =
+    let seen = ins.0 in
+    let t = ins.1 in
+    let inside : t.place < length seen = omega (arith, t.free.from, t.free.within) in
+    let full : 0 < get_or (put_in (cell_of k) seen t.place) t.last 0 = elim (cases_eq t.place t.last) [
+      | inl is ↦ let here = put_in_at (cell_of k) seen t.place inside t.last (sym is) in omega (arith, here)
+      | inr ne ↦
+          let before = put_in_above (cell_of k) seen t.place inside t.last (omega (arith, ne, t.free.from)) t.free.within in
+          omega (arith, before, t.free.full (t.last - 1) (omega (arith, ne, t.free.from)) (omega (arith, ne, t.free.from)))
+    ] in
+    one_changes (2 ^ b) (home_of b k) act seen (put_in (cell_of k) seen t.place) t.front t.last t.free.within (λ e. omega (arith, full, t.free.free, e))
 
 -- The place before the last was full and is empty.
 pub remove_changes : (b k : ℕ) (act : Act) → IsRemoveAct b k act → changes act ≡ true
@@ -36,11 +64,47 @@ remove_changes b k act rem =
       | inl is ↦ let here = ap (λ m. get_or seen m 0) (sym is) ∙ t.here.2 in omega (arith, here)
       | inr ne ↦ away_full b (place_after (2 ^ b) h p) (get_or seen p 0) (t.stop.between p (omega (arith, ne, t.ends, t.stop.from, t.stop.within)) (omega (arith, t.ends, t.stop.from, t.stop.within)))
     ] in
-    let e = entry (place_after (2 ^ b) h p) (get_or seen p 0) (get_or (taken_out seen t.place) p 0) in
-    let in' : Contains act e = t.front.has p (omega (arith, t.stop.within)) in
-    list_any_at (λ (x : Entry). not (nat_eq x.old x.new)) act in'.0 e in'.1 (subst (λ (x : Entry). not (nat_eq x.old x.new) ≡ true) (sym in'.2) (test_differ e.old e.new full cleared))
+    one_changes (2 ^ b) h act seen (taken_out seen t.place) t.front p (omega (arith, t.stop.within)) (λ e. omega (arith, full, cleared, e))
 
 pub absence_changes : (b k : ℕ) (act : Act) → IsAbsenceAct b k act → changes act ≡ false
 absence_changes b k act none = list_any_none (λ (e : Entry). not (nat_eq e.old e.new)) act (λ i d l.
     let got = (none.1).front.only (get_or act i d) (Contains-get_or act i d l) in
     test_same (get_or act i d).old (get_or act i d).new (ap (λ (x : Entry). x.old) got.2 ∙ sym (ap (λ (x : Entry). x.new) got.2)))
+
+pub does_told : ActsAreTold
+does_told Insert b k true act does = insert_changes b k act does
+does_told Insert b k false act does = absurd does
+does_told Remove b k true act does = remove_changes b k act does
+does_told Remove b k false act does = absence_changes b k act does
+does_told Ask b k told act does = absurd does
+
+-- ---- what is told of keys
+
+pub as_many_told : (kind : Kind) (b : ℕ) (reads : List Kept) (keys : List ℕ) (acts : List Act) (told : List Bool) → IsDone kind b reads keys acts told → length told ≡ length keys
+as_many_told kind b reads [] acts told done = ap length done.1
+as_many_told kind b reads (k ∷ keys) acts told done = ap length done.5 ∙ ap suc (as_many_told kind b reads keys done.1 done.3 done.7)
+
+-- what each key is told counts its acts, and so it does for all
+pub told_counts : (g : Act → ℕ) (kind : Kind) (b : ℕ) (reads : List Kept) (keys : List ℕ) (acts : List Act) (told : List Bool)
+    → ((k : ℕ) (first : List Act) (so : Bool) → KeyDone kind b reads k first so → cond so 1 0 ≡ sum_by g first)
+    → IsDone kind b reads keys acts told → how_many told ≡ sum_by g acts
+told_counts g kind b reads [] acts told one done = ap how_many done.1 ∙ sym (ap (sum_by g) done.0)
+told_counts g kind b reads (k ∷ keys) acts told one done =
+    let rest = told_counts g kind b reads keys done.1 done.3 one done.7 in
+    let head = one k done.0 done.2 done.6 in
+    omega (arith, ap how_many done.5, sum_by-cons (λ (so : Bool). cond {A = ℕ} so 1 0) done.2 done.3, head, rest, ap (sum_by g) done.4, sum_by-append g done.0 done.1)
+
+act_counts : (act : Act) (so : Bool) → changes act ≡ so → cond so 1 0 ≡ count_by changes (act ∷ [])
+act_counts act so is = ap (λ (t : Bool). cond {A = ℕ} t 1 0) (sym is) ∙ sym (zero-add (cond {A = ℕ} (changes act) 1 0))
+
+pub key_counts : (kind : Kind) (b : ℕ) (reads : List Kept) (k : ℕ) (first : List Act) (so : Bool) → kind ≢ Ask → KeyDone kind b reads k first so → cond so 1 0 ≡ count_by changes first
+key_counts kind b reads k first so changed (inl act) = act_counts act.0 so (does_told kind b k so act.0 act.2) ∙ ap (count_by changes) (sym act.1)
+key_counts Insert b reads k first so changed (inr read) = ap (λ (t : Bool). cond {A = ℕ} t 1 0) read.1.0 ∙ ap (count_by changes) (sym read.0)
+key_counts Remove b reads k first so changed (inr read) = absurd read.1
+key_counts Ask b reads k first so changed (inr read) = absurd (changed refl)
+
+pub told_is_changed : ToldIsChanged
+told_is_changed kind b reads keys acts told done = (
+  as_many_told kind b reads keys acts told done,
+  λ changed. told_counts (λ a. cond (changes a) 1 0) kind b reads keys acts told (λ k first so one. key_counts kind b reads k first so changed one) done,
+)

@@ -1,4 +1,4 @@
--- How a worker does the keys of its list: by acts of its own, by words that it read, and with answers. (own)
+-- How a worker does the keys of its list, by acts of its own and by words that it read, and what it is told of each. (own)
 use Rattle.std.specs.Prelude.{ℕ, ◌^◌, ◌<◌, ◌≤◌, ◌≡◌, ◌⊎◌, List, [], ◌∷◌, ◌++◌, length, slice_index, Bool, true, false}
 use Rattle.std.specs.List.{Contains}
 use Rattle.rh_layout.specs.Round.{place_after}
@@ -9,7 +9,7 @@ use Rattle.rh_probe.specs.declared.answer.Look.TheVariants.{Here, Goes}
 use Rattle.rh_ledger.specs.declared.tally.Kind.{Kind}
 use Rattle.rh_ledger.specs.declared.tally.Kind.TheVariants.{Insert, Remove, Ask}
 use Rattle.rh_acts.specs.Act.{Act, WasWord}
-use Rattle.rh_acts.specs.KeyActs.{IsInsertAct, IsRemovalAct}
+use Rattle.rh_acts.specs.KeyActs.{IsInsertAct, IsRemoveAct, IsAbsenceAct}
 
 -- what a cell held when a worker read it
 pub record Kept : Type 0 where
@@ -30,16 +30,29 @@ pub record IsAsked (b : ℕ) (reads : List Kept) (k : ℕ) (answer : Bool) : Typ
   pub read : (p : ℕ) → p < length seen → Contains reads (kept (place_after (2 ^ b) (home_of b k) p) (slice_index seen p))
   pub tells : ((answer ≡ true) × ((i : ℕ) × Finds b k seen (Here i))) ⊎ ((answer ≡ false) × ((i : ℕ) × Finds b k seen (Goes i)))
 
--- How one key is done, by these own acts and with these answers. To insert: k was read in a cell, or an act puts it in.
--- To remove: by an act of its removal. To ask: by its look-up.
-abbrev pub KeyDone : Kind → (b : ℕ) (reads : List Kept) (k : ℕ) (acts : List Act) (answers : List Bool) → Type 0
-KeyDone Insert b reads k acts answers = (answers ≡ []) × (((acts ≡ []) × ((c : ℕ) × Contains reads (kept c (cell_of k)))) ⊎ ((a : Act) × (acts ≡ a ∷ []) × IsInsertAct b k a))
-KeyDone Remove b reads k acts answers = (answers ≡ []) × ((a : Act) × (acts ≡ a ∷ []) × IsRemovalAct b k a)
-KeyDone Ask b reads k acts answers = (acts ≡ []) × ((x : Bool) × (answers ≡ x ∷ []) × IsAsked b reads k x)
+-- An act does a key, and changes a cell or does not. A key is inserted by the act that puts it in; it is removed by the
+-- act that takes it out, or by the one that shows that it is not there. To ask for a key no act is made.
+abbrev pub Does : Kind → (b k : ℕ) → (changes : Bool) → Act → Type 0
+Does Insert b k true act = IsInsertAct b k act
+Does Insert b k false act = ⊥
+Does Remove b k true act = IsRemoveAct b k act
+Does Remove b k false act = IsAbsenceAct b k act
+Does Ask b k changes act = ⊥
 
--- each key in turn, by the next own acts and with the next answers
-abbrev pub IsDone : Kind → (b : ℕ) (reads : List Kept) (keys : List ℕ) (acts : List Act) (answers : List Bool) → Type 0
-IsDone kind b reads [] acts answers = (acts ≡ []) × (answers ≡ [])
-IsDone kind b reads (k ∷ keys) acts answers =
-    (first rest : List Act) × (now later : List Bool) × (acts ≡ first ++ rest) × (answers ≡ now ++ later)
-    × KeyDone kind b reads k first now × IsDone kind b reads keys rest later
+-- What was read tells it: the key that is to be inserted is there, or the key that is asked for is there or is not.
+abbrev pub IsTold : Kind → (b : ℕ) (reads : List Kept) (k : ℕ) (told : Bool) → Type 0
+IsTold Insert b reads k told = (told ≡ false) × ((c : ℕ) × Contains reads (kept c (cell_of k)))
+IsTold Remove b reads k told = ⊥
+IsTold Ask b reads k told = IsAsked b reads k told
+
+-- How one key is done, and what is told of it, which is whether it was added, removed or found: by one own act that does it,
+-- and it is told whether this changes a cell; or by no act, and what was read tells it.
+abbrev pub KeyDone : Kind → (b : ℕ) (reads : List Kept) (k : ℕ) (acts : List Act) (told : Bool) → Type 0
+KeyDone kind b reads k acts told = ((a : Act) × (acts ≡ a ∷ []) × Does kind b k told a) ⊎ ((acts ≡ []) × IsTold kind b reads k told)
+
+-- each key in turn, by the next own acts, and with what is told next
+abbrev pub IsDone : Kind → (b : ℕ) (reads : List Kept) (keys : List ℕ) (acts : List Act) (told : List Bool) → Type 0
+IsDone kind b reads [] acts told = (acts ≡ []) × (told ≡ [])
+IsDone kind b reads (k ∷ keys) acts told =
+    (first rest : List Act) × (so : Bool) × (later : List Bool) × (acts ≡ first ++ rest) × (told ≡ so ∷ later)
+    × KeyDone kind b reads k first so × IsDone kind b reads keys rest later

@@ -8,7 +8,7 @@ use Rattle.rh_ledger.specs.declared.tally.Kind.TheVariants.{Insert, Remove, Ask}
 use Rattle.rh_ledger.specs.declared.tally.Tally.{Tally}
 use Rattle.rh_ledger.specs.Tally.{sum_of, none_yet, added_of, removed_of}
 use Rattle.rh_ledger.specs.Phase.{set_after}
-use Rattle.rh_acts.specs.Act.{Act, changes}
+use Rattle.rh_acts.specs.Act.{Act}
 
 -- an act and the worker whose it is
 pub record Made : Type 0 where
@@ -35,11 +35,19 @@ joined (piece ∷ pieces) = piece ++ joined pieces
 abbrev pub piece : {X : Type 0} → List (List X) → (w : ℕ) → List X
 piece pieces w = slice_index_or pieces w []
 
--- what a worker counts of its keys, its own acts and its answers
-abbrev pub counted : Kind → (keys : List ℕ) (acts : List Act) (answers : List Bool) → Tally
-counted Insert keys acts answers = added_of (length keys) (length acts)
-counted Remove keys acts answers = removed_of (length keys) (count_by changes acts)
-counted Ask keys acts answers = record none_yet { read = length keys; found = count_by (λ there. there) answers }
+-- of how many keys it was told that they were added, removed or found
+abbrev pub how_many : (told : List Bool) → ℕ
+how_many told = count_by (λ so. so) told
+
+-- what is counted of so many keys, of which so many were added, removed or found
+abbrev pub tally_by : Kind → (read changed : ℕ) → Tally
+tally_by Insert read changed = added_of read changed
+tally_by Remove read changed = removed_of read changed
+tally_by Ask read changed = record none_yet { read = read; found = changed }
+
+-- what a worker counts, which was told this of its keys
+abbrev pub counted : Kind → (told : List Bool) → Tally
+counted kind told = tally_by kind (length told) (how_many told)
 
 -- the tallies of the first n workers, joined
 abbrev pub sum_of_all : (tally : ℕ → Tally) (n : ℕ) → Tally

@@ -45,16 +45,16 @@ noted_no ns d k one i fails = same_bool (is_noted_success ns d) false
 open_yes : (q : Option ℕ) (n : ℕ) → q ≡ Some n → is_current q n ≡ true
 open_yes q n e = ap (λ (x : Option ℕ). is_current x n) e ∙ eq-eqb n n refl
 
-open_no : (q : Option ℕ) (p n : ℕ) → q ≡ Some p → p ≢ n → is_current q n ≡ false
+pub open_no : (q : Option ℕ) (p n : ℕ) → q ≡ Some p → p ≢ n → is_current q n ≡ false
 open_no q p n e ne = ap (λ (x : Option ℕ). is_current x n) e ∙ ne_eqb p n ne
 
-none_open : (q : Option ℕ) (n : ℕ) → q ≡ None → is_current q n ≡ false
+pub none_open : (q : Option ℕ) (n : ℕ) → q ≡ None → is_current q n ≡ false
 none_open q n e = ap (λ (x : Option ℕ). is_current x n) e
 
-while_open : (v : View) (o : OwnDesc) → v.side.current ≡ Some o.number → is_finished v o ≡ false
+pub while_open : (v : View) (o : OwnDesc) → v.side.current ≡ Some o.number → is_finished v o ≡ false
 while_open v o e = ap (λ b. not b && is_noted_success v.side.notes (own_ref v o.number)) (open_yes v.side.current o.number e)
 
-once_closed : (v : View) (o : OwnDesc) → is_current v.side.current o.number ≡ false → is_finished v o ≡ is_noted_success v.side.notes (own_ref v o.number)
+pub once_closed : (v : View) (o : OwnDesc) → is_current v.side.current o.number ≡ false → is_finished v o ≡ is_noted_success v.side.notes (own_ref v o.number)
 once_closed v o e = ap (λ b. not b && is_noted_success v.side.notes (own_ref v o.number)) e
 
 abbrev acts_by : List OwnDesc → List Act

@@ -4,7 +4,7 @@ use Rattle.std.specs.Prelude.{ℕ, ◌/◌, ◌^◌, ◌==◌, ◌&&◌, Option,
 use Rattle.std.specs.List.{range_with_len}
 use Rattle.rh_tagword.specs.declared.limits.TheConstants.{TAG_BITS}
 use Rattle.rh_world.specs.World.{Ref, World}
-use Rattle.rh_world.specs.Acts.{cells_after}
+use Rattle.rh_world.specs.Acts.{cells_after, is_success}
 use Rattle.rh_descriptor.specs.declared.entry.Entry.{Entry as OwnEntry}
 use Rattle.rh_descriptor.specs.declared.shape.Shape.{Shape}
 use Rattle.rh_descriptor.specs.Places.{cell_count}
@@ -73,3 +73,7 @@ is_finished v o = not (is_current v.side.current o.number) && is_noted_success v
 -- the acts that it has finished, the oldest first
 abbrev pub own_acts_of : View → List Act
 own_acts_of v = reverse (map (λ o. act_of o.entries) (filter (is_finished v) v.opened))
+
+-- of the descriptors that it opened those that succeeded in the world, as acts, the oldest first
+abbrev pub succeeded_acts : World → View → List Act
+succeeded_acts w v = reverse (map (λ o. act_of o.entries) (filter (λ o. is_success (w.control (own_ref v o.number))) v.opened))

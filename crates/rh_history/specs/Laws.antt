@@ -1,5 +1,5 @@
 -- What the rule of a table says of the list of its acts.
-use Rattle.std.specs.Prelude.{ℕ, ◌≡◌, ◌<◌, List, length, slice_index}
+use Rattle.std.specs.Prelude.{ℕ, ◌≡◌, ◌<◌, ◌≤◌, None, List, [], ◌++◌, length, slice_index}
 use Rattle.std.specs.List.{Contains}
 use Rattle.rh_tagword.specs.Word.{plain_number}
 use Rattle.rh_world.specs.World.{World, In}
@@ -9,10 +9,10 @@ use Rattle.rh_descriptor.specs.View.{OwnDesc, View}
 use Rattle.rh_descriptor.specs.Words.{IsPlain}
 use Rattle.rh_rule.specs.Core.{Core}
 use Rattle.rh_rule.specs.Rest.{AllRest}
-use Rattle.rh_acts.specs.Act.{AllMeet, apply_acts}
+use Rattle.rh_acts.specs.Act.{Act, AllMeet, apply_acts}
 use Rattle.rh_acts.specs.Done.{WereTrue}
 use Rattle.rh_acts.specs.Workers.{Made, acts_of, own, AreOf}
-use Rattle.rh_history.specs.History.{value_of, act_of, history, opening_cells, logical_cells, kept_of, own_acts_of}
+use Rattle.rh_history.specs.History.{value_of, act_of, history, opening_cells, logical_cells, kept_of, own_acts_of, succeeded_acts}
 
 -- The acts meet their old values one after the other, from the opening cells to what the cells stand for now. Each is of a
 -- worker of the table, with the entries of a descriptor that it opened, and what was read of a cell was true.
@@ -27,6 +27,18 @@ pub record HappenedSo (w : World) (z : Shape) (keep : ℕ → View) : Type 0 whe
 
 abbrev pub Happened : Type 0
 Happened = (w : World) (z : Shape) (words : List ℕ) (keep : ℕ → View) → Core w z words keep → HappenedSo w z keep
+
+-- The own acts of a worker are its descriptors that succeeded, in the order in which it opened them. First come those that it
+-- has finished, and then one more at most, which it has open.
+pub record OwnSo (w : World) (v : ℕ) (k : View) : Type 0 where
+  pub succeeded : own v (history w) ≡ succeeded_acts w k
+  pub later : List Act
+  pub finished : own v (history w) ≡ own_acts_of k ++ later
+  pub one : length later ≤ 1
+  pub closed : k.side.current ≡ None → later ≡ []
+
+abbrev pub OwnSoFar : Type 0
+OwnSoFar = (w : World) (z : Shape) (words : List ℕ) (keep : ℕ → View) (v : ℕ) → Core w z words keep → v < z.workers → OwnSo w v (keep v)
 
 -- Where all workers are at rest, the own acts of each are those that it has finished, and the cells hold what all acts leave.
 pub record EndedSo (w : World) (z : Shape) (words : List ℕ) (keep : ℕ → View) : Type 0 where

@@ -1,6 +1,6 @@
 //! Laws from worlds to lists of acts. They do nothing when they run.
 
-ghost use Rattle.rh_history.specs.Laws.{Happened, Ended, PlainWords};
+ghost use Rattle.rh_history.specs.Laws.{Happened, OwnSoFar, Ended, PlainWords};
 ghost use Rattle.rh_history.specs.OwnActs.{StepsFinish, KeptIsOrderly};
 ghost use Rattle.rh_history.specs.OwnActs.{PlainReadsAreKept, ReadsAreKept, ReadsStay};
 ghost use Rattle.rh_history.specs.Rounds.{RoundsBegin, RoundsFollow, RoundsJoin};
@@ -23,9 +23,10 @@ pub fn plain_words()
     ensures { PlainWords }
 {}
 
-/// How a worker's own acts grow: by the act of each descriptor that it closes and that succeeded, in
-/// this order.
+/// A worker's own acts are its descriptors that succeeded, in the order in which it opened them; and
+/// those that it has finished grow by the act of each descriptor that it closes and that succeeded.
 pub fn own_acts()
+    ensures so_far { OwnSoFar }
     ensures steps { StepsFinish }
     ensures kept { KeptIsOrderly }
 {}

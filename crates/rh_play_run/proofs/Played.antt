@@ -6,7 +6,7 @@ use Rattle.rh_ledger.specs.declared.tally.Kind.{Kind}
 use Rattle.rh_ledger.specs.Phase.{set_after, tally_of}
 use Rattle.rh_descriptor.specs.declared.shape.Shape.{Shape}
 use Rattle.rh_turns.specs.Game.{AllFinished, Game}
-use Rattle.rh_player.specs.Made.{MadeSoFar, held_first}
+use Rattle.rh_player.specs.Made.{MadeSoFar, TalliesSo, held_first}
 use Rattle.std.specs.Io.KnownBytes.{Appends}
 use Rattle.rh_ledger.specs.declared.tally.Tally.{Tally}
 use Rattle.rh_files.specs.Counting.{AppendsFront}
@@ -41,7 +41,7 @@ last_game play first last text begins follows =
 
 pub is_layout : (play : Play) (g : Game) (cells : List ℕ) → IsLast play g → MadeSoFar g cells → IsLayout (bits_of play) cells
 is_layout play g cells last made =
-    subst (λ (b : ℕ). IsLayout b cells) last.bits (subst (λ (l : List ℕ). IsLayout g.shape.bits l) (sym made.0) (layout_own _ _ _ made.1.1.layout))
+    subst (λ (b : ℕ). IsLayout b cells) last.bits (subst (λ (l : List ℕ). IsLayout g.shape.bits l) (sym made.0) (layout_own _ _ _ made.1.stands.layout))
 
 same_layout : (cells : List ℕ) (b c : ℕ) (k l : Kind) (S T : Keys) (xs ys : List ℕ) → b ≡ c → k ≡ l → S ≡ T → xs ≡ ys → Layout cells b (set_after k S xs) → Layout cells c (set_after l T ys)
 same_layout cells b c k l S T xs ys p q r s layout =
@@ -87,10 +87,10 @@ stand : (g : Game) (finished : Bool) → (IsTrue finished ↔ AllFinished g) →
 stand g true tells = tells.0 refl
 stand g false tells = λ all. let no : false ≡ true = tells.1 all in absurd cc
 
-pub closed : (g : Game) (empty first text : List ℕ) (tally : Tally) (finished : Bool) → tally ≡ tally_so_far g → (IsTrue finished ↔ AllFinished g)
+pub closed : (g : Game) (empty first text : List ℕ) (tally : Tally) (finished : Bool) → tally ≡ tally_so_far g → TalliesSo g tally → (IsTrue finished ↔ AllFinished g)
     → empty ≡ [] → first ≡ empty ++ tally_line tally → text ≡ first ++ end_line finished → ClosesWith g text
-closed g empty first text tally finished counts tells none one two =
-    (finished, stand g finished tells, closing_text empty first text tally finished none one two ∙ ap (λ (t : Tally). closing t finished) counts)
+closed g empty first text tally finished counts so tells none one two =
+    (finished, stand g finished tells, closing_text empty first text tally finished none one two ∙ ap (λ (t : Tally). closing t finished) counts, subst (TalliesSo g) counts so)
 
 pub closed_finished : (g : Game) (empty first text : List ℕ) (tally whole : Tally) (finished : Bool) → (AllFinished g → tally ≡ whole) → (IsTrue finished ↔ AllFinished g)
     → empty ≡ [] → first ≡ empty ++ tally_line tally → text ≡ first ++ end_line finished → AllFinished g → text ≡ closing whole true

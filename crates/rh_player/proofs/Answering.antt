@@ -82,7 +82,7 @@ module _ (g : Game) (plays : Plays g) (asks : g.kind ≡ Ask) where
       (λ (not : IsDoneAt g place → ⊥). subst (IsAnswer (held_first g) (slice_index g.keys place) (IsDoneAt g place)) (sym (is ∙ asked g place asks ∙ tells.unanswered place not)) not)
       (done_or_not g place)
     where
-      tells : TellsSo g
+      tells : TellsSo g plays.told
       tells = plays_tells g plays
 
   module _ (worker place : ℕ) (told : Option Bool) (is : told ≡ told_of g worker place) (inside : worker < length g.hands) (are : ArePieces 0 g.hands (length g.keys)) where

@@ -10,10 +10,12 @@ use Rattle.rh_tagword.specs.Word.{tag_of, word_in, word_with}
 use Rattle.rh_descriptor.specs.declared.shape.Shape.{Shape}
 use Rattle.rh_descriptor.specs.Places.{cell_count}
 use Rattle.rh_descriptor.specs.Words.{IsPlain, cell_said}
-use Rattle.rh_history.specs.History.{value_of}
+use Rattle.rh_history.specs.History.{history, value_of}
 use Rattle.rh_run.specs.Words.{cells_now, logical_word, stands_for}
 use Rattle.rh_turns.specs.Game.{Game, Plays}
-use Rattle.rh_turns.proofs.Playing.{plays_readable}
+use Rattle.rh_turns.proofs.Playing.{plays_moment, plays_readable}
+use Rattle.rh_turns.proofs.Telling.{plays_tells}
+use Rattle.rh_player.specs.Made.{SoFar}
 
 -- one value more is written
 pub values_more : (value : ℕ → ℕ) (cells : List ℕ) (n x : ℕ) → n < length cells → ((k : ℕ) → k < n → get_or cells k 0 ≡ value k) → x ≡ value n
@@ -41,3 +43,14 @@ is_word g plays c inside none =
     let stands : logical_word g.shape g.words c ≡ word = ap (λ (r : Option Word). stands_for g.shape g.words c (cell_said r word)) none in
     let plain : tag_of word ≡ PLAIN = subst IsPlain stands (plays_readable g plays c inside).value in
     true≢false (sym (ap (λ (t : ℕ). is_some (word_with t (word / 2 ^ TAG_BITS))) plain) ∙ ap is_some none)
+
+-- ---- what was made so far
+
+abbrev pub so_far : (g : Game) → Plays g → SoFar g
+so_far g plays = record {
+  before = plays.running.before;
+  now = history plays.running.world;
+  told = plays.told;
+  stands = plays_moment g plays;
+  tells = plays_tells g plays;
+}

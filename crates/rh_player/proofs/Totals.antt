@@ -1,4 +1,4 @@
--- What is counted of all workers.
+-- What is cut of all workers.
 use Rattle.std.proofs.Common.{◌≡◌, ℕ, zero, suc, ◌+◌, ◌-◌, ◌^◌, ◌<◌, ◌≤◌, ⊎_elim, min, sym, refl, ap, ◌∙◌, subst, arith, List, [], ◌∷◌, length, length-append, map, take, get_or}
 use Rattle.std.specs.Prelude.{All}
 use Rattle.std.specs.List.{range_with_len}
@@ -9,21 +9,22 @@ use Rattle.rh_ledger.specs.Phase.{tally_of}
 use Rattle.rh_ledger.specs.Tally.{none_yet, sum_of}
 use Rattle.rh_descriptor.specs.declared.shape.Shape.{Shape}
 use Rattle.rh_descriptor.specs.View.{View}
-use Rattle.rh_acts.specs.Workers.{joined, sum_of_all}
+use Rattle.rh_acts.specs.Workers.{how_many, joined, sum_of_all, tally_by}
+use Rattle.rh_acts.proofs.Told.{told_is_changed}
 use Rattle.rh_run.specs.Claimed.{claimed}
-use Rattle.rh_run.specs.Run.{tally_by}
 use Rattle.rh_run.proofs.Sharing.{claims_few}
 use Rattle.rh_turns.specs.declared.hand.Hand.{Hand}
 use Rattle.rh_turns.specs.declared.hand.Share.{Share}
 use Rattle.rh_turns.specs.declared.hand.Share.TheVariants.{Piece, Claims}
 use Rattle.rh_turns.specs.Hands.{IsClaiming, IsShare, places, view_of}
-use Rattle.rh_turns.specs.Game.{AllFinished, ArePieces, Game, Plays, changed_at, keep, places_at}
+use Rattle.rh_turns.specs.Game.{AllFinished, ArePieces, Game, Plays, changed_at, done_at, keep, places_at}
 use Rattle.rh_turns.proofs.Apart.{end_of, first_of, piece_within}
 use Rattle.rh_turns.proofs.AtHands.{at_hand_is}
 use Rattle.rh_turns.proofs.Ended.{plays_ends}
-use Rattle.rh_turns.proofs.Playing.{done_claimed, in_hands, kept_at, some_hand}
-use Rattle.rh_turns.proofs.Telling.{places_counted}
-use Rattle.rh_player.specs.Made.{changed_count, counted, done_count, held_first, total}
+use Rattle.rh_turns.proofs.Playing.{done_claimed, in_hands, kept_at, plays_moment, some_hand}
+use Rattle.rh_turns.proofs.Telling.{places_counted, told_size}
+use Rattle.rh_player.proofs.Showing.{so_far}
+use Rattle.rh_player.specs.Made.{TalliesSo, changed_count, cut, done_count, held_first, total}
 
 -- one worker more
 total_more : (f : Hand → ℕ) (hs : List Hand) (i : ℕ) (d : Hand) → i < length hs → total (map f (take (suc i) hs)) ≡ total (map f (take i hs)) + f (get_or hs i d)
@@ -33,14 +34,14 @@ total_more f (h ∷ hs) (suc i) d inside =
     let rest : total (map f (take (suc i) hs)) ≡ total (map f (take i hs)) + f (get_or hs i d) = total_more f hs i d (omega (arith, inside)) in
     omega (arith, rest)
 
-pub counted_next : (f : Hand → ℕ) (hs : List Hand) (i : ℕ) (h : Hand) → i < length hs → h ≡ get_or hs i h → (n : ℕ) → n ≡ counted (total (map f (take i hs)))
-    → min (n + f h) (2 ^ 64 - 1) ≡ counted (total (map f (take (i + 1) hs)))
+pub counted_next : (f : Hand → ℕ) (hs : List Hand) (i : ℕ) (h : Hand) → i < length hs → h ≡ get_or hs i h → (n : ℕ) → n ≡ cut (total (map f (take i hs)))
+    → min (n + f h) (2 ^ 64 - 1) ≡ cut (total (map f (take (i + 1) hs)))
 counted_next f hs i h inside is n before =
     let here : f h ≡ f (get_or hs i h) = ap f is in
     let on : suc i ≡ i + 1 = omega arith in
     let more : total (map f (take (suc i) hs)) ≡ total (map f (take i hs)) + f (get_or hs i h) = total_more f hs i h inside in
-    let now : min (n + f h) (2 ^ 64 - 1) ≡ counted (total (map f (take (suc i) hs))) = omega (arith, here, more, before) in
-    now ∙ ap (λ (k : ℕ). counted (total (map f (take k hs)))) on
+    let now : min (n + f h) (2 ^ 64 - 1) ≡ cut (total (map f (take (suc i) hs))) = omega (arith, here, more, before) in
+    now ∙ ap (λ (k : ℕ). cut (total (map f (take k hs)))) on
 
 total_least : (f g : Hand → ℕ) (hs : List Hand) → ((v : ℕ) (d : Hand) → v < length hs → f (get_or hs v d) ≤ g (get_or hs v d)) → total (map f hs) ≤ total (map g hs)
 total_least f g [] less = omega arith
@@ -164,27 +165,36 @@ module _ (g : Game) (plays : Plays g) where
       let same = done_is in
       omega (arith, few, same)
 
-  small : (n : ℕ) → n < 2 ^ 63 → counted n ≡ n
+  small : (n : ℕ) → n < 2 ^ 63 → cut n ≡ n
   small n less = omega (arith, less)
 
   -- so no count ends at the greatest number
-  pub counts_exactly : length g.keys < 2 ^ 63 → (counted (done_count g) ≡ done_count g) × (counted (changed_count g) ≡ changed_count g)
+  pub counts_exactly : length g.keys < 2 ^ 63 → (cut (done_count g) ≡ done_count g) × (cut (changed_count g) ≡ changed_count g)
   counts_exactly short = (small (done_count g) (omega (arith, short, done_within)), small (changed_count g) (omega (arith, short, done_within, some_changed)))
 
--- ---- at the end
-
-module _ (g : Game) (plays : Plays g) (finished : AllFinished g) where
-  d : Hand
-  d = some_hand g plays
-
-  pub tally_ends : tally_by g.kind (done_count g) (changed_count g) ≡ tally_of g.kind (held_first g) g.keys
-  tally_ends =
+  -- the counts are the sum of those of the workers
+  sums : (done changed : ℕ → ℕ) → ((v : ℕ) → v < length g.hands → (done v ≡ length (places_at g v)) × (changed v ≡ changed_at g v))
+      → tally_by g.kind (done_count g) (changed_count g) ≡ sum_of_all (λ v. tally_by g.kind (done v) (changed v)) g.shape.workers
+  sums done changed are =
+      let d : Hand = some_hand g plays in
+      let all : g.hands ≡ take (length g.hands) g.hands = sym (take_all (length g.hands) g.hands (omega arith)) in
       (λ i. tally_by g.kind (total (map (λ h. length (places g.shape h)) (all i))) (total (map (λ h. h.changed) (all i))))
-      ∙ sym (sum_is g.kind (λ h. length (places g.shape h)) (λ h. h.changed) (λ v. length (places_at g v)) (changed_at g) g.hands d each (length g.hands) (omega arith))
-      ∙ ap (sum_of_all (λ v. tally_by g.kind (length (places_at g v)) (changed_at g v))) plays.workers ∙ (plays_ends g plays finished).tally
-    where
-      all : g.hands ≡ take (length g.hands) g.hands
-      all = sym (take_all (length g.hands) g.hands (omega arith))
+      ∙ sym (sum_is g.kind (λ h. length (places g.shape h)) (λ h. h.changed) done changed g.hands d
+      (λ v inside. ((are v inside).0 ∙ ap length (at_hand_is (places g.shape) [] g.hands v d inside), (are v inside).1 ∙ at_hand_is (λ h. h.changed) 0 g.hands v d inside))
+      (length g.hands) (omega arith))
+      ∙ ap (sum_of_all (λ v. tally_by g.kind (done v) (changed v))) plays.workers
 
-      each : (v : ℕ) → v < length g.hands → (length (places_at g v) ≡ length (places g.shape (get_or g.hands v d))) × (changed_at g v ≡ (get_or g.hands v d).changed)
-      each v inside = (ap length (at_hand_is (places g.shape) [] g.hands v d inside), at_hand_is (λ h. h.changed) 0 g.hands v d inside)
+  pub tallies : TalliesSo g (tally_by g.kind (done_count g) (changed_count g))
+  tallies =
+      let moment = plays_moment g plays in
+      record {
+        so_far = so_far g plays;
+        sums = sums (λ v. length (plays.told v)) (λ v. how_many (plays.told v))
+            (λ v inside. let mine : v < g.shape.workers = omega (arith, inside, plays.workers) in (told_size g plays v mine, sym (plays.changed v mine)));
+        changed = λ changed v mine. let is = moment.did v mine in (told_is_changed g.kind g.shape.bits is.reads (done_at g v) is.acts (plays.told v) is.each).1 changed;
+      }
+
+  -- ---- at the end
+
+  pub tally_ends : AllFinished g → tally_by g.kind (done_count g) (changed_count g) ≡ tally_of g.kind (held_first g) g.keys
+  tally_ends finished = sums (λ v. length (places_at g v)) (changed_at g) (λ v inside. (refl, refl)) ∙ (plays_ends g plays finished).tally

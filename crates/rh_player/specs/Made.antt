@@ -1,28 +1,46 @@
 -- What a player shows of what its workers have made. (own)
-use Rattle.std.specs.Prelude.{◌≡◌, ℕ, ◌+◌, ◌-◌, ◌^◌, ◌<◌, Option, Some, None, Bool, true, false, if◌then◌else◌, List, [], ◌∷◌, length, map, min, ltb, slice_index_or}
+use Rattle.std.specs.Prelude.{◌≡◌, ◌≢◌, ℕ, ◌+◌, ◌-◌, ◌^◌, ◌<◌, Option, Some, None, Bool, true, false, if◌then◌else◌, List, [], ◌∷◌, length, map, min, ltb, slice_index_or, count_by}
 use Rattle.std.specs.FinSet.{contains}
 use Rattle.rh_layout.specs.Layout.{Keys, keys_of}
 use Rattle.rh_ledger.specs.declared.tally.Kind.{Kind}
 use Rattle.rh_ledger.specs.declared.tally.Kind.TheVariants.{Insert, Remove, Ask}
 use Rattle.rh_ledger.specs.Phase.{looked_up}
-use Rattle.rh_acts.specs.Act.{Act}
+use Rattle.rh_ledger.specs.declared.tally.Tally.{Tally}
+use Rattle.rh_acts.specs.Act.{changes}
+use Rattle.rh_acts.specs.Workers.{Made, counted, how_many, sum_of_all}
 use Rattle.rh_run.specs.Laws.{StandsSo}
 use Rattle.rh_run.specs.Words.{cells_now}
 use Rattle.rh_turns.specs.declared.hand.Share.{Share}
 use Rattle.rh_turns.specs.declared.hand.Share.TheVariants.{Piece, Claims}
 use Rattle.rh_turns.specs.Hands.{places}
-use Rattle.rh_turns.specs.Game.{AllFinished, Game, at_hand, done_at, keys_at}
+use Rattle.rh_turns.specs.Game.{AllFinished, Game, at_hand, done_at, keep, keys_at}
+use Rattle.rh_turns.specs.Laws.{TellsSo}
 
 -- the set that the cells held when the player was made
 abbrev pub held_first : Game → Keys
 held_first g = keys_of g.opening
 
+-- What the workers have made so far: the acts of the earlier rounds and of this one, which are the descriptors that succeeded;
+-- and what each worker was told of its keys, which it has done by its acts and by what it read.
+pub record SoFar (g : Game) : Type 0 where
+  pub before : List Made
+  pub now : List Made
+  pub told : ℕ → List Bool
+  pub stands : StandsSo g.kind g.shape g.opening g.words (keep g) (keys_at g) (done_at g) told (held_first g) before now
+  pub tells : TellsSo g told
+
 -- At each moment: the cells stand for the layout of the first set changed by the acts so far, and each key that is done shows.
 abbrev pub MadeSoFar : Game → (cells : List ℕ) → Type 0
-MadeSoFar g cells = (cells ≡ cells_now g.shape g.words)
-    × ((acts : List Act) × StandsSo g.kind g.shape g.opening g.words (keys_at g) (done_at g) (held_first g) acts)
+MadeSoFar g cells = (cells ≡ cells_now g.shape g.words) × SoFar g
 
 -- ---- the tally
+
+-- At each moment the tallies of all workers are summed up, each of what the worker was told of its keys so far. Where keys are
+-- added or removed, these are as many as the acts that change a cell, among those by which it has done its keys.
+pub record TalliesSo (g : Game) (t : Tally) : Type 0 where
+  pub so_far : SoFar g
+  pub sums : t ≡ sum_of_all (λ v. counted g.kind (so_far.told v)) g.shape.workers
+  pub changed : g.kind ≢ Ask → (v : ℕ) → (mine : v < g.shape.workers) → how_many (so_far.told v) ≡ count_by changes (so_far.stands.did v mine).acts
 
 abbrev pub total : List ℕ → ℕ
 total [] = 0
@@ -36,8 +54,8 @@ abbrev pub changed_count : Game → ℕ
 changed_count g = total (map (λ h. h.changed) g.hands)
 
 -- a count that ends at the greatest number of its type
-abbrev pub counted : ℕ → ℕ
-counted n = min n (2 ^ 64 - 1)
+abbrev pub cut : ℕ → ℕ
+cut n = min n (2 ^ 64 - 1)
 
 -- ---- the answers
 

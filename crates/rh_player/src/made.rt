@@ -6,10 +6,10 @@ ghost use Rattle.rh_ledger.specs.Phase.{set_after, tally_of as tally_after};
 ghost use Rattle.rh_ledger.specs.declared.tally.Kind.TheVariants.{Ask};
 ghost use Rattle.rh_descriptor.specs.Places.{cell_count};
 ghost use Rattle.rh_tagword.specs.Word.{word_in};
-ghost use Rattle.rh_run.specs.Run.{tally_by};
+ghost use Rattle.rh_acts.specs.Workers.{tally_by};
 ghost use Rattle.rh_turns.specs.Game.{AllFinished, IsDoneAt, done_at, keys_at};
-ghost use Rattle.rh_player.specs.Made.{AnswersAll, IsAnswer, MadeSoFar, changed_count, done_count};
-ghost use Rattle.rh_player.specs.Made.{held_first, is_shared, told_at, told_of};
+ghost use Rattle.rh_player.specs.Made.{AnswersAll, IsAnswer, MadeSoFar, TalliesSo, changed_count};
+ghost use Rattle.rh_player.specs.Made.{done_count, held_first, is_shared, told_at, told_of};
 
 use crate::player::Player;
 use rh_ledger::{Kind, Tally};
@@ -47,8 +47,10 @@ impl Player {
         }
     }
 
-    /// What is counted of the keys that are done.
+    /// What is counted of the keys that are done: how many they are, and of how many of them it was
+    /// told that they were added, removed or found.
     pub fn tally(&self) -> Tally
+        ensures so_far { TalliesSo self.now result }
         ensures counts { result ≡ tally_by self.now.kind (done_count self.now) (changed_count self.now) }
         ensures finished { AllFinished self.now →
             result ≡ tally_after self.now.kind (held_first self.now) self.now.keys }

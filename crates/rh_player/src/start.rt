@@ -3,7 +3,7 @@
 ghost use Rattle.std.specs.Prelude.{◌≡◌, ℕ, IfOk, List, None, Some, MatchResult, length};
 ghost use Rattle.rh_layout.specs.Layout.{IsLayout};
 ghost use Rattle.rh_ledger.specs.Phase.{most_added};
-ghost use Rattle.rh_player.specs.Made.{counted};
+ghost use Rattle.rh_player.specs.Made.{cut};
 ghost use Rattle.rh_player.specs.Start.{IsRooms, Makes, StartsPieces, StartsShared};
 ghost use Rattle.rh_player.specs.Start.{are_keys, joined, shape_for, start_fault, table_fault, usual_rooms};
 
@@ -104,7 +104,7 @@ fn test_table(
     keys: usize,
 ) -> Result<(), PlayFault>
     ensures layout { IfOk result (λ _. IsLayout bits cells.now) }
-    ensures tests { (list : List ℕ) → keys ≡ counted (length list) → MatchResult result
+    ensures tests { (list : List ℕ) → keys ≡ cut (length list) → MatchResult result
         (λ _. table_fault bits cells.now workers (most_added kind list) ≡ None)
         (λ fault. table_fault bits cells.now workers (most_added kind list) ≡ Some fault) }
 {
@@ -142,7 +142,7 @@ fn are_all_keys(pieces: &[Vec<u64>]) -> bool
 
 /// How many keys the pieces have. A count past the greatest number stays there.
 fn count_keys(pieces: &[Vec<u64>]) -> usize
-    ensures { result ≡ counted (length (joined pieces.now)) }
+    ensures { result ≡ cut (length (joined pieces.now)) }
 {
     let mut count = 0usize;
     for piece in pieces {

@@ -6,14 +6,13 @@ use Rattle.rh_ledger.specs.declared.tally.Kind.TheVariants.{Ask}
 use Rattle.rh_descriptor.specs.declared.shape.Shape.{Shape}
 use Rattle.rh_descriptor.specs.View.{View}
 use Rattle.rh_acts.specs.Act.{Act}
-use Rattle.rh_acts.specs.Done.{IsDone, Kept}
+use Rattle.rh_acts.specs.Done.{Does, IsDone, Kept}
 use Rattle.rh_acts.specs.Workers.{Made, acts_of, own}
 use Rattle.rh_acts.proofs.ActLemmas.{contains_head}
 use Rattle.rh_acts.proofs.PhaseLemmas.{held_without_acts, piece_asked}
 use Rattle.rh_history.specs.History.{kept_of, own_acts_of}
-use Rattle.rh_run.specs.Advance.{Does}
 use Rattle.rh_run.specs.Laws.{RunAnswers}
-use Rattle.rh_run.specs.Run.{Running, answers_of}
+use Rattle.rh_run.specs.Run.{Running}
 use Rattle.rh_run.proofs.Standing.{all_made, each_does, was}
 
 none_made : (made : List Made) → ((m : Made) → Contains made m → ⊥) → made ≡ []
@@ -34,5 +33,5 @@ run_answers kind z opening words keep keys done told S run layout asks v mine =
     let acts : List Act = own v run.before ++ own_acts_of (keep v) in
     let made : List Made = all_made kind z opening words keep keys done told run in
     let held = held_without_acts opening (acts_of made) reads (ap acts_of (no_acts kind z opening words keep keys done told run asks)) (was kind z opening words keep keys done told run v mine) in
-    let is : IsDone Ask z.bits reads (done v) acts (told v) = subst (λ (k : Kind). IsDone k z.bits reads (done v) acts (answers_of k (told v))) asks (run.doing v mine).so_far.each in
+    let is : IsDone Ask z.bits reads (done v) acts (told v) = subst (λ (k : Kind). IsDone k z.bits reads (done v) acts (told v)) asks (run.doing v mine).so_far in
     piece_asked z.bits opening S reads (done v) acts (told v) layout held is

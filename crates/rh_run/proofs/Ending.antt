@@ -19,7 +19,7 @@ use Rattle.rh_history.specs.History.{kept_of, logical_cells, own_acts_of, value_
 use Rattle.rh_history.specs.Laws.{EndedSo}
 use Rattle.rh_history.proofs.Resting.{at_rest}
 use Rattle.rh_run.specs.Laws.{EndsSo, RunEnds}
-use Rattle.rh_run.specs.Run.{AreDone, Running, answers_of, tally_told}
+use Rattle.rh_run.specs.Run.{Running}
 use Rattle.rh_run.specs.Words.{cells_held}
 use Rattle.rh_run.proofs.Standing.{all_made, both, lead, meet, was, workers}
 
@@ -68,8 +68,8 @@ module _ (kind : Kind) (z : Shape) (opening words : List ℕ) (keep : ℕ → Vi
     abbrev reads : List (List Kept)
     reads = lists_of (λ v. run.reads v ++ kept_of z (keep v)) n
 
-    abbrev answers : List (List Bool)
-    answers = lists_of (λ v. answers_of kind (told v)) n
+    abbrev tells : List (List Bool)
+    tells = lists_of told n
 
     of_workers : AreOf n made
     of_workers = subst (λ (count : ℕ). AreOf count made) (sym size) (workers kind z opening words keep keys done told run)
@@ -77,30 +77,21 @@ module _ (kind : Kind) (z : Shape) (opening words : List ℕ) (keep : ℕ → Vi
     were : (v : ℕ) → v < n → WereTrue opening (acts_of made) (piece reads v)
     were v l = subst (WereTrue opening (acts_of made)) (sym (piece_of (λ u. run.reads u ++ kept_of z (keep u)) n v l)) (was kind z opening words keep keys done told run v (omega (arith, size)))
 
-    -- each worker has done its list, and counted it as it was told
-    so_far : (v : ℕ) → v < n → AreDone kind z.bits (run.reads v ++ kept_of z (keep v)) (own v run.before ++ own_acts_of (keep v)) (done v) (told v)
-    so_far v l = (run.doing v (omega (arith, size))).so_far
-
-    are_done : (v : ℕ) → v < n → IsDone kind z.bits (piece reads v) (piece pieces v) (own v made) (piece answers v)
+    -- each worker has done its list
+    are_done : (v : ℕ) → v < n → IsDone kind z.bits (piece reads v) (piece pieces v) (own v made) (piece tells v)
     are_done v l =
         let mine : v < z.workers = omega (arith, size) in
-        done_as kind z.bits (run.reads v ++ kept_of z (keep v)) (piece reads v) (done v) (piece pieces v) (own v run.before ++ own_acts_of (keep v)) (own v made) (answers_of kind (told v)) (piece answers v)
-        (sym (piece_of (λ u. run.reads u ++ kept_of z (keep u)) n v l)) (all_done v mine) (sym (own_is v mine)) (sym (piece_of (λ u. answers_of kind (told u)) n v l)) (so_far v l).each
-
-    counts : (v : ℕ) → v < n → tally_told kind (told v) ≡ counted kind (piece pieces v) (own v made) (piece answers v)
-    counts v l =
-        let mine : v < z.workers = omega (arith, size) in
-        sym (so_far v l).count
-        ∙ (λ i. counted kind (all_done v mine i) (sym (own_is v mine) i) (sym (piece_of (λ u. answers_of kind (told u)) n v l) i))
+        done_as kind z.bits (run.reads v ++ kept_of z (keep v)) (piece reads v) (done v) (piece pieces v) (own v run.before ++ own_acts_of (keep v)) (own v made) (told v) (piece tells v)
+        (sym (piece_of (λ u. run.reads u ++ kept_of z (keep u)) n v l)) (all_done v mine) (sym (own_is v mine)) (sym (piece_of told n v l)) (run.doing v mine).so_far
 
     pub ends : LeavesRoom kind z.bits S (joined pieces) → EndsSo kind z words told S (joined pieces)
     ends room =
-        let phase = phase_is_of_joined_lists kind z.bits opening S pieces made reads answers layout (meet kind z opening words keep keys done told run) of_workers room were are_done in
+        let phase = phase_is_of_joined_lists kind z.bits opening S pieces made reads tells layout (meet kind z opening words keep keys done told run) of_workers room were are_done in
         record {
           layout = subst (λ (cells : List ℕ). Layout cells z.bits (set_after kind S (joined pieces))) (sym cells_are) phase.0;
           tally =
-              ap (sum_of_all (λ v. tally_told kind (told v))) (sym size)
-              ∙ same_sums (λ v. tally_told kind (told v)) (λ v. counted kind (piece pieces v) (own v made) (piece answers v)) n counts
+              ap (sum_of_all (λ v. counted kind (told v))) (sym size)
+              ∙ same_sums (λ v. counted kind (told v)) (λ v. counted kind (piece tells v)) n (λ v l. ap (counted kind) (sym (piece_of told n v l)))
               ∙ phase.1;
         }
 

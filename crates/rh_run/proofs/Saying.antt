@@ -39,7 +39,7 @@ module _ (w : World) (z : Shape) (words : List ℕ) (keep : ℕ → View) (shape
     row : DescRow z words w d
     row = row_of_opened d opened
 
-    control_is : read_control (word_at z words (part.Control d.worker d.number)) ≡ w.control d
+    pub control_is : read_control (word_at z words (part.Control d.worker d.number)) ≡ w.control d
     control_is =
         ap read_control (core.mirrors.controls.controls d (core.mirrors.controls.descs d opened))
         ∙ control_said_is (w.control d) (λ e q. core.mirrors.controls.failures d e q)

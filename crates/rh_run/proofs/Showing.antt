@@ -1,5 +1,5 @@
 -- Each key that is done shows in the set: its act is one of all, or what was read of it was true and stays so.
-use Rattle.std.proofs.Common.{◌≡◌, ℕ, ◌<◌, inl, inr, ⊎_elim, refl, sym, ap, ◌∙◌, subst, arith, Bool, true, false, true≢false, List, [], ◌∷◌, length, get_or, map, filter, reverse, take, not}
+use Rattle.std.proofs.Common.{◌≡◌, ℕ, ◌<◌, ⊎_elim, refl, sym, ap, ◌∙◌, subst, arith, Bool, true, false, true≢false, List, [], ◌∷◌, length, get_or, map, filter, reverse, take, not}
 use mathlib.Core.List.{reverse-cons}
 use Rattle.std.specs.List.{Contains}
 use Rattle.std.specs.FinSet.{contains}
@@ -20,10 +20,11 @@ use Rattle.rh_rule.specs.Core.{Core}
 use Rattle.rh_rule.specs.Rest.{is_noted_success}
 use Rattle.rh_rule.proofs.Telling.{noted_in, tells}
 use Rattle.rh_acts.specs.Act.{Act, AllMeet, apply_acts}
-use Rattle.rh_acts.specs.Done.{Kept, KeyDone, WereTrue, kept}
+use Rattle.rh_acts.specs.Done.{Does, Kept, KeyDone, WereTrue, kept}
 use Rattle.rh_acts.specs.KeyActs.{IsInsertAct, IsRemovalAct}
 use Rattle.rh_acts.specs.Workers.{LeavesRoom, acts_of}
 use Rattle.rh_acts.proofs.ActLemmas.{contains_cases, contains_head, contains_none, contains_tail, contains_take}
+use Rattle.rh_acts.proofs.DoneLemmas.{does_insert, does_removal}
 use Rattle.rh_acts.proofs.Chain.{insertions_grow, removals_shrink}
 use Rattle.rh_history.specs.History.{act_of, history, is_current, is_finished, own_acts_of, own_ref, world_act}
 use Rattle.rh_history.proofs.Filtered.{from_filtered}
@@ -42,45 +43,44 @@ word_held : (cells : List ℕ) (c k : ℕ) → get_or cells c 0 ≡ cell_of k �
 word_held cells c k is = ⊎_elim (λ l. (l, is)) (λ past. absurd (omega (arith, is, get_or_past cells c 0 past))) (cases_lt c (length cells))
 
 inserts : (b : ℕ) (all : List ℕ) (act : Act) → DoesOneOf Insert b all act → (k : ℕ) × Contains all k × IsInsertAct b k act
-inserts b all act (k, asked, (true, does)) = (k, asked, does)
-inserts b all act (k, asked, (false, does)) = absurd does
+inserts b all act one = (one.0, one.1, does_insert b one.0 one.2.0 act one.2.1)
 
 removes : (b : ℕ) (all : List ℕ) (act : Act) → DoesOneOf Remove b all act → (k : ℕ) × IsRemovalAct b k act
-removes b all act (k, asked, (true, does)) = (k, inl does)
-removes b all act (k, asked, (false, does)) = (k, inr does)
+removes b all act one = (one.0, does_removal b one.0 one.2.0 act one.2.1)
 
 only_one : (first : List Act) (act : Act) → first ≡ act ∷ [] → Contains first act
 only_one first act is = subst (λ (acts : List Act). Contains acts act) (sym is) (contains_head act [])
 
-pub key_shows : (kind : Kind) (b : ℕ) (opening : List ℕ) (S U : Keys) (all : List ℕ) (acts first : List Act) (reads : List Kept) (k : ℕ) (now : List Bool)
+pub key_shows : (kind : Kind) (b : ℕ) (opening : List ℕ) (S U : Keys) (all : List ℕ) (acts first : List Act) (reads : List Kept) (k : ℕ) (so : Bool)
     → Layout opening b S → AllMeet acts opening → LeavesRoom kind b S all → ((a : Act) → Contains acts a → DoesOneOf kind b all a)
-    → Layout (apply_acts acts opening) b U → WereTrue opening acts reads → KeyDone kind b reads k first now → ((a : Act) → Contains first a → Contains acts a)
+    → Layout (apply_acts acts opening) b U → WereTrue opening acts reads → KeyDone kind b reads k first so → ((a : Act) → Contains first a → Contains acts a)
     → Shows kind U k
-key_shows Insert b opening S U all acts first reads k now layout meet room each leads were one among =
+key_shows Insert b opening S U all acts first reads k so layout meet room each leads were one among =
     let grown = insertions_grow b opening S all acts layout meet room (λ a h. inserts b all a (each a h)) in
     let whole : take (length acts) acts ≡ acts = take-length acts in
     let end = grown (length acts) in
     let end_layout : Layout (apply_acts acts opening) b end.0 = subst (λ (xs : List Act). Layout (apply_acts xs opening) b end.0) whole end.1.layout in
     let made : (a : Act) → Contains acts a → IsInsertAct b k a → contains end.0 k ≡ true = λ a h does. end.1.adds a k (subst (λ (xs : List Act). Contains xs a) (sym whole) h) does in
     same_shown (apply_acts acts opening) b end.0 U k end_layout leads (⊎_elim
+    (λ act. made act.0 (among act.0 (only_one first act.0 act.1)) (does_insert b k so act.0 act.2))
     (λ read.
-    let was = were (kept read.1.0 (cell_of k)) read.1.1 in
+    let at = read.1.1 in
+    let was = were (kept at.0 (cell_of k)) at.1 in
     let then = grown was.0 in
     ⊎_elim (end.1.keeps k) (λ by. made by.0 (contains_take was.0 acts by.0 by.1) by.2)
-    (then.1.only k (then.1.layout.no_other read.1.0 k (word_held (apply_acts (take was.0 acts) opening) read.1.0 k was.2))))
-    (λ act. made act.0 (among act.0 (only_one first act.0 act.1)) act.2) one.1)
-key_shows Remove b opening S U all acts first reads k now layout meet room each leads were one among =
-    let act = one.1 in
+    (then.1.only k (then.1.layout.no_other at.0 k (word_held (apply_acts (take was.0 acts) opening) at.0 k was.2)))) one)
+key_shows Remove b opening S U all acts first reads k so layout meet room each leads were one among =
+    let act : (a : Act) × (first ≡ a ∷ []) × Does Remove b k so a = ⊎_elim (λ a. a) (λ none. absurd none.1) one in
     let whole : take (length acts) acts ≡ acts = take-length acts in
     let end = removals_shrink b opening S acts layout meet (λ a h. removes b all a (each a h)) (length acts) in
     let end_layout : Layout (apply_acts acts opening) b end.0 = subst (λ (xs : List Act). Layout (apply_acts xs opening) b end.0) whole end.1.layout in
-    let out : contains end.0 k ≡ false = end.1.drops act.0 k (subst (λ (xs : List Act). Contains xs act.0) (sym whole) (among act.0 (only_one first act.0 act.1))) act.2 in
+    let out : contains end.0 k ≡ false = end.1.drops act.0 k (subst (λ (xs : List Act). Contains xs act.0) (sym whole) (among act.0 (only_one first act.0 act.1))) (does_removal b k so act.0 act.2) in
     not_shown (contains U k) (λ there. true≢false (sym (same_shown (apply_acts acts opening) b U end.0 k leads end_layout there) ∙ out))
   where
     not_shown : (t : Bool) → (t ≡ true → ⊥) → t ≡ false
     not_shown true no' = absurd (no' refl)
     not_shown false no' = refl
-key_shows Ask b opening S U all acts first reads k now layout meet room each leads were one among = tt
+key_shows Ask b opening S U all acts first reads k so layout meet room each leads were one among = tt
 
 -- ---- acts that a worker has finished are acts of the table
 

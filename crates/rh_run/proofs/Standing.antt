@@ -1,37 +1,45 @@
 -- What the cells of a run stand for: the acts of all its rounds are a phase over their own keys.
-use Rattle.std.proofs.Common.{◌≡◌, ℕ, ◌<◌, ◌≤◌, inl, inr, ⊎_elim, refl, sym, ap, ◌∙◌, subst, arith, Bool, true, false, List, [], ◌∷◌, ◌++◌}
+use Rattle.std.proofs.Common.{◌≡◌, ℕ, ◌<◌, ◌≤◌, inl, ⊎_elim, refl, sym, ap, ◌∙◌, subst, arith, Bool, List, [], ◌∷◌, ◌++◌, get_or, map, reverse}
 use Rattle.std.specs.List.{Contains}
 use Rattle.std.specs.FinSet as set
-use Rattle.std.proofs.lemmas.List.{map-append}
+use Rattle.std.proofs.lemmas.List.{append_assoc, map-append}
 use Rattle.std.proofs.lemmas.List.FromFn.{fill_by_all}
 use Rattle.std.proofs.lemmas.List.Elements.{Contains-append_cases, Contains-append_left, Contains-append_right}
 use Rattle.rh_layout.specs.Layout.{Keys, Layout}
 use Rattle.rh_ledger.specs.declared.tally.Kind.{Kind}
 use Rattle.rh_ledger.specs.declared.tally.Kind.TheVariants.{Insert, Remove, Ask}
 use Rattle.rh_ledger.specs.Phase.{set_after}
-use Rattle.rh_world.specs.Acts.{cells_after}
+use Rattle.rh_world.specs.World.{IsOpened}
+use Rattle.rh_world.specs.Acts.{cells_after, is_success}
+use Rattle.rh_rule.specs.Mirrors.{word_at}
+use Rattle.rh_rule.specs.Rest.{Told}
+use Rattle.rh_rule.proofs.Telling.{tells}
 use Rattle.rh_descriptor.specs.declared.shape.Shape.{Shape}
+use Rattle.rh_descriptor.specs.declared.shape.Part.TheVariants as part
+use Rattle.rh_descriptor.specs.Words.{read_control}
 use Rattle.rh_descriptor.specs.Places.{IsShape, cell_count}
-use Rattle.rh_descriptor.specs.View.{View}
-use Rattle.rh_acts.specs.Act.{Act, AllMeet, apply_acts}
-use Rattle.rh_acts.specs.Done.{IsDone, KeyDone, WereTrue}
+use Rattle.rh_descriptor.specs.View.{OwnDesc, View}
+use Rattle.rh_acts.specs.Act.{Act, AllMeet, apply_acts, changes}
+use Rattle.rh_acts.specs.Done.{Does, IsDone, WereTrue}
 use Rattle.rh_acts.specs.Workers.{AreOf, LeavesRoom, Made, acts_of, own}
 use Rattle.rh_acts.proofs.ActLemmas.{contains_cases, contains_head, contains_none, contains_tail}
 use Rattle.rh_acts.proofs.DoneLemmas.{done_key}
 use Rattle.rh_acts.proofs.FoldLemmas.{all_kept, all_there, len_part, there_cases}
 use Rattle.rh_acts.proofs.InOrder.{acts_are_a_phase}
 use Rattle.rh_acts.proofs.OwnLemmas.{own_among}
-use Rattle.rh_history.specs.History.{cells_of, history, kept_of, logical_cells, own_acts_of, value_of}
-use Rattle.rh_history.specs.Laws.{HappenedSo}
+use Rattle.rh_acts.proofs.Told.{does_told}
+use Rattle.rh_history.specs.History.{act_of, cells_of, history, kept_of, logical_cells, own_acts_of, own_ref, value_of}
+use Rattle.rh_history.specs.Laws.{HappenedSo, OwnSo}
 use Rattle.rh_history.specs.Rounds.{JoinedSo}
 use Rattle.rh_history.proofs.Happening.{happened}
+use Rattle.rh_history.proofs.Filtered.{same_filtered}
 use Rattle.rh_history.proofs.Joining.{rounds_join}
+use Rattle.rh_history.proofs.Succeeding.{own_so_far}
 use Rattle.rh_history.proofs.Values.{cells_length, get_cells}
-use Rattle.rh_run.specs.Advance.{Does}
-use Rattle.rh_run.specs.Laws.{RunMoment, StandsSo}
-use Rattle.rh_run.specs.Run.{DoesOneOf, Running, answers_of}
-use Rattle.rh_run.specs.Words.{cells_now, logical_word}
-use Rattle.rh_run.proofs.Saying.{words_say}
+use Rattle.rh_run.specs.Laws.{ActsSoFar, DidSo, RunMoment, StandsSo}
+use Rattle.rh_run.specs.Run.{DoesOneOf, Running}
+use Rattle.rh_run.specs.Words.{logical_word, succeeded_now}
+use Rattle.rh_run.proofs.Saying.{control_is, words_say}
 use Rattle.rh_run.proofs.Showing.{finished_among, key_shows}
 
 -- cells that stand for the same words
@@ -40,17 +48,10 @@ same_cells z f g same = fill_by_all (λ c. value_of (g c)) (cells_of z f) (cell_
 
 -- ---- acts and their keys
 
-does_key : (kind : Kind) (b k : ℕ) (changes : Bool) (act : Act) → Does kind b k changes act → KeyDone kind b [] k (act ∷ []) []
-does_key Insert b k true act does = (refl, inr (act, refl, does))
-does_key Insert b k false act does = absurd does
-does_key Remove b k true act does = (refl, (act, refl, inl does))
-does_key Remove b k false act does = (refl, (act, refl, inr does))
-does_key Ask b k changes act does = absurd does
-
 -- acts that each do a key of a worker do these keys
 record DoKeys (kind : Kind) (b : ℕ) (keys : ℕ → List ℕ) (made : List Made) : Type 0 where
   pub so_far : List ℕ
-  pub done : IsDone kind b [] so_far (acts_of made) []
+  pub done : IsDone kind b [] so_far (acts_of made) (map changes (acts_of made))
   pub among : (k : ℕ) → Contains so_far k → (m : Made) × Contains made m × Contains (keys m.worker) k
 
 keys_done : (kind : Kind) (b : ℕ) (keys : ℕ → List ℕ) (made : List Made) → ((m : Made) → Contains made m → DoesOneOf kind b (keys m.worker) m.act)
@@ -62,7 +63,7 @@ keys_done kind b keys (m ∷ made) each =
     let rest = keys_done kind b keys made (λ x h. each x (contains_tail m x made h)) in
     record {
       so_far = k ∷ rest.so_far;
-      done = (m.act ∷ [], acts_of made, [], [], refl, refl, does_key kind b k one.2.0 m.act one.2.1, rest.done);
+      done = (m.act ∷ [], acts_of made, changes m.act, map changes (acts_of made), refl, refl, inl (m.act, refl, subst (λ (t : Bool). Does kind b k t m.act) (sym (does_told kind b k one.2.0 m.act one.2.1)) one.2.1), rest.done);
       among = λ q h. ⊎_elim
           (λ (e : k ≡ q). (m, contains_head m made, subst (Contains (keys m.worker)) e one.1))
           (λ later. let it = rest.among q later in (it.0, contains_tail m it.0 made it.1, it.2))
@@ -126,6 +127,48 @@ module _ (kind : Kind) (z : Shape) (opening words : List ℕ) (keep : ℕ → Vi
       (λ i. Contains-append_right (acts_of run.before) (acts_of now) a (finished_among run.world z words keep run.core v mine a i))
       (Contains-append_cases (own v run.before) (own_acts_of (keep v)) a h))
 
+  -- those of one worker, in this round and in all
+  abbrev own_now : (v : ℕ) → v < z.workers → OwnSo run.world v (keep v)
+  own_now v mine = own_so_far run.world z words keep v run.core mine
+
+  succeeded : IsShape z → (v : ℕ) → v < z.workers → own v now ≡ succeeded_now z words (keep v)
+  succeeded shape v mine =
+      let k = keep v in
+      let w = run.world in
+      (own_now v mine).succeeded
+      ∙ ap (λ (os : List OwnDesc). reverse (map (λ (o : OwnDesc). act_of o.entries) os))
+      (same_filtered (λ (o : OwnDesc). is_success (w.control (own_ref k o.number))) (λ (o : OwnDesc). is_success (read_control (word_at z words (part.Control k.worker o.number)))) k.opened
+      (λ o i.
+      let its = core_kept.opened v o mine i in
+      let opened : IsOpened (w.control (own_ref k o.number)) = subst (λ (u : ℕ). IsOpened (w.control record { worker = u; number = o.number })) (sym (run.core.mirrors.kept v mine).worker) its.opened in
+      ap is_success (sym (control_is w z words keep shape run.core 0 (own_ref k o.number) opened))))
+    where
+      core_kept : Told run.world z keep run.core.side
+      core_kept = tells run.world z words keep run.core
+
+  acts_so_far : IsShape z → ActsSoFar z opening words keep run.before now
+  acts_so_far shape = record {
+    workers = workers;
+    meet = meet;
+    begun = λ v c mine inside. ap (λ (cells : List ℕ). get_or cells c 0) (sym run.cells) ∙ so.opening v c mine inside;
+    succeeded = succeeded shape;
+    cells = same_cells z (logical_word z words) (cells_after run.world run.world.act_count) (words_say run.world z words keep shape run.core) ∙ lead;
+  }
+
+  did : (v : ℕ) → v < z.workers → DidSo kind z opening all_made v (keep v) (done v) (told v)
+  did v mine =
+      let own_so = own_now v mine in
+      record {
+        acts = own v run.before ++ own_acts_of (keep v);
+        left = own_so.later;
+        reads = run.reads v ++ kept_of z (keep v);
+        each = (run.doing v mine).so_far;
+        were_true = was v mine;
+        are_own = both.acts v ∙ ap (λ (acts : List Act). own v run.before ++ acts) own_so.finished ∙ sym (append_assoc (own v run.before) (own_acts_of (keep v)) own_so.later);
+        one_left = own_so.one;
+        none_left = own_so.closed;
+      }
+
   module _ (S : Keys) (all : List ℕ) (shape : IsShape z) (layout : Layout opening z.bits S) (asked : (v k : ℕ) → v < z.workers → Contains (keys v) k → Contains all k) (room : LeavesRoom kind z.bits S all) where
     does_asked : (a : Act) → Contains (acts_of all_made) a → DoesOneOf kind z.bits all a
     does_asked a h =
@@ -133,24 +176,23 @@ module _ (kind : Kind) (z : Shape) (opening words : List ℕ) (keep : ℕ → Vi
         let one = each_does it.0 it.1 in
         subst (DoesOneOf kind z.bits all) it.2 (one.0, asked it.0.worker one.0 (workers it.0 it.1) one.1, one.2)
 
-    stands : StandsSo kind z opening words keys done S (acts_of all_made)
+    stands : StandsSo kind z opening words keep keys done told S run.before now
     stands =
         let ks = keys_done kind z.bits keys all_made each_does in
-        let told_so : cells_now z words ≡ apply_acts (acts_of all_made) opening =
-        same_cells z (logical_word z words) (cells_after run.world run.world.act_count) (words_say run.world z words keep shape run.core) ∙ lead in
+        let acts = acts_so_far shape in
         let among_all : (k : ℕ) → Contains ks.so_far k → Contains all k = λ k h. let it = ks.among k h in asked it.0.worker k (workers it.0 it.1) it.2 in
-        let phase = acts_are_a_phase kind z.bits opening S ks.so_far (acts_of all_made) layout meet (room_for_some kind z.bits S ks.so_far all among_all room) ks.done in
+        let phase = acts_are_a_phase kind z.bits opening S ks.so_far (acts_of all_made) layout meet (room_for_some kind z.bits S ks.so_far all among_all room) (map changes (acts_of all_made)) ks.done in
         record {
+          acts = acts;
+          did = did;
           so_far = ks.so_far;
-          meet = meet;
-          cells = told_so;
           each = ks.done;
           among = λ k h. let it = ks.among k h in (it.0.worker, workers it.0 it.1, it.2);
-          layout = subst (λ (cells : List ℕ). Layout cells z.bits (set_after kind S ks.so_far)) (sym told_so) phase.0;
+          layout = subst (λ (cells : List ℕ). Layout cells z.bits (set_after kind S ks.so_far)) (sym acts.cells) phase.0;
           shows = λ v k mine h.
-              let is = (run.doing v mine).so_far in
-              let one = done_key kind z.bits (run.reads v ++ kept_of z (keep v)) (done v) (own v run.before ++ own_acts_of (keep v)) (answers_of kind (told v)) is.each k h in
-              key_shows kind z.bits opening S (set_after kind S ks.so_far) all (acts_of all_made) one.0 (run.reads v ++ kept_of z (keep v)) k one.1 layout meet room does_asked phase.0 (was v mine) one.2
+              let reads = run.reads v ++ kept_of z (keep v) in
+              let one = done_key kind z.bits reads (done v) (own v run.before ++ own_acts_of (keep v)) (told v) (run.doing v mine).so_far k h in
+              key_shows kind z.bits opening S (set_after kind S ks.so_far) all (acts_of all_made) one.0 reads k one.1 layout meet room does_asked phase.0 (was v mine) one.2
               (λ a i. own_among_all v mine a (one.3 a i));
         }
 

@@ -1,11 +1,10 @@
 -- A run goes on by a step of one of its workers.
-use Rattle.std.proofs.Common.{◌≡◌, ℕ, ◌+◌, ◌<◌, inl, ⊎_elim, refl, sym, ap, ◌∙◌, subst, eqb, Bool, true, false, cond, List, [], ◌∷◌, ◌++◌, Option, Some, None}
+use Rattle.std.proofs.Common.{◌≡◌, ℕ, ◌<◌, inl, inr, ⊎_elim, refl, sym, ap, ◌∙◌, subst, eqb, Bool, true, false, cond, List, [], ◌∷◌, ◌++◌, Option, Some, None}
 use Rattle.std.specs.List.{Contains, slice_index}
 use Rattle.std.proofs.lemmas.Bool.{eqb-true}
 use Rattle.std.proofs.lemmas.List.{append-nil, append_assoc}
 use Rattle.std.proofs.lemmas.List.Elements.{Contains-append_right}
 use Rattle.rh_ledger.specs.declared.tally.Kind.{Kind}
-use Rattle.rh_ledger.specs.declared.tally.Kind.TheVariants.{Insert, Remove, Ask}
 use Rattle.rh_world.specs.World.{World, In, updated}
 use Rattle.rh_world.proofs.Updated.{some_not_none, updated_here}
 use Rattle.rh_descriptor.specs.declared.shape.Shape.{Shape}
@@ -17,7 +16,8 @@ use Rattle.rh_rule.specs.Sound.{Sound}
 use Rattle.rh_rule.proofs.Soundness.{views_are_sound}
 use Rattle.rh_rule.proofs.StepLaw.{each_step_keeps}
 use Rattle.rh_acts.specs.Act.{Act}
-use Rattle.rh_acts.specs.Done.{Kept, KeyDone, kept}
+use Rattle.rh_acts.specs.Done.{Does, IsDone, IsTold, Kept, KeyDone}
+use Rattle.rh_acts.proofs.DoneLemmas.{key_more, more_read, one_more}
 use Rattle.rh_acts.specs.Workers.{own}
 use Rattle.rh_history.specs.History.{act_of, kept_of, opening_cells, own_acts_of, value_of}
 use Rattle.rh_history.specs.OwnActs.{StepFinishes}
@@ -25,43 +25,20 @@ use Rattle.rh_history.proofs.Finishing.{steps_finish}
 use Rattle.rh_history.proofs.Happening.{happened}
 use Rattle.rh_history.proofs.Joining.{rounds_follow}
 use Rattle.rh_history.proofs.Learning.{reads_stay}
-use Rattle.rh_run.specs.Advance.{Advances, Does, Fails, GoesOn, IsTold, Opens, Succeeds}
+use Rattle.rh_run.specs.Advance.{Advances, Fails, GoesOn, Opens, Succeeds}
 use Rattle.rh_run.specs.Laws.{RunClaims, RunGathers, RunSteps, WorkerClaims, WorkerSteps}
-use Rattle.rh_run.specs.Run.{AreDone, Doing, DoesOneOf, Running, also_done, also_told, answers_of}
-use Rattle.rh_run.proofs.Growing.{CountsAs, by_act, done_by_more, more_behind, one_key_more}
+use Rattle.rh_run.specs.Run.{Doing, DoesOneOf, Running, also_done, also_told}
+use Rattle.rh_run.proofs.Growing.{more_behind}
 
 -- ---- what becomes of one worker
 
--- the key is done by what was read, and so by no act
-by_read : (kind : Kind) (z : Shape) (v : View) (earlier : List Kept) (k : ℕ) (so : Bool) → IsTold kind z v k so
-    → KeyDone kind z.bits (earlier ++ kept_of z v) k [] (answers_of kind (so ∷ [])) × CountsAs kind [] so
-by_read Insert z v earlier k so told =
-    ((refl, inl (refl, (told.1.0, Contains-append_right earlier (kept_of z v) (kept told.1.0 (k + 1)) told.1.1))), ap (λ t. cond t 1 0) (sym told.0))
-by_read Remove z v earlier k so told = absurd told
-by_read Ask z v earlier k so told = (
-  (
-    refl,
-    (
-      so,
-      refl,
-      record {
-        seen = told.seen;
-        room = told.room;
-        read = λ p l. Contains-append_right earlier (kept_of z v) _ (told.read p l);
-        tells = told.tells;
-      },
-    ),
-  ),
-  tt,
-)
-
 module _ (kind : Kind) (z : Shape) (keys : List ℕ) (acts : List Act) (earlier : List Kept) (v next : View) (done : List ℕ) (told : List Bool) (is : Doing z kind v keys acts earlier done told) (finishes : StepFinishes v next) (stay : (r : Kept) → Contains (kept_of z v) r → Contains (kept_of z next) r) where
   -- by what it read now it has done what it had done
-  read_more : AreDone kind z.bits (earlier ++ kept_of z next) (acts ++ own_acts_of v) done told
-  read_more = done_by_more kind z.bits (earlier ++ kept_of z v) (earlier ++ kept_of z next) (acts ++ own_acts_of v) done told (more_behind earlier (kept_of z v) (kept_of z next) stay) is.so_far
+  read_more : IsDone kind z.bits (earlier ++ kept_of z next) done (acts ++ own_acts_of v) told
+  read_more = more_read kind z.bits (earlier ++ kept_of z v) (earlier ++ kept_of z next) done (acts ++ own_acts_of v) told (more_behind earlier (kept_of z v) (kept_of z next) stay) is.so_far
 
   -- no act is finished
-  acts_stay : own_acts_of next ≡ own_acts_of v → AreDone kind z.bits (earlier ++ kept_of z next) (acts ++ own_acts_of next) done told
+  acts_stay : own_acts_of next ≡ own_acts_of v → IsDone kind z.bits (earlier ++ kept_of z next) done (acts ++ own_acts_of next) told
   acts_stay same = rw same read_more
 
   same_opened : next.opened ≡ v.opened → (o : OwnDesc) → In o next.opened → DoesOneOf kind z.bits keys (act_of o.entries)
@@ -94,24 +71,29 @@ module _ (kind : Kind) (z : Shape) (keys : List ℕ) (acts : List Act) (earlier 
           opened = same_opened old.opened;
         })) a
 
+    -- one key more, by these own acts
+    one_done : (so : Bool) (before first : List Act) → IsDone kind z.bits (earlier ++ kept_of z next) done before told
+        → KeyDone kind z.bits (earlier ++ kept_of z next) k first so → before ++ first ≡ acts ++ own_acts_of next
+        → IsDone kind z.bits (earlier ++ kept_of z next) (done ++ k ∷ []) (acts ++ own_acts_of next) (told ++ so ∷ [])
+    one_done so before first so_far now same =
+        subst (λ (as' : List Act). IsDone kind z.bits (earlier ++ kept_of z next) (done ++ k ∷ []) as' (told ++ so ∷ [])) same
+        (one_more kind z.bits (earlier ++ kept_of z next) done k before first told so so_far now)
+
     is_done : (so : Bool) → Advances z kind k v next (Some so) → Doing z kind next keys acts earlier (done ++ k ∷ []) (told ++ so ∷ [])
     is_done so a = ⊎_elim
-        (λ (on : GoesOn v next × IsTold kind z next k so).
-        let now = by_read kind z next earlier k so on.1 in
-        record {
+        (λ (on : GoesOn v next × IsTold kind z.bits (kept_of z next) k so). record {
           orderly = finishes.orderly;
-          so_far = subst (λ (as' : List Act). AreDone kind z.bits (earlier ++ kept_of z next) as' (done ++ k ∷ []) (told ++ so ∷ [])) (append-nil (acts ++ own_acts_of next))
-              (one_key_more kind z.bits (earlier ++ kept_of z next) (acts ++ own_acts_of next) [] done told k so (acts_stay (finishes.stays (still on.0))) now.0 now.1);
+          so_far = one_done so (acts ++ own_acts_of next) [] (acts_stay (finishes.stays (still on.0)))
+              (key_more kind z.bits (kept_of z next) (earlier ++ kept_of z next) k [] so (Contains-append_right earlier (kept_of z next)) (inr (refl, on.1)))
+              (append-nil (acts ++ own_acts_of next));
           opened = same_opened on.0.opened;
         })
         (λ (old : Succeeds z kind k v next so).
         let act : Act = act_of old.own.entries in
-        let now = by_act kind z.bits (earlier ++ kept_of z next) k so act old.does in
-        let longer : acts ++ own_acts_of v ++ act ∷ [] ≡ acts ++ own_acts_of next = append_assoc acts (own_acts_of v) (act ∷ []) ∙ ap (λ (xs : List Act). acts ++ xs) (sym (finishes.succeeds old.own old.closes old.before)) in
         record {
           orderly = finishes.orderly;
-          so_far = subst (λ (as' : List Act). AreDone kind z.bits (earlier ++ kept_of z next) as' (done ++ k ∷ []) (told ++ so ∷ [])) longer
-              (one_key_more kind z.bits (earlier ++ kept_of z next) (acts ++ own_acts_of v) (act ∷ []) done told k so read_more now.0 now.1);
+          so_far = one_done so (acts ++ own_acts_of v) (act ∷ []) read_more (inl (act, refl, old.does))
+              (append_assoc acts (own_acts_of v) (act ∷ []) ∙ ap (λ (xs : List Act). acts ++ xs) (sym (finishes.succeeds old.own old.closes old.before)));
           opened = same_opened old.opened;
         }) a
 

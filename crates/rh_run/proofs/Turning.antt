@@ -4,7 +4,6 @@ use Rattle.std.specs.List.{slice_index}
 use Rattle.std.proofs.lemmas.List.{append-nil, get_or-map, get_or_append_left, length-map}
 use Rattle.std.proofs.lemmas.List.FromFn.{fill_by_all}
 use Rattle.rh_ledger.specs.declared.tally.Kind.{Kind}
-use Rattle.rh_ledger.specs.declared.tally.Kind.TheVariants.{Insert, Remove, Ask}
 use Rattle.rh_tagword.specs.Word.{plain_number, tag_of}
 use Rattle.rh_world.specs.World.{World}
 use Rattle.rh_world.specs.Acts.{cells_after}
@@ -20,7 +19,7 @@ use Rattle.rh_rule.specs.Rest.{AllRest}
 use Rattle.rh_rule.specs.Wipes.{Wiped, row_total, wiping_view}
 use Rattle.rh_rule.proofs.WipesKept.{table_starts, wipe_begins, wipe_ends}
 use Rattle.rh_acts.specs.Act.{Act, apply_acts}
-use Rattle.rh_acts.specs.Done.{Kept}
+use Rattle.rh_acts.specs.Done.{IsDone, Kept}
 use Rattle.rh_acts.specs.Workers.{Made, acts_of, own}
 use Rattle.rh_acts.proofs.ActLemmas.{contains_none}
 use Rattle.rh_acts.proofs.OwnLemmas.{none_of_own}
@@ -30,20 +29,15 @@ use Rattle.rh_history.proofs.Joining.{rounds_begin, rounds_follow}
 use Rattle.rh_history.proofs.Resting.{at_rest}
 use Rattle.rh_history.proofs.Values.{get_cells}
 use Rattle.rh_run.specs.Laws.{RunRounds, RunStarts, WorkerStarts, WorkerTurns}
-use Rattle.rh_run.specs.Run.{AreDone, Doing, Running}
+use Rattle.rh_run.specs.Run.{Doing, Running}
 use Rattle.rh_run.specs.Words.{IsWiped}
 use Rattle.rh_run.proofs.Ending.{ended, own_is}
 use Rattle.rh_run.proofs.Standing.{all_made, each_does, lead, meet, was, workers}
 
 -- ---- the start
 
-none_done : (kind : Kind) (b : ℕ) → AreDone kind b [] [] [] []
-none_done Insert b = record { each = (refl, refl); size = refl; count = refl }
-none_done Remove b = record { each = (refl, refl); size = refl; count = refl }
-none_done Ask b = record { each = (refl, refl); size = refl; count = refl }
-
 pub worker_starts : WorkerStarts
-worker_starts kind z cells worker keys = record { orderly = ((rounds_begin z cells).0 worker).orderly; so_far = none_done kind z.bits; opened = λ o i. absurd i }
+worker_starts kind z cells worker keys = record { orderly = ((rounds_begin z cells).0 worker).orderly; so_far = (refl, refl); opened = λ o i. absurd i }
 
 plain_word : (value : ℕ) → IsPlain (plain_number value)
 plain_word value = omega arith
@@ -94,8 +88,8 @@ worker_turns kind z cells v keys acts reads done told is =
     let known = reads ++ kept_of z v in
     record {
       orderly = ((rounds_begin z cells).1 v).orderly;
-      so_far = subst (λ (ks : List Kept). AreDone kind z.bits ks (made ++ []) done told) (sym (append-nil known))
-          (subst (λ (as' : List Act). AreDone kind z.bits known as' done told) (sym (append-nil made)) is.so_far);
+      so_far = subst (λ (ks : List Kept). IsDone kind z.bits ks done (made ++ []) told) (sym (append-nil known))
+          (subst (λ (as' : List Act). IsDone kind z.bits known done as' told) (sym (append-nil made)) is.so_far);
       opened = λ o i. absurd i;
     }
 

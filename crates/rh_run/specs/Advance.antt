@@ -1,29 +1,15 @@
 -- What a step of a worker makes of the key that it is at. (own)
-use Rattle.std.specs.Prelude.{◌≡◌, ℕ, ◌⊎◌, Option, Some, None, Bool, true, false, ◌∷◌}
-use Rattle.std.specs.List.{Contains}
-use Rattle.rh_layout.specs.Key.{cell_of}
+use Rattle.std.specs.Prelude.{◌≡◌, ℕ, ◌⊎◌, Option, Some, None, Bool, false, ◌∷◌}
 use Rattle.rh_ledger.specs.declared.tally.Kind.{Kind}
-use Rattle.rh_ledger.specs.declared.tally.Kind.TheVariants.{Insert, Remove, Ask}
 use Rattle.rh_world.specs.World.{Control, In}
 use Rattle.rh_world.specs.World.Control.{succeeded}
 use Rattle.rh_world.specs.Notes.Note.{decided}
 use Rattle.rh_world.specs.Acts.{is_success}
-use Rattle.rh_acts.specs.Act.{Act}
-use Rattle.rh_acts.specs.KeyActs.{IsInsertAct, IsRemoveAct, IsAbsenceAct}
-use Rattle.rh_acts.specs.Done.{IsAsked, kept}
+use Rattle.rh_acts.specs.Done.{Does, IsTold}
 use Rattle.rh_descriptor.specs.declared.shape.Shape.{Shape}
 use Rattle.rh_descriptor.specs.View.{OwnDesc, View}
 use Rattle.rh_history.specs.History.{act_of, kept_of, own_ref}
 use Rattle.rh_history.specs.OwnActs.{Closes}
-
--- An act does a key, and changes a cell or does not. A key is inserted by the act that puts it in; it is removed by the
--- act that takes it out, or by the one that shows that it is not there. To ask for a key no act is made.
-abbrev pub Does : Kind → (b k : ℕ) → (changes : Bool) → Act → Type 0
-Does Insert b k true act = IsInsertAct b k act
-Does Insert b k false act = ⊥
-Does Remove b k true act = IsRemoveAct b k act
-Does Remove b k false act = IsAbsenceAct b k act
-Does Ask b k changes act = ⊥
 
 -- no own descriptor was opened or closed
 pub record GoesOn (v next : View) : Type 0 where
@@ -56,13 +42,7 @@ pub record Succeeds (z : Shape) (kind : Kind) (k : ℕ) (v next : View) (told : 
   pub before : In (decided (own_ref v own.number) succeeded) v.side.notes
   pub does : Does kind z.bits k told (act_of own.entries)
 
--- what was read tells it: the key that is to be inserted is there, or the key that is asked for is there or is not
-abbrev pub IsTold : Kind → (z : Shape) → View → (k : ℕ) → (told : Bool) → Type 0
-IsTold Insert z v k told = (told ≡ false) × ((c : ℕ) × Contains (kept_of z v) (kept c (cell_of k)))
-IsTold Remove z v k told = ⊥
-IsTold Ask z v k told = IsAsked z.bits (kept_of z v) k told
-
 -- The key is done with this answer, or not done.
 abbrev pub Advances : Shape → Kind → (k : ℕ) → (v next : View) → (done : Option Bool) → Type 0
 Advances z kind k v next None = GoesOn v next ⊎ (Opens z kind k v next ⊎ Fails v next)
-Advances z kind k v next (Some told) = (GoesOn v next × IsTold kind z next k told) ⊎ Succeeds z kind k v next told
+Advances z kind k v next (Some told) = (GoesOn v next × IsTold kind z.bits (kept_of z next) k told) ⊎ Succeeds z kind k v next told

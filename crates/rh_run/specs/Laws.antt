@@ -1,5 +1,5 @@
 -- What the laws of this crate say.
-use Rattle.std.specs.Prelude.{◌≡◌, ℕ, ◌+◌, ◌<◌, Option, Bool, true, false, List, [], ◌++◌, length, map, replicate, slice_index}
+use Rattle.std.specs.Prelude.{◌≡◌, ℕ, ◌+◌, ◌<◌, ◌≤◌, Option, None, Bool, true, false, List, [], ◌++◌, length, map, replicate, slice_index}
 use Rattle.std.specs.List.{Contains}
 use Rattle.std.specs.FinSet.{contains}
 use Rattle.rh_layout.specs.Layout.{Keys, Layout}
@@ -18,13 +18,13 @@ use Rattle.rh_rule.specs.Core.{Core}
 use Rattle.rh_rule.specs.Rest.{AllRest}
 use Rattle.rh_rule.specs.Sound.{Sound}
 use Rattle.rh_rule.specs.Wipes.{row_total}
-use Rattle.rh_acts.specs.Act.{Act, AllMeet, apply_acts}
-use Rattle.rh_acts.specs.Done.{IsDone, Kept}
-use Rattle.rh_acts.specs.Workers.{LeavesRoom, acts_of, joined, own, piece, sum_of_all}
-use Rattle.rh_history.specs.History.{history, kept_of, own_acts_of}
+use Rattle.rh_acts.specs.Act.{Act, AllMeet, apply_acts, changes}
+use Rattle.rh_acts.specs.Done.{IsDone, Kept, WereTrue}
+use Rattle.rh_acts.specs.Workers.{AreOf, LeavesRoom, Made, acts_of, counted, joined, own, piece, sum_of_all}
+use Rattle.rh_history.specs.History.{history, kept_of, own_acts_of, value_of}
 use Rattle.rh_run.specs.Advance.{Advances}
-use Rattle.rh_run.specs.Run.{Doing, Running, also_done, also_told, tally_told}
-use Rattle.rh_run.specs.Words.{IsWiped, LeadsInside, cells_held, cells_now, logical_word}
+use Rattle.rh_run.specs.Run.{Doing, Running, also_done, also_told}
+use Rattle.rh_run.specs.Words.{IsWiped, LeadsInside, cells_held, cells_now, logical_word, succeeded_now}
 use Rattle.rh_run.specs.Claimed.{FoundEnd, claimed}
 
 -- ---- how one worker goes on, by its own steps alone
@@ -123,13 +123,36 @@ Shows Insert S k = contains S k ≡ true
 Shows Remove S k = contains S k ≡ false
 Shows Ask S k = Unit {0}
 
--- These are the acts so far, and the cells stand for the layout of the set after the keys of these acts, in their order. Each
--- is a key of a worker; and each key that is done shows.
-pub record StandsSo (kind : Kind) (z : Shape) (opening words : List ℕ) (keys done : ℕ → List ℕ) (S : Keys) (acts : List Act) : Type 0 where
+-- The acts so far: those of the earlier rounds, and those of this one. The former led to the cells with which this round began.
+-- The latter are the descriptors whose control stands Succeeded, each once, and those of one worker in the order in which it
+-- opened them. All together they lead to what the cells stand for.
+pub record ActsSoFar (z : Shape) (opening words : List ℕ) (keep : ℕ → View) (before now : List Made) : Type 0 where
+  pub workers : AreOf z.workers (before ++ now)
+  pub meet : AllMeet (acts_of (before ++ now)) opening
+  pub begun : (v c : ℕ) → v < z.workers → c < cell_count z → slice_index (apply_acts (acts_of before) opening) c ≡ value_of (slice_index (keep v).opening c)
+  pub succeeded : (v : ℕ) → v < z.workers → own v now ≡ succeeded_now z words (keep v)
+  pub cells : cells_now z words ≡ apply_acts (acts_of (before ++ now)) opening
+
+-- A worker has done these keys, one by one: by what it read, and by its acts in their order, of which the last may be left, as
+-- it has its descriptor open.
+pub record DidSo (kind : Kind) (z : Shape) (opening : List ℕ) (made : List Made) (worker : ℕ) (v : View) (done : List ℕ) (told : List Bool) : Type 0 where
+  pub acts : List Act
+  pub left : List Act
+  pub reads : List Kept
+  pub each : IsDone kind z.bits reads done acts told
+  pub were_true : WereTrue opening (acts_of made) reads
+  pub are_own : own worker made ≡ acts ++ left
+  pub one_left : length left ≤ 1
+  pub none_left : v.side.current ≡ None → left ≡ []
+
+-- By these acts so far each worker has done its keys, and the cells stand for the layout of the set after the keys of the acts,
+-- in their order, each of which is done by its act, and told by whether that changes a cell. Each is a key of a worker; and
+-- each key that is done shows.
+pub record StandsSo (kind : Kind) (z : Shape) (opening words : List ℕ) (keep : ℕ → View) (keys done : ℕ → List ℕ) (told : ℕ → List Bool) (S : Keys) (before now : List Made) : Type 0 where
+  pub acts : ActsSoFar z opening words keep before now
+  pub did : (v : ℕ) → v < z.workers → DidSo kind z opening (before ++ now) v (keep v) (done v) (told v)
   pub so_far : List ℕ
-  pub meet : AllMeet acts opening
-  pub cells : cells_now z words ≡ apply_acts acts opening
-  pub each : IsDone kind z.bits [] so_far acts []
+  pub each : IsDone kind z.bits [] so_far (acts_of (before ++ now)) (map changes (acts_of (before ++ now)))
   pub among : (k : ℕ) → Contains so_far k → (v : ℕ) × (v < z.workers) × Contains (keys v) k
   pub layout : Layout (cells_now z words) z.bits (set_after kind S so_far)
   pub shows : (v k : ℕ) → v < z.workers → Contains (done v) k → Shows kind (set_after kind S so_far) k
@@ -139,7 +162,7 @@ RunMoment = (kind : Kind) (z : Shape) (opening words : List ℕ) (keep : ℕ →
     (run : Running kind z opening words keep keys done told)
     → IsShape z → Layout opening z.bits S
     → ((v k : ℕ) → v < z.workers → Contains (keys v) k → Contains all k) → LeavesRoom kind z.bits S all
-    → StandsSo kind z opening words keys done S (acts_of (run.before ++ history run.world))
+    → StandsSo kind z opening words keep keys done told S run.before (history run.world)
 
 -- Where keys are asked for, each is answered by whether the first set holds it: no act changes a cell.
 abbrev pub RunAnswers : Type 0
@@ -151,7 +174,7 @@ RunAnswers = (kind : Kind) (z : Shape) (opening words : List ℕ) (keep : ℕ �
 -- The workers have made what one worker makes of this list: the layout of the same set, and the same tally.
 pub record EndsSo (kind : Kind) (z : Shape) (words : List ℕ) (told : ℕ → List Bool) (S : Keys) (list : List ℕ) : Type 0 where
   pub layout : Layout (cells_held z words) z.bits (set_after kind S list)
-  pub tally : sum_of_all (λ v. tally_told kind (told v)) z.workers ≡ tally_of kind S list
+  pub tally : sum_of_all (λ v. counted kind (told v)) z.workers ≡ tally_of kind S list
 
 -- Where each worker has done its list, and all are at rest.
 abbrev pub RunEnds : Type 0

@@ -1,16 +1,20 @@
--- What the words of a table tell: what its cells stand for and what they hold, and that its rows were wiped. (own)
-use Rattle.std.specs.Prelude.{ℕ, zero, suc, ◌+◌, ◌≡◌, ◌<◌, ◌≤◌, ◌==◌, cond, Option, Some, None, List, length, slice_index}
+-- What the words of a table tell: what its cells stand for and what they hold, which descriptors are acts, and that its rows
+-- were wiped. (own)
+use Rattle.std.specs.Prelude.{ℕ, zero, suc, ◌+◌, ◌≡◌, ◌<◌, ◌≤◌, ◌==◌, cond, Option, Some, None, List, filter, length, map, reverse, slice_index}
 use Rattle.rh_world.specs.World.{Cell, Ref}
 use Rattle.rh_world.specs.World.Cell.{plain, mark, desc}
+use Rattle.rh_world.specs.Acts.{is_success}
 use Rattle.rh_world.specs.Logical.{entry_value}
 use Rattle.rh_descriptor.specs.declared.shape.Shape.{Shape}
 use Rattle.rh_descriptor.specs.declared.shape.Part.TheVariants as part
 use Rattle.rh_descriptor.specs.Places.{cell_count}
+use Rattle.rh_descriptor.specs.View.{View}
 use Rattle.rh_descriptor.specs.Words.{cell_in, desc_in, read_control}
 use Rattle.rh_descriptor.specs.Steps.{IsDesc, IsMark}
 use Rattle.rh_rule.specs.Mirrors.{word_at}
 use Rattle.rh_rule.specs.Wipes.{row_total}
-use Rattle.rh_history.specs.History.{cells_of}
+use Rattle.rh_acts.specs.Act.{Act}
+use Rattle.rh_history.specs.History.{act_of, cells_of}
 
 -- ---- what a cell stands for
 
@@ -76,3 +80,10 @@ pub record IsWiped (z : Shape) (words then : List ℕ) : Type 0 where
   pub cells : (c : ℕ) → c < cell_count z → slice_index then c ≡ slice_index words c
   pub rows : (i : ℕ) → i < row_total z → slice_index then (cell_count z + i) ≡ 0
   pub counter : word_at z then part.Counter ≡ word_at z words part.Counter
+
+-- ---- acts
+
+-- of the descriptors that a worker opened in this round, those whose control stands Succeeded, as acts, the oldest first
+abbrev pub succeeded_now : Shape → (words : List ℕ) → View → List Act
+succeeded_now z words v =
+    reverse (map (λ o. act_of o.entries) (filter (λ o. is_success (read_control (word_at z words (part.Control v.worker o.number)))) v.opened))

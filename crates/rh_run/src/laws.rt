@@ -23,8 +23,9 @@ pub fn run_goes_on()
     ensures alike { RunsAlike }
 {}
 
-/// At each moment the cells stand for the layout of the set after the keys of the acts so far, the
-/// words alone tell what they stand for, and what was asked for is answered from the first set.
+/// At each moment the cells stand for the layout of the set after the keys of the acts so far, which
+/// are those of the descriptors that succeeded, and by which each worker has done its keys; the words
+/// alone tell what the cells stand for; and what was asked for is answered from the first set.
 pub fn run_stands()
     ensures words { LogicalWords }
     ensures inside { WordsLeadInside }

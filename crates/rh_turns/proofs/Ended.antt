@@ -17,10 +17,9 @@ use Rattle.rh_descriptor.specs.View.{View, new_view}
 use Rattle.rh_rule.specs.Core.{Core}
 use Rattle.rh_rule.specs.Rest.{AllRest}
 use Rattle.rh_rule.proofs.Telling.{rests}
-use Rattle.rh_acts.specs.Workers.{LeavesRoom, joined, piece, sum_of_all}
+use Rattle.rh_acts.specs.Workers.{LeavesRoom, counted, joined, piece, sum_of_all, tally_by}
 use Rattle.rh_run.specs.Claimed.{FoundEnd, claimed}
 use Rattle.rh_run.specs.Laws.{EndsSo}
-use Rattle.rh_run.specs.Run.{tally_by, tally_told}
 use Rattle.rh_run.specs.Words.{cells_held, cells_now, logical_word}
 use Rattle.rh_run.proofs.Ending.{run_ends, same_sums}
 use Rattle.rh_run.proofs.Saying.{logical_words}
@@ -144,7 +143,7 @@ module _ (g : Game) (plays : Plays g) (finished : AllFinished g) where
   -- each worker counts its keys as it was told of them
   tally_is : {list : List ℕ} → EndsSo g.kind z g.words plays.told S list → sum_of_all (λ v. tally_by g.kind (length (places_at g v)) (changed_at g v)) z.workers ≡ tally_of g.kind S list
   tally_is ends =
-      same_sums (λ v. tally_by g.kind (length (places_at g v)) (changed_at g v)) (λ v. tally_told g.kind (plays.told v)) z.workers
+      same_sums (λ v. tally_by g.kind (length (places_at g v)) (changed_at g v)) (λ v. counted g.kind (plays.told v)) z.workers
       (λ v mine i. tally_by g.kind (sym (told_size g plays v mine) i) (plays.changed v mine i)) ∙ ends.tally
 
   -- an answer is that of its key

@@ -29,7 +29,6 @@ use Rattle.rh_run.specs.Claimed.{claimed}
 use Rattle.rh_run.proofs.Saying.{logical_words, words_lead_inside}
 use Rattle.rh_run.proofs.Standing.{run_moment}
 use Rattle.rh_run.specs.Laws.{StandsSo}
-use Rattle.rh_acts.specs.Workers.{acts_of}
 use Rattle.rh_history.specs.History.{history}
 use Rattle.rh_turns.specs.declared.hand.Hand.{Hand}
 use Rattle.rh_turns.specs.declared.hand.Share.{Share}
@@ -200,5 +199,5 @@ module _ (g : Game) (plays : Plays g) where
       (subst (λ (l : List ℕ). Contains l k) (at_hand_is (keys_for g.keys) [] g.hands v some_hand (in_hands v mine)) has)
 
   -- at each moment the cells stand for the layout of the set after some of the keys
-  pub plays_moment : StandsSo g.kind z g.opening g.words (keys_at g) (done_at g) (keys_of g.opening) (acts_of (plays.running.before ++ history plays.running.world))
+  pub plays_moment : StandsSo g.kind z g.opening g.words (keep g) (keys_at g) (done_at g) plays.told (keys_of g.opening) plays.running.before (history plays.running.world)
   plays_moment = run_moment g.kind z g.opening g.words (keep g) (keys_at g) (done_at g) plays.told (keys_of g.opening) g.keys plays.running plays.shape plays.opening keys_among plays.room

@@ -9,6 +9,7 @@ use Rattle.rh_layout.specs.Layout.{Keys, keys_of}
 use Rattle.rh_ledger.specs.declared.tally.Kind.TheVariants.{Ask}
 use Rattle.rh_ledger.specs.Phase.{looked_up}
 use Rattle.rh_descriptor.specs.declared.shape.Shape.{Shape}
+use Rattle.rh_acts.proofs.Told.{as_many_told}
 use Rattle.rh_run.specs.Claimed.{claimed}
 use Rattle.rh_run.proofs.Answering.{run_answers}
 use Rattle.rh_turns.specs.declared.hand.Hand.{Hand}
@@ -40,7 +41,7 @@ module _ (g : Game) (plays : Plays g) where
       ∙ ap (map (slice_index g.keys)) (sym (at_hand_is (places z) [] g.hands v d (in_hands g plays v mine)))
 
   pub told_size : (v : ℕ) → v < z.workers → length (plays.told v) ≡ length (places_at g v)
-  told_size v mine = (plays.running.doing v mine).so_far.size ∙ ap length (done_are v mine) ∙ length-map (places_at g v) (slice_index g.keys)
+  told_size v mine = as_many_told g.kind z.bits _ (done_at g v) _ (plays.told v) (plays.running.doing v mine).so_far ∙ ap length (done_are v mine) ∙ length-map (places_at g v) (slice_index g.keys)
 
   done_counted : (v : ℕ) (d : Hand) → v < z.workers → length (places_at g v) ≡ (get_or g.hands v d).done
   done_counted v d mine =
@@ -66,8 +67,8 @@ module _ (g : Game) (plays : Plays g) where
   told_at_place asks p done =
       subst (λ (q : ℕ). slice_index_or g.answers q None ≡ Some (contains S (slice_index g.keys q))) done.4 (told_so asks done.0 done.1 done.2 done.3)
 
-  pub plays_tells : TellsSo g
-  plays_tells = record { counts = done_counted; answers = told_at_place; unanswered = plays.unanswered }
+  pub plays_tells : TellsSo g plays.told
+  plays_tells = record { counts = done_counted; changed = plays.changed; stands = plays.answered; answers = told_at_place; unanswered = plays.unanswered }
 
 -- ---- whether a key is done
 

@@ -1,12 +1,12 @@
 -- A player, as its calls see it: the table, the keys, and the workers with what each has done of them. (own)
-use Rattle.std.specs.Prelude.{zero, suc, ◌≡◌, ℕ, ◌<◌, ◌≤◌, ◌⊎◌, Option, Some, None, Bool, false, List, [], ◌∷◌, length, slice_index, slice_index_or, count_by, All}
+use Rattle.std.specs.Prelude.{zero, suc, ◌≡◌, ℕ, ◌<◌, ◌≤◌, ◌⊎◌, Option, Some, None, Bool, false, List, [], ◌∷◌, length, slice_index, slice_index_or, All}
 use Rattle.rh_layout.specs.Key.{IsKey}
 use Rattle.rh_layout.specs.Layout.{IsLayout, keys_of}
 use Rattle.rh_ledger.specs.declared.tally.Kind.{Kind}
 use Rattle.rh_descriptor.specs.declared.shape.Shape.{Shape}
 use Rattle.rh_descriptor.specs.Places.{IsShape}
 use Rattle.rh_descriptor.specs.View.{View, new_view}
-use Rattle.rh_acts.specs.Workers.{LeavesRoom}
+use Rattle.rh_acts.specs.Workers.{LeavesRoom, how_many}
 use Rattle.rh_run.specs.Run.{Running}
 use Rattle.rh_turns.specs.declared.hand.Hand.{Hand}
 use Rattle.rh_turns.specs.declared.hand.Share.TheVariants.{Piece}
@@ -74,7 +74,7 @@ pub record Plays (g : Game) : Type 0 where
   -- what the workers were told of the keys that they have done
   pub told : ℕ → List Bool
   pub running : Running g.kind g.shape g.opening g.words (keep g) (keys_at g) (done_at g) told
-  pub changed : (v : ℕ) → v < g.shape.workers → changed_at g v ≡ count_by (λ so. so) (told v)
+  pub changed : (v : ℕ) → v < g.shape.workers → changed_at g v ≡ how_many (told v)
   pub answered : (v j : ℕ) → v < g.shape.workers → j < length (told v)
       → slice_index_or g.answers (slice_index (places_at g v) j) None ≡ Some (slice_index_or (told v) j false)
   pub unanswered : (p : ℕ) → (IsDoneAt g p → ⊥) → slice_index_or g.answers p None ≡ None

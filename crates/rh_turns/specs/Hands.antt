@@ -10,7 +10,7 @@ use Rattle.rh_descriptor.specs.View.{View}
 use Rattle.rh_descriptor.specs.Steps.{Allowed, Step, StepsTo}
 use Rattle.rh_worker.specs.Makes.{Makes}
 use Rattle.rh_run.specs.Advance.{Advances}
-use Rattle.rh_worker.specs.Worker.{HasNoRoom, IsWorker}
+use Rattle.rh_worker.specs.Worker.{GivesUp, HasNoRoom, IsWorker}
 use Rattle.rh_worker.specs.declared.place.Place.TheVariants as place
 use Rattle.rh_run.specs.Claimed.{claimed, FoundEnd}
 use Rattle.rh_turns.specs.declared.hand.Hand.{Hand}
@@ -116,7 +116,8 @@ abbrev pub answered : (answers : List (Option Bool)) → (place : ℕ) → Optio
 answered answers place None = answers
 answered answers place (Some told) = set answers place (Some told)
 
--- One step of this kind on the next key of a worker that is not spent; the key is done by it or is not.
+-- One step of this kind on the next key of a worker that is not spent; the key is done by it or is not. With the step that
+-- closes a descriptor which the worker had withdrawn it is spent.
 pub record StepsOn (z : Shape) (keys : List ℕ) (k : StepKind) (words : List ℕ) (answers : List (Option Bool)) (h : Hand) (then : List ℕ) (told : List (Option Bool)) (next : Hand) : Type 0 where
   pub unspent : IsSpent h → ⊥
   pub next_key : HasNext h.share h.done
@@ -124,6 +125,7 @@ pub record StepsOn (z : Shape) (keys : List ℕ) (k : StepKind) (words : List �
   pub makes : Makes z k words (view_of h) then (view_of next)
   pub done : Option Bool
   pub advances : Advances z h.worker.kind (slice_index keys (place_now h)) (view_of h) (view_of next) done
+  pub gives_up : GivesUp (view_of h) (view_of next) → IsSpent next
   pub share : next.share ≡ h.share
   pub counts : counted h done next
   pub told_is : told ≡ answered answers (place_now h) done

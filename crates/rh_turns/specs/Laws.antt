@@ -12,12 +12,11 @@ use Rattle.rh_descriptor.specs.Places.{IsShape, cell_count}
 use Rattle.rh_descriptor.specs.View.{new_view, round_view}
 use Rattle.rh_rule.specs.Rest.{AllRest}
 use Rattle.rh_rule.specs.Wipes.{row_total}
-use Rattle.rh_acts.specs.Workers.{LeavesRoom, acts_of, sum_of_all}
+use Rattle.rh_acts.specs.Workers.{LeavesRoom, how_many, sum_of_all, tally_by}
 use Rattle.rh_helping.specs.Relies.{Relies}
 use Rattle.rh_worker.specs.Worker.{IsBusy, IsWorker}
 use Rattle.rh_history.specs.History.{history}
 use Rattle.rh_run.specs.Laws.{StandsSo}
-use Rattle.rh_run.specs.Run.{tally_by}
 use Rattle.rh_run.specs.Words.{IsWiped, cells_held, cells_now}
 use Rattle.rh_turns.specs.declared.hand.Hand.{Hand}
 use Rattle.rh_turns.specs.declared.hand.Share.TheVariants.{Claims}
@@ -105,20 +104,23 @@ RoundsKeep = (g : Game) → Plays g → AllStopped g → AllRest g.shape (keep g
 
 -- ---- what was made
 
--- What is counted and told of the keys that are done. Where keys are asked for, it is told of each whether the first set
--- holds it; of a key that is not done nothing is told.
-pub record TellsSo (g : Game) : Type 0 where
+-- What is counted of the keys that are done, and what stands at their places, where each worker was told this of its keys.
+-- Where keys are asked for, it is told of each whether the first set holds it; of a key that is not done nothing is told.
+pub record TellsSo (g : Game) (told : ℕ → List Bool) : Type 0 where
   pub counts : (v : ℕ) (d : Hand) → v < g.shape.workers → length (places_at g v) ≡ (hand g v d).done
+  pub changed : (v : ℕ) → v < g.shape.workers → changed_at g v ≡ how_many (told v)
+  pub stands : (v j : ℕ) → v < g.shape.workers → j < length (told v)
+      → slice_index_or g.answers (slice_index (places_at g v) j) None ≡ Some (slice_index_or (told v) j false)
   pub answers : g.kind ≡ Ask → (p : ℕ) → IsDoneAt g p → slice_index_or g.answers p None ≡ Some (contains (keys_of g.opening) (slice_index g.keys p))
   pub unanswered : (p : ℕ) → (IsDoneAt g p → ⊥) → slice_index_or g.answers p None ≡ None
 
 -- At each moment the words tell what the cells stand for: the layout of the set after the keys of the acts so far, in their
--- order, and each key that is done shows in it.
+-- order. By these acts each worker has done its keys, and was told of each; and each key that is done shows in the set.
 abbrev pub MadeSoFar : Type 0
 MadeSoFar = (g : Game) → (plays : Plays g) → ((c : ℕ) → c < cell_count g.shape → IsReadable g.shape g.words c)
-    × StandsSo g.kind g.shape g.opening g.words (keys_at g) (done_at g) (keys_of g.opening)
-    (acts_of (plays.running.before ++ history plays.running.world))
-    × TellsSo g
+    × StandsSo g.kind g.shape g.opening g.words (keep g) (keys_at g) (done_at g) plays.told (keys_of g.opening)
+    plays.running.before (history plays.running.world)
+    × TellsSo g plays.told
 
 -- Where all keys are done, the cells, the tally and the answers are those of one worker that does the whole list.
 pub record EndsWith (g : Game) : Type 0 where

@@ -17,7 +17,9 @@ use Rattle.rh_helping.specs.declared.work.Outcome.TheVariants.{Closed}
 use Rattle.rh_helping.specs.Goal.{KnowsOwn, own_ref}
 use Rattle.rh_helping.specs.Settling.{HasMade}
 use Rattle.rh_helping.specs.Work.{Leads}
-use Rattle.rh_worker.specs.Worker.{IsAbout}
+use Rattle.rh_worker.specs.Worker.{GivesUp, IsAbout}
+use Rattle.rh_rule.specs.Sound.{Sound}
+use Rattle.rh_world.specs.World.Control.{withdrawn}
 use Rattle.rh_run.specs.Advance.{Fails, Succeeds}
 use Rattle.rh_descriptor.specs.declared.shape.Shape.{Shape}
 use Rattle.rh_descriptor.specs.View.{OwnDesc, View}
@@ -87,3 +89,14 @@ module _ (z : Shape) (kp : StepKind) (words : List ℕ) (v : View) (then : List 
 
   pub swap_fails : is_success (control_of k) ≡ false → Fails v next
   swap_fails in_vain = record { own = about.own; control = control_of k; closes = closes; opened = made.opened; before = before; in_vain = in_vain }
+
+  -- one that was withdrawn is closed as withdrawn
+  pub swap_gives_up : Sound z v → GivesUp v next → control_of k ≡ withdrawn
+  swap_gives_up sound gives =
+      let numbers : Some number ≡ Some gives.own.number = sym knows.current ∙ gives.closes.current in
+      let same : gives.own.number ≡ about.own.number = let n : number ≡ gives.own.number = cc in sym n ∙ sym about.number_is in
+      sound.one_result (own_ref v about.own.number) (control_of k) withdrawn before (subst (λ (n : ℕ). In (decided (own_ref v n) withdrawn) v.side.notes) same gives.before)
+
+-- what is still open is not given up
+pub still_open : (v next : View) (number : ℕ) → next.side.current ≡ Some number → GivesUp v next → ⊥
+still_open v next number is gives = let e : None ≡ Some number = sym gives.closes.closed ∙ is in cc

@@ -5,6 +5,7 @@ use Rattle.std.proofs.lemmas.List.Elements.{Contains-get_or}
 use Rattle.rh_tagword.specs.Word.{plain_number, tag_of}
 use Rattle.rh_ledger.specs.declared.tally.Kind.{Kind}
 use Rattle.rh_ledger.specs.declared.tally.Kind.TheVariants.{Insert, Remove, Ask}
+use Rattle.rh_acts.specs.Done.{Does}
 use Rattle.rh_acts.specs.declared.entry.Entry.{Entry}
 use Rattle.rh_acts.specs.Act.{IsRising}
 use Rattle.rh_world.specs.World.{In, Ref}
@@ -23,7 +24,6 @@ use Rattle.rh_helping.specs.declared.work.Work.TheVariants as work
 use Rattle.rh_worker.specs.declared.place.Plan.{Plan}
 use Rattle.rh_worker.specs.declared.place.Place.TheVariants as place
 use Rattle.rh_worker.specs.declared.sights.Sights.{Sights}
-use Rattle.rh_run.specs.Advance.{Does}
 use Rattle.rh_worker.specs.Sights.{AreFit, own_entries, own_entry}
 use Rattle.rh_worker.specs.Worker.{Stays}
 use Rattle.rh_run.specs.Advance.{Opens}

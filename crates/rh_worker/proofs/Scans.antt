@@ -8,7 +8,7 @@ use Rattle.rh_ledger.specs.declared.tally.Kind.{Kind}
 use Rattle.rh_ledger.specs.declared.tally.Kind.TheVariants.{Insert, Remove, Ask}
 use Rattle.rh_world.proofs.Updated.{same_nat}
 use Rattle.rh_acts.specs.declared.entry.Entry.{Entry}
-use Rattle.rh_acts.specs.Done.{Kept, kept}
+use Rattle.rh_acts.specs.Done.{IsTold, Kept, kept}
 use Rattle.rh_history.specs.History.{kept_of}
 use Rattle.rh_descriptor.specs.declared.shape.Shape.{Shape}
 use Rattle.rh_descriptor.specs.Places.{cell_count}
@@ -17,10 +17,9 @@ use Rattle.rh_worker.specs.declared.sights.Sights.{Sights}
 use Rattle.rh_worker.specs.declared.sights.Decision.TheVariants.{Done}
 use Rattle.rh_worker.specs.Sights.{Decides}
 use Rattle.rh_worker.specs.Worker.{HasSeen, WereRead}
-use Rattle.rh_run.specs.Advance.{IsTold}
 
 pub told_is : (kind : Kind) (z : Shape) (v : View) (k : ℕ) (seen : List ℕ) (entries : List Entry) (told : Bool) → length seen ≤ cell_count z → WereRead z v k seen
-    → Decides kind z.bits k seen entries (Done told) → IsTold kind z v k told
+    → Decides kind z.bits k seen entries (Done told) → IsTold kind z.bits (kept_of z v) k told
 told_is Insert z v k seen entries told room read d =
     let c = place_after (cell_count z) (home_of z.bits k) d.1.0 in
     (d.0, (c, subst (λ (x : ℕ). Contains (kept_of z v) (kept c x)) d.1.1.2 (read d.1.0 d.1.1.0)))

@@ -1,9 +1,8 @@
 -- What the steps of a worker make of its own acts, and how its keys are done. (own)
-use Rattle.std.specs.Prelude.{◌≡◌, ℕ, Option, Some, None, Bool, cond, List, [], ◌∷◌, ◌++◌}
+use Rattle.std.specs.Prelude.{◌≡◌, ℕ, Option, Some, None, Bool, List, ◌++◌}
 use Rattle.rh_ledger.specs.declared.tally.Kind.{Kind}
 use Rattle.rh_acts.specs.Act.{Act}
 use Rattle.rh_acts.specs.Done.{KeyDone}
-use Rattle.rh_acts.specs.Workers.{counted}
 use Rattle.rh_descriptor.specs.declared.shape.Shape.{Shape}
 use Rattle.rh_descriptor.specs.declared.steps.StepKind.{StepKind}
 use Rattle.rh_descriptor.specs.View.{View}
@@ -11,16 +10,13 @@ use Rattle.rh_rule.specs.Sound.{Sound}
 use Rattle.rh_history.specs.History.{kept_of, own_acts_of}
 use Rattle.rh_history.specs.OwnActs.{Orderly}
 use Rattle.rh_run.specs.Advance.{Advances}
-use Rattle.rh_run.specs.Run.{tally_by}
 use Rattle.rh_worker.specs.Makes.{Makes}
 
--- The key is done by the next own acts and with the next answers, and is counted so.
+-- The key is done by the next own acts, and what is told of it follows from them, or from what was read.
 pub record KeyIsDone (z : Shape) (kind : Kind) (k : ℕ) (v next : View) (told : Bool) : Type 0 where
   pub acts : List Act
-  pub answers : List Bool
   pub own : own_acts_of next ≡ own_acts_of v ++ acts
-  pub done : KeyDone kind z.bits (kept_of z next) k acts answers
-  pub counts : counted kind (k ∷ []) acts answers ≡ tally_by kind 1 (cond told 1 0)
+  pub done : KeyDone kind z.bits (kept_of z next) k acts told
 
 -- in a step of a worker that is in order, with what is sound after it
 abbrev pub AfterStep : (z : Shape) (v next : View) (kind : Kind) (k : ℕ) (done : Option Bool) → Type 0

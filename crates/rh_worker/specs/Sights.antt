@@ -6,11 +6,11 @@ use Rattle.rh_probe.specs.Look.{Finds}
 use Rattle.rh_probe.specs.declared.answer.Look.TheVariants as look
 use Rattle.rh_ledger.specs.declared.tally.Kind.{Kind}
 use Rattle.rh_ledger.specs.declared.tally.Kind.TheVariants.{Insert, Remove, Ask}
+use Rattle.rh_acts.specs.Done.{Does}
 use Rattle.rh_acts.specs.declared.entry.Entry.{Entry}
 use Rattle.rh_acts.specs.declared.answer.Insertion.TheVariants as insertion
 use Rattle.rh_acts.specs.declared.answer.Removal.{Removal}
 use Rattle.rh_acts.specs.declared.answer.Removal.TheVariants as removal
-use Rattle.rh_run.specs.Advance.{Does}
 use Rattle.rh_acts.specs.Decision.{Inserts, Removes}
 use Rattle.rh_descriptor.specs.declared.entry.Entry.{Entry as OwnEntry}
 use Rattle.rh_worker.specs.declared.place.Plan.{Plan}

@@ -8,7 +8,7 @@ use Rattle.rh_ledger.specs.declared.tally.Kind.{Kind}
 use Rattle.rh_world.specs.World.{In}
 use Rattle.rh_world.specs.World.Control.{withdrawn}
 use Rattle.rh_world.specs.Notes.Note.{decided, found, known}
-use Rattle.rh_acts.specs.Done.{kept}
+use Rattle.rh_acts.specs.Done.{Does, kept}
 use Rattle.rh_descriptor.specs.declared.entry.Entry.{Entry as OwnEntry}
 use Rattle.rh_descriptor.specs.declared.shape.Shape.{Shape}
 use Rattle.rh_descriptor.specs.declared.steps.StepKind.{StepKind}
@@ -22,7 +22,7 @@ use Rattle.rh_helping.specs.Goal.{KnowsOwn, OwesNothing, own_ref}
 use Rattle.rh_helping.specs.Settling.{IsSettling, kind_of_settling}
 use Rattle.rh_helping.specs.Work.{Stands, kind_of_work}
 use Rattle.rh_history.specs.History.{act_of, kept_of}
-use Rattle.rh_run.specs.Advance.{Does}
+use Rattle.rh_history.specs.OwnActs.{Closes}
 use Rattle.rh_worker.specs.Sights.{HasRoom, IsPlan, own_entries}
 use Rattle.rh_worker.specs.declared.place.Plan.{Plan}
 use Rattle.rh_worker.specs.declared.place.Place.{Place}
@@ -127,6 +127,12 @@ pub record IsAbout (z : Shape) (v : View) (kind : Kind) (k number : ℕ) (change
   pub newest : v.opened ≡ own ∷ earlier
   pub number_is : own.number ≡ number
   pub does : Does kind z.bits k changes (act_of own.entries)
+
+-- the own descriptor that was open was closed, and the worker had withdrawn it
+pub record GivesUp (v next : View) : Type 0 where
+  pub own : OwnDesc
+  pub closes : Closes v next own
+  pub before : In (decided (own_ref v own.number) withdrawn) v.side.notes
 
 -- it gave up an own descriptor
 abbrev pub HasWithdrawn : View → Type 0

@@ -7,7 +7,9 @@ ghost use Rattle.rh_worker.specs.Makes.{Makes};
 ghost use Rattle.rh_helping.specs.Relies.{Relies};
 ghost use Rattle.rh_worker.specs.Worker.{IsAt, IsWorker};
 ghost use Rattle.rh_worker.specs.declared.place.Place.TheVariants as place;
-ghost use Rattle.rh_run.specs.Advance.{GoesOn, IsTold};
+ghost use Rattle.rh_run.specs.Advance.{GoesOn};
+ghost use Rattle.rh_acts.specs.Done.{IsTold};
+ghost use Rattle.rh_history.specs.History.{kept_of};
 ghost use Rattle.rh_helping.specs.Work.{kind_of_work};
 ghost use Rattle.rh_helping.specs.Settling.{kind_of_settling};
 ghost use Rattle.rh_worker.specs.Sights.{HasRoom, IsPlan};
@@ -105,7 +107,8 @@ fn decide(worker: &mut Worker, shape: &Shape, count: usize) -> Option<bool>
     ensures same_kind { worker.new.kind ≡ worker.old.kind }
     ensures same_key { worker.new.key ≡ worker.old.key }
     ensures ends { EndsAt result worker.new.place }
-    ensures told { IfSome result (IsTold worker.old.kind shape.now worker.old.side.known.view worker.old.key) }
+    ensures told { IfSome result (IsTold worker.old.kind shape.now.bits
+        (kept_of shape.now worker.old.side.known.view) worker.old.key) }
 {
     let decision = worker
         .sights

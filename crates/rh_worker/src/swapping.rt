@@ -5,7 +5,7 @@ ghost use Rattle.rh_descriptor.specs.Places.{IsShape, word_count};
 ghost use Rattle.rh_run.specs.Advance.{Advances};
 ghost use Rattle.rh_worker.specs.Makes.{Makes};
 ghost use Rattle.rh_helping.specs.Relies.{Relies};
-ghost use Rattle.rh_worker.specs.Worker.{EndsAt, IsAt, IsWorker};
+ghost use Rattle.rh_worker.specs.Worker.{EndsAt, GivesUp, IsAt, IsWorker};
 ghost use Rattle.rh_worker.specs.declared.place.Place.TheVariants as place;
 ghost use Rattle.rh_helping.specs.Work.{kind_of_work};
 
@@ -37,6 +37,8 @@ pub(crate) fn swap(
     ensures advances { Advances shape.now worker.old.kind worker.old.key worker.old.side.known.view
         worker.new.side.known.view result }
     ensures ends { EndsAt result worker.new.place }
+    ensures gives_up { GivesUp worker.old.side.known.view worker.new.side.known.view →
+        worker.new.place ≡ place.Spent }
 {
     match work.step(shape, words, &mut worker.side, Some(number)) {
         Outcome::On(work) => {

@@ -11,7 +11,7 @@ ghost use Rattle.rh_descriptor.specs.Steps.Step.{claims};
 ghost use Rattle.rh_run.specs.Advance.{Advances};
 ghost use Rattle.rh_worker.specs.Makes.{Makes};
 ghost use Rattle.rh_helping.specs.Relies.{Relies};
-ghost use Rattle.rh_worker.specs.Worker.{EndsAt, IsBusy, IsWorker};
+ghost use Rattle.rh_worker.specs.Worker.{EndsAt, GivesUp, IsBusy, IsWorker};
 ghost use Rattle.rh_worker.specs.declared.place.Place.TheVariants as place;
 
 use crate::place::Place;
@@ -131,7 +131,7 @@ impl Worker {
         }
     }
 
-    /// Makes the next step.
+    /// Makes the next step. With the one by which it gives up a key it is spent.
     pub fn step(&mut self, shape: &Shape, words: &mut [u64]) -> Stepped
         requires shape { IsShape shape.now }
         requires sized { length words.old ≡ word_count shape.now }
@@ -146,6 +146,8 @@ impl Worker {
         ensures advances { Advances shape.now self.old.kind self.old.key self.old.side.known.view
             self.new.side.known.view result.done }
         ensures ends { EndsAt result.done self.new.place }
+        ensures gives_up { GivesUp self.old.side.known.view self.new.side.known.view →
+            self.new.place ≡ place.Spent }
     {
         let place = self.place;
         let kind = place.kind();

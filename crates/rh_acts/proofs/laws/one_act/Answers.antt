@@ -1,5 +1,5 @@
 use Rattle.rh_acts.proofs.OneAct.{insert_act, remove_act, absence_act}
-use Rattle.rh_acts.proofs.Told.{remove_changes, absence_changes}
+use Rattle.rh_acts.proofs.Told.{does_told}
 use Rattle.rh_acts.proofs.laws.one_act.Goals as goal
 
 pub returns-clause-insert : goal.returns-clause-insert
@@ -12,4 +12,4 @@ pub returns-clause-absence : goal.returns-clause-absence
 returns-clause-absence c = absence_act
 
 pub returns-clause-told : goal.returns-clause-told
-returns-clause-told c b k act = (remove_changes b k act, absence_changes b k act)
+returns-clause-told c = does_told

@@ -1,3 +1,4 @@
+use Rattle.rh_history.proofs.Succeeding.{own_so_far}
 use Rattle.rh_history.proofs.Finishing.{steps_finish}
 use Rattle.rh_history.proofs.Ordered.{kept_is_orderly}
 use Rattle.rh_history.proofs.laws.own_acts.Goals as goal
@@ -7,3 +8,6 @@ returns-clause-steps c = steps_finish
 
 pub returns-clause-kept : goal.returns-clause-kept
 returns-clause-kept c = kept_is_orderly
+
+pub returns-clause-so_far : goal.returns-clause-so_far
+returns-clause-so_far c = own_so_far

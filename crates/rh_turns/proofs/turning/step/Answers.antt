@@ -39,6 +39,7 @@ returns-in-Some-clause-steps c =
       done = Some c.in-Some.told;
       advances = subst (λ (k : ℕ). Advances c.args.shape.now h.worker.kind k h.worker.side.known.view c.step-stepped.new.self.side.known.view (Some c.in-Some.told)) (sym at.key)
           (subst (λ (d : Option Bool). Advances c.args.shape.now h.worker.kind h.worker.key h.worker.side.known.view c.step-stepped.new.self.side.known.view d) c.in-Some.is c.step-stepped.ensures.advances);
+      gives_up = c.step-stepped.ensures.gives_up;
       share = refl;
       counts = (refl, ap (λ (n : ℕ). h.changed + n) (c.from.ensures ∙ byte_is c.in-Some.told));
       told_is = ap (λ (p : ℕ). set c.args.answers.now p (Some c.in-Some.told)) c.place-place.ensures;
@@ -56,6 +57,7 @@ returns-in_default-clause-steps c =
       done = None;
       advances = subst (λ (k : ℕ). Advances c.args.shape.now h.worker.kind k h.worker.side.known.view c.step-stepped.new.self.side.known.view None) (sym at.key)
           (subst (λ (d : Option Bool). Advances c.args.shape.now h.worker.kind h.worker.key h.worker.side.known.view c.step-stepped.new.self.side.known.view d) c.in_default.is c.step-stepped.ensures.advances);
+      gives_up = c.step-stepped.ensures.gives_up;
       share = refl;
       counts = (refl, refl);
       told_is = refl;

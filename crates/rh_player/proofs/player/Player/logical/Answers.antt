@@ -8,8 +8,8 @@ use Rattle.rh_run.specs.Words.{cells_now, logical_word}
 use Rattle.rh_turns.specs.Game.{Game, Plays}
 use Rattle.rh_turns.specs.Readable.{IsReadable}
 use Rattle.rh_turns.proofs.Ended.{plays_ends}
-use Rattle.rh_turns.proofs.Playing.{plays_moment, plays_readable}
-use Rattle.rh_player.proofs.Showing.{all_values, values_more}
+use Rattle.rh_turns.proofs.Playing.{plays_readable}
+use Rattle.rh_player.proofs.Showing.{all_values, so_far, values_more}
 use Rattle.rh_player.proofs.player.Player.logical.Goals as goal
 
 pub logical_value-requires-clause-readable : goal.logical_value-requires-clause-readable
@@ -34,7 +34,7 @@ returns-clause-so_far c =
     let g = c.args.self.now in
     let plays : Plays g = subst Plays c.self.view_is c.self.invariant in (
       all_values g.shape g.words c.loop-cell.cells (c.loop-cell.invariant.size ∙ c.requires) (λ n inside. c.loop-cell.invariant.done n (omega (arith, inside, c.loop-cell-test.false, c.requires))),
-      (_, plays_moment g plays),
+      so_far g plays,
     )
 
 pub returns-clause-finished : goal.returns-clause-finished

@@ -3,7 +3,7 @@ use Rattle.rh_layout.specs.Layout.{IsLayout, keys_of}
 use Rattle.rh_acts.specs.Workers.{LeavesRoom}
 use Rattle.rh_descriptor.specs.declared.shape.Shape.{Shape}
 use Rattle.rh_descriptor.specs.Places.{IsShape}
-use Rattle.rh_player.specs.Made.{counted}
+use Rattle.rh_player.specs.Made.{cut}
 use Rattle.rh_player.specs.Start.{shape_for}
 use Rattle.rh_player.proofs.Setting.{will_claim}
 use Rattle.rh_player.proofs.Starting.{has_room, is_shape, no_fault}
@@ -11,7 +11,7 @@ use Rattle.rh_player.proofs.player.Player.share_with_rooms.Goals as goal
 
 pub set_up-requires-clause-shape : goal.set_up-requires-clause-shape
 set_up-requires-clause-shape c =
-    let all : length c.args.keys.now ≡ counted (length c.args.keys.now) = search rules in
+    let all : length c.args.keys.now ≡ cut (length c.args.keys.now) = search rules in
     let small : c.len.result < 2 ^ 63 = omega (arith, c.len.ensures, c.in_ok-keys.keys.ok, c.in_ok-keys.keys.small) in
     subst IsShape (sym c.shape_for-shape.ensures)
     (is_shape c.args.kind c.args.bits c.args.cells.now c.args.workers c.args.keys.now (c.in_ok-test_table.ensures.tests c.args.keys.now all) c.in_ok-test_table.ensures.layout
@@ -22,14 +22,14 @@ set_up-requires-clause-opening c = subst (λ (z : Shape). IsLayout z.bits c.args
 
 pub set_up-requires-clause-room : goal.set_up-requires-clause-room
 set_up-requires-clause-room c =
-    let all : length c.args.keys.now ≡ counted (length c.args.keys.now) = search rules in
+    let all : length c.args.keys.now ≡ cut (length c.args.keys.now) = search rules in
     subst (λ (keys : List ℕ). LeavesRoom c.args.kind c.shape_for-shape.result.bits (keys_of c.args.cells.now) keys) (sym (c.in_ok-keys.ensures.items_if_clones_equal (λ x y e. e)))
     (subst (λ (z : Shape). LeavesRoom c.args.kind z.bits (keys_of c.args.cells.now) c.args.keys.now) (sym c.shape_for-shape.ensures)
     (has_room c.args.kind c.args.bits c.args.cells.now c.args.workers c.args.keys.now (c.in_ok-test_table.ensures.tests c.args.keys.now all) c.in_ok-test_table.ensures.layout))
 
 pub returns : goal.returns
 returns c =
-    let all : length c.args.keys.now ≡ counted (length c.args.keys.now) = search rules in
+    let all : length c.args.keys.now ≡ cut (length c.args.keys.now) = search rules in
     let start = c.in_ok-set_up.ensures.start in
     let keys_are = c.in_ok-keys.ensures.items_if_clones_equal (λ x y e. e) in
     let shared : c.len.result ≡ length c.args.keys.now = c.len.ensures ∙ c.in_ok-keys.keys.ok.0 ∙ ap length keys_are in (

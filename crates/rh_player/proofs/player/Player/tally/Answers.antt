@@ -1,10 +1,10 @@
-use Rattle.std.proofs.Common.{◌≡◌, ◌∙◌, ◌<◌, List, length, map, take, ap, subst, arith}
+use Rattle.std.proofs.Common.{◌≡◌, ◌∙◌, ◌<◌, List, length, map, take, sym, ap, subst, arith}
 use Rattle.std.proofs.lemmas.List.{take_all}
 use Rattle.rh_turns.specs.declared.hand.Hand.{Hand}
 use Rattle.rh_turns.specs.Game.{Game, Plays}
-use Rattle.rh_run.specs.Run.{tally_by}
-use Rattle.rh_player.specs.Made.{counted, total}
-use Rattle.rh_player.proofs.Totals.{counted_next, counts_exactly, done_is, tally_ends}
+use Rattle.rh_acts.specs.Workers.{tally_by}
+use Rattle.rh_player.specs.Made.{TalliesSo, cut, total}
+use Rattle.rh_player.proofs.Totals.{counted_next, counts_exactly, done_is, tallies, tally_ends}
 use Rattle.rh_player.proofs.player.Player.tally.Goals as goal
 
 pub loop-hand-preserved : goal.loop-hand-preserved
@@ -25,9 +25,14 @@ returns-clause-counts c =
     let plays : Plays g = subst Plays c.self.view_is c.self.invariant in
     let size = ap (λ (g : Game). length g.keys) c.self.view_is in
     let exact = counts_exactly g plays (omega (arith, size, c.self.inside.keys.ok, c.self.inside.keys.small)) in
-    let done = c.loop-hand.invariant.done ∙ ap (λ (hs : List Hand). counted (total (map (λ h. h.done) hs))) hands_are ∙ ap counted (done_is g plays) ∙ exact.0 in
-    let changed = c.loop-hand.invariant.changed ∙ ap (λ (hs : List Hand). counted (total (map (λ h. h.changed) hs))) hands_are ∙ exact.1 in
+    let done = c.loop-hand.invariant.done ∙ ap (λ (hs : List Hand). cut (total (map (λ h. h.done) hs))) hands_are ∙ ap cut (done_is g plays) ∙ exact.0 in
+    let changed = c.loop-hand.invariant.changed ∙ ap (λ (hs : List Hand). cut (total (map (λ h. h.changed) hs))) hands_are ∙ exact.1 in
     c.tally_by.ensures ∙ (λ i. tally_by (kind_is i) (done i) (changed i))
+
+pub returns-clause-so_far : goal.returns-clause-so_far
+returns-clause-so_far c =
+    let g = c.args.self.now in
+    subst (TalliesSo g) (sym (returns-clause-counts c)) (tallies g (subst Plays c.self.view_is c.self.invariant))
 
 pub returns-clause-finished : goal.returns-clause-finished
 returns-clause-finished c = λ finished. returns-clause-counts c ∙ tally_ends c.args.self.now (subst Plays c.self.view_is c.self.invariant) finished
