@@ -1,3 +1,4 @@
+pub mod Taking
 pub mod Spelled
 pub mod Reading
 pub mod Steps

@@ -1,4 +1,5 @@
 pub mod Counting
+pub mod Taking
 pub mod KeyFile
 pub mod Reading
 pub mod Source

@@ -4,6 +4,7 @@ ghost use Rattle.std.specs.Prelude.{◌≡◌, ℕ, List, ◌≤◌, ◌<◌, le
 ghost use Rattle.std.specs.Prelude.{OnOk, OnErr};
 ghost use Rattle.std.specs.Io.KnownBytes.{Consumes, Appends, IsAtEnd};
 ghost use Rattle.rh_files.specs.Counting.{Rose, Writes, failures_of, inner_of, joined};
+ghost use Rattle.rh_files.specs.Taking.{TakesAtMost};
 
 use crate::counted::Counted;
 use crate::fault::WriteFault;
@@ -17,6 +18,8 @@ pub fn fill<R: Read>(reader: &mut Counted<R>, buf: &mut [u8]) -> Option<usize>
         (R.remaining (inner_of reader.new)) (take n buf.new)) }
     ensures end { IfSome result (λ n. n < length buf.new →
         IsAtEnd (R.remaining (inner_of reader.new))) }
+    ensures takes { TakesAtMost (R.remaining (inner_of reader.old))
+        (R.remaining (inner_of reader.new)) (length buf.new) }
     ensures failed { IsNone result → Rose (failures_of reader.old) (failures_of reader.new) }
     ensures fine { IsSome result → failures_of reader.new ≡ failures_of reader.old }
 {
