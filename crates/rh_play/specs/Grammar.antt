@@ -1,5 +1,5 @@
 -- The grammar of the texts of plays (this project's own): what the lines of a text say, or its first fault.
-use Rattle.std.specs.Prelude.{ℕ, ◌+◌, ◌^◌, Bool, true, ◌&&◌, nat_le, nat_lt, if◌then◌else◌, List, [], ◌∷◌, ◌++◌, length, codes, Option, Some, None, Result, Ok, Err}
+use Rattle.std.specs.Prelude.{ℕ, ◌+◌, ◌-◌, ◌^◌, Bool, true, ◌&&◌, IsTrue, nat_le, nat_lt, if◌then◌else◌, List, [], ◌∷◌, ◌++◌, length, take, codes, Option, Some, None, Result, Ok, Err, is_ok}
 use Rattle.std.specs.Char.{is_ascii_digit}
 use Rattle.std.specs.Str.{bytes_eq}
 use Rattle.std.specs.Str.Parse.{digits_value}
@@ -185,6 +185,10 @@ unfoldable pub after_lines : ℕ → Way → List (List ℕ) → Result Way Play
 after_lines number way [] = Ok way
 after_lines number way (line ∷ lines) =
     at_line number (after_line way line) >>= (λ next. after_lines (number + 1) next lines)
+
+-- the lines of a text before that of this number have no fault
+abbrev pub HasNoFaultBefore : ℕ → List ℕ → Type 0
+HasNoFaultBefore number text = IsTrue (is_ok (after_lines 1 (AtStart, []) (take (number - 1) (lines_of text))))
 
 -- a text may end among the lines of work and after them
 unfoldable pub ended : Way → Result (List Saying) PlayTextKind

@@ -2,7 +2,7 @@
 
 ghost use Rattle.std.specs.Prelude.{◌≡◌, ◌≢◌, ◌≤◌, IfOk, IfErr, Ok, Err, MatchResult, length};
 ghost use Rattle.rh_play.specs.declared.limits.TheConstants.{MAX_TEXT_BYTES};
-ghost use Rattle.rh_play.specs.Grammar.{after_line, after_lines, sayings_of};
+ghost use Rattle.rh_play.specs.Grammar.{HasNoFaultBefore, after_line, after_lines, sayings_of};
 ghost use Rattle.rh_play.specs.Lines.{lines_of};
 ghost use Rattle.rh_play.specs.Play.{Answers, said_of, way_of};
 
@@ -23,6 +23,7 @@ pub fn parse_play(alloc: Global, text: &[u8]) -> Result<Play, PlayTextFault>
         sayings_of text.now ≡ Err fault) }
     ensures memory { IfErr result (λ fault. fault.kind ≡ PlayTextKind.Memory →
         (1 ≤ fault.line) × (fault.line ≤ length (lines_of text.now))) }
+    ensures before { IfErr result (λ fault. HasNoFaultBefore fault.line text.now) }
 {
     if text.len() > MAX_TEXT_BYTES {
         return Err(PlayTextFault {
@@ -51,6 +52,7 @@ fn read_lines(alloc: Global, text: &[u8]) -> Result<(u64, Draft), PlayTextFault>
         after_lines 1 (way_of Draft.Empty) (lines_of text.now) ≡ Err fault) }
     ensures within { IfErr result (λ fault.
         (1 ≤ fault.line) × (fault.line ≤ length (lines_of text.now))) }
+    ensures before { IfErr result (λ fault. HasNoFaultBefore fault.line text.now) }
 {
     let mut number = 0;
     let mut draft = Draft::Empty;
@@ -58,17 +60,28 @@ fn read_lines(alloc: Global, text: &[u8]) -> Result<(u64, Draft), PlayTextFault>
     while !rest.is_empty() {
         let (line, after) = next_line(rest);
         number += 1;
-        draft = match read_line(alloc, draft, line) {
-            Ok(next) => next,
-            Err(kind) => return Err(PlayTextFault { line: number, kind }),
-        };
+        draft = read_line(alloc, number, draft, line)?;
         rest = after;
     }
     Ok((number, draft))
 }
 
+/// Reads the line of this number. A fault, want of memory too, stands at this line.
+fn read_line(alloc: Global, number: u64, draft: Draft, line: &[u8]) -> Result<Draft, PlayTextFault>
+    ensures read { IfOk result (λ next. after_line (way_of draft) line.now ≡ Ok (way_of next)) }
+    ensures refused { IfErr result (λ fault. fault.kind ≢ PlayTextKind.Memory →
+        after_line (way_of draft) line.now ≡ Err fault.kind) }
+    ensures at { IfErr result (λ fault. fault.line ≡ number) }
+{
+    match enter_line(alloc, draft, line) {
+        Ok(next) => Ok(next),
+        Err(kind) => Err(PlayTextFault { line: number, kind }),
+    }
+}
+
+/// The draft with what the line says.
 #[tactic(auto, unfolding(crate::specs::Grammar::after_line))]
-fn read_line(alloc: Global, draft: Draft, line: &[u8]) -> Result<Draft, PlayTextKind>
+fn enter_line(alloc: Global, draft: Draft, line: &[u8]) -> Result<Draft, PlayTextKind>
     ensures { Answers (after_line (way_of draft) line.now) way_of result }
 {
     match read_said(alloc, without_return(line))? {

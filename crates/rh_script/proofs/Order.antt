@@ -47,7 +47,7 @@ one_more_in_order steps last ordered ok before after step is =
     ]
 
 -- if two steps succeed, each does
-both : {A B E : Type 0} (r : Result A E) (f : A → Result B E) (b : B) → (r >>= f) ≡ Ok b → (a : A) × (r ≡ Ok a) × (f a ≡ Ok b)
+pub both : {A B E : Type 0} (r : Result A E) (f : A → Result B E) (b : B) → (r >>= f) ≡ Ok b → (a : A) × (r ≡ Ok a) × (f a ≡ Ok b)
 both (Ok a) f b h = (a, refl, h)
 both (Err e) f b h = absurd cc
 

@@ -1,5 +1,5 @@
 -- The grammar of scripts (this project's own): the instructions of a text, or its first fault.
-use Rattle.std.specs.Prelude.{ℕ, ◌+◌, Bool, false, ◌&&◌, ◌||◌, nat_le, if◌then◌else◌, List, [], ◌∷◌, ◌++◌, length, codes, Option, Some, None, Result, Ok, Err}
+use Rattle.std.specs.Prelude.{ℕ, ◌+◌, ◌-◌, Bool, false, ◌&&◌, ◌||◌, IsTrue, nat_le, if◌then◌else◌, List, [], ◌∷◌, ◌++◌, length, take, codes, Option, Some, None, Result, Ok, Err, is_ok}
 use Rattle.std.specs.Char.{is_ascii_digit, is_ascii_lowercase}
 use Rattle.std.specs.Str.{bytes_eq}
 use Rattle.std.specs.List.{list_all}
@@ -128,3 +128,7 @@ after_lines number before (line ∷ lines) =
 
 unfoldable pub script_of : List ℕ → Result (List Numbered) ScriptFault
 script_of text = after_lines 1 [] (lines_of text)
+
+-- the lines of a text before that of this number have no fault
+abbrev pub HasNoFaultBefore : ℕ → List ℕ → Type 0
+HasNoFaultBefore number text = IsTrue (is_ok (after_lines 1 [] (take (number - 1) (lines_of text))))

@@ -2,7 +2,7 @@
 
 ghost use Rattle.std.specs.Prelude.{◌≡◌, ◌≢◌, IfOk, IfErr, Ok, Err, length, map, OnOk, ◌≤◌, ◌+◌};
 ghost use Rattle.rh_script.specs.declared.limits.TheConstants.{MAX_LINES};
-ghost use Rattle.rh_script.specs.Grammar.{after_line, script_of};
+ghost use Rattle.rh_script.specs.Grammar.{HasNoFaultBefore, after_line, script_of};
 ghost use Rattle.rh_script.specs.Lines.{lines_of};
 ghost use Rattle.rh_script.specs.Steps.{step_as};
 ghost use Rattle.rh_script.specs.Script.{Answers, GivenBy, steps_of};
@@ -25,11 +25,37 @@ struct Reading {
 }
 
 impl Reading {
-    #[tactic(auto, unfolding(crate::specs::Grammar::after_line, crate::specs::Grammar::entered))]
-    fn read_line(&mut self, line: &[u8]) -> Result<(), ScriptFaultKind>
+    /// Reads the next line. A fault, want of memory too, stands at this line.
+    fn read_line(&mut self, line: &[u8]) -> Result<(), ScriptFault>
         requires few { self.old.line ≤ MAX_LINES }
         requires known { GivenBy (map step_as self.old.steps.items) self.old.given }
         ensures line { self.new.line ≡ self.old.line + 1 }
+        ensures few { OnOk result (self.new.line ≤ MAX_LINES) }
+        ensures known { OnOk result
+            (GivenBy (map step_as self.new.steps.items) self.new.given) }
+        ensures read { OnOk result
+            (after_line self.new.line (map step_as self.old.steps.items) line.now
+            ≡ Ok (map step_as self.new.steps.items)) }
+        ensures refused { IfErr result (λ fault. fault.kind ≢ ScriptFaultKind.Memory →
+            after_line self.new.line (map step_as self.old.steps.items) line.now
+            ≡ Err fault.kind) }
+        ensures at { IfErr result (λ fault. fault.line ≡ self.new.line) }
+    {
+        self.line += 1;
+        match self.enter(line) {
+            Ok(()) => Ok(()),
+            Err(kind) => Err(ScriptFault {
+                line: self.line,
+                kind,
+            }),
+        }
+    }
+
+    /// Takes in what the line says.
+    #[tactic(auto, unfolding(crate::specs::Grammar::after_line, crate::specs::Grammar::entered))]
+    fn enter(&mut self, line: &[u8]) -> Result<(), ScriptFaultKind>
+        requires { GivenBy (map step_as self.old.steps.items) self.old.given }
+        ensures line { self.new.line ≡ self.old.line }
         ensures few { OnOk result (self.new.line ≤ MAX_LINES) }
         ensures known { OnOk result
             (GivenBy (map step_as self.new.steps.items) self.new.given) }
@@ -37,7 +63,6 @@ impl Reading {
             (after_line self.new.line (map step_as self.old.steps.items) line.now)
             (λ _. map step_as self.new.steps.items) result }
     {
-        self.line += 1;
         if self.line > MAX_LINES || line.len() > MAX_LINE_BYTES {
             return Err(ScriptFaultKind::TooLong);
         }
@@ -58,6 +83,7 @@ pub fn parse(alloc: Global, text: &[u8]) -> Result<Script, ScriptFault>
         script_of text.now ≡ Err fault) }
     ensures within { IfErr result (λ fault.
         (1 ≤ fault.line) × (fault.line ≤ length (lines_of text.now))) }
+    ensures before { IfErr result (λ fault. HasNoFaultBefore fault.line text.now) }
 {
     let mut reading = Reading {
         alloc,
@@ -68,12 +94,7 @@ pub fn parse(alloc: Global, text: &[u8]) -> Result<Script, ScriptFault>
     let mut rest = text;
     while !rest.is_empty() {
         let (line, after) = next_line(rest);
-        if let Err(kind) = reading.read_line(line) {
-            return Err(ScriptFault {
-                line: reading.line,
-                kind,
-            });
-        }
+        reading.read_line(line)?;
         rest = after;
     }
     Ok(Script {

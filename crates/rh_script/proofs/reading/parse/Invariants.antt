@@ -1,4 +1,4 @@
-use Rattle.std.proofs.Common.{◌≡◌, ◌+◌, ◌≤◌, length, map}
+use Rattle.std.proofs.Common.{◌≡◌, ◌+◌, ◌≤◌, [], length, map, take, drop, Ok}
 use Rattle.rh_script.specs.declared.limits.TheConstants.{MAX_LINES}
 use Rattle.rh_script.specs.Lines.{lines_of}
 use Rattle.rh_script.specs.Grammar.{after_lines, script_of}
@@ -11,6 +11,8 @@ abbrev pub invariant-loop-rest : goal.invariant-loop-rest
 invariant-loop-rest l = record {
   few : l.reading.line ≤ MAX_LINES;
   counted : l.reading.line + length (lines_of l.rest) ≡ length (lines_of l.text);
+  left : lines_of l.rest ≡ drop l.reading.line (lines_of l.text);
+  read : after_lines 1 [] (take l.reading.line (lines_of l.text)) ≡ Ok (map step_as l.reading.steps.items);
   known : GivenBy (map step_as l.reading.steps.items) l.reading.given;
   so_far : script_of l.text ≡ after_lines (l.reading.line + 1) (map step_as l.reading.steps.items) (lines_of l.rest);
 }
