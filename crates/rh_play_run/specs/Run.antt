@@ -1,6 +1,6 @@
 -- The text that a play prints, and what comes of a run. (own)
-use Rattle.std.specs.Prelude.{◌≡◌, ◌≢◌, ◌≤◌, ℕ, Bool, true, false, List, ◌++◌, length, Option, Some, None, Result, Ok, Err}
-use Rattle.std.specs.Io.KnownBytes.{Appends, Consumes}
+use Rattle.std.specs.Prelude.{◌≡◌, ◌≢◌, ℕ, Bool, true, false, List, ◌++◌, Option, Some, None, Result, Ok, Err}
+use Rattle.std.specs.Io.KnownBytes.{Appends}
 use Rattle.rh_layout.specs.Layout.{Layout}
 use Rattle.rh_ledger.specs.declared.tally.Tally.{Tally}
 use Rattle.rh_ledger.specs.Phase.{set_after, tally_of}
@@ -112,7 +112,3 @@ Runs bytes old new (Err (Text fault)) = IsTextFault bytes fault
 Runs bytes old new (Err (Start fault)) = IsRefused bytes fault
 Runs bytes old new (Err Memory) = Unit {0}
 Runs bytes old new (Err Read) = Unit {0}
-
--- no more than so many bytes were taken
-abbrev pub TakesAtMost : ℕ → (bytes left : Option (List ℕ)) → Type 0
-TakesAtMost n bytes left = (taken : List ℕ) × Consumes bytes left taken × (length taken ≤ n)

@@ -3,8 +3,9 @@
 ghost use Rattle.std.specs.Prelude.{◌≡◌, ◌≢◌, ◌+◌, ◌<◌, ◌≤◌, length, IfErr, IfOk, IsErrOf, Err};
 ghost use Rattle.std.specs.Io.KnownBytes.{Consumes, IsAtEnd};
 ghost use Rattle.rh_files.specs.Counting.{Rose, failures_of, inner_of};
+ghost use Rattle.rh_files.specs.Taking.{TakesAtMost};
 ghost use Rattle.rh_play.specs.declared.limits.TheConstants.{MAX_TEXT_BYTES};
-ghost use Rattle.rh_play_run.specs.Run.{IsPlayRead, IsUnread, TakesAtMost};
+ghost use Rattle.rh_play_run.specs.Run.{IsPlayRead, IsUnread};
 
 use crate::fault::PlayRunFault;
 use rh_files::{Counted, fill};
@@ -20,8 +21,8 @@ pub(crate) fn read_play<R: Read>(
 ) -> Result<Play, PlayRunFault>
     ensures read { IfOk result (λ play. IsPlayRead (R.remaining (inner_of reader.old)) play) }
     ensures refused { IfErr result (IsUnread (R.remaining (inner_of reader.old))) }
-    ensures taken { result ≢ Err PlayRunFault.Read → TakesAtMost (MAX_TEXT_BYTES + 1)
-        (R.remaining (inner_of reader.old)) (R.remaining (inner_of reader.new)) }
+    ensures taken { TakesAtMost (R.remaining (inner_of reader.old))
+        (R.remaining (inner_of reader.new)) (MAX_TEXT_BYTES + 1) }
     ensures failed { IsErrOf result PlayRunFault.Read →
         Rose (failures_of reader.old) (failures_of reader.new) }
     ensures fine { result ≢ Err PlayRunFault.Read →
@@ -42,6 +43,8 @@ fn read_front<R: Read>(
     ensures size { IfOk result (λ text. length text.items ≤ most) }
     ensures whole { IfOk result (λ text. length text.items < most →
         IsAtEnd (R.remaining (inner_of reader.new))) }
+    ensures taken { TakesAtMost (R.remaining (inner_of reader.old))
+        (R.remaining (inner_of reader.new)) most }
     ensures refused { IfErr result (λ fault. fault ≢ PlayRunFault.Read →
         (fault ≡ PlayRunFault.Memory) × (reader.new ≡ reader.old)) }
     ensures failed { IsErrOf result PlayRunFault.Read →

@@ -4,9 +4,10 @@ ghost use Rattle.std.specs.Prelude.{◌≡◌, ◌≢◌, ◌+◌, ◌++◌, Err
 ghost use Rattle.rh_layout.specs.Layout.{IsLayout};
 ghost use Rattle.rh_files.specs.Counting.{Rose, failures_of, inner_of};
 ghost use Rattle.rh_files.specs.Dump.{dump_text};
+ghost use Rattle.rh_files.specs.Taking.{TakesAtMost};
 ghost use Rattle.rh_play.specs.declared.limits.TheConstants.{MAX_TEXT_BYTES};
 ghost use Rattle.rh_play_run.specs.Beginning.{workers_in};
-ghost use Rattle.rh_play_run.specs.Run.{IsPlayed, IsUnplayed, Runs, TakesAtMost};
+ghost use Rattle.rh_play_run.specs.Run.{IsPlayed, IsUnplayed, Runs};
 
 use crate::beginning::{begin, cells_in};
 use crate::ending::{closing_lines, made_cells, write_parts};
@@ -44,8 +45,8 @@ pub fn run_play<R: Read, W: Write>(
         (W.contents (inner_of writer.new)) result }
     ensures untouched { IfErr result (λ fault. fault ≢ PlayRunFault.Write →
         writer.new ≡ writer.old) }
-    ensures taken { result ≢ Err PlayRunFault.Read → TakesAtMost (MAX_TEXT_BYTES + 1)
-        (R.remaining (inner_of reader.old)) (R.remaining (inner_of reader.new)) }
+    ensures taken { TakesAtMost (R.remaining (inner_of reader.old))
+        (R.remaining (inner_of reader.new)) (MAX_TEXT_BYTES + 1) }
     ensures read { IsErrOf result PlayRunFault.Read →
         Rose (failures_of reader.old) (failures_of reader.new) }
     ensures fine { result ≢ Err PlayRunFault.Read →
