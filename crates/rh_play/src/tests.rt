@@ -278,3 +278,12 @@ fn faults_can_be_printed(rt: HostRuntime) -> Result<(), Fail> {
     }
     Ok(())
 }
+
+#[test]
+fn the_limits_are_these(rt: HostRuntime) {
+    assert_eq!(rt; MAX_TEXT_BYTES, 1_048_576);
+    assert_eq!(rt; MIN_BITS, 3);
+    assert_eq!(rt; MAX_BITS, 18);
+    assert_eq!(rt; MAX_ROOM, 100_000);
+    assert_eq!(rt; MAX_TURNS, 1_000_000);
+}

@@ -4,7 +4,7 @@ ghost use Rattle.std.specs.Prelude.{◌≡◌, ◌==◌, length, map};
 ghost use Rattle.rh_script.specs.Tasks.{planned_as, planned_of};
 
 /// What a step does. Lists are numbered from 0, in the order in which `use` and `save` give them.
-#[derive(Clone, Copy, Debug, PartialEq, Eq)]
+#[derive(Clone, Copy)]
 pub enum Task<'a> {
     Use {
         list: usize,
@@ -46,14 +46,14 @@ pub enum Task<'a> {
 }
 
 /// A task, and the number of its command's line.
-#[derive(Clone, Copy, Debug, PartialEq, Eq)]
+#[derive(Clone, Copy)]
 pub struct PlannedStep<'a> {
     pub line: u64,
     pub task: Task<'a>,
 }
 
 /// The tasks of a script, in order.
-#[derive(Debug, PartialEq, Eq, Drop)]
+#[derive(Drop)]
 pub struct Plan<'a> {
     pub(crate) steps: Vec<PlannedStep<'a>>,
 }

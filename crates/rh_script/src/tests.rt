@@ -190,23 +190,39 @@ fn scripts_have_a_limit(rt: HostRuntime) -> Result<(), Fail> {
 const MIXED: &[u8] = b"use a a.keys\n# two lists\nuse b b.keys\nadd a\ndrop b\nask a\n\n\
 save c\nkeep c\nflip b\nclear\ndump\nuse d d.keys\nask d\nsnapshot s.snap\nuse e a.keys\nrestore s.snap\n";
 
-#[rattlefmt::skip]
-const MIXED_PLAN: [(u64, Task); 15] = [
-    (1, Task::Use { list: 0, name: "a", path: "a.keys" }),
-    (3, Task::Use { list: 1, name: "b", path: "b.keys" }),
-    (4, Task::Add { list: 0, name: "a" }),
-    (5, Task::Drop { list: 1, name: "b" }),
-    (6, Task::Ask { list: 0, name: "a" }),
-    (8, Task::Save { list: 2, name: "c" }),
-    (9, Task::Keep { list: 2, name: "c" }),
-    (10, Task::Flip { list: 1, name: "b" }),
-    (11, Task::Clear),
-    (12, Task::Dump),
-    (13, Task::Use { list: 3, name: "d", path: "d.keys" }),
-    (14, Task::Ask { list: 3, name: "d" }),
-    (15, Task::Snapshot { path: "s.snap" }),
-    (16, Task::Use { list: 4, name: "e", path: "a.keys" }),
-    (17, Task::Restore { path: "s.snap" }),
+// The words of a task, and the number of its list.
+fn tasked<'a>(task: &Task<'a>) -> ([&'a str; 3], Option<usize>) {
+    match *task {
+        Task::Use { list, name, path } => (["use", name, path], Some(list)),
+        Task::Add { list, name } => (["add", name, ""], Some(list)),
+        Task::Drop { list, name } => (["drop", name, ""], Some(list)),
+        Task::Ask { list, name } => (["ask", name, ""], Some(list)),
+        Task::Keep { list, name } => (["keep", name, ""], Some(list)),
+        Task::Flip { list, name } => (["flip", name, ""], Some(list)),
+        Task::Save { list, name } => (["save", name, ""], Some(list)),
+        Task::Clear => (["clear", "", ""], None),
+        Task::Dump => (["dump", "", ""], None),
+        Task::Snapshot { path } => (["snapshot", path, ""], None),
+        Task::Restore { path } => (["restore", path, ""], None),
+    }
+}
+
+const MIXED_PLAN: [(u64, [&str; 3], Option<usize>); 15] = [
+    (1, ["use", "a", "a.keys"], Some(0)),
+    (3, ["use", "b", "b.keys"], Some(1)),
+    (4, ["add", "a", ""], Some(0)),
+    (5, ["drop", "b", ""], Some(1)),
+    (6, ["ask", "a", ""], Some(0)),
+    (8, ["save", "c", ""], Some(2)),
+    (9, ["keep", "c", ""], Some(2)),
+    (10, ["flip", "b", ""], Some(1)),
+    (11, ["clear", "", ""], None),
+    (12, ["dump", "", ""], None),
+    (13, ["use", "d", "d.keys"], Some(3)),
+    (14, ["ask", "d", ""], Some(3)),
+    (15, ["snapshot", "s.snap", ""], None),
+    (16, ["use", "e", "a.keys"], Some(4)),
+    (17, ["restore", "s.snap", ""], None),
 ];
 
 #[test]
@@ -215,9 +231,11 @@ fn lists_are_numbered(rt: HostRuntime) -> Result<(), Fail> {
     let planned = plan(rt.alloc(), &script)?;
     assert_eq!(rt; planned.len(), 15);
     assert!(rt; !planned.is_empty());
-    for (step, (line, task)) in planned.steps().iter().zip(&MIXED_PLAN) {
+    for (step, (line, wanted, number)) in planned.steps().iter().zip(&MIXED_PLAN) {
+        let (words, list) = tasked(&step.task);
         assert_eq!(rt; step.line, *line);
-        assert_eq!(rt; step.task, *task);
+        assert_eq!(rt; words, *wanted);
+        assert_eq!(rt; list, *number);
     }
     Ok(())
 }
@@ -246,4 +264,11 @@ fn faults_can_be_printed(rt: HostRuntime) -> Result<(), Fail> {
         assert_eq!(rt; format!(in rt.alloc(); "{fault}")?.as_str(), text);
     }
     Ok(())
+}
+
+#[test]
+fn the_limits_are_these(rt: HostRuntime) {
+    assert_eq!(rt; MAX_LINES, 10_000);
+    assert_eq!(rt; MAX_LINE_BYTES, 1_024);
+    assert_eq!(rt; MAX_NAME_BYTES, 16);
 }
