@@ -33,11 +33,19 @@ calls_of s = s.calls
 abbrev pub next_call : FaultyShelf → ℕ
 next_call s = min (s.calls + 1) last_count
 
+-- how many readers the shelf gave
+abbrev pub readers_of : FaultyShelf → ℕ
+readers_of s = s.readers
+
+-- the number of the next reader
+abbrev pub next_reader : FaultyShelf → ℕ
+next_reader s = min (s.readers + 1) last_count
+
 -- how often the shelf itself failed
 abbrev pub failures_in : FaultyShelf → ℕ
 failures_in s = s.failures
 
--- the number of the read that fails, of the reader that this call gives; 0 where none does
+-- the number of the read that fails, of the reader of this number; 0 where none does
 abbrev pub read_that_fails : ShelfFailure → ℕ → ℕ
-read_that_fails (Call n) call = 0
-read_that_fails (Read call read) now = if call == now then read else 0
+read_that_fails (Call n) given = 0
+read_that_fails (Read reader read) given = if reader == given then read else 0

@@ -7,20 +7,21 @@ ghost use Rattle.rh_files.specs.Counting.{Rose};
 ghost use Rattle.rh_files.specs.Faulty.{fails_in, rest_of};
 ghost use Rattle.rh_shelf.specs.Shelf.{Finds, InDoubt, Lacks, Puts};
 ghost use Rattle.rh_shelf.specs.Kinds.{files_of, shelf_of, failure_of, calls_of, next_call};
-ghost use Rattle.rh_shelf.specs.Kinds.{failures_in, known_bytes, read_that_fails};
+ghost use Rattle.rh_shelf.specs.Kinds.{readers_of, next_reader, failures_in, known_bytes};
+ghost use Rattle.rh_shelf.specs.Kinds.{read_that_fails};
 
 use crate::memory::MemShelf;
 use crate::shelf::{Shelf, ShelfFault};
 use rh_files::FaultyReader;
 use std::alloc::Global;
 
-/// Which call fails. Calls are counted from 1, and those of a reader too.
+/// Which call fails. Calls are counted from 1, and so are readers and the reads of each.
 #[derive(Clone, Copy, Debug, PartialEq, Eq)]
 pub enum ShelfFailure {
-    /// The shelf's call of this number.
+    /// The shelf's call of this number, of `fetch` and `put` together.
     Call(u64),
-    /// A read of the reader that the shelf's call of this number gave.
-    Read { call: u64, read: u64 },
+    /// A read of the reader of this number among those that the shelf gave.
+    Read { reader: u64, read: u64 },
 }
 
 /// A shelf in memory of which one call fails once, or one read of one of its readers. It counts its
@@ -30,6 +31,7 @@ pub struct FaultyShelf {
     shelf: MemShelf,
     failure: ShelfFailure,
     calls: u64,
+    readers: u64,
     failures: u64,
 }
 
@@ -38,12 +40,14 @@ impl FaultyShelf {
         ensures shelf { shelf_of result ≡ shelf }
         ensures failure { failure_of result ≡ failure }
         ensures no_call { calls_of result ≡ 0 }
+        ensures no_reader { readers_of result ≡ 0 }
         ensures no_failure { failures_in result ≡ 0 }
     {
         FaultyShelf {
             shelf,
             failure,
             calls: 0,
+            readers: 0,
             failures: 0,
         }
     }
@@ -56,6 +60,7 @@ impl FaultyShelf {
         ensures told { OnTrue result (Rose (failures_in self.old) (failures_in self.new)) }
         ensures fine { OnFalse result (failures_in self.new ≡ failures_in self.old) }
         ensures same_failure { failure_of self.new ≡ failure_of self.old }
+        ensures same_readers { readers_of self.new ≡ readers_of self.old }
         ensures same_shelf { shelf_of self.new ≡ shelf_of self.old }
     {
         self.calls = self.calls.saturating_add(1);
@@ -84,22 +89,25 @@ impl Shelf for FaultyShelf {
         ensures fine { OnOk result (failures_in self.new ≡ failures_in self.old) }
         ensures same_files { files_of (shelf_of self.new) ≡ files_of (shelf_of self.old) }
 
-        // Which call fails.
+        // Which call fails, and which reader.
         ensures counts { calls_of self.new ≡ next_call self.old }
         ensures fails { failure_of self.old ≡ ShelfFailure.Call (next_call self.old) →
             IsErrOf result ShelfFault.Missing }
         ensures fails_once { failure_of self.old ≢ ShelfFailure.Call (next_call self.old) →
             failures_in self.new ≡ failures_in self.old }
+        ensures given { OnOk result (readers_of self.new ≡ next_reader self.old) }
+        ensures not_given { OnErr result (readers_of self.new ≡ readers_of self.old) }
         ensures reader { IfOk result (λ r.
-            fails_in r ≡ read_that_fails (failure_of self.old) (next_call self.old)) }
+            fails_in r ≡ read_that_fails (failure_of self.old) (next_reader self.old)) }
         ensures same_failure { failure_of self.new ≡ failure_of self.old }
     {
         if self.fails_now() {
             return Err(ShelfFault::Missing);
         }
         let bytes = self.shelf.copy_of(alloc, path)?;
+        self.readers = self.readers.saturating_add(1);
         let fails_at = match self.failure {
-            ShelfFailure::Read { call, read } if call == self.calls => read,
+            ShelfFailure::Read { reader, read } if reader == self.readers => read,
             _ => 0,
         };
         Ok(FaultyReader::new(bytes, fails_at))
@@ -123,6 +131,7 @@ impl Shelf for FaultyShelf {
             IsErrOf result ShelfFault.Write }
         ensures fails_once { failure_of self.old ≢ ShelfFailure.Call (next_call self.old) →
             failures_in self.new ≡ failures_in self.old }
+        ensures same_readers { readers_of self.new ≡ readers_of self.old }
         ensures same_failure { failure_of self.new ≡ failure_of self.old }
     {
         if self.fails_now() {

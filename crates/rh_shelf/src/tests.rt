@@ -57,8 +57,11 @@ fn one_put_fails(rt: HostRuntime) -> Result<(), Fail> {
 
 #[test]
 fn one_read_fails(rt: HostRuntime) -> Result<(), Fail> {
-    let failure = ShelfFailure::Read { call: 1, read: 2 };
+    let failure = ShelfFailure::Read { reader: 1, read: 2 };
     let mut shelf = FaultyShelf::new(two_files(rt.alloc())?, failure);
+    // Neither call gives a reader, so the next one gives the first.
+    shelf.put(rt.alloc(), "c", b"four")?;
+    assert!(rt; shelf.fetch(rt.alloc(), "d").is_err());
     // How many bytes each read of a byte takes: the file has three.
     for reads in [
         [Some(1), None, Some(1), Some(1), Some(0)],
