@@ -4,11 +4,14 @@ use Rattle.std.specs.List.{filter}
 use Rattle.std.specs.FinSet.{contains}
 use Rattle.rh_layout.specs.Key.{IsKey}
 use Rattle.rh_layout.specs.Layout.{Keys, IsLayout, keys_of}
+use Rattle.rh_files.specs.Counting.{Rose}
 use Rattle.rh_files.specs.Source.{Coming, AllCome, FaultComes}
 use Rattle.rh_ledger.specs.declared.tally.Kind.{Kind}
 use Rattle.rh_ledger.specs.declared.tally.Kind.TheVariants.{Insert, Remove, Ask}
 use Rattle.rh_ledger.specs.declared.tally.Tally.{Tally}
 use Rattle.rh_ledger.specs.Phase.{set_after, tally_of}
+use Rattle.rh_runner.specs.declared.runner.PhaseFault.{PhaseFault}
+use Rattle.rh_runner.specs.declared.runner.PhaseFault.TheVariants.{Memory, NoThread}
 use Rattle.rh_runner.specs.declared.fault.ListFault.{ListFault}
 use Rattle.rh_runner.specs.declared.fault.ListFault.TheVariants as faults
 
@@ -38,21 +41,26 @@ is_wanted wanted there = if wanted then there else not there
 abbrev pub chosen : (wanted : Bool) → Keys → List ℕ → List ℕ
 chosen wanted S list = filter (λ k. is_wanted wanted (contains S k)) list
 
--- Why a list was not gone through: a fault of its keys was to come. No list is found changed.
-abbrev pub Refused : Coming → ListFault → Type 0
-Refused coming (faults.Keys e) = FaultComes coming e
-Refused coming faults.Changed = ⊥
-Refused coming (faults.Phase e) = Unit {0}
+-- Why a phase was not carried out: memory ran out, or the start of a thread was refused, which the runner counted.
+abbrev pub RefusedPhase : (starts starts' : ℕ) → PhaseFault → Type 0
+RefusedPhase n m Memory = Unit {0}
+RefusedPhase n m NoThread = Rose n m
+
+-- Why a list was not gone through: a fault of its keys was to come, or its phase failed. No list is found changed.
+abbrev pub Refused : Coming → (starts starts' : ℕ) → ListFault → Type 0
+Refused coming n m (faults.Keys e) = FaultComes coming e
+Refused coming n m faults.Changed = ⊥
+Refused coming n m (faults.Phase e) = RefusedPhase n m e
 
 -- Why a batch was not taken: more of its places are chosen than are left, or its phase failed.
-abbrev pub RefusedBatch : (left many : ℕ) → ListFault → Type 0
-RefusedBatch left many (faults.Keys e) = ⊥
-RefusedBatch left many faults.Changed = left < many
-RefusedBatch left many (faults.Phase e) = Unit {0}
+abbrev pub RefusedBatch : (left many : ℕ) → (starts starts' : ℕ) → ListFault → Type 0
+RefusedBatch left many n m (faults.Keys e) = ⊥
+RefusedBatch left many n m faults.Changed = left < many
+RefusedBatch left many n m (faults.Phase e) = RefusedPhase n m e
 
 -- As `Refused`, but a list may be found changed: only one of which more or fewer places are chosen.
-abbrev pub RefusedFor : Coming → (wanted : Bool) → Keys → (many : ℕ) → ListFault → Type 0
-RefusedFor coming wanted S many (faults.Keys e) = FaultComes coming e
-RefusedFor coming wanted S many faults.Changed =
+abbrev pub RefusedFor : Coming → (wanted : Bool) → Keys → (many : ℕ) → (starts starts' : ℕ) → ListFault → Type 0
+RefusedFor coming wanted S many n m (faults.Keys e) = FaultComes coming e
+RefusedFor coming wanted S many n m faults.Changed =
     (list : List ℕ) → coming ≡ Some (Ok list) → length (chosen wanted S list) ≢ many
-RefusedFor coming wanted S many (faults.Phase e) = Unit {0}
+RefusedFor coming wanted S many n m (faults.Phase e) = RefusedPhase n m e

@@ -58,7 +58,9 @@ pub fn count_chosen<T: Wait, N: Runner, K: KeySource>(
     ensures counted { IfOk result (λ many. (list : List ℕ)
         × Took (K.coming keys.old) (K.left_of keys.old) list
         × (many ≡ length (chosen wanted (keys_of cells.now) list))) }
-    ensures refused { IfErr result (Refused (K.coming keys.old)) }
+    ensures refused { IfErr result (Refused (K.coming keys.old)
+        (N.refused_starts runner.old) (N.refused_starts runner.new)) }
+    ensures fine { OnOk result (N.refused_starts runner.new ≡ N.refused_starts runner.old) }
 {
     // The count is no greater.
     let _most = keys.left();
@@ -96,7 +98,9 @@ fn insert_batch<T: Wait, N: Runner>(
         cells.old.items cells.new.items) }
     ensures few { OnOk result (length (chosen wanted (keys_of old.now) batch.old) ≤ left) }
     ensures refused { IfErr result
-        (RefusedBatch left (length (chosen wanted (keys_of old.now) batch.old))) }
+        (RefusedBatch left (length (chosen wanted (keys_of old.now) batch.old))
+        (N.refused_starts runner.old) (N.refused_starts runner.new)) }
+    ensures fine { OnOk result (N.refused_starts runner.new ≡ N.refused_starts runner.old) }
 {
     let found = runner.ask(rt, alloc, old_bits, old, batch)?;
     let n = choose(wanted, &found, batch);
@@ -130,7 +134,9 @@ pub fn insert_chosen<T: Wait, N: Runner, K: KeySource>(
         × (length (chosen wanted (keys_of old.now) list) ≡ many)
         × Ran Insert bits (chosen wanted (keys_of old.now) list) cells.old.items cells.new.items t) }
     ensures refused { IfErr result
-        (RefusedFor (K.coming keys.old) wanted (keys_of old.now) many) }
+        (RefusedFor (K.coming keys.old) wanted (keys_of old.now) many
+        (N.refused_starts runner.old) (N.refused_starts runner.new)) }
+    ensures fine { OnOk result (N.refused_starts runner.new ≡ N.refused_starts runner.old) }
 {
     let mut left = many;
     let mut tally = NONE_YET;
@@ -172,7 +178,9 @@ pub fn remove_and_count_absent<T: Wait, N: Runner, K: KeySource>(
         × Took (K.coming keys.old) (K.left_of keys.old) list
         × Ran Remove bits list cells.old.items cells.new.items r.0
         × (r.1 ≡ length (chosen false (keys_of old.now) list))) }
-    ensures refused { IfErr result (Refused (K.coming keys.old)) }
+    ensures refused { IfErr result (Refused (K.coming keys.old)
+        (N.refused_starts runner.old) (N.refused_starts runner.new)) }
+    ensures fine { OnOk result (N.refused_starts runner.new ≡ N.refused_starts runner.old) }
 {
     // No count is greater.
     let _most = keys.left();

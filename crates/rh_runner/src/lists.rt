@@ -52,7 +52,9 @@ pub fn change_all<T: Wait, N: Runner, K: KeySource>(
     ensures done { IfOk result (λ t. (list : List ℕ)
         × Took (K.coming keys.old) (K.left_of keys.old) list
         × Ran kind bits list cells.old.items cells.new.items t) }
-    ensures refused { IfErr result (Refused (K.coming keys.old)) }
+    ensures refused { IfErr result (Refused (K.coming keys.old)
+        (N.refused_starts runner.old) (N.refused_starts runner.new)) }
+    ensures fine { OnOk result (N.refused_starts runner.new ≡ N.refused_starts runner.old) }
 {
     // No count of the tally is greater.
     let _most = keys.left();
@@ -82,7 +84,9 @@ pub fn ask_all<T: Wait, N: Runner, K: KeySource>(
     ensures found { IfOk result (λ found. (list : List ℕ)
         × Took (K.coming keys.old) (K.left_of keys.old) list
         × (found.items ≡ looked_up (keys_of cells.now) list)) }
-    ensures refused { IfErr result (Refused (K.coming keys.old)) }
+    ensures refused { IfErr result (Refused (K.coming keys.old)
+        (N.refused_starts runner.old) (N.refused_starts runner.new)) }
+    ensures fine { OnOk result (N.refused_starts runner.new ≡ N.refused_starts runner.old) }
 {
     let many = keys.left() as usize;
     let mut found = Vec::with_capacity(alloc, many).map_err(|_| PhaseFault::Memory)?;

@@ -1,9 +1,10 @@
 //! Who carries out the phases of a script.
 
-ghost use Rattle.std.specs.Prelude.{◌≡◌, ◌≢◌, ◌+◌, ◌^◌, ◌<◌, All, IfOk, OnOk, OnErr};
+ghost use Rattle.std.specs.Prelude.{◌≡◌, ◌≢◌, ◌+◌, ◌^◌, ◌<◌, ℕ, All, IfOk, IsErrOf, OnOk, OnErr};
 ghost use Rattle.std.specs.FinSet as set;
 ghost use Rattle.rh_layout.specs.Key.{IsKey};
 ghost use Rattle.rh_layout.specs.Layout.{IsLayout, keys_of};
+ghost use Rattle.rh_files.specs.Counting.{Rose};
 ghost use Rattle.rh_ledger.specs.Phase.{set_after, tally_of, looked_up, most_added};
 
 use rh_ledger::{Kind, Tally};
@@ -23,6 +24,9 @@ pub enum PhaseFault {
 /// Carries out phases on the cells of a table, with the meaning of one worker that takes the keys
 /// in list order. A call may wait for ever; what it promises holds where it returns.
 pub trait Runner {
+    /// How often the start of a thread was refused. The count stops at the greatest `u64`.
+    ghost refused_starts: { Self → ℕ };
+
     /// Inserts or removes the keys. On a fault the cells are as they were.
     fn change<R: Wait>(
         &mut self,
@@ -41,7 +45,10 @@ pub trait Runner {
         ensures keys { OnOk result
             (keys_of cells.new.items ≡ set_after kind (keys_of cells.old.items) keys.now) }
         ensures tally { IfOk result (λ t. t ≡ tally_of kind (keys_of cells.old.items) keys.now) }
-        ensures unchanged { OnErr result (cells.new.items ≡ cells.old.items) };
+        ensures unchanged { OnErr result (cells.new.items ≡ cells.old.items) }
+        ensures no_thread { IsErrOf result PhaseFault.NoThread →
+            Rose (refused_starts self.old) (refused_starts self.new) }
+        ensures fine { OnOk result (refused_starts self.new ≡ refused_starts self.old) };
 
     /// Looks the keys up, and answers in list order which are there.
     fn ask<R: Wait>(
@@ -55,5 +62,9 @@ pub trait Runner {
         requires keys { All IsKey keys.now }
         requires layout { IsLayout bits cells.now }
         requires room { set.len (keys_of cells.now) < 2 ^ bits }
-        ensures { IfOk result (λ found. found.items ≡ looked_up (keys_of cells.now) keys.now) };
+        ensures found { IfOk result (λ found.
+            found.items ≡ looked_up (keys_of cells.now) keys.now) }
+        ensures no_thread { IsErrOf result PhaseFault.NoThread →
+            Rose (refused_starts self.old) (refused_starts self.new) }
+        ensures fine { OnOk result (refused_starts self.new ≡ refused_starts self.old) };
 }

@@ -14,12 +14,14 @@ use rh_probe::find;
 use std::alloc::Global;
 use std::sync::Wait;
 
-/// Carries out each phase itself, on the calling thread. Only a look-up takes memory, for its
-/// answers.
+/// Carries out each phase itself, on the calling thread: it starts no other. Only a look-up takes
+/// memory, for its answers.
 #[derive(Clone, Copy, Debug, PartialEq, Eq)]
 pub struct Single;
 
 impl Runner for Single {
+    ghost refused_starts = { λ _. 0 };
+
     fn change<R: Wait>(
         &mut self,
         _rt: &R,
@@ -45,10 +47,10 @@ impl Runner for Single {
         cells: &[u64],
         keys: &[u64],
     ) -> Result<Vec<bool>, PhaseFault> {
-        let mut found = Vec::new(alloc);
+        let mut found = Vec::with_capacity(alloc, keys.len()).map_err(|_| PhaseFault::Memory)?;
         for key in keys {
             let there = find(bits, cells, *key).is_some();
-            found.push(there).map_err(|_| PhaseFault::Memory)?;
+            found.push_reserved(there);
         }
         Ok(found)
     }

@@ -7,6 +7,8 @@ use std::alloc::Global;
 use std::sync::Wait;
 use std::test::Fail;
 
+mod batches;
+
 const NOTHING: Tally = Tally {
     read: 0,
     added: 0,
@@ -209,10 +211,15 @@ fn keys_are_removed_and_the_absent_counted(rt: HostRuntime) -> Result<(), Fail> 
     Ok(())
 }
 
+// It is refused memory for each change, and the start of a thread for each look-up.
 #[derive(Drop)]
-struct Refusing;
+struct Refusing {
+    refused: u64,
+}
 
 impl Runner for Refusing {
+    ghost refused_starts = { λ r. r.refused };
+
     fn change<R: Wait>(
         &mut self,
         _rt: &R,
@@ -233,6 +240,7 @@ impl Runner for Refusing {
         _cells: &[u64],
         _keys: &[u64],
     ) -> Result<Vec<bool>, PhaseFault> {
+        self.refused = self.refused.saturating_add(1);
         Err(PhaseFault::NoThread)
     }
 }
@@ -242,14 +250,16 @@ fn faults_of_the_runner_are_told(rt: HostRuntime) -> Result<(), Fail> {
     let set = SeqSet::from_keys(rt.alloc(), 3, &[1, 9, 17])?;
     assert!(rt; set.bits() == 3 && set.len() < 4);
     let no_thread = ListFault::Phase(PhaseFault::NoThread);
+    let mut refusing = Refusing { refused: 0 };
     let mut list = HeldKeys::new(&[9, 3]);
-    let asked = ask_all(&rt, rt.alloc(), &mut Refusing, 3, set.cells(), &mut list);
+    let cells = set.cells();
+    let asked = ask_all(&rt, rt.alloc(), &mut refusing, 3, cells, &mut list);
     assert_eq!(rt; asked.map(|_| ()), Err(no_thread));
     let mut list = HeldKeys::new(&[9, 3]);
     let counted = count_chosen(
         &rt,
         rt.alloc(),
-        &mut Refusing,
+        &mut refusing,
         true,
         3,
         set.cells(),
@@ -262,7 +272,7 @@ fn faults_of_the_runner_are_told(rt: HostRuntime) -> Result<(), Fail> {
     let changed = change_all(
         &rt,
         rt.alloc(),
-        &mut Refusing,
+        &mut refusing,
         Kind::Remove,
         3,
         &mut cells,

@@ -1,4 +1,4 @@
-use Rattle.std.proofs.Common.{arith, ◌++◌, take}
+use Rattle.std.proofs.Common.{◌∙◌, arith, ◌++◌, take}
 use Rattle.rh_layout.specs.Layout.{keys_of}
 use Rattle.rh_runner.proofs.ListLemmas.{more_came}
 use Rattle.rh_runner.proofs.ChosenLemmas.{count_more, length_chosen-le}
@@ -10,12 +10,13 @@ overflow_add-many g c =
     let done = c.loop-n.invariant.0 in
     let batch = take c.in_ok-n.n c.next_keys.new.batch in
     let came = more_came c.loop-n.invariant.1 (g.K.KeySource.coming c.next_keys.new.self) c.next_keys.new.batch (g.K.KeySource.left_of c.next_keys.new.self) c.in_ok-n.n c.in_ok-n.ensures.gives c.if-n-eq0.false c.in_ok-n.ensures.room c.in_ok-n.ensures.left c.in_ok-n.ensures.in_range in
-    let counted = count_more c.args.wanted S done batch c.deref.result.now c.loop-n.many c.count_wanted.result c.loop-n.invariant.2 c.count_wanted.ensures (rw c.deref.ensures.value c.in_ok-found.ensures) in
+    let counted = count_more c.args.wanted S done batch c.deref.result.now c.loop-n.many c.count_wanted.result c.loop-n.invariant.2 c.count_wanted.ensures (rw c.deref.ensures.value c.in_ok-found.ensures.found) in
     omega (arith, counted, length_chosen-le c.args.wanted S (done ++ batch), came.long, c.left-most.ensures, c.left-most.type_inv)
 
 pub loop-n-preserved : goal.loop-n-preserved
 loop-n-preserved g c = (
   _,
   more_came c.loop-n.invariant.1 _ c.next_keys.new.batch _ c.in_ok-n.n c.in_ok-n.ensures.gives c.if-n-eq0.false c.in_ok-n.ensures.room c.in_ok-n.ensures.left c.in_ok-n.ensures.in_range,
-  count_more c.args.wanted (keys_of c.args.cells.now) c.loop-n.invariant.0 (take c.in_ok-n.n c.next_keys.new.batch) c.deref.result.now c.loop-n.many c.count_wanted.result c.loop-n.invariant.2 c.count_wanted.ensures (rw c.deref.ensures.value c.in_ok-found.ensures),
+  count_more c.args.wanted (keys_of c.args.cells.now) c.loop-n.invariant.0 (take c.in_ok-n.n c.next_keys.new.batch) c.deref.result.now c.loop-n.many c.count_wanted.result c.loop-n.invariant.2 c.count_wanted.ensures (rw c.deref.ensures.value c.in_ok-found.ensures.found),
+  c.in_ok-found.ensures.fine ∙ c.loop-n.invariant.3,
 )

@@ -9,6 +9,7 @@ invariant-loop-n g l =
     (done : List ℕ)
     × Came (g.K.KeySource.coming l.fn.keys) (g.K.KeySource.coming l.keys) (g.K.KeySource.left_of l.fn.keys) (g.K.KeySource.left_of l.keys) done
     × (l.many ≡ length (chosen l.wanted (keys_of l.cells) done))
+    × (g.N.Runner.refused_starts l.runner ≡ g.N.Runner.refused_starts l.fn.runner)
 
 abbrev pub decreases-loop-n : goal.decreases-loop-n
 decreases-loop-n g l = g.K.KeySource.left_of l.keys

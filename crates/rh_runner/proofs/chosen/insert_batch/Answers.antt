@@ -8,5 +8,5 @@ use Rattle.rh_runner.proofs.chosen.insert_batch.Goals as goal
 pub change-requires-clause-keys : goal.change-requires-clause-keys
 change-requires-clause-keys g c =
     let S = keys_of c.args.old.now in
-    let is = c.choose-n.ensures.moved S (rw c.deref.ensures.value c.in_ok-found.ensures) in
+    let is = c.choose-n.ensures.moved S (rw c.deref.ensures.value c.in_ok-found.ensures.found) in
     rw is (All-filter (λ k. is_wanted c.args.wanted (contains S k)) IsKey c.args.batch.now c.requires.keys)

@@ -29,4 +29,5 @@ loop-n-preserved g c =
       more_came c.loop-n.invariant.1 _ c.next_keys.new.batch _ c.in_ok-n.n c.in_ok-n.ensures.gives c.if-n-eq0.false c.in_ok-n.ensures.room c.in_ok-n.ensures.left c.in_ok-n.ensures.in_range,
       record { layout = ran.layout; held = ran.held; tally = sums ∙ ran.tally },
       omega (arith, length_chosen-append c.args.wanted S done batch, c.loop-n.invariant.3, c.in_ok-told.ensures.few, read_of c.in_ok-told.ensures.done),
+      c.in_ok-told.ensures.fine ∙ c.loop-n.invariant.4,
     )

@@ -12,7 +12,7 @@ overflow_add-absent g c =
     let done = c.loop-n.invariant.0 in
     let batch = take c.in_ok-n.n c.next_keys.new.batch in
     let came = more_came c.loop-n.invariant.1 (g.K.KeySource.coming c.next_keys.new.self) c.next_keys.new.batch (g.K.KeySource.left_of c.next_keys.new.self) c.in_ok-n.n c.in_ok-n.ensures.gives c.if-n-eq0.false c.in_ok-n.ensures.room c.in_ok-n.ensures.left c.in_ok-n.ensures.in_range in
-    let counted = count_more false S done batch c.deref.result.now c.loop-n.absent c.count_wanted.result c.loop-n.invariant.3 c.count_wanted.ensures (rw c.deref.ensures.value c.in_ok-found.ensures) in
+    let counted = count_more false S done batch c.deref.result.now c.loop-n.absent c.count_wanted.result c.loop-n.invariant.3 c.count_wanted.ensures (rw c.deref.ensures.value c.in_ok-found.ensures.found) in
     omega (arith, counted, length_chosen-le false S (done ++ batch), came.long, c.left-most.ensures, c.left-most.type_inv)
 
 pub change-requires-clause-room : goal.change-requires-clause-room
@@ -36,5 +36,6 @@ loop-n-preserved g c =
       _,
       more_came c.loop-n.invariant.1 _ c.next_keys.new.batch _ c.in_ok-n.n c.in_ok-n.ensures.gives c.if-n-eq0.false c.in_ok-n.ensures.room c.in_ok-n.ensures.left c.in_ok-n.ensures.in_range,
       record { layout = ran.layout; held = ran.held; tally = sums ∙ ran.tally },
-      count_more false (keys_of c.args.old.now) c.loop-n.invariant.0 batch c.deref.result.now c.loop-n.absent c.count_wanted.result c.loop-n.invariant.3 c.count_wanted.ensures (rw c.deref.ensures.value c.in_ok-found.ensures),
+      count_more false (keys_of c.args.old.now) c.loop-n.invariant.0 batch c.deref.result.now c.loop-n.absent c.count_wanted.result c.loop-n.invariant.3 c.count_wanted.ensures (rw c.deref.ensures.value c.in_ok-found.ensures.found),
+      c.in_ok-told.ensures.fine ∙ c.in_ok-found.ensures.fine ∙ c.loop-n.invariant.4,
     )

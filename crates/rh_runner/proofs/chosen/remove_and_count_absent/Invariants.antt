@@ -11,6 +11,7 @@ invariant-loop-n g l =
     × Came (g.K.KeySource.coming l.fn.keys) (g.K.KeySource.coming l.keys) (g.K.KeySource.left_of l.fn.keys) (g.K.KeySource.left_of l.keys) done
     × Ran Remove l.bits done l.fn.cells.items l.cells.items l.tally
     × (l.absent ≡ length (chosen false (keys_of l.old) done))
+    × (g.N.Runner.refused_starts l.runner ≡ g.N.Runner.refused_starts l.fn.runner)
 
 abbrev pub decreases-loop-n : goal.decreases-loop-n
 decreases-loop-n g l = g.K.KeySource.left_of l.keys

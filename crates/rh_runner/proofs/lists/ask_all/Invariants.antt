@@ -9,6 +9,7 @@ invariant-loop-found g l =
     (done : List ℕ)
     × Came (g.K.KeySource.coming l.fn.keys) (g.K.KeySource.coming l.keys) (g.K.KeySource.left_of l.fn.keys) (g.K.KeySource.left_of l.keys) done
     × (l.found.items ≡ looked_up (keys_of l.cells) done)
+    × (g.N.Runner.refused_starts l.runner ≡ g.N.Runner.refused_starts l.fn.runner)
 
 abbrev pub decreases-loop-found : goal.decreases-loop-found
 decreases-loop-found g l = g.K.KeySource.left_of l.keys

@@ -25,4 +25,5 @@ loop-n-preserved g c =
       _,
       more_came c.loop-n.invariant.1 _ c.next_keys.new.batch _ c.in_ok-n.n c.in_ok-n.ensures.gives c.if-n-eq0.false c.in_ok-n.ensures.room c.in_ok-n.ensures.left c.in_ok-n.ensures.in_range,
       record { layout = ran.layout; held = ran.held; tally = sums ∙ ran.tally },
+      c.in_ok-told.ensures.fine ∙ c.loop-n.invariant.3,
     )
