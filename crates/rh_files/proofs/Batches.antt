@@ -1,9 +1,10 @@
 -- Keys one after the other, and batches of keys one after the other.
-use Rattle.std.proofs.Common.{◌≡◌, ℕ, zero, suc, ◌+◌, ◌-◌, ◌<◌, List, [], ◌∷◌, ◌++◌, Option, Some, None, Result, Ok, Err, refl, sym, ap, ◌∙◌, subst, arith}
+use Rattle.std.proofs.Common.{◌≡◌, ℕ, zero, suc, ◌+◌, ◌-◌, ◌≤◌, List, [], ◌∷◌, ◌++◌, Option, Some, None, Result, Ok, Err, refl, sym, ap, ◌∙◌, subst, arith, length, take, length-append, length-take}
+use borrow.Rule.Slice.PartMut.{put_mid, post_of}
 use Rattle.rh_files.specs.declared.version.Version.{Version}
 use Rattle.rh_files.specs.declared.fault.KeyFault.{KeyFault}
 use Rattle.rh_files.specs.Reading.{◌>>=◌, Reads, always, key_at, keys_at}
-use Rattle.rh_files.proofs.Reading.{Fails-then, Reads-then, Reads-fails, Reads-ok}
+use Rattle.rh_files.proofs.Reading.{Fails-then, Reads-ok}
 
 abbrev Read : Type 0
 Read = Result (List ℕ × List ℕ) KeyFault
@@ -63,32 +64,31 @@ batch_fails version index m n None b c front v w e p q = tt
 batch_fails version index m n (Some x) None c front v w e p q = absurd p
 batch_fails version index m n (Some x) (Some y) c front v w e p q = rw (keys_at-add version index m n x, p) (Fails-then e (keys_at version (index + m) n y) (with_front front) q)
 
--- a key that fails is a batch that fails, whatever would follow
-pub key_fails_batch : (version : Version) (index n : ℕ) (a b : Option (List ℕ)) (w : Unit {0} → List ℕ) (e : KeyFault) → Reads a b (key_at version index) (λ (k : ℕ). k) (Err e) → Reads a b (keys_at version index (suc n)) w (Err e)
-unfolding keys_at
-key_fails_batch version index n a b w e h = Reads-fails a b b (key_at version index) (λ first. keys_at version (index + 1) n first.1 >>= with_head first.0) (λ (k : ℕ). k) w e h
-
-pub key_is_batch : (version : Version) (index k : ℕ) (a b : Option (List ℕ)) → Reads a b (key_at version index) (λ (k : ℕ). k) (Ok k) → Reads a b (keys_at version index 1) (always {X = Unit {0}} (k ∷ [])) (Ok tt)
-unfolding keys_at
-key_is_batch version index k a b h =
-    Reads-then a b b (key_at version index) (λ first. keys_at version (index + 1) 0 first.1 >>= with_head first.0) (λ (k : ℕ). k) (always {X = Unit {0}} (k ∷ [])) k (Ok tt) h
-    (Reads-ok b (λ bytes. Ok (k ∷ [], bytes)) (always {X = Unit {0}} (k ∷ [])) tt (λ bytes. refl))
+-- a fault in some keys is one of these and others
+pub fails_with_more : {X Y : Type 0} (version : Version) (index m n : ℕ) (a b : Option (List ℕ)) (v : X → List ℕ) (w : Y → List ℕ) (e : KeyFault) → Reads a b (keys_at version index m) v (Err e) → Reads a b (keys_at version index (m + n)) w (Err e)
+fails_with_more version index m n None b v w e h = tt
+fails_with_more version index m n (Some x) b v w e h = rw (keys_at-add version index m n x) (Fails-then e (keys_at version index m x) (and_next version (index + m) n) h)
 
 -- ---- as a loop goes on
 
-pub loop_goes_on : (version : Version) (index i at : ℕ) (a b c : Option (List ℕ)) (front next : List ℕ) (k : ℕ) → at ≡ index + i → next ≡ front ++ k ∷ [] → Reads a b (keys_at version index i) (always {X = Unit {0}} front) (Ok tt) → Reads b c (key_at version at) (λ (k : ℕ). k) (Ok k)
-    → Reads a c (keys_at version index (i + 1)) (always {X = Unit {0}} next) (Ok tt)
-loop_goes_on version index i at a b c front next k place is p q =
-    let h = subst (λ j. Reads b c (key_at version j) (λ (k : ℕ). k) (Ok k)) place q in
-    rw is (batch_then version index i 1 a b c front (k ∷ []) p (key_is_batch version (index + i) k b c h))
+pub part_goes_on : (version : Version) (index done at many now : ℕ) (a b c : Option (List ℕ)) (front back both : List ℕ) → at ≡ index + done → now ≡ done + many → both ≡ front ++ back → Reads a b (keys_at version index done) (always {X = Unit {0}} front) (Ok tt) → Reads b c (keys_at version at many) (always {X = Unit {0}} back) (Ok tt)
+    → Reads a c (keys_at version index now) (always {X = Unit {0}} both) (Ok tt)
+part_goes_on version index done at many now a b c front back both place later joined p q =
+    let h = subst (λ j. Reads b c (keys_at version j many) (always {X = Unit {0}} back) (Ok tt)) place q in
+    rw (later, joined) (batch_then version index done many a b c front back p h)
 
-pub loop_fails : (version : Version) (index i at n : ℕ) (a b c : Option (List ℕ)) (front : List ℕ) (w : Unit {0} → List ℕ) (e : KeyFault) → i < n → at ≡ index + i → Reads a b (keys_at version index i) (always {X = Unit {0}} front) (Ok tt) → Reads b c (key_at version at) (λ (k : ℕ). k) (Err e)
-    → Reads a c (keys_at version index n) w (Err e)
-loop_fails version index i at n a b c front w e lt place p q =
-    let h = subst (λ j. Reads b c (key_at version j) (λ (k : ℕ). k) (Err e)) place q in
-    let whole : i + suc (n - (i + 1)) ≡ n = omega arith in
-    subst (λ j. Reads a c (keys_at version index j) w (Err e)) whole (batch_fails version index i (suc (n - (i + 1))) a b c front w w e p (key_fails_batch version (index + i) (n - (i + 1)) b c w e h))
+pub part_stops : (version : Version) (index done at many all : ℕ) (a b c : Option (List ℕ)) (front : List ℕ) (v w : Unit {0} → List ℕ) (e : KeyFault) → at ≡ index + done → done + many ≤ all → Reads a b (keys_at version index done) (always {X = Unit {0}} front) (Ok tt) → Reads b c (keys_at version at many) v (Err e)
+    → Reads a c (keys_at version index all) w (Err e)
+part_stops version index done at many all a b c front v w e place within p q =
+    let h = subst (λ j. Reads b c (keys_at version j many) v (Err e)) place q in
+    let whole : done + many + (all - (done + many)) ≡ all = omega arith in
+    subst (λ n. Reads a c (keys_at version index n) w (Err e)) whole (fails_with_more version index (done + many) (all - (done + many)) a c w w e (batch_fails version index done many a b c front v w e p h))
 
 pub no_keys : (version : Version) (index : ℕ) (a : Option (List ℕ)) → Reads a a (keys_at version index 0) (always {X = Unit {0}} []) (Ok tt)
 unfolding keys_at
 no_keys version index a = Reads-ok a (λ bytes. Ok ([], bytes)) (always {X = Unit {0}} []) tt (λ bytes. refl)
+
+-- a part of a batch lies within it
+pub part_inside : (a k : ℕ) (batch keys : List ℕ) → a ≤ length batch → a + length keys ≤ length (put_mid a k batch keys)
+part_inside a k batch keys inside =
+    omega (arith, length-append (take a batch) (keys ++ post_of a k batch), length-append keys (post_of a k batch), length-take a batch)

@@ -13,7 +13,7 @@ use Rattle.rh_files.specs.declared.parts.TheConstants.{MAX_KEYS}
 use Rattle.rh_files.specs.declared.fault.KeyFault.{KeyFault}
 use Rattle.rh_files.specs.declared.fault.KeyFault.TheVariants.{NotKeys, Short, TooMany, BadKey}
 use Rattle.rh_files.specs.KeyFile.{magic, least_key, IsKeyIn, eight_bytes, spelled_keys, KeyFile, IsKeyFile}
-use Rattle.rh_files.specs.Reading.{◌>>=◌, is_byte, begins_with_bytes, bytes_at, named, version_at, number_in, number_at, few, count_at, with_count, after_version, header_at, is_key_in, in_range, key_at, keys_at, end_at, ended, after_header, file_keys, Reads, IsReadFrom}
+use Rattle.rh_files.specs.Reading.{◌>>=◌, is_byte, begins_with_bytes, bytes_at, named, version_at, number_in, number_at, few, count_at, with_count, after_version, header_at, is_key_in, in_range, key_at, keys_at, end_at, ended, after_header, file_keys, Reads, BeginsWithHeader, IsReadFrom}
 use Rattle.std.proofs.lemmas.List.Elements.{All-nil, All-cons, All-head, All-tail}
 use Rattle.rh_files.proofs.Batches.{with_head}
 use Rattle.rh_files.proofs.Spelled.{begins, bytes_below, spelled_bytes}
@@ -114,7 +114,7 @@ count_read bytes p h =
           (number_read bytes s.0 s.1 ∙ ap (λ m. eight_bytes m ++ s.0.1) n ∙ ap (λ l. eight_bytes p.0 ++ l) (same_rest s.0 p got), subst (λ m. m ≤ MAX_KEYS) n (ltb-false MAX_KEYS s.0.0 other))
     ]
 
-header_read : (bytes : List ℕ) (p : (Version × ℕ) × List ℕ) → header_at bytes ≡ Ok p → (bytes ≡ magic p.0.0 ++ (eight_bytes p.0.1 ++ p.1)) × (p.0.1 ≤ MAX_KEYS)
+pub header_read : (bytes : List ℕ) (p : (Version × ℕ) × List ℕ) → header_at bytes ≡ Ok p → (bytes ≡ magic p.0.0 ++ (eight_bytes p.0.1 ++ p.1)) × (p.0.1 ≤ MAX_KEYS)
 unfolding header_at
 header_read bytes p h =
     let s = then_ok (version_at bytes) after_version p h in
@@ -213,11 +213,14 @@ unfolding header_at
 header_given version n rest small =
     ap (λ r. r >>= after_version) (version_given version (eight_bytes n ++ rest)) ∙ ap (λ r. r >>= with_count version) (count_given n rest small)
 
-key_given : (version : Version) (index k : ℕ) (rest : List ℕ) → IsKeyIn version k → key_at version index (eight_bytes k ++ rest) ≡ Ok (k, rest)
+pub key_spelled : (version : Version) (index k : ℕ) (rest : List ℕ) → k < 2 ^ 64 → key_at version index (eight_bytes k ++ rest) ≡ in_range version index (k, rest)
 unfolding key_at
+key_spelled version index k rest fits = ap (λ r. r >>= in_range version index) (number_given k rest fits)
+
+key_given : (version : Version) (index k : ℕ) (rest : List ℕ) → IsKeyIn version k → key_at version index (eight_bytes k ++ rest) ≡ Ok (k, rest)
 key_given version index k rest fits =
     let test : is_key_in version k ≡ true = and_from (leb (least_key version) k) (leb k MAX_KEY) (le-leb _ _ fits.0) (le-leb _ _ fits.1) in
-    ap (λ r. r >>= in_range version index) (number_given k rest (omega (arith, fits.1))) ∙ rw test refl
+    key_spelled version index k rest (omega (arith, fits.1)) ∙ rw test refl
 
 keys_given : (version : Version) (index : ℕ) (keys rest : List ℕ) → All (IsKeyIn version) keys → keys_at version index (length keys) (spelled_keys keys ++ rest) ≡ Ok (keys, rest)
 unfolding keys_at
@@ -243,3 +246,10 @@ pub read_from : {X : Type 0} (a b : Option (List ℕ)) (view : X → List ℕ) (
 read_from None b view x h = tt
 read_from (Some bytes) None view x h = absurd h
 read_from (Some bytes) (Some rest) view x h = file_read bytes (view x, rest) h
+
+-- and so they begin with a header
+pub begins_with_header : {X : Type 0} (a b : Option (List ℕ)) (view : X → List ℕ) (x : X) → Reads a b file_keys view (Ok x) → BeginsWithHeader a
+unfolding file_keys
+begins_with_header None b view x h = tt
+begins_with_header (Some bytes) None view x h = absurd h
+begins_with_header (Some bytes) (Some rest) view x h = let s = then_ok (header_at bytes) after_header (view x, rest) h in (s.0, s.1)

@@ -3,6 +3,9 @@ pub mod Spelled
 pub mod Reading
 pub mod Steps
 pub mod Batches
+pub mod Filled
+pub mod Decoded
+pub mod Bounds
 pub mod Ends
 pub mod Named
 pub mod Next

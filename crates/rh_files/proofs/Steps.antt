@@ -1,13 +1,13 @@
--- The steps of the header and of a key.
-use Rattle.std.proofs.Common.{◌≡◌, ℕ, ◌<◌, ◌≤◌, true, false, List, Option, Ok, Err, Result, refl, subst}
+-- The steps of the header.
+use Rattle.std.proofs.Common.{◌≡◌, ℕ, ◌<◌, ◌≤◌, List, Option, Ok, Err, Result, refl, subst}
 use Rattle.std.specs.Int.{w64, from_be_bytes}
 use Rattle.std.proofs.lemmas.Bool.{le-ltb, lt-ltb}
 use Rattle.std.proofs.Common.{length}
 use Rattle.rh_files.specs.declared.version.Version.{Version}
 use Rattle.rh_files.specs.declared.parts.TheConstants.{MAX_KEYS}
 use Rattle.rh_files.specs.declared.fault.KeyFault.{KeyFault}
-use Rattle.rh_files.specs.declared.fault.KeyFault.TheVariants.{NotKeys, TooMany, BadKey}
-use Rattle.rh_files.specs.Reading.{Reads, always, bytes_at, named, version_at, number_in, number_at, few, count_at, after_version, with_count, header_at, in_range, key_at, is_key_in}
+use Rattle.rh_files.specs.declared.fault.KeyFault.TheVariants.{NotKeys, TooMany}
+use Rattle.rh_files.specs.Reading.{Reads, always, bytes_at, named, version_at, number_in, number_at, few, count_at, after_version, with_count, header_at}
 use Rattle.rh_files.proofs.Reading.{Reads-fails, Reads-then, Reads-ok, Reads-err}
 
 number_bytes : (a b : Option (List ℕ)) (n : ℕ) (buf : List ℕ) (r : Result (Unit {0}) KeyFault) → length buf ≡ n → Reads a b (bytes_at (length buf)) (always buf) r → Reads a b (bytes_at n) (always buf) r
@@ -52,20 +52,6 @@ pub count_ok : (a b : Option (List ℕ)) (n : ℕ) → n ≤ MAX_KEYS → Reads 
 unfolding count_at
 count_ok a b n le h =
     Reads-then a b b number_at few (λ (n : ℕ). n) (λ (n : ℕ). n) n (Ok n) h (Reads-ok b (λ bytes. few (n, bytes)) (λ (n : ℕ). n) n (λ bytes. rw (le-ltb MAX_KEYS n le) refl))
-
-pub key_fails : (version : Version) (index : ℕ) (a b : Option (List ℕ)) (e : KeyFault) → Reads a b number_at (λ (n : ℕ). n) (Err e) → Reads a b (key_at version index) (λ (n : ℕ). n) (Err e)
-unfolding key_at
-key_fails version index a b e h = Reads-fails a b b number_at (in_range version index) (λ (n : ℕ). n) (λ (n : ℕ). n) e h
-
-pub key_bad : (version : Version) (index : ℕ) (a b : Option (List ℕ)) (k : ℕ) → is_key_in version k ≡ false → Reads a b number_at (λ (n : ℕ). n) (Ok k) → Reads a b (key_at version index) (λ (n : ℕ). n) (Err (BadKey index))
-unfolding key_at
-key_bad version index a b k bad h =
-    Reads-then a b b number_at (in_range version index) (λ (n : ℕ). n) (λ (n : ℕ). n) k (Err (BadKey index)) h (Reads-err b b (λ bytes. in_range version index (k, bytes)) (λ (n : ℕ). n) (BadKey index) (λ bytes. rw bad refl))
-
-pub key_ok : (version : Version) (index : ℕ) (a b : Option (List ℕ)) (k : ℕ) → is_key_in version k ≡ true → Reads a b number_at (λ (n : ℕ). n) (Ok k) → Reads a b (key_at version index) (λ (n : ℕ). n) (Ok k)
-unfolding key_at
-key_ok version index a b k good h =
-    Reads-then a b b number_at (in_range version index) (λ (n : ℕ). n) (λ (n : ℕ). n) k (Ok k) h (Reads-ok b (λ bytes. in_range version index (k, bytes)) (λ (n : ℕ). n) k (λ bytes. rw good refl))
 
 pub header_fails : (a b : Option (List ℕ)) (e : KeyFault) → Reads a b version_at (λ (v : Version). v) (Err e) → Reads a b header_at (λ (h : Version × ℕ). h) (Err e)
 unfolding header_at

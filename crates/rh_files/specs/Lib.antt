@@ -2,6 +2,7 @@ pub mod Counting
 pub mod Taking
 pub mod KeyFile
 pub mod Reading
+pub mod Limits
 pub mod Source
 pub mod Stream
 pub mod Dump

@@ -1,5 +1,5 @@
 -- Reading a key file from left to right, up to the first fault. A step gives a value and the bytes after it.
-use Rattle.std.specs.Prelude.{◌≡◌, ℕ, zero, suc, ◌+◌, min, Bool, ◌&&◌, ◌==◌, nat_lt, nat_le, if◌then◌else◌, List, [], ◌∷◌, length, take, drop, Option, Some, None, Result, Ok, Err}
+use Rattle.std.specs.Prelude.{◌≡◌, ℕ, zero, suc, ◌+◌, min, Bool, not, ◌&&◌, ◌==◌, nat_lt, nat_le, if◌then◌else◌, List, [], ◌∷◌, length, take, drop, Option, Some, None, Result, Ok, Err}
 use Rattle.std.specs.List.{list_all}
 use Rattle.std.specs.Int.{w32, w64, from_be_bytes}
 use Rattle.rh_layout.specs.declared.limits.TheConstants.{MAX_KEY}
@@ -61,6 +61,9 @@ header_at bytes = version_at bytes >>= after_version
 
 abbrev pub is_key_in : Version → ℕ → Bool
 is_key_in version k = nat_le (least_key version) k && nat_le k MAX_KEY
+
+abbrev pub is_refused : Version → ℕ → Bool
+is_refused version k = not (is_key_in version k)
 
 abbrev pub in_range : Version → ℕ → ℕ × List ℕ → Result (ℕ × List ℕ) KeyFault
 in_range version index k = if is_key_in version k.0 then Ok k else Err (BadKey index)

@@ -1,8 +1,10 @@
 //! All keys of a key file.
 
-ghost use Rattle.std.specs.Prelude.{◌≡◌, ◌≢◌, [], length, All, Err, IfOk, IsErrOf, OnOk};
+ghost use Rattle.std.specs.Prelude.{◌≡◌, ◌≢◌, ◌*◌, [], length, All, Err, IfOk, IsErrOf, OnOk};
 ghost use Rattle.rh_layout.specs.Key.{IsKey};
 ghost use Rattle.rh_files.specs.Counting.{Rose, failures_of, inner_of};
+ghost use Rattle.rh_files.specs.Taking.{TakesAtMost};
+ghost use Rattle.rh_files.specs.Limits.{TakesOfFile, fault_of, keys_taken, most_bytes};
 ghost use Rattle.rh_files.specs.Reading.{BeginsWithHeader, Reads, IsReadFrom, always, keys_at};
 ghost use Rattle.rh_files.specs.Reading.{end_at, file_keys};
 ghost use Rattle.rh_files.specs.Stream.{reader_of, lender_of, version_of, count_of, taken_of};
@@ -25,6 +27,9 @@ fn read_all<R: Read>(stream: &mut KeyStream<'_, R>, keys: &mut [u64]) -> Result<
         (R.remaining (inner_of (reader_of stream.new)))
         (keys_at (version_of stream.old) 0 (length keys.new)) (always keys.new) result }
     ensures in_range { OnOk result (All IsKey keys.new) }
+    ensures takes { TakesAtMost (R.remaining (inner_of (reader_of stream.old)))
+        (R.remaining (inner_of (reader_of stream.new)))
+        (8 * keys_taken 0 (length keys.new) (fault_of result)) }
     ensures open { OnOk result (state_of stream.new ≡ State.Open) }
     ensures none_left { OnOk result (left_of stream.new ≡ 0) }
     ensures read { IsErrOf result KeyFault.Read →
@@ -46,6 +51,8 @@ fn read_end<R: Read>(stream: &mut KeyStream<'_, R>) -> Result<(), KeyFault>
     ensures same_reference { lender_of stream.new ≡ lender_of stream.old }
     ensures known { Reads (R.remaining (inner_of (reader_of stream.old)))
         (R.remaining (inner_of (reader_of stream.new))) end_at (always []) result }
+    ensures takes { TakesAtMost (R.remaining (inner_of (reader_of stream.old)))
+        (R.remaining (inner_of (reader_of stream.new))) 1 }
     ensures read { IsErrOf result KeyFault.Read →
         Rose (failures_of (reader_of stream.old)) (failures_of (reader_of stream.new)) }
     ensures no_memory { IsErrOf result KeyFault.Memory → ⊥ }
@@ -66,6 +73,10 @@ pub fn read_keys<R: Read>(alloc: Global, reader: &mut Counted<R>) -> Result<Vec<
     ensures spelled { IfOk result (λ v. IsReadFrom
         (R.remaining (inner_of reader.old)) (R.remaining (inner_of reader.new)) v.items) }
     ensures in_range { IfOk result (λ v. All IsKey v.items) }
+    ensures takes { TakesOfFile (R.remaining (inner_of reader.old))
+        (R.remaining (inner_of reader.new)) (fault_of result) }
+    ensures bounded { TakesAtMost (R.remaining (inner_of reader.old))
+        (R.remaining (inner_of reader.new)) most_bytes }
     ensures read { IsErrOf result KeyFault.Read →
         Rose (failures_of reader.old) (failures_of reader.new) }
     ensures fine { result ≢ Err KeyFault.Read → failures_of reader.new ≡ failures_of reader.old }

@@ -1,6 +1,7 @@
 //! Key files and dumps.
 #![tactic(auto)]
 
+mod batch;
 mod bytes;
 mod counted;
 mod dump;
@@ -10,12 +11,14 @@ mod faulty;
 mod held_keys;
 mod keys;
 mod laws;
+mod numbers;
 mod open;
 mod parts;
 mod source;
 mod stream;
 mod version;
 
+pub use batch::PART_KEYS;
 pub use bytes::{fill, write_texts};
 pub use counted::Counted;
 pub use dump::write_dump;
@@ -25,6 +28,7 @@ pub use faulty::{FaultyReader, FaultyWriter, Refusal};
 pub use held_keys::HeldKeys;
 pub use keys::read_keys;
 pub use laws::one_spelling;
+pub use numbers::decode_numbers;
 pub use open::open_keys;
 pub use parts::MAX_KEYS;
 pub use source::KeySource;

@@ -4,6 +4,8 @@ ghost use Rattle.std.specs.Prelude.{◌≡◌, ◌≢◌, Err, IfErr, IfOk, IsEr
 ghost use Rattle.std.specs.Borrow.{sem, RestsIfErr};
 ghost use Rattle.rh_files.specs.contracts.counted.Counted.{the_row};
 ghost use Rattle.rh_files.specs.Counting.{Rose, failures_of, inner_of};
+ghost use Rattle.rh_files.specs.Taking.{TakesAtMost};
+ghost use Rattle.rh_files.specs.Limits.{fault_of, header_bytes, header_taken};
 ghost use Rattle.rh_files.specs.Source.{ComesFrom, FaultComes, HasCount, keys_of_file};
 ghost use Rattle.rh_files.specs.Stream.{ReadsHeader, reader_of, lender_of, taken_of, state_of};
 ghost use Rattle.rh_files.specs.Stream.{coming_of, count_of};
@@ -23,6 +25,8 @@ pub fn open_keys<R: Read>(reader: &mut Counted<R>) -> Result<KeyStream<'_, R>, K
     ensures count { IfOk result (λ s. HasCount (R.remaining (inner_of reader.old)) (count_of s)) }
     ensures fault { IfErr result (λ e.
         FaultComes (option_map keys_of_file (R.remaining (inner_of reader.old))) e) }
+    ensures takes { IfOk result (λ s. TakesAtMost (R.remaining (inner_of reader.old))
+        (R.remaining (inner_of (reader_of s))) header_bytes) }
     ensures none_taken { IfOk result (λ s. taken_of s ≡ 0) }
     ensures open { IfOk result (λ s. state_of s ≡ State.Open) }
     ensures fine { IfOk result (λ s. failures_of (reader_of s) ≡ failures_of reader.old) }
@@ -32,7 +36,9 @@ pub fn open_keys<R: Read>(reader: &mut Counted<R>) -> Result<KeyStream<'_, R>, K
     ensures same_reference { IfOk result (λ s. lender_of s ≡ reader.entry.ghost_name) }
     ensures* refused { sem 𝓛 (RestsIfErr (the_row R.row) reader.entry lender_of result (λ new.
         (IsErrOf result KeyFault.Read → Rose (failures_of reader.old) (failures_of new))
-        × (result ≢ Err KeyFault.Read → failures_of new ≡ failures_of reader.old))) }
+        × (result ≢ Err KeyFault.Read → failures_of new ≡ failures_of reader.old)
+        × TakesAtMost (R.remaining (inner_of reader.old)) (R.remaining (inner_of new))
+        (header_taken (fault_of result)))) }
 {
     let (version, count) = read_header(reader)?;
     Ok(KeyStream {

@@ -1,12 +1,11 @@
-//! The parts of a key file, read one after the other.
+//! The parts of a key file before and after its keys, read one after the other.
 
-ghost use Rattle.std.specs.Prelude.{◌≡◌, ◌≤◌, ◌<◌, ◌+◌, ◌^◌, [], min, length, take, drop, All, IfOk, IsErrOf};
-ghost use Rattle.std.specs.Prelude.{Err, ◌≢◌};
-ghost use Rattle.std.specs.Prelude.{OnOk, OnErr};
-ghost use Rattle.rh_layout.specs.Key.{IsKey};
+ghost use Rattle.std.specs.Prelude.{◌≡◌, ◌≢◌, ◌≤◌, [], length, Err, IfOk, IsErrOf};
 ghost use Rattle.rh_files.specs.Counting.{Rose};
-ghost use Rattle.rh_files.specs.Reading.{Reads, always, front_of, bytes_at, version_at, number_at};
-ghost use Rattle.rh_files.specs.Reading.{count_at, header_at, key_at, keys_at, end_at, batch_at};
+ghost use Rattle.rh_files.specs.Taking.{TakesAtMost};
+ghost use Rattle.rh_files.specs.Limits.{fault_of, header_taken, magic_bytes};
+ghost use Rattle.rh_files.specs.Reading.{Reads, always, bytes_at, version_at, number_at};
+ghost use Rattle.rh_files.specs.Reading.{count_at, header_at, end_at};
 
 use crate::bytes::fill;
 use crate::counted::Counted;
@@ -26,6 +25,8 @@ const RHK2: u32 = 0x5248_4b32;
 fn read_bytes<R: Read>(reader: &mut Counted<R>, buf: &mut [u8]) -> Result<(), KeyFault>
     ensures known { Reads (R.remaining reader.old.inner) (R.remaining reader.new.inner)
         (bytes_at (length buf.new)) (always buf.new) result }
+    ensures takes { TakesAtMost (R.remaining reader.old.inner) (R.remaining reader.new.inner)
+        (length buf.new) }
     ensures read { IsErrOf result KeyFault.Read → Rose reader.old.failures reader.new.failures }
     ensures no_memory { IsErrOf result KeyFault.Memory → ⊥ }
     ensures fine { result ≢ Err KeyFault.Read → reader.new.failures ≡ reader.old.failures }
@@ -42,6 +43,8 @@ fn read_bytes<R: Read>(reader: &mut Counted<R>, buf: &mut [u8]) -> Result<(), Ke
 fn read_version<R: Read>(reader: &mut Counted<R>) -> Result<Version, KeyFault>
     ensures known { Reads (R.remaining reader.old.inner) (R.remaining reader.new.inner) version_at
         (λ v. v) result }
+    ensures takes { TakesAtMost (R.remaining reader.old.inner) (R.remaining reader.new.inner)
+        magic_bytes }
     ensures read { IsErrOf result KeyFault.Read → Rose reader.old.failures reader.new.failures }
     ensures no_memory { IsErrOf result KeyFault.Memory → ⊥ }
     ensures fine { result ≢ Err KeyFault.Read → reader.new.failures ≡ reader.old.failures }
@@ -61,6 +64,8 @@ fn read_version<R: Read>(reader: &mut Counted<R>) -> Result<Version, KeyFault>
 fn read_number<R: Read>(reader: &mut Counted<R>) -> Result<u64, KeyFault>
     ensures known { Reads (R.remaining reader.old.inner) (R.remaining reader.new.inner) number_at
         (λ n. n) result }
+    ensures takes { TakesAtMost (R.remaining reader.old.inner) (R.remaining reader.new.inner)
+        8 }
     ensures read { IsErrOf result KeyFault.Read → Rose reader.old.failures reader.new.failures }
     ensures no_memory { IsErrOf result KeyFault.Memory → ⊥ }
     ensures fine { result ≢ Err KeyFault.Read → reader.new.failures ≡ reader.old.failures }
@@ -74,6 +79,8 @@ fn read_count<R: Read>(reader: &mut Counted<R>) -> Result<u64, KeyFault>
     ensures known { Reads (R.remaining reader.old.inner) (R.remaining reader.new.inner) count_at
         (λ n. n) result }
     ensures few { IfOk result (λ n. n ≤ MAX_KEYS) }
+    ensures takes { TakesAtMost (R.remaining reader.old.inner) (R.remaining reader.new.inner)
+        8 }
     ensures read { IsErrOf result KeyFault.Read → Rose reader.old.failures reader.new.failures }
     ensures no_memory { IsErrOf result KeyFault.Memory → ⊥ }
     ensures fine { result ≢ Err KeyFault.Read → reader.new.failures ≡ reader.old.failures }
@@ -89,6 +96,8 @@ pub(crate) fn read_header<R: Read>(reader: &mut Counted<R>) -> Result<(Version, 
     ensures known { Reads (R.remaining reader.old.inner) (R.remaining reader.new.inner) header_at
         (λ h. h) result }
     ensures few { IfOk result (λ h. h.1 ≤ MAX_KEYS) }
+    ensures takes { TakesAtMost (R.remaining reader.old.inner) (R.remaining reader.new.inner)
+        (header_taken (fault_of result)) }
     ensures read { IsErrOf result KeyFault.Read → Rose reader.old.failures reader.new.failures }
     ensures no_memory { IsErrOf result KeyFault.Memory → ⊥ }
     ensures fine { result ≢ Err KeyFault.Read → reader.new.failures ≡ reader.old.failures }
@@ -98,24 +107,11 @@ pub(crate) fn read_header<R: Read>(reader: &mut Counted<R>) -> Result<(Version, 
     Ok((version, count))
 }
 
-fn read_key<R: Read>(reader: &mut Counted<R>, version: Version, index: u64) -> Result<u64, KeyFault>
-    ensures known { Reads (R.remaining reader.old.inner) (R.remaining reader.new.inner)
-        (key_at version index) (λ k. k) result }
-    ensures in_range { IfOk result IsKey }
-    ensures read { IsErrOf result KeyFault.Read → Rose reader.old.failures reader.new.failures }
-    ensures no_memory { IsErrOf result KeyFault.Memory → ⊥ }
-    ensures fine { result ≢ Err KeyFault.Read → reader.new.failures ≡ reader.old.failures }
-{
-    let key = read_number(reader)?;
-    if !version.allows(key) {
-        return Err(KeyFault::BadKey { index });
-    }
-    Ok(key)
-}
-
-fn read_end<R: Read>(reader: &mut Counted<R>) -> Result<(), KeyFault>
+pub(crate) fn read_end<R: Read>(reader: &mut Counted<R>) -> Result<(), KeyFault>
     ensures known { Reads (R.remaining reader.old.inner) (R.remaining reader.new.inner) end_at
         (λ _. []) result }
+    ensures takes { TakesAtMost (R.remaining reader.old.inner) (R.remaining reader.new.inner)
+        1 }
     ensures read { IsErrOf result KeyFault.Read → Rose reader.old.failures reader.new.failures }
     ensures no_memory { IsErrOf result KeyFault.Memory → ⊥ }
     ensures fine { result ≢ Err KeyFault.Read → reader.new.failures ≡ reader.old.failures }
@@ -128,54 +124,4 @@ fn read_end<R: Read>(reader: &mut Counted<R>) -> Result<(), KeyFault>
         return Err(KeyFault::Long);
     }
     Ok(())
-}
-
-/// Fills the slice with keys, of which the first has this index.
-fn read_keys<R: Read>(
-    reader: &mut Counted<R>,
-    version: Version,
-    index: u64,
-    batch: &mut [u64],
-) -> Result<(), KeyFault>
-    requires { index + length batch.old < 2 ^ 64 }
-    ensures known { Reads (R.remaining reader.old.inner) (R.remaining reader.new.inner)
-        (keys_at version index (length batch.new)) (always batch.new) result }
-    ensures in_range { OnOk result (All IsKey batch.new) }
-    ensures read { IsErrOf result KeyFault.Read → Rose reader.old.failures reader.new.failures }
-    ensures no_memory { IsErrOf result KeyFault.Memory → ⊥ }
-    ensures fine { result ≢ Err KeyFault.Read → reader.new.failures ≡ reader.old.failures }
-{
-    let mut at = index;
-    for slot in batch.iter_mut() {
-        *slot = read_key(reader, version, at)?;
-        at += 1;
-    }
-    Ok(())
-}
-
-/// The next keys, of which the first has this index and so many are left, and then the end.
-pub(crate) fn read_batch<R: Read>(
-    reader: &mut Counted<R>,
-    version: Version,
-    index: u64,
-    left: u64,
-    batch: &mut [u64],
-) -> Result<usize, KeyFault>
-    requires { index + left < 2 ^ 64 }
-    ensures known { Reads (R.remaining reader.old.inner) (R.remaining reader.new.inner)
-        (batch_at version index left (length batch.new)) (front_of batch.new) result }
-    ensures rest { IfOk result (λ n. drop n batch.new ≡ drop n batch.old) }
-    ensures many { IfOk result (λ n. n ≡ min (length batch.new) left) }
-    ensures in_range { IfOk result (λ n. All IsKey (take n batch.new)) }
-    ensures read { IsErrOf result KeyFault.Read → Rose reader.old.failures reader.new.failures }
-    ensures no_memory { IsErrOf result KeyFault.Memory → ⊥ }
-    ensures fine { result ≢ Err KeyFault.Read → reader.new.failures ≡ reader.old.failures }
-{
-    if left == 0 {
-        read_end(reader)?;
-        return Ok(0);
-    }
-    let many = batch.len().min(left as usize);
-    read_keys(reader, version, index, &mut batch[..many])?;
-    Ok(many)
 }

@@ -3,9 +3,10 @@
 ghost use Rattle.std.specs.Prelude.{◌≤◌};
 ghost use Rattle.rh_files.specs.declared.parts.TheConstants.{MAX_KEYS};
 
+use crate::batch::read_batch;
 use crate::counted::Counted;
 use crate::fault::KeyFault;
-use crate::parts::{MAX_KEYS, read_batch};
+use crate::parts::MAX_KEYS;
 use crate::source::KeySource;
 use crate::version::Version;
 use std::io::Read;
@@ -35,6 +36,8 @@ impl<R: Read> KeyStream<'_, R> {
     ghost use Rattle.std.specs.Prelude.{All, take, drop};
     ghost use Rattle.rh_layout.specs.Key.{IsKey};
     ghost use Rattle.rh_files.specs.Counting.{Rose, failures_of, inner_of};
+    ghost use Rattle.rh_files.specs.Taking.{TakesAtMost};
+    ghost use Rattle.rh_files.specs.Limits.{batch_bytes, fault_of};
     ghost use Rattle.rh_files.specs.Reading.{Reads, front_of, batch_at};
     ghost use Rattle.rh_files.specs.Stream.{reader_of, lender_of, header_of, version_of, count_of};
     ghost use Rattle.rh_files.specs.Stream.{taken_of, left_of, state_of, state_after, answer_again};
@@ -62,6 +65,11 @@ impl<R: Read> KeyStream<'_, R> {
             (batch_at (version_of self.old) (taken_of self.old) (left_of self.old)
             (length batch.new))
             (front_of batch.new) result }
+        ensures takes { state_of self.old ≡ State.Open →
+            TakesAtMost (R.remaining (inner_of (reader_of self.old)))
+            (R.remaining (inner_of (reader_of self.new)))
+            (batch_bytes (taken_of self.old) (left_of self.old) (length batch.new)
+            (fault_of result)) }
         ensures many { state_of self.old ≡ State.Open →
             IfOk result (λ n. n ≡ min (length batch.new) (left_of self.old)) }
         ensures taken { state_of self.old ≡ State.Open →

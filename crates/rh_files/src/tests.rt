@@ -84,8 +84,8 @@ fn other_bytes_are_refused(rt: HostRuntime) {
 
 #[test]
 fn each_read_fails(rt: HostRuntime) {
-    // The magic, the count, three keys and the end.
-    for n in 1..7u64 {
+    // The magic, the count, the part of the three keys and the end.
+    for n in 1..5u64 {
         let mut reader = Counted::new(FaultyReader::new(THREE_KEYS.as_slice(), n));
         assert_eq!(rt;
             read_keys(rt.alloc(), &mut reader).err(),
@@ -94,7 +94,7 @@ fn each_read_fails(rt: HostRuntime) {
         );
         assert_eq!(rt; reader.failures(), 1);
     }
-    let mut reader = Counted::new(FaultyReader::new(THREE_KEYS.as_slice(), 7));
+    let mut reader = Counted::new(FaultyReader::new(THREE_KEYS.as_slice(), 5));
     assert!(rt; read_keys(rt.alloc(), &mut reader).is_ok());
     assert_eq!(rt; reader.failures(), 0);
 }
@@ -125,7 +125,7 @@ fn keys_come_in_batches(rt: HostRuntime) -> Result<(), Fail> {
 fn a_fault_ends_the_stream(rt: HostRuntime) -> Result<(), Fail> {
     let mut batch = [0; 2];
     let mut reader = Counted::new(
-        b"RHK1\0\0\0\0\0\0\0\x03\0\0\0\0\0\0\0\0\0\0\0\0\0\0\0\x01".as_slice(),
+        b"RHK1\0\0\0\0\0\0\0\x03\0\0\0\0\0\0\0\0\0\0\0\0\0\0\0\x01\0\0\0\0\0\0\0\x02".as_slice(),
     );
     let mut stream = open_keys(&mut reader)?;
     for _ in 0..3u32 {
@@ -134,14 +134,67 @@ fn a_fault_ends_the_stream(rt: HostRuntime) -> Result<(), Fail> {
             Some(KeyFault::BadKey { index: 0 })
         );
     }
+    // The batch of two keys was taken.
     assert_eq!(rt; reader.get_ref().len(), 8);
 
-    let mut reader = Counted::new(FaultyReader::new(FIVE_KEYS, 4));
+    let mut reader = Counted::new(FaultyReader::new(FIVE_KEYS, 3));
     let mut stream = open_keys(&mut reader)?;
     for _ in 0..3u32 {
         assert_eq!(rt; stream.next_batch(&mut batch).err(), Some(KeyFault::Read));
     }
     assert_eq!(rt; reader.failures(), 1);
+    Ok(())
+}
+
+// A key file of the keys from 0 on, of which the one with the index 4,500 is out of range. It says
+// that it has 10,000 keys.
+fn with_a_bad_key(alloc: Global, many: u64) -> Result<Vec<u8>, Fail> {
+    let mut bytes = Vec::new(alloc);
+    bytes.extend_from_slice(b"RHK2\0\0\0\0\0\0\x27\x10")?;
+    for index in 0..many {
+        let key = if index == 4_500 { u64::MAX } else { index };
+        bytes.extend_from_slice(&key.to_be_bytes())?;
+    }
+    Ok(bytes)
+}
+
+#[test]
+fn keys_come_in_parts(rt: HostRuntime) -> Result<(), Fail> {
+    // The file ends in the first part; in the second before the bad key, within its bytes and after
+    // it; in the third; and after the last key.
+    for (many, cut, fault) in [
+        (100, 0, KeyFault::Short),
+        (4_500, 0, KeyFault::Short),
+        (4_501, 1, KeyFault::Short),
+        (4_501, 0, KeyFault::BadKey { index: 4_500 }),
+        (4_600, 3, KeyFault::BadKey { index: 4_500 }),
+        (9_000, 0, KeyFault::BadKey { index: 4_500 }),
+        (10_000, 0, KeyFault::BadKey { index: 4_500 }),
+    ] {
+        let bytes = with_a_bad_key(rt.alloc(), many)?;
+        let outcome = all_keys(rt.alloc(), &bytes[..bytes.len().saturating_sub(cut)]);
+        assert_eq!(rt; outcome.err(), Some(fault), "at {many}");
+    }
+    Ok(())
+}
+
+#[test]
+fn what_a_fault_leaves_is_still_there(rt: HostRuntime) -> Result<(), Fail> {
+    // The third part has 1,808 keys.
+    let bytes = with_a_bad_key(rt.alloc(), 10_000)?;
+    let mut reader = Counted::new(bytes.as_slice());
+    assert!(rt; read_keys(rt.alloc(), &mut reader).is_err());
+    assert_eq!(rt; reader.get_ref().len(), 8 * 1_808);
+
+    for (bytes, left) in [
+        (b"RHKXmore".as_slice(), 4),
+        (b"RHK1\0\0\0\0\0\x0f\x42\x41more", 4),
+        (b"RHK1\0\0\0\0\0\0\0\0more", 3),
+    ] {
+        let mut reader = Counted::new(bytes);
+        assert!(rt; read_keys(rt.alloc(), &mut reader).is_err());
+        assert_eq!(rt; reader.get_ref().len(), left);
+    }
     Ok(())
 }
 

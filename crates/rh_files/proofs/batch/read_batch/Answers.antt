@@ -1,7 +1,7 @@
 use Rattle.std.proofs.Common.{◌++◌, ◌≡◌, length, drop, arith, rules, length-append, length-drop, ◌∙◌}
 use Rattle.std.proofs.lemmas.Result.{err_from_is_err_and}
 use Rattle.rh_files.proofs.Next.{end_fails, end_comes, keys_fail, keys_come}
-use Rattle.rh_files.proofs.parts.read_batch.Goals as goal
+use Rattle.rh_files.proofs.batch.read_batch.Goals as goal
 
 pub returns-in_err-read_end-clause-known : goal.returns-in_err-read_end-clause-known
 returns-in_err-read_end-clause-known g c =
