@@ -35,6 +35,11 @@ abbrev pub from_keys : KeyFault → DumpFault
 from_keys faults.Memory = Memory
 from_keys fault = Keys fault
 
+-- the fault that was found in the key file, if one was
+abbrev pub fault_in : {X : Type 0} → Result X DumpFault → Option KeyFault
+fault_in (Err (Keys fault)) = Some fault
+fault_in r = None
+
 -- The bytes were a key file and its dump, or a front of it, was written; or they were none; or no table is large enough.
 abbrev pub Dumps : {X : Type 0} → (bytes left old new : Option (List ℕ)) → Result X DumpFault → Type 0
 Dumps bytes left old new (Ok x) = (text : List ℕ) × IsDumpRead bytes left text × Appends old new text

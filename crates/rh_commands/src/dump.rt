@@ -1,8 +1,11 @@
 //! The command `dump`: the table of the keys of a key file.
 
-ghost use Rattle.std.specs.Prelude.{◌≡◌, ◌≢◌, IfErr, IsErrOf};
+ghost use Rattle.std.specs.Prelude.{◌≡◌, ◌≢◌, Err, IfErr, IsErrOf, OnOk};
 ghost use Rattle.rh_files.specs.Counting.{Rose, failures_of, inner_of};
-ghost use Rattle.rh_commands.specs.Dump.{Dumps};
+ghost use Rattle.rh_files.specs.Reading.{BeginsWithHeader};
+ghost use Rattle.rh_files.specs.Taking.{TakesAtMost};
+ghost use Rattle.rh_files.specs.Limits.{TakesOfFile, most_bytes};
+ghost use Rattle.rh_commands.specs.Dump.{Dumps, fault_in};
 
 use rh_edit::SeqSet;
 use rh_files::{Counted, KeyFault, WriteFault, read_keys, write_dump};
@@ -75,10 +78,19 @@ pub fn dump_keys<R: Read, W: Write>(
     ensures dumped { Dumps (R.remaining (inner_of reader.old)) (R.remaining (inner_of reader.new))
         (W.contents (inner_of writer.old)) (W.contents (inner_of writer.new)) result }
     ensures untouched { IfErr result (λ fault. fault ≢ DumpFault.Write → writer.new ≡ writer.old) }
+    ensures takes { TakesOfFile (R.remaining (inner_of reader.old))
+        (R.remaining (inner_of reader.new)) (fault_in result) }
+    ensures bounded { TakesAtMost (R.remaining (inner_of reader.old))
+        (R.remaining (inner_of reader.new)) most_bytes }
     ensures read { IsErrOf result (DumpFault.Keys KeyFault.Read) →
         Rose (failures_of reader.old) (failures_of reader.new) }
+    ensures memory { IsErrOf result DumpFault.Memory →
+        BeginsWithHeader (R.remaining (inner_of reader.old)) }
     ensures write { IsErrOf result DumpFault.Write →
         Rose (failures_of writer.old) (failures_of writer.new) }
+    ensures written { OnOk result (failures_of writer.new ≡ failures_of writer.old) }
+    ensures fine { result ≢ Err (DumpFault.Keys KeyFault.Read) →
+        failures_of reader.new ≡ failures_of reader.old }
 {
     let keys = read_keys(alloc, reader)?;
     let Some(bits) = bits_for(MIN_BITS, 0, keys.len() as u64) else {
