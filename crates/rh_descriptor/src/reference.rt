@@ -18,7 +18,7 @@ pub struct Piece {
 }
 
 /// A word that a worker reads, and what it is to it.
-#[derive(Clone, Copy, Debug, PartialEq, Eq)]
+#[derive(Clone, Copy)]
 pub enum Reading {
     /// Any word of the table, of which nothing is noted.
     Place(usize),

@@ -29,7 +29,7 @@ pub struct Shape {
 
 /// A part of a shared table: one word. Workers, entries and marks are counted from 0, entries by
 /// their place in the worker's pool; a descriptor has the number of its first entry.
-#[derive(Clone, Copy, Debug, PartialEq, Eq)]
+#[derive(Clone, Copy)]
 pub enum Part {
     Cell(usize),
     /// How far the descriptor is that begins at this entry.

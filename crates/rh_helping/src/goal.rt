@@ -4,7 +4,7 @@ use rh_descriptor::Ref;
 use rh_tagword::Control;
 
 /// A descriptor that a worker goes about, and how far it has come.
-#[derive(Clone, Copy, Debug, PartialEq, Eq)]
+#[derive(Clone, Copy)]
 pub struct Task {
     pub desc: Ref,
     /// The number of its entries.
@@ -17,7 +17,7 @@ pub struct Task {
 }
 
 /// The next entry of a task.
-#[derive(Clone, Copy, Debug, PartialEq, Eq)]
+#[derive(Clone, Copy)]
 pub struct Goal {
     pub task: Task,
     pub cell: usize,
@@ -28,7 +28,7 @@ pub struct Goal {
 }
 
 /// An own mark that was placed for a goal.
-#[derive(Clone, Copy, Debug, PartialEq, Eq)]
+#[derive(Clone, Copy)]
 pub struct Placed {
     pub goal: Goal,
     pub mark: Ref,

@@ -15,7 +15,7 @@ pub(crate) fn control_of_word(word: u64) -> Control
 }
 
 /// What stands in a cell.
-#[derive(Clone, Copy, Debug, PartialEq, Eq)]
+#[derive(Clone, Copy)]
 pub enum Met {
     /// The value of the cell itself.
     Value,

@@ -10,7 +10,7 @@ use crate::reading::{control_of_word, named_desc};
 use rh_descriptor::{Piece, Reading, Ref, Shape, Side, StepKind, read_word, settle_mark};
 
 /// The next step with a mark that was met in a cell.
-#[derive(Clone, Copy, Debug, PartialEq, Eq)]
+#[derive(Clone, Copy)]
 pub enum Settling {
     /// Read of its descriptor.
     Desc {

@@ -14,7 +14,7 @@ use rh_descriptor::{Ref, Shape, Side, StepKind};
 use rh_tagword::Control;
 
 /// The next step of a worker that goes about a descriptor, its own or another's.
-#[derive(Clone, Copy, Debug, PartialEq, Eq)]
+#[derive(Clone, Copy)]
 pub enum Work {
     /// Read of its control.
     Control(Ref),
@@ -53,7 +53,7 @@ pub enum Work {
 }
 
 /// What a step leads to.
-#[derive(Clone, Copy, Debug, PartialEq, Eq)]
+#[derive(Clone, Copy)]
 pub enum Outcome {
     /// The next step.
     On(Work),

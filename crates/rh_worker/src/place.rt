@@ -7,7 +7,7 @@ use rh_descriptor::StepKind;
 use rh_helping::{Settling, Work};
 
 /// An own descriptor that is to be opened. Its entries stand in the worker's `Sights`.
-#[derive(Clone, Copy, Debug, PartialEq, Eq)]
+#[derive(Clone, Copy)]
 pub struct Plan {
     /// How many entries it has.
     pub entries: usize,
@@ -16,7 +16,7 @@ pub struct Plan {
 }
 
 /// The next step of a worker.
-#[derive(Clone, Copy, Debug, PartialEq, Eq)]
+#[derive(Clone, Copy)]
 pub enum Place {
     /// None: no key is begun.
     Idle,

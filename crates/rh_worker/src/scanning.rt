@@ -30,7 +30,7 @@ use rh_probe::cell_after;
 use rh_tagword::plain_value;
 
 /// What a cell was read to hold.
-#[derive(Clone, Copy, Debug, PartialEq, Eq)]
+#[derive(Clone, Copy)]
 pub(crate) enum Sight {
     Value(u64),
     Mark(Ref),

@@ -24,7 +24,7 @@ pub struct Sights {
 }
 
 /// What the cells that were seen lead to.
-#[derive(Clone, Copy, Debug, PartialEq, Eq)]
+#[derive(Clone, Copy)]
 pub enum Decision {
     /// The key is done, with this answer.
     Done(bool),

@@ -73,14 +73,14 @@ impl Worker {
     pub fn is_idle(&self) -> bool
         ensures { IsTrue result ↔ (self.now.place ≡ place.Idle) }
     {
-        self.place == Place::Idle
+        matches!(self.place, Place::Idle)
     }
 
     /// Whether no step is left before the next round.
     pub fn is_spent(&self) -> bool
         ensures { IsTrue result ↔ (self.now.place ≡ place.Spent) }
     {
-        self.place == Place::Spent
+        matches!(self.place, Place::Spent)
     }
 
     /// Begins a key.
