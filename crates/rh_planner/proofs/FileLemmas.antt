@@ -22,7 +22,8 @@ use Rattle.rh_shelf.specs.Shelf.{Files, InDoubt, Puts, with_file}
 use Rattle.rh_planner.specs.declared.key_lists.KeyList.{KeyList}
 use Rattle.rh_planner.specs.declared.key_lists.Place.{Place}
 use Rattle.rh_planner.specs.declared.key_lists.Place.TheVariants.{Path, Memory}
-use Rattle.rh_planner.specs.Commands.{IsSnapshotOf, keys_found, table_found}
+use Rattle.rh_planner.specs.Commands.{IsSnapshotOf}
+use Rattle.rh_planner.specs.Found.{keys_found, table_found}
 use Rattle.rh_planner.specs.Files.{Bytes, File, FileMap, HasFiles, HasOthers, IsFile, Sealed, with_snapshot}
 use Rattle.rh_planner.specs.KeyLists.{Stands, bytes_at as bytes_in, path_of, paths_of}
 use Rattle.rh_planner.specs.Meaning.{keys_in, keys_or_cause, table_in, table_or_cause}
@@ -113,9 +114,9 @@ module _ (now : Files) (path bytes : List ℕ) where
   still_stands list (Path p) keys at apart stands =
       let away = elsewhere path p.now (or_parts (bytes_eq p.now path) false apart).0 in
       let same : with_file now path bytes p.now ≡ now p.now = ap (λ b. cond b (Some bytes) (now p.now)) away in
-      (stands.0, ap (bytes_in (with_file now path bytes)) at ∙ same ∙ sym (ap (bytes_in now) at) ∙ stands.1, stands.2, stands.3)
+      (ap keys_found (ap (bytes_in (with_file now path bytes)) at ∙ same ∙ sym (ap (bytes_in now) at)) ∙ stands.0, stands.1)
   still_stands list (Memory held) keys at apart stands =
-      (stands.0, ap (bytes_in (with_file now path bytes)) at ∙ sym (ap (bytes_in now) at) ∙ stands.1, stands.2, stands.3)
+      (ap keys_found (ap (bytes_in (with_file now path bytes)) at ∙ sym (ap (bytes_in now) at)) ∙ stands.0, stands.1)
 
   stand_apart : (lists : List KeyList) (named : Named) → is_given path (paths_of lists) ≡ false → ListsStand (Some now) lists named → ListsStand (Some (with_file now path bytes)) lists named
   unfolding is_given

@@ -1,3 +1,4 @@
+pub mod AgainLemmas
 pub mod FileLemmas
 pub mod SizeLemmas
 pub mod CommandLemmas

@@ -1,26 +1,23 @@
 -- The lists that have a name.
-use Rattle.std.proofs.Common.{◌≡◌, ◌∙◌, ap, sym, subst, refl, arith, ℕ, suc, ◌+◌, ◌^◌, ◌<◌, inl, inr, Bool, List, [], ◌∷◌, ◌++◌, length, get_or, Option, Some, None, Result, Ok, Err}
+use Rattle.std.proofs.Common.{◌≡◌, ◌∙◌, ap, sym, subst, arith, ℕ, suc, ◌+◌, ◌^◌, ◌<◌, inl, inr, Bool, List, [], ◌∷◌, ◌++◌, length, get_or, Option, Some, None, Ok}
 use Rattle.std.specs.Prelude.{nat_lt, unwrap_or}
 use Rattle.std.proofs.lemmas.Grind.{flat_map-append}
 use Rattle.std.proofs.lemmas.List.{append-nil}
 use Rattle.std.specs.List.{position_or_len}
 use Rattle.std.specs.Str.{bytes_eq}
 use Rattle.std.proofs.lemmas.Bool.{cases_Bool, ltb-true}
-use Rattle.rh_files.specs.declared.fault.KeyFault.{KeyFault}
 use Rattle.std.specs.Prelude.{All}
 use Rattle.rh_layout.specs.Key.{IsKey}
 use Rattle.rh_layout.specs.declared.limits.TheConstants.{MAX_BITS}
 use Rattle.rh_files.specs.declared.version.Version.TheVariants.{Second}
 use Rattle.rh_files.specs.KeyFile.{KeyFile, spelling}
 use Rattle.rh_files.specs.Source as source
-use Rattle.rh_files.specs.Source.{keys_of_file}
 use Rattle.rh_files.proofs.Grammar.{file_given}
 use Rattle.rh_shelf.specs.Shelf.{Files}
 use Rattle.rh_script.specs.Plan.{place_of}
-use Rattle.rh_planner.specs.declared.fault.Cause.{Cause}
 use Rattle.rh_planner.specs.declared.key_lists.KeyList.{KeyList}
 use Rattle.rh_planner.specs.KeyLists.{Stands, path_of, paths_of}
-use Rattle.rh_planner.specs.Commands.{keys_found}
+use Rattle.rh_planner.specs.Found.{keys_found}
 use Rattle.rh_planner.specs.Meaning.{keys_or_cause, list_of}
 use Rattle.rh_planner.specs.Steps.{ListsStand, Named, names_of}
 
@@ -29,14 +26,6 @@ one_more_stands files [] [] list name keys stand new = (new, tt)
 one_more_stands files [] (n ∷ named) list name keys stand new = absurd stand
 one_more_stands files (l ∷ lists) [] list name keys stand new = absurd stand
 one_more_stands files (l ∷ lists) (n ∷ named) list name keys stand new = (stand.0, one_more_stands files lists named list name keys stand.1 new)
-
-the_keys : (said : Result (List ℕ) KeyFault) (keys : List ℕ) → keys_or_cause said ≡ Ok keys → said ≡ Ok keys
-the_keys (Ok k) keys h = ap (λ (r : Result (List ℕ) Cause). elim r [ Ok x ↦ Ok x | Err e ↦ Ok k ]) h
-the_keys (Err e) keys h = absurd cc
-
-pub bytes_of_keys : (found : Option (List ℕ)) (keys : List ℕ) → keys_found found ≡ Ok keys → (bytes : List ℕ) × (found ≡ Some bytes) × (keys_of_file bytes ≡ Ok keys)
-bytes_of_keys None keys h = absurd cc
-bytes_of_keys (Some bytes) keys h = (bytes, refl, the_keys (keys_of_file bytes) keys h)
 
 -- ---- the list of a name
 
@@ -79,14 +68,14 @@ stands_at files lists named name i d stand is =
 
 -- ---- a list in memory
 
-pub spelled_in_memory : (keys saved old new : List ℕ) → old ≡ [] → new ≡ old ++ spelling Second keys → All IsKey keys → length keys < 2 ^ MAX_BITS → keys ≡ saved → keys_of_file new ≡ Ok saved
+pub spelled_in_memory : (keys saved old new : List ℕ) → old ≡ [] → new ≡ old ++ spelling Second keys → All IsKey keys → length keys < 2 ^ MAX_BITS → keys ≡ saved → keys_found (Some new) ≡ Ok saved
 spelled_in_memory keys saved old new none written in_range few same =
     let file : KeyFile Second new keys = record {
       spelled = written ∙ ap (λ (l : List ℕ). l ++ spelling Second keys) none;
       few = omega (arith, few);
       in_range = λ k d inside. (omega arith, in_range k d inside);
     } in
-    ap source.keys_in (file_given Second new keys file) ∙ ap (λ (k : List ℕ). Ok k) same
+    ap (λ r. keys_or_cause (source.keys_in r)) (file_given Second new keys file) ∙ ap (λ (k : List ℕ). Ok k) same
 
 -- ---- the paths of lists
 

@@ -23,6 +23,8 @@ use Rattle.rh_planner.specs.declared.key_lists.KeyList.{KeyList}
 use Rattle.rh_planner.specs.Files.{HasFiles, given_files}
 use Rattle.rh_planner.specs.KeyLists.{paths_of}
 use Rattle.rh_planner.specs.Meaning.{◌>>=◌, World, Outcome, at_line, keys_in, meaning, outcome_of, size_for, start, table_in}
+use Rattle.rh_files.specs.Counting.{Rose}
+use Rattle.rh_planner.specs.Outside.{IsOutside}
 use Rattle.rh_planner.specs.Ends.{Done, EndsBy, LeavesFiles, SaysAll, Stopped}
 use Rattle.rh_planner.specs.Steps.{HasList, IsApart, ListsStand, Named, StepDone, names_of, world_of}
 use Rattle.rh_planner.specs.Reached.{CarriedOut, Reached}
@@ -259,8 +261,9 @@ module _ (files : Files) (steps : List Numbered) (i : ℕ) (step : PlannedStep) 
       let its_paths = subst (λ said. paths_of lists' ≡ paths_of lists ++ file_of said) here.said paths in
       subst (λ l. Reached files now l after lists' old new) (sym here.more) (reached_more files (take i steps) here.numbered set after lists lists' was now old middle new so_far its its_paths)
 
-  pub stops_here : (now : Option Files) (n m k : ℕ) (new : Option (List ℕ)) (cause : Cause) → k ≡ n → EndsBy (outcome_of world_here (task_as step.task).0) k m middle new cause × LeavesFiles (outcome_of world_here (task_as step.task).0) (task_as step.task).0 so_far.done.made now cause → Stopped files now n m steps old new (record { line = step.line; cause = cause })
-  stops_here now n m k new cause same ends = record {
+  pub stops_here : (now : Option Files) (n m k starts starts' begun : ℕ) (new : Option (List ℕ)) (cause : Cause) → k ≡ n → begun ≡ starts → EndsBy (outcome_of world_here (task_as step.task).0) (IsOutside (task_as step.task).0 (Rose k m) (Rose begun starts')) middle new cause × LeavesFiles (outcome_of world_here (task_as step.task).0) (task_as step.task).0 so_far.done.made now cause
+      → Stopped files now (Rose n m) (Rose starts starts') steps old new (record { line = step.line; cause = cause })
+  stops_here now n m k starts starts' begun new cause same as_begun ends = record {
     before = take i steps;
     step = here.numbered;
     after = drop (i + 1) steps;
@@ -273,7 +276,9 @@ module _ (files : Files) (steps : List Numbered) (i : ℕ) (step : PlannedStep) 
     says = so_far.done.says;
     middle = middle;
     written = so_far.done.written;
-    ends = subst (λ f. EndsBy (outcome_of world_here here.numbered.instruction) f m middle new cause) same (subst (λ said. EndsBy (outcome_of world_here said) k m middle new cause) here.said ends.0);
+    ends = subst (λ f. EndsBy (outcome_of world_here here.numbered.instruction) (IsOutside here.numbered.instruction (Rose f m) (Rose starts starts')) middle new cause) same
+        (subst (λ f. EndsBy (outcome_of world_here here.numbered.instruction) (IsOutside here.numbered.instruction (Rose k m) (Rose f starts')) middle new cause) as_begun
+        (subst (λ said. EndsBy (outcome_of world_here said) (IsOutside said (Rose k m) (Rose begun starts')) middle new cause) here.said ends.0));
     files_now = subst (λ said. LeavesFiles (outcome_of world_here said) said so_far.done.made now cause) here.said ends.1;
   }
 

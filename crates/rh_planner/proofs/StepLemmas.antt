@@ -1,5 +1,5 @@
 -- How a step ends.
-use Rattle.std.proofs.Common.{◌≡◌, ◌∙◌, ap, subst, sym, refl, arith, ℕ, true, false, inl, inr, List, [], ◌∷◌, ◌++◌, length, Option, Some, None, Result, Ok}
+use Rattle.std.proofs.Common.{◌≡◌, ◌∙◌, ap, subst, sym, refl, arith, ℕ, true, false, inl, inr, List, [], ◌∷◌, ◌++◌, length, Option, Some, None, Result, Ok, Err}
 use Rattle.std.specs.FinSet as set
 use Rattle.std.proofs.KnownBytes.{Appends-nil}
 use Rattle.rh_edit.specs.Held.{Held}
@@ -18,7 +18,7 @@ use Rattle.rh_planner.specs.declared.fault.Cause.{Cause}
 use Rattle.rh_planner.specs.declared.fault.Cause.TheVariants.{Write}
 use Rattle.rh_planner.specs.Meaning.{◌>>=◌, World, Outcome, adds, drops, keeps, flips, keys_in, restores, snapshots, table_in, uses}
 use Rattle.rh_planner.specs.Commands.{Added, Dropped, Kept, Flipped}
-use Rattle.rh_planner.specs.Ends.{EndsBy, IsOutside, RefusedBy, TellsFront}
+use Rattle.rh_planner.specs.Ends.{EndsBy, RefusedBy, TellsFront}
 use Rattle.rh_planner.specs.Steps.{Named, world_of}
 use Rattle.rh_planner.specs.declared.key_lists.KeyList.{KeyList}
 use Rattle.rh_planner.specs.KeyLists.{Stands}
@@ -32,15 +32,18 @@ all_read Ask S (k ∷ keys) = omega (arith, all_read Ask S keys)
 
 -- ---- refusals
 
-pub step_refused : {Y : Type 0} (said : Result Y Cause) (make : Y → Outcome) (n m : ℕ) (old : Option (List ℕ)) (cause : Cause) → RefusedBy said n m cause → EndsBy (said >>= make) n m old old cause
-step_refused said make n m old cause (inl is) = inl (Appends-nil old, inl (ap (λ r. r >>= make) is))
-step_refused said make n m old cause (inr outside) = inl (Appends-nil old, inr outside)
+module _ (outside : Cause → Type 0) (old : Option (List ℕ)) (cause : Cause) where
+  pub step_refused : {Y : Type 0} (said : Result Y Cause) (make : Y → Outcome) → RefusedBy said outside cause → EndsBy (said >>= make) outside old old cause
+  step_refused said make (inl is) = inl (Appends-nil old, inl (ap (λ r. r >>= make) is))
+  step_refused said make (inr out) = inl (Appends-nil old, inr out)
 
-pub found_refused : {Y : Type 0} (found said : Result Y Cause) (make : Y → Outcome) (n m : ℕ) (old : Option (List ℕ)) (cause : Cause) → found ≡ said → RefusedBy found n m cause → EndsBy (said >>= make) n m old old cause
-found_refused found said make n m old cause same refused = step_refused said make n m old cause (subst (λ r. RefusedBy r n m cause) same refused)
+  pub found_refused : {Y : Type 0} (found said : Result Y Cause) (make : Y → Outcome) → found ≡ said → RefusedBy found outside cause → EndsBy (said >>= make) outside old old cause
+  found_refused found said make same refused = step_refused said make (subst (λ r. RefusedBy r outside cause) same refused)
 
-pub step_outside : (outcome : Outcome) (n m : ℕ) (old : Option (List ℕ)) (cause : Cause) → IsOutside n m cause → EndsBy outcome n m old old cause
-step_outside outcome n m old cause outside = inl (Appends-nil old, inr outside)
+  -- a step that nothing refuses but what comes from outside
+  pub none_refused : {Y : Type 0} (found : Result Y Cause) (y : Y) (outcome : Outcome) → found ≡ Ok y → RefusedBy found outside cause → EndsBy outcome outside old old cause
+  none_refused found y outcome is (inl said) = let none : Ok y ≡ Err cause = sym is ∙ said in absurd cc
+  none_refused found y outcome is (inr out) = inl (Appends-nil old, inr out)
 
 pub not_told : (outcome : Outcome) (old new : Option (List ℕ)) (after : World) (account : Account) (text : List ℕ) → outcome ≡ Ok (after, account) → Says account text → AppendsFront old new text
     → (Write ≡ Write) × (done : World × Account) × (outcome ≡ Ok done) × TellsFront done.1 old new
@@ -73,7 +76,7 @@ module _ (old new : Held) (lists : Named) (files : FileMap) (name keys : List �
       ∙ (λ i. Ok (record (world_of old lists files) { held = sym kept.held i; bits = new.bits }, accounts.Kept name (read_is i) (sym kept.counted i) (set.len (sym kept.held i)) new.bits))
       ∙ (λ i. Ok (world_of new lists files, accounts.Kept name read found (sym held_is i) (sym bits_is i)))
 
-  pub flips_is : (t : Tally × Tally) → Flipped keys old new t → flips (world_of old lists files) name keys ≡ Ok (world_of new lists files, accounts.Flipped name t.0.read t.0.removed t.1.added held bits)
+  pub flips_is : (t : Tally × Tally) → Flipped keys keys old new t → flips (world_of old lists files) name keys ≡ Ok (world_of new lists files, accounts.Flipped name t.0.read t.0.removed t.1.added held bits)
   flips_is t flipped =
       ap (λ r. r >>= (λ bits. Ok (record (world_of old lists files) { held = after; bits = bits }, accounts.Flipped name (length keys) (tally_of Remove old.keys keys).removed (tally_of Insert left others).added (set.len after) bits))) flipped.size
       ∙ (λ i. Ok (record (world_of old lists files) { held = sym flipped.held i; bits = new.bits }, accounts.Flipped name (read i) (sym flipped.removed i).removed (sym flipped.added i).added (set.len (sym flipped.held i)) new.bits))
@@ -93,7 +96,7 @@ module _ (old new : Held) (lists : Named) (files : FileMap) (name keys : List �
 
 pub list_count : (files : Option Files) (list : KeyList) (keys : List ℕ) → Stands files list keys → length keys ≡ list.count
 list_count None list keys stands = absurd stands
-list_count (Some files) list keys stands = stands.3
+list_count (Some files) list keys stands = stands.1
 
 -- ---- a list more
 

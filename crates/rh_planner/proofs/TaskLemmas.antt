@@ -16,25 +16,15 @@ use Rattle.rh_planner.specs.declared.key_lists.KeyList.{KeyList}
 use Rattle.rh_planner.specs.Files.{Bytes, File, FileMap, HasFiles, Sealed}
 use Rattle.rh_planner.specs.KeyLists.{Stands}
 use Rattle.rh_planner.specs.Meaning.{◌>>=◌, World, Outcome, keys_in, keys_or_cause, list_of, outcome_of, size_for, size_or_cause, table_in, table_or_cause}
+use Rattle.rh_planner.specs.Outside.{IsOutside}
 use Rattle.rh_planner.specs.Ends.{EndsBy, LeavesFiles, LeavesOthers}
 use Rattle.rh_planner.specs.Steps.{ListsStand, Named, PlainEnds, StateEnds, StepEnds, names_of, world_of}
-use Rattle.rh_planner.proofs.CommandLemmas.{outside_any}
 use Rattle.rh_planner.proofs.ListLemmas.{stands_at}
 
 -- a step that left the lists as they were
-pub step_plain : (outcome : Outcome) (files : FileMap) (now : Option Files) (set : Held) (lists : List KeyList) (named : Named) (n m : ℕ) (old new : Option (List ℕ)) (r : Result (Unit {0}) Cause) → StepEnds outcome (world_of set named files) n m old new r → ListsStand now lists named → PlainEnds outcome files now set lists n m old new r
-step_plain outcome files now set lists named n m old new (Ok x) step stand = (named, step.0, step.1, stand, step.2)
-step_plain outcome files now set lists named n m old new (Err cause) step stand = step
-
-ends_any : (outcome : Outcome) (n m : ℕ) (old new : Option (List ℕ)) (cause : Cause) → EndsBy outcome 0 0 old new cause → EndsBy outcome n m old new cause
-ends_any outcome n m old new cause (inl (written, inl said)) = inl (written, inl said)
-ends_any outcome n m old new cause (inl (written, inr outside)) = inl (written, inr (outside_any n m cause outside))
-ends_any outcome n m old new cause (inr told) = inr told
-
--- a step that did not use the shelf
-still_plain : (outcome : Outcome) (files : FileMap) (now : Option Files) (set : Held) (lists : List KeyList) (n m : ℕ) (old new : Option (List ℕ)) (r : Result (Unit {0}) Cause) → PlainEnds outcome files now set lists 0 0 old new r → PlainEnds outcome files now set lists n m old new r
-still_plain outcome files now set lists n m old new (Ok x) step = step
-still_plain outcome files now set lists n m old new (Err cause) step = ends_any outcome n m old new cause step
+pub step_plain : (outcome : Outcome) (outside : Cause → Type 0) (files : FileMap) (now : Option Files) (set : Held) (lists : List KeyList) (named : Named) (old new : Option (List ℕ)) (r : Result (Unit {0}) Cause) → StepEnds outcome outside (world_of set named files) old new r → ListsStand now lists named → PlainEnds outcome outside files now set lists old new r
+step_plain outcome outside files now set lists named old new (Ok x) step stand = (named, step.0, step.1, stand, step.2)
+step_plain outcome outside files now set lists named old new (Err cause) step stand = step
 
 -- ---- a command that puts no file
 
@@ -105,6 +95,20 @@ never_write w Dump h = absurd cc
 never_write w (Snapshot path) h = absurd cc
 never_write w (Restore path) h = bound_told (table_in (w.files path)) _ (table_told (w.files path)) (λ x g. absurd cc) h
 
+-- nor by what it meets outside
+never_outside : (said : Instruction) (failed refused : Type 0) → IsOutside said failed refused causes.Write → ⊥
+never_outside (Use name path) failed refused h = h
+never_outside (Add name) failed refused h = h
+never_outside (Drop name) failed refused h = h
+never_outside (Ask name) failed refused h = h
+never_outside (Keep name) failed refused h = h
+never_outside (Flip name) failed refused h = h
+never_outside (Save name) failed refused h = h
+never_outside Clear failed refused h = h
+never_outside Dump failed refused h = h
+never_outside (Snapshot path) failed refused h = h
+never_outside (Restore path) failed refused h = h
+
 others_left : (said : Instruction) (files : FileMap) (now : Option Files) → IsPlain said → HasFiles files now → LeavesOthers said files now
 others_left (Use name path) files now plain has = has
 others_left (Add name) files now plain has = has
@@ -122,34 +126,31 @@ module _ (w : World) (said : Instruction) (now : Option Files) (plain : IsPlain 
   made_none : (done : World × Account) → outcome_of w said ≡ Ok done → HasFiles done.0.files now
   made_none done is = subst (λ files. HasFiles files now) (sym (files_stay w said plain) ∙ ap (files_in w.files) is) has
 
-  left_by : (n m : ℕ) (old new : Option (List ℕ)) (cause : Cause) → EndsBy (outcome_of w said) n m old new cause → LeavesFiles (outcome_of w said) said w.files now cause
-  left_by n m old new causes.Missing ends = others_left said w.files now plain has
-  left_by n m old new (causes.Keys fault) ends = others_left said w.files now plain has
-  left_by n m old new (causes.Snap fault) ends = others_left said w.files now plain has
-  left_by n m old new causes.Changed ends = others_left said w.files now plain has
-  left_by n m old new causes.TooLarge ends = others_left said w.files now plain has
-  left_by n m old new causes.Memory ends = others_left said w.files now plain has
-  left_by n m old new causes.NoThread ends = others_left said w.files now plain has
-  left_by n m old new causes.Put ends = others_left said w.files now plain has
-  left_by n m old new causes.Write (inl (written, inl is)) = absurd (never_write w said is)
-  left_by n m old new causes.Write (inl (written, inr outside)) = absurd outside
-  left_by n m old new causes.Write (inr (is_write, done, is, told)) = (done, is, made_none done is)
+  module _ (failed refused : Type 0) (old new : Option (List ℕ)) where
+    abbrev outside : Cause → Type 0
+    outside = IsOutside said failed refused
 
-  plain_state : (set : Held) (lists : List KeyList) (n m : ℕ) (old new : Option (List ℕ)) (r : Result (Unit {0}) Cause) → PlainEnds (outcome_of w said) w.files now set lists n m old new r → StateEnds (outcome_of w said) said w.files now set lists n m old new r
-  plain_state set lists n m old new (Ok x) step = record { named = step.0; files = w.files; account = step.1; is = step.2; stand = step.3; has = has; told = step.4 }
-  plain_state set lists n m old new (Err cause) step = (step, left_by n m old new cause step)
+    left_by : (cause : Cause) → EndsBy (outcome_of w said) outside old new cause → LeavesFiles (outcome_of w said) said w.files now cause
+    left_by causes.Write (inl (written, inl is)) = absurd (never_write w said is)
+    left_by causes.Write (inl (written, inr out)) = absurd (never_outside said failed refused out)
+    left_by causes.Write (inr (is_write, done, is, told)) = (done, is, made_none done is)
+    left_by _ ends = others_left said w.files now plain has
 
-pub plain_now : (w : World) (said : Instruction) → IsPlain said → (before now : Option Files) (set : Held) (lists : List KeyList) (n m : ℕ) (old new : Option (List ℕ)) (r : Result (Unit {0}) Cause) → now ≡ before → HasFiles w.files before → PlainEnds (outcome_of w said) w.files before set lists n m old new r
-    → StateEnds (outcome_of w said) said w.files now set lists n m old new r
-plain_now w said plain before now set lists n m old new r same has step =
-    subst (λ files. StateEnds (outcome_of w said) said w.files files set lists n m old new r) (sym same) (plain_state w said before plain has set lists n m old new r step)
+    plain_state : (set : Held) (lists : List KeyList) (r : Result (Unit {0}) Cause) → PlainEnds (outcome_of w said) outside w.files now set lists old new r → StateEnds (outcome_of w said) said failed refused w.files now set lists old new r
+    plain_state set lists (Ok x) step = record { named = step.0; files = w.files; account = step.1; is = step.2; stand = step.3; has = has; told = step.4 }
+    plain_state set lists (Err cause) step = (step, left_by cause step)
+
+pub plain_now : (w : World) (said : Instruction) → IsPlain said → (before now : Option Files) (set : Held) (lists : List KeyList) (failed refused : Type 0) (old new : Option (List ℕ)) (r : Result (Unit {0}) Cause) → now ≡ before → HasFiles w.files before → PlainEnds (outcome_of w said) (IsOutside said failed refused) w.files before set lists old new r
+    → StateEnds (outcome_of w said) said failed refused w.files now set lists old new r
+plain_now w said plain before now set lists failed refused old new r same has step =
+    subst (λ files. StateEnds (outcome_of w said) said failed refused w.files files set lists old new r) (sym same) (plain_state w said before plain has failed refused old new set lists r step)
 
 -- a step that did not use the shelf, whose files are known
-pub still_now : (w : World) (said : Instruction) → IsPlain said → (now : Option Files) (named : Named) (set : Held) (lists lists' : List KeyList) (n m : ℕ) (old new : Option (List ℕ)) (r : Result (Unit {0}) Cause) → HasFiles w.files now → ListsStand now lists named
-    → ((known : Files) → ListsStand (Some known) lists named → PlainEnds (outcome_of w said) w.files (Some known) set lists' 0 0 old new r) → StateEnds (outcome_of w said) said w.files now set lists' n m old new r
-still_now w said plain None named set lists lists' n m old new r has stand step = absurd has
-still_now w said plain (Some known) named set lists lists' n m old new r has stand step =
-    plain_state w said (Some known) plain has set lists' n m old new r (still_plain (outcome_of w said) w.files (Some known) set lists' n m old new r (step known stand))
+pub still_now : (w : World) (said : Instruction) → IsPlain said → (now : Option Files) (named : Named) (set : Held) (lists lists' : List KeyList) (failed refused : Type 0) (old new : Option (List ℕ)) (r : Result (Unit {0}) Cause) → HasFiles w.files now → ListsStand now lists named
+    → ((known : Files) → ListsStand (Some known) lists named → PlainEnds (outcome_of w said) (IsOutside said failed refused) w.files (Some known) set lists' old new r) → StateEnds (outcome_of w said) said failed refused w.files now set lists' old new r
+still_now w said plain None named set lists lists' failed refused old new r has stand step = absurd has
+still_now w said plain (Some known) named set lists lists' failed refused old new r has stand step =
+    plain_state w said (Some known) plain has failed refused old new set lists' r (step known stand)
 
 -- the list that a task names
 pub list_at : (lists : List KeyList) (named : Named) (now : Option Files) (name : List ℕ) (i : ℕ) (list : KeyList) → ListsStand now lists named → place_of name (names_of named) ≡ Some i → list ≡ slice_index_or lists i list → Stands now list (list_of name named)

@@ -1,43 +1,33 @@
 -- How the run of a script ends.
-use Rattle.std.specs.Prelude.{◌≡◌, ℕ, ◌⊎◌, List, [], ◌∷◌, ◌++◌, length, Option, Some, None, Result, Ok, Err, OnOk, IfErr}
+use Rattle.std.specs.Prelude.{◌≡◌, ◌≢◌, ℕ, ◌⊎◌, List, [], ◌∷◌, ◌++◌, length, Option, Some, None, Result, Ok, Err, OnOk, IfErr}
 use Rattle.std.specs.FinSet as set
 use Rattle.std.specs.Io.KnownBytes.{Appends}
-use Rattle.rh_files.specs.declared.fault.KeyFault.TheVariants as faults
-use Rattle.rh_snapshot.specs.declared.fault.SnapFault.TheVariants as snap_faults
 use Rattle.rh_files.specs.Counting.{AppendsFront, Rose}
 use Rattle.rh_script.specs.Instruction.{Instruction, Numbered, Snapshot}
 use Rattle.rh_shelf.specs.Shelf.{Files}
 use Rattle.rh_report.specs.Account.{Account, Says}
 use Rattle.rh_planner.specs.declared.fault.Cause.{Cause}
-use Rattle.rh_planner.specs.declared.fault.Cause.TheVariants.{Missing, Keys, Snap, Changed, TooLarge, Memory, NoThread, Put, Write}
+use Rattle.rh_planner.specs.declared.fault.Cause.TheVariants.{Missing, Changed, Memory, NoThread, Put, Write}
 use Rattle.rh_planner.specs.declared.fault.RunFault.{RunFault}
 use Rattle.rh_planner.specs.declared.report.Report.{Report}
 use Rattle.rh_planner.specs.Files.{FileMap, HasFiles, HasOthers}
 use Rattle.rh_planner.specs.Meaning.{World, Outcome, start, meaning, outcome_of}
+use Rattle.rh_planner.specs.Outside.{IsOutside}
 
 -- the text says these accounts, one after the other
 abbrev pub SaysAll : List Account → List ℕ → Type 0
 SaysAll [] text = text ≡ []
 SaysAll (account ∷ accounts) text = (first : List ℕ) × (rest : List ℕ) × Says account first × SaysAll accounts rest × (text ≡ first ++ rest)
 
--- A cause that the script and the files do not have: want of memory, a thread that was refused, a read that failed,
--- and a file that the shelf did not give or take, where its count of failures rose.
-abbrev pub IsOutside : (failures failures' : ℕ) → Cause → Type 0
-IsOutside n m Memory = Unit {0}
-IsOutside n m NoThread = Unit {0}
-IsOutside n m (Keys faults.Read) = Unit {0}
-IsOutside n m (Keys _) = ⊥
-IsOutside n m (Snap snap_faults.Read) = Unit {0}
-IsOutside n m (Snap _) = ⊥
-IsOutside n m Missing = Rose n m
-IsOutside n m Put = Rose n m
-IsOutside n m Changed = ⊥
-IsOutside n m TooLarge = ⊥
-IsOutside n m Write = ⊥
-
 -- a cause that the meaning has, or one from outside
-abbrev pub RefusedBy : {Y : Type 0} → Result Y Cause → (failures failures' : ℕ) → Cause → Type 0
-RefusedBy said n m cause = (said ≡ Err cause) ⊎ IsOutside n m cause
+abbrev pub RefusedBy : {Y : Type 0} → Result Y Cause → (outside : Cause → Type 0) → Cause → Type 0
+RefusedBy said outside cause = (said ≡ Err cause) ⊎ outside cause
+
+-- A list that was chosen from before is read again: `Changed` comes also where it is not one of which as many places
+-- are chosen.
+abbrev pub RefusedAgain : Result (List ℕ) Cause → (chosen : List ℕ → List ℕ) → (many : ℕ) → (outside : Cause → Type 0) → Cause → Type 0
+RefusedAgain said chosen many outside cause =
+    RefusedBy said outside cause ⊎ ((cause ≡ Changed) × ((keys : List ℕ) → said ≡ Ok keys → length (chosen keys) ≢ many))
 
 -- What a command that puts no file leaves of a shelf: it gives the same files; it did not fail where the command was
 -- carried out; and where its files are not known, it failed if one was missing.
@@ -54,6 +44,11 @@ pub record LeavesShelf {X : Type 0} (files files' : Option Files) (failures fail
   pub missing : IfErr r (λ cause. cause ≡ Missing → files ≡ None → Rose failures failures')
   pub put : IfErr r (λ cause. cause ≡ Put → Rose failures failures')
 
+-- What a command leaves of a runner: no thread was refused where it was carried out, and one was where that is the cause.
+pub record KeepsRunner {X : Type 0} (starts starts' : ℕ) (r : Result X Cause) : Type 0 where
+  pub fine : OnOk r (starts' ≡ starts)
+  pub thread : IfErr r (λ cause. cause ≡ NoThread → Rose starts starts')
+
 -- a text that says this account was appended
 abbrev pub Tells : Account → Option (List ℕ) → Option (List ℕ) → Type 0
 Tells account old new = (text : List ℕ) × Says account text × Appends old new text
@@ -63,9 +58,9 @@ abbrev pub TellsFront : Account → Option (List ℕ) → Option (List ℕ) → 
 TellsFront account old new = (text : List ℕ) × Says account text × AppendsFront old new text
 
 -- A command was refused and told nothing; or its account could not be written whole.
-abbrev pub EndsBy : Outcome → (failures failures' : ℕ) → Option (List ℕ) → Option (List ℕ) → Cause → Type 0
-EndsBy outcome n m old new cause =
-    (Appends old new [] × RefusedBy outcome n m cause) ⊎ ((cause ≡ Write) × (done : World × Account) × (outcome ≡ Ok done) × TellsFront done.1 old new)
+abbrev pub EndsBy : Outcome → (outside : Cause → Type 0) → Option (List ℕ) → Option (List ℕ) → Cause → Type 0
+EndsBy outcome outside old new cause =
+    (Appends old new [] × RefusedBy outcome outside cause) ⊎ ((cause ≡ Write) × (done : World × Account) × (outcome ≡ Ok done) × TellsFront done.1 old new)
 
 -- What a command that was refused leaves of the files: those that it found, but for the path of a snapshot.
 abbrev pub LeavesOthers : Instruction → FileMap → (now : Option Files) → Type 0
@@ -90,8 +85,8 @@ pub record Done (files : Files) (now : Option Files) (steps : List Numbered) (ol
   pub told : report ≡ record { commands = length steps; held = set.len world.held; bits = world.bits }
 
 -- The steps before one were carried out, and at that one the run ended with its line: by the cause that the meaning
--- has there, or by one that comes from outside.
-pub record Stopped (files : Files) (now : Option Files) (failures failures' : ℕ) (steps : List Numbered) (old new : Option (List ℕ)) (fault : RunFault) : Type 0 where
+-- has there, or by one that comes from outside to that command, where the shelf failed or a thread was refused.
+pub record Stopped (files : Files) (now : Option Files) (failed refused : Type 0) (steps : List Numbered) (old new : Option (List ℕ)) (fault : RunFault) : Type 0 where
   pub before : List Numbered
   pub step : Numbered
   pub after : List Numbered
@@ -104,13 +99,13 @@ pub record Stopped (files : Files) (now : Option Files) (failures failures' : �
   pub says : SaysAll accounts text
   pub middle : Option (List ℕ)
   pub written : Appends old middle text
-  pub ends : EndsBy (outcome_of world step.instruction) failures failures' middle new fault.cause
+  pub ends : EndsBy (outcome_of world step.instruction) (IsOutside step.instruction failed refused) middle new fault.cause
   pub files_now : LeavesFiles (outcome_of world step.instruction) step.instruction world.files now fault.cause
 
 -- memory ran out before the first command
 abbrev pub NotBegun : (files : Files) → (now : Option Files) → Option (List ℕ) → Option (List ℕ) → RunFault → Type 0
 NotBegun files now old new fault = (fault ≡ record { line = 0; cause = Memory }) × Appends old new [] × (now ≡ Some files)
 
-abbrev pub Ends : (files : Files) → (now : Option Files) → (failures failures' : ℕ) → List Numbered → Option (List ℕ) → Option (List ℕ) → Result Report RunFault → Type 0
-Ends files now n m steps old new (Ok report) = Done files now steps old new report
-Ends files now n m steps old new (Err fault) = NotBegun files now old new fault ⊎ Stopped files now n m steps old new fault
+abbrev pub Ends : (files : Files) → (now : Option Files) → (failed refused : Type 0) → List Numbered → Option (List ℕ) → Option (List ℕ) → Result Report RunFault → Type 0
+Ends files now failed refused steps old new (Ok report) = Done files now steps old new report
+Ends files now failed refused steps old new (Err fault) = NotBegun files now old new fault ⊎ Stopped files now failed refused steps old new fault

@@ -1,13 +1,13 @@
 -- The lists that have a name, as the code has them.
 use Rattle.std.specs.Prelude.{◌≡◌, ℕ, List, [], ◌∷◌, length, Option, Some, None, Ok}
 use Rattle.std.specs.List.{flat_map}
-use Rattle.rh_files.specs.Source.{keys_of_file}
 use Rattle.rh_shelf.specs.Shelf.{Files}
 use Rattle.rh_planner.specs.declared.key_lists.KeyList.{KeyList}
 use Rattle.rh_planner.specs.declared.key_lists.Place.{Place}
 use Rattle.rh_planner.specs.declared.key_lists.Place.TheVariants.{Path, Memory}
 use Rattle.rh_planner.specs.declared.key_lists.ListReader.{ListReader}
 use Rattle.rh_planner.specs.declared.key_lists.ListReader.TheVariants as readers
+use Rattle.rh_planner.specs.Found.{keys_found}
 
 -- the bytes that a reader still gives, where they are known
 abbrev pub bytes_left : {R : Type 0} → (R → Option (List ℕ)) → ListReader R → Option (List ℕ)
@@ -18,15 +18,20 @@ abbrev pub bytes_at : Files → Place → Option (List ℕ)
 bytes_at files (Path path) = files path.now
 bytes_at files (Memory bytes) = Some bytes.items
 
--- The list's file has these keys, where the files are known.
+-- a reader of these bytes was opened, which are those of the place where the files are known
+abbrev pub Opens : Option Files → Place → Option (List ℕ) → Type 0
+Opens None place bytes = Unit {0}
+Opens (Some files) place bytes = (found : List ℕ) × (bytes_at files place ≡ Some found) × (bytes ≡ Some found)
+
+-- The files are known, and the list's has these keys, as many as were noted.
 abbrev pub Stands : Option Files → KeyList → List ℕ → Type 0
 Stands None list keys = ⊥
-Stands (Some files) list keys = (bytes : List ℕ) × (bytes_at files list.place ≡ Some bytes) × (keys_of_file bytes ≡ Ok keys) × (length keys ≡ list.count)
+Stands (Some files) list keys = (keys_found (bytes_at files list.place) ≡ Ok keys) × (length keys ≡ list.count)
 
--- These are the bytes of a file of these keys.
-abbrev pub HasKeys : Option (List ℕ) → List ℕ → Type 0
-HasKeys None keys = ⊥
-HasKeys (Some bytes) keys = keys_of_file bytes ≡ Ok keys
+-- A reading of the list gave these keys: as many as were noted, and those of its file where the files are known.
+abbrev pub Gave : Option Files → KeyList → List ℕ → Type 0
+Gave None list keys = length keys ≡ list.count
+Gave (Some files) list keys = Stands (Some files) list keys
 
 abbrev pub path_of : Place → List (List ℕ)
 path_of (Path path) = path.now ∷ []

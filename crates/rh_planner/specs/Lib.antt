@@ -2,6 +2,8 @@ pub mod Size
 pub mod Causes
 pub mod Files
 pub mod Meaning
+pub mod Found
+pub mod Outside
 pub mod Ends
 pub mod KeyLists
 pub mod Commands

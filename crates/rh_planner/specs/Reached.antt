@@ -32,5 +32,5 @@ pub record Reached (files : Files) (now : Option Files) (steps : List Numbered) 
   pub names : names_of done.named ≡ names_in steps
   pub paths : paths_of lists ≡ files_in steps
 
-abbrev pub AllEnds : (files : Files) → (now : Option Files) → (failures failures' : ℕ) → List Numbered → Held → Option (List ℕ) → Option (List ℕ) → Result (Unit {0}) RunFault → Type 0
-AllEnds files now n m steps set old new r = MatchResult r (λ _. CarriedOut files now steps set old new) (Stopped files now n m steps old new)
+abbrev pub AllEnds : (files : Files) → (now : Option Files) → (failed refused : Type 0) → List Numbered → Held → Option (List ℕ) → Option (List ℕ) → Result (Unit {0}) RunFault → Type 0
+AllEnds files now failed refused steps set old new r = MatchResult r (λ _. CarriedOut files now steps set old new) (Stopped files now failed refused steps old new)

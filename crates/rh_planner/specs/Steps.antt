@@ -12,6 +12,7 @@ use Rattle.rh_planner.specs.declared.key_lists.KeyList.{KeyList}
 use Rattle.rh_planner.specs.KeyLists.{Stands, paths_of}
 use Rattle.rh_planner.specs.Files.{FileMap, HasFiles}
 use Rattle.rh_planner.specs.Meaning.{World, Outcome}
+use Rattle.rh_planner.specs.Outside.{IsOutside}
 use Rattle.rh_planner.specs.Ends.{EndsBy, LeavesFiles, Tells}
 
 -- the names of lists, each with its keys
@@ -32,15 +33,15 @@ abbrev pub names_of : Named → List (List ℕ)
 names_of lists = map (λ named. named.0) lists
 
 -- A step made this world of that which it found, and told its account; or it was refused, or could not be told.
-abbrev pub StepEnds : Outcome → World → (failures failures' : ℕ) → Option (List ℕ) → Option (List ℕ) → Result (Unit {0}) Cause → Type 0
-StepEnds outcome after n m old new r =
-    MatchResult r (λ _. (account : Account) × (outcome ≡ Ok (after, account)) × Tells account old new) (EndsBy outcome n m old new)
+abbrev pub StepEnds : Outcome → (outside : Cause → Type 0) → World → Option (List ℕ) → Option (List ℕ) → Result (Unit {0}) Cause → Type 0
+StepEnds outcome outside after old new r =
+    MatchResult r (λ _. (account : Account) × (outcome ≡ Ok (after, account)) × Tells account old new) (EndsBy outcome outside old new)
 
 -- A step that puts no file made this set and these lists of the world that it found, and told its account; or it was
 -- refused, or could not be told.
-abbrev pub PlainEnds : Outcome → FileMap → (now : Option Files) → Held → List KeyList → (failures failures' : ℕ) → Option (List ℕ) → Option (List ℕ) → Result (Unit {0}) Cause → Type 0
-PlainEnds outcome files now set lists n m old new r =
-    MatchResult r (λ _. (named : Named) × (account : Account) × (outcome ≡ Ok (world_of set named files, account)) × ListsStand now lists named × Tells account old new) (EndsBy outcome n m old new)
+abbrev pub PlainEnds : Outcome → (outside : Cause → Type 0) → FileMap → (now : Option Files) → Held → List KeyList → Option (List ℕ) → Option (List ℕ) → Result (Unit {0}) Cause → Type 0
+PlainEnds outcome outside files now set lists old new r =
+    MatchResult r (λ _. (named : Named) × (account : Account) × (outcome ≡ Ok (world_of set named files, account)) × ListsStand now lists named × Tells account old new) (EndsBy outcome outside old new)
 
 -- A step made this set, these lists and the files that the shelf has now, and told its account.
 pub record StepDone (outcome : Outcome) (now : Option Files) (set : Held) (lists : List KeyList) (old new : Option (List ℕ)) : Type 0 where
@@ -53,9 +54,9 @@ pub record StepDone (outcome : Outcome) (now : Option Files) (set : Held) (lists
   pub told : Tells account old new
 
 -- Any step ends so; or it was refused, or could not be told, and this is what it left of the files.
-abbrev pub StateEnds : Outcome → Instruction → FileMap → (now : Option Files) → Held → List KeyList → (failures failures' : ℕ) → Option (List ℕ) → Option (List ℕ) → Result (Unit {0}) Cause → Type 0
-StateEnds outcome said files now set lists n m old new r =
-    MatchResult r (λ _. StepDone outcome now set lists old new) (λ cause. EndsBy outcome n m old new cause × LeavesFiles outcome said files now cause)
+abbrev pub StateEnds : Outcome → Instruction → (failed refused : Type 0) → FileMap → (now : Option Files) → Held → List KeyList → Option (List ℕ) → Option (List ℕ) → Result (Unit {0}) Cause → Type 0
+StateEnds outcome said failed refused files now set lists old new r =
+    MatchResult r (λ _. StepDone outcome now set lists old new) (λ cause. EndsBy outcome (IsOutside said failed refused) old new cause × LeavesFiles outcome said files now cause)
 
 -- the list of a task is among so many
 abbrev pub HasList : Task → ℕ → Type 0

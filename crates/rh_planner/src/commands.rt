@@ -1,8 +1,9 @@
 //! What the commands do with the set that is held and with the lists.
 
 ghost use Rattle.std.specs.Prelude.{◌≡◌, ◌+◌, ◌^◌, ◌<◌, ℕ, true, false, List, [], Some, Ok};
-ghost use Rattle.std.specs.Prelude.{IfOk, IfErr, OnOk, length};
+ghost use Rattle.std.specs.Prelude.{IfOk, IfErr, OnErr, OnOk, length};
 ghost use Rattle.std.specs.FinSet as finset;
+ghost use Rattle.rh_files.specs.Counting.{Rose};
 ghost use Rattle.rh_shelf.specs.Shelf.{Files};
 ghost use Rattle.rh_ledger.specs.Phase.{looked_up};
 ghost use Rattle.rh_runner.specs.Lists.{Ran, chosen};
@@ -10,10 +11,12 @@ ghost use Rattle.rh_ledger.specs.declared.tally.Kind.TheVariants.{Insert};
 ghost use Rattle.rh_layout.specs.Layout.{IsLayout, keys_of};
 ghost use Rattle.rh_layout.specs.declared.limits.TheConstants.{MIN_BITS};
 ghost use Rattle.rh_edit.specs.Rising.{rising_keys};
-ghost use Rattle.rh_planner.specs.Ends.{IsOutside, KeepsShelf, RefusedBy};
-ghost use Rattle.rh_planner.specs.KeyLists.{Stands, path_of};
-ghost use Rattle.rh_planner.specs.Meaning.{size_for};
-ghost use Rattle.rh_planner.specs.Commands.{Added, Dropped, Flipped, Kept, flipped_most, keys_found};
+ghost use Rattle.rh_planner.specs.Ends.{KeepsRunner, KeepsShelf, RefusedAgain, RefusedBy};
+ghost use Rattle.rh_planner.specs.Found.{keys_again, keys_found};
+ghost use Rattle.rh_planner.specs.KeyLists.{Gave, Stands, bytes_at, path_of};
+ghost use Rattle.rh_planner.specs.Commands.{Added, Dropped, Flipped, Kept};
+ghost use Rattle.rh_planner.specs.Commands.{size_to_add, size_to_flip, size_to_keep};
+ghost use Rattle.rh_planner.specs.Outside.{ListFails, PhaseFails};
 
 use crate::fault::Cause;
 use crate::key_lists::{KeyList, Place};
@@ -35,9 +38,11 @@ pub(crate) fn use_file<S: Shelf>(alloc: Global, shelf: &mut S, path: &str) -> Re
     ensures used { (files : Files) → S.files shelf.old ≡ Some files → IfOk result (λ count.
         (keys : List ℕ) × (keys_found (files path.now) ≡ Ok keys) × (length keys ≡ count)) }
     ensures refused { (files : Files) → S.files shelf.old ≡ Some files → IfErr result
-        (RefusedBy (keys_found (files path.now)) (S.failures shelf.old) (S.failures shelf.new)) }
+        (RefusedBy (keys_found (files path.now))
+        (ListFails (Rose (S.failures shelf.old) (S.failures shelf.new)))) }
     ensures shelf { KeepsShelf (S.files shelf.old) (S.files shelf.new) (S.failures shelf.old)
         (S.failures shelf.new) result }
+    ensures no_thread { IfErr result (λ cause. cause ≡ Cause.NoThread → ⊥) }
     ensures no_write { IfErr result (λ cause. cause ≡ Cause.Write → ⊥) }
 {
     let mut reader = Counted::new(fetched(alloc, shelf, path)?);
@@ -56,13 +61,17 @@ pub(crate) fn add<T: Wait, S: Shelf, N: Runner>(
     set: &mut SeqSet,
     list: &KeyList<'_>,
 ) -> Result<Tally, Cause>
-    ensures added { (keys : List ℕ) → Stands (S.files shelf.old) list.now keys →
-        IfOk result (Added keys set.old set.new) }
-    ensures refused { (keys : List ℕ) → Stands (S.files shelf.old) list.now keys →
-        IfErr result (RefusedBy (size_for set.old.bits (finset.len set.old.keys + length keys))
-        (S.failures shelf.old) (S.failures shelf.new)) }
+    ensures added { IfOk result (λ told. (keys : List ℕ) × Gave (S.files shelf.old) list.now keys
+        × Added keys set.old set.new told) }
+    ensures refused { (files : Files) → S.files shelf.old ≡ Some files → IfErr result
+        (RefusedBy (size_to_add set.old list.now.count (bytes_at files list.now.place))
+        (PhaseFails (Rose (S.failures shelf.old) (S.failures shelf.new))
+        (Rose (N.refused_starts runner.old) (N.refused_starts runner.new)))) }
+    ensures unchanged { OnErr result (set.new ≡ set.old) }
     ensures shelf { KeepsShelf (S.files shelf.old) (S.files shelf.new) (S.failures shelf.old)
         (S.failures shelf.new) result }
+    ensures runner { KeepsRunner (N.refused_starts runner.old) (N.refused_starts runner.new)
+        result }
     ensures no_write { IfErr result (λ cause. cause ≡ Cause.Write → ⊥) }
 {
     let mut reader = open_list(alloc, shelf, list)?;
@@ -82,12 +91,17 @@ pub(crate) fn drop_keys<T: Wait, S: Shelf, N: Runner>(
     set: &mut SeqSet,
     list: &KeyList<'_>,
 ) -> Result<Tally, Cause>
-    ensures dropped { (keys : List ℕ) → Stands (S.files shelf.old) list.now keys →
-        IfOk result (Dropped keys set.old set.new) }
-    ensures refused { (keys : List ℕ) → Stands (S.files shelf.old) list.now keys →
-        IfErr result (IsOutside (S.failures shelf.old) (S.failures shelf.new)) }
+    ensures dropped { IfOk result (λ told. (keys : List ℕ) × Gave (S.files shelf.old) list.now keys
+        × Dropped keys set.old set.new told) }
+    ensures refused { (files : Files) → S.files shelf.old ≡ Some files → IfErr result
+        (RefusedBy (keys_again list.now.count (bytes_at files list.now.place))
+        (PhaseFails (Rose (S.failures shelf.old) (S.failures shelf.new))
+        (Rose (N.refused_starts runner.old) (N.refused_starts runner.new)))) }
+    ensures unchanged { OnErr result (set.new ≡ set.old) }
     ensures shelf { KeepsShelf (S.files shelf.old) (S.files shelf.new) (S.failures shelf.old)
         (S.failures shelf.new) result }
+    ensures runner { KeepsRunner (N.refused_starts runner.old) (N.refused_starts runner.new)
+        result }
     ensures no_write { IfErr result (λ cause. cause ≡ Cause.Write → ⊥) }
 {
     let mut reader = open_list(alloc, shelf, list)?;
@@ -108,12 +122,16 @@ pub(crate) fn ask<T: Wait, S: Shelf, N: Runner>(
     set: &SeqSet,
     list: &KeyList<'_>,
 ) -> Result<Vec<bool>, Cause>
-    ensures asked { (keys : List ℕ) → Stands (S.files shelf.old) list.now keys →
-        IfOk result (λ answers. answers.items ≡ looked_up set.now.keys keys) }
-    ensures refused { (keys : List ℕ) → Stands (S.files shelf.old) list.now keys →
-        IfErr result (IsOutside (S.failures shelf.old) (S.failures shelf.new)) }
+    ensures asked { IfOk result (λ answers. (keys : List ℕ) × Gave (S.files shelf.old) list.now keys
+        × (answers.items ≡ looked_up set.now.keys keys)) }
+    ensures refused { (files : Files) → S.files shelf.old ≡ Some files → IfErr result
+        (RefusedBy (keys_again list.now.count (bytes_at files list.now.place))
+        (PhaseFails (Rose (S.failures shelf.old) (S.failures shelf.new))
+        (Rose (N.refused_starts runner.old) (N.refused_starts runner.new)))) }
     ensures shelf { KeepsShelf (S.files shelf.old) (S.files shelf.new) (S.failures shelf.old)
         (S.failures shelf.new) result }
+    ensures runner { KeepsRunner (N.refused_starts runner.old) (N.refused_starts runner.new)
+        result }
     ensures no_write { IfErr result (λ cause. cause ≡ Cause.Write → ⊥) }
 {
     let mut reader = open_list(alloc, shelf, list)?;
@@ -131,13 +149,17 @@ pub(crate) fn keep<T: Wait, S: Shelf, N: Runner>(
     set: &mut SeqSet,
     list: &KeyList<'_>,
 ) -> Result<u64, Cause>
-    ensures kept { (keys : List ℕ) → Stands (S.files shelf.old) list.now keys →
-        IfOk result (Kept keys set.old set.new) }
-    ensures refused { (keys : List ℕ) → Stands (S.files shelf.old) list.now keys →
-        IfErr result (RefusedBy (size_for MIN_BITS (length (chosen true set.old.keys keys)))
-        (S.failures shelf.old) (S.failures shelf.new)) }
+    ensures kept { IfOk result (λ found. (keys : List ℕ) × Gave (S.files shelf.old) list.now keys
+        × Kept keys set.old set.new found) }
+    ensures refused { (files : Files) → S.files shelf.old ≡ Some files → IfErr result
+        (RefusedBy (size_to_keep set.old list.now.count (bytes_at files list.now.place))
+        (PhaseFails (Rose (S.failures shelf.old) (S.failures shelf.new))
+        (Rose (N.refused_starts runner.old) (N.refused_starts runner.new)))) }
+    ensures unchanged { OnErr result (set.new ≡ set.old) }
     ensures shelf { KeepsShelf (S.files shelf.old) (S.files shelf.new) (S.failures shelf.old)
         (S.failures shelf.new) result }
+    ensures runner { KeepsRunner (N.refused_starts runner.old) (N.refused_starts runner.new)
+        result }
     ensures no_write { IfErr result (λ cause. cause ≡ Cause.Write → ⊥) }
 {
     let found = count_found(rt, alloc, shelf, runner, set, list)?;
@@ -159,12 +181,16 @@ fn count_found<T: Wait, S: Shelf, N: Runner>(
     set: &SeqSet,
     list: &KeyList<'_>,
 ) -> Result<u64, Cause>
-    ensures found { (keys : List ℕ) → Stands (S.files shelf.old) list.now keys →
-        IfOk result (λ found. found ≡ length (chosen true set.now.keys keys)) }
-    ensures refused { (keys : List ℕ) → Stands (S.files shelf.old) list.now keys →
-        IfErr result (IsOutside (S.failures shelf.old) (S.failures shelf.new)) }
+    ensures found { IfOk result (λ found. (keys : List ℕ) × Gave (S.files shelf.old) list.now keys
+        × (found ≡ length (chosen true set.now.keys keys))) }
+    ensures refused { (files : Files) → S.files shelf.old ≡ Some files → IfErr result
+        (RefusedBy (keys_again list.now.count (bytes_at files list.now.place))
+        (PhaseFails (Rose (S.failures shelf.old) (S.failures shelf.new))
+        (Rose (N.refused_starts runner.old) (N.refused_starts runner.new)))) }
     ensures shelf { KeepsShelf (S.files shelf.old) (S.files shelf.new) (S.failures shelf.old)
         (S.failures shelf.new) result }
+    ensures runner { KeepsRunner (N.refused_starts runner.old) (N.refused_starts runner.new)
+        result }
     ensures no_write { IfErr result (λ cause. cause ≡ Cause.Write → ⊥) }
 {
     let mut reader = open_list(alloc, shelf, list)?;
@@ -191,14 +217,18 @@ fn insert_listed<T: Wait, S: Shelf, N: Runner>(
     requires room { finset.len (keys_of cells.old.items) + many < 2 ^ bits }
     ensures layout { OnOk result (IsLayout bits cells.new.items) }
     ensures free { OnOk result (finset.len (keys_of cells.new.items) < 2 ^ bits) }
-    ensures inserted { (keys : List ℕ) → Stands (S.files shelf.old) list.now keys →
-        many ≡ length (chosen wanted set.now.keys keys) → IfOk result
-        (Ran Insert bits (chosen wanted set.now.keys keys) cells.old.items cells.new.items) }
-    ensures refused { (keys : List ℕ) → Stands (S.files shelf.old) list.now keys →
-        many ≡ length (chosen wanted set.now.keys keys) →
-        IfErr result (IsOutside (S.failures shelf.old) (S.failures shelf.new)) }
+    ensures inserted { IfOk result (λ told. (keys : List ℕ) × Gave (S.files shelf.old) list.now keys
+        × (length (chosen wanted set.now.keys keys) ≡ many)
+        × Ran Insert bits (chosen wanted set.now.keys keys) cells.old.items cells.new.items told) }
+    ensures refused { (files : Files) → S.files shelf.old ≡ Some files → IfErr result
+        (RefusedAgain (keys_again list.now.count (bytes_at files list.now.place))
+        (chosen wanted set.now.keys) many
+        (PhaseFails (Rose (S.failures shelf.old) (S.failures shelf.new))
+        (Rose (N.refused_starts runner.old) (N.refused_starts runner.new)))) }
     ensures shelf { KeepsShelf (S.files shelf.old) (S.files shelf.new) (S.failures shelf.old)
         (S.failures shelf.new) result }
+    ensures runner { KeepsRunner (N.refused_starts runner.old) (N.refused_starts runner.new)
+        result }
     ensures no_write { IfErr result (λ cause. cause ≡ Cause.Write → ⊥) }
 {
     let mut reader = open_list(alloc, shelf, list)?;
@@ -227,13 +257,18 @@ pub(crate) fn flip<T: Wait, S: Shelf, N: Runner>(
     set: &mut SeqSet,
     list: &KeyList<'_>,
 ) -> Result<(Tally, Tally), Cause>
-    ensures flipped { (keys : List ℕ) → Stands (S.files shelf.old) list.now keys →
-        IfOk result (Flipped keys set.old set.new) }
-    ensures refused { (keys : List ℕ) → Stands (S.files shelf.old) list.now keys → IfErr result
-        (RefusedBy (size_for set.old.bits (flipped_most set.old.keys keys))
-        (S.failures shelf.old) (S.failures shelf.new)) }
+    ensures flipped { IfOk result (λ told. (first : List ℕ) × (second : List ℕ)
+        × Gave (S.files shelf.old) list.now first × Gave (S.files shelf.old) list.now second
+        × Flipped first second set.old set.new told) }
+    ensures refused { (files : Files) → S.files shelf.old ≡ Some files → IfErr result
+        (RefusedBy (size_to_flip set.old list.now.count (bytes_at files list.now.place))
+        (PhaseFails (Rose (S.failures shelf.old) (S.failures shelf.new))
+        (Rose (N.refused_starts runner.old) (N.refused_starts runner.new)))) }
+    ensures unchanged { OnErr result (set.new ≡ set.old) }
     ensures shelf { KeepsShelf (S.files shelf.old) (S.files shelf.new) (S.failures shelf.old)
         (S.failures shelf.new) result }
+    ensures runner { KeepsRunner (N.refused_starts runner.old) (N.refused_starts runner.new)
+        result }
     ensures no_write { IfErr result (λ cause. cause ≡ Cause.Write → ⊥) }
 {
     let (rest, removed, absent) = without_listed(rt, alloc, shelf, runner, set, list)?;
@@ -255,14 +290,16 @@ fn without_listed<T: Wait, S: Shelf, N: Runner>(
     set: &SeqSet,
     list: &KeyList<'_>,
 ) -> Result<(SeqSet, Tally, u64), Cause>
-    ensures dropped { (keys : List ℕ) → Stands (S.files shelf.old) list.now keys →
-        IfOk result (λ r. Dropped keys set.now r.0 r.1) }
-    ensures absent { (keys : List ℕ) → Stands (S.files shelf.old) list.now keys →
-        IfOk result (λ r. r.2 ≡ length (chosen false set.now.keys keys)) }
-    ensures refused { (keys : List ℕ) → Stands (S.files shelf.old) list.now keys →
-        IfErr result (IsOutside (S.failures shelf.old) (S.failures shelf.new)) }
+    ensures dropped { IfOk result (λ r. (keys : List ℕ) × Gave (S.files shelf.old) list.now keys
+        × Dropped keys set.now r.0 r.1 × (r.2 ≡ length (chosen false set.now.keys keys))) }
+    ensures refused { (files : Files) → S.files shelf.old ≡ Some files → IfErr result
+        (RefusedBy (keys_again list.now.count (bytes_at files list.now.place))
+        (PhaseFails (Rose (S.failures shelf.old) (S.failures shelf.new))
+        (Rose (N.refused_starts runner.old) (N.refused_starts runner.new)))) }
     ensures shelf { KeepsShelf (S.files shelf.old) (S.files shelf.new) (S.failures shelf.old)
         (S.failures shelf.new) result }
+    ensures runner { KeepsRunner (N.refused_starts runner.old) (N.refused_starts runner.new)
+        result }
     ensures no_write { IfErr result (λ cause. cause ≡ Cause.Write → ⊥) }
 {
     let mut reader = open_list(alloc, shelf, list)?;

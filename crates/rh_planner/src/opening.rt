@@ -1,11 +1,14 @@
 //! Opening a list at its beginning.
 
-ghost use Rattle.std.specs.Prelude.{◌≡◌, ◌⊎◌, ℕ, List, Some, Ok, IfOk, IfErr, OnOk, length};
+ghost use Rattle.std.specs.Prelude.{◌≡◌, ◌⊎◌, ℕ, List, Some, Ok, IfOk, IfErr, OnOk};
 ghost use Rattle.rh_files.specs.Counting.{Rose, inner_of};
+ghost use Rattle.rh_files.specs.Source.{ComesFrom};
 ghost use Rattle.rh_files.specs.Stream.{coming_of, left_in, left_of, state_of};
-ghost use Rattle.rh_shelf.specs.Shelf.{Finds, Lacks};
-ghost use Rattle.rh_planner.specs.Ends.{IsOutside, KeepsShelf};
-ghost use Rattle.rh_planner.specs.KeyLists.{HasKeys, Stands, bytes_left};
+ghost use Rattle.rh_shelf.specs.Shelf.{Files, Finds, Lacks};
+ghost use Rattle.rh_planner.specs.Ends.{KeepsShelf, RefusedBy};
+ghost use Rattle.rh_planner.specs.Found.{count_again, header_count};
+ghost use Rattle.rh_planner.specs.KeyLists.{Opens, bytes_at, bytes_left};
+ghost use Rattle.rh_planner.specs.Outside.{ListFails};
 
 use crate::fault::Cause;
 use crate::key_lists::{KeyList, ListReader, Place};
@@ -41,12 +44,14 @@ pub(crate) fn open_list<'a, S: Shelf>(
     shelf: &mut S,
     list: &'a KeyList<'_>,
 ) -> Result<Counted<ListReader<'a, S::Reader>>, Cause>
-    ensures opened { (keys : List ℕ) → Stands (S.files shelf.old) list.now keys →
-        IfOk result (λ r. HasKeys (bytes_left S.Reader.remaining (inner_of r)) keys) }
-    ensures refused { (keys : List ℕ) → Stands (S.files shelf.old) list.now keys →
-        IfErr result (IsOutside (S.failures shelf.old) (S.failures shelf.new)) }
+    ensures opened { IfOk result (λ r. Opens (S.files shelf.old) list.now.place
+        (bytes_left S.Reader.remaining (inner_of r))) }
+    ensures refused { (files : Files) → S.files shelf.old ≡ Some files → IfErr result
+        (RefusedBy (header_count (bytes_at files list.now.place))
+        (ListFails (Rose (S.failures shelf.old) (S.failures shelf.new)))) }
     ensures shelf { KeepsShelf (S.files shelf.old) (S.files shelf.new) (S.failures shelf.old)
         (S.failures shelf.new) result }
+    ensures no_thread { IfErr result (λ cause. cause ≡ Cause.NoThread → ⊥) }
     ensures no_write { IfErr result (λ cause. cause ≡ Cause.Write → ⊥) }
 {
     Ok(Counted::new(match &list.place {
@@ -60,12 +65,15 @@ pub(crate) fn keys_again<R: Read>(
     reader: &mut Counted<R>,
     count: u64,
 ) -> Result<KeyStream<'_, R>, Cause>
-    ensures coming { (keys : List ℕ) → HasKeys (R.remaining (inner_of reader.old)) keys →
-        IfOk result (λ s. coming_of R.remaining s ≡ Some (Ok keys)) }
+    ensures coming { IfOk result (λ s.
+        ComesFrom (R.remaining (inner_of reader.old)) (coming_of R.remaining s)) }
     ensures left { IfOk result (λ s. left_in (state_of s) (left_of s) ≡ count) }
-    ensures refused { (keys : List ℕ) → HasKeys (R.remaining (inner_of reader.old)) keys →
-        length keys ≡ count → IfErr result (IsOutside 0 0) }
+    ensures again { (bytes : List ℕ) → R.remaining (inner_of reader.old) ≡ Some bytes →
+        OnOk result (count_again count (Some bytes) ≡ Ok count) }
+    ensures refused { (bytes : List ℕ) → R.remaining (inner_of reader.old) ≡ Some bytes →
+        IfErr result (RefusedBy (count_again count (Some bytes)) (ListFails ⊥)) }
     ensures not_missing { IfErr result (λ cause. cause ≡ Cause.Missing → ⊥) }
+    ensures no_thread { IfErr result (λ cause. cause ≡ Cause.NoThread → ⊥) }
     ensures not_put { IfErr result (λ cause. cause ≡ Cause.Put → ⊥) }
     ensures no_write { IfErr result (λ cause. cause ≡ Cause.Write → ⊥) }
 {

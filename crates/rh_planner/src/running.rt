@@ -44,13 +44,16 @@ pub fn run<T: Wait, S: Shelf, N: Runner, W: Write>(
     writer: &mut Counted<W>,
 ) -> Result<Report, RunFault>
     ensures meant { (files : Files) → S.files shelf.old ≡ Some files →
-        Ends files (S.files shelf.new) (S.failures shelf.old) (S.failures shelf.new)
+        Ends files (S.files shelf.new) (Rose (S.failures shelf.old) (S.failures shelf.new))
+        (Rose (N.refused_starts runner.old) (N.refused_starts runner.new))
         (steps_of script.now) (W.contents (inner_of writer.old)) (W.contents (inner_of writer.new))
         result }
     ensures missing { IfErr result (λ fault. fault.cause ≡ Cause.Missing →
         S.files shelf.old ≡ None → Rose (S.failures shelf.old) (S.failures shelf.new)) }
     ensures put { IfErr result (λ fault. fault.cause ≡ Cause.Put →
         Rose (S.failures shelf.old) (S.failures shelf.new)) }
+    ensures thread { IfErr result (λ fault. fault.cause ≡ Cause.NoThread →
+        Rose (N.refused_starts runner.old) (N.refused_starts runner.new)) }
     ensures write { IfErr result (λ fault. fault.cause ≡ Cause.Write →
         Rose (failures_of writer.old) (failures_of writer.new)) }
 {
@@ -93,12 +96,15 @@ fn carry_out_all<T: Wait, S: Shelf, N: Runner, W: Write>(
     requires bits { set.old.bits ≡ MIN_BITS }
     ensures meant { (files : Files) (steps : List Numbered) → S.files shelf.old ≡ Some files →
         planned_of plan.now ≡ plan_of steps → SnapshotsAreNew steps →
-        AllEnds files (S.files shelf.new) (S.failures shelf.old) (S.failures shelf.new) steps set.new
+        AllEnds files (S.files shelf.new) (Rose (S.failures shelf.old) (S.failures shelf.new))
+        (Rose (N.refused_starts runner.old) (N.refused_starts runner.new)) steps set.new
         (W.contents (inner_of writer.old)) (W.contents (inner_of writer.new)) result }
     ensures missing { IfErr result (λ fault. fault.cause ≡ Cause.Missing →
         S.files shelf.old ≡ None → Rose (S.failures shelf.old) (S.failures shelf.new)) }
     ensures put { IfErr result (λ fault. fault.cause ≡ Cause.Put →
         Rose (S.failures shelf.old) (S.failures shelf.new)) }
+    ensures thread { IfErr result (λ fault. fault.cause ≡ Cause.NoThread →
+        Rose (N.refused_starts runner.old) (N.refused_starts runner.new)) }
     ensures write { IfErr result (λ fault. fault.cause ≡ Cause.Write →
         Rose (failures_of writer.old) (failures_of writer.new)) }
 {

@@ -5,6 +5,7 @@ ghost use Rattle.std.specs.FinSet as finset;
 ghost use Rattle.rh_layout.specs.Layout.{IsLayout, keys_of};
 ghost use Rattle.rh_planner.specs.Meaning.{size_for};
 ghost use Rattle.rh_planner.specs.Ends.{RefusedBy};
+ghost use Rattle.rh_planner.specs.Outside.{MemoryFails};
 
 use crate::fault::Cause;
 use rh_edit::SeqSet;
@@ -20,7 +21,8 @@ pub(crate) fn grown(alloc: Global, set: &SeqSet, more: u64) -> Result<(u32, Vec<
     ensures keys { IfOk result (λ t. keys_of t.1.items ≡ set.now.keys) }
     ensures room { IfOk result (λ t. finset.len set.now.keys + more < 2 ^ t.0) }
     ensures refused { IfErr result
-        (RefusedBy (size_for set.now.bits (finset.len set.now.keys + more)) 0 0) }
+        (RefusedBy (size_for set.now.bits (finset.len set.now.keys + more)) MemoryFails) }
+    ensures no_thread { IfErr result (λ cause. cause ≡ Cause.NoThread → ⊥) }
     ensures no_write { IfErr result (λ cause. cause ≡ Cause.Write → ⊥) }
 {
     let Some(size) = bits_for(set.bits(), set.len() as u64, more) else {

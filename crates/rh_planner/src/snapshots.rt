@@ -1,10 +1,12 @@
 //! Snapshots of the table on a shelf.
 
-ghost use Rattle.std.specs.Prelude.{◌≡◌, ◌⊎◌, ℕ, List, Some, Ok, IfErr, IfOk, OnErr, OnOk};
+ghost use Rattle.std.specs.Prelude.{◌≡◌, ℕ, List, Some, Ok, IfErr, IfOk, OnErr, OnOk};
 ghost use Rattle.rh_files.specs.Counting.{Rose};
 ghost use Rattle.rh_shelf.specs.Shelf.{Files, InDoubt, Puts};
-ghost use Rattle.rh_planner.specs.Commands.{IsSnapshotOf, table_found};
+ghost use Rattle.rh_planner.specs.Commands.{IsSnapshotOf};
 ghost use Rattle.rh_planner.specs.Ends.{KeepsShelf, RefusedBy};
+ghost use Rattle.rh_planner.specs.Found.{table_found};
+ghost use Rattle.rh_planner.specs.Outside.{PutFails, RestoreFails};
 
 use crate::fault::Cause;
 use crate::opening::fetched;
@@ -24,8 +26,8 @@ pub(crate) fn put_snapshot<S: Shelf>(
     ensures put { OnOk result ((bytes : List ℕ) × IsSnapshotOf set.now bytes
         × Puts (S.files shelf.old) (S.files shelf.new) path.now bytes) }
     ensures doubt { OnErr result (InDoubt (S.files shelf.old) (S.files shelf.new) path.now) }
-    ensures refused { IfErr result (λ cause. (cause ≡ Cause.Memory) ⊎ ((cause ≡ Cause.Put)
-        × Rose (S.failures shelf.old) (S.failures shelf.new))) }
+    ensures refused { IfErr result
+        (PutFails (Rose (S.failures shelf.old) (S.failures shelf.new))) }
     ensures fine { OnOk result (S.failures shelf.new ≡ S.failures shelf.old) }
 {
     let bytes = sealed(alloc, set)?;
@@ -52,9 +54,11 @@ pub(crate) fn restored<S: Shelf>(alloc: Global, shelf: &mut S, path: &str) -> Re
     ensures restored { (files : Files) → S.files shelf.old ≡ Some files →
         IfOk result (λ set. table_found (files path.now) ≡ Ok set) }
     ensures refused { (files : Files) → S.files shelf.old ≡ Some files → IfErr result
-        (RefusedBy (table_found (files path.now)) (S.failures shelf.old) (S.failures shelf.new)) }
+        (RefusedBy (table_found (files path.now))
+        (RestoreFails (Rose (S.failures shelf.old) (S.failures shelf.new)))) }
     ensures shelf { KeepsShelf (S.files shelf.old) (S.files shelf.new) (S.failures shelf.old)
         (S.failures shelf.new) result }
+    ensures no_thread { IfErr result (λ cause. cause ≡ Cause.NoThread → ⊥) }
     ensures no_write { IfErr result (λ cause. cause ≡ Cause.Write → ⊥) }
 {
     let mut reader = Counted::new(fetched(alloc, shelf, path)?);

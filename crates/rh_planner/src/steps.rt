@@ -1,18 +1,20 @@
 //! The commands with their reports.
 
-ghost use Rattle.std.specs.Prelude.{◌≡◌, ◌+◌, ℕ, false, List, [], ◌∷◌, ◌++◌, Some, IfErr, OnOk};
+ghost use Rattle.std.specs.Prelude.{◌≡◌, ◌≢◌, ◌+◌, ℕ, false, List, [], ◌∷◌, ◌++◌, Some, IfErr, OnOk};
 ghost use Rattle.std.specs.Prelude.{length};
 ghost use Rattle.rh_edit.specs.Held.{Held};
 ghost use Rattle.rh_files.specs.Counting.{Rose, failures_of, inner_of};
-ghost use Rattle.rh_script.specs.Instruction.{Snapshot};
+ghost use Rattle.rh_script.specs.Instruction.{Use, Add, Drop, Ask, Keep, Flip, Save, Clear, Dump};
+ghost use Rattle.rh_script.specs.Instruction.{Snapshot, Restore};
 ghost use Rattle.rh_script.specs.Names.{is_given};
 ghost use Rattle.rh_shelf.specs.Shelf.{Files};
 ghost use Rattle.rh_planner.specs.declared.key_lists.KeyList.{KeyList};
-ghost use Rattle.rh_planner.specs.Ends.{KeepsShelf, LeavesShelf};
+ghost use Rattle.rh_planner.specs.Ends.{KeepsRunner, KeepsShelf, LeavesShelf};
 ghost use Rattle.rh_planner.specs.Files.{FileMap, HasFiles};
 ghost use Rattle.rh_planner.specs.KeyLists.{Stands, paths_of};
 ghost use Rattle.rh_planner.specs.Meaning.{adds, asks, clears, drops, dumps, flips, keeps, restores};
 ghost use Rattle.rh_planner.specs.Meaning.{saves, snapshots, uses};
+ghost use Rattle.rh_planner.specs.Outside.{IsOutside};
 ghost use Rattle.rh_planner.specs.Steps.{ListsStand, Named, PlainEnds, StateEnds, StepEnds, world_of};
 
 use crate::commands::{add, ask, drop_keys, flip, keep, saved, use_file};
@@ -45,11 +47,16 @@ pub(crate) fn add_step<T: Wait, S: Shelf, N: Runner, W: Write>(
 ) -> Result<(), Cause>
     ensures step { (lists : Named) (files : FileMap) (keys : List ℕ) →
         Stands (S.files shelf.old) list.now keys →
-        StepEnds (adds (world_of set.old lists files) name.now keys) (world_of set.new lists files)
-        (S.failures shelf.old) (S.failures shelf.new)
+        StepEnds (adds (world_of set.old lists files) name.now keys)
+        (IsOutside (Add name.now) (Rose (S.failures shelf.old) (S.failures shelf.new))
+        (Rose (N.refused_starts runner.old) (N.refused_starts runner.new)))
+        (world_of set.new lists files)
         (W.contents (inner_of writer.old)) (W.contents (inner_of writer.new)) result }
+    ensures unchanged { IfErr result (λ cause. cause ≢ Cause.Write → set.new ≡ set.old) }
     ensures shelf { KeepsShelf (S.files shelf.old) (S.files shelf.new) (S.failures shelf.old)
         (S.failures shelf.new) result }
+    ensures runner { KeepsRunner (N.refused_starts runner.old) (N.refused_starts runner.new)
+        result }
     ensures write { IfErr result (λ cause. cause ≡ Cause.Write →
         Rose (failures_of writer.old) (failures_of writer.new)) }
     ensures written { OnOk result (failures_of writer.new ≡ failures_of writer.old) }
@@ -73,11 +80,16 @@ pub(crate) fn drop_step<T: Wait, S: Shelf, N: Runner, W: Write>(
 ) -> Result<(), Cause>
     ensures step { (lists : Named) (files : FileMap) (keys : List ℕ) →
         Stands (S.files shelf.old) list.now keys →
-        StepEnds (drops (world_of set.old lists files) name.now keys) (world_of set.new lists files)
-        (S.failures shelf.old) (S.failures shelf.new)
+        StepEnds (drops (world_of set.old lists files) name.now keys)
+        (IsOutside (Drop name.now) (Rose (S.failures shelf.old) (S.failures shelf.new))
+        (Rose (N.refused_starts runner.old) (N.refused_starts runner.new)))
+        (world_of set.new lists files)
         (W.contents (inner_of writer.old)) (W.contents (inner_of writer.new)) result }
+    ensures unchanged { IfErr result (λ cause. cause ≢ Cause.Write → set.new ≡ set.old) }
     ensures shelf { KeepsShelf (S.files shelf.old) (S.files shelf.new) (S.failures shelf.old)
         (S.failures shelf.new) result }
+    ensures runner { KeepsRunner (N.refused_starts runner.old) (N.refused_starts runner.new)
+        result }
     ensures write { IfErr result (λ cause. cause ≡ Cause.Write →
         Rose (failures_of writer.old) (failures_of writer.new)) }
     ensures written { OnOk result (failures_of writer.new ≡ failures_of writer.old) }
@@ -101,11 +113,15 @@ pub(crate) fn ask_step<T: Wait, S: Shelf, N: Runner, W: Write>(
 ) -> Result<(), Cause>
     ensures step { (lists : Named) (files : FileMap) (keys : List ℕ) →
         Stands (S.files shelf.old) list.now keys →
-        StepEnds (asks (world_of set.now lists files) name.now keys) (world_of set.now lists files)
-        (S.failures shelf.old) (S.failures shelf.new)
+        StepEnds (asks (world_of set.now lists files) name.now keys)
+        (IsOutside (Ask name.now) (Rose (S.failures shelf.old) (S.failures shelf.new))
+        (Rose (N.refused_starts runner.old) (N.refused_starts runner.new)))
+        (world_of set.now lists files)
         (W.contents (inner_of writer.old)) (W.contents (inner_of writer.new)) result }
     ensures shelf { KeepsShelf (S.files shelf.old) (S.files shelf.new) (S.failures shelf.old)
         (S.failures shelf.new) result }
+    ensures runner { KeepsRunner (N.refused_starts runner.old) (N.refused_starts runner.new)
+        result }
     ensures write { IfErr result (λ cause. cause ≡ Cause.Write →
         Rose (failures_of writer.old) (failures_of writer.new)) }
     ensures written { OnOk result (failures_of writer.new ≡ failures_of writer.old) }
@@ -128,11 +144,16 @@ pub(crate) fn keep_step<T: Wait, S: Shelf, N: Runner, W: Write>(
 ) -> Result<(), Cause>
     ensures step { (lists : Named) (files : FileMap) (keys : List ℕ) →
         Stands (S.files shelf.old) list.now keys →
-        StepEnds (keeps (world_of set.old lists files) name.now keys) (world_of set.new lists files)
-        (S.failures shelf.old) (S.failures shelf.new)
+        StepEnds (keeps (world_of set.old lists files) name.now keys)
+        (IsOutside (Keep name.now) (Rose (S.failures shelf.old) (S.failures shelf.new))
+        (Rose (N.refused_starts runner.old) (N.refused_starts runner.new)))
+        (world_of set.new lists files)
         (W.contents (inner_of writer.old)) (W.contents (inner_of writer.new)) result }
+    ensures unchanged { IfErr result (λ cause. cause ≢ Cause.Write → set.new ≡ set.old) }
     ensures shelf { KeepsShelf (S.files shelf.old) (S.files shelf.new) (S.failures shelf.old)
         (S.failures shelf.new) result }
+    ensures runner { KeepsRunner (N.refused_starts runner.old) (N.refused_starts runner.new)
+        result }
     ensures write { IfErr result (λ cause. cause ≡ Cause.Write →
         Rose (failures_of writer.old) (failures_of writer.new)) }
     ensures written { OnOk result (failures_of writer.new ≡ failures_of writer.old) }
@@ -156,11 +177,16 @@ pub(crate) fn flip_step<T: Wait, S: Shelf, N: Runner, W: Write>(
 ) -> Result<(), Cause>
     ensures step { (lists : Named) (files : FileMap) (keys : List ℕ) →
         Stands (S.files shelf.old) list.now keys →
-        StepEnds (flips (world_of set.old lists files) name.now keys) (world_of set.new lists files)
-        (S.failures shelf.old) (S.failures shelf.new)
+        StepEnds (flips (world_of set.old lists files) name.now keys)
+        (IsOutside (Flip name.now) (Rose (S.failures shelf.old) (S.failures shelf.new))
+        (Rose (N.refused_starts runner.old) (N.refused_starts runner.new)))
+        (world_of set.new lists files)
         (W.contents (inner_of writer.old)) (W.contents (inner_of writer.new)) result }
+    ensures unchanged { IfErr result (λ cause. cause ≢ Cause.Write → set.new ≡ set.old) }
     ensures shelf { KeepsShelf (S.files shelf.old) (S.files shelf.new) (S.failures shelf.old)
         (S.failures shelf.new) result }
+    ensures runner { KeepsRunner (N.refused_starts runner.old) (N.refused_starts runner.new)
+        result }
     ensures write { IfErr result (λ cause. cause ≡ Cause.Write →
         Rose (failures_of writer.old) (failures_of writer.new)) }
     ensures written { OnOk result (failures_of writer.new ≡ failures_of writer.old) }
@@ -182,14 +208,16 @@ pub(crate) fn use_step<'a, S: Shelf, W: Write>(
 ) -> Result<(), Cause>
     ensures step { (set : Held) (named : Named) (files : FileMap) →
         HasFiles files (S.files shelf.old) → ListsStand (S.files shelf.old) lists.old.items named →
-        PlainEnds (uses (world_of set named files) name.now path.now) files (S.files shelf.old) set
-        lists.new.items (S.failures shelf.old) (S.failures shelf.new)
+        PlainEnds (uses (world_of set named files) name.now path.now)
+        (IsOutside (Use name.now path.now) (Rose (S.failures shelf.old) (S.failures shelf.new)) ⊥)
+        files (S.files shelf.old) set lists.new.items
         (W.contents (inner_of writer.old)) (W.contents (inner_of writer.new)) result }
     ensures more { OnOk result (length lists.new.items ≡ length lists.old.items + 1) }
     ensures paths { OnOk result
         (paths_of lists.new.items ≡ paths_of lists.old.items ++ path.now ∷ []) }
     ensures shelf { KeepsShelf (S.files shelf.old) (S.files shelf.new) (S.failures shelf.old)
         (S.failures shelf.new) result }
+    ensures no_thread { IfErr result (λ cause. cause ≡ Cause.NoThread → ⊥) }
     ensures write { IfErr result (λ cause. cause ≡ Cause.Write →
         Rose (failures_of writer.old) (failures_of writer.new)) }
     ensures written { OnOk result (failures_of writer.new ≡ failures_of writer.old) }
@@ -211,8 +239,8 @@ pub(crate) fn save_step<W: Write>(
 ) -> Result<(), Cause>
     ensures step { (named : Named) (files : FileMap) (now : Files) →
         ListsStand (Some now) lists.old.items named →
-        PlainEnds (saves (world_of set.now named files) name.now) files (Some now) set.now
-        lists.new.items 0 0
+        PlainEnds (saves (world_of set.now named files) name.now) (IsOutside (Save name.now) ⊥ ⊥)
+        files (Some now) set.now lists.new.items
         (W.contents (inner_of writer.old)) (W.contents (inner_of writer.new)) result }
     ensures more { OnOk result (length lists.new.items ≡ length lists.old.items + 1) }
     ensures paths { OnOk result (paths_of lists.new.items ≡ paths_of lists.old.items) }
@@ -221,6 +249,7 @@ pub(crate) fn save_step<W: Write>(
     ensures written { OnOk result (failures_of writer.new ≡ failures_of writer.old) }
     ensures not_missing { IfErr result (λ cause. cause ≡ Cause.Missing → ⊥) }
     ensures not_put { IfErr result (λ cause. cause ≡ Cause.Put → ⊥) }
+    ensures no_thread { IfErr result (λ cause. cause ≡ Cause.NoThread → ⊥) }
 {
     let list = saved(alloc, set)?;
     let count = list.count;
@@ -236,13 +265,16 @@ pub(crate) fn clear_step<W: Write>(
     set: &mut SeqSet,
 ) -> Result<(), Cause>
     ensures step { (lists : Named) (files : FileMap) →
-        StepEnds (clears (world_of set.old lists files)) (world_of set.new lists files) 0 0
+        StepEnds (clears (world_of set.old lists files)) (IsOutside Clear ⊥ ⊥)
+        (world_of set.new lists files)
         (W.contents (inner_of writer.old)) (W.contents (inner_of writer.new)) result }
+    ensures unchanged { IfErr result (λ cause. cause ≢ Cause.Write → set.new ≡ set.old) }
     ensures write { IfErr result (λ cause. cause ≡ Cause.Write →
         Rose (failures_of writer.old) (failures_of writer.new)) }
     ensures written { OnOk result (failures_of writer.new ≡ failures_of writer.old) }
     ensures not_missing { IfErr result (λ cause. cause ≡ Cause.Missing → ⊥) }
     ensures not_put { IfErr result (λ cause. cause ≡ Cause.Put → ⊥) }
+    ensures no_thread { IfErr result (λ cause. cause ≡ Cause.NoThread → ⊥) }
 {
     *set = SeqSet::new(alloc, MIN_BITS)?;
     write_cleared(writer)?;
@@ -250,15 +282,18 @@ pub(crate) fn clear_step<W: Write>(
 }
 
 /// `dump`: the table is told.
+
 pub(crate) fn dump_step<W: Write>(writer: &mut Counted<W>, set: &SeqSet) -> Result<(), Cause>
     ensures step { (lists : Named) (files : FileMap) →
-        StepEnds (dumps (world_of set.now lists files)) (world_of set.now lists files) 0 0
+        StepEnds (dumps (world_of set.now lists files)) (IsOutside Dump ⊥ ⊥)
+        (world_of set.now lists files)
         (W.contents (inner_of writer.old)) (W.contents (inner_of writer.new)) result }
     ensures write { IfErr result (λ cause. cause ≡ Cause.Write →
         Rose (failures_of writer.old) (failures_of writer.new)) }
     ensures written { OnOk result (failures_of writer.new ≡ failures_of writer.old) }
     ensures not_missing { IfErr result (λ cause. cause ≡ Cause.Missing → ⊥) }
     ensures not_put { IfErr result (λ cause. cause ≡ Cause.Put → ⊥) }
+    ensures no_thread { IfErr result (λ cause. cause ≡ Cause.NoThread → ⊥) }
 {
     write_dump(set.bits(), set.cells(), writer)?;
     Ok(())
@@ -275,11 +310,12 @@ pub(crate) fn snapshot_step<S: Shelf, W: Write>(
     ensures step { (lists : List KeyList) (named : Named) (files : FileMap) →
         HasFiles files (S.files shelf.old) → ListsStand (S.files shelf.old) lists named →
         is_given path.now (paths_of lists) ≡ false →
-        StateEnds (snapshots (world_of set.now named files) path.now) (Snapshot path.now) files
-        (S.files shelf.new) set.now lists (S.failures shelf.old) (S.failures shelf.new)
+        StateEnds (snapshots (world_of set.now named files) path.now) (Snapshot path.now)
+        (Rose (S.failures shelf.old) (S.failures shelf.new)) ⊥ files (S.files shelf.new) set.now lists
         (W.contents (inner_of writer.old)) (W.contents (inner_of writer.new)) result }
     ensures shelf { LeavesShelf (S.files shelf.old) (S.files shelf.new) (S.failures shelf.old)
         (S.failures shelf.new) result }
+    ensures no_thread { IfErr result (λ cause. cause ≡ Cause.NoThread → ⊥) }
     ensures write { IfErr result (λ cause. cause ≡ Cause.Write →
         Rose (failures_of writer.old) (failures_of writer.new)) }
     ensures written { OnOk result (failures_of writer.new ≡ failures_of writer.old) }
@@ -298,11 +334,14 @@ pub(crate) fn restore_step<S: Shelf, W: Write>(
     path: &str,
 ) -> Result<(), Cause>
     ensures step { (lists : Named) (files : FileMap) → HasFiles files (S.files shelf.old) →
-        StepEnds (restores (world_of set.old lists files) path.now) (world_of set.new lists files)
-        (S.failures shelf.old) (S.failures shelf.new)
+        StepEnds (restores (world_of set.old lists files) path.now)
+        (IsOutside (Restore path.now) (Rose (S.failures shelf.old) (S.failures shelf.new)) ⊥)
+        (world_of set.new lists files)
         (W.contents (inner_of writer.old)) (W.contents (inner_of writer.new)) result }
+    ensures unchanged { IfErr result (λ cause. cause ≢ Cause.Write → set.new ≡ set.old) }
     ensures shelf { KeepsShelf (S.files shelf.old) (S.files shelf.new) (S.failures shelf.old)
         (S.failures shelf.new) result }
+    ensures no_thread { IfErr result (λ cause. cause ≡ Cause.NoThread → ⊥) }
     ensures write { IfErr result (λ cause. cause ≡ Cause.Write →
         Rose (failures_of writer.old) (failures_of writer.new)) }
     ensures written { OnOk result (failures_of writer.new ≡ failures_of writer.old) }

@@ -1,11 +1,11 @@
 //! The steps of a plan.
 
-ghost use Rattle.std.specs.Prelude.{◌≡◌, ◌+◌, ◌++◌, IfErr, OnOk, length};
+ghost use Rattle.std.specs.Prelude.{◌≡◌, ◌≢◌, ◌+◌, ◌++◌, IfErr, OnOk, length};
 ghost use Rattle.rh_files.specs.Counting.{Rose, failures_of, inner_of};
 ghost use Rattle.rh_script.specs.Names.{file_of, given_by};
 ghost use Rattle.rh_script.specs.Plan.{number_after};
 ghost use Rattle.rh_script.specs.Tasks.{task_as};
-ghost use Rattle.rh_planner.specs.Ends.{LeavesShelf};
+ghost use Rattle.rh_planner.specs.Ends.{KeepsRunner, LeavesShelf};
 ghost use Rattle.rh_planner.specs.Files.{FileMap, HasFiles};
 ghost use Rattle.rh_planner.specs.KeyLists.{paths_of};
 ghost use Rattle.rh_planner.specs.Meaning.{outcome_of};
@@ -45,15 +45,19 @@ pub(crate) fn carry_out<'a, T: Wait, S: Shelf, N: Runner, W: Write>(
         number_after (names_of named) (task_as task.now).0 ≡ (task_as task.now).1 →
         IsApart task.now lists.old.items →
         StateEnds (outcome_of (world_of set.old named files) (task_as task.now).0)
-        (task_as task.now).0 files (S.files shelf.new) set.new lists.new.items
-        (S.failures shelf.old) (S.failures shelf.new)
+        (task_as task.now).0 (Rose (S.failures shelf.old) (S.failures shelf.new))
+        (Rose (N.refused_starts runner.old) (N.refused_starts runner.new))
+        files (S.files shelf.new) set.new lists.new.items
         (W.contents (inner_of writer.old)) (W.contents (inner_of writer.new)) result }
     ensures lists { OnOk result (length lists.new.items
         ≡ length lists.old.items + length (given_by (task_as task.now).0)) }
     ensures paths { OnOk result (paths_of lists.new.items
         ≡ paths_of lists.old.items ++ file_of (task_as task.now).0) }
+    ensures unchanged { IfErr result (λ cause. cause ≢ Cause.Write → set.new ≡ set.old) }
     ensures shelf { LeavesShelf (S.files shelf.old) (S.files shelf.new) (S.failures shelf.old)
         (S.failures shelf.new) result }
+    ensures runner { KeepsRunner (N.refused_starts runner.old) (N.refused_starts runner.new)
+        result }
     ensures write { IfErr result (λ cause. cause ≡ Cause.Write →
         Rose (failures_of writer.old) (failures_of writer.new)) }
     ensures written { OnOk result (failures_of writer.new ≡ failures_of writer.old) }

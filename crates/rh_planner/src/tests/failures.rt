@@ -30,6 +30,13 @@ impl Asked {
         }
     }
 
+    fn readers(self) -> u64 {
+        match self {
+            Asked::Put => 0,
+            _ => 1,
+        }
+    }
+
     fn failed_read(self) -> Cause {
         match self {
             Asked::Snapshot => Cause::Snap(SnapFault::Read),
@@ -113,13 +120,15 @@ fn fails_at(
 #[test]
 fn each_call_and_each_read_fails(rt: HostRuntime) -> Result<(), Fail> {
     for (script, told, calls) in SCRIPTS {
+        let mut reader = 0_u64;
         for (call, (line, asked)) in (1..).zip(calls) {
             let line = *line;
             let cause = asked.failure();
             let end = RunFault { line, cause };
             fails_at(&rt, script, told, ShelfFailure::Call(call), end)?;
+            reader = reader.saturating_add(asked.readers());
             for read in 1..=asked.reads() {
-                let failure = ShelfFailure::Read { call, read };
+                let failure = ShelfFailure::Read { reader, read };
                 let cause = asked.failed_read();
                 fails_at(&rt, script, told, failure, RunFault { line, cause })?;
             }

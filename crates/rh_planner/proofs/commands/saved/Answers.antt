@@ -1,4 +1,4 @@
-use Rattle.std.proofs.Common.{◌≡◌, ◌∙◌, ◌++◌, [], ap, sym, length, refl, rules}
+use Rattle.std.proofs.Common.{◌≡◌, ◌∙◌, ◌++◌, [], ap, sym, length, rules}
 use Rattle.rh_edit.specs.Rising.{rising_keys}
 use Rattle.rh_files.specs.declared.version.Version.TheVariants.{Second}
 use Rattle.rh_files.specs.KeyFile.{spelling}
@@ -12,4 +12,4 @@ returns-clause-saved c files =
     let empty : c.new-file.result.inner.items ≡ [] = search rules in
     let written : c.into_inner.result.items ≡ c.new-file.result.inner.items ++ spelling Second keys = ap (λ v. v.items) c.into_inner.ensures ∙ c.in-Ok.ensures.text ∙ ap (λ k. c.new-file.result.inner.items ++ spelling Second k) c.deref.ensures.value in
     let many : length rising ≡ c.len.result = ap length (sym c.in_ok-keys.ensures.items) ∙ search rules in
-    (c.into_inner.result.items, refl, spelled_in_memory keys rising c.new-file.result.inner.items c.into_inner.result.items empty written c.in_ok-keys.ensures.keys c.in_ok-keys.ensures.few c.in_ok-keys.ensures.items, many)
+    (spelled_in_memory keys rising c.new-file.result.inner.items c.into_inner.result.items empty written c.in_ok-keys.ensures.keys c.in_ok-keys.ensures.few c.in_ok-keys.ensures.items, many)

@@ -15,6 +15,7 @@ unfolding names_in
 loop-step-init g c = record {
   still_unknown = λ unknown. unknown;
   fine = refl;
+  started = refl;
   written = refl;
   many = λ steps planned. ap length c.new-lists.ensures.items;
   reached = λ files steps known planned fresh. reached_start files (g.S.Shelf.files c.args.shelf.now) c.args.set.now c.new-lists.result.items _ known c.requires.keys c.requires.bits c.new-lists.ensures.items;
@@ -27,7 +28,7 @@ returns-in-Err-clause-meant g c files steps known planned fresh =
     let so_far = c.loop-step.invariant.reached files steps known planned fresh in
     let apart = is_apart c.loop-step.lists.items steps i _ fresh here so_far.paths in
     let ends = c.in-Err.ensures.step so_far.done.named so_far.done.made so_far.done.has so_far.stand (its_number files steps i _ _ _ _ _ _ here so_far) apart in
-    stops_here files steps i _ _ _ _ _ _ here so_far _ _ _ _ _ _ c.loop-step.invariant.fine ends
+    stops_here files steps i _ _ _ _ _ _ here so_far _ _ _ _ _ _ _ _ _ c.loop-step.invariant.fine c.loop-step.invariant.started ends
 
 pub loop-step-preserved : goal.loop-step-preserved
 loop-step-preserved g c =
@@ -35,6 +36,7 @@ loop-step-preserved g c =
     record {
       still_unknown = λ unknown. c.in_default.ensures.shelf.still_unknown (c.loop-step.invariant.still_unknown unknown);
       fine = c.in_default.ensures.shelf.fine ∙ c.loop-step.invariant.fine;
+      started = c.in_default.ensures.runner.fine ∙ c.loop-step.invariant.started;
       written = c.in_default.ensures.written ∙ c.loop-step.invariant.written;
       many = λ steps planned.
           let here = step_at c.steps-step-items.result.now steps i _ (c.steps-step-items.ensures ∙ planned) c.loop-step-test.true in

@@ -11,6 +11,7 @@ abbrev pub invariant-loop-step : goal.invariant-loop-step
 invariant-loop-step g l = record {
   still_unknown : g.S.Shelf.files l.fn.shelf ≡ None → g.S.Shelf.files l.shelf ≡ None;
   fine : g.S.Shelf.failures l.shelf ≡ g.S.Shelf.failures l.fn.shelf;
+  started : g.N.Runner.refused_starts l.runner ≡ g.N.Runner.refused_starts l.fn.runner;
   written : l.writer.failures ≡ l.fn.writer.failures;
   many : (steps : List Numbered) → planned_of l.fn.plan ≡ plan_of steps → length l.lists.items ≡ length (names_in (take l.step-index steps));
   reached : (files : Files) (steps : List Numbered) → g.S.Shelf.files l.fn.shelf ≡ Some files → planned_of l.fn.plan ≡ plan_of steps → SnapshotsAreNew steps → Reached files (g.S.Shelf.files l.shelf) (take l.step-index steps) l.set l.lists.items (g.W.Write.contents l.fn.writer.inner) (g.W.Write.contents l.writer.inner);

@@ -1,5 +1,8 @@
 use Rattle.std.proofs.Common.{◌≡◌, ◌∙◌, inr, refl, sym, rules}
 use Rattle.std.proofs.lemmas.Result.{err_from_is_err_and}
+use Rattle.rh_files.specs.Counting.{Rose}
+use Rattle.rh_script.specs.Instruction.{Restore}
+use Rattle.rh_planner.specs.Outside.{IsOutside}
 use Rattle.std.specs.FinSet as set
 use Rattle.rh_planner.proofs.FileLemmas.{known_files, same_table}
 use Rattle.rh_planner.proofs.StepLemmas.{found_refused, not_told, restores_is}
@@ -10,7 +13,8 @@ returns-in_err-set-clause-step g c lists files has =
     let p = err_from_is_err_and c.from_residual.result c.from_residual.ensures.1 in
     let known = known_files files (g.S.Shelf.files c.args.shelf.now) has in
     let same = same_table files (g.S.Shelf.files c.args.shelf.now) known.0 known.1 has c.args.path.now in
-    rw (p.1, p.2) (found_refused _ _ _ _ _ _ _ same (c.in_err-set.ensures.refused known.0 known.1))
+    let failed : Type 0 = Rose (g.S.Shelf.failures c.args.shelf.now) (g.S.Shelf.failures c.restored.new.shelf) in
+    rw (p.1, p.2) (found_refused (IsOutside (Restore c.args.path.now) failed ⊥) _ _ _ _ _ same (c.in_err-set.ensures.refused known.0 known.1))
 
 pub returns-in_err-write_restored-clause-step : goal.returns-in_err-write_restored-clause-step
 returns-in_err-write_restored-clause-step g c lists files has =

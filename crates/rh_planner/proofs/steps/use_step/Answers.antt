@@ -1,11 +1,14 @@
 use Rattle.std.proofs.Common.{◌≡◌, ◌∙◌, ◌∷◌, ◌++◌, [], inr, refl, sym, subst, rules, Some}
 use Rattle.std.proofs.lemmas.Result.{err_from_is_err_and}
+use Rattle.rh_files.specs.Counting.{Rose}
+use Rattle.rh_script.specs.Instruction.{Use}
+use Rattle.rh_planner.specs.Outside.{IsOutside}
 use Rattle.rh_planner.specs.declared.key_lists.KeyList.{KeyList}
 use Rattle.rh_planner.specs.declared.key_lists.Place.TheVariants.{Path}
 use Rattle.rh_planner.specs.KeyLists.{Stands}
 use Rattle.rh_planner.specs.Steps.{ListsStand}
 use Rattle.rh_planner.proofs.FileLemmas.{known_files, same_keys}
-use Rattle.rh_planner.proofs.ListLemmas.{bytes_of_keys, one_more_stands, paths_more}
+use Rattle.rh_planner.proofs.ListLemmas.{one_more_stands, paths_more}
 use Rattle.rh_planner.proofs.StepLemmas.{found_refused, not_told, uses_is}
 use Rattle.rh_planner.proofs.steps.use_step.Goals as goal
 
@@ -15,7 +18,8 @@ returns-in_err-count-clause-step g c set named files has stand =
     let path = c.args.path.now in
     let known = known_files files (g.S.Shelf.files c.args.shelf.now) has in
     let same = same_keys files (g.S.Shelf.files c.args.shelf.now) known.0 known.1 has path in
-    rw (p.1, p.2) (found_refused _ _ _ _ _ _ _ same (c.in_err-count.ensures.refused known.0 known.1))
+    let failed : Type 0 = Rose (g.S.Shelf.failures c.args.shelf.now) (g.S.Shelf.failures c.use_file.new.shelf) in
+    rw (p.1, p.2) (found_refused (IsOutside (Use c.args.name.now c.args.path.now) failed ⊥) _ _ _ _ _ same (c.in_err-count.ensures.refused known.0 known.1))
 
 pub returns-in_err-write_used-clause-step : goal.returns-in_err-write_used-clause-step
 returns-in_err-write_used-clause-step g c set named files has stand =
@@ -34,9 +38,8 @@ returns-clause-step g c set named files has stand =
     let known = known_files files before has in
     let same = same_keys files before known.0 known.1 has path in
     let used = c.in_ok-count.ensures.used known.0 known.1 in
-    let bytes = bytes_of_keys (known.0 path) used.0 used.1 in
     let list : KeyList = record { place = Path c.args.path; count = c.in_ok-count.count } in
-    let new : Stands (Some known.0) list used.0 = (bytes.0, bytes.1, bytes.2, used.2) in
+    let new : Stands (Some known.0) list used.0 = (used.1, used.2) in
     let here : Stands before list used.0 = subst (λ now. Stands now list used.0) (sym known.1) new in
     let pushed : c.push.new.self.items ≡ c.args.lists.now.items ++ list ∷ [] = search rules in
     let stands = subst (λ lists. ListsStand before lists (named ++ (name, used.0) ∷ [])) (sym pushed) (one_more_stands before c.args.lists.now.items named list name used.0 stand here) in
