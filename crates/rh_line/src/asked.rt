@@ -5,7 +5,7 @@ use clap::error::ErrorKind;
 use std::alloc::AllocError;
 
 /// A command, with its arguments.
-#[derive(Debug, Drop)]
+#[derive(Drop)]
 pub enum Line {
     /// Write the table of the keys on standard input.
     Dump,
