@@ -96,6 +96,3 @@ fn digits_of(seal: &[u8; 32]) -> [u8; 64]
     hex::encode_to_slice(seal, &mut digits).unwrap();
     digits
 }
-
-#[cfg(test)]
-mod tests;

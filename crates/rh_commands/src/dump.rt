@@ -100,6 +100,3 @@ pub fn dump_keys<R: Read, W: Write>(
     write_dump(bits, set.cells(), writer)?;
     Ok(())
 }
-
-#[cfg(test)]
-mod tests;

@@ -34,6 +34,3 @@ pub use parts::MAX_KEYS;
 pub use source::KeySource;
 pub use stream::KeyStream;
 pub use version::Version;
-
-#[cfg(test)]
-mod tests;

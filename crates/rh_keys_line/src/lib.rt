@@ -7,6 +7,3 @@ mod parse;
 
 pub use asked::Line;
 pub use parse::line;
-
-#[cfg(test)]
-mod tests;

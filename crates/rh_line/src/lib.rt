@@ -9,6 +9,3 @@ mod parse;
 pub use asked::{Line, LineFault};
 pub use limits::MAX_WORKERS;
 pub use parse::line;
-
-#[cfg(test)]
-mod tests;

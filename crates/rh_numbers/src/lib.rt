@@ -14,6 +14,3 @@ pub use laws::{first_fault, one_meaning};
 pub use limits::MAX_BYTES;
 pub use text::read_numbers;
 pub use writing::write_numbers;
-
-#[cfg(test)]
-mod tests;

@@ -10,6 +10,3 @@ pub use laws::{listed_again, packed_again};
 pub use listing::{ListFault, list_keys};
 pub use packing::{PackFault, pack};
 pub use snapshot::{HeldFault, list_snapshot};
-
-#[cfg(test)]
-mod tests;

@@ -15,6 +15,3 @@ mod tasks;
 pub use fault::{Cause, RunFault};
 pub use report::Report;
 pub use running::run;
-
-#[cfg(test)]
-mod tests;

@@ -18,6 +18,3 @@ pub use limits::{MAX_BITS, MAX_ROOM, MAX_TEXT_BYTES, MAX_TURNS, MIN_BITS};
 pub use play::{Bits, Play, Rooms, Work};
 pub use reading::parse_play;
 pub use schedule::{Order, Step};
-
-#[cfg(test)]
-mod tests;

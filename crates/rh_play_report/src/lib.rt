@@ -7,6 +7,3 @@ mod lines;
 
 pub use endings::{Last, Rest, step_kind};
 pub use lines::{push_end, push_raw, push_rest, push_round, push_tally, push_turn, push_until};
-
-#[cfg(test)]
-mod tests;

@@ -13,6 +13,3 @@ mod turns;
 
 pub use fault::PlayRunFault;
 pub use run::run_play;
-
-#[cfg(test)]
-mod tests;

@@ -11,6 +11,3 @@ mod turns;
 pub use fault::PlayFault;
 pub use player::Player;
 pub use start::are_keys;
-
-#[cfg(test)]
-mod tests;

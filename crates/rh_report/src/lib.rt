@@ -9,6 +9,3 @@ pub use lines::{
     write_added, write_cleared, write_dropped, write_flipped, write_kept, write_restored,
     write_saved, write_sealed, write_used,
 };
-
-#[cfg(test)]
-mod tests;

@@ -12,6 +12,3 @@ pub use fault::ListFault;
 pub use lists::{BATCH, ask_all, change_all, read_through};
 pub use runner::{PhaseFault, Runner};
 pub use single::Single;
-
-#[cfg(test)]
-mod tests;

@@ -99,6 +99,3 @@ fn remove_all(bits: u32, cells: &mut [u64], keys: &[u64]) -> Tally
         found: 0,
     }
 }
-
-#[cfg(test)]
-mod tests;

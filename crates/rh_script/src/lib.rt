@@ -19,6 +19,3 @@ pub use planning::plan;
 pub use reading::parse;
 pub use script::{Command, Script, Step};
 pub use task::{Plan, PlannedStep, Task};
-
-#[cfg(test)]
-mod tests;

@@ -8,6 +8,3 @@ mod shelf;
 pub use faulty::{FaultyShelf, ShelfFailure};
 pub use memory::MemShelf;
 pub use shelf::{Shelf, ShelfFault};
-
-#[cfg(test)]
-mod tests;

@@ -17,6 +17,3 @@ pub use reading::read_snapshot;
 pub use snapshot::Snapshot;
 pub use version::Version;
 pub use writing::write_snapshot;
-
-#[cfg(test)]
-mod tests;

@@ -15,6 +15,3 @@ pub use laws::keys_are_done;
 pub use place::{Place, Plan};
 pub use sights::Sights;
 pub use worker::{Stepped, Worker};
-
-#[cfg(test)]
-mod tests;

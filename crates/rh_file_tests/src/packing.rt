@@ -1,4 +1,4 @@
-use super::*;
+use rh_packing::*;
 use rh_files::{Counted, FaultyReader, FaultyWriter, KeyFault, Refusal};
 use rh_numbers::TextFault;
 use rh_snapshot::SnapFault;

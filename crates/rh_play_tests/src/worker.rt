@@ -1,4 +1,4 @@
-use super::*;
+use rh_worker::*;
 use rh_descriptor::Shape;
 use rh_ledger::Kind;
 use std::test::*;

@@ -1,4 +1,4 @@
-use super::*;
+use rh_files::*;
 use rh_layout::is_layout;
 use std::alloc::Global;
 use std::test::*;

@@ -1,4 +1,4 @@
-use super::*;
+use rh_shelf::*;
 use std::alloc::Global;
 use std::io::Read;
 use std::test::*;

@@ -1,4 +1,4 @@
-use super::*;
+use rh_snapshot::*;
 use rh_files::{Counted, FaultyReader};
 use sha2::{Digest, Sha256};
 use std::alloc::{AllocError, Global};

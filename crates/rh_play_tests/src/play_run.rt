@@ -1,4 +1,4 @@
-use super::*;
+use rh_play_run::*;
 use rh_files::{Counted, FaultyReader, FaultyWriter, Refusal};
 use rh_play::{MAX_TEXT_BYTES, PlayTextFault, PlayTextKind};
 use rh_player::PlayFault;

@@ -1,5 +1,4 @@
-use crate::asked::Line;
-use crate::parse::line;
+use rh_keys_line::{Line, line};
 use rh_line::LineFault;
 use std::alloc::Global;
 use std::test::Fail;

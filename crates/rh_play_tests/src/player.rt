@@ -1,4 +1,4 @@
-use super::*;
+use rh_player::*;
 use rh_descriptor::{Rooms, StepKind};
 use rh_ledger::{Kind, Tally};
 use rh_tagword::Word;

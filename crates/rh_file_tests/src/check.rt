@@ -1,5 +1,5 @@
-use super::*;
-use rh_files::{FaultyReader, FaultyWriter, Refusal};
+use rh_commands::*;
+use rh_files::{Counted, FaultyReader, FaultyWriter, Refusal};
 use std::alloc::AllocError;
 use std::test::Fail;
 

@@ -1,4 +1,4 @@
-use super::*;
+use rh_script::*;
 use std::test::*;
 
 // The words of a command.

@@ -1,4 +1,4 @@
-use super::*;
+use rh_play::*;
 use rh_ledger::Kind;
 use std::alloc::{AllocFailed, Global};
 use std::test::*;

@@ -1,4 +1,4 @@
-use super::*;
+use rh_runner::*;
 use rh_edit::SeqSet;
 use rh_files::HeldKeys;
 use rh_layout::is_layout;

@@ -1,4 +1,4 @@
-use super::*;
+use rh_numbers::*;
 use rh_files::{Counted, FaultyReader, FaultyWriter, Refusal, WriteFault};
 use std::alloc::{AllocError, Global};
 use std::test::*;

@@ -1,4 +1,4 @@
-use super::*;
+use rh_play_report::*;
 use rh_descriptor::StepKind;
 use rh_ledger::Tally;
 use rh_play::Step;

@@ -1,4 +1,4 @@
-use super::*;
+use rh_planner::*;
 use rh_files::{Counted, KeyFault, write_keys};
 use rh_runner::Single;
 use rh_script::parse;

@@ -1,5 +1,4 @@
-use crate::asked::{Line, LineFault};
-use crate::parse::line;
+use rh_line::{Line, LineFault, line};
 use clap::Error;
 use std::alloc::Global;
 use std::test::Fail;

@@ -1,4 +1,4 @@
-use super::*;
+use rh_report::*;
 use rh_files::{Counted, FaultyWriter, Refusal, WriteFault};
 use std::test::*;
 
