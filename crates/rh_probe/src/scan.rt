@@ -16,7 +16,6 @@ use rh_layout::{beats, home, key_in};
 pub fn look(bits: u32, key: u64, seen: &[u64]) -> Look
     requires bits { IsBits bits }
     requires key { IsKey key }
-    requires room { length seen.now ≤ 2 ^ bits }
     ensures { Finds bits key seen.now result }
 {
     let size = 1usize << bits;
@@ -51,7 +50,6 @@ pub fn stop_after(bits: u32, cell: usize, seen: &[u64], i: usize) -> Option<usiz
     requires bits { IsBits bits }
     requires cell { cell < 2 ^ bits }
     requires i { i < length seen.now }
-    requires room { length seen.now ≤ 2 ^ bits }
     ensures { MatchOption result
         ((p : ℕ) → i < p → p < length seen.now →
         IsAway bits (place_after (2 ^ bits) cell p) (slice_index seen.now p))
