@@ -100,7 +100,7 @@ version_read bytes p h =
     let s = then_ok (bytes_at 4 bytes) named p h in
     (bytes_read 4 bytes s.0 s.1).whole ∙ named_magic s.0 p s.2
 
-abbrev InRange : Version → ℕ → Type 0
+abbrev pub InRange : Version → ℕ → Type 0
 InRange version bits = (MIN_BITS ≤ bits) × (bits ≤ most_bits version)
 
 one_byte : (xs : List ℕ) → length xs ≡ 1 → xs ≡ get_or xs 0 0 ∷ []
@@ -135,7 +135,7 @@ number_read bytes p h =
 header_spelled : (version : Version) (bits count : ℕ) (rest : List ℕ) → magic version ++ (bits ∷ (eight_bytes count ++ rest)) ≡ (magic version ++ (bits ∷ eight_bytes count)) ++ rest
 header_spelled version bits count rest = sym (append_assoc (magic version) (bits ∷ eight_bytes count) rest)
 
-header_read : (bytes : List ℕ) (p : Header × List ℕ) → header_at bytes ≡ Ok p → (bytes ≡ spelled_header p.0 ++ p.1) × InRange p.0.version p.0.bits
+pub header_read : (bytes : List ℕ) (p : Header × List ℕ) → header_at bytes ≡ Ok p → (bytes ≡ spelled_header p.0 ++ p.1) × InRange p.0.version p.0.bits
 unfolding header_at
 header_read bytes p h =
     let s = then_ok (version_at bytes) after_version p h in

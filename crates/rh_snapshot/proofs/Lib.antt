@@ -7,3 +7,4 @@ pub mod Whole
 pub mod Keys
 pub mod Sealing
 pub mod Grammar
+pub mod Bounds

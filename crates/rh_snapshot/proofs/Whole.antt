@@ -7,7 +7,7 @@ use Rattle.rh_snapshot.specs.Snapshot.{Table, table_with}
 use Rattle.rh_snapshot.specs.Reading.{◌>>=◌, Fails, Reads, BeginsWithHeader, header_at, numbers_at, bytes_at, end_at, is_sealed, is_table, table_in, after_header, after_numbers, ended, file_table}
 use Rattle.rh_snapshot.proofs.Reader.{Fails-then}
 
-abbrev HeaderRead : (a b : Option (List ℕ)) → Result Header SnapFault → Type 0
+abbrev pub HeaderRead : (a b : Option (List ℕ)) → Result Header SnapFault → Type 0
 HeaderRead a b r = Reads a b header_at (λ (h : Header). h) r
 
 abbrev SealRead : (c d : Option (List ℕ)) → Result (List ℕ) SnapFault → Type 0

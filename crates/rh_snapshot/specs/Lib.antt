@@ -1,2 +1,3 @@
 pub mod Snapshot
 pub mod Reading
+pub mod Limits

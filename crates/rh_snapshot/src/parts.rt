@@ -1,9 +1,12 @@
 //! The parts of a snapshot, read one after the other.
 
-ghost use Rattle.std.specs.Prelude.{◌≡◌, ◌≢◌, ◌^◌, [], length, Err, IfOk, IsErrOf};
+ghost use Rattle.std.specs.Prelude.{◌≡◌, ◌≢◌, ◌*◌, ◌^◌, [], length, Err, IfOk, IsErrOf};
 ghost use Rattle.sha2.specs.Sha256.{sha256};
 ghost use Rattle.rh_layout.specs.Key.{IsBits};
 ghost use Rattle.rh_files.specs.Counting.{Rose, failures_of, inner_of};
+ghost use Rattle.rh_files.specs.Taking.{TakesAtMost};
+ghost use Rattle.rh_snapshot.specs.Limits.{fault_of, header_taken, magic_bytes, numbers_taken};
+ghost use Rattle.rh_snapshot.specs.Limits.{seal_bytes};
 ghost use Rattle.rh_snapshot.specs.Snapshot.{text_of};
 ghost use Rattle.rh_snapshot.specs.Reading.{Reads, always, bytes_at, version_at, bits_at};
 ghost use Rattle.rh_snapshot.specs.Reading.{number_at, header_at, numbers_at, end_at};
@@ -20,6 +23,8 @@ use std::io::Read;
 fn read_bytes<R: Read>(reader: &mut Counted<R>, buf: &mut [u8]) -> Result<(), SnapFault>
     ensures known { Reads (R.remaining (inner_of reader.old)) (R.remaining (inner_of reader.new))
         (bytes_at (length buf.new)) (always buf.new) result }
+    ensures takes { TakesAtMost (R.remaining (inner_of reader.old))
+        (R.remaining (inner_of reader.new)) (length buf.new) }
     ensures read { IsErrOf result SnapFault.Read →
         Rose (failures_of reader.old) (failures_of reader.new) }
     ensures no_memory { IsErrOf result SnapFault.Memory → ⊥ }
@@ -37,6 +42,8 @@ fn read_bytes<R: Read>(reader: &mut Counted<R>, buf: &mut [u8]) -> Result<(), Sn
 fn read_version<R: Read>(reader: &mut Counted<R>) -> Result<Version, SnapFault>
     ensures known { Reads (R.remaining (inner_of reader.old)) (R.remaining (inner_of reader.new))
         version_at (λ v. v) result }
+    ensures takes { TakesAtMost (R.remaining (inner_of reader.old))
+        (R.remaining (inner_of reader.new)) magic_bytes }
     ensures read { IsErrOf result SnapFault.Read →
         Rose (failures_of reader.old) (failures_of reader.new) }
     ensures no_memory { IsErrOf result SnapFault.Memory → ⊥ }
@@ -57,6 +64,8 @@ fn read_bits<R: Read>(reader: &mut Counted<R>, version: Version) -> Result<u32, 
     ensures known { Reads (R.remaining (inner_of reader.old)) (R.remaining (inner_of reader.new))
         (bits_at version) (λ b. b) result }
     ensures in_range { IfOk result IsBits }
+    ensures takes { TakesAtMost (R.remaining (inner_of reader.old))
+        (R.remaining (inner_of reader.new)) 1 }
     ensures read { IsErrOf result SnapFault.Read →
         Rose (failures_of reader.old) (failures_of reader.new) }
     ensures no_memory { IsErrOf result SnapFault.Memory → ⊥ }
@@ -74,6 +83,8 @@ fn read_bits<R: Read>(reader: &mut Counted<R>, version: Version) -> Result<u32, 
 fn read_number<R: Read>(reader: &mut Counted<R>) -> Result<u64, SnapFault>
     ensures known { Reads (R.remaining (inner_of reader.old)) (R.remaining (inner_of reader.new))
         number_at (λ n. n) result }
+    ensures takes { TakesAtMost (R.remaining (inner_of reader.old))
+        (R.remaining (inner_of reader.new)) 8 }
     ensures read { IsErrOf result SnapFault.Read →
         Rose (failures_of reader.old) (failures_of reader.new) }
     ensures no_memory { IsErrOf result SnapFault.Memory → ⊥ }
@@ -88,6 +99,8 @@ pub(crate) fn read_header<R: Read>(reader: &mut Counted<R>) -> Result<Header, Sn
     ensures known { Reads (R.remaining (inner_of reader.old)) (R.remaining (inner_of reader.new))
         header_at (λ h. h) result }
     ensures in_range { IfOk result (λ h. IsBits h.bits) }
+    ensures takes { TakesAtMost (R.remaining (inner_of reader.old))
+        (R.remaining (inner_of reader.new)) (header_taken (fault_of result)) }
     ensures read { IsErrOf result SnapFault.Read →
         Rose (failures_of reader.old) (failures_of reader.new) }
     ensures no_memory { IsErrOf result SnapFault.Memory → ⊥ }
@@ -114,6 +127,8 @@ fn fill_numbers<R: Read>(
     ensures known { Reads (R.remaining (inner_of reader.old)) (R.remaining (inner_of reader.new))
         (numbers_at (length numbers.new)) (always numbers.new) result }
     ensures digest { IfOk result (λ d. d ≡ sha256 (text_of header numbers.new)) }
+    ensures takes { TakesAtMost (R.remaining (inner_of reader.old))
+        (R.remaining (inner_of reader.new)) (8 * length numbers.new) }
     ensures read { IsErrOf result SnapFault.Read →
         Rose (failures_of reader.old) (failures_of reader.new) }
     ensures no_memory { IsErrOf result SnapFault.Memory → ⊥ }
@@ -138,6 +153,8 @@ pub(crate) fn read_numbers<R: Read>(
     ensures known { Reads (R.remaining (inner_of reader.old)) (R.remaining (inner_of reader.new))
         (numbers_at (2 ^ header.bits)) (λ n. n.0.items) result }
     ensures digest { IfOk result (λ n. n.1 ≡ sha256 (text_of header n.0.items)) }
+    ensures takes { TakesAtMost (R.remaining (inner_of reader.old))
+        (R.remaining (inner_of reader.new)) (numbers_taken (2 ^ header.bits) (fault_of result)) }
     ensures read { IsErrOf result SnapFault.Read →
         Rose (failures_of reader.old) (failures_of reader.new) }
     ensures fine { result ≢ Err SnapFault.Read → failures_of reader.new ≡ failures_of reader.old }
@@ -152,6 +169,8 @@ pub(crate) fn read_numbers<R: Read>(
 pub(crate) fn read_seal<R: Read>(reader: &mut Counted<R>) -> Result<[u8; 32], SnapFault>
     ensures known { Reads (R.remaining (inner_of reader.old)) (R.remaining (inner_of reader.new))
         (bytes_at 32) (λ s. s) result }
+    ensures takes { TakesAtMost (R.remaining (inner_of reader.old))
+        (R.remaining (inner_of reader.new)) seal_bytes }
     ensures read { IsErrOf result SnapFault.Read →
         Rose (failures_of reader.old) (failures_of reader.new) }
     ensures no_memory { IsErrOf result SnapFault.Memory → ⊥ }
@@ -165,6 +184,8 @@ pub(crate) fn read_seal<R: Read>(reader: &mut Counted<R>) -> Result<[u8; 32], Sn
 pub(crate) fn read_end<R: Read>(reader: &mut Counted<R>) -> Result<(), SnapFault>
     ensures known { Reads (R.remaining (inner_of reader.old)) (R.remaining (inner_of reader.new))
         end_at (λ _. []) result }
+    ensures takes { TakesAtMost (R.remaining (inner_of reader.old))
+        (R.remaining (inner_of reader.new)) 1 }
     ensures read { IsErrOf result SnapFault.Read →
         Rose (failures_of reader.old) (failures_of reader.new) }
     ensures no_memory { IsErrOf result SnapFault.Memory → ⊥ }

@@ -4,6 +4,8 @@ ghost use Rattle.std.specs.Prelude.{◌≡◌, ◌≢◌, ◌<◌, ◌^◌, Err,
 ghost use Rattle.std.specs.FinSet as set;
 ghost use Rattle.rh_layout.specs.Layout.{IsLayout, keys_of};
 ghost use Rattle.rh_files.specs.Counting.{Rose, failures_of, inner_of};
+ghost use Rattle.rh_files.specs.Taking.{TakesAtMost};
+ghost use Rattle.rh_snapshot.specs.Limits.{TakesOfFile, fault_of, most_bytes};
 ghost use Rattle.rh_snapshot.specs.Reading.{BeginsWithHeader, IsReadFrom, Reads, file_table};
 ghost use Rattle.rh_snapshot.specs.Reading.{table_as};
 
@@ -27,6 +29,10 @@ pub fn read_snapshot<R: Read>(alloc: Global, reader: &mut Counted<R>) -> Result<
     ensures layout { IfOk result (λ s. IsLayout s.bits s.cells.items) }
     ensures count { IfOk result (λ s. s.count ≡ set.len (keys_of s.cells.items)) }
     ensures free { IfOk result (λ s. set.len (keys_of s.cells.items) < 2 ^ s.bits) }
+    ensures takes { TakesOfFile (R.remaining (inner_of reader.old))
+        (R.remaining (inner_of reader.new)) (fault_of result) }
+    ensures bounded { TakesAtMost (R.remaining (inner_of reader.old))
+        (R.remaining (inner_of reader.new)) most_bytes }
     ensures read { IsErrOf result SnapFault.Read →
         Rose (failures_of reader.old) (failures_of reader.new) }
     ensures fine { result ≢ Err SnapFault.Read → failures_of reader.new ≡ failures_of reader.old }

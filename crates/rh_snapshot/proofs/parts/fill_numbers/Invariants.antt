@@ -1,6 +1,7 @@
-use Rattle.std.proofs.Common.{◌≡◌, take}
+use Rattle.std.proofs.Common.{◌≡◌, ◌*◌, take}
 use Rattle.sha2.specs.Hashers.{Holds256}
 use Rattle.rh_files.specs.Counting.{failures_of, inner_of}
+use Rattle.rh_files.specs.Taking.{TakesAtMost}
 use Rattle.rh_snapshot.specs.Snapshot.{text_of}
 use Rattle.rh_snapshot.proofs.Numbers.{ReadsOn}
 use Rattle.rh_snapshot.proofs.parts.fill_numbers.Given as goal
@@ -9,5 +10,6 @@ abbrev pub invariant-loop-slot : goal.invariant-loop-slot
 invariant-loop-slot g l = record {
   read : ReadsOn (g.R.Read.remaining (inner_of l.fn.reader)) (g.R.Read.remaining (inner_of l.reader)) l.slot-index (take l.slot-index l.numbers);
   hashed : Holds256 l.hasher (text_of l.fn.header (take l.slot-index l.numbers));
+  takes : TakesAtMost (g.R.Read.remaining (inner_of l.fn.reader)) (g.R.Read.remaining (inner_of l.reader)) (8 * l.slot-index);
   fine : failures_of l.reader ≡ failures_of l.fn.reader;
 }

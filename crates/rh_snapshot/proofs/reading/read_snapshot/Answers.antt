@@ -1,9 +1,13 @@
-use Rattle.std.proofs.Common.{◌≡◌, true, false, rules}
+use Rattle.std.proofs.Common.{◌≡◌, ◌*◌, ◌^◌, true, false, Some, None, le_refl, rules}
 use Rattle.std.proofs.lemmas.Result.{err_from_is_err_and}
 use Rattle.rh_snapshot.specs.Reading.{is_sealed, table_as}
 use Rattle.rh_snapshot.proofs.Whole.{header_faults, numbers_fault, seal_faults, refused, end_faults, whole_ok, damaged, no_layout, is_good}
 use Rattle.rh_snapshot.proofs.Keys.{good}
 use Rattle.rh_snapshot.proofs.Grammar.{read_from}
+use Rattle.rh_files.proofs.Taking.{takes_then}
+use Rattle.rh_snapshot.specs.declared.fault.SnapFault.TheVariants.{Damaged, NotALayout}
+use Rattle.rh_snapshot.specs.Limits.{fault_of, sealed_bytes, whole_bytes, header_bytes}
+use Rattle.rh_snapshot.proofs.Bounds.{takes_within, takes_sealed, file_stops_in_numbers, file_stops_in_seal, file_stops_at_end, takes_of_any_file}
 use Rattle.rh_snapshot.proofs.reading.read_snapshot.Goals as goal
 
 pub returns-in_err-header-clause-known : goal.returns-in_err-header-clause-known
@@ -65,3 +69,55 @@ returns-clause-count g c = (good c.in_ok-header.header c.in_ok-numbers.numbers.i
 
 pub returns-clause-free : goal.returns-clause-free
 returns-clause-free g c = (good c.in_ok-header.header c.in_ok-numbers.numbers.items c.in_ok-seal.seal (table_as c.in-Some.snapshot) c.in-Some.ensures.table (search rules)).free
+
+-- ---- the bytes that were taken
+
+pub returns-in_err-numbers-clause-takes : goal.returns-in_err-numbers-clause-takes
+returns-in_err-numbers-clause-takes g c =
+    let p = err_from_is_err_and c.from_residual-in_err-numbers.result c.from_residual-in_err-numbers.ensures.1 in
+    rw (p.1, p.2) (file_stops_in_numbers _ _ _ _ c.in_ok-header.header _ c.in_ok-header.ensures.known c.in_ok-header.ensures.takes c.in_err-numbers.ensures.takes c.in_err-numbers.ensures.known)
+
+pub returns-in_err-seal-clause-takes : goal.returns-in_err-seal-clause-takes
+returns-in_err-seal-clause-takes g c =
+    let p = err_from_is_err_and c.from_residual-in_err-seal.result c.from_residual-in_err-seal.ensures.1 in
+    let cells = 2 ^ c.in_ok-header.header.bits in
+    rw (p.1, p.2) (file_stops_in_seal _ _ _ _ _ c.in_ok-header.header _ c.in_ok-header.ensures.known c.in_err-seal.ensures.no_memory (takes_then _ _ _ header_bytes (8 * cells) c.in_ok-header.ensures.takes c.in_ok-numbers.ensures.takes) c.in_err-seal.ensures.takes c.in_err-seal.ensures.known)
+
+pub returns-then-ne-clause-takes : goal.returns-then-ne-clause-takes
+returns-then-ne-clause-takes g c =
+    let cells = 2 ^ c.in_ok-header.header.bits in
+    takes_within _ _ _ c.in_ok-header.header (sealed_bytes cells) (Some Damaged) c.in_ok-header.ensures.known (takes_sealed _ _ _ _ cells c.in_ok-header.ensures.takes c.in_ok-numbers.ensures.takes c.in_ok-seal.ensures.takes) (le_refl (sealed_bytes cells))
+
+pub returns-in_default-clause-takes : goal.returns-in_default-clause-takes
+returns-in_default-clause-takes g c =
+    let cells = 2 ^ c.in_ok-header.header.bits in
+    takes_within _ _ _ c.in_ok-header.header (sealed_bytes cells) (Some NotALayout) c.in_ok-header.ensures.known (takes_sealed _ _ _ _ cells c.in_ok-header.ensures.takes c.in_ok-numbers.ensures.takes c.in_ok-seal.ensures.takes) (le_refl (sealed_bytes cells))
+
+pub returns-in_err-read_end-clause-takes : goal.returns-in_err-read_end-clause-takes
+returns-in_err-read_end-clause-takes g c =
+    let p = err_from_is_err_and c.from_residual-in_err-read_end.result c.from_residual-in_err-read_end.ensures.1 in
+    let cells = 2 ^ c.in_ok-header.header.bits in
+    rw (p.1, p.2) (file_stops_at_end _ _ _ _ _ c.in_ok-header.header _ c.in_ok-header.ensures.known c.in_err-read_end.ensures.no_memory (takes_sealed _ _ _ _ cells c.in_ok-header.ensures.takes c.in_ok-numbers.ensures.takes c.in_ok-seal.ensures.takes) c.in_err-read_end.ensures.takes c.in_err-read_end.ensures.known)
+
+pub returns-clause-takes : goal.returns-clause-takes
+returns-clause-takes g c =
+    let cells = 2 ^ c.in_ok-header.header.bits in
+    takes_within _ _ _ c.in_ok-header.header (whole_bytes cells) None c.in_ok-header.ensures.known (takes_then _ _ _ (sealed_bytes cells) 1 (takes_sealed _ _ _ _ cells c.in_ok-header.ensures.takes c.in_ok-numbers.ensures.takes c.in_ok-seal.ensures.takes) c.in_ok-read_end.ensures.takes) (le_refl (whole_bytes cells))
+
+pub returns-in_err-numbers-clause-bounded : goal.returns-in_err-numbers-clause-bounded
+returns-in_err-numbers-clause-bounded g c = takes_of_any_file _ _ (fault_of c.from_residual-in_err-numbers.result) (returns-in_err-numbers-clause-takes g c)
+
+pub returns-in_err-seal-clause-bounded : goal.returns-in_err-seal-clause-bounded
+returns-in_err-seal-clause-bounded g c = takes_of_any_file _ _ (fault_of c.from_residual-in_err-seal.result) (returns-in_err-seal-clause-takes g c)
+
+pub returns-then-ne-clause-bounded : goal.returns-then-ne-clause-bounded
+returns-then-ne-clause-bounded g c = takes_of_any_file _ _ (Some Damaged) (returns-then-ne-clause-takes g c)
+
+pub returns-in_default-clause-bounded : goal.returns-in_default-clause-bounded
+returns-in_default-clause-bounded g c = takes_of_any_file _ _ (Some NotALayout) (returns-in_default-clause-takes g c)
+
+pub returns-in_err-read_end-clause-bounded : goal.returns-in_err-read_end-clause-bounded
+returns-in_err-read_end-clause-bounded g c = takes_of_any_file _ _ (fault_of c.from_residual-in_err-read_end.result) (returns-in_err-read_end-clause-takes g c)
+
+pub returns-clause-bounded : goal.returns-clause-bounded
+returns-clause-bounded g c = takes_of_any_file _ _ None (returns-clause-takes g c)
