@@ -23,6 +23,11 @@ abbrev pub IsFirstFault : Option (List ℕ) → SnapFault → Type 0
 IsFirstFault None fault = Unit {0}
 IsFirstFault (Some bytes) fault = Fails fault (file_table bytes)
 
+-- the fault that was found in the snapshot, if one was
+abbrev pub fault_in : {X : Type 0} → Result X CheckFault → Option SnapFault
+fault_in (Err (Snap fault)) = Some fault
+fault_in r = None
+
 -- The bytes were a snapshot and the line of its table, or a front of it, was written; or they were none.
 abbrev pub Checks : {X : Type 0} → (bytes left old new : Option (List ℕ)) → Result X CheckFault → Type 0
 Checks bytes left old new (Ok x) = (text : List ℕ) × IsLineRead bytes left text × Appends old new text

@@ -4,7 +4,9 @@ ghost use Rattle.std.specs.Prelude.{◌≡◌, ◌≢◌, IfErr, IsErrOf, OnErr,
 ghost use Rattle.hex.specs.Hex.{encode_lower};
 ghost use Rattle.rh_files.specs.Counting.{Rose, Writes, failures_of, inner_of};
 ghost use Rattle.rh_snapshot.specs.Reading.{BeginsWithHeader, table_as};
-ghost use Rattle.rh_commands.specs.Check.{Checks, check_text};
+ghost use Rattle.rh_files.specs.Taking.{TakesAtMost};
+ghost use Rattle.rh_snapshot.specs.Limits.{TakesOfFile, most_bytes};
+ghost use Rattle.rh_commands.specs.Check.{Checks, check_text, fault_in};
 
 use itoa::Buffer;
 use rh_files::{Counted, WriteFault, write_texts};
@@ -59,6 +61,10 @@ pub fn check_snapshot<R: Read, W: Write>(
         (W.contents (inner_of writer.old)) (W.contents (inner_of writer.new)) result }
     ensures untouched { IfErr result (λ fault. fault ≢ CheckFault.Write →
         writer.new ≡ writer.old) }
+    ensures takes { TakesOfFile (R.remaining (inner_of reader.old))
+        (R.remaining (inner_of reader.new)) (fault_in result) }
+    ensures bounded { TakesAtMost (R.remaining (inner_of reader.old))
+        (R.remaining (inner_of reader.new)) most_bytes }
     ensures read { IsErrOf result (CheckFault.Snap SnapFault.Read) →
         Rose (failures_of reader.old) (failures_of reader.new) }
     ensures memory { IsErrOf result (CheckFault.Snap SnapFault.Memory) →
