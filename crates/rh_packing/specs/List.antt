@@ -7,6 +7,7 @@ use Rattle.rh_files.specs.Counting.{AppendsFront}
 use Rattle.rh_files.specs.declared.fault.KeyFault.{KeyFault}
 use Rattle.rh_files.specs.Reading as files
 use Rattle.rh_snapshot.specs.declared.fault.SnapFault.{SnapFault}
+use Rattle.rh_snapshot.specs.declared.fault.SnapFault.TheVariants as snap_faults
 use Rattle.rh_snapshot.specs.Snapshot.{Table}
 use Rattle.rh_snapshot.specs.Reading as snapshots
 use Rattle.rh_numbers.specs.Writing.{text_of}
@@ -20,6 +21,11 @@ abbrev pub IsFirstFault : Option (List ℕ) → KeyFault → Type 0
 IsFirstFault None fault = Unit {0}
 IsFirstFault (Some bytes) fault = files.Fails {X = List ℕ × List ℕ} fault (files.file_keys bytes)
 
+-- the fault that was found in the key file, if one was
+abbrev pub fault_in : {X : Type 0} → Result X ListFault → Option KeyFault
+fault_in (Err (list.Keys fault)) = Some fault
+fault_in r = None
+
 -- The bytes were a key file, and the text of its keys, or a front of it, was written; or they were none.
 abbrev pub Lists : {X : Type 0} → (bytes left old new : Option (List ℕ)) → Result X ListFault → Type 0
 Lists bytes left old new (Ok x) = (keys : List ℕ) × files.IsReadFrom bytes left keys × Appends old new (text_of keys)
@@ -30,6 +36,12 @@ Lists bytes left old new (Err (list.Keys fault)) = IsFirstFault bytes fault
 abbrev pub IsFirstFaultHeld : Option (List ℕ) → SnapFault → Type 0
 IsFirstFaultHeld None fault = Unit {0}
 IsFirstFaultHeld (Some bytes) fault = snapshots.Fails {X = Table × List ℕ} fault (snapshots.file_table bytes)
+
+-- The fault that was found in the snapshot, if one was. Want of memory may come after it was read.
+abbrev pub fault_held : {X : Type 0} → Result X HeldFault → Option SnapFault
+fault_held (Err (held.Snap snap_faults.Memory)) = None
+fault_held (Err (held.Snap fault)) = Some fault
+fault_held r = None
 
 -- the text of the keys of a table, in rising order
 abbrev pub held_text : Table → List ℕ

@@ -3,7 +3,9 @@
 ghost use Rattle.std.specs.Prelude.{◌≡◌, ◌≢◌, Err, IfErr, IsErrOf, OnOk};
 ghost use Rattle.rh_files.specs.Counting.{Rose, failures_of, inner_of};
 ghost use Rattle.rh_files.specs.Reading.{BeginsWithHeader};
-ghost use Rattle.rh_packing.specs.List.{Lists};
+ghost use Rattle.rh_files.specs.Taking.{TakesAtMost};
+ghost use Rattle.rh_files.specs.Limits.{TakesOfFile, most_bytes};
+ghost use Rattle.rh_packing.specs.List.{Lists, fault_in};
 
 use rh_files::{Counted, KeyFault, WriteFault, read_keys};
 use rh_numbers::write_numbers;
@@ -46,8 +48,8 @@ impl From<WriteFault> for ListFault {
 /// Reads a key file of either version, and writes its keys as a text, one a line, in their order.
 ///
 /// The file is read to its end before a byte is written. Only the reading takes memory, and
-/// `Keys(Memory)` comes only where a growth was refused. Each number is read and written by itself,
-/// so give it a reader and a writer with buffers.
+/// `Keys(Memory)` comes only where a growth was refused. Each number is written by itself, so give it
+/// a writer with a buffer.
 pub fn list_keys<R: Read, W: Write>(
     alloc: Global,
     reader: &mut Counted<R>,
@@ -56,6 +58,10 @@ pub fn list_keys<R: Read, W: Write>(
     ensures listed { Lists (R.remaining (inner_of reader.old)) (R.remaining (inner_of reader.new))
         (W.contents (inner_of writer.old)) (W.contents (inner_of writer.new)) result }
     ensures untouched { IfErr result (λ fault. fault ≢ ListFault.Write → writer.new ≡ writer.old) }
+    ensures takes { TakesOfFile (R.remaining (inner_of reader.old))
+        (R.remaining (inner_of reader.new)) (fault_in result) }
+    ensures bounded { TakesAtMost (R.remaining (inner_of reader.old))
+        (R.remaining (inner_of reader.new)) most_bytes }
     ensures read { IsErrOf result (ListFault.Keys KeyFault.Read) →
         Rose (failures_of reader.old) (failures_of reader.new) }
     ensures memory { IsErrOf result (ListFault.Keys KeyFault.Memory) →
