@@ -74,9 +74,10 @@ pub(crate) fn add<T: Wait, S: Shelf, N: Runner>(
         result }
     ensures no_write { IfErr result (λ cause. cause ≡ Cause.Write → ⊥) }
 {
+    let count = list.count;
     let mut reader = open_list(alloc, shelf, list)?;
-    let mut keys = keys_again(&mut reader, list.count)?;
-    let (bits, mut cells) = grown(alloc, set, list.count)?;
+    let mut keys = keys_again(&mut reader, count)?;
+    let (bits, mut cells) = grown(alloc, set, count)?;
     let tally = change_all(rt, alloc, runner, Kind::Insert, bits, &mut cells, &mut keys)?;
     *set = SeqSet::from_cells(bits, cells);
     Ok(tally)

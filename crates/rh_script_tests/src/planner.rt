@@ -9,6 +9,7 @@ use std::io::Cursor;
 use std::sync::Wait;
 use std::test::*;
 
+mod changing;
 mod failures;
 mod snapshots;
 
@@ -233,56 +234,6 @@ fn files_that_are_refused(rt: HostRuntime) -> Result<(), Fail> {
     assert!(rt; text.is_empty());
     let cause = Cause::Missing;
     assert_eq!(rt; outcome, Err(RunFault { line: 1, cause }));
-    Ok(())
-}
-
-const ONE_KEY: &[u8] = b"RHK2\0\0\0\0\0\0\0\x01\0\0\0\0\0\0\0\x05";
-
-const NO_KEY: &[u8] = b"RHK2\0\0\0\0\0\0\0\0";
-
-// A shelf whose file loses its key after it was fetched once.
-#[derive(Drop)]
-struct ForgetfulShelf {
-    fetched: bool,
-}
-
-impl Shelf for ForgetfulShelf {
-    type Reader = Cursor<Vec<u8>>;
-
-    ghost use Rattle.std.specs.Prelude.{None};
-
-    ghost files = { λ _. None };
-
-    ghost failures = { λ _. 0 };
-
-    fn fetch(&mut self, alloc: Global, _path: &str) -> Result<Cursor<Vec<u8>>, ShelfFault> {
-        let mut file = Vec::new(alloc);
-        file.extend_from_slice(if self.fetched { NO_KEY } else { ONE_KEY })?;
-        self.fetched = true;
-        Ok(Cursor::new(file))
-    }
-
-    fn put(&mut self, _alloc: Global, _path: &str, _bytes: &[u8]) -> Result<(), ShelfFault> {
-        Err(ShelfFault::Memory)
-    }
-}
-
-#[test]
-fn a_file_that_changes(rt: HostRuntime) -> Result<(), Fail> {
-    let script = parse(rt.alloc(), b"use k k.keys\nadd k\n")?;
-    let mut writer = Counted::new(Vec::new(rt.alloc()));
-    let mut shelf = ForgetfulShelf { fetched: false };
-    let outcome = run(
-        &rt,
-        rt.alloc(),
-        &script,
-        &mut shelf,
-        &mut Single,
-        &mut writer,
-    );
-    let cause = Cause::Changed;
-    assert_eq!(rt; outcome, Err(RunFault { line: 2, cause }));
-    assert_eq!(rt; writer.into_inner().as_slice(), b"use k 1\n".as_slice());
     Ok(())
 }
 
