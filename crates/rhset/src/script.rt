@@ -1,5 +1,8 @@
 //! The command `run`: a script over the files of the current folder.
 
+ghost use Rattle.std.specs.Prelude.{◌≡◌, ◌⊎◌, IfErr, IfOk, IfSome, take};
+ghost use Rattle.rhset.specs.declared.script.TheConstants.{MAX_BYTES};
+
 use crate::file_shelf::FileShelf;
 use crate::input::open;
 use crate::status::Fault;
@@ -7,6 +10,7 @@ use rh_files::Counted;
 use rh_planner::run;
 use rh_runner::Single;
 use rh_script::{MAX_LINE_BYTES, MAX_LINES, parse};
+use std::alloc::Global;
 use std::fs::Files;
 use std::io::{self, BufReader, BufWriter, ErrorKind, Read, Write};
 use std::sync::Wait;
@@ -36,9 +40,17 @@ pub fn run_script(rt: &(impl Files + Print + AllocGlobal + Wait), path: &str) ->
 }
 
 fn script_text(rt: &(impl Files + AllocGlobal), path: &str) -> Result<Vec<u8>, Fault> {
-    let file = open(rt, path)?;
-    let mut text = Vec::new(rt.alloc());
-    match file.take(MAX_BYTES).read_to_end(&mut text) {
+    front_of(rt.alloc(), open(rt, path)?)
+}
+
+// The bytes that a reader has, or the first `MAX_BYTES` of them.
+fn front_of<R: Read + Drop>(alloc: Global, reader: R) -> Result<Vec<u8>, Fault>
+    ensures front { IfOk result (λ text. IfSome (R.remaining reader)
+        (λ bytes. text.items ≡ take MAX_BYTES bytes)) }
+    ensures fault { IfErr result (λ fault. (fault ≡ Fault.Memory) ⊎ (fault ≡ Fault.Read)) }
+{
+    let mut text = Vec::new(alloc);
+    match reader.take(MAX_BYTES).read_to_end(&mut text) {
         Ok(_) => Ok(text),
         Err(error) => Err(match error.kind() {
             ErrorKind::OutOfMemory => Fault::Memory,
