@@ -111,15 +111,6 @@ unfolding end_at
 end_ends [] = tt
 end_ends (b ∷ bytes) = tt
 
-header_fits : (count : ℕ) (e : KeyFault) → header_taken (Some e) ≤ file_bytes count (Some e)
-header_fits count faults.Read = omega arith
-header_fits count faults.Memory = omega arith
-header_fits count NotKeys = omega arith
-header_fits count Short = omega arith
-header_fits count TooMany = omega arith
-header_fits count (BadKey index) = omega arith
-header_fits count Long = omega arith
-
 keys_fit : (X : Type 0) (count : ℕ) (e : KeyFault) (r : Result (List ℕ × List ℕ) KeyFault) → (IsErrOf {T = X} (Err e) faults.Memory → ⊥) → ComesFrom 0 r → Fails e r → header_bytes + 8 * keys_taken 0 count (Some e) ≤ file_bytes count (Some e)
 keys_fit X count faults.Read r other comes fails = omega arith
 keys_fit X count faults.Memory r other comes fails = absurd (other refl)
@@ -137,9 +128,6 @@ end_fits X count Short r other ends fails = omega arith
 end_fits X count TooMany r other ends fails = absurd (subst Ends fails ends)
 end_fits X count (BadKey index) r other ends fails = absurd (subst Ends fails ends)
 end_fits X count Long r other ends fails = omega arith
-
-pub file_stops_in_header : (a b : Option (List ℕ)) (e : KeyFault) → TakesAtMost a b (header_taken (Some e)) → TakesOfFile a b (Some e)
-file_stops_in_header a b e t = takes_fewer a b (header_taken (Some e)) (file_bytes (count_said a) (Some e)) t (header_fits (count_said a) e)
 
 -- the header that was read, of a file of so many keys
 pub record HeaderRead (a b : Option (List ℕ)) (version : Version) (count : ℕ) : Type 0 where

@@ -1,10 +1,10 @@
 -- A part of a key file: the keys that its bytes spell, and their test.
-use Rattle.std.proofs.Common.{◌≡◌, ◌∙◌, refl, sym, ap, ℕ, zero, suc, ◌+◌, ◌-◌, ◌*◌, ◌/◌, ◌<◌, ◌≤◌, ◌^◌, true, false, List, [], ◌∷◌, ◌++◌, length, take, drop, get_or, Option, Some, None, Result, Ok, Err, inl, inr, arith, leb, append_assoc, length-append, length-take, length-drop, take-append-drop}
+use Rattle.std.proofs.Common.{◌≡◌, ◌∙◌, refl, sym, ap, ℕ, zero, suc, ◌+◌, ◌-◌, ◌*◌, ◌/◌, ◌<◌, ◌≤◌, ◌^◌, List, [], ◌∷◌, ◌++◌, length, take, drop, Option, Some, None, Result, Ok, Err, inl, inr, arith, leb, append_assoc, length-append, length-take, length-drop, take-append-drop}
 use Rattle.std.specs.Prelude.{All}
 use Rattle.std.specs.List.{position_from}
 use Rattle.std.proofs.lemmas.Bool.{cases_Bool, and_parts, leb-true}
 use Rattle.std.proofs.lemmas.List.{take_all, take-take}
-use Rattle.std.proofs.Math.Seq.{take-nil, take-append-add, drop-cons}
+use Rattle.std.proofs.Math.Seq.{take-nil, take-append-add}
 use Rattle.std.proofs.lemmas.List.Elements.{All-nil, All-cons, All-head, All-tail, All-take}
 use Rattle.std.specs.Io.KnownBytes.{Consumes, IsAtEnd}
 use Rattle.rh_layout.specs.Key.{IsKey}
@@ -29,15 +29,6 @@ none_refused version index (k ∷ keys) h =
           All-cons IsKey k keys (leb-true _ _ parts.1) (none_refused version (index + 1) keys (rw fits at h))
       | inr other ↦ let got : Some index ≡ None = rw other at h in absurd cc
     ]
-
--- as the test goes on
-pub test_stops : (version : Version) (at : ℕ) (keys : List ℕ) (i : ℕ) → i < length keys → is_key_in version (get_or keys i 0) ≡ false → position_from (is_refused version) at (drop i keys) ≡ Some at
-test_stops version at keys i inside bad = rw (drop-cons keys i 0 inside, bad) refl
-
-pub test_goes_on : (version : Version) (at : ℕ) (keys : List ℕ) (i : ℕ) → i < length keys → is_key_in version (get_or keys i 0) ≡ true → position_from (is_refused version) at (drop i keys) ≡ position_from (is_refused version) (at + 1) (drop (i + 1) keys)
-test_goes_on version at keys i inside good =
-    let next : i + 1 ≡ suc i = omega arith in
-    rw (next, drop-cons keys i 0 inside, good) refl
 
 -- ---- keys that are spelled, and what comes after them
 
