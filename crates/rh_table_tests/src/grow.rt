@@ -28,3 +28,9 @@ fn a_table_grows(rt: HostRuntime) -> Result<(), Fail> {
     assert_eq!(rt; grown.as_slice(), expected.as_slice());
     Ok(())
 }
+
+#[test]
+fn the_load_is_this(rt: HostRuntime) {
+    assert_eq!(rt; LOAD_NUMERATOR, 3);
+    assert_eq!(rt; LOAD_DENOMINATOR, 4);
+}
