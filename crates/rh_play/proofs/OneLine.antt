@@ -1,6 +1,6 @@
 -- A line more of a text.
-use Rattle.std.proofs.Common.{◌≡◌, ◌∙◌, ap, sym, ℕ, ◌+◌, ◌-◌, ◌<◌, ◌≤◌, arith, add-zero, length, length-drop, take, drop, get_or, List, [], ◌∷◌, ◌++◌, Result, Ok, Err, refl}
-use Rattle.std.proofs.lemmas.List.{drop_more, length-take-le, take_more}
+use Rattle.std.proofs.Common.{◌≡◌, ◌∙◌, ap, sym, ℕ, ◌+◌, ◌-◌, ◌<◌, ◌≤◌, arith, length, length-drop, take, drop, get_or, List, [], ◌∷◌, ◌++◌, Result, Ok, Err, refl}
+use Rattle.std.proofs.lemmas.List.{drop_more, take_more}
 use Rattle.std.specs.List.{before_first, after_first, position_or_len}
 use Rattle.rh_play.specs.declared.fault.PlayTextFault.{PlayTextFault}
 use Rattle.rh_play.specs.declared.fault.PlayTextKind.{PlayTextKind}

@@ -1,6 +1,6 @@
 //! Reading the text of a play.
 
-ghost use Rattle.std.specs.Prelude.{◌≡◌, ◌≢◌, ◌≤◌, IfOk, IfErr, Ok, Err, MatchResult, length};
+ghost use Rattle.std.specs.Prelude.{◌≡◌, ◌≢◌, ◌≤◌, IfOk, IfErr, Ok, Err, length};
 ghost use Rattle.rh_play.specs.declared.limits.TheConstants.{MAX_TEXT_BYTES};
 ghost use Rattle.rh_play.specs.Grammar.{HasNoFaultBefore, after_line, after_lines, sayings_of};
 ghost use Rattle.rh_play.specs.Lines.{lines_of};
