@@ -1,6 +1,7 @@
 use rh_commands::*;
 use rh_files::{Counted, FaultyReader, FaultyWriter, Refusal};
-use std::alloc::AllocError;
+use rh_snapshot::SnapFault;
+use std::alloc::{AllocError, Global};
 use std::test::Fail;
 
 // The keys 1, 9 and 17 at 3 bits, in either version.

@@ -1,6 +1,8 @@
 use rh_commands::*;
-use rh_files::{Counted, FaultyReader, FaultyWriter, KeyFault, Refusal};
+use rh_edit::SeqSet;
+use rh_files::{Counted, FaultyReader, FaultyWriter, KeyFault, Refusal, write_dump};
 use rh_layout::is_layout;
+use std::alloc::{AllocError, Global};
 use std::test::Fail;
 
 const OLD: &[u8; 4] = b"RHK1";

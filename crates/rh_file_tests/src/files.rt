@@ -304,3 +304,8 @@ fn a_fault_can_be_printed(rt: HostRuntime) -> Result<(), Fail> {
     );
     Ok(())
 }
+
+#[test]
+fn the_most_keys_are_these(rt: HostRuntime) {
+    assert_eq!(rt; MAX_KEYS, 1_000_000);
+}

@@ -281,3 +281,8 @@ fn faults_of_the_runner_are_told(rt: HostRuntime) -> Result<(), Fail> {
     assert_eq!(rt; changed, Err(ListFault::Phase(PhaseFault::Memory)));
     Ok(())
 }
+
+#[test]
+fn the_length_of_a_batch_is_this(rt: HostRuntime) {
+    assert_eq!(rt; BATCH, 4_096);
+}
