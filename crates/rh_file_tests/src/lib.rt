@@ -4,19 +4,14 @@
 #![tactic(auto)]
 
 #[cfg(test)]
-mod files;
-
-#[cfg(test)]
-mod snapshot;
-
-#[cfg(test)]
-mod numbers;
-
-#[cfg(test)]
-mod packing;
-
+mod check;
 #[cfg(test)]
 mod dump;
-
 #[cfg(test)]
-mod check;
+mod files;
+#[cfg(test)]
+mod numbers;
+#[cfg(test)]
+mod packing;
+#[cfg(test)]
+mod snapshot;

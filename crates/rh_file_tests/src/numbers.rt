@@ -1,5 +1,5 @@
-use rh_numbers::*;
 use rh_files::{Counted, FaultyReader, FaultyWriter, Refusal, WriteFault};
+use rh_numbers::*;
 use std::alloc::{AllocError, Global};
 use std::test::*;
 

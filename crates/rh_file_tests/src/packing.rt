@@ -1,6 +1,6 @@
-use rh_packing::*;
 use rh_files::{Counted, FaultyReader, FaultyWriter, KeyFault, Refusal};
 use rh_numbers::TextFault;
+use rh_packing::*;
 use rh_snapshot::SnapFault;
 use std::alloc::Global;
 use std::test::*;

@@ -1,5 +1,5 @@
-use rh_snapshot::*;
 use rh_files::{Counted, FaultyReader};
+use rh_snapshot::*;
 use sha2::{Digest, Sha256};
 use std::alloc::{AllocError, Global};
 use std::test::*;

@@ -4,7 +4,6 @@
 #![tactic(auto)]
 
 #[cfg(test)]
-mod line;
-
-#[cfg(test)]
 mod keys_line;
+#[cfg(test)]
+mod line;

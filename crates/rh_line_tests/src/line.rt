@@ -1,5 +1,5 @@
-use rh_line::{Line, LineFault, line};
 use clap::Error;
+use rh_line::{Line, LineFault, line};
 use std::alloc::Global;
 use std::test::Fail;
 

@@ -4,16 +4,12 @@
 #![tactic(auto)]
 
 #[cfg(test)]
-mod worker;
-
-#[cfg(test)]
 mod play;
-
 #[cfg(test)]
 mod play_report;
-
-#[cfg(test)]
-mod player;
-
 #[cfg(test)]
 mod play_run;
+#[cfg(test)]
+mod player;
+#[cfg(test)]
+mod worker;

@@ -1,5 +1,5 @@
-use rh_play::*;
 use rh_ledger::Kind;
+use rh_play::*;
 use std::alloc::{AllocFailed, Global};
 use std::test::*;
 

@@ -1,7 +1,7 @@
-use rh_play_report::*;
 use rh_descriptor::StepKind;
 use rh_ledger::Tally;
 use rh_play::Step;
+use rh_play_report::*;
 use rh_tagword::Word;
 use std::alloc::AllocError;
 use std::test::*;

@@ -1,6 +1,6 @@
-use rh_play_run::*;
 use rh_files::{Counted, FaultyReader, FaultyWriter, Refusal};
 use rh_play::{MAX_TEXT_BYTES, PlayTextFault, PlayTextKind};
+use rh_play_run::*;
 use rh_player::PlayFault;
 use std::alloc::{AllocError, Global};
 use std::test::*;

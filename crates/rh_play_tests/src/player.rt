@@ -1,6 +1,6 @@
-use rh_player::*;
 use rh_descriptor::{Rooms, StepKind};
 use rh_ledger::{Kind, Tally};
+use rh_player::*;
 use rh_tagword::Word;
 use rh_turns::Turn;
 use std::test::*;

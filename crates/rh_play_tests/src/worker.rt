@@ -1,6 +1,6 @@
-use rh_worker::*;
 use rh_descriptor::Shape;
 use rh_ledger::Kind;
+use rh_worker::*;
 use std::test::*;
 
 const SHAPE: Shape = Shape {

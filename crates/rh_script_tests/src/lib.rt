@@ -4,19 +4,14 @@
 #![tactic(auto)]
 
 #[cfg(test)]
-mod script;
-
-#[cfg(test)]
-mod shelf;
-
+mod planner;
 #[cfg(test)]
 mod report;
-
 #[cfg(test)]
 mod runner;
-
+#[cfg(test)]
+mod script;
+#[cfg(test)]
+mod shelf;
 #[cfg(test)]
 mod single;
-
-#[cfg(test)]
-mod planner;

@@ -1,5 +1,5 @@
-use rh_planner::*;
 use rh_files::{Counted, KeyFault, write_keys};
+use rh_planner::*;
 use rh_runner::Single;
 use rh_script::parse;
 use rh_shelf::{MemShelf, Shelf, ShelfFault};

@@ -1,5 +1,5 @@
-use rh_report::*;
 use rh_files::{Counted, FaultyWriter, Refusal, WriteFault};
+use rh_report::*;
 use std::test::*;
 
 const LINES: &str = "use a 3\n\

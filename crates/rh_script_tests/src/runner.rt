@@ -1,8 +1,8 @@
-use rh_runner::*;
 use rh_edit::SeqSet;
 use rh_files::HeldKeys;
 use rh_layout::is_layout;
 use rh_ledger::{Kind, Tally};
+use rh_runner::*;
 use std::alloc::Global;
 use std::sync::Wait;
 use std::test::Fail;

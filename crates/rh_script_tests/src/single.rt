@@ -1,7 +1,7 @@
-use rh_runner::*;
 use rh_edit::SeqSet;
 use rh_layout::is_layout;
 use rh_ledger::{Kind, Tally};
+use rh_runner::*;
 use std::test::Fail;
 
 const NOTHING: Tally = Tally {

@@ -1,5 +1,5 @@
-use rh_grow::*;
 use rh_edit::SeqSet;
+use rh_grow::*;
 use std::test::Fail;
 
 #[test]

@@ -4,25 +4,18 @@
 #![tactic(auto)]
 
 #[cfg(test)]
-mod layout;
-
-#[cfg(test)]
-mod probe;
-
-#[cfg(test)]
-mod edit;
-
-#[cfg(test)]
-mod grow;
-
-#[cfg(test)]
-mod ledger;
-
-#[cfg(test)]
 mod acts;
-
-#[cfg(test)]
-mod tagword;
-
 #[cfg(test)]
 mod descriptor;
+#[cfg(test)]
+mod edit;
+#[cfg(test)]
+mod grow;
+#[cfg(test)]
+mod layout;
+#[cfg(test)]
+mod ledger;
+#[cfg(test)]
+mod probe;
+#[cfg(test)]
+mod tagword;
