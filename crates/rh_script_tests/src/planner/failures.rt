@@ -3,11 +3,11 @@ use rh_files::{FaultyWriter, Refusal};
 use rh_shelf::{FaultyShelf, ShelfFailure};
 use std::process::Abort;
 
-// What a command asks of the shelf: a list of so many keys, to take a snapshot, or to give one of
-// 8 cells.
+// What a command asks of the shelf: a list of some keys, to take a snapshot, or to give one of 8
+// cells.
 #[derive(Clone, Copy)]
 enum Asked {
-    List(u8),
+    List,
     Put,
     Snapshot,
 }
@@ -20,11 +20,11 @@ impl Asked {
         }
     }
 
-    // The parts of a file, each one read: the magic, the bits, the count, the numbers, the seal and
-    // the end.
+    // The parts of a file, each one read: the magic, the count, the part of all keys and the end; or
+    // the magic, the bits, the count, the cells, the seal and the end.
     fn reads(self) -> u64 {
         match self {
-            Asked::List(keys) => u64::from(keys) + 3,
+            Asked::List => 4,
             Asked::Put => 0,
             Asked::Snapshot => 3 + 8 + 2,
         }
@@ -52,17 +52,17 @@ const SCRIPTS: [(&str, &[&str], &[(u64, Asked)]); 2] = [
         SCRIPT,
         &TOLD,
         &[
-            (1, Asked::List(3)),
-            (2, Asked::List(2)),
-            (3, Asked::List(3)),
-            (4, Asked::List(3)),
-            (5, Asked::List(3)),
-            (6, Asked::List(2)),
-            (6, Asked::List(2)),
-            (7, Asked::List(2)),
-            (7, Asked::List(2)),
-            (8, Asked::List(2)),
-            (8, Asked::List(2)),
+            (1, Asked::List),
+            (2, Asked::List),
+            (3, Asked::List),
+            (4, Asked::List),
+            (5, Asked::List),
+            (6, Asked::List),
+            (6, Asked::List),
+            (7, Asked::List),
+            (7, Asked::List),
+            (8, Asked::List),
+            (8, Asked::List),
         ],
     ),
     (
@@ -76,8 +76,8 @@ const SCRIPTS: [(&str, &[&str], &[(u64, Asked)]); 2] = [
             "table 3 3\n4 1 0\n5 9 1\n6 17 2\nend\n",
         ],
         &[
-            (1, Asked::List(3)),
-            (2, Asked::List(3)),
+            (1, Asked::List),
+            (2, Asked::List),
             (3, Asked::Put),
             (5, Asked::Snapshot),
         ],
