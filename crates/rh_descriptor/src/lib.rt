@@ -10,6 +10,7 @@ mod reference;
 mod shape;
 mod side;
 mod steps;
+mod words;
 
 pub use entry::Entry;
 pub use known::Known;
@@ -18,7 +19,5 @@ pub use limits::{MAX_ROOM, MAX_WORKERS};
 pub use reference::{Piece, Reading, Ref};
 pub use shape::{Part, Rooms, Shape};
 pub use side::Side;
-pub use steps::{
-    StepKind, claim_key, decide_desc, desc_word, mark_word, open_desc, place_mark, read_word,
-    release_cell, settle_mark, write_word,
-};
+pub use steps::{Ask, Effect, StepKind, make_step};
+pub use words::{desc_word, mark_word};

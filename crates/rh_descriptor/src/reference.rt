@@ -1,5 +1,11 @@
 //! References to marks and descriptors.
 
+ghost use Rattle.std.specs.Prelude.{◌≡◌, ◌<◌};
+ghost use Rattle.rh_descriptor.specs.Places.{IsShape, word_count};
+ghost use Rattle.rh_descriptor.specs.Steps.{IsRead, place_read};
+
+use crate::shape::{Part, Shape};
+
 /// A mark or a descriptor: its worker, and its number among that worker's. Both count from 0.
 #[derive(Clone, Copy, Debug, PartialEq, Eq)]
 pub struct Ref {
@@ -40,4 +46,49 @@ pub enum Reading {
     MarkDesc(Ref),
     /// The entry of a mark.
     MarkEntry(Ref),
+}
+
+impl Reading {
+    // The word of the table that is read.
+    pub(crate) fn place(self, shape: &Shape) -> usize
+        requires shape { IsShape shape.now }
+        requires reading { IsRead shape.now self }
+        ensures value { result ≡ place_read shape.now self }
+        ensures within { result < word_count shape.now }
+    {
+        match self {
+            Reading::Place(place) => place,
+            Reading::Cell(cell) => shape.place(Part::Cell(cell)),
+            Reading::Control(desc) | Reading::MarkControl { desc, .. } => shape.place(
+                Part::Control {
+                    worker: desc.worker,
+                    entry: desc.number,
+                },
+            ),
+            Reading::Length(desc) => shape.place(Part::Length {
+                worker: desc.worker,
+                entry: desc.number,
+            }),
+            Reading::EntryCell { desc, entry } => shape.place(Part::EntryCell {
+                worker: desc.worker,
+                entry: desc.number + entry,
+            }),
+            Reading::EntryOld { desc, entry } => shape.place(Part::EntryOld {
+                worker: desc.worker,
+                entry: desc.number + entry,
+            }),
+            Reading::EntryNew { desc, entry } => shape.place(Part::EntryNew {
+                worker: desc.worker,
+                entry: desc.number + entry,
+            }),
+            Reading::MarkDesc(mark) => shape.place(Part::MarkDesc {
+                worker: mark.worker,
+                mark: mark.number,
+            }),
+            Reading::MarkEntry(mark) => shape.place(Part::MarkEntry {
+                worker: mark.worker,
+                mark: mark.number,
+            }),
+        }
+    }
 }

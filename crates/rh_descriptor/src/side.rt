@@ -1,9 +1,14 @@
 //! The state of one worker.
 
 ghost use Rattle.std.specs.Prelude.{◌≡◌};
+ghost use Rattle.rh_descriptor.specs.Asks.{step_of};
+ghost use Rattle.rh_descriptor.specs.Places.{IsShape};
+ghost use Rattle.rh_descriptor.specs.Steps.{Allowed, noted};
 ghost use Rattle.rh_descriptor.specs.View.{new_view, round_view};
 
 use crate::known::{Change, First, Known};
+use crate::shape::Shape;
+use crate::steps::Ask;
 
 /// One worker's state: what it counts, and what it has done and knows, for contracts.
 #[derive(Drop)]
@@ -32,6 +37,12 @@ impl Change<&[u64]> for Renewed {
     ghost after = { λ v a. round_view a.now v };
 }
 
+struct Noted;
+
+impl Change<(Shape, Ask, u64)> for Noted {
+    ghost after = { λ v a. noted a.0 v (step_of a.1) a.2 };
+}
+
 impl Side {
     /// A worker of a table that is made with these cells, given as words.
     pub fn new(worker: usize, cells: &[u64]) -> Side
@@ -54,5 +65,24 @@ impl Side {
         self.next_number = 0;
         self.marks_used = 0;
         self.known = Known::next::<Renewed, &[u64]>(&self.known, &cells);
+    }
+
+    /// Notes a step that was made and found this word.
+    pub fn note(&mut self, shape: &Shape, ask: Ask, word: u64)
+        requires shape { IsShape shape.now }
+        requires allowed { Allowed shape.now self.old.known.view (step_of ask) }
+        ensures { self.new.known.view ≡ noted shape.now self.old.known.view (step_of ask) word }
+    {
+        let known = Known::next::<Noted, (Shape, Ask, u64)>(&self.known, &(*shape, ask, word));
+        match ask {
+            Ask::Open { entries } => self.next_number += entries,
+            Ask::Place { old, .. } => {
+                if word == old {
+                    self.marks_used += 1;
+                }
+            }
+            _ => {}
+        }
+        self.known = known;
     }
 }

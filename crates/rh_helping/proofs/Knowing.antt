@@ -1,24 +1,18 @@
 -- What a worker knows of a task lets it go on: the descriptor and its entries are of the table.
-use Rattle.std.proofs.Common.{ℕ, ◌+◌, ◌<◌, ◌≤◌, List, sym, subst, arith}
+use Rattle.std.proofs.Common.{ℕ, ◌+◌, ◌<◌, ◌≤◌, arith}
 use Rattle.rh_world.specs.Moves.{MayWork}
 use Rattle.rh_descriptor.specs.declared.shape.Shape.{Shape}
 use Rattle.rh_descriptor.specs.Places.{cell_count}
 use Rattle.rh_descriptor.specs.View.{View}
 use Rattle.rh_descriptor.specs.Words.{ref_of}
-use Rattle.rh_descriptor.specs.Steps.{Allowed, IsDesc, IsKnown, IsStep, Step, StepsTo}
-use Rattle.rh_rule.specs.Sound.{Finds}
+use Rattle.rh_descriptor.specs.Steps.{Allowed, IsDesc, IsKnown, IsStep, Step}
 use Rattle.rh_helping.specs.declared.goal.Task.{Task}
 use Rattle.rh_helping.specs.declared.goal.Goal.{Goal}
 use Rattle.rh_helping.specs.Goal.{KnowsGoal, KnowsTask}
-use Rattle.rh_helping.specs.Relies.{Relies, Trusts}
+use Rattle.rh_steps.specs.Relies.{Knows}
 use Rattle.rh_helping.proofs.Growing.{stands_known}
 
--- what a step found
-pub finds_it : (z : Shape) (words : List ℕ) (v : View) → Relies z words v → (s : Step) → Allowed z v s → (word : ℕ) (then : List ℕ) (next : View)
-    → StepsTo z s words v word then next → Finds z v s word
-finds_it z words v r s may word then next to = subst (λ (n : ℕ). Finds z v s n) (sym to.found_is) (r.finds s may)
-
-module _ (z : Shape) (words : List ℕ) (v : View) (trusts : Trusts z words v) where
+module _ (z : Shape) (v : View) (trusts : Knows z v) where
   pub allowed : (s : Step) → IsStep z v s → Allowed z v s
   allowed s h = record { worker = trusts.worker; still = trusts.still; step = h }
 

@@ -1,5 +1,5 @@
 -- Reading the rows of a descriptor.
-use Rattle.std.proofs.Common.{ℕ, List, refl, inl, inr}
+use Rattle.std.proofs.Common.{ℕ, refl, inl, inr}
 use Rattle.rh_world.specs.World.{In}
 use Rattle.rh_world.specs.Notes.{Note}
 use Rattle.rh_world.specs.Notes.Note.{new_is, old_is, target_is}
@@ -11,7 +11,7 @@ use Rattle.rh_descriptor.specs.Words.{ref_of}
 use Rattle.rh_descriptor.specs.Steps.{Allowed, Step, with_side}
 use Rattle.rh_helping.specs.declared.goal.Task.{Task}
 use Rattle.rh_helping.specs.Goal.{KnowsGoal}
-use Rattle.rh_helping.specs.Relies.{Trusts}
+use Rattle.rh_steps.specs.Relies.{Knows}
 use Rattle.rh_helping.specs.Settling.{Grows}
 use Rattle.rh_helping.specs.Work.{IsAt}
 use Rattle.rh_helping.proofs.Growing.{task_sub}
@@ -21,15 +21,15 @@ use Rattle.rh_helping.proofs.Knowing.{allowed, entry_here, task_work}
 pub grows_note : (v : View) (n : Note) → Grows v (with_side v (note_side v.side n))
 grows_note v n = record { worker = refl; next_number = refl; marks_used = refl; opened = refl; written = refl; current = refl; released = refl; unsettled = refl; debts = refl; notes = λ m i. inr i }
 
-module _ (z : Shape) (words : List ℕ) (v : View) (trusts : Trusts z words v) (t : Task) (h : IsAt v t) where
+module _ (z : Shape) (v : View) (trusts : Knows z v) (t : Task) (h : IsAt v t) where
   pub may_read_cell : Allowed z v (Step.reads (reading.EntryCell t.desc t.entry))
-  may_read_cell = allowed z words v trusts _ (entry_here z words v trusts t h.task h.left, task_work z words v trusts t h.task t.entry h.left)
+  may_read_cell = allowed z v trusts _ (entry_here z v trusts t h.task h.left, task_work z v trusts t h.task t.entry h.left)
 
   pub may_read_old : Allowed z v (Step.reads (reading.EntryOld t.desc t.entry))
-  may_read_old = allowed z words v trusts _ (entry_here z words v trusts t h.task h.left, inl (task_work z words v trusts t h.task t.entry h.left))
+  may_read_old = allowed z v trusts _ (entry_here z v trusts t h.task h.left, inl (task_work z v trusts t h.task t.entry h.left))
 
   pub may_read_new : Allowed z v (Step.reads (reading.EntryNew t.desc t.entry))
-  may_read_new = allowed z words v trusts _ (entry_here z words v trusts t h.task h.left, task_work z words v trusts t h.task t.entry h.left)
+  may_read_new = allowed z v trusts _ (entry_here z v trusts t h.task h.left, task_work z v trusts t h.task t.entry h.left)
 
 -- ---- the goal that was read
 

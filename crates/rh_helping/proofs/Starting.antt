@@ -1,21 +1,20 @@
 -- A descriptor that a worker comes to.
-use Rattle.std.proofs.Common.{◌≡◌, ◌≢◌, ℕ, ◌<◌, ◌≤◌, Option, List, sym, refl, ◌∙◌, subst, inl, inr, ⊎_elim, arith}
+use Rattle.std.proofs.Common.{◌≡◌, ◌≢◌, ℕ, ◌<◌, ◌≤◌, Option, sym, refl, ◌∙◌, subst, inl, inr, ⊎_elim, arith}
 use Rattle.rh_tagword.specs.declared.control.Control.{Control}
 use Rattle.rh_world.specs.World.{Control as WorldControl, In, Ref}
 use Rattle.rh_world.specs.Sides.{note_side}
 use Rattle.rh_world.specs.Moves.{control_noted}
 use Rattle.rh_world.specs.Notes.Note.{size_is}
 use Rattle.rh_descriptor.specs.declared.shape.Shape.{Shape}
-use Rattle.rh_descriptor.specs.declared.shape.Part.TheVariants as part
 use Rattle.rh_descriptor.specs.declared.reference.Ref.{Ref as Reference}
 use Rattle.rh_descriptor.specs.declared.reference.Reading.TheVariants as reading
 use Rattle.rh_descriptor.specs.View.{View}
-use Rattle.rh_descriptor.specs.Steps.{Allowed, IsKnown, Step, with_side}
+use Rattle.rh_descriptor.specs.Steps.{Allowed, IsKnown, Step, row_word, with_side}
 use Rattle.rh_descriptor.specs.Words.{ref_of}
-use Rattle.rh_rule.specs.Mirrors.{word_at}
+use Rattle.rh_descriptor.specs.Places.{entry_row}
 use Rattle.rh_helping.specs.declared.goal.Task.{Task}
 use Rattle.rh_helping.specs.Goal.{KnowsOwn, OwesNothing, Releases, StandsAt}
-use Rattle.rh_helping.specs.Relies.{Trusts}
+use Rattle.rh_steps.specs.Relies.{Knows}
 use Rattle.rh_helping.specs.Work.{IsNext, IsOver}
 use Rattle.rh_helping.proofs.Growing.{nothing_grows, own_sub, stands_known, stands_sub}
 use Rattle.rh_helping.proofs.Knowing.{allowed}
@@ -24,7 +23,7 @@ use Rattle.rh_helping.proofs.Sides.{more_control}
 use Rattle.rh_helping.proofs.Owing.{owes_from, owes_over}
 use Rattle.rh_helping.proofs.OwnRows.{own_size}
 
-module _ (z : Shape) (words : List ℕ) (v : View) (trusts : Trusts z words v) (d : Reference) (k : Control) (n : ℕ) (sized : In (size_is (ref_of d) n) v.side.notes) (stands : StandsAt v.side.notes (ref_of d) k 0) where
+module _ (z : Shape) (v : View) (trusts : Knows z v) (d : Reference) (k : Control) (n : ℕ) (sized : In (size_is (ref_of d) n) v.side.notes) (stands : StandsAt v.side.notes (ref_of d) k 0) where
   -- its first entry is next
   pub first_next : OwesNothing v → IsNext v (record { desc = d; size = n; control = k; entry = 0 })
   first_next owes = record {
@@ -42,12 +41,12 @@ module _ (z : Shape) (words : List ℕ) (v : View) (trusts : Trusts z words v) (
   }
 
 -- an own one, whose row says its length
-pub own_next : (z : Shape) (words : List ℕ) (v : View) → Trusts z words v → (opens : Option ℕ) → KnowsOwn v opens → (d : Reference) (k : Control) (n : ℕ)
+pub own_next : (z : Shape) (v : View) → Knows z v → (opens : Option ℕ) → KnowsOwn v opens → (d : Reference) (k : Control) (n : ℕ)
     → d.worker ≡ v.worker → StandsAt v.side.notes (ref_of d) k 0 → OwesNothing v
-    → n ≡ word_at z words (part.Length d.worker d.number) → IsNext v (record { desc = d; size = n; control = k; entry = 0 })
-own_next z words v trusts opens own d k n mine stands owes is =
-    let sized = own_size z words v trusts opens own (ref_of d) mine (stands_known v.side.notes (ref_of d) k 0 stands) in
-    first_next z words v trusts d k n (subst (λ (m : ℕ). In (size_is (ref_of d) m) v.side.notes) (sym is) sized) stands owes
+    → n ≡ row_word v.written (entry_row d.number 1) → IsNext v (record { desc = d; size = n; control = k; entry = 0 })
+own_next z v trusts opens own d k n mine stands owes is =
+    let sized = own_size z v trusts opens own (ref_of d) mine (stands_known v.side.notes (ref_of d) k 0 stands) in
+    first_next z v trusts d k n (subst (λ (m : ℕ). In (size_is (ref_of d) m) v.side.notes) (sym is) sized) stands owes
 
 -- where an entry is left it has a number below the size
 pub left_below : (v : View) (t : Task) → IsNext v t → t.entry ≢ t.size → t.entry < t.size
@@ -58,20 +57,20 @@ left_below v t h ne = ⊎_elim (λ lt. lt) (λ u. below t.entry t.size h.task.wi
 
 -- ---- reading its control and its length
 
-module _ (z : Shape) (words : List ℕ) (v : View) (trusts : Trusts z words v) (d : Reference) where
+module _ (z : Shape) (v : View) (trusts : Knows z v) (d : Reference) where
   pub may_read_control : IsKnown v.side.notes (ref_of d) → Allowed z v (Step.reads (reading.Control d))
-  may_read_control known = allowed z words v trusts _ (trusts.sound.descs (ref_of d) known, tt)
+  may_read_control known = allowed z v trusts _ (trusts.sound.descs (ref_of d) known, tt)
 
   pub may_read_length : (k : Control) → StandsAt v.side.notes (ref_of d) k 0 → Allowed z v (Step.reads (reading.Length d))
-  may_read_length k stands = let known = stands_known v.side.notes (ref_of d) k 0 stands in allowed z words v trusts _ (trusts.sound.descs (ref_of d) known, known)
+  may_read_length k stands = let known = stands_known v.side.notes (ref_of d) k 0 stands in allowed z v trusts _ (trusts.sound.descs (ref_of d) known, known)
 
 -- what is so after the Read of its length
-pub length_next : (z : Shape) (words : List ℕ) (v next : View) (d : Reference) (k : Control) (n : ℕ) → next ≡ with_side v (note_side v.side (size_is (ref_of d) n))
-    → Trusts z words next → StandsAt v.side.notes (ref_of d) k 0 → OwesNothing v → IsNext next (record { desc = d; size = n; control = k; entry = 0 })
-length_next z words v next d k n is trusts stands owes =
+pub length_next : (z : Shape) (v next : View) (d : Reference) (k : Control) (n : ℕ) → next ≡ with_side v (note_side v.side (size_is (ref_of d) n))
+    → Knows z next → StandsAt v.side.notes (ref_of d) k 0 → OwesNothing v → IsNext next (record { desc = d; size = n; control = k; entry = 0 })
+length_next z v next d k n is trusts stands owes =
     let said : View = with_side v (note_side v.side (size_is (ref_of d) n)) in
-    subst (λ (x : View). Trusts z words x → IsNext x (record { desc = d; size = n; control = k; entry = 0 })) (sym is)
-    (λ t. first_next z words said t d k n (inl refl) (stands_sub v.side.notes said.side.notes (λ m i. inr i) (ref_of d) k 0 stands)
+    subst (λ (x : View). Knows z x → IsNext x (record { desc = d; size = n; control = k; entry = 0 })) (sym is)
+    (λ t. first_next z said t d k n (inl refl) (stands_sub v.side.notes said.side.notes (λ m i. inr i) (ref_of d) k 0 stands)
     (nothing_grows v said (grows_note v (size_is (ref_of d) n)) owes)) trusts
 
 -- after the Read of a control

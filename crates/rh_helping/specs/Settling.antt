@@ -1,5 +1,5 @@
 -- What is so while a mark that was met in a cell is settled. (own)
-use Rattle.std.specs.Prelude.{◌≡◌, ℕ, Option, Some, None, List}
+use Rattle.std.specs.Prelude.{◌≡◌, ℕ, Option, Some, None}
 use Rattle.rh_world.specs.World.{In}
 use Rattle.rh_world.specs.Notes.{Note}
 use Rattle.rh_world.specs.Notes.Note.{found, desc_is, which_is, may_promote, may_demote, old_is}
@@ -10,7 +10,8 @@ use Rattle.rh_descriptor.specs.declared.steps.StepKind.{StepKind}
 use Rattle.rh_descriptor.specs.declared.steps.StepKind.TheVariants as kind
 use Rattle.rh_descriptor.specs.View.{View}
 use Rattle.rh_descriptor.specs.Words.{ref_of}
-use Rattle.rh_descriptor.specs.Steps.{Allowed, Step, StepsTo}
+use Rattle.rh_descriptor.specs.Steps.{Allowed, Step, noted}
+use Rattle.rh_steps.specs.Relies.{Trusts}
 use Rattle.rh_helping.specs.declared.settling.Settling.{Settling}
 use Rattle.rh_helping.specs.declared.settling.Settling.TheVariants as settling
 
@@ -26,12 +27,15 @@ kind_of Step.claims = kind.Claim
 
 -- One allowed step of this kind was made, which opened no descriptor, and by which no cell was kept as read and no key
 -- claimed.
-pub record HasMade (z : Shape) (k : StepKind) (words : List ℕ) (v : View) (then : List ℕ) (next : View) : Type 0 where
+pub record HasMade {T : Type 0} (shows : Shape → T → View → Type 0) (made : Shape → Step → T → View → ℕ → T → View → Type 0) (z : Shape) (k : StepKind) (t : T) (v : View) (then : T) (next : View) : Type 0 where
   pub step : Step
   pub word : ℕ
   pub kind : kind_of step ≡ k
   pub allowed : Allowed z v step
-  pub steps : StepsTo z step words v word then next
+  pub view_is : next ≡ noted z v step word
+  pub steps : made z step t v word then next
+  pub trusts : Trusts shows z then next
+  pub notes : (n : Note) → In n v.side.notes → In n next.side.notes
   pub opened : next.opened ≡ v.opened
   pub reads : next.side.reads ≡ v.side.reads
   pub claims : next.side.claims ≡ v.side.claims

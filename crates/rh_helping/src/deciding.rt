@@ -1,10 +1,10 @@
 //! Deciding a descriptor.
 
-ghost use Rattle.std.specs.Prelude.{◌≡◌, length};
-ghost use Rattle.rh_descriptor.specs.Places.{IsShape, word_count};
+ghost use Rattle.std.specs.Prelude.{◌≡◌};
+ghost use Rattle.rh_descriptor.specs.Places.{IsShape};
 ghost use Rattle.rh_descriptor.specs.Steps.{decided_now};
 ghost use Rattle.rh_descriptor.specs.Words.{control_of};
-ghost use Rattle.rh_helping.specs.Relies.{Relies};
+ghost use Rattle.rh_steps.specs.Relies.{Relies};
 ghost use Rattle.rh_helping.specs.Settling.{HasMade};
 ghost use Rattle.rh_helping.specs.Goal.{KnowsOwn};
 ghost use Rattle.rh_helping.specs.Work.{Stands, Leads, MayEnd};
@@ -14,78 +14,90 @@ use crate::goal::Task;
 use crate::going::{at_entry, start};
 use crate::reading::control_of_word;
 use crate::work::Outcome;
-use rh_descriptor::{Ref, Shape, Side, StepKind, decide_desc};
+use rh_descriptor::{Ask, Ref, Shape, Side, StepKind};
+use rh_steps::Steps;
 use rh_tagword::{Control, pack_control};
 
-pub(crate) fn fail(
+pub(crate) fn fail<T: Steps>(
     shape: &Shape,
-    words: &mut [u64],
+    table: &mut T,
     side: &mut Side,
     opens: Option<usize>,
     task: Task,
 ) -> Outcome
     requires shape { IsShape shape.now }
-    requires sized { length words.old ≡ word_count shape.now }
-    requires relies { Relies shape.now words.old side.old.known.view }
+    requires relies { Relies T.shows T.serves shape.now table.old side.old.known.view }
     requires own { KnowsOwn side.old.known.view opens }
     requires stands { Stands shape.now side.old.known.view (Fail task) }
-    ensures made { HasMade shape.now StepKind.Decide words.old side.old.known.view
-        words.new side.new.known.view }
+    ensures made { HasMade T.shows T.made shape.now StepKind.Decide table.old side.old.known.view
+        table.new side.new.known.view }
     ensures leads { Leads shape.now side.new.known.view opens result }
     ensures ends { MayEnd (Fail task) result }
 {
     let failed = Control::Failed {
         entry: task.entry as u64,
     };
-    let found = decide_desc(shape, words, side, task.desc, failed);
+    let found = table.make(
+        shape,
+        side,
+        Ask::Decide {
+            desc: task.desc,
+            control: failed,
+        },
+    );
     let next = Task {
         control: now(failed, found),
         entry: 0,
         ..task
     };
-    at_entry(shape, words, side, opens, next)
+    at_entry(shape, table, side, opens, next)
 }
 
-pub(crate) fn succeed(
+pub(crate) fn succeed<T: Steps>(
     shape: &Shape,
-    words: &mut [u64],
+    table: &mut T,
     side: &mut Side,
     opens: Option<usize>,
     task: Task,
 ) -> Outcome
     requires shape { IsShape shape.now }
-    requires sized { length words.old ≡ word_count shape.now }
-    requires relies { Relies shape.now words.old side.old.known.view }
+    requires relies { Relies T.shows T.serves shape.now table.old side.old.known.view }
     requires own { KnowsOwn side.old.known.view opens }
     requires stands { Stands shape.now side.old.known.view (Succeed task) }
-    ensures made { HasMade shape.now StepKind.Decide words.old side.old.known.view
-        words.new side.new.known.view }
+    ensures made { HasMade T.shows T.made shape.now StepKind.Decide table.old side.old.known.view
+        table.new side.new.known.view }
     ensures leads { Leads shape.now side.new.known.view opens result }
     ensures ends { MayEnd (Succeed task) result }
 {
-    let found = decide_desc(shape, words, side, task.desc, Control::Succeeded);
+    let found = table.make(
+        shape,
+        side,
+        Ask::Decide {
+            desc: task.desc,
+            control: Control::Succeeded,
+        },
+    );
     let next = Task {
         control: now(Control::Succeeded, found),
         entry: 0,
         ..task
     };
-    at_entry(shape, words, side, opens, next)
+    at_entry(shape, table, side, opens, next)
 }
 
-pub(crate) fn withdraw(
+pub(crate) fn withdraw<T: Steps>(
     shape: &Shape,
-    words: &mut [u64],
+    table: &mut T,
     side: &mut Side,
     opens: Option<usize>,
     number: usize,
 ) -> Outcome
     requires shape { IsShape shape.now }
-    requires sized { length words.old ≡ word_count shape.now }
-    requires relies { Relies shape.now words.old side.old.known.view }
+    requires relies { Relies T.shows T.serves shape.now table.old side.old.known.view }
     requires own { KnowsOwn side.old.known.view opens }
     requires stands { Stands shape.now side.old.known.view (Withdraw number) }
-    ensures made { HasMade shape.now StepKind.Decide words.old side.old.known.view
-        words.new side.new.known.view }
+    ensures made { HasMade T.shows T.made shape.now StepKind.Decide table.old side.old.known.view
+        table.new side.new.known.view }
     ensures leads { Leads shape.now side.new.known.view opens result }
     ensures ends { MayEnd (Withdraw number) result }
 {
@@ -93,10 +105,17 @@ pub(crate) fn withdraw(
         worker: side.worker,
         number,
     };
-    let found = decide_desc(shape, words, side, desc, Control::Withdrawn);
+    let found = table.make(
+        shape,
+        side,
+        Ask::Decide {
+            desc,
+            control: Control::Withdrawn,
+        },
+    );
     start(
         shape,
-        words,
+        table,
         side,
         opens,
         desc,

@@ -1,9 +1,9 @@
 //! Holding an entry: an own mark is placed in its cell and settled there (RDCSS of Harris, Fraser and
 //! Pratt 2002).
 
-ghost use Rattle.std.specs.Prelude.{◌≡◌, length};
-ghost use Rattle.rh_descriptor.specs.Places.{IsShape, word_count};
-ghost use Rattle.rh_helping.specs.Relies.{Relies};
+ghost use Rattle.std.specs.Prelude.{◌≡◌};
+ghost use Rattle.rh_descriptor.specs.Places.{IsShape};
+ghost use Rattle.rh_steps.specs.Relies.{Relies};
 ghost use Rattle.rh_helping.specs.Settling.{HasMade, kind_of_settling};
 ghost use Rattle.rh_helping.specs.Goal.{KnowsOwn};
 ghost use Rattle.rh_helping.specs.Work.{Stands, Leads, MayEnd};
@@ -13,25 +13,22 @@ use crate::going::{at_entry, ready};
 use crate::reading::{Met, control_of_word, what_stands};
 use crate::settling::Settling;
 use crate::work::{Outcome, Work};
-use rh_descriptor::{
-    Part, Piece, Reading, Ref, Shape, Side, StepKind, desc_word, mark_word, place_mark, read_word,
-    settle_mark, write_word,
-};
+use rh_descriptor::{Ask, Part, Piece, Reading, Ref, Shape, Side, StepKind, desc_word, mark_word};
+use rh_steps::Steps;
 
-pub(crate) fn write_desc(
+pub(crate) fn write_desc<T: Steps>(
     shape: &Shape,
-    words: &mut [u64],
+    table: &mut T,
     side: &mut Side,
     opens: Option<usize>,
     goal: Goal,
 ) -> Outcome
     requires shape { IsShape shape.now }
-    requires sized { length words.old ≡ word_count shape.now }
-    requires relies { Relies shape.now words.old side.old.known.view }
+    requires relies { Relies T.shows T.serves shape.now table.old side.old.known.view }
     requires own { KnowsOwn side.old.known.view opens }
     requires stands { Stands shape.now side.old.known.view (Work.MarkDesc goal) }
-    ensures made { HasMade shape.now StepKind.Write words.old side.old.known.view
-        words.new side.new.known.view }
+    ensures made { HasMade T.shows T.made shape.now StepKind.Write table.old side.old.known.view
+        table.new side.new.known.view }
     ensures leads { Leads shape.now side.new.known.view opens result }
     ensures ends { MayEnd (Work.MarkDesc goal) result }
 {
@@ -40,24 +37,23 @@ pub(crate) fn write_desc(
         worker: side.worker,
         mark: side.marks_used,
     };
-    write_word(shape, words, side, part, word);
+    table.make(shape, side, Ask::Write { part, word });
     Outcome::On(Work::MarkEntry(goal))
 }
 
-pub(crate) fn write_entry(
+pub(crate) fn write_entry<T: Steps>(
     shape: &Shape,
-    words: &mut [u64],
+    table: &mut T,
     side: &mut Side,
     opens: Option<usize>,
     goal: Goal,
 ) -> Outcome
     requires shape { IsShape shape.now }
-    requires sized { length words.old ≡ word_count shape.now }
-    requires relies { Relies shape.now words.old side.old.known.view }
+    requires relies { Relies T.shows T.serves shape.now table.old side.old.known.view }
     requires own { KnowsOwn side.old.known.view opens }
     requires stands { Stands shape.now side.old.known.view (Work.MarkEntry goal) }
-    ensures made { HasMade shape.now StepKind.Write words.old side.old.known.view
-        words.new side.new.known.view }
+    ensures made { HasMade T.shows T.made shape.now StepKind.Write table.old side.old.known.view
+        table.new side.new.known.view }
     ensures leads { Leads shape.now side.new.known.view opens result }
     ensures ends { MayEnd (Work.MarkEntry goal) result }
 {
@@ -65,25 +61,31 @@ pub(crate) fn write_entry(
         worker: side.worker,
         mark: side.marks_used,
     };
-    write_word(shape, words, side, part, goal.task.entry as u64);
+    table.make(
+        shape,
+        side,
+        Ask::Write {
+            part,
+            word: goal.task.entry as u64,
+        },
+    );
     Outcome::On(Work::Place(goal))
 }
 
 /// Places the mark, and goes by what stood in the cell.
-pub(crate) fn place(
+pub(crate) fn place<T: Steps>(
     shape: &Shape,
-    words: &mut [u64],
+    table: &mut T,
     side: &mut Side,
     opens: Option<usize>,
     goal: Goal,
 ) -> Outcome
     requires shape { IsShape shape.now }
-    requires sized { length words.old ≡ word_count shape.now }
-    requires relies { Relies shape.now words.old side.old.known.view }
+    requires relies { Relies T.shows T.serves shape.now table.old side.old.known.view }
     requires own { KnowsOwn side.old.known.view opens }
     requires stands { Stands shape.now side.old.known.view (Work.Place goal) }
-    ensures made { HasMade shape.now StepKind.Place words.old side.old.known.view
-        words.new side.new.known.view }
+    ensures made { HasMade T.shows T.made shape.now StepKind.Place table.old side.old.known.view
+        table.new side.new.known.view }
     ensures leads { Leads shape.now side.new.known.view opens result }
     ensures ends { MayEnd (Work.Place goal) result }
 {
@@ -97,7 +99,14 @@ pub(crate) fn place(
         entry: task.entry,
         cell: goal.cell,
     };
-    let found = place_mark(shape, words, side, piece, goal.old);
+    let found = table.make(
+        shape,
+        side,
+        Ask::Place {
+            piece,
+            old: goal.old,
+        },
+    );
     if found == goal.old {
         return Outcome::On(Work::MarkControl(Placed { goal, mark }));
     }
@@ -116,7 +125,7 @@ pub(crate) fn place(
                     entry: task.entry + 1,
                     ..task
                 };
-                at_entry(shape, words, side, opens, next)
+                at_entry(shape, table, side, opens, next)
             } else {
                 Outcome::On(Work::Control(desc))
             }
@@ -125,44 +134,42 @@ pub(crate) fn place(
 }
 
 /// Goes on with a mark that was met, and then places the own one again.
-pub(crate) fn settle(
+pub(crate) fn settle<T: Steps>(
     shape: &Shape,
-    words: &mut [u64],
+    table: &mut T,
     side: &mut Side,
     opens: Option<usize>,
     settling: Settling,
     goal: Goal,
 ) -> Outcome
     requires shape { IsShape shape.now }
-    requires sized { length words.old ≡ word_count shape.now }
-    requires relies { Relies shape.now words.old side.old.known.view }
+    requires relies { Relies T.shows T.serves shape.now table.old side.old.known.view }
     requires own { KnowsOwn side.old.known.view opens }
     requires stands { Stands shape.now side.old.known.view (Work.Settle settling goal) }
-    ensures made { HasMade shape.now (kind_of_settling settling) words.old side.old.known.view
-        words.new side.new.known.view }
+    ensures made { HasMade T.shows T.made shape.now (kind_of_settling settling) table.old side.old.known.view
+        table.new side.new.known.view }
     ensures leads { Leads shape.now side.new.known.view opens result }
     ensures ends { MayEnd (Work.Settle settling goal) result }
 {
-    match settling.step(shape, words, side) {
+    match settling.step(shape, table, side) {
         Some(settling) => Outcome::On(Work::Settle { settling, goal }),
         None => Outcome::On(Work::Place(goal)),
     }
 }
 
-pub(crate) fn read_control(
+pub(crate) fn read_control<T: Steps>(
     shape: &Shape,
-    words: &[u64],
+    table: &mut T,
     side: &mut Side,
     opens: Option<usize>,
     placed: Placed,
 ) -> Outcome
     requires shape { IsShape shape.now }
-    requires sized { length words.now ≡ word_count shape.now }
-    requires relies { Relies shape.now words.now side.old.known.view }
+    requires relies { Relies T.shows T.serves shape.now table.old side.old.known.view }
     requires own { KnowsOwn side.old.known.view opens }
     requires stands { Stands shape.now side.old.known.view (Work.MarkControl placed) }
-    ensures made { HasMade shape.now StepKind.Read words.now side.old.known.view
-        words.now side.new.known.view }
+    ensures made { HasMade T.shows T.made shape.now StepKind.Read table.old side.old.known.view
+        table.new side.new.known.view }
     ensures leads { Leads shape.now side.new.known.view opens result }
     ensures ends { MayEnd (Work.MarkControl placed) result }
 {
@@ -171,7 +178,7 @@ pub(crate) fn read_control(
         cell: placed.goal.cell,
         desc: placed.goal.task.desc,
     };
-    let control = control_of_word(read_word(shape, words, side, reading));
+    let control = control_of_word(table.make(shape, side, Ask::Read(reading)));
     if control.is_decided() {
         let task = Task {
             control,
@@ -187,20 +194,19 @@ pub(crate) fn read_control(
     }
 }
 
-pub(crate) fn promote(
+pub(crate) fn promote<T: Steps>(
     shape: &Shape,
-    words: &mut [u64],
+    table: &mut T,
     side: &mut Side,
     opens: Option<usize>,
     placed: Placed,
 ) -> Outcome
     requires shape { IsShape shape.now }
-    requires sized { length words.old ≡ word_count shape.now }
-    requires relies { Relies shape.now words.old side.old.known.view }
+    requires relies { Relies T.shows T.serves shape.now table.old side.old.known.view }
     requires own { KnowsOwn side.old.known.view opens }
     requires stands { Stands shape.now side.old.known.view (Work.Promote placed) }
-    ensures made { HasMade shape.now StepKind.Settle words.old side.old.known.view
-        words.new side.new.known.view }
+    ensures made { HasMade T.shows T.made shape.now StepKind.Settle table.old side.old.known.view
+        table.new side.new.known.view }
     ensures leads { Leads shape.now side.new.known.view opens result }
     ensures ends { MayEnd (Work.Promote placed) result }
 {
@@ -211,25 +217,32 @@ pub(crate) fn promote(
         entry: goal.task.entry,
         cell: goal.cell,
     };
-    let found = settle_mark(shape, words, side, mark, piece, None);
+    let found = table.make(
+        shape,
+        side,
+        Ask::Settle {
+            mark,
+            piece,
+            old: None,
+        },
+    );
     let promoted = found == mark_word(shape, mark);
     Outcome::On(Work::Recheck { goal, promoted })
 }
 
-pub(crate) fn demote(
+pub(crate) fn demote<T: Steps>(
     shape: &Shape,
-    words: &mut [u64],
+    table: &mut T,
     side: &mut Side,
     opens: Option<usize>,
     placed: Placed,
 ) -> Outcome
     requires shape { IsShape shape.now }
-    requires sized { length words.old ≡ word_count shape.now }
-    requires relies { Relies shape.now words.old side.old.known.view }
+    requires relies { Relies T.shows T.serves shape.now table.old side.old.known.view }
     requires own { KnowsOwn side.old.known.view opens }
     requires stands { Stands shape.now side.old.known.view (Work.Demote placed) }
-    ensures made { HasMade shape.now StepKind.Settle words.old side.old.known.view
-        words.new side.new.known.view }
+    ensures made { HasMade T.shows T.made shape.now StepKind.Settle table.old side.old.known.view
+        table.new side.new.known.view }
     ensures leads { Leads shape.now side.new.known.view opens result }
     ensures ends { MayEnd (Work.Demote placed) result }
 {
@@ -239,48 +252,55 @@ pub(crate) fn demote(
         entry: goal.task.entry,
         cell: goal.cell,
     };
-    settle_mark(shape, words, side, placed.mark, piece, Some(goal.old));
+    table.make(
+        shape,
+        side,
+        Ask::Settle {
+            mark: placed.mark,
+            piece,
+            old: Some(goal.old),
+        },
+    );
     let task = Task {
         entry: 0,
         ..goal.task
     };
-    at_entry(shape, words, side, opens, task)
+    at_entry(shape, table, side, opens, task)
 }
 
-pub(crate) fn recheck(
+pub(crate) fn recheck<T: Steps>(
     shape: &Shape,
-    words: &[u64],
+    table: &mut T,
     side: &mut Side,
     opens: Option<usize>,
     goal: Goal,
     promoted: bool,
 ) -> Outcome
     requires shape { IsShape shape.now }
-    requires sized { length words.now ≡ word_count shape.now }
-    requires relies { Relies shape.now words.now side.old.known.view }
+    requires relies { Relies T.shows T.serves shape.now table.old side.old.known.view }
     requires own { KnowsOwn side.old.known.view opens }
     requires stands { Stands shape.now side.old.known.view (Work.Recheck goal promoted) }
-    ensures made { HasMade shape.now StepKind.Read words.now side.old.known.view
-        words.now side.new.known.view }
+    ensures made { HasMade T.shows T.made shape.now StepKind.Read table.old side.old.known.view
+        table.new side.new.known.view }
     ensures leads { Leads shape.now side.new.known.view opens result }
     ensures ends { MayEnd (Work.Recheck goal promoted) result }
 {
     let task = goal.task;
     let reading = Reading::Control(task.desc);
-    let control = control_of_word(read_word(shape, words, side, reading));
+    let control = control_of_word(table.make(shape, side, Ask::Read(reading)));
     if control.is_decided() {
         let next = Task {
             control,
             entry: 0,
             ..task
         };
-        at_entry(shape, words, side, opens, next)
+        at_entry(shape, table, side, opens, next)
     } else if promoted {
         let next = Task {
             entry: task.entry + 1,
             ..task
         };
-        at_entry(shape, words, side, opens, next)
+        at_entry(shape, table, side, opens, next)
     } else {
         ready(shape, side, opens, goal)
     }

@@ -8,7 +8,7 @@ use rh_descriptor::Ref;
 use rh_tagword::{Control, Word, unpack, unpack_control};
 
 /// The control of this number. A number that is none is never written.
-pub(crate) fn control_of_word(word: u64) -> Control
+pub fn control_of_word(word: u64) -> Control
     ensures { control_of result ≡ read_control word }
 {
     unpack_control(word).unwrap_or(Control::Withdrawn)

@@ -1,8 +1,8 @@
 //! Releasing a decided descriptor.
 
-ghost use Rattle.std.specs.Prelude.{◌≡◌, length, Some, Decides};
-ghost use Rattle.rh_descriptor.specs.Places.{IsShape, word_count};
-ghost use Rattle.rh_helping.specs.Relies.{Relies};
+ghost use Rattle.std.specs.Prelude.{◌≡◌, Some, Decides};
+ghost use Rattle.rh_descriptor.specs.Places.{IsShape};
+ghost use Rattle.rh_steps.specs.Relies.{Relies};
 ghost use Rattle.rh_helping.specs.Settling.{HasMade};
 ghost use Rattle.rh_helping.specs.Goal.{KnowsOwn, released_value};
 ghost use Rattle.rh_helping.specs.Work.{Stands, Leads, MayEnd};
@@ -11,24 +11,24 @@ ghost use Rattle.rh_helping.specs.declared.work.Work.TheVariants.{Release};
 use crate::goal::{Goal, Task};
 use crate::going::{at_entry, resume};
 use crate::work::Outcome;
-use rh_descriptor::{Piece, Ref, Shape, Side, StepKind, release_cell};
+use rh_descriptor::{Ask, Piece, Ref, Shape, Side, StepKind};
+use rh_steps::Steps;
 use rh_tagword::Control;
 
 /// Releases an entry. With the last one the own descriptor is closed, if it is that one that was open.
-pub(crate) fn release(
+pub(crate) fn release<T: Steps>(
     shape: &Shape,
-    words: &mut [u64],
+    table: &mut T,
     side: &mut Side,
     opens: Option<usize>,
     goal: Goal,
 ) -> Outcome
     requires shape { IsShape shape.now }
-    requires sized { length words.old ≡ word_count shape.now }
-    requires relies { Relies shape.now words.old side.old.known.view }
+    requires relies { Relies T.shows T.serves shape.now table.old side.old.known.view }
     requires own { KnowsOwn side.old.known.view opens }
     requires stands { Stands shape.now side.old.known.view (Release goal) }
-    ensures made { HasMade shape.now StepKind.Release words.old side.old.known.view
-        words.new side.new.known.view }
+    ensures made { HasMade T.shows T.made shape.now StepKind.Release table.old side.old.known.view
+        table.new side.new.known.view }
     ensures leads { Leads shape.now side.new.known.view opens result }
     ensures ends { MayEnd (Release goal) result }
 {
@@ -40,13 +40,21 @@ pub(crate) fn release(
         entry: task.entry,
         cell: goal.cell,
     };
-    release_cell(shape, words, side, piece, task.control, value);
+    table.make(
+        shape,
+        side,
+        Ask::Release {
+            piece,
+            control: task.control,
+            value,
+        },
+    );
     let next = Task {
         entry: task.entry + 1,
         ..task
     };
     if next.entry < next.size {
-        at_entry(shape, words, side, opens, next)
+        at_entry(shape, table, side, opens, next)
     } else if own {
         Outcome::Closed(task.control)
     } else {

@@ -1,13 +1,14 @@
 //! Settling a mark that was met in a cell, as RDCSS is helped (Harris, Fraser and Pratt 2002).
 
-ghost use Rattle.std.specs.Prelude.{◌≡◌, length, None};
-ghost use Rattle.rh_descriptor.specs.Places.{IsShape, word_count};
+ghost use Rattle.std.specs.Prelude.{◌≡◌, None};
+ghost use Rattle.rh_descriptor.specs.Places.{IsShape};
 ghost use Rattle.rh_helping.specs.Goal.{OwesNothing};
-ghost use Rattle.rh_helping.specs.Relies.{Relies};
+ghost use Rattle.rh_steps.specs.Relies.{Relies};
 ghost use Rattle.rh_helping.specs.Settling.{Grows, HasMade, IsSettling, LeadsOn, kind_of_settling};
 
 use crate::reading::{control_of_word, named_desc};
-use rh_descriptor::{Piece, Reading, Ref, Shape, Side, StepKind, read_word, settle_mark};
+use rh_descriptor::{Ask, Piece, Reading, Ref, Shape, Side, StepKind};
+use rh_steps::Steps;
 
 /// The next step with a mark that was met in a cell.
 #[derive(Clone, Copy)]
@@ -53,45 +54,44 @@ impl Settling {
     }
 
     /// Makes the step, and answers the next one, or none where the mark was settled.
-    pub fn step(self, shape: &Shape, words: &mut [u64], side: &mut Side) -> Option<Settling>
+    pub fn step<T: Steps>(self, shape: &Shape, table: &mut T, side: &mut Side) -> Option<Settling>
         requires shape { IsShape shape.now }
-        requires sized { length words.old ≡ word_count shape.now }
-        requires relies { Relies shape.now words.old side.old.known.view }
+        requires relies { Relies T.shows T.serves shape.now table.old side.old.known.view }
         requires owes { OwesNothing side.old.known.view }
         requires settling { IsSettling side.old.known.view self }
-        ensures made { HasMade shape.now (kind_of_settling self) words.old side.old.known.view
-            words.new side.new.known.view }
+        ensures made { HasMade T.shows T.made shape.now (kind_of_settling self) table.old side.old.known.view
+            table.new side.new.known.view }
         ensures grows { Grows side.old.known.view side.new.known.view }
         ensures leads { LeadsOn side.new.known.view self result }
     {
         match self {
-            Settling::Desc { mark, cell } => read_desc(shape, words, side, mark, cell),
+            Settling::Desc { mark, cell } => read_desc(shape, table, side, mark, cell),
             Settling::Entry { mark, cell, desc } => read_entry(
-                shape, words, side, mark, cell, desc,
+                shape, table, side, mark, cell, desc,
             ),
-            Settling::Control { mark, piece } => read_control(shape, words, side, mark, piece),
-            Settling::Old { mark, piece } => read_old(shape, words, side, mark, piece),
-            Settling::Settle { mark, piece, old } => swap(shape, words, side, mark, piece, old),
+            Settling::Control { mark, piece } => read_control(shape, table, side, mark, piece),
+            Settling::Old { mark, piece } => read_old(shape, table, side, mark, piece),
+            Settling::Settle { mark, piece, old } => swap(shape, table, side, mark, piece, old),
         }
     }
 }
 
-fn read_desc(
+fn read_desc<T: Steps>(
     shape: &Shape,
-    words: &[u64],
+    table: &mut T,
     side: &mut Side,
     mark: Ref,
     cell: usize,
 ) -> Option<Settling>
     requires shape { IsShape shape.now }
-    requires sized { length words.now ≡ word_count shape.now }
-    requires relies { Relies shape.now words.now side.old.known.view }
+    requires relies { Relies T.shows T.serves shape.now table.old side.old.known.view }
     requires settling { IsSettling side.old.known.view (Settling.Desc mark cell) }
-    ensures made { HasMade shape.now StepKind.Read words.now side.old.known.view words.now side.new.known.view }
+    ensures made { HasMade T.shows T.made shape.now StepKind.Read table.old side.old.known.view
+        table.new side.new.known.view }
     ensures grows { Grows side.old.known.view side.new.known.view }
     ensures leads { LeadsOn side.new.known.view (Settling.Desc mark cell) result }
 {
-    let word = read_word(shape, words, side, Reading::MarkDesc(mark));
+    let word = table.make(shape, side, Ask::Read(Reading::MarkDesc(mark)));
     match named_desc(word) {
         Some(desc) => Some(Settling::Entry { mark, cell, desc }),
         // (a mark is placed after its row is written)
@@ -99,40 +99,40 @@ fn read_desc(
     }
 }
 
-fn read_entry(
+fn read_entry<T: Steps>(
     shape: &Shape,
-    words: &[u64],
+    table: &mut T,
     side: &mut Side,
     mark: Ref,
     cell: usize,
     desc: Ref,
 ) -> Option<Settling>
     requires shape { IsShape shape.now }
-    requires sized { length words.now ≡ word_count shape.now }
-    requires relies { Relies shape.now words.now side.old.known.view }
+    requires relies { Relies T.shows T.serves shape.now table.old side.old.known.view }
     requires settling { IsSettling side.old.known.view (Settling.Entry mark cell desc) }
-    ensures made { HasMade shape.now StepKind.Read words.now side.old.known.view words.now side.new.known.view }
+    ensures made { HasMade T.shows T.made shape.now StepKind.Read table.old side.old.known.view
+        table.new side.new.known.view }
     ensures grows { Grows side.old.known.view side.new.known.view }
     ensures leads { LeadsOn side.new.known.view (Settling.Entry mark cell desc) result }
 {
-    let entry = read_word(shape, words, side, Reading::MarkEntry(mark)) as usize;
+    let entry = table.make(shape, side, Ask::Read(Reading::MarkEntry(mark))) as usize;
     let piece = Piece { desc, entry, cell };
     Some(Settling::Control { mark, piece })
 }
 
-fn read_control(
+fn read_control<T: Steps>(
     shape: &Shape,
-    words: &[u64],
+    table: &mut T,
     side: &mut Side,
     mark: Ref,
     piece: Piece,
 ) -> Option<Settling>
     requires shape { IsShape shape.now }
-    requires sized { length words.now ≡ word_count shape.now }
-    requires relies { Relies shape.now words.now side.old.known.view }
+    requires relies { Relies T.shows T.serves shape.now table.old side.old.known.view }
     requires owes { OwesNothing side.old.known.view }
     requires settling { IsSettling side.old.known.view (Settling.Control mark piece) }
-    ensures made { HasMade shape.now StepKind.Read words.now side.old.known.view words.now side.new.known.view }
+    ensures made { HasMade T.shows T.made shape.now StepKind.Read table.old side.old.known.view
+        table.new side.new.known.view }
     ensures grows { Grows side.old.known.view side.new.known.view }
     ensures leads { LeadsOn side.new.known.view (Settling.Control mark piece) result }
 {
@@ -141,7 +141,7 @@ fn read_control(
         cell: piece.cell,
         desc: piece.desc,
     };
-    let control = control_of_word(read_word(shape, words, side, reading));
+    let control = control_of_word(table.make(shape, side, Ask::Read(reading)));
     if control.is_decided() {
         Some(Settling::Old { mark, piece })
     } else {
@@ -153,18 +153,18 @@ fn read_control(
     }
 }
 
-fn read_old(
+fn read_old<T: Steps>(
     shape: &Shape,
-    words: &[u64],
+    table: &mut T,
     side: &mut Side,
     mark: Ref,
     piece: Piece,
 ) -> Option<Settling>
     requires shape { IsShape shape.now }
-    requires sized { length words.now ≡ word_count shape.now }
-    requires relies { Relies shape.now words.now side.old.known.view }
+    requires relies { Relies T.shows T.serves shape.now table.old side.old.known.view }
     requires settling { IsSettling side.old.known.view (Settling.Old mark piece) }
-    ensures made { HasMade shape.now StepKind.Read words.now side.old.known.view words.now side.new.known.view }
+    ensures made { HasMade T.shows T.made shape.now StepKind.Read table.old side.old.known.view
+        table.new side.new.known.view }
     ensures grows { Grows side.old.known.view side.new.known.view }
     ensures leads { LeadsOn side.new.known.view (Settling.Old mark piece) result }
 {
@@ -172,7 +172,7 @@ fn read_old(
         desc: piece.desc,
         entry: piece.entry,
     };
-    let old = read_word(shape, words, side, reading);
+    let old = table.make(shape, side, Ask::Read(reading));
     Some(Settling::Settle {
         mark,
         piece,
@@ -180,23 +180,23 @@ fn read_old(
     })
 }
 
-fn swap(
+fn swap<T: Steps>(
     shape: &Shape,
-    words: &mut [u64],
+    table: &mut T,
     side: &mut Side,
     mark: Ref,
     piece: Piece,
     old: Option<u64>,
 ) -> Option<Settling>
     requires shape { IsShape shape.now }
-    requires sized { length words.old ≡ word_count shape.now }
-    requires relies { Relies shape.now words.old side.old.known.view }
+    requires relies { Relies T.shows T.serves shape.now table.old side.old.known.view }
     requires owes { OwesNothing side.old.known.view }
     requires settling { IsSettling side.old.known.view (Settling.Settle mark piece old) }
-    ensures made { HasMade shape.now StepKind.Settle words.old side.old.known.view words.new side.new.known.view }
+    ensures made { HasMade T.shows T.made shape.now StepKind.Settle table.old side.old.known.view
+        table.new side.new.known.view }
     ensures grows { Grows side.old.known.view side.new.known.view }
     ensures settled { result ≡ None }
 {
-    settle_mark(shape, words, side, mark, piece, old);
+    table.make(shape, side, Ask::Settle { mark, piece, old });
     None
 }

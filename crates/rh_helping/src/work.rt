@@ -1,8 +1,8 @@
 //! The work of one worker on descriptors, step by step.
 
-ghost use Rattle.std.specs.Prelude.{◌≡◌, length};
-ghost use Rattle.rh_descriptor.specs.Places.{IsShape, word_count};
-ghost use Rattle.rh_helping.specs.Relies.{Relies};
+ghost use Rattle.std.specs.Prelude.{◌≡◌};
+ghost use Rattle.rh_descriptor.specs.Places.{IsShape};
+ghost use Rattle.rh_steps.specs.Relies.{Relies};
 ghost use Rattle.rh_helping.specs.Settling.{HasMade};
 ghost use Rattle.rh_helping.specs.Goal.{KnowsOwn};
 ghost use Rattle.rh_helping.specs.Work.{Stands, Leads, MayEnd, kind_of_work};
@@ -11,6 +11,7 @@ use crate::goal::{Goal, Placed, Task};
 use crate::settling::Settling;
 use crate::{deciding, entering, holding, releasing};
 use rh_descriptor::{Ref, Shape, Side, StepKind};
+use rh_steps::Steps;
 use rh_tagword::Control;
 
 /// The next step of a worker that goes about a descriptor, its own or another's.
@@ -83,51 +84,50 @@ impl Work {
 
     /// Makes the step, and answers what it leads to. `opens` is the number of the own descriptor that
     /// is open, if one is.
-    pub fn step(
+    pub fn step<T: Steps>(
         self,
         shape: &Shape,
-        words: &mut [u64],
+        table: &mut T,
         side: &mut Side,
         opens: Option<usize>,
     ) -> Outcome
         requires shape { IsShape shape.now }
-        requires sized { length words.old ≡ word_count shape.now }
-        requires relies { Relies shape.now words.old side.old.known.view }
+        requires relies { Relies T.shows T.serves shape.now table.old side.old.known.view }
         requires own { KnowsOwn side.old.known.view opens }
         requires stands { Stands shape.now side.old.known.view self }
-        ensures made { HasMade shape.now (kind_of_work self) words.old side.old.known.view
-            words.new side.new.known.view }
+        ensures made { HasMade T.shows T.made shape.now (kind_of_work self) table.old side.old.known.view
+            table.new side.new.known.view }
         ensures leads { Leads shape.now side.new.known.view opens result }
         ensures ends { MayEnd self result }
     {
         match self {
-            Work::Control(desc) => entering::read_control(shape, words, side, opens, desc),
+            Work::Control(desc) => entering::read_control(shape, table, side, opens, desc),
             Work::Length { desc, control } => {
-                entering::read_length(shape, words, side, opens, desc, control)
+                entering::read_length(shape, table, side, opens, desc, control)
             }
-            Work::EntryCell(task) => entering::read_cell(shape, words, side, opens, task),
+            Work::EntryCell(task) => entering::read_cell(shape, table, side, opens, task),
             Work::EntryOld { task, cell } => {
-                entering::read_old(shape, words, side, opens, task, cell)
+                entering::read_old(shape, table, side, opens, task, cell)
             }
             Work::EntryNew { task, cell, old } => {
-                entering::read_new(shape, words, side, opens, task, cell, old)
+                entering::read_new(shape, table, side, opens, task, cell, old)
             }
-            Work::MarkDesc(goal) => holding::write_desc(shape, words, side, opens, goal),
-            Work::MarkEntry(goal) => holding::write_entry(shape, words, side, opens, goal),
-            Work::Place(goal) => holding::place(shape, words, side, opens, goal),
+            Work::MarkDesc(goal) => holding::write_desc(shape, table, side, opens, goal),
+            Work::MarkEntry(goal) => holding::write_entry(shape, table, side, opens, goal),
+            Work::Place(goal) => holding::place(shape, table, side, opens, goal),
             Work::Settle { settling, goal } => {
-                holding::settle(shape, words, side, opens, settling, goal)
+                holding::settle(shape, table, side, opens, settling, goal)
             }
-            Work::MarkControl(placed) => holding::read_control(shape, words, side, opens, placed),
-            Work::Promote(placed) => holding::promote(shape, words, side, opens, placed),
-            Work::Demote(placed) => holding::demote(shape, words, side, opens, placed),
+            Work::MarkControl(placed) => holding::read_control(shape, table, side, opens, placed),
+            Work::Promote(placed) => holding::promote(shape, table, side, opens, placed),
+            Work::Demote(placed) => holding::demote(shape, table, side, opens, placed),
             Work::Recheck { goal, promoted } => {
-                holding::recheck(shape, words, side, opens, goal, promoted)
+                holding::recheck(shape, table, side, opens, goal, promoted)
             }
-            Work::Fail(task) => deciding::fail(shape, words, side, opens, task),
-            Work::Succeed(task) => deciding::succeed(shape, words, side, opens, task),
-            Work::Withdraw(number) => deciding::withdraw(shape, words, side, opens, number),
-            Work::Release(goal) => releasing::release(shape, words, side, opens, goal),
+            Work::Fail(task) => deciding::fail(shape, table, side, opens, task),
+            Work::Succeed(task) => deciding::succeed(shape, table, side, opens, task),
+            Work::Withdraw(number) => deciding::withdraw(shape, table, side, opens, number),
+            Work::Release(goal) => releasing::release(shape, table, side, opens, goal),
         }
     }
 }

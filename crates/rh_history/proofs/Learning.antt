@@ -1,5 +1,5 @@
 -- What a worker knows only grows: in each step its notes and its reads stay.
-use Rattle.std.proofs.Common.{◌≡◌, ℕ, zero, suc, inl, inr, refl, sym, ◌∙◌, subst, arith, eqb, Bool, true, false, cond, ◌&&◌, List, ◌∷◌, Option, Some, None}
+use Rattle.std.proofs.Common.{◌≡◌, ℕ, zero, suc, inr, refl, sym, ap, ◌∙◌, subst, arith, map, filter, eqb, Bool, true, false, cond, ◌&&◌, List, ◌∷◌, Option, Some, None}
 use Rattle.std.specs.Prelude.{nat_lt}
 use Rattle.std.specs.List.{Contains}
 use Rattle.std.proofs.lemmas.Bool.Decides.{nat_tests}
@@ -22,7 +22,7 @@ use Rattle.rh_rule.proofs.Said.{plain_said}
 use Rattle.rh_acts.specs.Done.{Kept, kept}
 use Rattle.rh_history.specs.History.{value_of, kept_of}
 use Rattle.rh_history.proofs.Filtered.{from_filtered, in_filtered}
-use Rattle.rh_history.specs.OwnActs.{PlainReadsAreKept, ReadsAreKept, ReadsStay}
+use Rattle.rh_history.specs.OwnActs.{PlainReadsComeFirst, ReadsAreKept, ReadsStay}
 
 -- t knows what s knows
 pub record Learns (s t : Side) : Type 0 where
@@ -166,12 +166,14 @@ valued r = kept r.cell (value_of r.word)
 pub reads_are_kept : ReadsAreKept
 reads_are_kept z v r i inside = in_filtered (of_table z) valued v.side.reads r i (grind (arith, nat_tests))
 
-pub plain_reads_are_kept : PlainReadsAreKept
-plain_reads_are_kept z v c word closed inside plain_word =
+pub plain_reads_come_first : PlainReadsComeFirst
+plain_reads_come_first z v c word closed inside plain_word =
     let read : KeptRead = record { cell = c; word = word; acts = 0; next_number = v.next_number } in
-    let is : read_side v.side c word 0 v.next_number ≡ read_noted v (reading.Cell c) word =
-    λ i. cell_noted v.side c (sym (plain_said word plain_word) i) (sym closed i) 0 v.next_number in
-    reads_are_kept z (noted z v (Step.reads (reading.Cell c)) word) read (subst (λ (s : Side). In read s.reads) is (inl refl)) inside
+    let is : read_noted v (reading.Cell c) word ≡ read_side v.side c word 0 v.next_number =
+    λ i. cell_noted v.side c (plain_said word plain_word i) (closed i) 0 v.next_number in
+    let within : nat_lt c (cell_count z) ≡ true = grind (arith, nat_tests) in
+    ap (λ (s : Side). map valued (filter (of_table z) s.reads)) is
+    ∙ ap (λ (b : Bool). map valued (cond b (read ∷ filter (of_table z) v.side.reads) (filter (of_table z) v.side.reads))) within
 
 pub reads_stay : ReadsStay
 reads_stay z v s word = (

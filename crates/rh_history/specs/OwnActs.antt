@@ -54,10 +54,10 @@ StepsFinish = (z : Shape) (v : View) (s : Step) (word : ℕ) → Allowed z v s �
 abbrev pub KeptIsOrderly : Type 0
 KeptIsOrderly = (w : World) (z : Shape) (words : List ℕ) (keep : ℕ → View) (v : ℕ) → Core w z words keep → v < z.workers → Orderly (keep v)
 
--- A plain word that is read in a cell of the table, while nothing of the worker is open, is kept as read.
-abbrev pub PlainReadsAreKept : Type 0
-PlainReadsAreKept = (z : Shape) (v : View) (c word : ℕ) → v.side.current ≡ None → c < cell_count z → IsPlain word
-    → Contains (kept_of z (noted z v (reads (reading.Cell c)) word)) (kept c (value_of word))
+-- A plain word that is read in a cell of the table, while nothing of the worker is open, is kept as read, and comes first.
+abbrev pub PlainReadsComeFirst : Type 0
+PlainReadsComeFirst = (z : Shape) (v : View) (c word : ℕ) → v.side.current ≡ None → c < cell_count z → IsPlain word
+    → kept_of z (noted z v (reads (reading.Cell c)) word) ≡ kept c (value_of word) ∷ kept_of z v
 
 -- What was read of a cell of the table is kept, and stays so in each step.
 abbrev pub ReadsAreKept : Type 0

@@ -2,7 +2,7 @@
 
 ghost use Rattle.rh_history.specs.Laws.{Happened, OwnSoFar, Ended, PlainWords};
 ghost use Rattle.rh_history.specs.OwnActs.{StepsFinish, KeptIsOrderly};
-ghost use Rattle.rh_history.specs.OwnActs.{PlainReadsAreKept, ReadsAreKept, ReadsStay};
+ghost use Rattle.rh_history.specs.OwnActs.{PlainReadsComeFirst, ReadsAreKept, ReadsStay};
 ghost use Rattle.rh_history.specs.Rounds.{RoundsBegin, RoundsFollow, RoundsJoin};
 
 /// At any moment the acts of a table's world are a list of acts that meet their old values, each of a
@@ -33,7 +33,7 @@ pub fn own_acts()
 
 /// What a worker read of a cell while nothing of it was open is kept, and stays so.
 pub fn reads()
-    ensures plain { PlainReadsAreKept }
+    ensures plain { PlainReadsComeFirst }
     ensures kept { ReadsAreKept }
     ensures stay { ReadsStay }
 {}

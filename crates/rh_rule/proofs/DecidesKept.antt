@@ -1,5 +1,5 @@
 -- Decides.
-use Rattle.std.proofs.Common.{◌≡◌, ◌≢◌, ℕ, eqb, ◌<◌, ◌^◌, Bool, true, false, true≢false, cond, List, set, sym, refl, ap, ◌∙◌, subst, ⊎_elim}
+use Rattle.std.proofs.Common.{◌≡◌, ◌≢◌, ℕ, eqb, ◌<◌, ◌≤◌, ◌^◌, Bool, true, false, true≢false, cond, List, set, sym, refl, ap, ◌∙◌, subst, ⊎_elim}
 use Rattle.std.proofs.lemmas.List.{set-get_or}
 use Rattle.rh_tagword.specs.declared.limits.TheConstants.{UNDECIDED}
 use Rattle.rh_world.specs.World.{Cell, Control, In, IsDecided, IsOpened, Ref, World, updated, updated_ref}
@@ -27,7 +27,7 @@ use Rattle.rh_rule.proofs.Frames.{word_new, word_same}
 use Rattle.rh_rule.proofs.Kept.{kept_stays, mirrors, over_grows}
 use Rattle.rh_rule.proofs.ReadsKept.{grows_control, known_note}
 use Rattle.rh_rule.proofs.Said.{control_said_is, is_undecided, undecided_test}
-use Rattle.rh_rule.proofs.Touched.{cells_same, counter_same, others_stay, own_same, rows_same, set_sized}
+use Rattle.rh_rule.proofs.Touched.{cells_same, counter_same, marks_stay, others_stay, own_same, rows_same, set_sized}
 
 -- the world after: the control alone is of interest to the words
 record OnlyControl (w v : World) (control : Ref → Control) : Type 0 where
@@ -63,8 +63,9 @@ undecided_is (failed e) h = absurd (true≢false (sym h))
 pub controls_new : (z : Shape) (words : List ℕ) (keep : ℕ → View) (w : World) (side : ℕ → Side) → Mirrors z words keep w side
     → (d : Ref) (r : Control) (v : World) → IsDesc z d → ((e : ℕ) → r ≡ failed e → e < 2 ^ 20)
     → ((f : Ref) → v.control f ≡ updated_ref w.control d r f)
+    → Steady w v → (r ≡ withdrawn → z.mark_room ≤ v.marks_used d.worker)
     → Controls z (set words (place_of z (part.Control d.worker d.number)) (number_of r)) v
-controls_new z words keep w side m d r v here small same = record {
+controls_new z words keep w side m d r v here small same l full = record {
   controls = λ f there. ⊎_elim
       (λ (p : (f ≡ d) × (updated_ref w.control d r f ≡ r)).
       ap (λ (x : Ref). word_at z (set words (place_of z (part.Control d.worker d.number)) (number_of r)) (part.Control x.worker x.number)) p.0
@@ -81,6 +82,10 @@ controls_new z words keep w side m d r v here small same = record {
   failures = λ f e q. ⊎_elim
       (λ (p : (f ≡ d) × (updated_ref w.control d r f ≡ r)). small e (sym p.1 ∙ sym (same f) ∙ q))
       (λ (p : (f ≢ d) × (updated_ref w.control d r f ≡ w.control f)). m.controls.failures f e (sym p.1 ∙ sym (same f) ∙ q))
+      (updated_ref_at w.control d f r);
+  withdrawals = λ f q. ⊎_elim
+      (λ (p : (f ≡ d) × (updated_ref w.control d r f ≡ r)). subst (λ (x : Ref). z.mark_room ≤ v.marks_used x.worker) (sym p.0) (full (sym p.1 ∙ sym (same f) ∙ q)))
+      (λ (p : (f ≢ d) × (updated_ref w.control d r f ≡ w.control f)). marks_stay z.mark_room w v l f.worker (m.controls.withdrawals f (sym p.1 ∙ sym (same f) ∙ q)))
       (updated_ref_at w.control d f r);
 }
 
@@ -124,6 +129,14 @@ module _ (z : Shape) (shape : IsShape z) (words : List ℕ) (keep : ℕ → View
   small withdrawn q e is = cc
   small (failed i) q e is = (let same : i ≡ e = cc in subst (λ (x : ℕ). x < 2 ^ 20) same q)
 
+  -- it is withdrawn by its own worker, where no mark is left
+  full : (r : Control) → MayDecide k.side k.worker d r → IsResult z k r → r ≡ withdrawn → z.mark_room ≤ w.marks_used d.worker
+  full unused q i is = absurd q
+  full undecided q i is = absurd q
+  full succeeded q i is = cc
+  full withdrawn q i is = subst (λ (u : ℕ). z.mark_room ≤ w.marks_used u) (sym (q ∙ h.worker)) (subst (λ (n : ℕ). z.mark_room ≤ n) h.marks_used i)
+  full (failed e) q i is = cc
+
   test : eqb word UNDECIDED ≡ is_undecided (w.control d)
   test = ap (λ (n : ℕ). eqb n UNDECIDED) (m.controls.controls d can.desc) ∙ undecided_test (w.control d)
 
@@ -161,7 +174,8 @@ module _ (z : Shape) (shape : IsShape z) (words : List ℕ) (keep : ℕ → View
             (set_sized z words keep w side m p can.desc n v l)
             (counter_same z words keep w side m p can.desc n v l (λ q. cc) only.counter)
             (cells_same z words keep w side m p can.desc n v l (λ c q. cc) (λ c. ap (λ (f : ℕ → Cell). f c) only.cell))
-            (controls_new z words keep w side m d r v can.desc (small r can.result) (λ f. ap (λ (g : Ref → Control). g f) only.control_is))
+            (controls_new z words keep w side m d r v can.desc (small r can.result) (λ f. ap (λ (g : Ref → Control). g f) only.control_is) l
+            (λ q. subst (λ (n : ℕ). z.mark_room ≤ n) (sym (marks d.worker)) (full r can.may can.result q)))
             (rows_same z words keep w side m p can.desc n v l (λ o. o) numbers back (λ y o. subst (λ (i : ℕ). y.number < i) (marks y.worker) o))
             (kept_stays z words (set words (place_of z p) n) w v l t s who k (x r) (numbers who) (marks who) (λ i o. back record { worker = who; number = i } o) (own_same z words keep w side m p can.desc n v l who mine (λ o. o)) side_is (over r) h)
             (others_stay z words keep w side m p can.desc n v l who (λ u ne. numbers u) (λ u ne. marks u) (λ f ne o. back f o) (λ u ne o. o));

@@ -243,7 +243,7 @@ module _ (z : Shape) (shape : IsShape z) (words : List ℕ) (keep : ℕ → View
             (set_sized z words keep w side m p here (number_of undecided) v l)
             (counter_same z words keep w side m p here (number_of undecided) v l (λ q. cc) refl)
             (cells_same z words keep w side m p here (number_of undecided) v l (λ c q. cc) (λ c. refl))
-            (controls_new z words keep w side m d undecided v here (λ e q. cc) (λ f. refl))
+            (controls_new z words keep w side m d undecided v here (λ e q. cc) (λ f. refl) l (λ q. cc))
             record {
               descs = λ f o. ⊎_elim (λ (e : f ≡ d). subst (λ (x : Ref). DescRow z then v x) (sym e) new_row)
                   (λ (o : IsOpened (w.control f)). let at = m.controls.descs f o in desc_row_stays z words then w v l f at o (numbers_within z words keep w side m f.worker at.0) (more f.worker) (fixed_same z words keep w side m p here (number_of undecided) v l (λ i. i)) (m.rows.descs f o)) (opened_or f o);

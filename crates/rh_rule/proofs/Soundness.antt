@@ -1,25 +1,32 @@
 -- What a worker may rely on follows from the rule.
-use Rattle.std.proofs.Common.{◌≡◌, ℕ, ◌+◌, ◌<◌, ◌≤◌, List, get_or, sym, refl, ap, ◌∙◌, subst, ⊎_elim, arith}
+use Rattle.std.proofs.Common.{◌≡◌, ℕ, ◌+◌, ◌<◌, ◌≤◌, List, [], ◌∷◌, length, inl, inr, get_or, sym, refl, ap, ◌∙◌, subst, ⊎_elim, arith}
 use Rattle.rh_tagword.specs.Word.{tag_of}
 use Rattle.rh_tagword.specs.declared.limits.TheConstants.{UNUSED}
-use Rattle.rh_world.specs.World.{Cell, IsOpened, Ref, World}
+use Rattle.rh_world.specs.World.{Cell, In, IsOpened, Ref, World}
+use Rattle.rh_world.specs.World.Control.{withdrawn}
+use Rattle.rh_world.proofs.Updated.{ref_path}
 use Rattle.rh_world.specs.Notes.Note.{decided, desc_is, found, known, new_is, old_is, size_is, target_is, which_is}
 use Rattle.rh_world.specs.Sides.{Side}
 use Rattle.rh_world.specs.Rule.{Rule}
 use Rattle.rh_world.proofs.EndsKept.{claims_share_out}
 use Rattle.rh_descriptor.specs.declared.shape.Shape.{Shape}
+use Rattle.rh_descriptor.specs.declared.shape.Part.{Part}
 use Rattle.rh_descriptor.specs.declared.shape.Part.TheVariants as part
 use Rattle.rh_descriptor.specs.declared.reference.Reading.{Reading}
 use Rattle.rh_descriptor.specs.declared.reference.Reading.TheVariants as reading
 use Rattle.rh_descriptor.specs.Places.{IsShape, cell_count}
-use Rattle.rh_descriptor.specs.View.{View}
+use Rattle.rh_descriptor.specs.View.{OwnDesc, View}
 use Rattle.rh_descriptor.specs.Words.{cell_in, desc_in, read_control, ref_of}
-use Rattle.rh_descriptor.specs.Steps.{IsDesc, IsNoted, IsRead, IsStep, Step, place, place_read}
-use Rattle.rh_rule.specs.Mirrors.{IsCell, Kept, word_at, Mirrors}
-use Rattle.rh_rule.specs.Sound.{Finds, Reads, Sound, StepsFind, ViewsAreSound}
+use Rattle.rh_descriptor.specs.Steps.{IsDesc, IsKnown, IsNoted, IsRead, IsStep, Step, place, place_read, row_of, row_word}
+use Rattle.rh_rule.specs.Mirrors.{DescRow, IsCell, IsOpenedSo, IsOwn, Kept, Mirrors, numbers_of, word_at}
+use Rattle.rh_rule.specs.Sound.{Finds, OwnRow, Reads, Sound, StepsFind, ViewsAreSound}
 use Rattle.rh_rule.proofs.OpensKept.{word_is}
 use Rattle.rh_rule.proofs.ReadsKept.{mark_known, opened_known, reads_desc_control, true_note, work_known}
 use Rattle.rh_rule.proofs.Said.{cell_said_is, desc_said_is}
+
+number_in : (os : List OwnDesc) (n : ℕ) → In n (numbers_of os) → (o : OwnDesc) × In o os × (o.number ≡ n)
+number_in [] n h = absurd h
+number_in (o ∷ os) n h = ⊎_elim (λ (e : n ≡ o.number). (o, inl refl, sym e)) (λ i. let r = number_in os n i in (r.0, inr r.1, r.2)) h
 
 module _ (z : Shape) (shape : IsShape z) (words : List ℕ) (keep : ℕ → View) (w : World) (side : ℕ → Side) (rule : Rule w side) (m : Mirrors z words keep w side) (who : ℕ) (mine : who < z.workers) where
   abbrev v : View
@@ -27,6 +34,34 @@ module _ (z : Shape) (shape : IsShape z) (words : List ℕ) (keep : ℕ → View
 
   h : Kept z words w (side who) who v
   h = m.kept who mine
+
+  -- an own word is the one that was written
+  own_word : (q : Part) → IsOwn z v.worker q → word_at z words q ≡ row_word v.written (row_of z q)
+  own_word q own = h.written q (subst (λ (u : ℕ). IsOwn z u q) h.worker own)
+
+  row : (d : Ref) → d.worker ≡ v.worker → IsKnown v.side.notes d → OwnRow v d
+  row d own i =
+      let opened = opened_known z shape words keep w side rule m who mine d i in
+      let of_who : d.worker ≡ who = own ∙ h.worker in
+      let same : d ≡ record { worker = who; number = d.number } = ref_path d (record { worker = who; number = d.number }) of_who refl in
+      let found = number_in v.opened d.number (h.all d.number (subst (λ (x : Ref). IsOpened (w.control x)) same opened)) in
+      let o : OwnDesc = found.0 in
+      let r : DescRow z words w d = m.rows.descs d opened in
+      let is : IsOpenedSo w d o = subst (λ (x : Ref). IsOpenedSo w x o) (ref_path (record { worker = who; number = o.number }) d (sym of_who) found.2) (h.opened o found.1) in
+      let next : w.next_number d.worker ≡ v.next_number = ap w.next_number of_who ∙ sym h.next_number in
+      let room : d.number + w.size d ≤ w.next_number d.worker = r.room in
+      let some : 0 < w.size d = r.some in
+      let entry_room : v.next_number ≤ z.entry_room = h.entry_room in
+      let inside : (e : ℕ) → e < length o.entries → d.number + e < z.entry_room = λ e lt. (let size : w.size d ≡ length o.entries = is.size in omega arith) in
+      record {
+        own = o;
+        here = found.1;
+        number = found.2;
+        size = sym (own_word (part.Length d.worker d.number) (own, omega arith)) ∙ r.length ∙ is.size;
+        cells = λ e lt. sym (own_word (part.EntryCell d.worker (d.number + e)) (own, inside e lt)) ∙ r.targets e (subst (λ (n : ℕ). e < n) (sym is.size) lt) ∙ is.targets e lt;
+        olds = λ e lt. sym (own_word (part.EntryOld d.worker (d.number + e)) (own, inside e lt)) ∙ r.olds e (subst (λ (n : ℕ). e < n) (sym is.size) lt) ∙ is.olds e lt;
+        news = λ e lt. sym (own_word (part.EntryNew d.worker (d.number + e)) (own, inside e lt)) ∙ r.news e (subst (λ (n : ℕ). e < n) (sym is.size) lt) ∙ is.news e lt;
+      }
 
   pub sound : Sound z v
   sound = record {
@@ -69,6 +104,11 @@ module _ (z : Shape) (shape : IsShape z) (words : List ℕ) (keep : ℕ → View
         let b : (keep d.worker).next_number ≤ z.entry_room = k.entry_room in
         (at, omega arith);
     results = λ d k i. (true_note z shape words keep w side rule m who mine (decided d k) tt refl i).0;
+    withdrawals = λ d own i.
+        let is : w.control d ≡ withdrawn = (true_note z shape words keep w side rule m who mine (decided d withdrawn) tt refl i).1 in
+        let full : z.mark_room ≤ w.marks_used d.worker = m.controls.withdrawals d is in
+        subst (λ (n : ℕ). z.mark_room ≤ n) (ap w.marks_used (own ∙ h.worker) ∙ sym h.marks_used) full;
+    rows = row;
     one_size = λ d a b i j. sym (true_note z shape words keep w side rule m who mine (size_is d a) tt refl i).1 ∙ (true_note z shape words keep w side rule m who mine (size_is d b) tt refl j).1;
     one_target = λ d e a b i j. sym (true_note z shape words keep w side rule m who mine (target_is d e a) tt refl i).1 ∙ (true_note z shape words keep w side rule m who mine (target_is d e b) tt refl j).1;
     one_old = λ d e a b i j. sym (true_note z shape words keep w side rule m who mine (old_is d e a) tt refl i).1 ∙ (true_note z shape words keep w side rule m who mine (old_is d e b) tt refl j).1;
@@ -87,7 +127,7 @@ module _ (z : Shape) (shape : IsShape z) (words : List ℕ) (keep : ℕ → View
   control_finds d here o e = o (sym (reads_desc_control z shape words keep w side rule m who mine d here (word_at z words (part.Control d.worker d.number)) refl) ∙ e)
 
   reads_find : (r : Reading) → IsRead z r → IsNoted v r → Reads z v r (get_or words (place_read z r) 0)
-  reads_find (reading.Place p) here may = tt
+  reads_find (reading.Place p) here may = λ q own e. ap (λ (n : ℕ). get_or words n 0) e ∙ own_word q own
   reads_find (reading.Cell c) here may = cell_finds c here
   reads_find (reading.Control d) here may = λ i. control_finds (ref_of d) here (opened_known z shape words keep w side rule m who mine (ref_of d) i)
   reads_find (reading.MarkControl x c d) here may =

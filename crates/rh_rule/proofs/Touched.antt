@@ -1,5 +1,5 @@
 -- A step that sets the word of one part: what stays of the mirror.
-use Rattle.std.proofs.Common.{◌≡◌, ◌≢◌, ℕ, ◌<◌, List, length, set, sym, ap, ◌∙◌, subst, length-set}
+use Rattle.std.proofs.Common.{zero, suc, ◌≡◌, ◌≢◌, ℕ, ◌<◌, ◌≤◌, arith, List, length, set, sym, ap, ◌∙◌, subst, length-set}
 use Rattle.rh_world.specs.World.{Cell, IsOpened, IsUsed, Ref, World}
 use Rattle.rh_world.specs.Later.{Steady}
 use Rattle.rh_world.specs.Sides.{Side}
@@ -36,6 +36,11 @@ fixed_part z w (part.MarkDesc worker n) o = (o.0, o.2)
 fixed_part z w (part.MarkEntry worker n) o = (o.0, o.2)
 fixed_part z w part.Counter o = absurd o
 
+-- marks that are used up stay so
+pub marks_stay : (room : ℕ) (w v : World) → Steady w v → (u : ℕ) → room ≤ w.marks_used u → room ≤ v.marks_used u
+marks_stay zero w v l u h = omega arith
+marks_stay (suc last) w v l u h = (let used : last < v.marks_used u = l.marks record { worker = u; number = last } (omega arith) in omega arith)
+
 module _ (z : Shape) (words : List ℕ) (keep : ℕ → View) (w : World) (side : ℕ → Side) (m : Mirrors z words keep w side) (p : Part) (here : IsPart z p) (n : ℕ) (v : World) (l : Steady w v) where
   abbrev pub then : List ℕ
   then = set words (place_of z p) n
@@ -65,6 +70,7 @@ module _ (z : Shape) (words : List ℕ) (keep : ℕ → View) (w : World) (side 
     controls = λ d h. word_same z words p n here (part.Control d.worker d.number) h (ne d.worker d.number) ∙ m.controls.controls d h ∙ ap number_of (sym (same d));
     descs = λ d o. m.controls.descs d (λ e. o (same d ∙ e));
     failures = λ d e q. m.controls.failures d e (sym (same d) ∙ q);
+    withdrawals = λ d q. marks_stay z.mark_room w v l d.worker (m.controls.withdrawals d (sym (same d) ∙ q));
   }
 
   pub rows_same : (IsFixed z w p → ⊥) → ((u : ℕ) → v.next_number u ≡ w.next_number u)

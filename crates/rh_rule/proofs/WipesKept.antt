@@ -76,6 +76,7 @@ fresh z words opening keep before sized cells plain_cells zeros s workers is =
             controls = λ d h. let i = control_number z d.worker d.number h.0 h.1 in ap (λ (n : ℕ). get_or words n 0) i.2 ∙ zeros i.0 i.1;
             descs = λ d o. absurd (o refl);
             failures = λ d e q. cc;
+            withdrawals = λ d q. cc;
           };
           rows = record { descs = λ d o. absurd (o refl); marks = λ x u. absurd (omega arith) };
           kept = λ v lt. subst (λ (k : View). Kept z words w (side v) v k) (sym (is v lt)) record {

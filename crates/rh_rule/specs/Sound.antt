@@ -1,19 +1,31 @@
 -- What a worker may rely on: what the words say that it finds, and that what it noted fits the table and does not
 -- contradict itself. (own)
-use Rattle.std.specs.Prelude.{◌≡◌, ℕ, ◌+◌, ◌<◌, ◌≤◌, ◌⊎◌, Some, List, slice_index}
+use Rattle.std.specs.Prelude.{◌≡◌, ℕ, ◌+◌, ◌<◌, ◌≤◌, ◌⊎◌, Some, List, length, slice_index}
 use Rattle.rh_tagword.specs.declared.limits.TheConstants.{UNUSED}
 use Rattle.rh_world.specs.World.{Ref, Control, World, IsOpened, IsDecided, In}
+use Rattle.rh_world.specs.World.Control.{withdrawn}
 use Rattle.rh_world.specs.Notes.Note.{size_is, target_is, old_is, new_is, decided, desc_is, which_is, found}
 use Rattle.rh_world.specs.Moves.{MayWork}
 use Rattle.rh_descriptor.specs.declared.shape.Shape.{Shape}
+use Rattle.rh_descriptor.specs.declared.shape.Part.{Part}
 use Rattle.rh_descriptor.specs.declared.reference.Reading.{Reading}
 use Rattle.rh_descriptor.specs.declared.reference.Reading.TheVariants as reading
-use Rattle.rh_descriptor.specs.Places.{IsShape, cell_count}
-use Rattle.rh_descriptor.specs.View.{View}
+use Rattle.rh_descriptor.specs.Places.{IsShape, cell_count, entry_row, place_of}
+use Rattle.rh_descriptor.specs.View.{OwnDesc, View}
 use Rattle.rh_descriptor.specs.Words.{IsPlain, cell_in, desc_in, read_control, ref_of}
-use Rattle.rh_descriptor.specs.Steps.{Allowed, IsDesc, IsKnown, IsMark, KnowsMark, Step, place}
-use Rattle.rh_rule.specs.Mirrors.{IsCell}
+use Rattle.rh_descriptor.specs.Steps.{Allowed, IsDesc, IsKnown, IsMark, KnowsMark, Step, entry_of, place, row_of, row_word}
+use Rattle.rh_rule.specs.Mirrors.{IsCell, IsOwn}
 use Rattle.rh_rule.specs.Core.{Core}
+
+-- the rows of an own descriptor say the entries that are kept of it, by what the worker wrote there
+pub record OwnRow (v : View) (d : Ref) : Type 0 where
+  pub own : OwnDesc
+  pub here : In own v.opened
+  pub number : own.number ≡ d.number
+  pub size : row_word v.written (entry_row d.number 1) ≡ length own.entries
+  pub cells : (e : ℕ) → e < length own.entries → row_word v.written (entry_row (d.number + e) 2) ≡ (entry_of own.entries e).cell
+  pub olds : (e : ℕ) → e < length own.entries → row_word v.written (entry_row (d.number + e) 3) ≡ (entry_of own.entries e).old
+  pub news : (e : ℕ) → e < length own.entries → row_word v.written (entry_row (d.number + e) 4) ≡ (entry_of own.entries e).new
 
 -- what is noted of a worker's view
 pub record Sound (z : Shape) (v : View) : Type 0 where
@@ -29,6 +41,10 @@ pub record Sound (z : Shape) (v : View) : Type 0 where
   pub marks : (x : Ref) (c : ℕ) → In (found x c) v.side.notes → IsMark z x × (c < cell_count z)
   pub marked : (d : Ref) (e : ℕ) → KnowsMark v.side.notes d e → IsDesc z d × (d.number + e < z.entry_room)
   pub results : (d : Ref) (k : Control) → In (decided d k) v.side.notes → IsDecided k
+  -- a descriptor of its own was withdrawn only where no mark is left
+  pub withdrawals : (d : Ref) → d.worker ≡ v.worker → In (decided d withdrawn) v.side.notes → z.mark_room ≤ v.marks_used
+  -- what it wrote of its own descriptors is what is kept of them
+  pub rows : (d : Ref) → d.worker ≡ v.worker → IsKnown v.side.notes d → OwnRow v d
   -- it noted no two answers to one question
   pub one_size : (d : Ref) (m n : ℕ) → In (size_is d m) v.side.notes → In (size_is d n) v.side.notes → m ≡ n
   pub one_target : (d : Ref) (e b c : ℕ) → In (target_is d e b) v.side.notes → In (target_is d e c) v.side.notes → b ≡ c
@@ -40,7 +56,7 @@ pub record Sound (z : Shape) (v : View) : Type 0 where
 
 -- what a word says that is read
 abbrev pub Reads : Shape → View → Reading → (word : ℕ) → Type 0
-Reads z v (reading.Place p) word = Unit {0}
+Reads z v (reading.Place p) word = (q : Part) → IsOwn z v.worker q → p ≡ place_of z q → word ≡ row_word v.written (row_of z q)
 Reads z v (reading.Cell c) word = IsCell z (cell_in word)
 Reads z v (reading.Control d) word = IsKnown v.side.notes (ref_of d) → IsOpened (read_control word)
 Reads z v (reading.MarkControl x c d) word = IsOpened (read_control word)

@@ -103,12 +103,12 @@ module _ (kind : Kind) (z : Shape) (keys : List ℕ) (acts : List Act) (earlier 
 
 -- ---- by its own step
 
-module _ (kind : Kind) (z : Shape) (v next : View) (keys : List ℕ) (acts : List Act) (earlier : List Kept) (done : List ℕ) (told : List Bool) (s : Step) (words then : List ℕ) (word : ℕ) (allowed : Allowed z v s) (steps : StepsTo z s words v word then next) (sound : Sound z next) (is : Doing z kind v keys acts earlier done told) where
+module _ (kind : Kind) (z : Shape) (v next : View) (keys : List ℕ) (acts : List Act) (earlier : List Kept) (done : List ℕ) (told : List Bool) (s : Step) (word : ℕ) (allowed : Allowed z v s) (steps : next ≡ noted z v s word) (sound : Sound z next) (is : Doing z kind v keys acts earlier done told) where
   finishes_so : StepFinishes v next
-  finishes_so = subst (StepFinishes v) (sym steps.view_is) (steps_finish z v s word allowed (subst (Sound z) steps.view_is sound) is.orderly)
+  finishes_so = subst (StepFinishes v) (sym steps) (steps_finish z v s word allowed (subst (Sound z) steps sound) is.orderly)
 
   stay_kept : (r : Kept) → Contains (kept_of z v) r → Contains (kept_of z next) r
-  stay_kept r h = subst (λ (x : View). Contains (kept_of z x) r) (sym steps.view_is) ((reads_stay z v s word).1 r h)
+  stay_kept r h = subst (λ (x : View). Contains (kept_of z x) r) (sym steps) ((reads_stay z v s word).1 r h)
 
   at_key : (k : ℕ) (answer : Option Bool) → Contains keys k → Advances z kind k v next answer → Doing z kind next keys acts earlier (also_done done k answer) (also_told told answer)
   at_key k answer mine a = advances kind z keys acts earlier v next done told is finishes_so stay_kept k mine answer a
@@ -117,13 +117,13 @@ module _ (kind : Kind) (z : Shape) (v next : View) (keys : List ℕ) (acts : Lis
   at_none on = goes_on kind z keys acts earlier v next done told is finishes_so stay_kept on
 
 pub worker_steps : WorkerSteps
-worker_steps kind z v next keys acts earlier done told s words then word k answer allowed steps sound mine a is =
-    at_key kind z v next keys acts earlier done told s words then word allowed steps sound is k answer mine a
+worker_steps kind z v next keys acts earlier done told s word k answer allowed steps sound mine a is =
+    at_key kind z v next keys acts earlier done told s word allowed steps sound is k answer mine a
 
 pub worker_claims : WorkerClaims
-worker_claims kind z v next keys acts earlier done told words then word allowed steps sound is =
-    at_none kind z v next keys acts earlier done told Step.claims words then word allowed steps sound is
-    record { opened = ap (λ (x : View). x.opened) steps.view_is; current = ap (λ (x : View). x.side.current) steps.view_is }
+worker_claims kind z v next keys acts earlier done told word allowed steps sound is =
+    at_none kind z v next keys acts earlier done told Step.claims word allowed steps sound is
+    record { opened = ap (λ (x : View). x.opened) steps; current = ap (λ (x : View). x.side.current) steps }
 
 -- ---- the run
 
@@ -194,14 +194,14 @@ module _ (kind : Kind) (z : Shape) (opening words then : List ℕ) (keep : ℕ �
 pub run_steps : RunSteps
 run_steps kind z opening words then keep keys done told who s word next k answer shape lt allowed steps mine a run =
     run_then kind z opening words then keep keys done told who s word next shape lt allowed steps run (also_done (done who) k answer) (also_told (told who) answer)
-    (worker_steps kind z (keep who) next (keys who) (own who run.before) (run.reads who) (done who) (told who) s words then word k answer allowed steps
+    (worker_steps kind z (keep who) next (keys who) (own who run.before) (run.reads who) (done who) (told who) s word k answer allowed steps.view_is
     (sound_then kind z opening words then keep keys done told who s word next shape lt allowed steps run) mine a (run.doing who lt))
 
 pub run_claims : RunClaims
 run_claims kind z opening words then keep keys done told who word next shape lt allowed steps run =
     let same : Running kind z opening then (updated keep who next) keys (updated done who (done who)) (updated told who (told who)) =
     run_then kind z opening words then keep keys done told who Step.claims word next shape lt allowed steps run (done who) (told who)
-    (worker_claims kind z (keep who) next (keys who) (own who run.before) (run.reads who) (done who) (told who) words then word allowed steps
+    (worker_claims kind z (keep who) next (keys who) (own who run.before) (run.reads who) (done who) (told who) word allowed steps.view_is
     (sound_then kind z opening words then keep keys done told who Step.claims word next shape lt allowed steps run) (run.doing who lt)) in
     subst (λ (t : ℕ → List Bool). Running kind z opening then (updated keep who next) keys done t) (same_updated told who)
     (subst (λ (d : ℕ → List ℕ). Running kind z opening then (updated keep who next) keys d (updated told who (told who))) (same_updated done who) same)

@@ -13,7 +13,7 @@ use Rattle.rh_descriptor.specs.declared.shape.Shape.{Shape}
 use Rattle.rh_descriptor.specs.Places.{IsShape, cell_count}
 use Rattle.rh_descriptor.specs.View.{View, new_view, round_view}
 use Rattle.rh_descriptor.specs.Words.{cell_in}
-use Rattle.rh_descriptor.specs.Steps.{Allowed, Step, StepsTo}
+use Rattle.rh_descriptor.specs.Steps.{Allowed, Step, StepsTo, noted}
 use Rattle.rh_rule.specs.Core.{Core}
 use Rattle.rh_rule.specs.Rest.{AllRest}
 use Rattle.rh_rule.specs.Sound.{Sound}
@@ -36,15 +36,15 @@ WorkerStarts = (kind : Kind) (z : Shape) (cells : List ℕ) (worker : ℕ) (keys
 -- A step at one of its keys, where what the step leaves noted is sound, as each step tells its worker.
 abbrev pub WorkerSteps : Type 0
 WorkerSteps = (kind : Kind) (z : Shape) (v next : View) (keys : List ℕ) (acts : List Act) (reads : List Kept) (done : List ℕ) (told : List Bool)
-    (s : Step) (words then : List ℕ) (word k : ℕ) (answer : Option Bool)
-    → Allowed z v s → StepsTo z s words v word then next → Sound z next → Contains keys k → Advances z kind k v next answer
+    (s : Step) (word k : ℕ) (answer : Option Bool)
+    → Allowed z v s → next ≡ noted z v s word → Sound z next → Contains keys k → Advances z kind k v next answer
     → Doing z kind v keys acts reads done told → Doing z kind next keys acts reads (also_done done k answer) (also_told told answer)
 
 -- A Claim does nothing of a key.
 abbrev pub WorkerClaims : Type 0
 WorkerClaims = (kind : Kind) (z : Shape) (v next : View) (keys : List ℕ) (acts : List Act) (reads : List Kept) (done : List ℕ) (told : List Bool)
-    (words then : List ℕ) (word : ℕ)
-    → Allowed z v Step.claims → StepsTo z Step.claims words v word then next → Sound z next
+    (word : ℕ)
+    → Allowed z v Step.claims → next ≡ noted z v Step.claims word → Sound z next
     → Doing z kind v keys acts reads done told → Doing z kind next keys acts reads done told
 
 -- In a further round what it did and read is of an earlier one.

@@ -49,7 +49,7 @@ fn the_words_can_be_counted(rt: HostRuntime) -> Result<(), Fail> {
 fn a_claim_takes_the_next_place(rt: HostRuntime) -> Result<(), Fail> {
     let mut words = [0u64; 121];
     let mut side = Side::new(1, &[0; 8]);
-    assert_eq!(rt; claim_key(&SHAPE, &mut words, &mut side), 0);
+    assert_eq!(rt; make_step(&SHAPE, &mut words, &mut side, Ask::Claim), 0);
     assert_eq!(rt; words[120], 1);
     Ok(())
 }
@@ -62,12 +62,11 @@ fn a_word_of_an_own_row_is_written_and_read(rt: HostRuntime) -> Result<(), Fail>
         worker: 1,
         entry: 7,
     };
-    write_word(&SHAPE, &mut words, &mut side, part, 40);
+    let write = Ask::Write { part, word: 40 };
+    assert_eq!(rt; make_step(&SHAPE, &mut words, &mut side, write), 0);
     assert_eq!(rt; words[102], 40);
-    assert_eq!(rt;
-        read_word(&SHAPE, &words, &mut side, Reading::Place(102)),
-        40
-    );
+    let read = Ask::Read(Reading::Place(102));
+    assert_eq!(rt; make_step(&SHAPE, &mut words, &mut side, read), 40);
     Ok(())
 }
 
@@ -76,47 +75,28 @@ fn a_word_of_an_own_row_is_written_and_read(rt: HostRuntime) -> Result<(), Fail>
 fn one_worker_changes_one_cell(rt: HostRuntime) -> Result<(), Fail> {
     let mut words = [0u64; 121];
     let mut side = Side::new(0, &[0; 8]);
-    write_word(
-        &SHAPE,
-        &mut words,
-        &mut side,
-        Part::Length {
-            worker: 0,
-            entry: 0,
-        },
-        1,
-    );
-    write_word(
-        &SHAPE,
-        &mut words,
-        &mut side,
-        Part::EntryCell {
-            worker: 0,
-            entry: 0,
-        },
-        4,
-    );
-    write_word(
-        &SHAPE,
-        &mut words,
-        &mut side,
-        Part::EntryOld {
-            worker: 0,
-            entry: 0,
-        },
-        0,
-    );
-    write_word(
-        &SHAPE,
-        &mut words,
-        &mut side,
-        Part::EntryNew {
-            worker: 0,
-            entry: 0,
-        },
-        8,
-    );
-    open_desc(&SHAPE, &mut words, &mut side, 1);
+    let (worker, entry) = (0, 0);
+    let write = Ask::Write {
+        part: Part::Length { worker, entry },
+        word: 1,
+    };
+    make_step(&SHAPE, &mut words, &mut side, write);
+    let write = Ask::Write {
+        part: Part::EntryCell { worker, entry },
+        word: 4,
+    };
+    make_step(&SHAPE, &mut words, &mut side, write);
+    let write = Ask::Write {
+        part: Part::EntryOld { worker, entry },
+        word: 0,
+    };
+    make_step(&SHAPE, &mut words, &mut side, write);
+    let write = Ask::Write {
+        part: Part::EntryNew { worker, entry },
+        word: 8,
+    };
+    make_step(&SHAPE, &mut words, &mut side, write);
+    make_step(&SHAPE, &mut words, &mut side, Ask::Open { entries: 1 });
     let desc = Ref {
         worker: 0,
         number: 0,
@@ -126,48 +106,48 @@ fn one_worker_changes_one_cell(rt: HostRuntime) -> Result<(), Fail> {
         entry: 0,
         cell: 4,
     };
-    write_word(
-        &SHAPE,
-        &mut words,
-        &mut side,
-        Part::MarkDesc { worker: 0, mark: 0 },
-        2,
-    );
-    write_word(
-        &SHAPE,
-        &mut words,
-        &mut side,
-        Part::MarkEntry { worker: 0, mark: 0 },
-        0,
-    );
-    let found = place_mark(&SHAPE, &mut words, &mut side, piece, 0);
-    assert_eq!(rt; found, 0);
+    let write = Ask::Write {
+        part: Part::MarkDesc { worker: 0, mark: 0 },
+        word: 2,
+    };
+    make_step(&SHAPE, &mut words, &mut side, write);
+    let write = Ask::Write {
+        part: Part::MarkEntry { worker: 0, mark: 0 },
+        word: 0,
+    };
+    make_step(&SHAPE, &mut words, &mut side, write);
+    let place = Ask::Place { piece, old: 0 };
+    assert_eq!(rt; make_step(&SHAPE, &mut words, &mut side, place), 0);
     assert_eq!(rt; words[4], 1);
     let mark = Ref {
         worker: 0,
         number: 0,
     };
-    let reading = Reading::MarkControl {
+    let read = Ask::Read(Reading::MarkControl {
         mark,
         cell: 4,
         desc,
+    });
+    assert_eq!(rt; make_step(&SHAPE, &mut words, &mut side, read), 1);
+    let settle = Ask::Settle {
+        mark,
+        piece,
+        old: None,
     };
-    assert_eq!(rt; read_word(&SHAPE, &words, &mut side, reading), 1);
-    assert_eq!(rt;
-        settle_mark(&SHAPE, &mut words, &mut side, mark, piece, None),
-        1
-    );
+    assert_eq!(rt; make_step(&SHAPE, &mut words, &mut side, settle), 1);
     assert_eq!(rt; words[4], 2);
-    assert_eq!(rt;
-        decide_desc(&SHAPE, &mut words, &mut side, desc, Control::Succeeded),
-        1
-    );
-    assert_eq!(rt;
-        release_cell(&SHAPE, &mut words, &mut side, piece, Control::Succeeded, 8),
-        2
-    );
+    let control = Control::Succeeded;
+    let decide = Ask::Decide { desc, control };
+    assert_eq!(rt; make_step(&SHAPE, &mut words, &mut side, decide), 1);
+    let release = Ask::Release {
+        piece,
+        control,
+        value: 8,
+    };
+    assert_eq!(rt; make_step(&SHAPE, &mut words, &mut side, release), 2);
     assert_eq!(rt; words[4], 8);
-    assert_eq!(rt; read_word(&SHAPE, &words, &mut side, Reading::Cell(4)), 8);
+    let read = Ask::Read(Reading::Cell(4));
+    assert_eq!(rt; make_step(&SHAPE, &mut words, &mut side, read), 8);
     assert_eq!(rt; side.marks_used, 1);
     side.begin_round(&words[..8]);
     assert_eq!(rt; side.marks_used, 0);

@@ -21,8 +21,8 @@ use Rattle.rh_rule.specs.Core.{Core}
 use Rattle.rh_rule.specs.Mirrors.{IsCell}
 use Rattle.rh_rule.specs.Rest.{AllRest}
 use Rattle.rh_rule.proofs.Telling.{tells}
-use Rattle.rh_helping.specs.Relies.{Relies}
-use Rattle.rh_helping.proofs.Relying.{workers_may_rely}
+use Rattle.rh_steps.specs.Relies.{Relies, Serves, Shows}
+use Rattle.rh_steps.proofs.Relying.{workers_may_rely}
 use Rattle.rh_worker.specs.Worker.{IsClear, IsWorker, Stays}
 use Rattle.rh_worker.specs.declared.place.Place.{Place}
 use Rattle.rh_run.specs.Claimed.{claimed}
@@ -165,8 +165,8 @@ module _ (g : Game) (plays : Plays g) where
   plays_sized = plays.running.core.mirrors.sized
 
   -- each worker may take a turn
-  pub plays_relies : (v : ℕ) → v < z.workers → (d : Hand) → Relies z g.words (view_of (get_or g.hands v d))
-  plays_relies v mine d = subst (Relies z g.words) (kept_at v mine d) (workers_may_rely plays.running.world z g.words (keep g) v plays.shape plays.running.core mine)
+  pub plays_relies : (v : ℕ) → v < z.workers → (d : Hand) → Relies Shows Serves z g.words (view_of (get_or g.hands v d))
+  plays_relies v mine d = subst (Relies Shows Serves z g.words) (kept_at v mine d) (workers_may_rely plays.running.world z g.words (keep g) v plays.shape plays.running.core mine)
 
   pub plays_done : (v : ℕ) → v < z.workers → (d : Hand) → (get_or g.hands v d).done ≤ length g.keys
   plays_done v mine d =

@@ -9,6 +9,7 @@ use Rattle.rh_descriptor.specs.declared.steps.StepKind.TheVariants as kind
 use Rattle.rh_descriptor.specs.View.{View}
 use Rattle.rh_descriptor.specs.Steps.{Allowed, Step, StepsTo}
 use Rattle.rh_worker.specs.Makes.{Makes}
+use Rattle.rh_steps.specs.Relies.{Shows}
 use Rattle.rh_run.specs.Advance.{Advances}
 use Rattle.rh_worker.specs.Worker.{GivesUp, HasNoRoom, IsWorker}
 use Rattle.rh_worker.specs.declared.place.Place.TheVariants as place
@@ -122,7 +123,7 @@ pub record StepsOn (z : Shape) (keys : List ℕ) (k : StepKind) (words : List �
   pub unspent : IsSpent h → ⊥
   pub next_key : HasNext h.share h.done
   pub within : place_now h < length keys
-  pub makes : Makes z k words (view_of h) then (view_of next)
+  pub makes : Makes Shows StepsTo z k words (view_of h) then (view_of next)
   pub done : Option Bool
   pub advances : Advances z h.worker.kind (slice_index keys (place_now h)) (view_of h) (view_of next) done
   pub gives_up : GivesUp (view_of h) (view_of next) → IsSpent next

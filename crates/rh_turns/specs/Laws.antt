@@ -13,7 +13,7 @@ use Rattle.rh_descriptor.specs.View.{new_view, round_view}
 use Rattle.rh_rule.specs.Rest.{AllRest}
 use Rattle.rh_rule.specs.Wipes.{row_total}
 use Rattle.rh_acts.specs.Workers.{LeavesRoom, how_many, sum_of_all, tally_by}
-use Rattle.rh_helping.specs.Relies.{Relies}
+use Rattle.rh_steps.specs.Relies.{Relies, Serves, Shows}
 use Rattle.rh_worker.specs.Worker.{IsBusy, IsWorker}
 use Rattle.rh_history.specs.History.{history}
 use Rattle.rh_run.specs.Laws.{StandsSo}
@@ -67,7 +67,7 @@ StartsPlay = (g : Game) → Starts g → Plays g
 -- Each worker may take its turn.
 abbrev pub MayTurn : Type 0
 MayTurn = (g : Game) → Plays g → (v : ℕ) (other : Hand) → v < g.shape.workers
-    → Relies g.shape g.words (view_of (hand g v other)) × IsHand g.shape g.kind g.keys (hand g v other) × ((hand g v other).done ≤ length g.keys)
+    → Relies Shows Serves g.shape g.words (view_of (hand g v other)) × IsHand g.shape g.kind g.keys (hand g v other) × ((hand g v other).done ≤ length g.keys)
 
 -- the game after a turn
 abbrev pub turned : Game → (who : ℕ) → (then : List ℕ) (told : List (Option Bool)) (next : Hand) → Game

@@ -1,5 +1,5 @@
 -- The step that closes an own descriptor is a Release, which notes nothing.
-use Rattle.std.proofs.Common.{◌≡◌, ℕ, Bool, false, Some, None, List, refl, sym, ap, ◌∙◌, subst, inl}
+use Rattle.std.proofs.Common.{◌≡◌, ℕ, ◌≤◌, Bool, false, Some, None, List, refl, sym, ap, ◌∙◌, subst, inl}
 use Rattle.rh_world.specs.World.{In, Ref}
 use Rattle.rh_world.specs.Notes.{Note}
 use Rattle.rh_world.specs.Sides.{Side, is_number, open_side}
@@ -7,7 +7,7 @@ use Rattle.rh_world.proofs.Tests.{by_cond}
 use Rattle.rh_world.specs.Notes.Note.{decided}
 use Rattle.rh_world.specs.Acts.{is_success}
 use Rattle.rh_tagword.specs.declared.control.Control.{Control}
-use Rattle.rh_tagword.specs.declared.control.Control.TheVariants.{Succeeded}
+use Rattle.rh_tagword.specs.declared.control.Control.TheVariants.{Succeeded, Withdrawn}
 use Rattle.rh_ledger.specs.declared.tally.Kind.{Kind}
 use Rattle.rh_history.specs.OwnActs.{Closes}
 use Rattle.rh_history.proofs.Learning.{steps_grow}
@@ -55,7 +55,7 @@ worker_stays z v word (Step.decides d k) = refl
 worker_stays z v word (Step.releases d e c k value) = refl
 worker_stays z v word Step.claims = refl
 
-module _ (z : Shape) (kp : StepKind) (words : List ℕ) (v : View) (then : List ℕ) (next : View) (made : HasMade z kp words v then next)
+module _ {T : Type 0} {shows : Shape → T → View → Type 0} {does : Shape → Step → T → View → ℕ → T → View → Type 0} (z : Shape) (kp : StepKind) (t : T) (v : View) (then : T) (next : View) (made : HasMade shows does z kp t v then next)
     (kind : Kind) (key number : ℕ) (changes : Bool) (knows : KnowsOwn v (Some number)) (about : IsAbout z v kind key number changes)
     (k : Control) (leads : Leads z next (Some number) (Closed k)) where
   same_number : leads.0 ≡ about.own.number
@@ -70,7 +70,7 @@ module _ (z : Shape) (kp : StepKind) (words : List ℕ) (v : View) (then : List 
 
   before : In (decided (own_ref v about.own.number) (control_of k)) v.side.notes
   before =
-      let is = made.steps.view_is in
+      let is = made.view_is in
       let closed : (noted z v made.step made.word).side.current ≡ None = sym (ap (λ (n : View). n.side.current) is) ∙ leads.2.own.current in
       let same : next.worker ≡ v.worker = ap (λ (n : View). n.worker) is ∙ worker_stays z v made.word made.step in
       let here : In (decided (own_ref next leads.0) (control_of k)) (noted z v made.step made.word).side.notes = subst (λ (n : View). In (decided (own_ref next leads.0) (control_of k)) n.side.notes) is leads.2.result in
@@ -89,6 +89,11 @@ module _ (z : Shape) (kp : StepKind) (words : List ℕ) (v : View) (then : List 
 
   pub swap_fails : is_success (control_of k) ≡ false → Fails v next
   swap_fails in_vain = record { own = about.own; control = control_of k; closes = closes; opened = made.opened; before = before; in_vain = in_vain }
+
+  -- it was withdrawn: no mark is left
+  pub swap_spends : k ≡ Withdrawn → z.mark_room ≤ next.marks_used
+  swap_spends is = made.trusts.knows.sound.withdrawals (own_ref next leads.0) refl
+      (subst (λ (r : Control). In (decided (own_ref next leads.0) (control_of r)) next.side.notes) is leads.2.result)
 
   -- one that was withdrawn is closed as withdrawn
   pub swap_gives_up : Sound z v → GivesUp v next → control_of k ≡ withdrawn

@@ -1,8 +1,9 @@
 -- What is known of a worker stays so while it notes more.
-use Rattle.std.proofs.Common.{◌≡◌, ℕ, ◌<◌, false, true≢false, eq-eqb, List, length, Option, Some, None, inr, refl, sym, ap, ◌∙◌, subst, arith}
+use Rattle.std.proofs.Common.{◌≡◌, ℕ, ◌<◌, false, true≢false, eq-eqb, List, ◌∷◌, length, Option, Some, None, inr, refl, sym, ap, ◌∙◌, subst, arith}
 use Rattle.std.specs.Prelude.{MatchOption, unwrap_or}
 use Rattle.rh_tagword.specs.Word.{IsValue, is_plain, plain_number, tag_of}
-use Rattle.rh_acts.specs.Done.{kept}
+use Rattle.rh_acts.specs.Done.{Kept, kept}
+use Rattle.rh_acts.proofs.ActLemmas.{contains_head}
 use Rattle.rh_rule.specs.Mirrors.{IsCell}
 use Rattle.std.specs.List.{Contains}
 use Rattle.rh_world.specs.World.{Cell, In, Ref}
@@ -12,18 +13,19 @@ use Rattle.rh_world.specs.Notes.Note.{known, new_is, old_is, size_is, target_is}
 use Rattle.rh_world.specs.Sides.{Side, claim_side}
 use Rattle.rh_world.specs.Moves.{cell_noted}
 use Rattle.rh_history.specs.History.{kept_of, value_of}
-use Rattle.rh_history.proofs.Learning.{plain_reads_are_kept, reads_stay}
+use Rattle.rh_history.proofs.Learning.{plain_reads_come_first, reads_stay}
 use Rattle.rh_descriptor.specs.declared.shape.Shape.{Shape}
 use Rattle.rh_descriptor.specs.declared.steps.StepKind.{StepKind}
 use Rattle.rh_descriptor.specs.declared.reference.Reading.TheVariants as reading
 use Rattle.rh_descriptor.specs.Words.{IsPlain, cell_in}
 use Rattle.rh_descriptor.specs.Places.{cell_count}
 use Rattle.rh_descriptor.specs.View.{OwnDesc, View, Written}
-use Rattle.rh_descriptor.specs.Steps.{Allowed, Step, StepsTo, entry_of, noted, with_side}
+use Rattle.rh_descriptor.specs.Steps.{Allowed, Step, entry_of, noted, with_side}
 use Rattle.rh_helping.specs.Goal.{IsAllNoted, IsOpenOf, KnowsOwn, own_ref}
 use Rattle.rh_helping.specs.Settling.{Grows, HasMade, kind_of}
 use Rattle.rh_worker.specs.Worker.{HasSeen, IsClear}
 use Rattle.rh_worker.specs.Makes.{Makes}
+use Rattle.rh_steps.specs.Relies.{Went}
 use Rattle.rh_worker.specs.declared.sights.Sights.{Sights}
 
 pub record Keeps (v next : View) : Type 0 where
@@ -87,32 +89,36 @@ module _ (v next : View) (k : Keeps v next) where
   }
 
 -- a step that was made
-pub makes : (z : Shape) (s : Step) (words : List ℕ) (v : View) (word : ℕ) (then : List ℕ) (next : View) → Allowed z v s → StepsTo z s words v word then next
-    → (noted z v s word).side.claims ≡ v.side.claims → Makes z (kind_of s) words v then next
-makes z s words v word then next may to same = record {
+pub makes : {T : Type 0} {shows : Shape → T → View → Type 0} {does : Shape → Step → T → View → ℕ → T → View → Type 0} (z : Shape) (s : Step) (t : T) (v : View) (word : ℕ) (then : T) (next : View) → Allowed z v s → Went shows does z s t v word then next
+    → (noted z v s word).side.claims ≡ v.side.claims → Makes shows does z (kind_of s) t v then next
+makes z s t v word then next may to same = record {
   step = s;
   word = word;
   kind = refl;
   allowed = may;
-  steps = to;
+  view_is = to.view_is;
+  steps = to.makes;
+  trusts = to.trusts;
   claims = ap (λ (n : View). n.side.claims) to.view_is ∙ same;
   reads = λ r h. subst (λ (n : View). Contains (kept_of z n) r) (sym to.view_is) ((reads_stay z v s word).1 r h);
 }
 
-pub made_makes : (z : Shape) (k : StepKind) (words : List ℕ) (v : View) (then : List ℕ) (next : View) → HasMade z k words v then next → Makes z k words v then next
-made_makes z k words v then next m = record {
+pub made_makes : {T : Type 0} {shows : Shape → T → View → Type 0} {does : Shape → Step → T → View → ℕ → T → View → Type 0} (z : Shape) (k : StepKind) (t : T) (v : View) (then : T) (next : View) → HasMade shows does z k t v then next → Makes shows does z k t v then next
+made_makes z k t v then next m = record {
   step = m.step;
   word = m.word;
   kind = m.kind;
   allowed = m.allowed;
+  view_is = m.view_is;
   steps = m.steps;
+  trusts = m.trusts;
   claims = m.claims;
-  reads = λ r h. subst (λ (n : View). Contains (kept_of z n) r) (sym m.steps.view_is) ((reads_stay z v m.step m.word).1 r h);
+  reads = λ r h. subst (λ (n : View). Contains (kept_of z n) r) (sym m.view_is) ((reads_stay z v m.step m.word).1 r h);
 }
 
-pub has_seen : (z : Shape) (k : StepKind) (words : List ℕ) (v : View) (then : List ℕ) (next : View) → Makes z k words v then next
+pub has_seen : {T : Type 0} {shows : Shape → T → View → Type 0} {does : Shape → Step → T → View → ℕ → T → View → Type 0} (z : Shape) (k : StepKind) (t : T) (v : View) (then : T) (next : View) → Makes shows does z k t v then next
     → (key : ℕ) (s : Sights) (n : ℕ) → HasSeen z v key s n → HasSeen z next key s n
-has_seen z k words v then next m key s n h = record { within = h.within; were_read = λ p l. m.reads _ (h.were_read p l) }
+has_seen z k t v then next m key s n h = record { within = h.within; were_read = λ p l. m.reads _ (h.were_read p l) }
 
 -- ---- the Read of a cell
 
@@ -138,8 +144,17 @@ value_said (Some x) word h plain_word = (h.0, sym (ap value_of h.1 ∙ plain_val
 pub is_plain_word : (z : Shape) (word : ℕ) → plain word ≡ cell_in word → IsCell z (cell_in word) → IsPlain word
 is_plain_word z word is h = subst (IsCell z) (sym is) h
 
-pub value_kept : (z : Shape) (v : View) (c word value : ℕ) (next : View) → next ≡ noted z v (Step.reads (reading.Cell c)) word → v.side.current ≡ None → c < cell_count z → IsPlain word
-    → value ≡ value_of word → Contains (kept_of z next) (kept c value)
-value_kept z v c word value next is closed inside plain_word says =
-    subst (λ (n : View). Contains (kept_of z n) (kept c value)) (sym is)
-    (subst (λ (x : ℕ). Contains (kept_of z (noted z v (Step.reads (reading.Cell c)) word)) (kept c x)) (sym says) (plain_reads_are_kept z v c word closed inside plain_word))
+-- a plain word is kept as read, before all that were kept
+pub value_first : (z : Shape) (v : View) (c word value : ℕ) (next : View) → next ≡ noted z v (Step.reads (reading.Cell c)) word → v.side.current ≡ None → c < cell_count z → IsPlain word
+    → value ≡ value_of word → kept_of z next ≡ kept c value ∷ kept_of z v
+value_first z v c word value next is closed inside plain_word says =
+    ap (kept_of z) is ∙ plain_reads_come_first z v c word closed inside plain_word ∙ ap (λ (x : ℕ). kept c x ∷ kept_of z v) (sym says)
+
+pub value_kept : (z : Shape) (v : View) (c value : ℕ) (next : View) → kept_of z next ≡ kept c value ∷ kept_of z v → Contains (kept_of z next) (kept c value)
+value_kept z v c value next first = subst (λ (rs : List Kept). Contains rs (kept c value)) (sym first) (contains_head (kept c value) (kept_of z v))
+
+-- and nothing else that stands in a cell
+pub cell_reads : (s : Side) (c : ℕ) (k : Cell) (q : Option ℕ) (acts number : ℕ) → ((u : ℕ) → k ≡ plain u → ⊥) → (cell_noted s c k q acts number).reads ≡ s.reads
+cell_reads s c (plain u) q acts number other = absurd (other u refl)
+cell_reads s c (mark x) q acts number other = refl
+cell_reads s c (desc d) q acts number other = refl

@@ -31,7 +31,7 @@ after z v next kind k None f a = goes_on z v next kind k f a
 after z v next kind k (Some told) f a = is_done z v next kind k told f a
 
 pub keys_are_done : KeysAreDone
-keys_are_done z made words then v next kind k done m a orderly sound =
-    let is = m.steps.view_is in
+keys_are_done z v next kind k done m a orderly sound =
+    let is = m.view_is in
     let f = subst (StepFinishes v) (sym is) (steps_finish z v m.step m.word m.allowed (subst (Sound z) is sound) orderly) in
     (f.orderly, after z v next kind k done f a)

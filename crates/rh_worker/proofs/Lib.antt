@@ -1,3 +1,4 @@
+pub mod Anew
 pub mod Keeping
 pub mod Rows
 pub mod RowSteps

@@ -78,11 +78,12 @@ pub record Same (s t : Side) : Type 0 where
   pub debts : t.debts ≡ s.debts
   pub released : t.released ≡ s.released
   pub claims : t.claims ≡ s.claims
+  pub reads : t.reads ≡ s.reads
 
 module _ (s : Side) (d : Ref) (p : Entries) where
   pub entries_same : (n : ℕ) → Same s (note_entries s d p n)
-  entries_same zero = record { unsettled = refl; debts = refl; released = refl; claims = refl }
-  entries_same (suc n) = let h = entries_same n in record { unsettled = h.unsettled; debts = h.debts; released = h.released; claims = h.claims }
+  entries_same zero = record { unsettled = refl; debts = refl; released = refl; claims = refl; reads = refl }
+  entries_same (suc n) = let h = entries_same n in record { unsettled = h.unsettled; debts = h.debts; released = h.released; claims = h.claims; reads = h.reads }
 
   entries_known : (n : ℕ) → In (known d) (note_entries s d p n).notes
   entries_known zero = inr (inl refl)

@@ -5,21 +5,24 @@ use Rattle.rh_descriptor.specs.declared.shape.Shape.{Shape}
 use Rattle.rh_descriptor.specs.declared.shape.Part.{Part}
 use Rattle.rh_descriptor.specs.declared.steps.StepKind.TheVariants as kind
 use Rattle.rh_descriptor.specs.Places.{entry_row}
-use Rattle.rh_descriptor.specs.View.{View}
-use Rattle.rh_descriptor.specs.Steps.{IsFree, Step, StepsTo}
-use Rattle.rh_helping.specs.Relies.{Relies}
+use Rattle.rh_descriptor.specs.View.{View, Written}
+use Rattle.rh_descriptor.specs.Steps.{IsFree, Step}
+use Rattle.rh_steps.specs.Relies.{Relies, Went}
 use Rattle.rh_worker.specs.declared.place.Plan.{Plan}
 use Rattle.rh_worker.specs.declared.place.Place.TheVariants as place
 use Rattle.rh_worker.specs.declared.sights.Sights.{Sights}
 use Rattle.rh_worker.specs.Worker.{HasWritten, IsPlanned, Stays, planned}
+use Rattle.rh_acts.specs.Done.{Kept}
+use Rattle.rh_worker.specs.Reading.{HasRead}
 use Rattle.rh_worker.specs.Makes.{Makes}
+use Rattle.rh_worker.proofs.Anew.{kept_alike, none_read}
 use Rattle.rh_worker.proofs.Keeping.{makes}
 use Rattle.rh_worker.proofs.Rows.{entry_written, length_written, planned_stays, with_row, word_here, word_there, written_stays}
 
-pub write_makes : (z : Shape) (words : List ℕ) (v : View) (p : Part) (u word : ℕ) (then : List ℕ) (next : View) → Relies z words v → IsFree z v p
-    → StepsTo z (Step.writes p u) words v word then next → Makes z kind.Write words v then next
-write_makes z words v p u word then next relies free to =
-    makes z (Step.writes p u) words v word then next (record { worker = relies.now.worker; still = relies.now.still; step = free }) to refl
+pub write_makes : {T : Type 0} {shows : Shape → T → View → Type 0} {serves : Shape → T → View → Type 0} {does : Shape → Step → T → View → ℕ → T → View → Type 0} (z : Shape) (t : T) (v : View) (p : Part) (u word : ℕ) (then : T) (next : View) → Relies shows serves z t v → IsFree z v p
+    → Went shows does z (Step.writes p u) t v word then next → Makes shows does z kind.Write t v then next
+write_makes z t v p u word then next relies free to =
+    makes z (Step.writes p u) t v word then next (record { worker = relies.now.knows.worker; still = relies.now.knows.still; step = free }) to refl
 
 module _ (z : Shape) (v : View) (kind : Kind) (k : ℕ) (s : Sights) (p : Plan) (n : ℕ) (same : v.next_number ≡ n) (next : View) where
   pub length_goes : next ≡ with_row v (entry_row n 1) p.entries → 0 < p.entries → Stays z v kind k s (place.WriteLength p) → Stays z next kind k s (place.WriteCell p 0)
@@ -66,3 +69,8 @@ module _ (z : Shape) (v : View) (kind : Kind) (k : ℕ) (s : Sights) (p : Plan) 
         let w = new_written is says h in
         let q : e + 1 ≡ p.entries = let l : e < p.entries = h.1 in omega arith in
         (w.0, subst (λ (m : ℕ). HasWritten next s p m) q w.1)
+
+-- a Write reads nothing
+pub write_anew : (z : Shape) (v next : View) (rows : List Written) → next ≡ record v { written = rows } → (before : List Kept) (k : ℕ) (seen : List ℕ)
+    → HasRead z before v k seen 0 → HasRead z before next k seen 0
+write_anew z v next rows is before k seen h = none_read z before v next k seen 0 (kept_alike z v next (ap (λ (n : View). n.side.reads) is)) h

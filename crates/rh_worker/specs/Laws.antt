@@ -4,13 +4,12 @@ use Rattle.rh_ledger.specs.declared.tally.Kind.{Kind}
 use Rattle.rh_acts.specs.Act.{Act}
 use Rattle.rh_acts.specs.Done.{KeyDone}
 use Rattle.rh_descriptor.specs.declared.shape.Shape.{Shape}
-use Rattle.rh_descriptor.specs.declared.steps.StepKind.{StepKind}
 use Rattle.rh_descriptor.specs.View.{View}
 use Rattle.rh_rule.specs.Sound.{Sound}
 use Rattle.rh_history.specs.History.{kept_of, own_acts_of}
 use Rattle.rh_history.specs.OwnActs.{Orderly}
 use Rattle.rh_run.specs.Advance.{Advances}
-use Rattle.rh_worker.specs.Makes.{Makes}
+use Rattle.rh_worker.specs.Makes.{Moves}
 
 -- The key is done by the next own acts, and what is told of it follows from them, or from what was read.
 pub record KeyIsDone (z : Shape) (kind : Kind) (k : ℕ) (v next : View) (told : Bool) : Type 0 where
@@ -24,5 +23,5 @@ AfterStep z v next kind k None = own_acts_of next ≡ own_acts_of v
 AfterStep z v next kind k (Some told) = KeyIsDone z kind k v next told
 
 abbrev pub KeysAreDone : Type 0
-KeysAreDone = (z : Shape) (made : StepKind) (words then : List ℕ) (v next : View) (kind : Kind) (k : ℕ) (done : Option Bool)
-    → Makes z made words v then next → Advances z kind k v next done → Orderly v → Sound z next → Orderly next × AfterStep z v next kind k done
+KeysAreDone = (z : Shape) (v next : View) (kind : Kind) (k : ℕ) (done : Option Bool)
+    → Moves z v next → Advances z kind k v next done → Orderly v → Sound z next → Orderly next × AfterStep z v next kind k done

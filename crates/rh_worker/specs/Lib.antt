@@ -1,4 +1,5 @@
 pub mod Sights
 pub mod Worker
+pub mod Reading
 pub mod Makes
 pub mod Laws

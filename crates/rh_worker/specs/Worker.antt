@@ -1,5 +1,5 @@
 -- What is so of a worker between two of its steps. (own)
-use Rattle.std.specs.Prelude.{◌≡◌, ℕ, ◌+◌, ◌<◌, ◌≤◌, ◌⊎◌, Option, Some, None, Bool, List, ◌∷◌, length, take, slice_index}
+use Rattle.std.specs.Prelude.{◌≡◌, ℕ, ◌+◌, ◌<◌, ◌≤◌, ◌⊎◌, Option, Some, None, Bool, List, [], ◌∷◌, length, take, slice_index}
 use Rattle.std.specs.List.{Contains}
 use Rattle.rh_layout.specs.Round.{place_after}
 use Rattle.rh_layout.specs.Key.{IsKey}
@@ -8,7 +8,7 @@ use Rattle.rh_ledger.specs.declared.tally.Kind.{Kind}
 use Rattle.rh_world.specs.World.{In}
 use Rattle.rh_world.specs.World.Control.{withdrawn}
 use Rattle.rh_world.specs.Notes.Note.{decided, found, known}
-use Rattle.rh_acts.specs.Done.{Does, kept}
+use Rattle.rh_acts.specs.Done.{Does, Kept, kept}
 use Rattle.rh_descriptor.specs.declared.entry.Entry.{Entry as OwnEntry}
 use Rattle.rh_descriptor.specs.declared.shape.Shape.{Shape}
 use Rattle.rh_descriptor.specs.declared.steps.StepKind.{StepKind}
@@ -79,6 +79,12 @@ Sees z v c (sight.Value value) = Contains (kept_of z v) (kept c value) × IsValu
 Sees z v c (sight.Mark x) = In (found (ref_of x) c) v.side.notes
 Sees z v c (sight.Desc d) = In (known (ref_of d)) v.side.notes
 
+-- and what was newly kept as read
+abbrev pub newly_kept : (c : ℕ) → Sight → List Kept
+newly_kept c (sight.Value value) = kept c value ∷ []
+newly_kept c (sight.Mark x) = []
+newly_kept c (sight.Desc d) = []
+
 -- the first n cells from the key's home on were read, and there is a next one
 pub record HasSeen (z : Shape) (v : View) (k : ℕ) (s : Sights) (n : ℕ) : Type 0 where
   pub within : n < cell_count z
@@ -134,13 +140,9 @@ pub record GivesUp (v next : View) : Type 0 where
   pub closes : Closes v next own
   pub before : In (decided (own_ref v own.number) withdrawn) v.side.notes
 
--- it gave up an own descriptor
-abbrev pub HasWithdrawn : View → Type 0
-HasWithdrawn v = (o : OwnDesc) × In o v.opened × In (decided (own_ref v o.number) withdrawn) v.side.notes
-
--- why no step is left: the marks are used up, or the places for entries may not do for a key, or it gave up
+-- why no step is left: the marks are used up, or the places for entries may not do for a key
 abbrev pub HasNoRoom : Shape → View → Type 0
-HasNoRoom z v = (z.mark_room ≤ v.marks_used) ⊎ ((z.entry_room < v.next_number + cell_count z) ⊎ HasWithdrawn v)
+HasNoRoom z v = (z.mark_room ≤ v.marks_used) ⊎ (z.entry_room < v.next_number + cell_count z)
 
 -- ---- at each place
 

@@ -1,21 +1,22 @@
 //! Scanning the cells from a key's home on, one Read after the other.
 
-ghost use Rattle.std.specs.Prelude.{◌≡◌, ◌^◌, ◌<◌, ◌≤◌, length, ℕ, IfSome, None, take};
-ghost use Rattle.rh_descriptor.specs.Places.{IsShape, word_count};
+ghost use Rattle.std.specs.Prelude.{◌≡◌, ◌<◌, ◌≤◌, ◌++◌, ℕ, IfSome, List, None, take};
+ghost use Rattle.rh_descriptor.specs.Places.{IsShape};
 ghost use Rattle.rh_run.specs.Advance.{Advances};
 ghost use Rattle.rh_worker.specs.Makes.{Makes};
-ghost use Rattle.rh_helping.specs.Relies.{Relies};
+ghost use Rattle.rh_steps.specs.Relies.{Relies};
 ghost use Rattle.rh_worker.specs.Worker.{IsAt, IsWorker};
 ghost use Rattle.rh_worker.specs.declared.place.Place.TheVariants as place;
 ghost use Rattle.rh_run.specs.Advance.{GoesOn};
-ghost use Rattle.rh_acts.specs.Done.{IsTold};
+ghost use Rattle.rh_acts.specs.Done.{IsTold, Kept};
+ghost use Rattle.rh_worker.specs.Reading.{HasRead, IsToldAnew, ReadsAnew, TellsAnew, seen_at};
 ghost use Rattle.rh_history.specs.History.{kept_of};
 ghost use Rattle.rh_helping.specs.Work.{kind_of_work};
 ghost use Rattle.rh_helping.specs.Settling.{kind_of_settling};
 ghost use Rattle.rh_worker.specs.Sights.{HasRoom, IsPlan};
 ghost use Rattle.rh_worker.specs.declared.sights.Sights.{Sights};
 ghost use Rattle.rh_ledger.specs.declared.tally.Kind.{Kind};
-ghost use Rattle.rh_worker.specs.Worker.{EndsAt, IsClear, Sees, Stays, WereRead};
+ghost use Rattle.rh_worker.specs.Worker.{EndsAt, IsClear, Sees, Stays, WereRead, newly_kept};
 ghost use Rattle.rh_descriptor.specs.Places.{cell_count};
 ghost use Rattle.rh_layout.specs.Key.{IsKey};
 ghost use Rattle.rh_rule.specs.Sound.{Sound};
@@ -23,10 +24,11 @@ ghost use Rattle.rh_rule.specs.Sound.{Sound};
 use crate::place::{Place, Plan};
 use crate::sights::Decision;
 use crate::worker::Worker;
-use rh_descriptor::{Reading, Ref, Shape, Side, StepKind, read_word};
+use rh_descriptor::{Ask, Reading, Ref, Shape, Side, StepKind};
 use rh_helping::{Met, Outcome, Settling, Work, what_stands};
 use rh_layout::home;
 use rh_probe::cell_after;
+use rh_steps::Steps;
 use rh_tagword::plain_value;
 
 /// What a cell was read to hold.
@@ -38,19 +40,20 @@ pub(crate) enum Sight {
 }
 
 /// Reads a cell.
-fn read_cell(shape: &Shape, words: &[u64], side: &mut Side, cell: usize) -> Sight
+fn read_cell<T: Steps>(shape: &Shape, table: &mut T, side: &mut Side, cell: usize) -> Sight
     requires shape { IsShape shape.now }
-    requires sized { length words.now ≡ word_count shape.now }
-    requires relies { Relies shape.now words.now side.old.known.view }
+    requires relies { Relies T.shows T.serves shape.now table.old side.old.known.view }
     requires clear { IsClear side.old.known.view }
     requires cell { cell < cell_count shape.now }
-    ensures makes { Makes shape.now StepKind.Read words.now side.old.known.view
-        words.now side.new.known.view }
+    ensures makes { Makes T.shows T.made shape.now StepKind.Read table.old side.old.known.view
+        table.new side.new.known.view }
     ensures clear { IsClear side.new.known.view }
     ensures goes_on { GoesOn side.old.known.view side.new.known.view }
     ensures sees { Sees shape.now side.new.known.view cell result }
+    ensures reads { kept_of shape.now side.new.known.view ≡
+        newly_kept cell result ++ kept_of shape.now side.old.known.view }
 {
-    let word = read_word(shape, words, side, Reading::Cell(cell));
+    let word = table.make(shape, side, Ask::Read(Reading::Cell(cell)));
     match what_stands(word) {
         Met::Value => Sight::Value(plain_value(word).unwrap_or(0)),
         Met::Mark(mark) => Sight::Mark(mark),
@@ -59,22 +62,30 @@ fn read_cell(shape: &Shape, words: &[u64], side: &mut Side, cell: usize) -> Sigh
 }
 
 /// Reads the next cell, and goes by what stands there. Answers whether the key is done, and how.
-pub(crate) fn read(worker: &mut Worker, shape: &Shape, words: &[u64], seen: usize) -> Option<bool>
+pub(crate) fn read<T: Steps>(
+    worker: &mut Worker,
+    shape: &Shape,
+    table: &mut T,
+    seen: usize,
+) -> Option<bool>
     requires shape { IsShape shape.now }
-    requires sized { length words.now ≡ word_count shape.now }
-    requires relies { Relies shape.now words.now worker.old.side.known.view }
+    requires relies { Relies T.shows T.serves shape.now table.old worker.old.side.known.view }
     requires worker { IsAt shape.now worker.old (place.Scan seen) }
-    ensures makes { Makes shape.now StepKind.Read words.now worker.old.side.known.view
-        words.now worker.new.side.known.view }
+    ensures makes { Makes T.shows T.made shape.now StepKind.Read table.old worker.old.side.known.view
+        table.new worker.new.side.known.view }
     ensures worker { IsWorker shape.now worker.new }
     ensures same_kind { worker.new.kind ≡ worker.old.kind }
     ensures same_key { worker.new.key ≡ worker.old.key }
     ensures advances { Advances shape.now worker.old.kind worker.old.key worker.old.side.known.view
         worker.new.side.known.view result }
     ensures ends { EndsAt result worker.new.place }
+    ensures anew { (before : List Kept) → HasRead shape.now before worker.old.side.known.view worker.old.key
+        worker.old.sights.seen.items seen → ReadsAnew shape.now before worker.new ×
+        TellsAnew shape.now before worker.old.kind worker.old.key worker.old.side.known.view
+        worker.new.side.known.view result }
 {
     let cell = cell_after(shape.cells(), home(shape.bits, worker.key), seen);
-    match read_cell(shape, words, &mut worker.side, cell) {
+    match read_cell(shape, table, &mut worker.side, cell) {
         Sight::Value(value) => {
             worker.sights.seen[seen] = value;
             decide(worker, shape, seen + 1)
@@ -109,6 +120,9 @@ fn decide(worker: &mut Worker, shape: &Shape, count: usize) -> Option<bool>
     ensures ends { EndsAt result worker.new.place }
     ensures told { IfSome result (IsTold worker.old.kind shape.now.bits
         (kept_of shape.now worker.old.side.known.view) worker.old.key) }
+    ensures anew { (before : List Kept) → HasRead shape.now before worker.old.side.known.view worker.old.key
+        worker.old.sights.seen.items count → ReadsAnew shape.now before worker.new ×
+        IfSome result (IsToldAnew shape.now before worker.new.side.known.view worker.old.kind worker.old.key) }
 {
     let decision = worker
         .sights
@@ -137,6 +151,7 @@ fn planned(shape: &Shape, side: &Side, plan: Plan) -> Place
         IsClear side.now.known.view → IsPlan kind shape.now.bits k s.entries.items plan →
         Stays shape.now side.now.known.view kind k s result }
     ensures ends { EndsAt None result }
+    ensures unseen { seen_at result ≡ 0 }
 {
     let places = shape.entry_room - side.next_number;
     if plan.entries <= places && side.marks_used < shape.mark_room {
@@ -147,48 +162,56 @@ fn planned(shape: &Shape, side: &Side, plan: Plan) -> Place
 }
 
 /// Goes on with a mark that was met, and then reads the cell again.
-pub(crate) fn settle(
+pub(crate) fn settle<T: Steps>(
     worker: &mut Worker,
     shape: &Shape,
-    words: &mut [u64],
+    table: &mut T,
     settling: Settling,
     seen: usize,
 )
     requires shape { IsShape shape.now }
-    requires sized { length words.old ≡ word_count shape.now }
-    requires relies { Relies shape.now words.old worker.old.side.known.view }
+    requires relies { Relies T.shows T.serves shape.now table.old worker.old.side.known.view }
     requires worker { IsAt shape.now worker.old (place.Settle settling seen) }
-    ensures makes { Makes shape.now (kind_of_settling settling) words.old worker.old.side.known.view
-        words.new worker.new.side.known.view }
+    ensures makes { Makes T.shows T.made shape.now (kind_of_settling settling) table.old worker.old.side.known.view
+        table.new worker.new.side.known.view }
     ensures worker { IsWorker shape.now worker.new }
     ensures same_kind { worker.new.kind ≡ worker.old.kind }
     ensures same_key { worker.new.key ≡ worker.old.key }
     ensures advances { Advances shape.now worker.old.kind worker.old.key worker.old.side.known.view
         worker.new.side.known.view None }
     ensures ends { EndsAt None worker.new.place }
+    ensures anew { (before : List Kept) → HasRead shape.now before worker.old.side.known.view worker.old.key
+        worker.old.sights.seen.items seen → ReadsAnew shape.now before worker.new }
 {
-    worker.place = match settling.step(shape, words, &mut worker.side) {
+    worker.place = match settling.step(shape, table, &mut worker.side) {
         Some(settling) => Place::Settle { settling, seen },
         None => Place::Scan { seen },
     };
 }
 
 /// Goes on with a descriptor that was met, and then reads the cell again.
-pub(crate) fn help(worker: &mut Worker, shape: &Shape, words: &mut [u64], work: Work, seen: usize)
+pub(crate) fn help<T: Steps>(
+    worker: &mut Worker,
+    shape: &Shape,
+    table: &mut T,
+    work: Work,
+    seen: usize,
+)
     requires shape { IsShape shape.now }
-    requires sized { length words.old ≡ word_count shape.now }
-    requires relies { Relies shape.now words.old worker.old.side.known.view }
+    requires relies { Relies T.shows T.serves shape.now table.old worker.old.side.known.view }
     requires worker { IsAt shape.now worker.old (place.Help work seen) }
-    ensures makes { Makes shape.now (kind_of_work work) words.old worker.old.side.known.view
-        words.new worker.new.side.known.view }
+    ensures makes { Makes T.shows T.made shape.now (kind_of_work work) table.old worker.old.side.known.view
+        table.new worker.new.side.known.view }
     ensures worker { IsWorker shape.now worker.new }
     ensures same_kind { worker.new.kind ≡ worker.old.kind }
     ensures same_key { worker.new.key ≡ worker.old.key }
     ensures advances { Advances shape.now worker.old.kind worker.old.key worker.old.side.known.view
         worker.new.side.known.view None }
     ensures ends { EndsAt None worker.new.place }
+    ensures anew { (before : List Kept) → HasRead shape.now before worker.old.side.known.view worker.old.key
+        worker.old.sights.seen.items seen → ReadsAnew shape.now before worker.new }
 {
-    worker.place = match work.step(shape, words, &mut worker.side, None) {
+    worker.place = match work.step(shape, table, &mut worker.side, None) {
         Outcome::On(work) => Place::Help { work, seen },
         Outcome::Over => Place::Scan { seen },
         Outcome::Spent => Place::Spent,

@@ -1,36 +1,38 @@
 //! An own descriptor that is open, up to its end.
 
-ghost use Rattle.std.specs.Prelude.{◌≡◌, length};
-ghost use Rattle.rh_descriptor.specs.Places.{IsShape, word_count};
+ghost use Rattle.std.specs.Prelude.{◌≡◌, List};
+ghost use Rattle.rh_descriptor.specs.Places.{IsShape};
 ghost use Rattle.rh_run.specs.Advance.{Advances};
 ghost use Rattle.rh_worker.specs.Makes.{Makes};
-ghost use Rattle.rh_helping.specs.Relies.{Relies};
+ghost use Rattle.rh_steps.specs.Relies.{Relies};
 ghost use Rattle.rh_worker.specs.Worker.{EndsAt, GivesUp, IsAt, IsWorker};
+ghost use Rattle.rh_worker.specs.Reading.{HasRead, ReadsAnew};
 ghost use Rattle.rh_worker.specs.declared.place.Place.TheVariants as place;
+ghost use Rattle.rh_acts.specs.Done.{Kept};
 ghost use Rattle.rh_helping.specs.Work.{kind_of_work};
 
 use crate::place::Place;
 use crate::worker::Worker;
 use rh_descriptor::Shape;
 use rh_helping::{Outcome, Work};
+use rh_steps::Steps;
 use rh_tagword::Control;
 
 /// Goes on with it. Where it is over, the key is done, or begins again, or the worker is spent.
 /// Answers whether the key is done, and how.
-pub(crate) fn swap(
+pub(crate) fn swap<T: Steps>(
     worker: &mut Worker,
     shape: &Shape,
-    words: &mut [u64],
+    table: &mut T,
     work: Work,
     number: usize,
     changes: bool,
 ) -> Option<bool>
     requires shape { IsShape shape.now }
-    requires sized { length words.old ≡ word_count shape.now }
-    requires relies { Relies shape.now words.old worker.old.side.known.view }
+    requires relies { Relies T.shows T.serves shape.now table.old worker.old.side.known.view }
     requires worker { IsAt shape.now worker.old (place.Swap work number changes) }
-    ensures makes { Makes shape.now (kind_of_work work) words.old worker.old.side.known.view
-        words.new worker.new.side.known.view }
+    ensures makes { Makes T.shows T.made shape.now (kind_of_work work) table.old worker.old.side.known.view
+        table.new worker.new.side.known.view }
     ensures worker { IsWorker shape.now worker.new }
     ensures same_kind { worker.new.kind ≡ worker.old.kind }
     ensures same_key { worker.new.key ≡ worker.old.key }
@@ -39,8 +41,10 @@ pub(crate) fn swap(
     ensures ends { EndsAt result worker.new.place }
     ensures gives_up { GivesUp worker.old.side.known.view worker.new.side.known.view →
         worker.new.place ≡ place.Spent }
+    ensures anew { (before : List Kept) → HasRead shape.now before worker.old.side.known.view worker.old.key
+        worker.old.sights.seen.items 0 → ReadsAnew shape.now before worker.new }
 {
-    match work.step(shape, words, &mut worker.side, Some(number)) {
+    match work.step(shape, table, &mut worker.side, Some(number)) {
         Outcome::On(work) => {
             worker.place = Place::Swap {
                 work,

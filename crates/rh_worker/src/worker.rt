@@ -1,24 +1,27 @@
 //! One worker: what it does next, key by key.
 
-ghost use Rattle.std.specs.Prelude.{◌≡◌, ◌↔◌, ◌<◌, ◌⊎◌, ℕ, IfOk, IsTrue, length};
+ghost use Rattle.std.specs.Prelude.{◌≡◌, ◌↔◌, ◌<◌, ◌⊎◌, ℕ, IfOk, IsTrue, List, []};
 ghost use Rattle.rh_layout.specs.Key.{IsKey};
 ghost use Rattle.rh_world.specs.World.{In};
-ghost use Rattle.rh_descriptor.specs.Places.{IsShape, word_count};
+ghost use Rattle.rh_descriptor.specs.Places.{IsShape};
 ghost use Rattle.rh_descriptor.specs.declared.shape.Shape.{Shape};
 ghost use Rattle.rh_descriptor.specs.View.{new_view, round_view};
-ghost use Rattle.rh_descriptor.specs.Steps.{StepsTo};
 ghost use Rattle.rh_descriptor.specs.Steps.Step.{claims};
 ghost use Rattle.rh_run.specs.Advance.{Advances};
 ghost use Rattle.rh_worker.specs.Makes.{Makes};
-ghost use Rattle.rh_helping.specs.Relies.{Relies};
+ghost use Rattle.rh_steps.specs.Relies.{Relies, Went};
 ghost use Rattle.rh_worker.specs.Worker.{EndsAt, GivesUp, IsBusy, IsWorker};
+ghost use Rattle.rh_worker.specs.Reading.{ReadsAnew, TellsAnew};
+ghost use Rattle.rh_acts.specs.Done.{Kept};
+ghost use Rattle.rh_history.specs.History.{kept_of};
 ghost use Rattle.rh_worker.specs.declared.place.Place.TheVariants as place;
 
 use crate::place::Place;
 use crate::sights::Sights;
 use crate::{scanning, swapping, writing};
-use rh_descriptor::{Shape, Side, StepKind, claim_key};
+use rh_descriptor::{Ask, Shape, Side, StepKind};
 use rh_ledger::Kind;
+use rh_steps::Steps;
 use std::alloc::{AllocError, Global};
 
 /// A worker that does keys one after the other.
@@ -92,27 +95,27 @@ impl Worker {
         ensures same_view { self.new.side.known.view ≡ self.old.side.known.view }
         ensures same_kind { self.new.kind ≡ self.old.kind }
         ensures key { self.new.key ≡ key }
+        ensures anew { (z : Shape) → ReadsAnew z (kept_of z self.new.side.known.view) self.new }
     {
         self.key = key;
         self.place = Place::Scan { seen: 0 };
     }
 
     /// Claims the next place of the list of keys, and answers it.
-    pub fn claim(&mut self, shape: &Shape, words: &mut [u64]) -> u64
+    pub fn claim<T: Steps>(&mut self, shape: &Shape, table: &mut T) -> u64
         requires shape { IsShape shape.now }
-        requires sized { length words.old ≡ word_count shape.now }
-        requires relies { Relies shape.now words.old self.old.side.known.view }
+        requires relies { Relies T.shows T.serves shape.now table.old self.old.side.known.view }
         requires worker { IsWorker shape.now self.old }
         requires idle { self.old.place ≡ place.Idle }
         requires keys { (n : ℕ) → In n self.old.side.known.view.side.claims → n < shape.now.keys }
-        ensures steps { StepsTo shape.now claims words.old self.old.side.known.view
-            result words.new self.new.side.known.view }
+        ensures steps { Went T.shows T.made shape.now claims table.old self.old.side.known.view
+            result table.new self.new.side.known.view }
         ensures worker { IsWorker shape.now self.new }
         ensures idle { self.new.place ≡ place.Idle }
         ensures same_kind { self.new.kind ≡ self.old.kind }
         ensures same_key { self.new.key ≡ self.old.key }
     {
-        claim_key(shape, words, &mut self.side)
+        table.make(shape, &mut self.side, Ask::Claim)
     }
 
     /// A round begins with these cells, given as words. A spent worker begins its key again.
@@ -124,6 +127,7 @@ impl Worker {
         ensures view { self.new.side.known.view ≡ round_view cells.now self.old.side.known.view }
         ensures same_kind { self.new.kind ≡ self.old.kind }
         ensures same_key { self.new.key ≡ self.old.key }
+        ensures anew { (z : Shape) → self.old.place ≡ place.Spent → ReadsAnew z [] self.new }
     {
         self.side.begin_round(cells);
         if self.is_spent() {
@@ -131,15 +135,15 @@ impl Worker {
         }
     }
 
-    /// Makes the next step. With the one by which it gives up a key it is spent.
-    pub fn step(&mut self, shape: &Shape, words: &mut [u64]) -> Stepped
+    /// Makes the next step. With the one by which it gives up a key it is spent. A key that no act does
+    /// is told of by what was read since it was begun.
+    pub fn step<T: Steps>(&mut self, shape: &Shape, table: &mut T) -> Stepped
         requires shape { IsShape shape.now }
-        requires sized { length words.old ≡ word_count shape.now }
-        requires relies { Relies shape.now words.old self.old.side.known.view }
+        requires relies { Relies T.shows T.serves shape.now table.old self.old.side.known.view }
         requires worker { IsWorker shape.now self.old }
         requires busy { IsBusy self.old.place }
-        ensures makes { Makes shape.now result.kind words.old self.old.side.known.view
-            words.new self.new.side.known.view }
+        ensures makes { Makes T.shows T.made shape.now result.kind table.old self.old.side.known.view
+            table.new self.new.side.known.view }
         ensures worker { IsWorker shape.now self.new }
         ensures same_kind { self.new.kind ≡ self.old.kind }
         ensures same_key { self.new.key ≡ self.old.key }
@@ -148,45 +152,48 @@ impl Worker {
         ensures ends { EndsAt result.done self.new.place }
         ensures gives_up { GivesUp self.old.side.known.view self.new.side.known.view →
             self.new.place ≡ place.Spent }
+        ensures anew { (before : List Kept) → ReadsAnew shape.now before self.old →
+            ReadsAnew shape.now before self.new × TellsAnew shape.now before self.old.kind self.old.key
+            self.old.side.known.view self.new.side.known.view result.done }
     {
         let place = self.place;
         let kind = place.kind();
         let done = match place {
             Place::Idle | Place::Spent => unreachable!(),
-            Place::Scan { seen } => scanning::read(self, shape, words, seen),
+            Place::Scan { seen } => scanning::read(self, shape, table, seen),
             Place::Settle { settling, seen } => {
-                scanning::settle(self, shape, words, settling, seen);
+                scanning::settle(self, shape, table, settling, seen);
                 None
             }
             Place::Help { work, seen } => {
-                scanning::help(self, shape, words, work, seen);
+                scanning::help(self, shape, table, work, seen);
                 None
             }
             Place::WriteLength(plan) => {
-                writing::write_length(self, shape, words, plan);
+                writing::write_length(self, shape, table, plan);
                 None
             }
             Place::WriteCell { plan, entry } => {
-                writing::write_cell(self, shape, words, plan, entry);
+                writing::write_cell(self, shape, table, plan, entry);
                 None
             }
             Place::WriteOld { plan, entry } => {
-                writing::write_old(self, shape, words, plan, entry);
+                writing::write_old(self, shape, table, plan, entry);
                 None
             }
             Place::WriteNew { plan, entry } => {
-                writing::write_new(self, shape, words, plan, entry);
+                writing::write_new(self, shape, table, plan, entry);
                 None
             }
             Place::Open(plan) => {
-                writing::open(self, shape, words, plan);
+                writing::open(self, shape, table, plan);
                 None
             }
             Place::Swap {
                 work,
                 number,
                 changes,
-            } => swapping::swap(self, shape, words, work, number, changes),
+            } => swapping::swap(self, shape, table, work, number, changes),
         };
         Stepped { kind, done }
     }

@@ -1,8 +1,8 @@
-use Rattle.rh_history.proofs.Learning.{plain_reads_are_kept, reads_are_kept, reads_stay}
+use Rattle.rh_history.proofs.Learning.{plain_reads_come_first, reads_are_kept, reads_stay}
 use Rattle.rh_history.proofs.laws.reads.Goals as goal
 
 pub returns-clause-plain : goal.returns-clause-plain
-returns-clause-plain c = plain_reads_are_kept
+returns-clause-plain c = plain_reads_come_first
 
 pub returns-clause-kept : goal.returns-clause-kept
 returns-clause-kept c = reads_are_kept

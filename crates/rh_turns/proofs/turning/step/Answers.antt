@@ -1,6 +1,7 @@
 use Rattle.std.proofs.Common.{Option, Bool, Some, None, ℕ, ◌+◌, set, ap, inl, inr, refl, subst, sym, ◌∙◌}
 use Rattle.rh_run.specs.Advance.{Advances}
 use Rattle.rh_worker.specs.Worker.{EndsAt}
+use Rattle.rh_turns.proofs.Lists.{makes_so, relies_so}
 use Rattle.rh_turns.proofs.Turns.{at_key, busy_not_spent, byte_is, byte_small, key_same, next_of, share_done, share_same}
 use Rattle.rh_turns.proofs.turning.step.Goals as goal
 
@@ -35,7 +36,7 @@ returns-in-Some-clause-steps c =
       unspent = busy_not_spent h.worker.place c.requires.busy;
       within = at.within;
       next_key = next_of c.args.shape.now c.args.keys.now h c.requires.busy h.share c.requires.hand.share;
-      makes = c.step-stepped.ensures.makes;
+      makes = makes_so _ _ _ _ _ _ c.step-stepped.ensures.makes;
       done = Some c.in-Some.told;
       advances = subst (λ (k : ℕ). Advances c.args.shape.now h.worker.kind k h.worker.side.known.view c.step-stepped.new.self.side.known.view (Some c.in-Some.told)) (sym at.key)
           (subst (λ (d : Option Bool). Advances c.args.shape.now h.worker.kind h.worker.key h.worker.side.known.view c.step-stepped.new.self.side.known.view d) c.in-Some.is c.step-stepped.ensures.advances);
@@ -53,7 +54,7 @@ returns-in_default-clause-steps c =
       unspent = busy_not_spent h.worker.place c.requires.busy;
       within = at.within;
       next_key = next_of c.args.shape.now c.args.keys.now h c.requires.busy h.share c.requires.hand.share;
-      makes = c.step-stepped.ensures.makes;
+      makes = makes_so _ _ _ _ _ _ c.step-stepped.ensures.makes;
       done = None;
       advances = subst (λ (k : ℕ). Advances c.args.shape.now h.worker.kind k h.worker.side.known.view c.step-stepped.new.self.side.known.view None) (sym at.key)
           (subst (λ (d : Option Bool). Advances c.args.shape.now h.worker.kind h.worker.key h.worker.side.known.view c.step-stepped.new.self.side.known.view d) c.in_default.is c.step-stepped.ensures.advances);
@@ -62,3 +63,6 @@ returns-in_default-clause-steps c =
       counts = (refl, refl);
       told_is = refl;
     }
+
+pub step-stepped-requires-clause-relies : goal.step-stepped-requires-clause-relies
+step-stepped-requires-clause-relies c = relies_so _ _ _ c.requires.relies

@@ -1,6 +1,8 @@
-use Rattle.std.proofs.Common.{length-take, rules, subst, sym, take, arith}
+use Rattle.std.proofs.Common.{ℕ, ◌≤◌, List, length, length-take, rules, subst, sym, take, arith}
 use Rattle.rh_worker.specs.Worker.{Stays}
+use Rattle.rh_worker.specs.Reading.{HasRead}
 use Rattle.rh_worker.specs.declared.place.Place.TheVariants as place
+use Rattle.rh_worker.proofs.Anew.{front_read, left_off}
 use Rattle.rh_worker.proofs.Scans.{none_seen, seen_again, told_is}
 use Rattle.rh_worker.proofs.scanning.decide.Goals.{then-count-cells, else-count-cells}
 use Rattle.rh_worker.proofs.scanning.decide.Goals as goal
@@ -26,3 +28,33 @@ returns-after-count-cells-clause-worker c =
         | else-count-cells b ↦ subst (λ n. Stays z v w.kind w.key t (place.Scan n)) (sym b.seen-is) (c.requires.clear, none_seen z v w.key t (search rules))
       ];
     }
+
+pub returns-in-Done-clause-anew : goal.returns-in-Done-clause-anew
+returns-in-Done-clause-anew c before h =
+    let w = c.args.worker.now in
+    let z = c.args.shape.now in
+    let v = w.side.known.view in
+    let within : c.args.count ≤ length w.sights.seen.items = omega (arith, c.requires.count, c.requires.room.seen) in (
+      left_off z before v w.key w.sights.seen.items _ c.args.count h,
+      record { seen = take c.args.count w.sights.seen.items; read = front_read z before v w.key w.sights.seen.items c.args.count within h; tells = c.in-Done.ensures.decides },
+    )
+
+pub returns-in-Acts-clause-anew : goal.returns-in-Acts-clause-anew
+returns-in-Acts-clause-anew c before h =
+    let w = c.args.worker.now in
+    let z = c.args.shape.now in
+    (subst (HasRead z before w.side.known.view w.key _) (sym c.planned-worker.ensures.unseen) (left_off z before w.side.known.view w.key w.sights.seen.items _ c.args.count h), tt)
+
+pub returns-after-count-cells-clause-anew : goal.returns-after-count-cells-clause-anew
+returns-after-count-cells-clause-anew c before h =
+    let w = c.args.worker.now in
+    let z = c.args.shape.now in
+    let v = w.side.known.view in
+    let t = c.decide-decision.new.self in
+    let same = c.in-More.ensures.seen in (
+      elim c.if-count-cells.branch [
+        | then-count-cells b ↦ subst (HasRead z before v w.key t.seen.items) (sym b.seen-is) (subst (λ (l : List ℕ). HasRead z before v w.key l c.args.count) (sym same) h)
+        | else-count-cells b ↦ subst (HasRead z before v w.key t.seen.items) (sym b.seen-is) (left_off z before v w.key w.sights.seen.items t.seen.items c.args.count h)
+      ],
+      tt,
+    )

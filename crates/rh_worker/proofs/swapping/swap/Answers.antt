@@ -1,49 +1,83 @@
-use Rattle.std.proofs.Common.{ap, inr}
+use Rattle.std.proofs.Common.{ap, inl, inr}
 use Rattle.rh_tagword.specs.declared.control.Control.{Control}
 use Rattle.rh_world.specs.Acts.{is_success}
 use Rattle.rh_descriptor.specs.Words.{control_of}
-use Rattle.rh_worker.proofs.CloseStep.{still_open, swap_fails, swap_gives_up, swap_succeeds}
+use Rattle.rh_worker.proofs.Anew.{kept_alike, none_read}
+use Rattle.rh_worker.proofs.CloseStep.{still_open, swap_fails, swap_gives_up, swap_spends, swap_succeeds}
 use Rattle.rh_worker.proofs.swapping.swap.Goals as goal
 
 pub returns-in-Closed-Succeeded-clause-advances : goal.returns-in-Closed-Succeeded-clause-advances
-returns-in-Closed-Succeeded-clause-advances c =
+returns-in-Closed-Succeeded-clause-advances g c =
     let w = c.args.worker.now in
     let h = c.requires.worker.stays in
     let a = c.in-Closed-Succeeded in
     inr (swap_succeeds c.args.shape.now _ _ w.side.known.view _ _ a.ensures.made w.kind w.key c.args.number c.args.changes h.0 h.2 a.field-0 a.ensures.leads a.field-0-is)
 
 pub returns-in-Closed-Withdrawn-clause-advances : goal.returns-in-Closed-Withdrawn-clause-advances
-returns-in-Closed-Withdrawn-clause-advances c =
+returns-in-Closed-Withdrawn-clause-advances g c =
     let w = c.args.worker.now in
     let h = c.requires.worker.stays in
     let a = c.in-Closed-Withdrawn in
     inr (inr (swap_fails c.args.shape.now _ _ w.side.known.view _ _ a.ensures.made w.kind w.key c.args.number c.args.changes h.0 h.2 a.field-0 a.ensures.leads (ap (λ (r : Control). is_success (control_of r)) a.field-0-is)))
 
+pub returns-in-Closed-Withdrawn-clause-worker : goal.returns-in-Closed-Withdrawn-clause-worker
+returns-in-Closed-Withdrawn-clause-worker g c =
+    let w = c.args.worker.now in
+    let h = c.requires.worker.stays in
+    let a = c.in-Closed-Withdrawn in
+    let closed = a.ensures.leads.2 in
+    let full = swap_spends c.args.shape.now _ _ w.side.known.view _ _ a.ensures.made w.kind w.key c.args.number c.args.changes h.0 h.2 a.field-0 a.ensures.leads a.field-0-is in
+    record { key = c.requires.worker.key; room = c.requires.worker.room; stays = (record { own = closed.own; owes = closed.owes }, inl full) }
+
 pub returns-in-Closed-Failed-clause-advances : goal.returns-in-Closed-Failed-clause-advances
-returns-in-Closed-Failed-clause-advances c =
+returns-in-Closed-Failed-clause-advances g c =
     let w = c.args.worker.now in
     let h = c.requires.worker.stays in
     let a = c.in-Closed-Failed in
     inr (inr (swap_fails c.args.shape.now _ _ w.side.known.view _ _ a.ensures.made w.kind w.key c.args.number c.args.changes h.0 h.2 a.field-0 a.ensures.leads (ap (λ (r : Control). is_success (control_of r)) a.field-0-is)))
 
 pub returns-in-On-clause-gives_up : goal.returns-in-On-clause-gives_up
-returns-in-On-clause-gives_up c g =
-    absurd (still_open c.args.worker.now.side.known.view _ c.args.number c.in-On.ensures.leads.0.current g)
+returns-in-On-clause-gives_up g c gives =
+    absurd (still_open c.args.worker.now.side.known.view _ c.args.number c.in-On.ensures.leads.0.current gives)
 
 pub returns-in-Closed-Succeeded-clause-gives_up : goal.returns-in-Closed-Succeeded-clause-gives_up
-returns-in-Closed-Succeeded-clause-gives_up c g =
+returns-in-Closed-Succeeded-clause-gives_up g c gives =
     let w = c.args.worker.now in
     let h = c.requires.worker.stays in
     let a = c.in-Closed-Succeeded in
-    let e = swap_gives_up c.args.shape.now _ _ w.side.known.view _ _ a.ensures.made w.kind w.key c.args.number c.args.changes h.0 h.2 a.field-0 a.ensures.leads c.requires.relies.now.sound g in
+    let e = swap_gives_up c.args.shape.now _ _ w.side.known.view _ _ a.ensures.made w.kind w.key c.args.number c.args.changes h.0 h.2 a.field-0 a.ensures.leads c.requires.relies.now.knows.sound gives in
     let is = ap control_of a.field-0-is in
     absurd (cc)
 
 pub returns-in-Closed-Failed-clause-gives_up : goal.returns-in-Closed-Failed-clause-gives_up
-returns-in-Closed-Failed-clause-gives_up c g =
+returns-in-Closed-Failed-clause-gives_up g c gives =
     let w = c.args.worker.now in
     let h = c.requires.worker.stays in
     let a = c.in-Closed-Failed in
-    let e = swap_gives_up c.args.shape.now _ _ w.side.known.view _ _ a.ensures.made w.kind w.key c.args.number c.args.changes h.0 h.2 a.field-0 a.ensures.leads c.requires.relies.now.sound g in
+    let e = swap_gives_up c.args.shape.now _ _ w.side.known.view _ _ a.ensures.made w.kind w.key c.args.number c.args.changes h.0 h.2 a.field-0 a.ensures.leads c.requires.relies.now.knows.sound gives in
     let is = ap control_of a.field-0-is in
     absurd (cc)
+
+pub returns-in-On-clause-anew : goal.returns-in-On-clause-anew
+returns-in-On-clause-anew g c before h =
+    let w = c.args.worker.now in
+    let z = c.args.shape.now in
+    none_read z before w.side.known.view c.step.new.side.known.view w.key w.sights.seen.items 0 (kept_alike z w.side.known.view c.step.new.side.known.view c.in-On.ensures.made.reads) h
+
+pub returns-in-Closed-Succeeded-clause-anew : goal.returns-in-Closed-Succeeded-clause-anew
+returns-in-Closed-Succeeded-clause-anew g c before h =
+    let w = c.args.worker.now in
+    let z = c.args.shape.now in
+    none_read z before w.side.known.view c.step.new.side.known.view w.key w.sights.seen.items 0 (kept_alike z w.side.known.view c.step.new.side.known.view c.in-Closed-Succeeded.ensures.made.reads) h
+
+pub returns-in-Closed-Withdrawn-clause-anew : goal.returns-in-Closed-Withdrawn-clause-anew
+returns-in-Closed-Withdrawn-clause-anew g c before h =
+    let w = c.args.worker.now in
+    let z = c.args.shape.now in
+    none_read z before w.side.known.view c.step.new.side.known.view w.key w.sights.seen.items 0 (kept_alike z w.side.known.view c.step.new.side.known.view c.in-Closed-Withdrawn.ensures.made.reads) h
+
+pub returns-in-Closed-Failed-clause-anew : goal.returns-in-Closed-Failed-clause-anew
+returns-in-Closed-Failed-clause-anew g c before h =
+    let w = c.args.worker.now in
+    let z = c.args.shape.now in
+    none_read z before w.side.known.view c.step.new.side.known.view w.key w.sights.seen.items 0 (kept_alike z w.side.known.view c.step.new.side.known.view c.in-Closed-Failed.ensures.made.reads) h

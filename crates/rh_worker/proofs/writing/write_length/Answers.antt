@@ -1,16 +1,21 @@
 use Rattle.std.proofs.Common.{rules}
-use Rattle.rh_worker.proofs.RowSteps.{length_goes, write_makes}
+use Rattle.rh_worker.proofs.RowSteps.{length_goes, write_anew, write_makes}
 use Rattle.rh_worker.proofs.writing.write_length.Goals as goal
 
 pub returns-clause-makes : goal.returns-clause-makes
-returns-clause-makes c = write_makes c.args.shape.now _ c.args.worker.now.side.known.view _ _ _ _ _ c.requires.relies (search rules) c.write_word.ensures
+returns-clause-makes g c = write_makes c.args.shape.now _ c.args.worker.now.side.known.view _ _ _ _ _ c.requires.relies (search rules) c.make.ensures
 
 pub returns-clause-worker : goal.returns-clause-worker
-returns-clause-worker c =
+returns-clause-worker g c =
     let w = c.args.worker.now in
     let h = c.requires.worker.stays in
     record {
       key = c.requires.worker.key;
       room = c.requires.worker.room;
-      stays = length_goes c.args.shape.now w.side.known.view w.kind w.key w.sights c.args.plan _ w.side.same_number _ c.write_word.ensures.view_is h.plan.some h;
+      stays = length_goes c.args.shape.now w.side.known.view w.kind w.key w.sights c.args.plan _ w.side.same_number _ c.make.ensures.view_is h.plan.some h;
     }
+
+pub returns-clause-anew : goal.returns-clause-anew
+returns-clause-anew g c before h =
+    let w = c.args.worker.now in
+    write_anew c.args.shape.now w.side.known.view _ _ c.make.ensures.view_is before w.key w.sights.seen.items h

@@ -1,5 +1,0 @@
-use Rattle.rh_helping.proofs.Relying.{workers_may_rely}
-use Rattle.rh_helping.proofs.laws.workers_rely.Goals as goal
-
-pub returns : goal.returns
-returns c = workers_may_rely

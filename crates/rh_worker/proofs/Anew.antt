@@ -1,0 +1,67 @@
+-- What was read for a key since it was begun.
+use Rattle.std.proofs.Common.{zero, suc, ◌≡◌, ℕ, ◌<◌, ◌≤◌, List, ◌∷◌, ◌++◌, length, map, filter, get_or, set, take, get_or-take, length-take-le, append_assoc, inl, refl, sym, ap, ◌∙◌, subst, arith}
+use Rattle.std.proofs.lemmas.List.{get_or-set_other, get_or-set_same}
+use Rattle.std.specs.Prelude.{Bool, Option, Some, None, IfSome, nat_lt}
+use Rattle.rh_ledger.specs.declared.tally.Kind.{Kind}
+use Rattle.rh_world.specs.Sides.{KeptRead}
+use Rattle.rh_acts.specs.Done.{Kept, kept}
+use Rattle.rh_run.specs.Advance.{GoesOn}
+use Rattle.rh_layout.specs.Round.{place_after}
+use Rattle.rh_layout.specs.Order.{home_of}
+use Rattle.rh_history.specs.History.{kept_of, value_of}
+use Rattle.rh_descriptor.specs.declared.shape.Shape.{Shape}
+use Rattle.rh_descriptor.specs.Places.{cell_count}
+use Rattle.rh_descriptor.specs.View.{View}
+use Rattle.rh_worker.specs.Reading.{HasRead, IsToldAnew, TellsAnew, seen_back}
+
+-- the same reads are kept
+pub kept_alike : (z : Shape) (v next : View) → next.side.reads ≡ v.side.reads → kept_of z next ≡ kept_of z v
+kept_alike z v next same = ap (λ (rs : List KeptRead). map (λ r. kept r.cell (value_of r.word)) (filter (λ r. nat_lt r.cell (cell_count z)) rs)) same
+
+-- nothing more was read
+pub none_read : (z : Shape) (before : List Kept) (v next : View) (k : ℕ) (seen : List ℕ) (n : ℕ) → kept_of z next ≡ kept_of z v
+    → HasRead z before v k seen n → HasRead z before next k seen n
+none_read z before v next k seen n same h = record { since = h.since; reads = same ∙ h.reads }
+
+-- what was seen is left
+pub left_off : (z : Shape) (before : List Kept) (v : View) (k : ℕ) (seen other : List ℕ) (n : ℕ) → HasRead z before v k seen n → HasRead z before v k other 0
+left_off z before v k seen other n h = record { since = seen_back z k seen n ++ h.since; reads = h.reads ∙ sym (append_assoc (seen_back z k seen n) h.since before) }
+
+-- the first n cells are seen alike
+alike : (z : Shape) (k : ℕ) (seen other : List ℕ) (n : ℕ) → ((p : ℕ) → p < n → get_or other p 0 ≡ get_or seen p 0) → seen_back z k other n ≡ seen_back z k seen n
+alike z k seen other zero same = refl
+alike z k seen other (suc n) same =
+    ap (λ (x : ℕ). kept (place_after (cell_count z) (home_of z.bits k) n) x ∷ seen_back z k other n) (same n (omega arith))
+    ∙ ap (λ (l : List Kept). kept (place_after (cell_count z) (home_of z.bits k) n) (get_or seen n 0) ∷ l) (alike z k seen other n (λ p l. same p (omega arith)))
+
+pub seen_alike : (z : Shape) (before : List Kept) (v : View) (k : ℕ) (seen other : List ℕ) (n : ℕ) → ((p : ℕ) → p < n → get_or other p 0 ≡ get_or seen p 0)
+    → HasRead z before v k seen n → HasRead z before v k other n
+seen_alike z before v k seen other n same h = record {
+  since = h.since;
+  reads = h.reads ∙ ap (λ (l : List Kept). l ++ (h.since ++ before)) (sym (alike z k seen other n same));
+}
+
+-- the next cell is read
+pub one_read : (z : Shape) (before : List Kept) (v next : View) (k : ℕ) (seen : List ℕ) (n c value : ℕ) → n < length seen
+    → c ≡ place_after (cell_count z) (home_of z.bits k) n → kept_of z next ≡ kept c value ∷ kept_of z v
+    → HasRead z before v k seen n → HasRead z before next k (set seen n value) (suc n)
+one_read z before v next k seen n c value inside at now h =
+    let l : List ℕ = set seen n value in
+    let old = seen_alike z before v k seen l n (λ p less. get_or-set_other seen n p value 0 (omega arith)) h in
+    record {
+      since = old.since;
+      reads = now ∙ ap (λ (ks : List Kept). kept c value ∷ ks) old.reads
+          ∙ ap (λ (x : Kept). x ∷ (seen_back z k l n ++ (old.since ++ before))) (ap (λ (a : ℕ). kept a value) at ∙ ap (λ (x : ℕ). kept (place_after (cell_count z) (home_of z.bits k) n) x) (sym (get_or-set_same seen n value 0 inside)));
+    }
+
+-- what was seen, as a list of its own
+pub front_read : (z : Shape) (before : List Kept) (v : View) (k : ℕ) (seen : List ℕ) (n : ℕ) → n ≤ length seen
+    → HasRead z before v k seen n → HasRead z before v k (take n seen) (length (take n seen))
+front_read z before v k seen n within h =
+    subst (HasRead z before v k (take n seen)) (sym (length-take-le n seen within))
+    (seen_alike z before v k seen (take n seen) n (λ p less. get_or-take n seen p 0 less) h)
+
+pub tells_anew : (z : Shape) (before : List Kept) (kind : Kind) (k : ℕ) (v next : View) (done : Option Bool) → GoesOn v next
+    → IfSome done (IsToldAnew z before next kind k) → TellsAnew z before kind k v next done
+tells_anew z before kind k v next None on h = tt
+tells_anew z before kind k v next (Some told) on h = inl (on, h)

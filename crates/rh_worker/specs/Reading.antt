@@ -1,0 +1,55 @@
+-- What was read for a key since it was begun. (own)
+use Rattle.std.specs.Prelude.{zero, suc, ◌≡◌, ℕ, ◌⊎◌, Option, Some, None, Bool, List, [], ◌∷◌, ◌++◌, length, slice_index}
+use Rattle.rh_layout.specs.Round.{place_after}
+use Rattle.rh_layout.specs.Order.{home_of}
+use Rattle.rh_ledger.specs.declared.tally.Kind.{Kind}
+use Rattle.rh_acts.specs.Done.{Kept, kept}
+use Rattle.rh_descriptor.specs.declared.shape.Shape.{Shape}
+use Rattle.rh_descriptor.specs.Places.{cell_count}
+use Rattle.rh_descriptor.specs.View.{View}
+use Rattle.rh_history.specs.History.{kept_of}
+use Rattle.rh_run.specs.Advance.{GoesOn, Succeeds}
+use Rattle.rh_worker.specs.Sights.{IsDoneBy}
+use Rattle.rh_worker.specs.declared.place.Place.{Place}
+use Rattle.rh_worker.specs.declared.place.Place.TheVariants as place
+use Rattle.rh_worker.specs.declared.worker.Worker.{Worker}
+
+-- the first n cells from the key's home on, as they were seen, the last one first
+abbrev pub seen_back : Shape → (k : ℕ) → (seen : List ℕ) → (n : ℕ) → List Kept
+seen_back z k seen zero = []
+seen_back z k seen (suc n) = kept (place_after (cell_count z) (home_of z.bits k) n) (slice_index seen n) ∷ seen_back z k seen n
+
+-- These were kept as read before the key was begun. Of those since, the newest are of the first n cells from its home on,
+-- in their order, and held what was seen.
+pub record HasRead (z : Shape) (before : List Kept) (v : View) (k : ℕ) (seen : List ℕ) (n : ℕ) : Type 0 where
+  pub since : List Kept
+  pub reads : kept_of z v ≡ seen_back z k seen n ++ (since ++ before)
+
+-- how many cells from the key's home on are seen, at a place
+abbrev pub seen_at : Place → ℕ
+seen_at place.Idle = 0
+seen_at place.Spent = 0
+seen_at (place.Scan n) = n
+seen_at (place.Settle s n) = n
+seen_at (place.Help w n) = n
+seen_at (place.WriteLength p) = 0
+seen_at (place.WriteCell p e) = 0
+seen_at (place.WriteOld p e) = 0
+seen_at (place.WriteNew p e) = 0
+seen_at (place.Open p) = 0
+seen_at (place.Swap w n changes) = 0
+
+-- what the worker sees was read anew
+abbrev pub ReadsAnew : Shape → (before : List Kept) → Worker → Type 0
+ReadsAnew z before w = HasRead z before w.side.known.view w.key w.sights.seen.items (seen_at w.place)
+
+-- what is told of a key that no act does, by the cells that were read in turn since it was begun
+pub record IsToldAnew (z : Shape) (before : List Kept) (v : View) (kind : Kind) (k : ℕ) (told : Bool) : Type 0 where
+  pub seen : List ℕ
+  pub read : HasRead z before v k seen (length seen)
+  pub tells : IsDoneBy kind z.bits k seen told
+
+-- where a step does the key, it is done by an own act, or is told so
+abbrev pub TellsAnew : Shape → (before : List Kept) → Kind → (k : ℕ) → (v next : View) → (done : Option Bool) → Type 0
+TellsAnew z before kind k v next None = Unit {0}
+TellsAnew z before kind k v next (Some told) = (GoesOn v next × IsToldAnew z before next kind k told) ⊎ Succeeds z kind k v next told
