@@ -276,7 +276,7 @@ module _ (z : Shape) (shape : IsShape z) (words : List ℕ) (keep : ℕ → View
       let c : ℕ = w.target d e in
       let work = work_known z shape words keep w side rule m who mine d e can.work in
       let dec = true_note z shape words keep w side rule m who mine (decided d r) tt refl can.decided in
-      let may : IsAllowed w side who (releases d e) = (record { size = can.work.size; known = known_note z shape words keep w side rule m who mine (size_is d can.work.size) tt can.work.known; within = can.work.within }, (r, known_note z shape words keep w side rule m who mine (decided d r) tt can.decided)) in
+      let may : IsAllowed w side who (releases d e) = (record { size = can.work.size; known = known_note z shape words keep w side rule m who mine (size_is d can.work.size) tt can.work.known; within = can.work.within }, inl (r, known_note z shape words keep w side rule m who mine (decided d r) tt can.decided)) in
       let test : eqb (found_in c) (desc_number d) ≡ is_desc (w.cell c) d = ap (λ (n : ℕ). eqb n (desc_number d)) (m.cells.cells c can.cell) ∙ desc_test z shape (w.cell c) d (m.cells.standing c can.cell) can.desc in
       let s : Side = release_view k d e c in
       let same = release_side_is d e work.0 in

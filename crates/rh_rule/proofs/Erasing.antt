@@ -4,7 +4,7 @@ use Rattle.rh_world.specs.World.{Cell, Control, In, Ref, is_ref}
 use Rattle.rh_world.specs.World.Cell.{desc, mark, plain}
 use Rattle.rh_world.specs.World.Control.{failed, succeeded, undecided, unused, withdrawn}
 use Rattle.rh_world.specs.Notes.{Note}
-use Rattle.rh_world.specs.Notes.Note.{decided, desc_is, found, held, known, may_demote, may_promote, mismatch, new_is, old_is, size_is, target_is, which_is}
+use Rattle.rh_world.specs.Notes.Note.{decided, desc_is, failed_at, found, held, known, may_demote, may_promote, mismatch, new_is, old_is, over, passed, size_is, target_is, which_is}
 use Rattle.rh_world.specs.Sides.{Side, close_side, note_side, release_side, settle_side}
 use Rattle.rh_world.specs.Moves.{Entries, cell_noted, control_noted, covers, mark_noted, note_entries, place_noted, placed_noted, release_noted, settle_noted}
 use Rattle.rh_rule.specs.Erased.{erased, erased_note}
@@ -17,6 +17,9 @@ IsWhole (target_is d e c) = Unit {0}
 IsWhole (old_is d e u) = Unit {0}
 IsWhole (new_is d e u) = Unit {0}
 IsWhole (decided d k) = Unit {0}
+IsWhole (over d) = Unit {0}
+IsWhole (passed d) = Unit {0}
+IsWhole (failed_at d e) = Unit {0}
 IsWhole (desc_is x d) = Unit {0}
 IsWhole (which_is x e) = Unit {0}
 IsWhole (found x c) = Unit {0}
@@ -32,6 +35,9 @@ same_note (target_is d i c) n e h = e
 same_note (old_is d i u) n e h = e
 same_note (new_is d i u) n e h = e
 same_note (decided d k) n e h = e
+same_note (over d) n e h = e
+same_note (passed d) n e h = e
+same_note (failed_at d i) n e h = e
 same_note (desc_is x d) n e h = e
 same_note (which_is x i) n e h = e
 same_note (found x c) n e h = e
@@ -54,6 +60,9 @@ mismatch_of (target_is f i c) d e j q = cc
 mismatch_of (old_is f i u) d e j q = cc
 mismatch_of (new_is f i u) d e j q = cc
 mismatch_of (decided f k) d e j q = cc
+mismatch_of (over f) d e j q = cc
+mismatch_of (passed f) d e j q = cc
+mismatch_of (failed_at f i) d e j q = cc
 mismatch_of (desc_is x f) d e j q = cc
 mismatch_of (which_is x i) d e j q = cc
 mismatch_of (found x c) d e j q = cc

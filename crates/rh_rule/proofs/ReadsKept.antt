@@ -1,5 +1,5 @@
 -- A step that changes no word: Reads.
-use Rattle.std.proofs.Common.{◌≡◌, ℕ, ◌<◌, List, get_or, sym, refl, ap, ◌∙◌, subst, inr, ⊎_elim, Some, None, Option}
+use Rattle.std.proofs.Common.{◌≡◌, ℕ, ◌<◌, List, [], ◌∷◌, get_or, sym, refl, ap, ◌∙◌, subst, inr, ⊎_elim, Some, None, Option}
 use Rattle.rh_world.specs.World.{Cell, Control, In, IsDecided, IsOpened, Ref, World, updated}
 use Rattle.rh_world.specs.World.Cell.{desc, mark, plain}
 use Rattle.rh_world.specs.World.Control.{failed, succeeded, undecided, unused, withdrawn}
@@ -8,7 +8,7 @@ use Rattle.rh_world.specs.Notes.Note.{decided, desc_is, found, known, new_is, ol
 use Rattle.rh_world.specs.Notes.Part.{of_rows}
 use Rattle.rh_world.specs.Sides.{Side, note_side}
 use Rattle.rh_world.specs.Rule.{Rule}
-use Rattle.rh_world.specs.Moves.{IsAllowed, MayWork, cell_noted, control_noted, mark_noted, side_after}
+use Rattle.rh_world.specs.Moves.{IsRowNote, MayWork, cell_noted, control_noted, mark_noted, side_after}
 use Rattle.rh_world.specs.Moves.Move.{learns, reads_cell, reads_control, reads_mark_control}
 use Rattle.rh_world.proofs.Laters.{steady_same}
 use Rattle.rh_world.proofs.StepLaws.{each_step_keeps}
@@ -110,9 +110,10 @@ module _ (z : Shape) (shape : IsShape z) (words : List ℕ) (keep : ℕ → View
   }
 
   -- what a row says is learned
-  learn : (n : Note) → IsAllowed w side who (learns n) → (x : Side) → x ≡ note_side k.side n → erased (note_side t n) ≡ note_side (erased t) n
+  learn : (n : Note) → IsRowNote n × HoldsIn w n → (x : Side) → x ≡ note_side k.side n → erased (note_side t n) ≡ note_side (erased t) n
       → Core w z words (updated keep who (record k { side = x }))
-  learn n may x is same = side_keeps (note_side t n) x (each_step_keeps w side who (learns n) rule may)
+  learn n may x is same = side_keeps (note_side t n) x (each_step_keeps w side who (learns (n ∷ [])) rule
+      (λ o i. ⊎_elim (λ (q : o ≡ n). subst (λ (p : Note). IsRowNote p × HoldsIn w p) (sym q) may) (λ j. absurd j) i))
       (is ∙ ap (λ (s : Side). note_side s n) h.side_is ∙ sym same) (subst (λ (y : Side). Grows k.side y) (sym is) (grows_note k.side n))
 
   pub reads_desc_control : (d : Ref) → IsDesc z d → (word : ℕ) → word ≡ word_at z words (part.Control d.worker d.number)

@@ -4,7 +4,7 @@ use Rattle.rh_tagword.specs.Word.{tag_of}
 use Rattle.rh_world.specs.World.{Cell, Control, In, Ref, World, is_ref}
 use Rattle.rh_world.specs.World.Control.{failed, succeeded, undecided, unused, withdrawn}
 use Rattle.rh_world.specs.Notes.{Note}
-use Rattle.rh_world.specs.Notes.Note.{decided, desc_is, found, held, known, may_demote, may_promote, mismatch, new_is, old_is, size_is, target_is, which_is}
+use Rattle.rh_world.specs.Notes.Note.{decided, desc_is, failed_at, found, held, known, may_demote, may_promote, mismatch, new_is, old_is, over, passed, size_is, target_is, which_is}
 use Rattle.rh_world.specs.Acts.{is_success}
 use Rattle.rh_world.specs.Sides.{Side}
 use Rattle.rh_world.proofs.ActsKept.{succeeded_opened}
@@ -62,6 +62,9 @@ says_so (target_is f i c) d e = absurd (true≢false (sym e))
 says_so (old_is f i u) d e = absurd (true≢false (sym e))
 says_so (new_is f i u) d e = absurd (true≢false (sym e))
 says_so (decided f k) d e = let q = both (is_ref f d) (is_success k) e in λ i. decided (sym (is_ref_yes f d q.0) i) (sym (success_is k q.1) i)
+says_so (over f) d e = absurd (true≢false (sym e))
+says_so (passed f) d e = absurd (true≢false (sym e))
+says_so (failed_at f i) d e = absurd (true≢false (sym e))
 says_so (desc_is x f) d e = absurd (true≢false (sym e))
 says_so (which_is x i) d e = absurd (true≢false (sym e))
 says_so (found x c) d e = absurd (true≢false (sym e))

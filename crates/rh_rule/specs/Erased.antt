@@ -1,7 +1,7 @@
 -- A Side without the numbers of acts, which no worker knows: they are 0.
 use Rattle.std.specs.Prelude.{map}
 use Rattle.rh_world.specs.Notes.{Note}
-use Rattle.rh_world.specs.Notes.Note.{known, size_is, target_is, old_is, new_is, decided, desc_is, which_is, found, may_promote, may_demote, held, mismatch}
+use Rattle.rh_world.specs.Notes.Note.{known, size_is, target_is, old_is, new_is, decided, over, passed, failed_at, desc_is, which_is, found, may_promote, may_demote, held, mismatch}
 use Rattle.rh_world.specs.Sides.{KeptRead, Side}
 
 abbrev pub erased_note : Note → Note
@@ -11,6 +11,9 @@ erased_note (target_is d e c) = target_is d e c
 erased_note (old_is d e u) = old_is d e u
 erased_note (new_is d e u) = new_is d e u
 erased_note (decided d k) = decided d k
+erased_note (over d) = over d
+erased_note (passed d) = passed d
+erased_note (failed_at d e) = failed_at d e
 erased_note (desc_is x d) = desc_is x d
 erased_note (which_is x e) = which_is x e
 erased_note (found x c) = found x c

@@ -2,7 +2,7 @@
 use Rattle.std.specs.Prelude.{◌≡◌, ℕ, ◌<◌, Bool, false, ◌&&◌, ◌||◌, List, [], ◌∷◌, filter, slice_index, None}
 use Rattle.rh_world.specs.World.{Ref, Control, World, In, is_ref}
 use Rattle.rh_world.specs.Notes.{Note}
-use Rattle.rh_world.specs.Notes.Note.{known, size_is, target_is, old_is, new_is, decided, desc_is, which_is, found, may_promote, may_demote, held, mismatch}
+use Rattle.rh_world.specs.Notes.Note.{known, size_is, target_is, old_is, new_is, decided, over, passed, failed_at, desc_is, which_is, found, may_promote, may_demote, held, mismatch}
 use Rattle.rh_world.specs.Sides.{Side, AtRest}
 use Rattle.rh_world.specs.Acts.{cells_after, is_success, own_acts, successes_of}
 use Rattle.rh_world.specs.Laws.{Foretold, OneOrder, SharedOut}
@@ -47,6 +47,9 @@ says_success (target_is f e c) d = false
 says_success (old_is f e u) d = false
 says_success (new_is f e u) d = false
 says_success (decided f k) d = is_ref f d && is_success k
+says_success (over f) d = false
+says_success (passed f) d = false
+says_success (failed_at f e) d = false
 says_success (desc_is x f) d = false
 says_success (which_is x e) d = false
 says_success (found x c) d = false

@@ -9,14 +9,14 @@ use Rattle.rh_world.specs.Notes.{HoldsIn, Note, part_of}
 use Rattle.rh_world.specs.Notes.Part.{of_acts}
 use Rattle.rh_world.specs.Later.{Later}
 use Rattle.rh_world.specs.Sides.{Side, open_side, place_side}
-use Rattle.rh_world.specs.Rows.{Rows}
+use Rattle.rh_world.specs.Rows.{ByOpener, Rows}
 use Rattle.rh_world.specs.Acts.{Acts}
 use Rattle.rh_world.specs.Moves.{Entries, cell_world, claim_world, decide_world, open_world, place_world, succeed_world}
 use Rattle.rh_world.proofs.Conditions.{OpensNext, PlacesNext}
 use Rattle.rh_world.proofs.Laters.{later_cell, later_claim, later_decide, later_open, later_place, later_succeed}
-use Rattle.rh_world.proofs.RowsKept.{by_side, field_same}
+use Rattle.rh_world.proofs.RowsKept.{by_side, field_same, opener_same}
 use Rattle.rh_world.proofs.Stays.{acts_note_stays}
-use Rattle.rh_world.proofs.Updated.{decided_opened, ref_path, same_nat, undecided_open, updated_at, updated_here, updated_ref_at, updated_ref_here}
+use Rattle.rh_world.proofs.Updated.{decided_opened, ref_path, same_nat, some_not_none, undecided_open, updated_at, updated_else, updated_here, updated_ref_at, updated_ref_here}
 
 pub is_succeeded : (k : Control) → (k ≡ succeeded) ⊎ (k ≢ succeeded)
 is_succeeded unused = inr (λ e. cc)
@@ -85,8 +85,9 @@ module _ (w v : World) (l : Later w v) where
   pub acts_stay : (side side' : ℕ → Side) → Rows w side
       → ((u : ℕ) (n : Note) → In n (side' u).notes → In n (side u).notes) → v.act_count ≡ w.act_count
       → ((d : Ref) → v.control d ≡ succeeded → w.control d ≡ succeeded)
-      → ((c : ℕ) → IsLogical v c (w.logical w.act_count c)) → Acts w side → Acts v side'
-  acts_stay side side' rows fewer same no_new now a =
+      → ((c : ℕ) → IsLogical v c (w.logical w.act_count c)) → ((d : Ref) (e : ℕ) → ByOpener side d e → ByOpener side' d e)
+      → Acts w side → Acts v side'
+  acts_stay side side' rows fewer same no_new now openers a =
       let old : (i : ℕ) → i < v.act_count → i < w.act_count = λ i h. omega arith in
       record {
         made = λ d q. let m = a.made d (no_new d q) in let h : m.0 < w.act_count = m.1 in (m.0, omega arith, l.act m.0 h ∙ m.2);
@@ -101,6 +102,11 @@ module _ (w v : World) (l : Later w v) where
             subst (λ (x : Ref). Takes v x (v.logical i) (v.logical (suc i))) (sym (l.act i k))
             (takes_stay (w.act i) (w.logical i) (w.logical (suc i)) (v.logical i) (v.logical (suc i)) (succeeded_opened _ (a.succeeded i k)) (λ c. l.logical i c (omega arith)) (λ c. l.logical (suc i) c (omega arith)) (a.takes i k));
         now = λ c. subst (λ (u : ℕ). IsLogical v c u) (sym (ap (λ (n : ℕ). v.logical n c) same ∙ l.logical w.act_count c (omega arith))) (now c);
+        standing = λ c d here s.
+            let before : w.control d ≡ succeeded = no_new d s in
+            let o = succeeded_opened _ before in
+            let t = a.standing c d (⊎_elim (λ stood. stood) (λ fails. absurd (fails s)) (l.came c d o here)) before in
+            record { entry = t.entry; within = subst (λ (n : ℕ). t.entry < n) (sym (l.size d o)) t.within; here = l.target d t.entry o ∙ t.here; owed = openers d t.entry t.owed };
         notes = λ u n h p. acts_note_stays w v side rows l n p (a.notes u n (fewer u n h) p);
       }
 
@@ -110,13 +116,17 @@ same_notes side who s e u n h = subst (λ (z : List Note). In n z) (field_same s
 
 -- a side alone changes
 pub acts_side : (w : World) (side : ℕ → Side) (who : ℕ) (s : Side)
+    → ((d : Ref) (e : ℕ) → e < w.size d → w.cell (w.target d e) ≡ desc d → ByOpener side d e → ByOpener (updated side who s) d e)
     → ((n : Note) → In n s.notes → part_of n ≡ of_acts → HoldsIn w n) → Acts w side → Acts w (updated side who s)
-acts_side w side who s notes a = record {
+acts_side w side who s openers notes a = record {
   made = a.made;
   succeeded = a.succeeded;
   ordered = a.ordered;
   takes = a.takes;
   now = a.now;
+  standing = λ c d here is.
+      let t = a.standing c d here is in
+      record { entry = t.entry; within = t.within; here = t.here; owed = openers d t.entry t.within (ap w.cell t.here ∙ here) t.owed };
   notes = by_side side who s (λ (u : ℕ) (t : Side). (n : Note) → In n t.notes → part_of n ≡ of_acts → HoldsIn w n) notes (λ u n. a.notes u);
 }
 
@@ -129,7 +139,7 @@ acts_cell w side c k rows l says a = acts_stay w (cell_world w c k) l side side 
     (subst (λ (i : ℕ). StandsFor (cell_world w c k) i k (w.logical w.act_count i)) (sym p.0) (again k says)))
     (λ p. subst (λ (x : Cell). StandsFor (cell_world w c k) j x (w.logical w.act_count j)) (sym p.1)
     (stands_for_stay w (cell_world w c k) l side j (w.logical w.act_count j) (w.cell j) rows refl (λ d e q. q) (a.now j)))
-    (updated_at w.cell c j k)) a
+    (updated_at w.cell c j k)) (λ d e b. b) a
   where
     again : (x : Cell) → StandsFor w c x (w.logical w.act_count c)
         → StandsFor (cell_world w c k) c x (w.logical w.act_count c)
@@ -142,14 +152,15 @@ pub acts_promote : (w : World) (side : ℕ → Side) (c : ℕ) (x : Ref) → Row
 acts_promote w side c x rows e fails a =
     let m = rows.marks c x e in
     let s : StandsFor w c (mark x) (w.logical w.act_count c) = subst (λ (k : Cell). StandsFor w c k (w.logical w.act_count c)) e (a.now c) in
-    acts_cell w side c (desc (w.mark_desc x)) rows (later_cell w c (desc (w.mark_desc x)) (λ y q. cc) (λ d q. let r : mark x ≡ desc d = sym e ∙ q in cc))
+    acts_cell w side c (desc (w.mark_desc x)) rows (later_cell w c (desc (w.mark_desc x)) (λ y q. cc) (λ d q. let r : mark x ≡ desc d = sym e ∙ q in cc)
+    (λ d q t. let r : w.mark_desc x ≡ d = cc in fails (ap w.control r ∙ t)))
     record { entry = w.mark_entry x; within = (rows.used x m.used).1; here = m.here; value = chosen_old _ _ _ fails ∙ s } a
 
 pub acts_demote : (w : World) (side : ℕ → Side) (c : ℕ) (x : Ref) → Rows w side → w.cell c ≡ mark x → Acts w side
     → Acts (cell_world w c (plain (w.old (w.mark_desc x) (w.mark_entry x)))) side
 acts_demote w side c x rows e a =
     let s : StandsFor w c (mark x) (w.logical w.act_count c) = subst (λ (k : Cell). StandsFor w c k (w.logical w.act_count c)) e (a.now c) in
-    acts_cell w side c (plain (w.old (w.mark_desc x) (w.mark_entry x))) rows (later_cell w c (plain (w.old (w.mark_desc x) (w.mark_entry x))) (λ y q. cc) (λ d q. let r : mark x ≡ desc d = sym e ∙ q in cc)) s a
+    acts_cell w side c (plain (w.old (w.mark_desc x) (w.mark_entry x))) rows (later_cell w c (plain (w.old (w.mark_desc x) (w.mark_entry x))) (λ y q. cc) (λ d q. let r : mark x ≡ desc d = sym e ∙ q in cc) (λ d q t. cc)) s a
 
 pub acts_release : (w : World) (side : ℕ → Side) (d : Ref) (e : ℕ) → Rows w side → w.cell (w.target d e) ≡ desc d
     → e < w.size d → IsDecided (w.control d) → Acts w side
@@ -159,7 +170,7 @@ acts_release w side d e rows here within dec a =
     let k : ℕ = entry_value (w.control d) (w.old d e) (w.new d e) in
     let s : EntryStandsFor w d c (w.logical w.act_count c) = subst (λ (k : Cell). StandsFor w c k (w.logical w.act_count c)) here (a.now c) in
     let q : s.entry ≡ e = one_entry w side d s.entry e rows (decided_opened _ dec) s.within within s.here in
-    acts_cell w side c (plain k) rows (later_cell w c (plain k) (λ y q. cc) (λ f p. let r : desc d ≡ desc f = sym here ∙ p in let t : d ≡ f = cc in subst (λ (x : Ref). IsDecided (w.control x)) t dec))
+    acts_cell w side c (plain k) rows (later_cell w c (plain k) (λ y q. cc) (λ f p. let r : desc d ≡ desc f = sym here ∙ p in let t : d ≡ f = cc in subst (λ (x : Ref). IsDecided (w.control x)) t dec) (λ f p t. cc))
     (ap (λ (x : ℕ). entry_value (w.control d) (w.old d x) (w.new d x)) (sym q) ∙ s.value) a
 
 pub acts_open : (w : World) (side : ℕ → Side) (d : Ref) (p : Entries) → Rows w side → OpensNext w side d p
@@ -167,7 +178,11 @@ pub acts_open : (w : World) (side : ℕ → Side) (d : Ref) (p : Entries) → Ro
 acts_open w side d p rows can a =
     let l = later_open w side d p rows can in
     let no_new : (f : Ref) → updated_ref w.control d undecided f ≡ succeeded → w.control f ≡ succeeded = λ f q. ⊎_elim (λ r. let t : undecided ≡ succeeded = sym r.1 ∙ q in cc) (λ r. sym r.1 ∙ q) (updated_ref_at w.control d f undecided) in
-    acts_stay w (open_world w d p) l side (updated side d.worker (open_side (side d.worker) d.number)) rows (same_notes side d.worker (open_side (side d.worker) d.number) refl) refl no_new (λ j. stands_for_stay w (open_world w d p) l side j (w.logical w.act_count j) (w.cell j) rows refl (λ f e. no_new f) (a.now j)) a
+    acts_stay w (open_world w d p) l side (updated side d.worker (open_side (side d.worker) d.number)) rows (same_notes side d.worker (open_side (side d.worker) d.number) refl) refl no_new (λ j. stands_for_stay w (open_world w d p) l side j (w.logical w.act_count j) (w.cell j) rows refl (λ f e. no_new f) (a.now j))
+    (λ f e b.
+    let not : f.worker ≢ d.worker = λ q. some_not_none f.number (sym b.current ∙ (ap (λ (u : ℕ). (side u).current) q ∙ can.closed)) in
+    let is = updated_else side d.worker f.worker (open_side (side d.worker) d.number) not in
+    record { current = ap (λ (t : Side). t.current) is ∙ b.current; unreleased = λ r. b.unreleased (subst (λ (t : Side). In e t.released) is r) }) a
 
 pub acts_place : (w : World) (side : ℕ → Side) (x d : Ref) (e : ℕ) → Rows w side → PlacesNext w side x d e
     → Acts w side → Acts (place_world w x d e) (updated side x.worker (place_side (side x.worker) x.number))
@@ -182,14 +197,14 @@ acts_place w side x d e rows can a =
     (ap (λ (f : Ref). w.old f (v.mark_entry x)) (updated_ref_here w.mark_desc x x d refl) ∙ (ap (λ (n : ℕ). w.old d n) (updated_ref_here w.mark_entry x x e refl) ∙ (s ∙ ap (λ (i : ℕ). w.logical w.act_count i) (sym p.0)))))
     (λ p. subst (λ (k : Cell). StandsFor v j k (w.logical w.act_count j)) (sym p.1)
     (stands_for_stay w v l side j (w.logical w.act_count j) (w.cell j) rows refl (λ f e q. q) (a.now j)))
-    (updated_at w.cell c j (mark x))) a
+    (updated_at w.cell c j (mark x))) (opener_same side x.worker (place_side (side x.worker) x.number) refl refl) a
 
 pub acts_decide : (w : World) (side : ℕ → Side) (d : Ref) (r : Control) → Rows w side → w.control d ≡ undecided
     → IsDecided r → r ≢ succeeded → Acts w side → Acts (decide_world w d r) side
 acts_decide w side d r rows und dec fail a =
     let l = later_decide w d r und dec fail in
     let no_new : (f : Ref) → updated_ref w.control d r f ≡ succeeded → w.control f ≡ succeeded = λ f q. ⊎_elim (λ p. absurd (fail (sym p.1 ∙ q))) (λ p. sym p.1 ∙ q) (updated_ref_at w.control d f r) in
-    acts_stay w (decide_world w d r) l side side rows (λ u n h. h) refl no_new (λ j. stands_for_stay w (decide_world w d r) l side j (w.logical w.act_count j) (w.cell j) rows refl (λ f e. no_new f) (a.now j)) a
+    acts_stay w (decide_world w d r) l side side rows (λ u n h. h) refl no_new (λ j. stands_for_stay w (decide_world w d r) l side j (w.logical w.act_count j) (w.cell j) rows refl (λ f e. no_new f) (a.now j)) (λ f e b. b) a
 
 -- the one step that changes what cells stand for
 pub changed_else : (w : World) (d : Ref) (n : ℕ) (f : ℕ → ℕ) (c : ℕ) → ((e : ℕ) → e < n → w.target d e ≢ c)
@@ -306,9 +321,21 @@ acts_succeed w side d rows und all a =
           (updated_ref_at w.control d f succeeded))
           (a.now c)))
           (entry_or w d (w.size d) c));
+      standing = λ c f e s. ⊎_elim
+          (λ (p : (f ≡ d) × (v.control f ≡ succeeded)).
+          let t = rows.descs c f e in
+          let now : (side f.worker).current ≡ Some f.number = subst (λ (x : Ref). (side x.worker).current ≡ Some x.number) (sym p.0) here in
+          record {
+            entry = t.entry;
+            within = t.within;
+            here = t.here;
+            owed = record { current = now; unreleased = λ r. undecided_open _ (ap w.control p.0 ∙ und) (rows.released f t.entry now r) };
+          })
+          (λ (p : (f ≢ d) × (v.control f ≡ w.control f)). let t = a.standing c f e (sym p.1 ∙ s) in record { entry = t.entry; within = t.within; here = t.here; owed = t.owed })
+          (updated_ref_at w.control d f succeeded);
       notes = λ u n h p. acts_note_stays w v side rows l n p (a.notes u n h p);
     }
 
 pub acts_claim : (w : World) (side : ℕ → Side) → Rows w side → Acts w side → Acts (claim_world w) side
 acts_claim w side rows a = acts_stay w (claim_world w) (later_claim w) side side rows (λ u n h. h) refl (λ f q. q)
-    (λ j. stands_for_stay w (claim_world w) (later_claim w) side j (w.logical w.act_count j) (w.cell j) rows refl (λ f e q. q) (a.now j)) a
+    (λ j. stands_for_stay w (claim_world w) (later_claim w) side j (w.logical w.act_count j) (w.cell j) rows refl (λ f e q. q) (a.now j)) (λ f e b. b) a

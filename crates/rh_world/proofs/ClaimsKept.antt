@@ -5,10 +5,11 @@ use native.Mathlib.Decide.{dec_lt}
 use Rattle.rh_world.specs.World.{Cell, Control, In, IsFalling, Ref, World, is_ref, updated}
 use Rattle.rh_world.specs.World.Cell.{desc, mark, plain}
 use Rattle.rh_world.specs.World.Control.{failed, succeeded, undecided, unused, withdrawn}
+use Rattle.rh_world.specs.Notes.{Note}
 use Rattle.rh_world.specs.Notes.Note.{held, known, mismatch}
 use Rattle.rh_world.specs.Sides.{Side, claim_side, close_side, is_number, note_side, open_side, paid_side, release_side}
 use Rattle.rh_world.specs.Claims.{Claims, ends_found, found_end}
-use Rattle.rh_world.specs.Moves.{Entries, IsAllowed, MayClaim, Move, cell_noted, cell_world, claim_world, control_noted, covers, decided_world, is_desc, is_mark, is_plain, mark_noted, next_desc, next_mark, note_entries, place_noted, place_world, placed_noted, release_noted, released_cell, settle_noted, settled_cell, side_after, sides_after, world_after}
+use Rattle.rh_world.specs.Moves.{Entries, IsAllowed, MayClaim, Move, cell_noted, cell_world, claim_world, control_noted, covers, decided_world, is_desc, is_mark, is_plain, mark_noted, next_desc, next_mark, note_all, note_entries, place_noted, place_world, placed_noted, release_noted, released_cell, settle_noted, settled_cell, side_after, sides_after, world_after}
 use Rattle.rh_world.specs.Moves.Move.{claims, decides, learns, opens, places, reads_cell, reads_control, reads_mark_control, releases, settles}
 use Rattle.rh_world.proofs.RowsKept.{by_side, field_same}
 use Rattle.rh_world.proofs.Updated.{updated_at, updated_here}
@@ -168,6 +169,10 @@ claim_keeps w side who may c =
       ];
     }
 
+notes_claims : (s : Side) (ns : List Note) → (note_all s ns).claims ≡ s.claims
+notes_claims s [] = refl
+notes_claims s (n ∷ ns) = notes_claims s ns
+
 others : (w : World) (side : ℕ → Side) (who : ℕ) (m : Move) → Uncounted w (world_after w who m)
     → (side_after w (side who) who m).claims ≡ (side who).claims → Claims w side
     → Claims (world_after w who m) (sides_after w side who m)
@@ -177,7 +182,7 @@ others w side who m u same c =
 pub claims_kept : (w : World) (side : ℕ → Side) (who : ℕ) (m : Move) → Claims w side → IsAllowed w side who m
     → Claims (world_after w who m) (sides_after w side who m)
 claims_kept w side who claims c may = claim_keeps w side who may c
-claims_kept w side who (learns n) c may = others w side who (learns n) (uncounted w) refl c
+claims_kept w side who (learns ns) c may = others w side who (learns ns) (uncounted w) (notes_claims (side who) ns) c
 claims_kept w side who (opens p) c may = others w side who (opens p) record { counter = refl; keys = refl; workers = refl } (entries_claims (open_side (side who) (w.next_number who)) (next_desc w who) p p.size) c
 claims_kept w side who (reads_cell j) c may = others w side who (reads_cell j) (uncounted w) (cell_claims (side who) j (w.cell j) (side who).current w.act_count (w.next_number who)) c
 claims_kept w side who (reads_control d) c may = others w side who (reads_control d) (uncounted w) (control_claims (side who) d (w.control d)) c

@@ -37,6 +37,7 @@ module _ (workers keys counter : ℕ) (opening : ℕ → ℕ) (claims_of : ℕ �
     owing = record {
       used = λ x h. absurd (omega arith);
       unsettled = λ x h. absurd (some_not_none x.number (sym h));
+      newest = λ x h. absurd (some_not_none x.number (sym h));
       marks = λ c x e. cc;
       descs = λ c d e. cc;
     };
@@ -50,6 +51,7 @@ module _ (workers keys counter : ℕ) (opening : ℕ → ℕ) (claims_of : ℕ �
     ordered = λ i j h k. absurd (omega arith);
     takes = λ i h. absurd (omega arith);
     now = λ c. refl;
+    standing = λ c d e s. cc;
     notes = λ v n h. absurd h;
   }
 

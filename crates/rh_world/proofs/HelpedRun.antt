@@ -1,13 +1,15 @@
 -- The worked run is a run of allowed steps, and all are at rest at its end.
 use Rattle.std.proofs.Common.{◌≡◌, ◌≢◌, ℕ, suc, ◌<◌, ◌≤◌, Bool, true, nat_le, ◌&&◌, List, [], ◌∷◌, sym, refl, ◌∙◌, subst, inl, inr, ⊎_elim, arith}
 use Rattle.std.proofs.lemmas.Bool.{leb-true}
-use Rattle.rh_world.specs.World.{World}
+use Rattle.rh_world.specs.World.{In, World}
 use Rattle.rh_world.specs.World.Control.{failed, succeeded, withdrawn}
+use Rattle.rh_world.specs.Notes.{HoldsIn, Note}
+use Rattle.rh_world.specs.Notes.Note.{size_is}
 use Rattle.rh_world.specs.Sides.{AtRest, Side}
-use Rattle.rh_world.specs.Moves.{IsAllowed, side_after, sides_after, world_after}
+use Rattle.rh_world.specs.Moves.{IsAllowed, IsRowNote, side_after, sides_after, world_after}
 use Rattle.rh_world.specs.Ends.{AllAtRest, Runs, Turn, start_sides, start_world}
 use Rattle.rh_world.specs.Ends.Runs.{goes, rests}
-use Rattle.rh_world.specs.Example.{ARunToASuccess, helped_run}
+use Rattle.rh_world.specs.Example.{ARunToASuccess, first, helped_run}
 use Rattle.rh_world.proofs.Tests.{both}
 use Rattle.rh_world.proofs.Updated.{same_nat, updated_else}
 
@@ -32,6 +34,9 @@ runs_of w side (t ∷ ts) a = goes t.who t.move a.0 (runs_of (world_after w t.wh
 below_two : (P : ℕ → Type 0) → P 0 → P 1 → (e : ℕ) → e < 2 → P e
 below_two P p0 p1 e less = ⊎_elim (λ (q : e ≡ 0). subst P (sym q) p0) (λ (n : e ≢ 0). let q : e ≡ 1 = omega arith in subst P (sym q) p1) (same_nat e 0)
 
+only_note : (w : World) (n : Note) → IsRowNote n × HoldsIn w n → (m : Note) → In m (n ∷ []) → IsRowNote m × HoldsIn w m
+only_note w n h m i = ⊎_elim (λ (q : m ≡ n). subst (λ (k : Note). IsRowNote k × HoldsIn w k) (sym q) h) (λ j. absurd j) i
+
 are_allowed : AreAllowed (start_world 2 1 (λ c. 5)) start_sides helped_run
 are_allowed = (
   record { nonempty = omega arith; rising = λ e f a b. omega arith; closed = refl },
@@ -48,7 +53,7 @@ are_allowed = (
             (
               (inr (inr (inl refl)), inl refl),
               (
-                (tt, ((λ q. cc), refl)),
+                only_note _ (size_is first 2) (tt, ((λ q. cc), refl)),
                 (
                   (record { size = 2; known = inl refl; within = omega arith }, refl),
                   (
@@ -62,11 +67,11 @@ are_allowed = (
                           (
                             tt,
                             (
-                              (record { size = 2; known = inr (inr (inr (inr (inr (inr (inr (inr (inr (inr (inr (inr (inl refl)))))))))))); within = omega arith }, (succeeded, inl refl)),
+                              (record { size = 2; known = inr (inr (inr (inr (inr (inr (inr (inr (inr (inr (inr (inr (inl refl)))))))))))); within = omega arith }, inl (succeeded, inl refl)),
                               (
-                                (record { size = 2; known = inr (inr (inr (inr (inr (inr (inr (inr (inl refl)))))))); within = omega arith }, (succeeded, inl refl)),
+                                (record { size = 2; known = inr (inr (inr (inr (inr (inr (inr (inr (inl refl)))))))); within = omega arith }, inl (succeeded, inl refl)),
                                 (
-                                  (record { size = 2; known = inr (inr (inr (inr (inr (inr (inr (inr (inr (inr (inr (inr (inl refl)))))))))))); within = omega arith }, (succeeded, inl refl)),
+                                  (record { size = 2; known = inr (inr (inr (inr (inr (inr (inr (inr (inr (inr (inr (inr (inl refl)))))))))))); within = omega arith }, inl (succeeded, inl refl)),
                                   (
                                     record { nonempty = omega arith; rising = λ e f a b. absurd (omega arith); closed = refl },
                                     (
@@ -84,7 +89,7 @@ are_allowed = (
                                                 (
                                                   (inr (inr (inr (inl refl))), inl refl),
                                                   (
-                                                    (record { size = 1; known = inr (inr (inr (inr (inr (inr (inr (inr (inr (inl refl))))))))); within = omega arith }, (withdrawn, inr (inl refl))),
+                                                    (record { size = 1; known = inr (inr (inr (inr (inr (inr (inr (inr (inr (inl refl))))))))); within = omega arith }, inl (withdrawn, inr (inl refl))),
                                                     (
                                                       record { nonempty = omega arith; rising = λ e f a b. absurd (omega arith); closed = refl },
                                                       (
@@ -92,7 +97,7 @@ are_allowed = (
                                                         (
                                                           (inr (inr (inr (inr (inr (inl refl))))), (1, inl refl)),
                                                           (
-                                                            (record { size = 1; known = inr (inr (inr (inr (inr (inl refl))))); within = omega arith }, ((failed 0), inl refl)),
+                                                            (record { size = 1; known = inr (inr (inr (inr (inr (inl refl))))); within = omega arith }, inl ((failed 0), inl refl)),
                                                             (
                                                               record { worker = omega arith; closed = refl; keys = λ n h. absurd h },
                                                               (

@@ -1,5 +1,5 @@
 -- Each change that a step makes in the world is one that steps may make.
-use Rattle.std.proofs.Common.{◌≡◌, ◌≢◌, ℕ, suc, ◌<◌, sym, refl, ap, ◌∙◌, subst, ⊎_elim, arith}
+use Rattle.std.proofs.Common.{◌≡◌, ◌≢◌, ℕ, suc, ◌<◌, sym, refl, ap, ◌∙◌, subst, inl, inr, ⊎_elim, arith}
 use Rattle.rh_world.specs.World.{Cell, Control, IsDecided, IsOpened, IsUsed, Ref, World, updated, updated_ref}
 use Rattle.rh_world.specs.World.Cell.{desc, mark, plain}
 use Rattle.rh_world.specs.World.Control.{succeeded, undecided}
@@ -216,24 +216,35 @@ steady_claim w = record {
 }
 
 pub later_cell : (w : World) (c : ℕ) (k : Cell) → ((x : Ref) → k ≢ mark x)
-    → ((d : Ref) → w.cell c ≡ desc d → IsDecided (w.control d)) → Later w (cell_world w c k)
-later_cell w c k clean over = record { steady = steady_cell w c k clean over; late = λ j x h e s. s }
+    → ((d : Ref) → w.cell c ≡ desc d → IsDecided (w.control d)) → ((d : Ref) → k ≡ desc d → w.control d ≢ succeeded)
+    → Later w (cell_world w c k)
+later_cell w c k clean over fails = record {
+  steady = steady_cell w c k clean over;
+  came = λ j d o e. ⊎_elim (λ p. inr (fails d (sym p.1 ∙ e))) (λ p. inl (sym p.1 ∙ e)) (updated_at w.cell c j k);
+  late = λ j x h e s. s;
+}
 
 pub later_open : (w : World) (side : ℕ → Side) (d : Ref) (p : Entries) → Rows w side → OpensNext w side d p
     → Later w (open_world w d p)
 later_open w side d p rows can = record {
   steady = steady_open w side d p rows can;
+  came = λ j f o q. inl q;
   late = λ j x h e s. sym (updated_ref_else w.control d (w.mark_desc x) undecided (opened_not w side d (w.mark_desc x) rows can.next (rows.used x h).0)) ∙ s;
 }
 
 pub later_place : (w : World) (side : ℕ → Side) (x d : Ref) (e : ℕ) → Rows w side → PlacesNext w side x d e
     → Later w (place_world w x d e)
-later_place w side x d e rows can = record { steady = steady_place w side x d e rows can; late = λ j y h q s. s }
+later_place w side x d e rows can = record {
+  steady = steady_place w side x d e rows can;
+  came = λ j f o q. ⊎_elim (λ p. let r : mark x ≡ desc f = sym p.1 ∙ q in cc) (λ p. inl (sym p.1 ∙ q)) (updated_at w.cell (w.target d e) j (mark x));
+  late = λ j y h q s. s;
+}
 
 pub later_decide : (w : World) (d : Ref) (r : Control) → w.control d ≡ undecided → IsDecided r → r ≢ succeeded
     → Later w (decide_world w d r)
 later_decide w d r und dec fail = record {
   steady = steady_decide w d r und dec fail;
+  came = λ j f o q. inl q;
   late = λ j y h q s. ⊎_elim (λ p. absurd (fail (sym p.1 ∙ s))) (λ p. sym p.1 ∙ s) (updated_ref_at w.control d (w.mark_desc y) r);
 }
 
@@ -242,6 +253,7 @@ pub later_succeed : (w : World) (side : ℕ → Side) (d : Ref) → Rows w side 
     → ((e : ℕ) → e < w.size d → w.cell (w.target d e) ≡ desc d) → Later w (succeed_world w d)
 later_succeed w side d rows und all = record {
   steady = steady_succeed w d und;
+  came = λ j f o q. inl q;
   late = λ j y h q s. ⊎_elim
       (λ (p : (w.mark_desc y ≡ d) × (updated_ref w.control d succeeded (w.mark_desc y) ≡ succeeded)).
       let m = rows.marks j y q in
@@ -252,7 +264,7 @@ later_succeed w side d rows und all = record {
 }
 
 pub later_same : (w : World) → Later w w
-later_same w = record { steady = steady_same w; late = λ j x h e s. s }
+later_same w = record { steady = steady_same w; came = λ j f o q. inl q; late = λ j x h e s. s }
 
 pub later_claim : (w : World) → Later w (claim_world w)
-later_claim w = record { steady = steady_claim w; late = λ j x h e s. s }
+later_claim w = record { steady = steady_claim w; came = λ j f o q. inl q; late = λ j x h e s. s }

@@ -14,5 +14,6 @@ pub mod ClaimsKept
 pub mod StepsLater
 pub mod OwnList
 pub mod EndsKept
+pub mod Passing
 pub mod StepLaws
 pub mod HelpedRun

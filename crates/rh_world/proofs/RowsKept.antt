@@ -21,6 +21,14 @@ module _ (side : ℕ → Side) (who : ℕ) (s : Side) where
   pub field_same : {B : Type 0} (g : Side → B) → g s ≡ g (side who) → (u : ℕ) → g (updated side who s u) ≡ g (side u)
   field_same g e u = by_side (λ (x : ℕ) (t : Side). g t ≡ g (side x)) e (λ x n. refl) u
 
+-- what is owed by an opener stays so where its Side has the same open and released
+pub opener_same : (side : ℕ → Side) (who : ℕ) (s : Side) → s.current ≡ (side who).current → s.released ≡ (side who).released
+    → (d : Ref) (e : ℕ) → ByOpener side d e → ByOpener (updated side who s) d e
+opener_same side who s current released d e b = record {
+  current = field_same side who s (λ (t : Side). t.current) current d.worker ∙ b.current;
+  unreleased = λ r. b.unreleased (subst (In e) (field_same side who s (λ (t : Side). t.released) released d.worker) r);
+}
+
 module _ (w v : World) (side side' : ℕ → Side) (l : Steady w v) where
   pub owed_stay : Owing w side → ((u p : ℕ) → (side u).current ≡ Some p → (side' u).current ≡ Some p)
       → ((u p e : ℕ) → (side u).current ≡ Some p → In e (side' u).released → In e (side u).released)
@@ -69,6 +77,7 @@ rows_cell w side c k l clean new rows =
       owing = record {
         used = rows.used;
         unsettled = rows.unsettled;
+        newest = rows.newest;
         marks = λ j x e. ⊎_elim (λ p. absurd (clean x (sym p.1 ∙ e))) (λ p. let m = rows.marks j x (sym p.1 ∙ e) in record { used = m.used; here = m.here; owed = m.owed }) (updated_at w.cell c j k);
         descs = λ j d e. ⊎_elim
             (λ p. let t = subst (λ (i : ℕ). DescInCell w side i d) (sym p.0) (new d (sym p.1 ∙ e)) in desc_stays w v side side l j d t (owed d t.entry j t.owed))
@@ -104,10 +113,11 @@ rows_release w side d e n here dec rows =
 -- no cell changes, and nothing is opened or placed
 rows_frame : (w : World) (side : ℕ → Side) (v : World) → v.cell ≡ w.cell
     → ((f : Ref) → IsOpened (v.control f) → IsOpened (w.control f)) → ((u : ℕ) → v.next_number u ≡ w.next_number u)
-    → ((x : Ref) → IsUsed v x → IsUsed w x) → Steady w v → Rows w side → Rows v side
-rows_frame w side v cells back numbers fewer l rows =
+    → ((u : ℕ) → v.marks_used u ≡ w.marks_used u) → Steady w v → Rows w side → Rows v side
+rows_frame w side v cells back numbers marks l rows =
     let owed : (d : Ref) (e j : ℕ) → Owed w side d e j → Owed v side d e j = owed_stay w v side side l rows.owing (λ u p q. q) (λ u p e q r. r) (λ u m q. q) (λ u q h. h) in
     let same : (j : ℕ) → v.cell j ≡ w.cell j = λ j. ap (λ (f : ℕ → Cell). f j) cells in
+    let fewer : (x : Ref) → IsUsed v x → IsUsed w x = λ x h. subst (λ (n : ℕ). x.number < n) (marks x.worker) h in
     record {
       descriptors = opened_stay w v side side l rows.descriptors back numbers (λ u. refl) (λ u. refl);
       owing = record {
@@ -119,6 +129,7 @@ rows_frame w side v cells back numbers fewer l rows =
               subst (λ (y : ℕ × ℕ). y.0 < y.1) (λ i. (sym (l.mark_entry x h') i, sym (ap v.size o ∙ l.size (w.mark_desc x) t.0) i)) t.1,
             );
         unsettled = λ x h. l.marks x (rows.unsettled x h);
+        newest = λ x h. rows.newest x h ∙ sym (marks x.worker);
         marks = λ j x e.
             let m = rows.marks j x (sym (same j) ∙ e) in
             record { used = l.marks x m.used; here = ap (λ (f : Ref). v.target f (v.mark_entry x)) (l.mark_desc x m.used) ∙ (ap (λ (n : ℕ). v.target (w.mark_desc x) n) (l.mark_entry x m.used) ∙ (l.target (w.mark_desc x) (w.mark_entry x) (rows.used x m.used).0 ∙ m.here)); owed = m.owed };
@@ -130,12 +141,12 @@ rows_frame w side v cells back numbers fewer l rows =
 pub rows_decide : (w : World) (side : ℕ → Side) (d : Ref) (r : Control) → w.control d ≡ undecided → IsDecided r
     → r ≢ succeeded → Rows w side → Rows (decide_world w d r) side
 rows_decide w side d r und dec fail rows = rows_frame w side (decide_world w d r) refl
-    (λ f h. ⊎_elim (λ p q. let t : undecided ≡ unused = sym und ∙ (ap w.control (sym p.0) ∙ q) in cc) (λ p q. h (p.1 ∙ q)) (updated_ref_at w.control d f r)) (λ u. refl) (λ x h. h) (steady_decide w d r und dec fail) rows
+    (λ f h. ⊎_elim (λ p q. let t : undecided ≡ unused = sym und ∙ (ap w.control (sym p.0) ∙ q) in cc) (λ p q. h (p.1 ∙ q)) (updated_ref_at w.control d f r)) (λ u. refl) (λ u. refl) (steady_decide w d r und dec fail) rows
 
 pub rows_succeed : (w : World) (side : ℕ → Side) (d : Ref) → w.control d ≡ undecided → Rows w side
     → Rows (succeed_world w d) side
 rows_succeed w side d und rows = rows_frame w side (succeed_world w d) refl
-    (λ f h. ⊎_elim (λ p q. let t : undecided ≡ unused = sym und ∙ (ap w.control (sym p.0) ∙ q) in cc) (λ p q. h (p.1 ∙ q)) (updated_ref_at w.control d f succeeded)) (λ u. refl) (λ x h. h) (steady_succeed w d und) rows
+    (λ f h. ⊎_elim (λ p q. let t : undecided ≡ unused = sym und ∙ (ap w.control (sym p.0) ∙ q) in cc) (λ p q. h (p.1 ∙ q)) (updated_ref_at w.control d f succeeded)) (λ u. refl) (λ u. refl) (steady_succeed w d und) rows
 
 pub rows_claim : (w : World) (side : ℕ → Side) → Rows w side → Rows (claim_world w) side
-rows_claim w side rows = rows_frame w side (claim_world w) refl (λ f h. h) (λ u. refl) (λ x h. h) (steady_claim w) rows
+rows_claim w side rows = rows_frame w side (claim_world w) refl (λ f h. h) (λ u. refl) (λ u. refl) (steady_claim w) rows

@@ -26,6 +26,8 @@ module _ (w : World) (side : ℕ → Side) (who : ℕ) (s : Side) (rows : Rows w
       used = rows.used;
       unsettled = λ x. by_side side who s (λ (u : ℕ) (t : Side). (p : u ≡ x.worker) → t.unsettled ≡ Some x.number → IsUsed w x)
           (λ p h. rows.unsettled x (ap (λ (u : ℕ). (side u).unsettled) (sym p) ∙ fewer x.number h)) (λ u n p h. rows.unsettled x (ap (λ (u : ℕ). (side u).unsettled) (sym p) ∙ h)) x.worker refl;
+      newest = λ x. by_side side who s (λ (u : ℕ) (t : Side). (p : u ≡ x.worker) → t.unsettled ≡ Some x.number → suc x.number ≡ w.marks_used x.worker)
+          (λ p h. rows.newest x (ap (λ (u : ℕ). (side u).unsettled) (sym p) ∙ fewer x.number h)) (λ u n p h. rows.newest x (ap (λ (u : ℕ). (side u).unsettled) (sym p) ∙ h)) x.worker refl;
       marks = λ c x e. let m = rows.marks c x e in record {
         used = m.used;
         here = m.here;
@@ -135,6 +137,37 @@ module _ (w : World) (side : ℕ → Side) (who : ℕ) (rows : Rows w side) wher
           over true x xs h = inr h
           over false x xs h = h
 
+-- what an opener owes but for entry e of its open descriptor d, which does not stand there, it owes after that is released
+pub opener_released : (w : World) (side : ℕ → Side) (who : ℕ) (d : Ref) (e : ℕ) → d.worker ≡ who → (side who).current ≡ Some d.number → w.cell (w.target d e) ≢ desc d
+    → (f : Ref) (i : ℕ) → w.cell (w.target f i) ≡ desc f → ByOpener side f i → ByOpener (updated side who (release_side (side who) e)) f i
+opener_released w side who d e own at_work gone f i here b =
+    let s : Side = release_side (side who) e in
+    record {
+      current = field_same side who s (λ (t : Side). t.current) refl f.worker ∙ b.current;
+      unreleased = λ r. by_side side who s (λ (u : ℕ) (t : Side). (u ≡ f.worker) → In i t.released → ⊥)
+          (λ p r. ⊎_elim
+          (λ (ie : i ≡ e).
+          let fd : f ≡ d = ref_path f d (sym p ∙ sym own) (some_injective _ _ (sym b.current ∙ (ap (λ (u : ℕ). (side u).current) (sym p) ∙ at_work))) in
+          gone (ap w.cell (sym (ap (λ (x : Ref). w.target x e) fd) ∙ ap (w.target f) (sym ie)) ∙ (here ∙ ap desc fd)))
+          (λ r. b.unreleased (subst (λ (x : ℕ). In i (side x).released) p r)) r)
+          (λ u n p r. b.unreleased (subst (λ (x : ℕ). In i (side x).released) p r)) f.worker refl r;
+    }
+
+-- and after it is closed, all its entries released
+pub opener_closed : (w : World) (side : ℕ → Side) (who : ℕ) (d : Ref) → d.worker ≡ who → (side who).current ≡ Some d.number
+    → ((e : ℕ) → e < w.size d → In e (side who).released)
+    → (f : Ref) (i : ℕ) → i < w.size f → ByOpener side f i → ByOpener (updated side who (close_side (side who))) f i
+opener_closed w side who d own at_work all f i lt b =
+    let s : Side = close_side (side who) in
+    ⊎_elim
+    (λ (p : f.worker ≡ who).
+    let fd : f ≡ d = ref_path f d (p ∙ sym own) (some_injective _ _ (sym b.current ∙ (ap (λ (u : ℕ). (side u).current) p ∙ at_work))) in
+    absurd (b.unreleased (subst (λ (u : ℕ). In i (side u).released) (sym p) (all i (subst (λ (x : Ref). i < w.size x) fd lt)))))
+    (λ (n : f.worker ≢ who).
+    let is = updated_else side who f.worker s n in
+    record { current = ap (λ (t : Side). t.current) is ∙ b.current; unreleased = λ r. b.unreleased (subst (λ (t : Side). In i t.released) is r) })
+    (same_nat f.worker who)
+
 module _ (w : World) (side : ℕ → Side) (who : ℕ) (rows : Rows w side) where
   -- the control of d was read as undecided: its opener owes it
   pub rows_forget : (d : Ref) → w.control d ≡ undecided → Rows w (updated side who (forget_side (side who) d))
@@ -179,16 +212,7 @@ module _ (w : World) (side : ℕ → Side) (who : ℕ) (rows : Rows w side) wher
       (λ m h. h)
       (λ c x q p. ap (λ (u : ℕ). (side u).unsettled) (sym p) ∙ (rows.marks c x q).owed)
       (λ j f i h a b o. ⊎_elim
-      (λ (q : ByOpener side f i). inl record {
-        current = same f.worker ∙ q.current;
-        unreleased = λ r. by_side side who s (λ (u : ℕ) (t : Side). (u ≡ f.worker) → In i t.released → ⊥)
-            (λ p r. ⊎_elim
-            (λ (ie : i ≡ e).
-            let fd = this f (sym p) (ap (λ (u : ℕ). (side u).current) p ∙ q.current) in
-            gone (ap w.cell (sym (ap (λ (x : Ref). w.target x e) fd) ∙ (ap (w.target f) (sym ie) ∙ b)) ∙ (h ∙ ap desc fd)))
-            (λ r. q.unreleased (subst (λ (x : ℕ). In i (side x).released) p r)) r)
-            (λ u n p r. q.unreleased (subst (λ (x : ℕ). In i (side x).released) p r)) f.worker refl r;
-      })
+      (λ (q : ByOpener side f i). inl (opener_released w side who d e own at_work gone f i (ap w.cell b ∙ h) q))
       (λ p. inr (⊎_elim
       (λ (q : ByPlacer w side f i). inl record { who = q.who; unsettled = field_same side who s (λ (t : Side). t.unsettled) refl q.who.worker ∙ q.unsettled; mark_desc = q.mark_desc; mark_entry = q.mark_entry })
       (λ (q : ByDebt side f j). inr record { who = q.who; debt = subst (λ (l : List Debt). In (record { desc = f; cell = j }) l) (sym (field_same side who s (λ (t : Side). t.debts) refl q.who)) q.debt }) p)) o)
@@ -216,12 +240,7 @@ module _ (w : World) (side : ℕ → Side) (who : ℕ) (rows : Rows w side) wher
       (λ m h. h)
       (λ c x q p. ap (λ (u : ℕ). (side u).unsettled) (sym p) ∙ (rows.marks c x q).owed)
       (λ j f i h a b o. ⊎_elim
-      (λ (q : ByOpener side f i). ⊎_elim
-      (λ (p : f.worker ≡ who).
-      let fd = this f p (ap (λ (u : ℕ). (side u).current) (sym p) ∙ q.current) in
-      absurd (q.unreleased (subst (λ (u : ℕ). In i (side u).released) (sym p) (all i (subst (λ (x : Ref). i < w.size x) fd a)))))
-      (λ (n : f.worker ≢ who). inl record { current = ap (λ (t : Side). t.current) (updated_else side who f.worker s n) ∙ q.current; unreleased = λ r. q.unreleased (subst (λ (t : Side). In i t.released) (updated_else side who f.worker s n) r) })
-      (same_nat f.worker who))
+      (λ (q : ByOpener side f i). inl (opener_closed w side who d own at_work all f i a q))
       (λ p. inr (⊎_elim
       (λ (q : ByPlacer w side f i). inl record { who = q.who; unsettled = field_same side who s (λ (t : Side). t.unsettled) refl q.who.worker ∙ q.unsettled; mark_desc = q.mark_desc; mark_entry = q.mark_entry })
       (λ (q : ByDebt side f j). inr record { who = q.who; debt = subst (λ (l : List Debt). In (record { desc = f; cell = j }) l) (sym (field_same side who s (λ (t : Side). t.debts) refl q.who)) q.debt }) p)) o)
@@ -261,6 +280,11 @@ rows_place w side x d e rows can =
         unsettled = λ y h. by_side side x.worker s (λ (u : ℕ) (t : Side). (u ≡ y.worker) → t.unsettled ≡ Some y.number → IsUsed v y)
             (λ p q. subst (λ (z : Ref). IsUsed v z) (sym (ref_path y x (sym p) (some_injective _ _ (sym q)))) used_x)
             (λ u n p q. l.marks y (rows.unsettled y (ap (λ (z : ℕ). (side z).unsettled) (sym p) ∙ q))) y.worker refl h;
+        newest = λ y h. by_side side x.worker s (λ (u : ℕ) (t : Side). (u ≡ y.worker) → t.unsettled ≡ Some y.number → suc y.number ≡ v.marks_used y.worker)
+            (λ p q.
+            let n : x.number ≡ y.number = some_injective _ _ q in
+            ap suc (sym n) ∙ sym (updated_here w.marks_used x.worker y.worker (suc x.number) (sym p)))
+            (λ u n p q. rows.newest y (ap (λ (z : ℕ). (side z).unsettled) (sym p) ∙ q) ∙ sym (updated_else w.marks_used x.worker y.worker (suc x.number) (λ z. n (p ∙ z)))) y.worker refl h;
         marks = λ j y q. ⊎_elim
             (λ (p : (j ≡ c) × (v.cell j ≡ mark x)).
             let yx : x ≡ y = (let r : mark x ≡ mark y = sym p.1 ∙ q in cc) in
@@ -340,6 +364,7 @@ rows_open w side d p rows can =
       owing = record {
         used = λ x h. let t = rows.used x h in (l.opened (w.mark_desc x) t.0, subst (λ (n : ℕ). w.mark_entry x < n) (sym (l.size (w.mark_desc x) t.0)) t.1);
         unsettled = λ x h. rows.unsettled x (sym (field_same side d.worker s (λ (t : Side). t.unsettled) refl x.worker) ∙ h);
+        newest = λ x h. rows.newest x (sym (field_same side d.worker s (λ (t : Side). t.unsettled) refl x.worker) ∙ h);
         marks = λ j x q. let m = rows.marks j x q in record {
           used = m.used;
           here = l.target (w.mark_desc x) (w.mark_entry x) (rows.used x m.used).0 ∙ m.here;

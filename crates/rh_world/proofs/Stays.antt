@@ -4,12 +4,12 @@ use native.Mathlib.Decide.{dec_lt}
 use Rattle.rh_world.specs.World.{IsDecided, IsOpened, Ref, World}
 use Rattle.rh_world.specs.World.Control.{undecided, unused}
 use Rattle.rh_world.specs.Notes.{HoldsIn, IsMismatch, IsPrefix, Note, part_of}
-use Rattle.rh_world.specs.Notes.Note.{decided, desc_is, found, held, known, may_demote, may_promote, mismatch, new_is, old_is, size_is, target_is, which_is}
+use Rattle.rh_world.specs.Notes.Note.{decided, desc_is, failed_at, found, held, known, may_demote, may_promote, mismatch, new_is, old_is, over, passed, size_is, target_is, which_is}
 use Rattle.rh_world.specs.Notes.Part.{of_acts, of_prefixes, of_rows}
 use Rattle.rh_world.specs.Later.{Later, Steady}
 use Rattle.rh_world.specs.Sides.{Side}
 use Rattle.rh_world.specs.Rows.{Rows}
-use Rattle.rh_world.proofs.Updated.{some_injective, undecided_open}
+use Rattle.rh_world.proofs.Updated.{decided_opened, some_injective, undecided_open}
 
 pub at_work : (w : World) (side : ℕ → Side) (f : Ref) → Rows w side → w.control f ≡ undecided
     → (side f.worker).current ≡ Some f.number
@@ -58,6 +58,9 @@ module _ (w v : World) (side : ℕ → Side) (rows : Rows w side) where
   rows_note_stays l (old_is d e u) p t = (l.opened d t.0, l.old d e t.0 ∙ t.1)
   rows_note_stays l (new_is d e u) p t = (l.opened d t.0, l.new d e t.0 ∙ t.1)
   rows_note_stays l (decided d k) p t = (t.0, l.decided d (subst IsDecided (sym t.1) t.0) ∙ t.1)
+  rows_note_stays l (over d) p t = subst IsDecided (sym (l.decided d t)) t
+  rows_note_stays l (passed d) p t = cc
+  rows_note_stays l (failed_at d e) p t = l.decided d (subst IsDecided (sym t) tt) ∙ t
   rows_note_stays l (desc_is x d) p t = (l.marks x t.0, l.mark_desc x t.0 ∙ t.1)
   rows_note_stays l (which_is x e) p t = (l.marks x t.0, l.mark_entry x t.0 ∙ t.1)
   rows_note_stays l (found x c) p t =
@@ -75,6 +78,13 @@ module _ (w v : World) (side : ℕ → Side) (rows : Rows w side) where
   acts_note_stays l (old_is d e u) p t = cc
   acts_note_stays l (new_is d e u) p t = cc
   acts_note_stays l (decided d k) p t = cc
+  acts_note_stays l (over d) p t = cc
+  acts_note_stays l (passed d) p t =
+      let same : v.control d ≡ w.control d = l.decided d t.0 in (
+        subst IsDecided (sym same) t.0,
+        λ s c here. ⊎_elim (λ stood. t.1 (sym same ∙ s) c stood) (λ fails. fails s) (l.came c d (decided_opened _ t.0) here),
+      )
+  acts_note_stays l (failed_at d e) p t = cc
   acts_note_stays l (desc_is x d) p t = cc
   acts_note_stays l (which_is x e) p t = cc
   acts_note_stays l (found x c) p t = cc
@@ -90,6 +100,9 @@ module _ (w v : World) (side : ℕ → Side) (rows : Rows w side) where
   prefixes_note_stays l (old_is d e u) p t = cc
   prefixes_note_stays l (new_is d e u) p t = cc
   prefixes_note_stays l (decided d k) p t = cc
+  prefixes_note_stays l (over d) p t = cc
+  prefixes_note_stays l (passed d) p t = cc
+  prefixes_note_stays l (failed_at d e) p t = cc
   prefixes_note_stays l (desc_is x d) p t = cc
   prefixes_note_stays l (which_is x e) p t = cc
   prefixes_note_stays l (found x c) p t = cc

@@ -1,5 +1,5 @@
 -- Each allowed step keeps the parts of the rule.
-use Rattle.std.proofs.Common.{◌≡◌, ◌≢◌, ℕ, zero, suc, eqb, ◌<◌, Bool, true, false, true≢false, cond, ◌&&◌, ◌∷◌, sym, refl, ap, ◌∙◌, subst, ⊎_elim, arith, Some, None, Option}
+use Rattle.std.proofs.Common.{◌≡◌, ◌≢◌, ℕ, zero, suc, eqb, ◌<◌, Bool, true, false, true≢false, cond, ◌&&◌, List, [], ◌∷◌, sym, refl, ap, ◌∙◌, subst, inl, inr, ⊎_elim, arith, Some, None, Option}
 use Rattle.rh_world.specs.World.{Cell, Control, In, IsDecided, IsOpened, IsUsed, Ref, World, is_ref, updated, updated_ref}
 use Rattle.rh_world.specs.World.Cell.{desc, mark, plain}
 use Rattle.rh_world.specs.World.Control.{failed, succeeded, undecided, unused, withdrawn}
@@ -9,12 +9,13 @@ use Rattle.rh_world.specs.Notes.Note.{decided, desc_is, found, held, known, may_
 use Rattle.rh_world.specs.Sides.{Side, close_side, forget_side, is_number, note_side, open_side, paid_side, place_side, release_side, settle_side}
 use Rattle.rh_world.specs.Acts.{Acts}
 use Rattle.rh_world.specs.Prefixes.{Prefixes}
-use Rattle.rh_world.specs.Moves.{Entries, IsAllowed, MayDecide, Move, cell_noted, cell_world, claim_world, control_noted, covers, decided_world, is_desc, is_mark, is_plain, mark_noted, next_desc, next_mark, note_entries, open_world, place_noted, place_world, placed_noted, release_noted, released_cell, settle_noted, settled_cell, sides_after, world_after}
+use Rattle.rh_world.specs.Moves.{Entries, IsAllowed, MayDecide, Move, cell_noted, cell_world, claim_world, control_noted, covers, decided_world, is_desc, is_mark, is_plain, mark_noted, next_desc, next_mark, note_all, note_entries, open_world, place_noted, place_world, placed_noted, release_noted, released_cell, settle_noted, settled_cell, sides_after, world_after}
 use Rattle.rh_world.specs.Moves.Move.{claims, decides, learns, opens, places, reads_cell, reads_control, reads_mark_control, releases, settles}
 use Rattle.rh_world.proofs.ActsKept.{succeeded_opened}
 use Rattle.rh_world.proofs.Partly.{Partly, noted}
 use Rattle.rh_world.proofs.PartsKept.{and_then, parts_claim, parts_claimed, parts_closed, parts_demote, parts_fail, parts_forget, parts_none, parts_note, parts_open, parts_paid, parts_place, parts_promote, parts_read, parts_release, parts_released, parts_settle, parts_succeed, parts_withdraw}
 use Rattle.rh_world.proofs.Stays.{at_work}
+use Rattle.rh_world.proofs.StepsLater.{known_over}
 use Rattle.rh_world.proofs.Tests.{by_cond, covers_in, eqb_not, eqb_yes, is_desc_not, is_desc_yes, is_mark_not, is_mark_yes, is_number_yes, is_ref_yes}
 use Rattle.rh_world.proofs.Updated.{ref_path, updated_at, updated_here, updated_ref_here}
 
@@ -28,6 +29,10 @@ module _ (A P : Type 0) where
   module _ (w : World) (side : ℕ → Side) (who : ℕ) (r : Partly A P w side) where
     one_note : (n : Note) → HoldsIn w n → Partly A P w (updated side who (note_side (side who) n))
     one_note n t = parts_note A P w side who r n (noted A P w n t)
+
+    step_notes : (ns : List Note) → ((n : Note) → In n ns → HoldsIn w n) → Partly A P w (updated side who (note_all (side who) ns))
+    step_notes [] t = parts_none A P w side who r
+    step_notes (n ∷ ns) t = more_note w side who (note_all (side who) ns) n (t n (inl refl)) (step_notes ns (λ m i. t m (inr i)))
 
     step_control : (d : Ref) (k : Control) → w.control d ≡ k
         → Partly A P w (updated side who (control_noted (side who) d k))
@@ -181,8 +186,7 @@ module _ (A P : Type 0) where
   step_release w side who d e b r may q =
       let size = r.rows.notes who (size_is d may.0.size) may.0.known refl in
       let within : e < w.size d = subst (λ (n : ℕ). e < n) (sym size.1) may.0.within in
-      let dec' = r.rows.notes who (decided d may.1.0) may.1.1 refl in
-      let dec : IsDecided (w.control d) = subst IsDecided (sym dec'.1) dec'.0 in
+      let dec : IsDecided (w.control d) = known_over w side who d r.rows may.1 in
       let k : Cell = released_cell w d e in
       by_cond (λ (v : World). Partly A P v (updated side who (cond (is_number (side who).current who d) (release_noted (paid_side (side who) d (w.target d e)) e (w.size d)) (paid_side (side who) d (w.target d e))))) b (cell_world w (w.target d e) k) w
       (λ bt. step_paid (cell_world w (w.target d e) k) side who (parts_release A P w side d e (is_desc_yes _ d (q ∙ bt)) within dec r) d e dec
@@ -212,7 +216,7 @@ module _ (A P : Type 0) where
       let d : Ref = next_desc w who in
       step_entries w side who d p (open_side (side who) (w.next_number who)) (parts_open A P w side d p record { next = refl; can = may } r) p.size
   steps_keep w side who (reads_cell c) r may = step_cell w side who r c (w.cell c) (side who).current refl refl
-  steps_keep w side who (learns n) r may = one_note w side who r n may.1
+  steps_keep w side who (learns ns) r may = step_notes w side who r ns (λ n i. (may n i).1)
   steps_keep w side who (reads_control d) r may = step_control w side who r d (w.control d) refl
   steps_keep w side who (reads_mark_control x c) r may = step_mark w side who r x c (w.control (w.mark_desc x)) (r.rows.notes who (found x c) may refl).0 refl (control_noted (side who) (w.mark_desc x) (w.control (w.mark_desc x))) (step_control w side who r (w.mark_desc x) (w.control (w.mark_desc x)) refl)
   steps_keep w side who (places d e) r may =

@@ -2,13 +2,24 @@
 -- changes the logical cells of all its entries at once (Harris, Fraser and Pratt 2002); the list is this project's.
 use Rattle.std.specs.Prelude.{zero, suc, ◌≡◌, ℕ, ◌<◌, ◌==◌, Bool, true, false, cond, List, [], ◌∷◌, filter}
 use Rattle.rh_world.specs.World.{Ref, Control, World, In}
+use Rattle.rh_world.specs.World.Cell.{desc}
 use Rattle.rh_world.specs.World.Control.{unused, undecided, succeeded, withdrawn, failed}
 use Rattle.rh_world.specs.Logical.{IsLogical, Takes, changed_by}
 use Rattle.rh_world.specs.Notes.{Note, HoldsIn, part_of}
 use Rattle.rh_world.specs.Notes.Part.{of_acts}
 use Rattle.rh_world.specs.Sides.{Side}
+use Rattle.rh_world.specs.Rows.{ByOpener}
+
+-- an entry of d for this cell is not released yet by its opener
+pub record IsUnreleased (w : World) (side : ℕ → Side) (d : Ref) (c : ℕ) : Type 0 where
+  pub entry : ℕ
+  pub within : entry < w.size d
+  pub here : w.target d entry ≡ c
+  pub owed : ByOpener side d entry
 
 pub record Acts (w : World) (side : ℕ → Side) : Type 0 where
+  -- a descriptor that succeeded stands in a cell only until its opener has released it there
+  pub standing : (c : ℕ) (d : Ref) → w.cell c ≡ desc d → w.control d ≡ succeeded → IsUnreleased w side d c
   -- the acts are the descriptors that succeeded, those of one worker in the order of their numbers
   pub made : (d : Ref) → w.control d ≡ succeeded → (i : ℕ) × (i < w.act_count) × (w.act i ≡ d)
   pub succeeded : (i : ℕ) → i < w.act_count → w.control (w.act i) ≡ succeeded

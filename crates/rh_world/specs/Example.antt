@@ -48,7 +48,7 @@ helped_run =
     ∷ turn 1 (settles mark_a 0 true)
     ∷ turn 0 (reads_mark_control mark_a 0)
     ∷ turn 0 (settles mark_a 0 true)
-    ∷ turn 1 (learns (size_is first 2))
+    ∷ turn 1 (learns (size_is first 2 ∷ []))
     ∷ turn 1 (places first 0)
     ∷ turn 1 (places first 1)
     ∷ turn 1 (reads_mark_control mark_c 1)

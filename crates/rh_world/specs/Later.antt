@@ -1,6 +1,6 @@
 -- What a step may change: w is the world before, v the world after. It is a rely, as in rely and guarantee (Jones
 -- 1983): each kind of step is shown to respect it, and each kind of note to be kept by it.
-use Rattle.std.specs.Prelude.{◌≡◌, ℕ, ◌<◌, ◌≤◌}
+use Rattle.std.specs.Prelude.{◌≡◌, ◌≢◌, ℕ, ◌<◌, ◌≤◌, ◌⊎◌}
 use Rattle.rh_world.specs.World.{Ref, World, IsOpened, IsDecided, IsUsed}
 use Rattle.rh_world.specs.World.Cell.{mark, desc}
 use Rattle.rh_world.specs.World.Control.{undecided, succeeded}
@@ -36,4 +36,6 @@ pub record Later (w v : World) : Type 0 where
   pub steady : Steady w v
   pub open steady use *
   -- a descriptor does not come to succeed while a mark of it stands in a cell
+  -- nor to stand in a cell where it did not stand once it has succeeded
+  pub came : (c : ℕ) (d : Ref) → IsOpened (w.control d) → v.cell c ≡ desc d → (w.cell c ≡ desc d) ⊎ (v.control d ≢ succeeded)
   pub late : (c : ℕ) (x : Ref) → IsUsed w x → v.cell c ≡ mark x → v.control (w.mark_desc x) ≡ succeeded → w.control (w.mark_desc x) ≡ succeeded

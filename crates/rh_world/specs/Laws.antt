@@ -1,10 +1,11 @@
 -- What the laws of this crate say.
 use Rattle.std.specs.Prelude.{◌≡◌, ◌≢◌, ℕ, ◌+◌, ◌<◌, ◌≤◌, ◌↔◌, List}
 use Rattle.rh_world.specs.World.{Ref, World, IsOpened, IsDecided, In, IsFalling}
-use Rattle.rh_world.specs.World.Cell.{plain}
+use Rattle.rh_world.specs.World.Cell.{desc, plain}
 use Rattle.rh_world.specs.World.Control.{succeeded, failed}
 use Rattle.rh_world.specs.Logical.{IsLogical}
-use Rattle.rh_world.specs.Notes.{IsPrefix}
+use Rattle.rh_world.specs.Notes.{HoldsIn, IsPrefix}
+use Rattle.rh_world.specs.Notes.Note.{over, passed}
 use Rattle.rh_world.specs.Later.{Later}
 use Rattle.rh_world.specs.Sides.{Side, KeptRead}
 use Rattle.rh_world.specs.Rows.{Rows}
@@ -12,7 +13,7 @@ use Rattle.rh_world.specs.Acts.{Acts, MeetsOlds, cells_after, own_acts, successe
 use Rattle.rh_world.specs.Prefixes.{Prefixes, InOrder}
 use Rattle.rh_world.specs.Claims.{Claims}
 use Rattle.rh_world.specs.Rule.{Rule}
-use Rattle.rh_world.specs.Moves.{Move, IsAllowed, world_after, sides_after}
+use Rattle.rh_world.specs.Moves.{Move, IsAllowed, released_cell, world_after, sides_after}
 use Rattle.rh_world.specs.Ends.{start_world, start_sides, round_world, round_side, AllAtRest, Turn, Runs}
 
 -- Each allowed step keeps the rule, and each part of it by the parts before it. The claims need no other part.
@@ -91,6 +92,16 @@ pub record Foretold (w : World) (side : ℕ → Side) : Type 0 where
 
 abbrev pub PrefixesSay : Type 0
 PrefixesSay = (w : World) (side : ℕ → Side) → Rule w side → Foretold w side
+
+-- A descriptor whose worker has opened a later one has gone on: it is decided, and stands in no cell if it succeeded. Where
+-- such a one stands in a cell after all, a Release puts the old value there.
+pub record GoneOn (w : World) (side : ℕ → Side) : Type 0 where
+  pub gone : (d later : Ref) → IsOpened (w.control d) → IsOpened (w.control later) → later.worker ≡ d.worker → d.number < later.number
+      → HoldsIn w (over d) × HoldsIn w (passed d)
+  pub released : (d : Ref) (e : ℕ) → HoldsIn w (passed d) → w.cell (w.target d e) ≡ desc d → released_cell w d e ≡ plain (w.old d e)
+
+abbrev pub LaterOnesTell : Type 0
+LaterOnesTell = (w : World) (side : ℕ → Side) → Rule w side → GoneOn w side
 
 -- The keys are shared out: a number below the keys was found by a Claim exactly if it is below the counter, by one
 -- worker alone, and once. Each number that was found is below the counter, so that all keys were found where the end was.

@@ -2,13 +2,13 @@
 -- are those of Harris, Fraser and Pratt 2002; that each helper leaves marks of its own, and Claims, are this project's.
 -- What a step of the table asks for that stands in no place here, as the range of cells and the room for marks, is
 -- asked where the words are.
-use Rattle.std.specs.Prelude.{zero, suc, ◌≡◌, ℕ, ◌+◌, ◌<◌, ◌==◌, ◌&&◌, Option, Some, None, Bool, true, false, cond, List, [], ◌∷◌}
+use Rattle.std.specs.Prelude.{zero, suc, ◌≡◌, ◌⊎◌, ℕ, ◌+◌, ◌<◌, ◌==◌, ◌&&◌, Option, Some, None, Bool, true, false, cond, List, [], ◌∷◌}
 use Rattle.rh_world.specs.World.{Ref, Cell, Control, World, In, is_ref, updated, updated_ref}
 use Rattle.rh_world.specs.World.Cell.{plain, mark, desc}
 use Rattle.rh_world.specs.World.Control.{unused, undecided, succeeded, withdrawn, failed}
 use Rattle.rh_world.specs.Logical.{entry_value, changed_by}
 use Rattle.rh_world.specs.Notes.{Note, HoldsIn}
-use Rattle.rh_world.specs.Notes.Note.{known, size_is, target_is, old_is, new_is, desc_is, which_is, decided, found, may_promote, may_demote, held, mismatch}
+use Rattle.rh_world.specs.Notes.Note.{known, size_is, target_is, old_is, new_is, desc_is, which_is, decided, over, passed, failed_at, found, may_promote, may_demote, held, mismatch}
 use Rattle.rh_world.specs.Sides.{Side, is_number, note_side, open_side, place_side, settle_side, forget_side, paid_side, release_side, close_side, read_side, claim_side}
 
 -- the entries that an own row has when it is opened
@@ -19,9 +19,9 @@ pub record Entries : Type 0 where
   pub new : ℕ → ℕ
 
 pub data Move : Type 0 where
-  -- Write or Read of a row's word: the worker learns what a row says. A row that is not opened yet, and a mark that was
+  -- Write or Read of a row's word: the worker learns what the row says, by one word or by several read before. A row that is not opened yet, and a mark that was
   -- not placed, are no part of the world: what was written there is noted with the Open or the Place.
-  learns : Note → Move
+  learns : List Note → Move
   -- Open
   opens : Entries → Move
   -- Read of a cell; of a descriptor's control; of the control of a mark that was found in a cell
@@ -47,7 +47,7 @@ next_mark w who = record { worker = who; number = w.marks_used who }
 
 -- When it is allowed.
 
--- what a row says, of an opened descriptor or of a used mark
+-- what a row says, of an opened descriptor or of a used mark, or that it has gone on to a later one
 abbrev pub IsRowNote : Note → Type 0
 IsRowNote (known d) = ⊥
 IsRowNote (size_is d n) = Unit {0}
@@ -55,11 +55,14 @@ IsRowNote (target_is d e c) = Unit {0}
 IsRowNote (old_is d e u) = Unit {0}
 IsRowNote (new_is d e u) = Unit {0}
 IsRowNote (decided d k) = ⊥
+IsRowNote (over d) = Unit {0}
+IsRowNote (passed d) = Unit {0}
+IsRowNote (failed_at d e) = Unit {0}
 IsRowNote (desc_is x d) = Unit {0}
 IsRowNote (which_is x e) = Unit {0}
 IsRowNote (found x c) = ⊥
 IsRowNote (may_promote x c) = ⊥
-IsRowNote (may_demote x) = ⊥
+IsRowNote (may_demote x) = Unit {0}
 IsRowNote (held d e) = ⊥
 IsRowNote (mismatch d e n) = ⊥
 
@@ -87,6 +90,10 @@ MayDecide s who d succeeded = (n : ℕ) × In (size_is d n) s.notes × ((e : ℕ
 MayDecide s who d withdrawn = d.worker ≡ who
 MayDecide s who d (failed e) = (n : ℕ) × In (mismatch d e n) s.notes
 
+-- The worker knows how d is decided, or that it is and that its opener has gone on.
+abbrev pub KnowsOver : Side → Ref → Type 0
+KnowsOver s d = ((k : Control) × In (decided d k) s.notes) ⊎ (In (over d) s.notes × In (passed d) s.notes)
+
 -- nothing is open, and no earlier Claim found the end
 pub record MayClaim (w : World) (s : Side) (who : ℕ) : Type 0 where
   pub worker : who < w.workers
@@ -96,9 +103,10 @@ pub record MayClaim (w : World) (s : Side) (who : ℕ) : Type 0 where
 -- A Read of a mark's control needs the mark found before, so that it comes after it. A Settle is allowed with a mark that
 -- was found in that cell, where the worker placed it or met it; and to its descriptor only if that was read as undecided
 -- after that, else only if it was read as decided. A Decide also asks that d is known as opened, since only
--- then is there a control to swap. A Release asks that d is known as decided.
+-- then is there a control to swap. A Release asks that d is known as decided, and how; or that it is, and that its opener
+-- has gone on: then it stands in a cell only if it did not succeed, and the old value is put there.
 abbrev pub IsAllowed : World → (ℕ → Side) → (who : ℕ) → Move → Type 0
-IsAllowed w side who (learns n) = IsRowNote n × HoldsIn w n
+IsAllowed w side who (learns ns) = (n : Note) → In n ns → IsRowNote n × HoldsIn w n
 IsAllowed w side who (opens p) = CanOpen side who p
 IsAllowed w side who (reads_cell c) = Unit {0}
 IsAllowed w side who (reads_control d) = Unit {0}
@@ -107,7 +115,7 @@ IsAllowed w side who (places d e) = MayWork (side who) d e × ((side who).unsett
 IsAllowed w side who (settles x c true) = In (found x c) (side who).notes × In (may_promote x c) (side who).notes
 IsAllowed w side who (settles x c false) = In (found x c) (side who).notes × In (may_demote x) (side who).notes
 IsAllowed w side who (decides d k) = In (known d) (side who).notes × MayDecide (side who) who d k
-IsAllowed w side who (releases d e) = MayWork (side who) d e × ((k : Control) × In (decided d k) (side who).notes)
+IsAllowed w side who (releases d e) = MayWork (side who) d e × KnowsOver (side who) d
 IsAllowed w side who claims = MayClaim w (side who) who
 
 -- The world after it.
@@ -192,7 +200,7 @@ released_cell w d e = plain (entry_value (w.control d) (w.old d e) (w.new d e))
 
 -- a swap that finds another word changes nothing
 abbrev pub world_after : World → (who : ℕ) → Move → World
-world_after w who (learns n) = w
+world_after w who (learns ns) = w
 world_after w who (opens p) = open_world w (next_desc w who) p
 world_after w who (reads_cell c) = w
 world_after w who (reads_control d) = w
@@ -204,6 +212,11 @@ world_after w who (releases d e) = cond (is_desc (w.cell (w.target d e)) d) (cel
 world_after w who claims = claim_world w
 
 -- The Side after it: what the worker notes.
+
+-- several notes, the first one last
+abbrev pub note_all : Side → List Note → Side
+note_all s [] = s
+note_all s (n ∷ ns) = note_side (note_all s ns) n
 
 -- of its own descriptor all that the row says
 abbrev pub note_entries : Side → Ref → Entries → (n : ℕ) → Side
@@ -263,7 +276,7 @@ abbrev pub release_noted : Side → (e n : ℕ) → Side
 release_noted s e n = cond (covers n (e ∷ s.released)) (close_side (release_side s e)) (release_side s e)
 
 abbrev pub side_after : World → Side → (who : ℕ) → Move → Side
-side_after w s who (learns n) = note_side s n
+side_after w s who (learns ns) = note_all s ns
 side_after w s who (opens p) = note_entries (open_side s (w.next_number who)) (next_desc w who) p p.size
 side_after w s who (reads_cell c) = cell_noted s c (w.cell c) s.current w.act_count (w.next_number who)
 side_after w s who (reads_control d) = control_noted s d (w.control d)

@@ -2,7 +2,7 @@
 use Rattle.std.specs.Prelude.{◌≡◌, ◌≢◌, ℕ, ◌<◌, ◌≤◌}
 use Rattle.rh_world.specs.World.{Ref, Control, World, IsOpened, IsDecided, IsUsed}
 use Rattle.rh_world.specs.World.Cell.{mark, desc}
-use Rattle.rh_world.specs.World.Control.{undecided, succeeded}
+use Rattle.rh_world.specs.World.Control.{undecided, succeeded, failed}
 
 pub data Note : Type 0 where
   -- of a descriptor: it was opened; how many entries it has; the cell, the old and the new value of an entry; how it was
@@ -11,6 +11,10 @@ pub data Note : Type 0 where
   size_is : Ref → ℕ → Note
   target_is old_is new_is : Ref → ℕ → ℕ → Note
   decided : Ref → Control → Note
+  -- that it was decided, and not how; that its opener has gone on to a later one, so that it stands in no cell if it
+  -- succeeded; at which entry it failed
+  over passed : Ref → Note
+  failed_at : Ref → ℕ → Note
   -- of a mark: its descriptor; its entry; the cell where it was found
   desc_is : Ref → Ref → Note
   which_is : Ref → ℕ → Note
@@ -45,6 +49,9 @@ HoldsIn w (target_is d e c) = IsOpened (w.control d) × (w.target d e ≡ c)
 HoldsIn w (old_is d e u) = IsOpened (w.control d) × (w.old d e ≡ u)
 HoldsIn w (new_is d e u) = IsOpened (w.control d) × (w.new d e ≡ u)
 HoldsIn w (decided d k) = IsDecided k × (w.control d ≡ k)
+HoldsIn w (over d) = IsDecided (w.control d)
+HoldsIn w (passed d) = IsDecided (w.control d) × (w.control d ≡ succeeded → (c : ℕ) → w.cell c ≢ desc d)
+HoldsIn w (failed_at d e) = w.control d ≡ failed e
 HoldsIn w (desc_is x d) = IsUsed w x × (w.mark_desc x ≡ d)
 HoldsIn w (which_is x e) = IsUsed w x × (w.mark_entry x ≡ e)
 HoldsIn w (found x c) = IsUsed w x × (w.target (w.mark_desc x) (w.mark_entry x) ≡ c)
@@ -64,6 +71,9 @@ part_of (target_is d e c) = of_rows
 part_of (old_is d e u) = of_rows
 part_of (new_is d e u) = of_rows
 part_of (decided d k) = of_rows
+part_of (over d) = of_rows
+part_of (passed d) = of_acts
+part_of (failed_at d e) = of_rows
 part_of (desc_is x d) = of_rows
 part_of (which_is x e) = of_rows
 part_of (found x c) = of_rows

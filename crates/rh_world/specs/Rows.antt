@@ -1,5 +1,5 @@
 -- The first part of the rule: the descriptors of each worker, and who owes what stands in a cell. (own)
-use Rattle.std.specs.Prelude.{◌≡◌, ℕ, ◌<◌, ◌≤◌, ◌⊎◌, Some}
+use Rattle.std.specs.Prelude.{suc, ◌≡◌, ℕ, ◌<◌, ◌≤◌, ◌⊎◌, Some}
 use Rattle.rh_world.specs.World.{Ref, World, IsOpened, IsDecided, IsUsed, In}
 use Rattle.rh_world.specs.World.Cell.{mark, desc}
 use Rattle.rh_world.specs.Notes.{Note, HoldsIn, part_of}
@@ -52,7 +52,9 @@ pub record DescInCell (w : World) (side : ℕ → Side) (c : ℕ) (d : Ref) : Ty
 
 pub record Owing (w : World) (side : ℕ → Side) : Type 0 where
   pub used : (x : Ref) → IsUsed w x → IsOpened (w.control (w.mark_desc x)) × (w.mark_entry x < w.size (w.mark_desc x))
+  -- an unsettled mark is the newest of its worker
   pub unsettled : (x : Ref) → (side x.worker).unsettled ≡ Some x.number → IsUsed w x
+  pub newest : (x : Ref) → (side x.worker).unsettled ≡ Some x.number → suc x.number ≡ w.marks_used x.worker
   pub marks : (c : ℕ) (x : Ref) → w.cell c ≡ mark x → MarkInCell w side c x
   pub descs : (c : ℕ) (d : Ref) → w.cell c ≡ desc d → DescInCell w side c d
 

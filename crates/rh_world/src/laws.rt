@@ -4,7 +4,7 @@ ghost use Rattle.rh_world.specs.Laws.{EachStepKeeps, EachStepKeepsRows, EachStep
 ghost use Rattle.rh_world.specs.Laws.{EachStepKeepsPrefixes, EachStepKeepsClaims, EachStepIsLater};
 ghost use Rattle.rh_world.specs.Laws.{RunsKeep, StartMeets, NewRoundMeets};
 ghost use Rattle.rh_world.specs.Example.{ARunToASuccess};
-ghost use Rattle.rh_world.specs.Laws.{ActsAreOneOrder, RestIsSettled, PrefixesSay, ClaimsShareOut};
+ghost use Rattle.rh_world.specs.Laws.{ActsAreOneOrder, RestIsSettled, PrefixesSay, LaterOnesTell, ClaimsShareOut};
 
 /// Each allowed step of any worker keeps the rule, whatever the number of workers. Each part is
 /// kept by the parts before it, and the world after the step differs only as steps may.
@@ -48,6 +48,12 @@ pub fn at_rest()
 /// these never get shorter.
 pub fn prefixes()
     ensures { PrefixesSay }
+{}
+
+/// A descriptor whose worker has opened a later one is decided, and stands in no cell if it
+/// succeeded; so where it stands a Release puts the old value.
+pub fn gone_on()
+    ensures { LaterOnesTell }
 {}
 
 /// The Claims share out the keys: each below the counter went to one worker, once.

@@ -5,6 +5,6 @@
 mod laws;
 
 pub use laws::{
-    a_run_to_a_success, acts, at_rest, claims, each_step_keeps, new_round, prefixes, runs_keep,
-    starts,
+    a_run_to_a_success, acts, at_rest, claims, each_step_keeps, gone_on, new_round, prefixes,
+    runs_keep, starts,
 };
