@@ -25,6 +25,7 @@ use Rattle.rh_descriptor.specs.declared.shape.Shape.{Shape}
 use Rattle.rh_descriptor.specs.View.{OwnDesc, View}
 use Rattle.rh_descriptor.specs.Steps.{Step, entries_of, next_entries, noted, own_desc, release_view}
 use Rattle.rh_rule.proofs.OpensKept.{entries_current}
+use Rattle.rh_rule.proofs.SeatsKept.{noted_worker}
 
 released_notes : (v : View) (d : Ref) (e c : ℕ) → (release_view v d e c).notes ≡ v.side.notes
 released_notes v d e c = by_cond (λ (t : Side). t.notes ≡ v.side.notes) (is_number v.side.current v.worker d) _ _
@@ -45,16 +46,6 @@ module _ (z : Shape) (v : View) (word n : ℕ) (opened : v.side.current ≡ Some
   noted_before (Step.releases d e c k value) closed m i = subst (λ (ns : List Note). In m ns) (released_notes v d e c) i
   noted_before Step.claims closed m i = absurd (stays_open Step.claims refl closed)
 
-worker_stays : (z : Shape) (v : View) (word : ℕ) (s : Step) → (noted z v s word).worker ≡ v.worker
-worker_stays z v word (Step.writes p u) = refl
-worker_stays z v word (Step.opens size) = refl
-worker_stays z v word (Step.reads r) = refl
-worker_stays z v word (Step.places d e c old) = refl
-worker_stays z v word (Step.settles x c d e old) = refl
-worker_stays z v word (Step.decides d k) = refl
-worker_stays z v word (Step.releases d e c k value) = refl
-worker_stays z v word Step.claims = refl
-
 module _ {T : Type 0} {shows : Shape → T → View → Type 0} {does : Shape → Step → T → View → ℕ → T → View → Type 0} (z : Shape) (kp : StepKind) (t : T) (v : View) (then : T) (next : View) (made : HasMade shows does z kp t v then next)
     (kind : Kind) (key number : ℕ) (changes : Bool) (knows : KnowsOwn v (Some number)) (about : IsAbout z v kind key number changes)
     (k : Control) (leads : Leads z next (Some number) (Closed k)) where
@@ -72,7 +63,7 @@ module _ {T : Type 0} {shows : Shape → T → View → Type 0} {does : Shape �
   before =
       let is = made.view_is in
       let closed : (noted z v made.step made.word).side.current ≡ None = sym (ap (λ (n : View). n.side.current) is) ∙ leads.2.own.current in
-      let same : next.worker ≡ v.worker = ap (λ (n : View). n.worker) is ∙ worker_stays z v made.word made.step in
+      let same : next.worker ≡ v.worker = ap (λ (n : View). n.worker) is ∙ noted_worker z v made.step made.word in
       let here : In (decided (own_ref next leads.0) (control_of k)) (noted z v made.step made.word).side.notes = subst (λ (n : View). In (decided (own_ref next leads.0) (control_of k)) n.side.notes) is leads.2.result in
       subst (λ (n : ℕ). In (decided (own_ref v n) (control_of k)) v.side.notes) same_number
       (subst (λ (w : ℕ). In (decided (record { worker = w; number = leads.0 }) (control_of k)) v.side.notes) same

@@ -35,7 +35,7 @@ pub record Steady (w v : World) : Type 0 where
 pub record Later (w v : World) : Type 0 where
   pub steady : Steady w v
   pub open steady use *
-  -- a descriptor does not come to succeed while a mark of it stands in a cell
-  -- nor to stand in a cell where it did not stand once it has succeeded
+  -- a descriptor that has succeeded comes to stand in no cell where it did not stand
   pub came : (c : ℕ) (d : Ref) → IsOpened (w.control d) → v.cell c ≡ desc d → (w.cell c ≡ desc d) ⊎ (v.control d ≢ succeeded)
+  -- it does not come to succeed while a mark of it stands in a cell
   pub late : (c : ℕ) (x : Ref) → IsUsed w x → v.cell c ≡ mark x → v.control (w.mark_desc x) ≡ succeeded → w.control (w.mark_desc x) ≡ succeeded
