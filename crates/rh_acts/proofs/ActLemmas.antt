@@ -1,7 +1,7 @@
 -- What an act leaves in each cell.
 use Rattle.std.proofs.Common.{◌≡◌, ◌≢◌, ℕ, zero, suc, ◌<◌, ◌⊎◌, inl, inr, refl, sym, ap, ◌∙◌, arith, List, [], ◌∷◌, length, get_or, take, subst, set, length-set, get_or-set_same, get_or-set_other}
 use Rattle.std.specs.List.{Contains}
-use Rattle.rh_acts.specs.declared.entry.Entry.{Entry}
+use Rattle.rh_layout.specs.declared.entry.Entry.{Entry}
 use Rattle.rh_acts.specs.Act.{Act, apply_act, AllMeet, IsRising}
 
 -- ---- membership, one element at a time

@@ -18,7 +18,7 @@ use Rattle.rh_edit.specs.News.{put_in, taken_out}
 use Rattle.rh_edit.proofs.NewsLemmas.{put_in_len, taken_out_len}
 use Rattle.rh_edit.proofs.InsertSegment.{insert_front}
 use Rattle.rh_edit.proofs.RemoveSegment.{remove_front}
-use Rattle.rh_acts.specs.declared.entry.Entry.{Entry}
+use Rattle.rh_layout.specs.declared.entry.Entry.{Entry}
 use Rattle.rh_acts.specs.Act.{entry, Act, apply_act, Meets}
 use Rattle.rh_acts.specs.KeyActs.{IsFrontAct, IsInsertAct, IsRemoveAct, IsAbsenceAct}
 use Rattle.rh_acts.proofs.ActLemmas.{apply_len, apply_other, apply_at}

@@ -15,7 +15,7 @@ use Rattle.rh_edit.specs.News.{put_in, taken_out}
 use Rattle.rh_edit.proofs.NewsLemmas.{put_in_above, put_in_at, taken_out_cleared}
 use Rattle.rh_ledger.specs.declared.tally.Kind.{Kind}
 use Rattle.rh_ledger.specs.declared.tally.Kind.TheVariants.{Insert, Remove, Ask}
-use Rattle.rh_acts.specs.declared.entry.Entry.{Entry}
+use Rattle.rh_layout.specs.declared.entry.Entry.{Entry}
 use Rattle.rh_acts.specs.Act.{entry, Act, changes}
 use Rattle.rh_acts.specs.Done.{Kept, KeyDone, IsDone}
 use Rattle.rh_acts.specs.KeyActs.{IsFrontAct, IsInsertAct, IsRemoveAct, IsAbsenceAct}

@@ -2,7 +2,7 @@
 -- 2002). That the acts of several workers stand in one list is this project's.
 use Rattle.std.specs.Prelude.{ℕ, ◌<◌, ◌≤◌, ◌≡◌, ◌==◌, List, [], ◌∷◌, length, slice_index, take, set, Bool, not}
 use Rattle.std.specs.List.{Contains, AllPairs, list_any}
-use Rattle.rh_acts.specs.declared.entry.Entry.{Entry}
+use Rattle.rh_layout.specs.declared.entry.Entry.{Entry}
 
 abbrev pub entry : (cell old new : ℕ) → Entry
 entry c o n = record { cell = c; old = o; new = n }

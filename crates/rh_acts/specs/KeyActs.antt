@@ -9,7 +9,7 @@ use Rattle.rh_probe.specs.Look.{Finds}
 use Rattle.rh_probe.specs.Segment.{IsFirstFree, IsFirstStop}
 use Rattle.rh_probe.specs.declared.answer.Look.TheVariants.{Here, Goes}
 use Rattle.rh_edit.specs.News.{put_in, taken_out}
-use Rattle.rh_acts.specs.declared.entry.Entry.{Entry}
+use Rattle.rh_layout.specs.declared.entry.Entry.{Entry}
 use Rattle.rh_acts.specs.Act.{entry, Act, IsRising}
 
 -- The entries take the cells from cell h on, in a circle of n, from `olds` to `news`. This is said by membership: where

@@ -6,9 +6,8 @@ ghost use Rattle.rh_acts.specs.CellOrder.{entry_of, place_at, IsInCellOrder};
 ghost use Rattle.rh_acts.specs.Decision.{Inserts, Removes};
 
 use crate::answer::{Insertion, Removal};
-use crate::entry::Entry;
 use rh_edit::{insert_news, remove_news};
-use rh_layout::home;
+use rh_layout::{Entry, home};
 use rh_probe::{Look, cell_after, free_after, look, stop_after};
 
 /// Writes the entries that put the key in, in the order of their cells. `seen` is what consecutive

@@ -4,12 +4,10 @@
 
 mod answer;
 mod entries;
-mod entry;
 mod laws;
 
 pub use answer::{Insertion, Removal};
 pub use entries::{insert_entries, remove_entries};
-pub use entry::Entry;
 pub use laws::{
     at_every_moment, done_keys, finished_phase, lists_of_acts, one_act, rounds_and_shares,
 };

@@ -9,7 +9,7 @@ use Rattle.rh_world.specs.Notes.{Note}
 use Rattle.rh_world.specs.Notes.Note.{known, size_is, target_is, old_is, new_is, desc_is, which_is, decided, found, may_promote, may_demote}
 use Rattle.rh_world.specs.Sides.{Side, is_number, note_side, open_side, paid_side, claim_side}
 use Rattle.rh_world.specs.Moves.{Entries, MayWork, MayDecide, note_entries, cell_noted, control_noted, mark_noted, place_noted, settle_noted, release_noted}
-use Rattle.rh_descriptor.specs.declared.entry.Entry.{Entry}
+use Rattle.rh_layout.specs.declared.entry.Entry.{Entry}
 use Rattle.rh_descriptor.specs.declared.shape.Shape.{Shape}
 use Rattle.rh_descriptor.specs.declared.shape.Part.{Part}
 use Rattle.rh_descriptor.specs.declared.shape.Part.TheVariants as part
@@ -17,7 +17,7 @@ use Rattle.rh_descriptor.specs.declared.reference.Reading.{Reading}
 use Rattle.rh_descriptor.specs.declared.reference.Reading.TheVariants as reading
 use Rattle.rh_descriptor.specs.Places.{cell_count, word_count, entry_row, mark_row, place_of}
 use Rattle.rh_descriptor.specs.View.{OwnDesc, Written, View}
-use Rattle.rh_descriptor.specs.Words.{IsPlain, mark_number, desc_number, number_of, cell_in, read_control, desc_in, ref_of}
+use Rattle.rh_descriptor.specs.Words.{IsPlain, mark_number, desc_number, number_of, decided_by, cell_in, read_control, desc_in, ref_of}
 
 pub data Step : Type 0 where
   -- Write of a word of an own row
@@ -172,18 +172,19 @@ pub record CanSettle (z : Shape) (v : View) (x : Ref) (c : ℕ) (d : Ref) (e : �
   pub which_is : In (Note.which_is x e) v.side.notes
   pub may : MaySettle v x c d e old
 
--- of how it is decided: the entry has a number; a descriptor is withdrawn only where no mark is left
+-- of how it is decided: a word tells it, so the entry has a number and the decider is 0; a descriptor is withdrawn only
+-- where no mark is left
 abbrev pub IsResult : Shape → View → Control → Type 0
 IsResult z v unused = ⊥
 IsResult z v undecided = ⊥
 IsResult z v succeeded = Unit {0}
 IsResult z v withdrawn = z.mark_room ≤ v.marks_used
-IsResult z v (failed e) = e < 2 ^ ENTRY_BITS
+IsResult z v (failed e by) = (by ≡ 0) × (e < 2 ^ ENTRY_BITS)
 
 pub record CanDecide (z : Shape) (v : View) (d : Ref) (k : Control) : Type 0 where
   pub desc : IsDesc z d
   pub known : In (Note.known d) v.side.notes
-  pub may : MayDecide v.side v.worker d k
+  pub may : MayDecide v.side v.worker d (decided_by v.worker k)
   pub result : IsResult z v k
 
 -- the value that the entry's cell gets: the new one if the descriptor succeeded, else the old one
@@ -192,7 +193,7 @@ IsReleased v d e unused value = ⊥
 IsReleased v d e undecided value = ⊥
 IsReleased v d e succeeded value = In (new_is d e value) v.side.notes
 IsReleased v d e withdrawn value = In (old_is d e value) v.side.notes
-IsReleased v d e (failed f) value = In (old_is d e value) v.side.notes
+IsReleased v d e (failed f by) value = In (old_is d e value) v.side.notes
 
 -- the entry is known, and how its descriptor was decided
 pub record CanRelease (z : Shape) (v : View) (d : Ref) (e c : ℕ) (k : Control) (value : ℕ) : Type 0 where

@@ -1,7 +1,7 @@
 -- What a worker's seat keeps of it: what it has done and knows, its own rows, and how far a wipe is. (own)
 use Rattle.std.specs.Prelude.{ℕ, Option, None, List, []}
 use Rattle.rh_world.specs.Sides.{Side, new_side}
-use Rattle.rh_descriptor.specs.declared.entry.Entry.{Entry}
+use Rattle.rh_layout.specs.declared.entry.Entry.{Entry}
 
 -- a descriptor that the worker opened: its number and its entries
 pub record OwnDesc : Type 0 where

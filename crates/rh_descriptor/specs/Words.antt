@@ -34,13 +34,13 @@ cell_said (Some (Desc worker number)) n = desc (record { worker = worker; number
 abbrev pub cell_in : ℕ → Cell
 cell_in n = cell_said (word_in n) n
 
--- a control of the table as one of the world
+-- a control of the table as one of the world. Its word does not tell who decided that a descriptor failed: 0 stands there.
 abbrev pub control_of : Tagged → Control
 control_of Unused = unused
 control_of Undecided = undecided
 control_of Succeeded = succeeded
 control_of Withdrawn = withdrawn
-control_of (Failed entry) = failed entry
+control_of (Failed entry) = failed entry 0
 
 -- and the other way
 abbrev pub tagged_control : Control → Tagged
@@ -48,7 +48,23 @@ tagged_control unused = Unused
 tagged_control undecided = Undecided
 tagged_control succeeded = Succeeded
 tagged_control withdrawn = Withdrawn
-tagged_control (failed e) = Failed e
+tagged_control (failed e by) = Failed e
+
+-- a control of the world as its word tells it
+abbrev pub without_decider : Control → Control
+without_decider unused = unused
+without_decider undecided = undecided
+without_decider succeeded = succeeded
+without_decider withdrawn = withdrawn
+without_decider (failed e by) = failed e 0
+
+-- the control that this worker sets, where its word is to tell that
+abbrev pub decided_by : (who : ℕ) → Control → Control
+decided_by who unused = unused
+decided_by who undecided = undecided
+decided_by who succeeded = succeeded
+decided_by who withdrawn = withdrawn
+decided_by who (failed e by) = failed e who
 
 abbrev pub number_of : Control → ℕ
 number_of k = control_number (tagged_control k)

@@ -2,7 +2,6 @@
 //! worker on its words.
 #![tactic(auto)]
 
-mod entry;
 mod known;
 mod laws;
 mod limits;
@@ -12,7 +11,6 @@ mod side;
 mod steps;
 mod words;
 
-pub use entry::Entry;
 pub use known::Known;
 pub use laws::one_part;
 pub use limits::{MAX_ROOM, MAX_WORKERS};

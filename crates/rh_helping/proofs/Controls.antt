@@ -67,7 +67,7 @@ undecided_said n None is e = absurd (let h : ⊥ = withdrawn_not e in h)
         said_withdrawn undecided = false
         said_withdrawn succeeded = false
         said_withdrawn withdrawn = true
-        said_withdrawn (failed i) = false
+        said_withdrawn (failed i by) = false
 undecided_said n (Some k) is e = control_in_is n Undecided (is ∙ ap Some (only k e))
   where
     tells : WorldControl → Bool
@@ -75,7 +75,7 @@ undecided_said n (Some k) is e = control_in_is n Undecided (is ∙ ap Some (only
     tells undecided = true
     tells succeeded = false
     tells withdrawn = false
-    tells (failed i) = false
+    tells (failed i by) = false
 
     only : (k : Control) → control_of k ≡ undecided → k ≡ Undecided
     only Unused p = absurd (true≢false (sym (ap tells p)))
@@ -89,7 +89,7 @@ opened_decided unused o ne = absurd (o refl)
 opened_decided undecided o ne = absurd (ne refl)
 opened_decided succeeded o ne = tt
 opened_decided withdrawn o ne = tt
-opened_decided (failed e) o ne = tt
+opened_decided (failed e by) o ne = tt
 
 now_decided : (k : WorldControl) (word : ℕ) (b : Bool) → eqb word UNDECIDED ≡ b → IsDecided k → IsOpened (read_control word)
     → IsDecided (cond b k (read_control word))

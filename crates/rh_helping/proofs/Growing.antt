@@ -10,7 +10,7 @@ use Rattle.rh_descriptor.specs.Words.{control_of, ref_of}
 use Rattle.rh_descriptor.specs.Steps.{IsKnown, entry_of}
 use Rattle.rh_helping.specs.declared.goal.Task.{Task}
 use Rattle.rh_helping.specs.declared.goal.Goal.{Goal}
-use Rattle.rh_helping.specs.Goal.{HasReleased, IsAllNoted, IsOpenOf, KnowsGoal, KnowsOwn, KnowsTask, OwesNothing, Releases, StandsAt, own_ref}
+use Rattle.rh_helping.specs.Goal.{HasReleased, IsAllNoted, IsOpenOf, KnowsGoal, KnowsOwn, KnowsTask, OwesNothing, Releases, StandsAt, open_number, own_ref}
 use Rattle.rh_helping.specs.Settling.{Grows}
 use Rattle.rh_helping.specs.Work.{IsAt, IsOver, Owes}
 
@@ -77,7 +77,7 @@ module _ (v next : View) (notes : Sub v.side.notes next.side.notes) where
       news = λ e i. subst (λ (d : Ref). In (new_is d e (entry_of o.entries e).new) next.side.notes) (own_path o.number) (notes (new_is (own_ref v o.number) e (entry_of o.entries e).new) (h.news e i));
     }
 
-    pub own_sub : (opens then : Option ℕ) → next.opened ≡ v.opened → next.side.current ≡ then → IsOpenOf v.opened then
+    pub own_sub : (opens then : Option OwnDesc) → next.opened ≡ v.opened → next.side.current ≡ open_number then → IsOpenOf v.opened then
         → KnowsOwn v opens → KnowsOwn next then
     own_sub opens then opened current is own = record {
       current = current;
@@ -110,7 +110,7 @@ module _ (v next : View) (notes : Sub v.side.notes next.side.notes) where
         owes_sub d (Failed at) e size h = releases_sub d e size h
 
 module _ (v next : View) (g : Grows v next) where
-  pub own_grows : (opens : Option ℕ) → KnowsOwn v opens → KnowsOwn next opens
+  pub own_grows : (opens : Option OwnDesc) → KnowsOwn v opens → KnowsOwn next opens
   own_grows opens own = own_sub v next g.notes g.worker opens opens g.opened (g.current ∙ own.current) own.newest own
 
   pub owes_grows : (d : Ref) (k : Control) (e size : ℕ) → Owes v d k e size → Owes next d k e size

@@ -4,12 +4,12 @@ use Rattle.rh_tagword.specs.declared.control.Control.{Control}
 use Rattle.rh_tagword.specs.declared.control.Control.TheVariants.{Unused, Undecided, Succeeded, Withdrawn, Failed}
 use Rattle.rh_world.specs.World.{Control as WorldControl, In, Ref, is_ref}
 use Rattle.rh_world.specs.World.Control.{failed, succeeded, undecided, unused, withdrawn}
-use Rattle.rh_world.specs.Notes.Note.{known, target_is}
+use Rattle.rh_world.specs.Notes.Note.{target_is}
 use Rattle.rh_world.specs.Moves.{control_noted}
 use Rattle.rh_world.proofs.Updated.{ref_path, same_nat, some_injective, some_not_none}
 use Rattle.rh_descriptor.specs.View.{OwnDesc, View}
 use Rattle.rh_descriptor.specs.Steps.{with_side}
-use Rattle.rh_helping.specs.Goal.{HasReleased, IsAllNoted, IsNewest, KnowsOwn, OwesNothing, Releases, own_ref}
+use Rattle.rh_helping.specs.Goal.{HasReleased, IsAllNoted, IsNewest, KnowsOwn, OwesNothing, Releases, open_number, own_ref}
 use Rattle.rh_helping.specs.Work.{IsOver, Owes}
 use Rattle.rh_helping.proofs.Marks.{forget_nothing}
 
@@ -61,12 +61,17 @@ nothing_control v d unused h = h
 nothing_control v d undecided h = record { settled = h.settled; paid = forget_nothing (λ q. not (is_ref q.desc d)) v.side.debts h.paid ∙ h.paid; unreleased = h.unreleased }
 nothing_control v d succeeded h = record { settled = h.settled; paid = h.paid; unreleased = h.unreleased }
 nothing_control v d withdrawn h = record { settled = h.settled; paid = h.paid; unreleased = h.unreleased }
-nothing_control v d (failed e) h = record { settled = h.settled; paid = h.paid; unreleased = h.unreleased }
+nothing_control v d (failed e by) h = record { settled = h.settled; paid = h.paid; unreleased = h.unreleased }
 
--- the own open descriptor is known
-newest_in : (v : View) (n : ℕ) (opened : List OwnDesc) → IsNewest opened n → ((o : OwnDesc) → In o opened → IsAllNoted v o) → In (known (own_ref v n)) v.side.notes
-newest_in v n [] is noted = absurd is
-newest_in v n (o ∷ os) is noted = subst (λ (m : ℕ). In (known (own_ref v m)) v.side.notes) is (noted o (inl refl)).known
+-- all is noted of the own open descriptor
+newest_noted : (v : View) (d : OwnDesc) (opened : List OwnDesc) → IsNewest opened d → ((o : OwnDesc) → In o opened → IsAllNoted v o) → IsAllNoted v d
+newest_noted v d [] is noted = absurd is
+newest_noted v d (o ∷ os) is noted = subst (IsAllNoted v) is (noted o (inl refl))
 
-pub open_known : (v : View) (n : ℕ) → KnowsOwn v (Some n) → In (known (own_ref v n)) v.side.notes
-open_known v n own = newest_in v n v.opened own.newest own.noted
+pub open_all_noted : (v : View) (d : OwnDesc) → KnowsOwn v (Some d) → IsAllNoted v d
+open_all_noted v d own = newest_noted v d v.opened own.newest own.noted
+
+-- it is the one that has this number
+pub open_of : (opens : Option OwnDesc) (n : ℕ) → open_number opens ≡ Some n → (d : OwnDesc) × (opens ≡ Some d) × (d.number ≡ n)
+open_of None n e = absurd (some_not_none n (sym e))
+open_of (Some d) n e = (d, refl, some_injective _ _ e)

@@ -1,10 +1,11 @@
--- The rows of an own descriptor say what is noted of it.
-use Rattle.std.proofs.Common.{◌≡◌, ℕ, ◌+◌, ◌<◌, Option, length, sym, subst}
+-- What a worker has of its own descriptors is noted: the entries of the open one, and the rows of an older one.
+use Rattle.std.proofs.Common.{◌≡◌, ℕ, zero, suc, ◌+◌, ◌<◌, Option, Some, List, [], ◌∷◌, length, get_or, refl, sym, subst, arith}
+use Rattle.rh_layout.specs.declared.entry.Entry.{Entry}
 use Rattle.rh_world.specs.World.{In, Ref}
 use Rattle.rh_world.specs.Notes.Note.{new_is, old_is, size_is, target_is}
 use Rattle.rh_world.proofs.Updated.{ref_path}
 use Rattle.rh_descriptor.specs.declared.shape.Shape.{Shape}
-use Rattle.rh_descriptor.specs.View.{View}
+use Rattle.rh_descriptor.specs.View.{OwnDesc, View}
 use Rattle.rh_descriptor.specs.Words.{ref_of}
 use Rattle.rh_descriptor.specs.Steps.{IsKnown, entry_of, row_word}
 use Rattle.rh_rule.specs.Sound.{OwnRow}
@@ -13,8 +14,9 @@ use Rattle.rh_helping.specs.declared.goal.Task.{Task}
 use Rattle.rh_helping.specs.Goal.{IsAllNoted, KnowsGoal, KnowsOwn, KnowsTask, own_ref}
 use Rattle.rh_steps.specs.Relies.{Knows}
 use Rattle.rh_helping.proofs.Knowing.{task_known}
+use Rattle.rh_helping.proofs.Owing.{open_all_noted}
 
-module _ (z : Shape) (v : View) (trusts : Knows z v) (opens : Option ℕ) (own : KnowsOwn v opens) where
+module _ (z : Shape) (v : View) (trusts : Knows z v) (opens : Option OwnDesc) (own : KnowsOwn v opens) where
   module _ (d : Ref) (mine : d.worker ≡ v.worker) (known : IsKnown v.side.notes d) where
     row : OwnRow v d
     row = trusts.sound.rows d mine known
@@ -61,4 +63,43 @@ module _ (z : Shape) (v : View) (trusts : Knows z v) (opens : Option ℕ) (own :
         cell = subst (λ (x : ℕ). In (target_is (ref_of t.desc) t.entry x) v.side.notes) (sym cell) (own_cell (ref_of t.desc) mine known t.size k.size t.entry lt);
         old = subst (λ (x : ℕ). In (old_is (ref_of t.desc) t.entry x) v.side.notes) (sym old) (own_old (ref_of t.desc) mine known t.size k.size t.entry lt);
         new = subst (λ (x : ℕ). In (new_is (ref_of t.desc) t.entry x) v.side.notes) (sym new) (own_new (ref_of t.desc) mine known t.size k.size t.entry lt);
+      }
+
+-- ---- the open one
+
+pub entry_is : (es : List Entry) (e : ℕ) (d : Entry) → e < length es → entry_of es e ≡ get_or es e d
+entry_is [] e d l = absurd (omega arith)
+entry_is (x ∷ es) zero d l = refl
+entry_is (x ∷ es) (suc e) d l = entry_is es e d (omega arith)
+
+module _ (z : Shape) (v : View) (trusts : Knows z v) (opens : Option OwnDesc) (own : KnowsOwn v opens) (n : ℕ) (es : List Entry) (is : opens ≡ Some (record { number = n; entries = es })) where
+  abbrev open_one : OwnDesc
+  open_one = record { number = n; entries = es }
+
+  said : IsAllNoted v open_one
+  said = open_all_noted v open_one (subst (KnowsOwn v) is own)
+
+  module _ (d : Ref) (mine : d.worker ≡ v.worker) (here : d.number ≡ n) where
+    same : own_ref v n ≡ d
+    same = ref_path (own_ref v n) d (sym mine) (sym here)
+
+    pub open_size : In (size_is d (length es)) v.side.notes
+    open_size = subst (λ (f : Ref). In (size_is f (length es)) v.side.notes) same said.size
+
+    pub open_inside : (size e : ℕ) → In (size_is d size) v.side.notes → e < size → e < length es
+    open_inside size e sized lt = subst (λ (k : ℕ). e < k) (trusts.sound.one_size d size (length es) sized open_size) lt
+
+  pub open_goal_known : (t : Task) → KnowsTask v t → t.desc.worker ≡ v.worker → t.desc.number ≡ n → t.entry < t.size → (none : Entry)
+      → KnowsGoal v (record { task = t; cell = (get_or es t.entry none).cell; old = (get_or es t.entry none).old; new = (get_or es t.entry none).new })
+  open_goal_known t k mine here lt none =
+      let d : Ref = ref_of t.desc in
+      let inside = open_inside d mine here t.size t.entry k.size lt in
+      let to = same d mine here in
+      let q = entry_is es t.entry none inside in
+      record {
+        task = k;
+        entry = lt;
+        cell = subst (λ (p : Ref × Entry). In (target_is p.0 t.entry p.1.cell) v.side.notes) (λ i. (to i, q i)) (said.cells t.entry inside);
+        old = subst (λ (p : Ref × Entry). In (old_is p.0 t.entry p.1.old) v.side.notes) (λ i. (to i, q i)) (said.olds t.entry inside);
+        new = subst (λ (p : Ref × Entry). In (new_is p.0 t.entry p.1.new) v.side.notes) (λ i. (to i, q i)) (said.news t.entry inside);
       }

@@ -27,14 +27,14 @@ more_control s d unused = more_none s
 more_control s d undecided = record { current = refl; released = refl; reads = refl; claims = refl; notes = λ n i. inr i }
 more_control s d succeeded = more_note s (decided d succeeded)
 more_control s d withdrawn = more_note s (decided d withdrawn)
-more_control s d (failed e) = more_note s (decided d (failed e))
+more_control s d (failed e by) = more_note s (decided d (failed e by))
 
 pub more_mark : (s t : Side) (x : Ref) (c : ℕ) (k : Control) → More s t → More s (mark_noted t x c k)
 more_mark s t x c unused m = m
 more_mark s t x c undecided m = record { current = m.current; released = m.released; reads = m.reads; claims = m.claims; notes = λ n i. inr (m.notes n i) }
 more_mark s t x c succeeded m = record { current = m.current; released = m.released; reads = m.reads; claims = m.claims; notes = λ n i. inr (m.notes n i) }
 more_mark s t x c withdrawn m = record { current = m.current; released = m.released; reads = m.reads; claims = m.claims; notes = λ n i. inr (m.notes n i) }
-more_mark s t x c (failed e) m = record { current = m.current; released = m.released; reads = m.reads; claims = m.claims; notes = λ n i. inr (m.notes n i) }
+more_mark s t x c (failed e by) m = record { current = m.current; released = m.released; reads = m.reads; claims = m.claims; notes = λ n i. inr (m.notes n i) }
 
 pub more_place : (s : Side) (x d : Ref) (e c old : ℕ) (n : Cell) → More s (place_noted s x d e c old n 0)
 more_place s x d e c old (plain u) = by_cond (λ (t : Side). More s t) (eqb u old) (placed_noted s x d e c) (note_side s (mismatch d e 0))

@@ -8,10 +8,9 @@ use Rattle.rh_world.specs.Notes.Note.{size_is}
 use Rattle.rh_descriptor.specs.declared.shape.Shape.{Shape}
 use Rattle.rh_descriptor.specs.declared.reference.Ref.{Ref as Reference}
 use Rattle.rh_descriptor.specs.declared.reference.Reading.TheVariants as reading
-use Rattle.rh_descriptor.specs.View.{View}
-use Rattle.rh_descriptor.specs.Steps.{Allowed, IsKnown, Step, row_word, with_side}
+use Rattle.rh_descriptor.specs.View.{OwnDesc, View}
+use Rattle.rh_descriptor.specs.Steps.{Allowed, IsKnown, Step, with_side}
 use Rattle.rh_descriptor.specs.Words.{ref_of}
-use Rattle.rh_descriptor.specs.Places.{entry_row}
 use Rattle.rh_helping.specs.declared.goal.Task.{Task}
 use Rattle.rh_helping.specs.Goal.{KnowsOwn, OwesNothing, Releases, StandsAt}
 use Rattle.rh_steps.specs.Relies.{Knows}
@@ -21,7 +20,6 @@ use Rattle.rh_helping.proofs.Knowing.{allowed}
 use Rattle.rh_helping.proofs.Rows.{grows_note}
 use Rattle.rh_helping.proofs.Sides.{more_control}
 use Rattle.rh_helping.proofs.Owing.{owes_from, owes_over}
-use Rattle.rh_helping.proofs.OwnRows.{own_size}
 
 module _ (z : Shape) (v : View) (trusts : Knows z v) (d : Reference) (k : Control) (n : ℕ) (sized : In (size_is (ref_of d) n) v.side.notes) (stands : StandsAt v.side.notes (ref_of d) k 0) where
   -- its first entry is next
@@ -39,14 +37,6 @@ module _ (z : Shape) (v : View) (trusts : Knows z v) (d : Reference) (k : Contro
     left = inl (trusts.sound.sizes (ref_of d) n sized).0;
     owes = owes_over v (ref_of d) k 0 n over owes;
   }
-
--- an own one, whose row says its length
-pub own_next : (z : Shape) (v : View) → Knows z v → (opens : Option ℕ) → KnowsOwn v opens → (d : Reference) (k : Control) (n : ℕ)
-    → d.worker ≡ v.worker → StandsAt v.side.notes (ref_of d) k 0 → OwesNothing v
-    → n ≡ row_word v.written (entry_row d.number 1) → IsNext v (record { desc = d; size = n; control = k; entry = 0 })
-own_next z v trusts opens own d k n mine stands owes is =
-    let sized = own_size z v trusts opens own (ref_of d) mine (stands_known v.side.notes (ref_of d) k 0 stands) in
-    first_next z v trusts d k n (subst (λ (m : ℕ). In (size_is (ref_of d) m) v.side.notes) (sym is) sized) stands owes
 
 -- where an entry is left it has a number below the size
 pub left_below : (v : View) (t : Task) → IsNext v t → t.entry ≢ t.size → t.entry < t.size
@@ -74,7 +64,7 @@ length_next z v next d k n is trusts stands owes =
     (nothing_grows v said (grows_note v (size_is (ref_of d) n)) owes)) trusts
 
 -- after the Read of a control
-pub read_own : (v : View) (opens : Option ℕ) (d : Ref) (said : WorldControl) → KnowsOwn v opens → KnowsOwn (with_side v (control_noted v.side d said)) opens
+pub read_own : (v : View) (opens : Option OwnDesc) (d : Ref) (said : WorldControl) → KnowsOwn v opens → KnowsOwn (with_side v (control_noted v.side d said)) opens
 read_own v opens d said own =
     let m = more_control v.side d said in
     own_sub v (with_side v (control_noted v.side d said)) m.notes refl opens opens refl (m.current ∙ own.current) own.newest own

@@ -10,6 +10,7 @@ use Rattle.rh_descriptor.specs.Words.{control_of, ref_of}
 use Rattle.rh_descriptor.specs.Steps.{entry_of}
 use Rattle.rh_helping.specs.declared.goal.Task.{Task}
 use Rattle.rh_helping.specs.declared.goal.Goal.{Goal}
+use Rattle.rh_helping.specs.declared.goal.OpenDesc.{OpenDesc}
 
 abbrev pub own_ref : View → (number : ℕ) → Ref
 own_ref v n = record { worker = v.worker; number = n }
@@ -24,18 +25,27 @@ pub record IsAllNoted (v : View) (o : OwnDesc) : Type 0 where
   pub olds : (e : ℕ) → e < length o.entries → In (old_is (own_ref v o.number) e (entry_of o.entries e).old) v.side.notes
   pub news : (e : ℕ) → e < length o.entries → In (new_is (own_ref v o.number) e (entry_of o.entries e).new) v.side.notes
 
--- the own descriptor of this number is the newest
-abbrev pub IsNewest : List OwnDesc → (number : ℕ) → Type 0
-IsNewest [] n = ⊥
-IsNewest (o ∷ os) n = o.number ≡ n
+-- this own descriptor is the newest
+abbrev pub IsNewest : List OwnDesc → OwnDesc → Type 0
+IsNewest [] d = ⊥
+IsNewest (o ∷ os) d = o ≡ d
 
-abbrev pub IsOpenOf : List OwnDesc → Option ℕ → Type 0
+abbrev pub IsOpenOf : List OwnDesc → Option OwnDesc → Type 0
 IsOpenOf opened None = Unit {0}
-IsOpenOf opened (Some n) = IsNewest opened n
+IsOpenOf opened (Some d) = IsNewest opened d
+
+abbrev pub open_number : Option OwnDesc → Option ℕ
+open_number None = None
+open_number (Some d) = Some d.number
+
+-- what a worker has of the one that is open
+abbrev pub opened_by : Option OpenDesc → Option OwnDesc
+opened_by None = None
+opened_by (Some o) = Some (record { number = o.number; entries = o.entries.now })
 
 -- what a worker knows of its descriptors, of which this one is open
-pub record KnowsOwn (v : View) (opens : Option ℕ) : Type 0 where
-  pub current : v.side.current ≡ opens
+pub record KnowsOwn (v : View) (opens : Option OwnDesc) : Type 0 where
+  pub current : v.side.current ≡ open_number opens
   pub newest : IsOpenOf v.opened opens
   pub noted : (o : OwnDesc) → In o v.opened → IsAllNoted v o
 

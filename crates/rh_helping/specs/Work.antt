@@ -8,7 +8,7 @@ use Rattle.rh_descriptor.specs.declared.shape.Shape.{Shape}
 use Rattle.rh_descriptor.specs.declared.steps.StepKind.{StepKind}
 use Rattle.rh_descriptor.specs.declared.steps.StepKind.TheVariants as kind
 use Rattle.rh_descriptor.specs.Places.{mark_row}
-use Rattle.rh_descriptor.specs.View.{View}
+use Rattle.rh_descriptor.specs.View.{OwnDesc, View}
 use Rattle.rh_descriptor.specs.Words.{control_of, desc_number, ref_of}
 use Rattle.rh_descriptor.specs.Steps.{IsKnown, row_word}
 use Rattle.rh_helping.specs.declared.goal.Task.{Task}
@@ -123,18 +123,18 @@ Stands z v (work.Release g) = KnowsGoal v g × IsOver g.task.control × Releases
 
 -- ---- what it leads to
 
--- the own descriptor of this number, which was open, is decided so and released
-pub record IsClosed (v : View) (number : ℕ) (k : Control) : Type 0 where
+-- this own descriptor, which was open, is decided so and released
+pub record IsClosed (v : View) (desc : OwnDesc) (k : Control) : Type 0 where
   pub own : KnowsOwn v None
   pub owes : OwesNothing v
-  pub newest : IsNewest v.opened number
+  pub newest : IsNewest v.opened desc
   pub over : IsOver k
-  pub result : In (decided (own_ref v number) (control_of k)) v.side.notes
+  pub result : In (decided (own_ref v desc.number) (control_of k)) v.side.notes
 
-abbrev pub Leads : Shape → View → (opens : Option ℕ) → Outcome → Type 0
+abbrev pub Leads : Shape → View → (opens : Option OwnDesc) → Outcome → Type 0
 Leads z v opens (On w) = KnowsOwn v opens × Stands z v w
 Leads z v opens Over = KnowsOwn v None × OwesNothing v × (opens ≡ None)
-Leads z v opens (Closed k) = (number : ℕ) × (opens ≡ Some number) × IsClosed v number k
+Leads z v opens (Closed k) = (d : OwnDesc) × (opens ≡ Some d) × IsClosed v d k
 Leads z v opens Spent = KnowsOwn v None × OwesNothing v × (opens ≡ None) × (z.mark_room ≤ v.marks_used)
 
 -- the step releases the last entry of a descriptor

@@ -6,11 +6,11 @@ ghost use Rattle.rh_descriptor.specs.Steps.{decided_now};
 ghost use Rattle.rh_descriptor.specs.Words.{control_of};
 ghost use Rattle.rh_steps.specs.Relies.{Relies};
 ghost use Rattle.rh_helping.specs.Settling.{HasMade};
-ghost use Rattle.rh_helping.specs.Goal.{KnowsOwn};
+ghost use Rattle.rh_helping.specs.Goal.{KnowsOwn, opened_by};
 ghost use Rattle.rh_helping.specs.Work.{Stands, Leads, MayEnd};
 ghost use Rattle.rh_helping.specs.declared.work.Work.TheVariants.{Fail, Succeed, Withdraw};
 
-use crate::goal::Task;
+use crate::goal::{OpenDesc, Task};
 use crate::going::{at_entry, start};
 use crate::reading::control_of_word;
 use crate::work::Outcome;
@@ -22,16 +22,16 @@ pub(crate) fn fail<T: Steps>(
     shape: &Shape,
     table: &mut T,
     side: &mut Side,
-    opens: Option<usize>,
+    opens: Option<OpenDesc<'_>>,
     task: Task,
 ) -> Outcome
     requires shape { IsShape shape.now }
     requires relies { Relies T.shows T.serves shape.now table.old side.old.known.view }
-    requires own { KnowsOwn side.old.known.view opens }
+    requires own { KnowsOwn side.old.known.view (opened_by opens) }
     requires stands { Stands shape.now side.old.known.view (Fail task) }
     ensures made { HasMade T.shows T.made shape.now StepKind.Decide table.old side.old.known.view
         table.new side.new.known.view }
-    ensures leads { Leads shape.now side.new.known.view opens result }
+    ensures leads { Leads shape.now side.new.known.view (opened_by opens.entry) result }
     ensures ends { MayEnd (Fail task) result }
 {
     let failed = Control::Failed {
@@ -57,16 +57,16 @@ pub(crate) fn succeed<T: Steps>(
     shape: &Shape,
     table: &mut T,
     side: &mut Side,
-    opens: Option<usize>,
+    opens: Option<OpenDesc<'_>>,
     task: Task,
 ) -> Outcome
     requires shape { IsShape shape.now }
     requires relies { Relies T.shows T.serves shape.now table.old side.old.known.view }
-    requires own { KnowsOwn side.old.known.view opens }
+    requires own { KnowsOwn side.old.known.view (opened_by opens) }
     requires stands { Stands shape.now side.old.known.view (Succeed task) }
     ensures made { HasMade T.shows T.made shape.now StepKind.Decide table.old side.old.known.view
         table.new side.new.known.view }
-    ensures leads { Leads shape.now side.new.known.view opens result }
+    ensures leads { Leads shape.now side.new.known.view (opened_by opens.entry) result }
     ensures ends { MayEnd (Succeed task) result }
 {
     let found = table.make(
@@ -89,16 +89,16 @@ pub(crate) fn withdraw<T: Steps>(
     shape: &Shape,
     table: &mut T,
     side: &mut Side,
-    opens: Option<usize>,
+    opens: Option<OpenDesc<'_>>,
     number: usize,
 ) -> Outcome
     requires shape { IsShape shape.now }
     requires relies { Relies T.shows T.serves shape.now table.old side.old.known.view }
-    requires own { KnowsOwn side.old.known.view opens }
+    requires own { KnowsOwn side.old.known.view (opened_by opens) }
     requires stands { Stands shape.now side.old.known.view (Withdraw number) }
     ensures made { HasMade T.shows T.made shape.now StepKind.Decide table.old side.old.known.view
         table.new side.new.known.view }
-    ensures leads { Leads shape.now side.new.known.view opens result }
+    ensures leads { Leads shape.now side.new.known.view (opened_by opens.entry) result }
     ensures ends { MayEnd (Withdraw number) result }
 {
     let desc = Ref {

@@ -1,7 +1,16 @@
 //! What a worker goes about: a descriptor, its own or another's, and an entry of it.
 
 use rh_descriptor::Ref;
+use rh_layout::Entry;
 use rh_tagword::Control;
+
+/// The own descriptor that is open. What it is to change is the worker's own copy: on a table that
+/// workers share each look at a row is a load.
+#[derive(Clone, Copy)]
+pub struct OpenDesc<'a> {
+    pub number: usize,
+    pub entries: &'a [Entry],
+}
 
 /// A descriptor that a worker goes about, and how far it has come.
 #[derive(Clone, Copy)]

@@ -5,10 +5,10 @@ ghost use Rattle.std.specs.Prelude.{◌≡◌};
 ghost use Rattle.rh_descriptor.specs.Places.{IsShape};
 ghost use Rattle.rh_steps.specs.Relies.{Relies};
 ghost use Rattle.rh_helping.specs.Settling.{HasMade, kind_of_settling};
-ghost use Rattle.rh_helping.specs.Goal.{KnowsOwn};
+ghost use Rattle.rh_helping.specs.Goal.{KnowsOwn, opened_by};
 ghost use Rattle.rh_helping.specs.Work.{Stands, Leads, MayEnd};
 
-use crate::goal::{Goal, Placed, Task};
+use crate::goal::{Goal, OpenDesc, Placed, Task};
 use crate::going::{at_entry, ready};
 use crate::reading::{Met, control_of_word, what_stands};
 use crate::settling::Settling;
@@ -20,16 +20,16 @@ pub(crate) fn write_desc<T: Steps>(
     shape: &Shape,
     table: &mut T,
     side: &mut Side,
-    opens: Option<usize>,
+    opens: Option<OpenDesc<'_>>,
     goal: Goal,
 ) -> Outcome
     requires shape { IsShape shape.now }
     requires relies { Relies T.shows T.serves shape.now table.old side.old.known.view }
-    requires own { KnowsOwn side.old.known.view opens }
+    requires own { KnowsOwn side.old.known.view (opened_by opens) }
     requires stands { Stands shape.now side.old.known.view (Work.MarkDesc goal) }
     ensures made { HasMade T.shows T.made shape.now StepKind.Write table.old side.old.known.view
         table.new side.new.known.view }
-    ensures leads { Leads shape.now side.new.known.view opens result }
+    ensures leads { Leads shape.now side.new.known.view (opened_by opens.entry) result }
     ensures ends { MayEnd (Work.MarkDesc goal) result }
 {
     let word = desc_word(shape, goal.task.desc);
@@ -45,16 +45,16 @@ pub(crate) fn write_entry<T: Steps>(
     shape: &Shape,
     table: &mut T,
     side: &mut Side,
-    opens: Option<usize>,
+    opens: Option<OpenDesc<'_>>,
     goal: Goal,
 ) -> Outcome
     requires shape { IsShape shape.now }
     requires relies { Relies T.shows T.serves shape.now table.old side.old.known.view }
-    requires own { KnowsOwn side.old.known.view opens }
+    requires own { KnowsOwn side.old.known.view (opened_by opens) }
     requires stands { Stands shape.now side.old.known.view (Work.MarkEntry goal) }
     ensures made { HasMade T.shows T.made shape.now StepKind.Write table.old side.old.known.view
         table.new side.new.known.view }
-    ensures leads { Leads shape.now side.new.known.view opens result }
+    ensures leads { Leads shape.now side.new.known.view (opened_by opens.entry) result }
     ensures ends { MayEnd (Work.MarkEntry goal) result }
 {
     let part = Part::MarkEntry {
@@ -77,16 +77,16 @@ pub(crate) fn place<T: Steps>(
     shape: &Shape,
     table: &mut T,
     side: &mut Side,
-    opens: Option<usize>,
+    opens: Option<OpenDesc<'_>>,
     goal: Goal,
 ) -> Outcome
     requires shape { IsShape shape.now }
     requires relies { Relies T.shows T.serves shape.now table.old side.old.known.view }
-    requires own { KnowsOwn side.old.known.view opens }
+    requires own { KnowsOwn side.old.known.view (opened_by opens) }
     requires stands { Stands shape.now side.old.known.view (Work.Place goal) }
     ensures made { HasMade T.shows T.made shape.now StepKind.Place table.old side.old.known.view
         table.new side.new.known.view }
-    ensures leads { Leads shape.now side.new.known.view opens result }
+    ensures leads { Leads shape.now side.new.known.view (opened_by opens.entry) result }
     ensures ends { MayEnd (Work.Place goal) result }
 {
     let task = goal.task;
@@ -138,17 +138,17 @@ pub(crate) fn settle<T: Steps>(
     shape: &Shape,
     table: &mut T,
     side: &mut Side,
-    opens: Option<usize>,
+    opens: Option<OpenDesc<'_>>,
     settling: Settling,
     goal: Goal,
 ) -> Outcome
     requires shape { IsShape shape.now }
     requires relies { Relies T.shows T.serves shape.now table.old side.old.known.view }
-    requires own { KnowsOwn side.old.known.view opens }
+    requires own { KnowsOwn side.old.known.view (opened_by opens) }
     requires stands { Stands shape.now side.old.known.view (Work.Settle settling goal) }
     ensures made { HasMade T.shows T.made shape.now (kind_of_settling settling) table.old side.old.known.view
         table.new side.new.known.view }
-    ensures leads { Leads shape.now side.new.known.view opens result }
+    ensures leads { Leads shape.now side.new.known.view (opened_by opens.entry) result }
     ensures ends { MayEnd (Work.Settle settling goal) result }
 {
     match settling.step(shape, table, side) {
@@ -161,16 +161,16 @@ pub(crate) fn read_control<T: Steps>(
     shape: &Shape,
     table: &mut T,
     side: &mut Side,
-    opens: Option<usize>,
+    opens: Option<OpenDesc<'_>>,
     placed: Placed,
 ) -> Outcome
     requires shape { IsShape shape.now }
     requires relies { Relies T.shows T.serves shape.now table.old side.old.known.view }
-    requires own { KnowsOwn side.old.known.view opens }
+    requires own { KnowsOwn side.old.known.view (opened_by opens) }
     requires stands { Stands shape.now side.old.known.view (Work.MarkControl placed) }
     ensures made { HasMade T.shows T.made shape.now StepKind.Read table.old side.old.known.view
         table.new side.new.known.view }
-    ensures leads { Leads shape.now side.new.known.view opens result }
+    ensures leads { Leads shape.now side.new.known.view (opened_by opens.entry) result }
     ensures ends { MayEnd (Work.MarkControl placed) result }
 {
     let reading = Reading::MarkControl {
@@ -198,16 +198,16 @@ pub(crate) fn promote<T: Steps>(
     shape: &Shape,
     table: &mut T,
     side: &mut Side,
-    opens: Option<usize>,
+    opens: Option<OpenDesc<'_>>,
     placed: Placed,
 ) -> Outcome
     requires shape { IsShape shape.now }
     requires relies { Relies T.shows T.serves shape.now table.old side.old.known.view }
-    requires own { KnowsOwn side.old.known.view opens }
+    requires own { KnowsOwn side.old.known.view (opened_by opens) }
     requires stands { Stands shape.now side.old.known.view (Work.Promote placed) }
     ensures made { HasMade T.shows T.made shape.now StepKind.Settle table.old side.old.known.view
         table.new side.new.known.view }
-    ensures leads { Leads shape.now side.new.known.view opens result }
+    ensures leads { Leads shape.now side.new.known.view (opened_by opens.entry) result }
     ensures ends { MayEnd (Work.Promote placed) result }
 {
     let goal = placed.goal;
@@ -234,16 +234,16 @@ pub(crate) fn demote<T: Steps>(
     shape: &Shape,
     table: &mut T,
     side: &mut Side,
-    opens: Option<usize>,
+    opens: Option<OpenDesc<'_>>,
     placed: Placed,
 ) -> Outcome
     requires shape { IsShape shape.now }
     requires relies { Relies T.shows T.serves shape.now table.old side.old.known.view }
-    requires own { KnowsOwn side.old.known.view opens }
+    requires own { KnowsOwn side.old.known.view (opened_by opens) }
     requires stands { Stands shape.now side.old.known.view (Work.Demote placed) }
     ensures made { HasMade T.shows T.made shape.now StepKind.Settle table.old side.old.known.view
         table.new side.new.known.view }
-    ensures leads { Leads shape.now side.new.known.view opens result }
+    ensures leads { Leads shape.now side.new.known.view (opened_by opens.entry) result }
     ensures ends { MayEnd (Work.Demote placed) result }
 {
     let goal = placed.goal;
@@ -272,17 +272,17 @@ pub(crate) fn recheck<T: Steps>(
     shape: &Shape,
     table: &mut T,
     side: &mut Side,
-    opens: Option<usize>,
+    opens: Option<OpenDesc<'_>>,
     goal: Goal,
     promoted: bool,
 ) -> Outcome
     requires shape { IsShape shape.now }
     requires relies { Relies T.shows T.serves shape.now table.old side.old.known.view }
-    requires own { KnowsOwn side.old.known.view opens }
+    requires own { KnowsOwn side.old.known.view (opened_by opens) }
     requires stands { Stands shape.now side.old.known.view (Work.Recheck goal promoted) }
     ensures made { HasMade T.shows T.made shape.now StepKind.Read table.old side.old.known.view
         table.new side.new.known.view }
-    ensures leads { Leads shape.now side.new.known.view opens result }
+    ensures leads { Leads shape.now side.new.known.view (opened_by opens.entry) result }
     ensures ends { MayEnd (Work.Recheck goal promoted) result }
 {
     let task = goal.task;

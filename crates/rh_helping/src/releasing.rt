@@ -4,11 +4,11 @@ ghost use Rattle.std.specs.Prelude.{◌≡◌, Some, Decides};
 ghost use Rattle.rh_descriptor.specs.Places.{IsShape};
 ghost use Rattle.rh_steps.specs.Relies.{Relies};
 ghost use Rattle.rh_helping.specs.Settling.{HasMade};
-ghost use Rattle.rh_helping.specs.Goal.{KnowsOwn, released_value};
+ghost use Rattle.rh_helping.specs.Goal.{KnowsOwn, open_number, opened_by, released_value};
 ghost use Rattle.rh_helping.specs.Work.{Stands, Leads, MayEnd};
 ghost use Rattle.rh_helping.specs.declared.work.Work.TheVariants.{Release};
 
-use crate::goal::{Goal, Task};
+use crate::goal::{Goal, OpenDesc, Task};
 use crate::going::{at_entry, resume};
 use crate::work::Outcome;
 use rh_descriptor::{Ask, Piece, Ref, Shape, Side, StepKind};
@@ -20,16 +20,16 @@ pub(crate) fn release<T: Steps>(
     shape: &Shape,
     table: &mut T,
     side: &mut Side,
-    opens: Option<usize>,
+    opens: Option<OpenDesc<'_>>,
     goal: Goal,
 ) -> Outcome
     requires shape { IsShape shape.now }
     requires relies { Relies T.shows T.serves shape.now table.old side.old.known.view }
-    requires own { KnowsOwn side.old.known.view opens }
+    requires own { KnowsOwn side.old.known.view (opened_by opens) }
     requires stands { Stands shape.now side.old.known.view (Release goal) }
     ensures made { HasMade T.shows T.made shape.now StepKind.Release table.old side.old.known.view
         table.new side.new.known.view }
-    ensures leads { Leads shape.now side.new.known.view opens result }
+    ensures leads { Leads shape.now side.new.known.view (opened_by opens.entry) result }
     ensures ends { MayEnd (Release goal) result }
 {
     let task = goal.task;
@@ -73,8 +73,8 @@ fn released_value(goal: Goal) -> u64
 }
 
 /// Whether the descriptor is the own one that is open.
-fn is_open(worker: usize, opens: Option<usize>, desc: Ref) -> bool
-    ensures { Decides result ((desc.worker ≡ worker) × (opens ≡ Some desc.number)) }
+fn is_open(worker: usize, opens: Option<OpenDesc<'_>>, desc: Ref) -> bool
+    ensures { Decides result ((desc.worker ≡ worker) × (open_number (opened_by opens.entry) ≡ Some desc.number)) }
 {
-    desc.worker == worker && opens == Some(desc.number)
+    desc.worker == worker && opens.is_some_and(|open| open.number == desc.number)
 }

@@ -4,10 +4,10 @@ ghost use Rattle.std.specs.Prelude.{◌≡◌};
 ghost use Rattle.rh_descriptor.specs.Places.{IsShape};
 ghost use Rattle.rh_steps.specs.Relies.{Relies};
 ghost use Rattle.rh_helping.specs.Settling.{HasMade};
-ghost use Rattle.rh_helping.specs.Goal.{KnowsOwn};
+ghost use Rattle.rh_helping.specs.Goal.{KnowsOwn, opened_by};
 ghost use Rattle.rh_helping.specs.Work.{Stands, Leads, MayEnd, kind_of_work};
 
-use crate::goal::{Goal, Placed, Task};
+use crate::goal::{Goal, OpenDesc, Placed, Task};
 use crate::settling::Settling;
 use crate::{deciding, entering, holding, releasing};
 use rh_descriptor::{Ref, Shape, Side, StepKind};
@@ -82,22 +82,22 @@ impl Work {
         }
     }
 
-    /// Makes the step, and answers what it leads to. `opens` is the number of the own descriptor that
-    /// is open, if one is.
+    /// Makes the step, and answers what it leads to. `opens` is the own descriptor that is open,
+    /// if one is.
     pub fn step<T: Steps>(
         self,
         shape: &Shape,
         table: &mut T,
         side: &mut Side,
-        opens: Option<usize>,
+        opens: Option<OpenDesc<'_>>,
     ) -> Outcome
         requires shape { IsShape shape.now }
         requires relies { Relies T.shows T.serves shape.now table.old side.old.known.view }
-        requires own { KnowsOwn side.old.known.view opens }
+        requires own { KnowsOwn side.old.known.view (opened_by opens) }
         requires stands { Stands shape.now side.old.known.view self }
         ensures made { HasMade T.shows T.made shape.now (kind_of_work self) table.old side.old.known.view
             table.new side.new.known.view }
-        ensures leads { Leads shape.now side.new.known.view opens result }
+        ensures leads { Leads shape.now side.new.known.view (opened_by opens.entry) result }
         ensures ends { MayEnd self result }
     {
         match self {

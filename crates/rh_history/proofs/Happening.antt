@@ -10,7 +10,7 @@ use Rattle.rh_world.specs.Sides.{KeptRead, Side}
 use Rattle.rh_world.specs.Acts.{cells_after}
 use Rattle.rh_world.proofs.ActsKept.{succeeded_opened}
 use Rattle.rh_world.proofs.Updated.{ref_path}
-use Rattle.rh_descriptor.specs.declared.entry.Entry.{Entry as OwnEntry}
+use Rattle.rh_layout.specs.declared.entry.Entry.{Entry}
 use Rattle.rh_descriptor.specs.declared.shape.Shape.{Shape}
 use Rattle.rh_descriptor.specs.Places.{cell_count}
 use Rattle.rh_descriptor.specs.View.{OwnDesc, View}
@@ -20,7 +20,6 @@ use Rattle.rh_rule.specs.Mirrors.{IsOpenedSo, numbers_of}
 use Rattle.rh_rule.specs.Core.{Core}
 use Rattle.rh_rule.specs.Rest.{Told}
 use Rattle.rh_rule.proofs.Telling.{tells}
-use Rattle.rh_acts.specs.declared.entry.Entry.{Entry}
 use Rattle.rh_acts.specs.Act.{Act, Meets, WasWord, entry, apply_acts}
 use Rattle.rh_acts.specs.Done.{Kept, kept}
 use Rattle.rh_acts.specs.Workers.{Made, acts_of}
@@ -32,12 +31,12 @@ use Rattle.rh_history.proofs.Values.{contains_upto, cells_length, get_cells, act
 
 -- ---- entries that a worker opened
 
-entry_is : (es : List OwnEntry) (e : ℕ) → entry_of es e ≡ get_or es e no_entry
+entry_is : (es : List Entry) (e : ℕ) → entry_of es e ≡ get_or es e no_entry
 entry_is [] e = refl
 entry_is (x ∷ xs) zero = refl
 entry_is (x ∷ xs) (suc e) = entry_is xs e
 
-abbrev valued : OwnEntry → Entry
+abbrev valued : Entry → Entry
 valued e = entry e.cell (value_of e.old) (value_of e.new)
 
 pub opened_act : (w : World) (d : Ref) (o : OwnDesc) → IsOpenedSo w d o → act_of o.entries ≡ world_act w d

@@ -53,14 +53,14 @@ a_control s d unused = nothing s
 a_control s d undecided = record { learns = record { notes = λ n i. inr i; reads = λ r i. i }; current = refl }
 a_control s d succeeded = a_note s (decided d succeeded)
 a_control s d withdrawn = a_note s (decided d withdrawn)
-a_control s d (failed e) = a_note s (decided d (failed e))
+a_control s d (failed e by) = a_note s (decided d (failed e by))
 
 a_mark : (s : Side) (x : Ref) (c : ℕ) (k : Control) → Grows s (mark_noted s x c k)
 a_mark s x c unused = nothing s
 a_mark s x c undecided = a_note s (may_promote x c)
 a_mark s x c succeeded = a_note s (may_demote x)
 a_mark s x c withdrawn = a_note s (may_demote x)
-a_mark s x c (failed e) = a_note s (may_demote x)
+a_mark s x c (failed e by) = a_note s (may_demote x)
 
 a_desc : (s : Side) (x : Ref) (d : Option Ref) → Grows s (desc_noted s x d)
 a_desc s x None = nothing s

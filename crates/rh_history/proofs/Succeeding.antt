@@ -1,18 +1,21 @@
 -- A worker's acts in the list of all, at any moment: its descriptors that succeeded.
-use Rattle.std.proofs.Common.{◌≡◌, ℕ, zero, suc, ◌<◌, ◌≤◌, inl, inr, ⊎_elim, refl, sym, ap, ◌∙◌, subst, arith, eq-eqb, ne_eqb, Bool, true, false, true≢false, cond, List, [], ◌∷◌, ◌++◌, length, map, filter, reverse, Option, Some, None}
+use Rattle.std.proofs.Common.{◌≡◌, ℕ, zero, suc, ◌<◌, ◌≤◌, inl, inr, ⊎_elim, refl, sym, ap, ◌∙◌, subst, arith, eq-eqb, ne_eqb, Bool, true, false, cond, List, [], ◌∷◌, ◌++◌, length, map, filter, reverse, Option, Some, None}
 use mathlib.Core.List.{reverse-cons}
 use Rattle.std.proofs.lemmas.Bool.{cases_eq}
 use Rattle.std.proofs.lemmas.List.{append-nil}
 use Rattle.rh_world.specs.World.{Control, In, IsFalling, Ref, World}
-use Rattle.rh_world.specs.World.Control.{failed, succeeded, undecided, unused, withdrawn}
+use Rattle.rh_world.specs.World.Control.{succeeded}
 use Rattle.rh_world.specs.Notes.Note.{decided}
 use Rattle.rh_world.specs.Acts.{is_success, own_acts}
+use Rattle.rh_world.proofs.OwnList.{success_yes}
 use Rattle.rh_world.proofs.Updated.{ref_path, some_injective, some_not_none}
 use Rattle.rh_descriptor.specs.declared.shape.Shape.{Shape}
 use Rattle.rh_descriptor.specs.View.{OwnDesc, View}
+use Rattle.rh_descriptor.specs.Words.{without_decider}
 use Rattle.rh_rule.specs.Core.{Core}
 use Rattle.rh_rule.specs.Mirrors.{numbers_of}
 use Rattle.rh_rule.specs.Rest.{Told, is_noted_success}
+use Rattle.rh_rule.proofs.Deciders.{told_success}
 use Rattle.rh_rule.proofs.Telling.{in_noted, noted_in, same_bool, tells}
 use Rattle.rh_acts.specs.Act.{Act}
 use Rattle.rh_acts.specs.Workers.{own}
@@ -61,13 +64,6 @@ by_number f test (o ∷ os) same = go (test o.number) (by_number f test os (λ p
     go true rest = λ i. same o (inl refl) i ∷ rest i
     go false rest = rest
 
-success_is : (k : Control) → is_success k ≡ true → k ≡ succeeded
-success_is unused e = absurd (true≢false (sym e))
-success_is undecided e = absurd (true≢false (sym e))
-success_is succeeded e = refl
-success_is withdrawn e = absurd (true≢false (sym e))
-success_is (failed i) e = absurd (true≢false (sym e))
-
 abbrev acts_by : List OwnDesc → List Act
 acts_by os = reverse (map (λ o. act_of o.entries) os)
 
@@ -99,8 +95,8 @@ module _ (w : World) (z : Shape) (words : List ℕ) (keep : ℕ → View) (v : �
   noted_right o r i =
       let d : Ref = own_ref k o.number in
       same_bool (succeeds o) (is_noted_success k.side.notes d)
-      (λ e. in_noted k.side.notes d (subst (λ (c : Control). In (decided d c) k.side.notes) (sym (told.results v d r mine i) ∙ success_is (w.control d) e) i))
-      (λ e. ap is_success (told.results v d succeeded mine (noted_in k.side.notes d e)))
+      (λ e. in_noted k.side.notes d (subst (λ (c : Control). In (decided d c) k.side.notes) (sym (told.results v d r mine i) ∙ ap without_decider (success_yes (w.control d) e)) i))
+      (λ e. sym (told_success (w.control d)) ∙ ap is_success (told.results v d succeeded mine (noted_in k.side.notes d e)))
 
   -- one that is not open is finished where it succeeded
   closed_right : (o : OwnDesc) → In o k.opened → (k.side.current ≡ Some o.number → ⊥) → is_finished k o ≡ succeeds o

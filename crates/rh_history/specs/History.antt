@@ -5,12 +5,11 @@ use Rattle.std.specs.List.{range_with_len}
 use Rattle.rh_tagword.specs.declared.limits.TheConstants.{TAG_BITS}
 use Rattle.rh_world.specs.World.{Ref, World}
 use Rattle.rh_world.specs.Acts.{cells_after, is_success}
-use Rattle.rh_descriptor.specs.declared.entry.Entry.{Entry as OwnEntry}
+use Rattle.rh_layout.specs.declared.entry.Entry.{Entry}
 use Rattle.rh_descriptor.specs.declared.shape.Shape.{Shape}
 use Rattle.rh_descriptor.specs.Places.{cell_count}
 use Rattle.rh_descriptor.specs.View.{OwnDesc, View}
 use Rattle.rh_rule.specs.Rest.{is_noted_success}
-use Rattle.rh_acts.specs.declared.entry.Entry.{Entry}
 use Rattle.rh_acts.specs.Act.{Act, entry}
 use Rattle.rh_acts.specs.Done.{Kept, kept}
 use Rattle.rh_acts.specs.Workers.{Made}
@@ -20,7 +19,7 @@ abbrev pub value_of : (word : ℕ) → ℕ
 value_of word = word / 2 ^ TAG_BITS
 
 -- the act of a descriptor with these entries
-abbrev pub act_of : List OwnEntry → Act
+abbrev pub act_of : List Entry → Act
 act_of entries = map (λ e. entry e.cell (value_of e.old) (value_of e.new)) entries
 
 -- ---- of a world

@@ -2,12 +2,14 @@
 //! keys.
 #![tactic(auto)]
 
+mod entry;
 mod key;
 mod laws;
 mod limits;
 mod order;
 mod table;
 
+pub use entry::Entry;
 pub use key::{cell_of, key_in};
 pub use laws::{has_free, one_layout};
 pub use limits::{MAX_BITS, MAX_KEY, MIN_BITS};

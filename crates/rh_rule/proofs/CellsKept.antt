@@ -21,15 +21,16 @@ use Rattle.rh_descriptor.specs.declared.shape.Part.{Part}
 use Rattle.rh_descriptor.specs.declared.shape.Part.TheVariants as part
 use Rattle.rh_descriptor.specs.Places.{IsShape, cell_count}
 use Rattle.rh_descriptor.specs.View.{OwnDesc, View}
-use Rattle.rh_descriptor.specs.Words.{IsPlain, cell_in, desc_number, mark_number}
+use Rattle.rh_descriptor.specs.Words.{IsPlain, cell_in, desc_number, mark_number, without_decider}
 use Rattle.rh_descriptor.specs.Steps.{CanRelease, CanSettle, IsReleased, MaySettle, Step, is_none, noted, release_view, settle_view, settled_word, size_in, swapped}
 use Rattle.rh_rule.specs.Erased.{erased}
 use Rattle.rh_rule.specs.Mirrors.{Cells, IsCell, Kept, cell_number, numbers_of, Mirrors}
 use Rattle.rh_rule.specs.Core.{Core}
+use Rattle.rh_rule.proofs.Deciders.{told_value}
 use Rattle.rh_rule.proofs.Erasing.{erased_either, erased_release, erased_settle}
 use Rattle.rh_rule.proofs.Frames.{word_new, word_same}
 use Rattle.rh_rule.proofs.Kept.{Grows, kept_stays, mirrors, over_grows}
-use Rattle.rh_rule.proofs.ReadsKept.{grows_none, known_note, true_note, work_known}
+use Rattle.rh_rule.proofs.ReadsKept.{grows_none, known_decided, known_note, true_decided, true_note, work_known}
 use Rattle.rh_rule.proofs.Said.{cell_said_is, desc_test, mark_test}
 use Rattle.rh_rule.proofs.Touched.{controls_same, counter_same, others_stay, own_same, rows_same, set_sized}
 
@@ -251,23 +252,24 @@ module _ (z : Shape) (shape : IsShape z) (words : List ℕ) (keep : ℕ → View
           over_closing (covers (size_in k.opened d.number) (e ∷ k.side.released)) s refl refl (p.0 ∙ h.worker) p.1
       over_release false q = ⊎_elim inl inr (h.over o i)
 
-  released_value : (d : Ref) (e : ℕ) (r : Control) (value : ℕ) → w.control d ≡ r → IsReleased k d e r value
+  released_value : (d : Ref) (e : ℕ) (r : Control) (value : ℕ) → without_decider (w.control d) ≡ r → IsReleased k d e r value
       → value ≡ entry_value (w.control d) (w.old d e) (w.new d e)
-  released_value d e r value is may = value_of r may ∙ ap (λ (x : Control). entry_value x (w.old d e) (w.new d e)) (sym is)
+  released_value d e r value is may =
+      value_of r may ∙ ap (λ (x : Control). entry_value x (w.old d e) (w.new d e)) (sym is) ∙ told_value (w.control d) (w.old d e) (w.new d e)
     where
       value_of : (r : Control) → IsReleased k d e r value → value ≡ entry_value r (w.old d e) (w.new d e)
       value_of unused q = absurd q
       value_of undecided q = absurd q
       value_of succeeded q = sym (true_note z shape words keep w side rule m who mine (new_is d e value) tt refl q).1
       value_of withdrawn q = sym (true_note z shape words keep w side rule m who mine (old_is d e value) tt refl q).1
-      value_of (failed f) q = sym (true_note z shape words keep w side rule m who mine (old_is d e value) tt refl q).1
+      value_of (failed f by) q = sym (true_note z shape words keep w side rule m who mine (old_is d e value) tt refl q).1
 
   plain_value : (r : Control) (a b : ℕ) → IsPlain a → IsPlain b → IsPlain (entry_value r a b)
   plain_value unused a b p q = p
   plain_value undecided a b p q = p
   plain_value succeeded a b p q = q
   plain_value withdrawn a b p q = p
-  plain_value (failed e) a b p q = p
+  plain_value (failed e by) a b p q = p
 
   release_here : (d : Ref) (e : ℕ) (r : Control) (value : ℕ) → CanRelease z k d e (w.target d e) r value
       → Core (world_after w who (releases d e)) z (set words (w.target d e) (swapped (desc_number d) value (found_in (w.target d e))))
@@ -275,8 +277,9 @@ module _ (z : Shape) (shape : IsShape z) (words : List ℕ) (keep : ℕ → View
   release_here d e r value can =
       let c : ℕ = w.target d e in
       let work = work_known z shape words keep w side rule m who mine d e can.work in
-      let dec = true_note z shape words keep w side rule m who mine (decided d r) tt refl can.decided in
-      let may : IsAllowed w side who (releases d e) = (record { size = can.work.size; known = known_note z shape words keep w side rule m who mine (size_is d can.work.size) tt can.work.known; within = can.work.within }, inl (r, known_note z shape words keep w side rule m who mine (decided d r) tt can.decided)) in
+      let dec = true_decided z shape words keep w side rule m who mine d r can.decided in
+      let known = known_decided z shape words keep w side rule m who mine d r can.decided in
+      let may : IsAllowed w side who (releases d e) = (record { size = can.work.size; known = known_note z shape words keep w side rule m who mine (size_is d can.work.size) tt can.work.known; within = can.work.within }, inl (known.0, known.2)) in
       let test : eqb (found_in c) (desc_number d) ≡ is_desc (w.cell c) d = ap (λ (n : ℕ). eqb n (desc_number d)) (m.cells.cells c can.cell) ∙ desc_test z shape (w.cell c) d (m.cells.standing c can.cell) can.desc in
       let s : Side = release_view k d e c in
       let same = release_side_is d e work.0 in

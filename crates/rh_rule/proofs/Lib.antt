@@ -1,4 +1,5 @@
 pub mod CellsKept
+pub mod Deciders
 pub mod DecidesKept
 pub mod Erasing
 pub mod Frames

@@ -11,7 +11,7 @@ use Rattle.rh_world.specs.Rule.{Rule}
 use Rattle.rh_world.specs.Moves.{Entries, IsAllowed, next_desc, note_entries, open_world, side_after}
 use Rattle.rh_world.specs.Moves.Move.{opens}
 use Rattle.rh_world.proofs.Updated.{ref_path, updated_at, updated_else, updated_here, updated_ref_at, updated_ref_here}
-use Rattle.rh_descriptor.specs.declared.entry.Entry.{Entry}
+use Rattle.rh_layout.specs.declared.entry.Entry.{Entry}
 use Rattle.rh_descriptor.specs.declared.shape.Shape.{Shape}
 use Rattle.rh_descriptor.specs.declared.shape.Part.{Part}
 use Rattle.rh_descriptor.specs.declared.shape.Part.TheVariants as part
@@ -56,7 +56,7 @@ unused_or unused h = refl
 unused_or undecided h = absurd (h (λ q. cc))
 unused_or succeeded h = absurd (h (λ q. cc))
 unused_or withdrawn h = absurd (h (λ q. cc))
-unused_or (failed e) h = absurd (h (λ q. cc))
+unused_or (failed e by) h = absurd (h (λ q. cc))
 
 module _ (z : Shape) (shape : IsShape z) (words : List ℕ) (keep : ℕ → View) (w : World) (side : ℕ → Side) (rule : Rule w side) (m : Mirrors z words keep w side) (who : ℕ) (mine : who < z.workers) (size : ℕ) (can : CanOpen z (keep who) size) where
   abbrev k : View
@@ -243,7 +243,7 @@ module _ (z : Shape) (shape : IsShape z) (words : List ℕ) (keep : ℕ → View
             (set_sized z words keep w side m p here (number_of undecided) v l)
             (counter_same z words keep w side m p here (number_of undecided) v l (λ q. cc) refl)
             (cells_same z words keep w side m p here (number_of undecided) v l (λ c q. cc) (λ c. refl))
-            (controls_new z words keep w side m d undecided v here (λ e q. cc) (λ f. refl) l (λ q. cc))
+            (controls_new z words keep w side m d undecided v here (λ e q. let t : undecided ≡ failed e q.0 = q.1 in cc) (λ f. refl) l (λ q. cc))
             record {
               descs = λ f o. ⊎_elim (λ (e : f ≡ d). subst (λ (x : Ref). DescRow z then v x) (sym e) new_row)
                   (λ (o : IsOpened (w.control f)). let at = m.controls.descs f o in desc_row_stays z words then w v l f at o (numbers_within z words keep w side m f.worker at.0) (more f.worker) (fixed_same z words keep w side m p here (number_of undecided) v l (λ i. i)) (m.rows.descs f o)) (opened_or f o);

@@ -19,12 +19,13 @@ use Rattle.rh_descriptor.specs.declared.reference.Reading.{Reading}
 use Rattle.rh_descriptor.specs.declared.reference.Reading.TheVariants as reading
 use Rattle.rh_descriptor.specs.Places.{IsShape}
 use Rattle.rh_descriptor.specs.View.{View}
-use Rattle.rh_descriptor.specs.Words.{cell_in, desc_in, read_control, ref_of}
+use Rattle.rh_descriptor.specs.Words.{cell_in, desc_in, read_control, ref_of, without_decider}
 use Rattle.rh_descriptor.specs.Steps.{IsDesc, IsKnown, IsNoted, IsRead, KnowsMark, desc_noted, place_read, read_noted}
 use Rattle.rh_rule.specs.Erased.{erased}
 use Rattle.rh_rule.specs.Mirrors.{Kept, word_at, Mirrors}
 use Rattle.rh_rule.specs.Core.{Core}
-use Rattle.rh_rule.proofs.Erasing.{IsWhole, erased_cell, erased_control, erased_mark, in_whole}
+use Rattle.rh_rule.proofs.Deciders.{told_decided}
+use Rattle.rh_rule.proofs.Erasing.{IsWhole, erased_cell, erased_control, erased_mark, in_decided, in_whole}
 use Rattle.rh_rule.proofs.Kept.{Grows, kept_stays, mirrors, over_grows}
 use Rattle.rh_rule.proofs.Said.{cell_said_is, control_said_is, desc_said_is}
 
@@ -50,14 +51,14 @@ grows_control s d unused = grows_none s
 grows_control s d undecided = record { current = refl; notes = λ n i. inr i }
 grows_control s d succeeded = grows_note s (decided d succeeded)
 grows_control s d withdrawn = grows_note s (decided d withdrawn)
-grows_control s d (failed e) = grows_note s (decided d (failed e))
+grows_control s d (failed e by) = grows_note s (decided d (failed e by))
 
 grows_mark : (s : Side) (x : Ref) (c : ℕ) (k : Control) → Grows s (mark_noted s x c k)
 grows_mark s x c unused = grows_none s
 grows_mark s x c undecided = grows_note s (Note.may_promote x c)
 grows_mark s x c succeeded = grows_note s (Note.may_demote x)
 grows_mark s x c withdrawn = grows_note s (Note.may_demote x)
-grows_mark s x c (failed e) = grows_note s (Note.may_demote x)
+grows_mark s x c (failed e by) = grows_note s (Note.may_demote x)
 
 -- ---- the steps
 
@@ -78,9 +79,19 @@ module _ (z : Shape) (shape : IsShape z) (words : List ℕ) (keep : ℕ → View
   pub true_note : (n : Note) → IsWhole n → part_of n ≡ of_rows → In n k.side.notes → HoldsIn w n
   true_note n whole of i = rule.rows.notes who n (known_note n whole i) of
 
+  -- of a decision all is kept but who made it
+  pub known_decided : (d : Ref) (r : Control) → In (decided d r) k.side.notes → (j : Control) × (without_decider j ≡ r) × In (decided d j) t.notes
+  known_decided d r i = in_decided d r t (subst (λ (s : Side). In (decided d r) s.notes) h.side_is i)
+
+  pub true_decided : (d : Ref) (r : Control) → In (decided d r) k.side.notes → IsDecided r × (without_decider (w.control d) ≡ r)
+  true_decided d r i =
+      let j = known_decided d r i in
+      let holds = rule.rows.notes who (decided d j.0) j.2 refl in
+      (subst IsDecided j.1 (told_decided j.0 holds.0), ap without_decider holds.1 ∙ j.1)
+
   pub opened_known : (d : Ref) → IsKnown k.side.notes d → IsOpened (w.control d)
   opened_known d o = ⊎_elim (λ i. true_note (known d) tt refl i)
-      (λ i. let q = true_note (decided d i.0) tt refl i.1 in λ e. subst IsDecided (sym q.1 ∙ e) q.0) o
+      (λ i. let q = true_decided d i.0 i.1 in λ e. subst IsDecided (sym q.1 ∙ ap without_decider e) q.0) o
 
   pub work_known : (d : Ref) (e : ℕ) → MayWork k.side d e → IsOpened (w.control d) × (e < w.size d)
   work_known d e may = let q = true_note (size_is d may.size) tt refl may.known in (q.0, subst (λ (n : ℕ). e < n) (sym q.1) may.within)
@@ -117,7 +128,7 @@ module _ (z : Shape) (shape : IsShape z) (words : List ℕ) (keep : ℕ → View
       (is ∙ ap (λ (s : Side). note_side s n) h.side_is ∙ sym same) (subst (λ (y : Side). Grows k.side y) (sym is) (grows_note k.side n))
 
   pub reads_desc_control : (d : Ref) → IsDesc z d → (word : ℕ) → word ≡ word_at z words (part.Control d.worker d.number)
-      → read_control word ≡ w.control d
+      → read_control word ≡ without_decider (w.control d)
   reads_desc_control d here word is = ap read_control (is ∙ m.controls.controls d here) ∙ control_said_is (w.control d) (λ e q. m.controls.failures d e q)
 
   pub keeps_read : (r : Reading) → IsRead z r → IsNoted k r → (word : ℕ) → word ≡ get_or words (place_read z r) 0
@@ -129,18 +140,19 @@ module _ (z : Shape) (shape : IsShape z) (words : List ℕ) (keep : ℕ → View
       ((λ i. cell_noted (h.side_is i) c (said i) (h.side_is i).current 0 (h.next_number i)) ∙ erased_cell t c (w.cell c) t.current w.act_count (w.next_number who))
       (grows_cell k.side c (cell_in word) k.side.current 0 k.next_number)
   keeps_read (reading.Control d) here may word is =
-      let said : read_control word ≡ w.control (ref_of d) = reads_desc_control (ref_of d) here word is in
+      let said : read_control word ≡ without_decider (w.control (ref_of d)) = reads_desc_control (ref_of d) here word is in
       side_keeps (side_after w t who (reads_control (ref_of d))) (read_noted k (reading.Control d) word) (each_step_keeps w side who (reads_control (ref_of d)) rule tt)
       ((λ i. control_noted (h.side_is i) (ref_of d) (said i)) ∙ erased_control t (ref_of d) (w.control (ref_of d)))
       (grows_control k.side (ref_of d) (read_control word))
   keeps_read (reading.MarkControl x c d) here may word is =
-      let said : read_control word ≡ w.control (ref_of d) = reads_desc_control (ref_of d) here word is in
+      let said : read_control word ≡ without_decider (w.control (ref_of d)) = reads_desc_control (ref_of d) here word is in
       let same : ref_of d ≡ w.mark_desc (ref_of x) = sym (true_note (desc_is (ref_of x) (ref_of d)) tt refl may.1).1 in
       let f : Ref = w.mark_desc (ref_of x) in
+      let told : read_control word ≡ without_decider (w.control f) = said ∙ ap (λ (y : Ref). without_decider (w.control y)) same in
       side_keeps (side_after w t who (reads_mark_control (ref_of x) c)) (read_noted k (reading.MarkControl x c d) word)
       (each_step_keeps w side who (reads_mark_control (ref_of x) c) rule (known_note (found (ref_of x) c) tt may.0))
-      ((λ i. mark_noted (control_noted (h.side_is i) (same i) ((said ∙ ap w.control same) i)) (ref_of x) c ((said ∙ ap w.control same) i))
-      ∙ ap (λ (s : Side). mark_noted s (ref_of x) c (w.control f)) (erased_control t f (w.control f)) ∙ erased_mark (control_noted t f (w.control f)) (ref_of x) c (w.control f))
+      ((λ i. mark_noted (control_noted (h.side_is i) (same i) (told i)) (ref_of x) c (told i))
+      ∙ ap (λ (s : Side). mark_noted s (ref_of x) c (without_decider (w.control f))) (erased_control t f (w.control f)) ∙ erased_mark (control_noted t f (w.control f)) (ref_of x) c (w.control f))
       (grows_then k.side (control_noted k.side (ref_of d) (read_control word)) (read_noted k (reading.MarkControl x c d) word) (grows_control k.side (ref_of d) (read_control word)) (grows_mark (control_noted k.side (ref_of d) (read_control word)) (ref_of x) c (read_control word)))
   keeps_read (reading.Length d) here may word is =
       let o = opened_known (ref_of d) may in

@@ -14,7 +14,7 @@ use Rattle.rh_world.specs.Moves.{is_desc, is_mark, is_plain}
 use Rattle.rh_world.proofs.Updated.{is_ref_not, ref_path, same_ref, updated_ref_here}
 use Rattle.rh_descriptor.specs.declared.shape.Shape.{Shape}
 use Rattle.rh_descriptor.specs.Places.{IsShape}
-use Rattle.rh_descriptor.specs.Words.{IsPlain, cell_in, cell_said, control_said, desc_in, desc_number, mark_number, number_of, read_control, ref_said, tagged_control}
+use Rattle.rh_descriptor.specs.Words.{IsPlain, cell_in, cell_said, control_said, desc_in, desc_number, mark_number, number_of, read_control, ref_said, tagged_control, without_decider}
 use Rattle.rh_descriptor.specs.Steps.{IsDesc, IsMark}
 use Rattle.rh_rule.specs.Mirrors.{IsCell, cell_number}
 
@@ -91,26 +91,27 @@ module _ (z : Shape) (shape : IsShape z) where
 
 -- ---- controls
 
+-- its word tells it, but for who decided
 abbrev pub HasNumber : Control → Type 0
-HasNumber k = (e : ℕ) → k ≡ failed e → e < 2 ^ 20
+HasNumber k = (e : ℕ) → ((by : ℕ) × (k ≡ failed e by)) → e < 2 ^ 20
 
-pub control_said_is : (k : Control) → HasNumber k → read_control (number_of k) ≡ k
+pub control_said_is : (k : Control) → HasNumber k → read_control (number_of k) ≡ without_decider k
 control_said_is unused h = refl
 control_said_is undecided h = refl
 control_said_is succeeded h = refl
 control_said_is withdrawn h = refl
-control_said_is (failed e) h = ap control_said (control_in-control_number (tagged_control (failed e)) (h e refl))
+control_said_is (failed e by) h = ap control_said (control_in-control_number (tagged_control (failed e by)) (h e (by, refl)))
 
 abbrev pub is_undecided : Control → Bool
 is_undecided unused = false
 is_undecided undecided = true
 is_undecided succeeded = false
 is_undecided withdrawn = false
-is_undecided (failed e) = false
+is_undecided (failed e by) = false
 
 pub undecided_test : (k : Control) → eqb (number_of k) UNDECIDED ≡ is_undecided k
 undecided_test unused = refl
 undecided_test undecided = refl
 undecided_test succeeded = refl
 undecided_test withdrawn = refl
-undecided_test (failed e) = ne_eqb (number_of (failed e)) UNDECIDED (λ q. omega arith)
+undecided_test (failed e by) = ne_eqb (number_of (failed e by)) UNDECIDED (λ q. omega arith)

@@ -5,7 +5,7 @@ use Rattle.rh_tagword.specs.declared.limits.TheConstants.{UNUSED}
 use Rattle.rh_world.specs.World.{Cell, In, IsOpened, Ref, World}
 use Rattle.rh_world.specs.World.Control.{withdrawn}
 use Rattle.rh_world.proofs.Updated.{ref_path}
-use Rattle.rh_world.specs.Notes.Note.{decided, desc_is, found, known, new_is, old_is, size_is, target_is, which_is}
+use Rattle.rh_world.specs.Notes.Note.{desc_is, found, known, new_is, old_is, size_is, target_is, which_is}
 use Rattle.rh_world.specs.Sides.{Side}
 use Rattle.rh_world.specs.Rule.{Rule}
 use Rattle.rh_world.proofs.EndsKept.{claims_share_out}
@@ -20,8 +20,9 @@ use Rattle.rh_descriptor.specs.Words.{cell_in, desc_in, read_control, ref_of}
 use Rattle.rh_descriptor.specs.Steps.{IsDesc, IsKnown, IsNoted, IsRead, IsStep, Step, place, place_read, row_of, row_word}
 use Rattle.rh_rule.specs.Mirrors.{DescRow, IsCell, IsOpenedSo, IsOwn, Kept, Mirrors, numbers_of, word_at}
 use Rattle.rh_rule.specs.Sound.{Finds, OwnRow, Reads, Sound, StepsFind, ViewsAreSound}
+use Rattle.rh_rule.proofs.Deciders.{told_unused, told_withdrawn}
 use Rattle.rh_rule.proofs.OpensKept.{word_is}
-use Rattle.rh_rule.proofs.ReadsKept.{mark_known, opened_known, reads_desc_control, true_note, work_known}
+use Rattle.rh_rule.proofs.ReadsKept.{mark_known, opened_known, reads_desc_control, true_decided, true_note, work_known}
 use Rattle.rh_rule.proofs.Said.{cell_said_is, desc_said_is}
 
 number_in : (os : List OwnDesc) (n : ℕ) → In n (numbers_of os) → (o : OwnDesc) × In o os × (o.number ≡ n)
@@ -103,9 +104,9 @@ module _ (z : Shape) (shape : IsShape z) (words : List ℕ) (keep : ℕ → View
         let a : (keep d.worker).next_number ≡ w.next_number d.worker = k.next_number in
         let b : (keep d.worker).next_number ≤ z.entry_room = k.entry_room in
         (at, omega arith);
-    results = λ d k i. (true_note z shape words keep w side rule m who mine (decided d k) tt refl i).0;
+    results = λ d k i. (true_decided z shape words keep w side rule m who mine d k i).0;
     withdrawals = λ d own i.
-        let is : w.control d ≡ withdrawn = (true_note z shape words keep w side rule m who mine (decided d withdrawn) tt refl i).1 in
+        let is : w.control d ≡ withdrawn = told_withdrawn (w.control d) (true_decided z shape words keep w side rule m who mine d withdrawn i).1 in
         let full : z.mark_room ≤ w.marks_used d.worker = m.controls.withdrawals d is in
         subst (λ (n : ℕ). z.mark_room ≤ n) (ap w.marks_used (own ∙ h.worker) ∙ sym h.marks_used) full;
     rows = row;
@@ -113,7 +114,7 @@ module _ (z : Shape) (shape : IsShape z) (words : List ℕ) (keep : ℕ → View
     one_target = λ d e a b i j. sym (true_note z shape words keep w side rule m who mine (target_is d e a) tt refl i).1 ∙ (true_note z shape words keep w side rule m who mine (target_is d e b) tt refl j).1;
     one_old = λ d e a b i j. sym (true_note z shape words keep w side rule m who mine (old_is d e a) tt refl i).1 ∙ (true_note z shape words keep w side rule m who mine (old_is d e b) tt refl j).1;
     one_new = λ d e a b i j. sym (true_note z shape words keep w side rule m who mine (new_is d e a) tt refl i).1 ∙ (true_note z shape words keep w side rule m who mine (new_is d e b) tt refl j).1;
-    one_result = λ d a b i j. sym (true_note z shape words keep w side rule m who mine (decided d a) tt refl i).1 ∙ (true_note z shape words keep w side rule m who mine (decided d b) tt refl j).1;
+    one_result = λ d a b i j. sym (true_decided z shape words keep w side rule m who mine d a i).1 ∙ (true_decided z shape words keep w side rule m who mine d b j).1;
     one_desc = λ x d f i j. sym (true_note z shape words keep w side rule m who mine (desc_is x d) tt refl i).1 ∙ (true_note z shape words keep w side rule m who mine (desc_is x f) tt refl j).1;
     one_entry = λ x e f i j. sym (true_note z shape words keep w side rule m who mine (which_is x e) tt refl i).1 ∙ (true_note z shape words keep w side rule m who mine (which_is x f) tt refl j).1;
   }
@@ -124,7 +125,7 @@ module _ (z : Shape) (shape : IsShape z) (words : List ℕ) (keep : ℕ → View
 
   -- the control of an opened descriptor
   control_finds : (d : Ref) → IsDesc z d → IsOpened (w.control d) → IsOpened (read_control (word_at z words (part.Control d.worker d.number)))
-  control_finds d here o e = o (sym (reads_desc_control z shape words keep w side rule m who mine d here (word_at z words (part.Control d.worker d.number)) refl) ∙ e)
+  control_finds d here o e = o (told_unused (w.control d) (sym (reads_desc_control z shape words keep w side rule m who mine d here (word_at z words (part.Control d.worker d.number)) refl) ∙ e))
 
   reads_find : (r : Reading) → IsRead z r → IsNoted v r → Reads z v r (get_or words (place_read z r) 0)
   reads_find (reading.Place p) here may = λ q own e. ap (λ (n : ℕ). get_or words n 0) e ∙ own_word q own

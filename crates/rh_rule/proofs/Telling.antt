@@ -2,21 +2,24 @@
 use Rattle.std.proofs.Common.{◌≡◌, ℕ, ◌⊎◌, Bool, true, false, true≢false, cond, ◌&&◌, ◌||◌, List, [], ◌∷◌, filter, sym, refl, ap, ◌∙◌, subst, inl, inr, ⊎_elim, Some, None}
 use Rattle.rh_tagword.specs.Word.{tag_of}
 use Rattle.rh_world.specs.World.{Cell, Control, In, Ref, World, is_ref}
-use Rattle.rh_world.specs.World.Control.{failed, succeeded, undecided, unused, withdrawn}
+use Rattle.rh_world.specs.World.Control.{succeeded}
 use Rattle.rh_world.specs.Notes.{Note}
 use Rattle.rh_world.specs.Notes.Note.{decided, desc_is, failed_at, found, held, known, may_demote, may_promote, mismatch, new_is, old_is, over, passed, size_is, target_is, which_is}
 use Rattle.rh_world.specs.Acts.{is_success}
 use Rattle.rh_world.specs.Sides.{Side}
 use Rattle.rh_world.proofs.ActsKept.{succeeded_opened}
 use Rattle.rh_world.proofs.EndsKept.{claims_share_out, one_order, prefixes_say, rest_is_settled}
+use Rattle.rh_world.proofs.OwnList.{success_yes}
 use Rattle.rh_world.proofs.Tests.{both, is_ref_yes}
 use Rattle.rh_world.proofs.Updated.{updated_ref_here}
 use Rattle.rh_descriptor.specs.declared.shape.Shape.{Shape}
 use Rattle.rh_descriptor.specs.View.{OwnDesc, View}
+use Rattle.rh_descriptor.specs.Words.{without_decider}
 use Rattle.rh_rule.specs.Mirrors.{IsCell, cell_number, numbers_of}
 use Rattle.rh_rule.specs.Core.{Core}
 use Rattle.rh_rule.specs.Rest.{Rests, Tells, Told, is_noted_success, says_success}
-use Rattle.rh_rule.proofs.Erasing.{in_whole}
+use Rattle.rh_rule.proofs.Deciders.{told_success}
+use Rattle.rh_rule.proofs.Erasing.{in_decided}
 use Rattle.rh_rule.proofs.WipesKept.{all_rest}
 
 told : (w : World) (z : Shape) (words : List ℕ) (keep : ℕ → View) (core : Core w z words keep) → Told w z keep core.side
@@ -30,7 +33,9 @@ told w z words keep core =
       kept = λ v lt. (m.kept v lt).side_is;
       opening = λ v c lt inside. sym ((m.kept v lt).opening c inside);
       opened = λ v o lt i. (m.kept v lt).opened o i;
-      results = λ v d k lt i. (core.rule.rows.notes v (decided d k) (in_whole (decided d k) (core.side v) tt (subst (λ (s : Side). In (decided d k) s.notes) (m.kept v lt).side_is i)) refl).1;
+      results = λ v d k lt i.
+          let j = in_decided d k (core.side v) (subst (λ (s : Side). In (decided d k) s.notes) (m.kept v lt).side_is i) in
+          ap without_decider (core.rule.rows.notes v (decided d j.0) j.2 refl).1 ∙ j.1;
       own = λ v lt. let h = m.kept v lt in order.own v _ h.falling h.all;
       workers = λ i lt. (m.controls.descs (w.act i) (succeeded_opened (w.control (w.act i)) (order.succeeded i lt))).0;
     }
@@ -48,20 +53,13 @@ true_or : (a b : Bool) → (a ≡ true) ⊎ (b ≡ true) → (a || b) ≡ true
 true_or true b e = refl
 true_or false b e = ⊎_elim (λ q. absurd (true≢false (sym q))) (λ q. q) e
 
-success_is : (k : Control) → is_success k ≡ true → k ≡ succeeded
-success_is unused e = absurd (true≢false (sym e))
-success_is undecided e = absurd (true≢false (sym e))
-success_is succeeded e = refl
-success_is withdrawn e = absurd (true≢false (sym e))
-success_is (failed i) e = absurd (true≢false (sym e))
-
 says_so : (n : Note) (d : Ref) → says_success n d ≡ true → decided d succeeded ≡ n
 says_so (known f) d e = absurd (true≢false (sym e))
 says_so (size_is f i) d e = absurd (true≢false (sym e))
 says_so (target_is f i c) d e = absurd (true≢false (sym e))
 says_so (old_is f i u) d e = absurd (true≢false (sym e))
 says_so (new_is f i u) d e = absurd (true≢false (sym e))
-says_so (decided f k) d e = let q = both (is_ref f d) (is_success k) e in λ i. decided (sym (is_ref_yes f d q.0) i) (sym (success_is k q.1) i)
+says_so (decided f k) d e = let q = both (is_ref f d) (is_success k) e in λ i. decided (sym (is_ref_yes f d q.0) i) (sym (success_yes k q.1) i)
 says_so (over f) d e = absurd (true≢false (sym e))
 says_so (passed f) d e = absurd (true≢false (sym e))
 says_so (failed_at f i) d e = absurd (true≢false (sym e))
@@ -105,7 +103,7 @@ same_bool false false f g = refl
 success_noted : (ns : List Note) (d : Ref) (c : Control) → ((r : Control) → In (decided d r) ns → c ≡ r)
     → (r : Control) × In (decided d r) ns → is_success c ≡ is_noted_success ns d
 success_noted ns d c true_of noted = same_bool (is_success c) (is_noted_success ns d)
-    (λ e. in_noted ns d (subst (λ (k : Control). In (decided d k) ns) (sym (true_of noted.0 noted.1) ∙ success_is c e) noted.1))
+    (λ e. in_noted ns d (subst (λ (k : Control). In (decided d k) ns) (sym (true_of noted.0 noted.1) ∙ success_yes c e) noted.1))
     (λ e. ap is_success (true_of succeeded (noted_in ns d e)))
 
 -- a filter by what is so of each
@@ -135,7 +133,7 @@ rests w z words keep core rest =
           t.own v lt ∙ filtered (λ n. is_success (w.control (record { worker = v; number = n }))) (λ o. is_noted_success (keep v).side.notes (record { worker = (keep v).worker; number = o.number })) (keep v).opened
           (λ o i.
           let d : Ref = record { worker = v; number = o.number } in
-          success_noted (keep v).side.notes d (w.control d) (λ k j. t.results v d k lt j)
+          sym (told_success (w.control d)) ∙ success_noted (keep v).side.notes d (without_decider (w.control d)) (λ k j. t.results v d k lt j)
           (⊎_elim (λ q. let bad : None ≡ Some o.number = sym (rest.rest v lt).closed ∙ q in cc) (λ q. q) (h.over o i))
           ∙ ap (is_noted_success (keep v).side.notes) (λ j. record { worker = sym h.worker j; number = o.number }));
     }

@@ -69,7 +69,7 @@ module _ (z : Shape) (words : List ℕ) (keep : ℕ → View) (w : World) (side 
   controls_same ne same = record {
     controls = λ d h. word_same z words p n here (part.Control d.worker d.number) h (ne d.worker d.number) ∙ m.controls.controls d h ∙ ap number_of (sym (same d));
     descs = λ d o. m.controls.descs d (λ e. o (same d ∙ e));
-    failures = λ d e q. m.controls.failures d e (sym (same d) ∙ q);
+    failures = λ d e q. m.controls.failures d e (q.0, sym (same d) ∙ q.1);
     withdrawals = λ d q. marks_stay z.mark_room w v l d.worker (m.controls.withdrawals d (sym (same d) ∙ q));
   }
 

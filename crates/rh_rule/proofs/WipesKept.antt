@@ -9,7 +9,7 @@ use Rattle.rh_world.specs.Claims.{ends_found}
 use Rattle.rh_world.specs.Ends.{AllAtRest, opening_world}
 use Rattle.rh_world.proofs.ClaimsKept.{claims_stay}
 use Rattle.rh_world.proofs.EndsKept.{opening_meets, rest_is_settled}
-use Rattle.rh_world.proofs.Updated.{same_nat}
+use Rattle.rh_world.proofs.Updated.{failed_opened, same_nat}
 use Rattle.rh_descriptor.specs.declared.shape.Shape.{Shape}
 use Rattle.rh_descriptor.specs.declared.shape.Part.{Part}
 use Rattle.rh_descriptor.specs.declared.shape.Part.TheVariants as part
@@ -75,7 +75,7 @@ fresh z words opening keep before sized cells plain_cells zeros s workers is =
           controls = record {
             controls = λ d h. let i = control_number z d.worker d.number h.0 h.1 in ap (λ (n : ℕ). get_or words n 0) i.2 ∙ zeros i.0 i.1;
             descs = λ d o. absurd (o refl);
-            failures = λ d e q. cc;
+            failures = λ d e q. absurd (failed_opened w d e q refl);
             withdrawals = λ d q. cc;
           };
           rows = record { descs = λ d o. absurd (o refl); marks = λ x u. absurd (omega arith) };

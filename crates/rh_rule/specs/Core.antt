@@ -9,6 +9,7 @@ use Rattle.rh_descriptor.specs.Places.{IsShape}
 use Rattle.rh_descriptor.specs.View.{View}
 use Rattle.rh_world.specs.Moves.{world_after}
 use Rattle.rh_world.specs.Moves.Move.{opens, places, settles, decides, releases, claims}
+use Rattle.rh_descriptor.specs.Words.{decided_by}
 use Rattle.rh_descriptor.specs.Steps.{Step, Allowed, StepsTo, entries_of, is_none, next_entries}
 use Rattle.rh_rule.specs.Mirrors.{Mirrors}
 
@@ -29,7 +30,7 @@ world_then w who v (Step.opens size) = world_after w who (opens (entries_of (nex
 world_then w who v (Step.reads r) = w
 world_then w who v (Step.places d e c old) = world_after w who (places d e)
 world_then w who v (Step.settles x c d e old) = world_after w who (settles x c (is_none old))
-world_then w who v (Step.decides d k) = world_after w who (decides d k)
+world_then w who v (Step.decides d k) = world_after w who (decides d (decided_by who k))
 world_then w who v (Step.releases d e c k value) = world_after w who (releases d e)
 world_then w who v Step.claims = world_after w who claims
 

@@ -2,9 +2,9 @@
 -- place. (own)
 use Rattle.std.specs.Prelude.{◌≡◌, ℕ, ◌+◌, ◌<◌, ◌≤◌, ◌^◌, ◌⊎◌, Some, None, List, map, length, slice_index}
 use Rattle.rh_tagword.specs.declared.limits.TheConstants.{ENTRY_BITS}
-use Rattle.rh_world.specs.World.{Ref, Cell, Control, World, IsOpened, IsUsed, IsFalling, In}
+use Rattle.rh_world.specs.World.{Ref, Cell, Control, World, IsOpened, HasFailed, IsUsed, IsFalling, In}
 use Rattle.rh_world.specs.World.Cell.{plain, mark, desc}
-use Rattle.rh_world.specs.World.Control.{failed, withdrawn}
+use Rattle.rh_world.specs.World.Control.{withdrawn}
 use Rattle.rh_world.specs.Notes.Note.{decided}
 use Rattle.rh_world.specs.Sides.{Side, new_side}
 use Rattle.rh_descriptor.specs.declared.shape.Shape.{Shape}
@@ -37,7 +37,7 @@ pub record Cells (z : Shape) (words : List ℕ) (w : World) : Type 0 where
 pub record Controls (z : Shape) (words : List ℕ) (w : World) : Type 0 where
   pub controls : (d : Ref) → IsDesc z d → word_at z words (part.Control d.worker d.number) ≡ number_of (w.control d)
   pub descs : (d : Ref) → IsOpened (w.control d) → IsDesc z d
-  pub failures : (d : Ref) (e : ℕ) → w.control d ≡ failed e → e < 2 ^ ENTRY_BITS
+  pub failures : (d : Ref) (e : ℕ) → HasFailed w d e → e < 2 ^ ENTRY_BITS
   -- a descriptor is withdrawn only where no mark of its worker is left
   pub withdrawals : (d : Ref) → w.control d ≡ withdrawn → z.mark_room ≤ w.marks_used d.worker
 

@@ -10,9 +10,10 @@ use Rattle.rh_descriptor.specs.declared.shape.Shape.{Shape}
 use Rattle.rh_descriptor.specs.declared.shape.Part.TheVariants as part
 use Rattle.rh_descriptor.specs.Places.{IsShape, cell_count}
 use Rattle.rh_descriptor.specs.View.{View}
-use Rattle.rh_descriptor.specs.Words.{cell_in, desc_in, read_control}
+use Rattle.rh_descriptor.specs.Words.{cell_in, desc_in, read_control, without_decider}
 use Rattle.rh_rule.specs.Mirrors.{DescRow, IsCell, word_at}
 use Rattle.rh_rule.specs.Core.{Core}
+use Rattle.rh_rule.proofs.Deciders.{told_value}
 use Rattle.rh_rule.proofs.Said.{cell_said_is, control_said_is, desc_said_is}
 use Rattle.rh_rule.proofs.Telling.{tells}
 use Rattle.rh_run.specs.Laws.{LogicalWords, WordsLeadInside}
@@ -39,13 +40,13 @@ module _ (w : World) (z : Shape) (words : List ℕ) (keep : ℕ → View) (shape
     row : DescRow z words w d
     row = row_of_opened d opened
 
-    pub control_is : read_control (word_at z words (part.Control d.worker d.number)) ≡ w.control d
+    pub control_is : read_control (word_at z words (part.Control d.worker d.number)) ≡ without_decider (w.control d)
     control_is =
         ap read_control (core.mirrors.controls.controls d (core.mirrors.controls.descs d opened))
         ∙ control_said_is (w.control d) (λ e q. core.mirrors.controls.failures d e q)
 
     value_is : (e : ℕ) → e < w.size d → value_in z words d e ≡ entry_value (w.control d) (w.old d e) (w.new d e)
-    value_is e l = λ i. entry_value (control_is i) (row.olds e l i) (row.news e l i)
+    value_is e l = (λ i. entry_value (control_is i) (row.olds e l i) (row.news e l i)) ∙ told_value (w.control d) (w.old d e) (w.new d e)
 
     -- the entry is met among the first n, and no other is for the cell
     found : (v : ℕ) (one : EntryStandsFor w d c v) (n : ℕ) → n ≤ w.size d → one.entry < n → entry_for z words d c n ≡ v

@@ -18,6 +18,7 @@ use Rattle.rh_descriptor.specs.declared.shape.Shape.{Shape}
 use Rattle.rh_descriptor.specs.View.{OwnDesc, View}
 use Rattle.rh_rule.specs.Core.{Core}
 use Rattle.rh_rule.specs.Rest.{is_noted_success}
+use Rattle.rh_rule.proofs.Deciders.{told_succeeded}
 use Rattle.rh_rule.proofs.Telling.{noted_in, tells}
 use Rattle.rh_acts.specs.Act.{Act, AllMeet, apply_acts}
 use Rattle.rh_acts.specs.Done.{Does, Kept, KeyDone, WereTrue, kept}
@@ -97,7 +98,7 @@ module _ (w : World) (z : Shape) (words : List ℕ) (keep : ℕ → View) (core 
   act_is_made o i is =
       let told = tells w z words keep core in
       let d : Ref = record { worker = v; number = o.number } in
-      let noted : w.control (own_ref (keep v) o.number) ≡ succeeded = told.results v (own_ref (keep v) o.number) succeeded mine (noted_in (keep v).side.notes (own_ref (keep v) o.number) is) in
+      let noted : w.control (own_ref (keep v) o.number) ≡ succeeded = told_succeeded (w.control (own_ref (keep v) o.number)) (told.results v (own_ref (keep v) o.number) succeeded mine (noted_in (keep v).side.notes (own_ref (keep v) o.number) is)) in
       let control : w.control d ≡ succeeded = subst (λ (u : ℕ). w.control record { worker = u; number = o.number } ≡ succeeded) (core.mirrors.kept v mine).worker noted in
       let at = told.order.made d control in
       let act_is : get_or (acts_of (history w)) at.0 [] ≡ act_of o.entries =

@@ -13,6 +13,7 @@ use Rattle.rh_world.specs.World.{IsOpened}
 use Rattle.rh_world.specs.Acts.{cells_after, is_success}
 use Rattle.rh_rule.specs.Mirrors.{word_at}
 use Rattle.rh_rule.specs.Rest.{Told}
+use Rattle.rh_rule.proofs.Deciders.{told_success}
 use Rattle.rh_rule.proofs.Telling.{tells}
 use Rattle.rh_descriptor.specs.declared.shape.Shape.{Shape}
 use Rattle.rh_descriptor.specs.declared.shape.Part.TheVariants as part
@@ -141,7 +142,7 @@ module _ (kind : Kind) (z : Shape) (opening words : List ℕ) (keep : ℕ → Vi
       (λ o i.
       let its = core_kept.opened v o mine i in
       let opened : IsOpened (w.control (own_ref k o.number)) = subst (λ (u : ℕ). IsOpened (w.control record { worker = u; number = o.number })) (sym (run.core.mirrors.kept v mine).worker) its.opened in
-      ap is_success (sym (control_is w z words keep shape run.core 0 (own_ref k o.number) opened))))
+      sym (told_success (w.control (own_ref k o.number))) ∙ ap is_success (sym (control_is w z words keep shape run.core 0 (own_ref k o.number) opened))))
     where
       core_kept : Told run.world z keep run.core.side
       core_kept = tells run.world z words keep run.core

@@ -1,4 +1,5 @@
 use rh_acts::*;
+use rh_layout::Entry;
 
 const NOTHING: Entry = Entry {
     cell: 0,

@@ -119,7 +119,7 @@ plain_value unused a b p q = p
 plain_value undecided a b p q = p
 plain_value succeeded a b p q = q
 plain_value withdrawn a b p q = p
-plain_value (failed e) a b p q = p
+plain_value (failed e by) a b p q = p
 
 module _ (w : World) (z : Shape) (words : List ℕ) (keep : ℕ → View) (core : Core w z words keep) where
   stands_plain : (c v : ℕ) (k : Cell) → w.cell c ≡ k → IsCell z k → StandsFor w c k v → IsPlain v

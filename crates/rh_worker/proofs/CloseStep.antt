@@ -1,5 +1,5 @@
 -- The step that closes an own descriptor is a Release, which notes nothing.
-use Rattle.std.proofs.Common.{◌≡◌, ℕ, ◌≤◌, Bool, false, Some, None, List, refl, sym, ap, ◌∙◌, subst, inl}
+use Rattle.std.proofs.Common.{◌≡◌, ℕ, ◌≤◌, Bool, false, Some, None, List, [], ◌∷◌, refl, sym, ap, ◌∙◌, subst, inl}
 use Rattle.rh_world.specs.World.{In, Ref}
 use Rattle.rh_world.specs.Notes.{Note}
 use Rattle.rh_world.specs.Sides.{Side, is_number, open_side}
@@ -9,18 +9,21 @@ use Rattle.rh_world.specs.Acts.{is_success}
 use Rattle.rh_tagword.specs.declared.control.Control.{Control}
 use Rattle.rh_tagword.specs.declared.control.Control.TheVariants.{Succeeded, Withdrawn}
 use Rattle.rh_ledger.specs.declared.tally.Kind.{Kind}
+use Rattle.rh_acts.specs.Done.{Does}
+use Rattle.rh_history.specs.History.{act_of}
 use Rattle.rh_history.specs.OwnActs.{Closes}
 use Rattle.rh_history.proofs.Learning.{steps_grow}
 use Rattle.rh_descriptor.specs.declared.steps.StepKind.{StepKind}
 use Rattle.rh_descriptor.specs.Words.{control_of}
 use Rattle.rh_helping.specs.declared.work.Outcome.TheVariants.{Closed}
-use Rattle.rh_helping.specs.Goal.{KnowsOwn, own_ref}
+use Rattle.rh_helping.specs.Goal.{IsNewest, KnowsOwn, own_ref}
 use Rattle.rh_helping.specs.Settling.{HasMade}
 use Rattle.rh_helping.specs.Work.{Leads}
-use Rattle.rh_worker.specs.Worker.{GivesUp, IsAbout}
+use Rattle.rh_worker.specs.Worker.{GivesUp}
 use Rattle.rh_rule.specs.Sound.{Sound}
 use Rattle.rh_world.specs.World.Control.{withdrawn}
 use Rattle.rh_run.specs.Advance.{Fails, Succeeds}
+use Rattle.rh_layout.specs.declared.entry.Entry.{Entry}
 use Rattle.rh_descriptor.specs.declared.shape.Shape.{Shape}
 use Rattle.rh_descriptor.specs.View.{OwnDesc, View}
 use Rattle.rh_descriptor.specs.Steps.{Step, entries_of, next_entries, noted, own_desc, release_view}
@@ -30,6 +33,14 @@ use Rattle.rh_rule.proofs.SeatsKept.{noted_worker}
 released_notes : (v : View) (d : Ref) (e c : ℕ) → (release_view v d e c).notes ≡ v.side.notes
 released_notes v d e c = by_cond (λ (t : Side). t.notes ≡ v.side.notes) (is_number v.side.current v.worker d) _ _
     (λ h. by_cond (λ (t : Side). t.notes ≡ v.side.notes) _ _ _ (λ i. refl) (λ i. refl)) (λ h. refl)
+
+-- the open one, by a list that is the same
+pub opens_same : (v : View) (number : ℕ) (es same : List Entry) → same ≡ es → KnowsOwn v (Some (record { number = number; entries = es }))
+    → KnowsOwn v (Some (record { number = number; entries = same }))
+opens_same v number es same is h = subst (λ (l : List Entry). KnowsOwn v (Some (record { number = number; entries = l }))) (sym is) h
+
+pub does_same : (kind : Kind) (b k : ℕ) (changes : Bool) (es same : List Entry) → same ≡ es → Does kind b k changes (act_of es) → Does kind b k changes (act_of same)
+does_same kind b k changes es same is h = subst (λ (l : List Entry). Does kind b k changes (act_of l)) (sym is) h
 
 module _ (z : Shape) (v : View) (word n : ℕ) (opened : v.side.current ≡ Some n) where
   stays_open : (s : Step) → (noted z v s word).side.current ≡ v.side.current → (noted z v s word).side.current ≡ None → ⊥
@@ -47,51 +58,55 @@ module _ (z : Shape) (v : View) (word n : ℕ) (opened : v.side.current ≡ Some
   noted_before Step.claims closed m i = absurd (stays_open Step.claims refl closed)
 
 module _ {T : Type 0} {shows : Shape → T → View → Type 0} {does : Shape → Step → T → View → ℕ → T → View → Type 0} (z : Shape) (kp : StepKind) (t : T) (v : View) (then : T) (next : View) (made : HasMade shows does z kp t v then next)
-    (kind : Kind) (key number : ℕ) (changes : Bool) (knows : KnowsOwn v (Some number)) (about : IsAbout z v kind key number changes)
-    (k : Control) (leads : Leads z next (Some number) (Closed k)) where
-  same_number : leads.0 ≡ about.own.number
-  same_number = let e : Some number ≡ Some leads.0 = leads.1 in let n : number ≡ leads.0 = cc in sym n ∙ sym about.number_is
+    (kind : Kind) (key : ℕ) (changes : Bool) (own : OwnDesc) (knows : KnowsOwn v (Some own)) (done : Does kind z.bits key changes (act_of own.entries))
+    (k : Control) (leads : Leads z next (Some own) (Closed k)) where
+  same_number : leads.0.number ≡ own.number
+  same_number = let e : Some own ≡ Some leads.0 = leads.1 in let d : own ≡ leads.0 = cc in ap (λ (x : OwnDesc). x.number) (sym d)
 
-  closes : Closes v next about.own
+  newest_in : (os : List OwnDesc) → IsNewest os own → In own os
+  newest_in [] is = absurd is
+  newest_in (o ∷ os) is = inl (sym is)
+
+  closes : Closes v next own
   closes = record {
-    opened = subst (λ (os : List OwnDesc). In about.own os) (sym about.newest) (inl refl);
-    current = knows.current ∙ ap Some (sym about.number_is);
+    opened = newest_in v.opened knows.newest;
+    current = knows.current;
     closed = leads.2.own.current;
   }
 
-  before : In (decided (own_ref v about.own.number) (control_of k)) v.side.notes
+  before : In (decided (own_ref v own.number) (control_of k)) v.side.notes
   before =
       let is = made.view_is in
       let closed : (noted z v made.step made.word).side.current ≡ None = sym (ap (λ (n : View). n.side.current) is) ∙ leads.2.own.current in
       let same : next.worker ≡ v.worker = ap (λ (n : View). n.worker) is ∙ noted_worker z v made.step made.word in
-      let here : In (decided (own_ref next leads.0) (control_of k)) (noted z v made.step made.word).side.notes = subst (λ (n : View). In (decided (own_ref next leads.0) (control_of k)) n.side.notes) is leads.2.result in
+      let here : In (decided (own_ref next leads.0.number) (control_of k)) (noted z v made.step made.word).side.notes = subst (λ (n : View). In (decided (own_ref next leads.0.number) (control_of k)) n.side.notes) is leads.2.result in
       subst (λ (n : ℕ). In (decided (own_ref v n) (control_of k)) v.side.notes) same_number
-      (subst (λ (w : ℕ). In (decided (record { worker = w; number = leads.0 }) (control_of k)) v.side.notes) same
-      (noted_before z v made.word number knows.current made.step closed _ here))
+      (subst (λ (w : ℕ). In (decided (record { worker = w; number = leads.0.number }) (control_of k)) v.side.notes) same
+      (noted_before z v made.word own.number knows.current made.step closed _ here))
 
   pub swap_succeeds : k ≡ Succeeded → Succeeds z kind key v next changes
   swap_succeeds is = record {
-    own = about.own;
+    own = own;
     closes = closes;
     opened = made.opened;
-    before = subst (λ (r : Control). In (decided (own_ref v about.own.number) (control_of r)) v.side.notes) is before;
-    does = about.does;
+    before = subst (λ (r : Control). In (decided (own_ref v own.number) (control_of r)) v.side.notes) is before;
+    does = done;
   }
 
   pub swap_fails : is_success (control_of k) ≡ false → Fails v next
-  swap_fails in_vain = record { own = about.own; control = control_of k; closes = closes; opened = made.opened; before = before; in_vain = in_vain }
+  swap_fails in_vain = record { own = own; control = control_of k; closes = closes; opened = made.opened; before = before; in_vain = in_vain }
 
   -- it was withdrawn: no mark is left
   pub swap_spends : k ≡ Withdrawn → z.mark_room ≤ next.marks_used
-  swap_spends is = made.trusts.knows.sound.withdrawals (own_ref next leads.0) refl
-      (subst (λ (r : Control). In (decided (own_ref next leads.0) (control_of r)) next.side.notes) is leads.2.result)
+  swap_spends is = made.trusts.knows.sound.withdrawals (own_ref next leads.0.number) refl
+      (subst (λ (r : Control). In (decided (own_ref next leads.0.number) (control_of r)) next.side.notes) is leads.2.result)
 
   -- one that was withdrawn is closed as withdrawn
   pub swap_gives_up : Sound z v → GivesUp v next → control_of k ≡ withdrawn
   swap_gives_up sound gives =
-      let numbers : Some number ≡ Some gives.own.number = sym knows.current ∙ gives.closes.current in
-      let same : gives.own.number ≡ about.own.number = let n : number ≡ gives.own.number = cc in sym n ∙ sym about.number_is in
-      sound.one_result (own_ref v about.own.number) (control_of k) withdrawn before (subst (λ (n : ℕ). In (decided (own_ref v n) withdrawn) v.side.notes) same gives.before)
+      let numbers : Some own.number ≡ Some gives.own.number = sym knows.current ∙ gives.closes.current in
+      let same : gives.own.number ≡ own.number = let n : own.number ≡ gives.own.number = cc in sym n in
+      sound.one_result (own_ref v own.number) (control_of k) withdrawn before (subst (λ (n : ℕ). In (decided (own_ref v n) withdrawn) v.side.notes) same gives.before)
 
 -- what is still open is not given up
 pub still_open : (v next : View) (number : ℕ) → next.side.current ≡ Some number → GivesUp v next → ⊥

@@ -75,7 +75,7 @@ module _ (v next : View) (same : next.worker ≡ v.worker) (more : (n : Note) �
   }
 
 module _ (v next : View) (k : Keeps v next) where
-  pub keeps_own : (opens : Option ℕ) → KnowsOwn v opens → KnowsOwn next opens
+  pub keeps_own : (opens : Option OwnDesc) → KnowsOwn v opens → KnowsOwn next opens
   keeps_own opens h = record {
     current = k.current ∙ h.current;
     newest = subst (λ (os : List OwnDesc). IsOpenOf os opens) (sym k.opened) h.newest;

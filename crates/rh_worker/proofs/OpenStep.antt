@@ -1,12 +1,10 @@
 -- The Open of an own descriptor whose row says a key's act.
 use Rattle.std.proofs.Common.{◌≡◌, ◌≢◌, ℕ, zero, suc, ◌^◌, ◌<◌, Bool, true, false, Some, List, [], ◌∷◌, length, get_or, length-take-le, take, refl, sym, ap, ◌∙◌, subst, inl, inr, ⊎_elim, arith}
-use Rattle.std.proofs.lemmas.List.{length-map}
 use Rattle.std.proofs.lemmas.List.Elements.{Contains-get_or}
-use Rattle.rh_tagword.specs.Word.{plain_number, tag_of}
 use Rattle.rh_ledger.specs.declared.tally.Kind.{Kind}
 use Rattle.rh_ledger.specs.declared.tally.Kind.TheVariants.{Insert, Remove, Ask}
 use Rattle.rh_acts.specs.Done.{Does}
-use Rattle.rh_acts.specs.declared.entry.Entry.{Entry}
+use Rattle.rh_layout.specs.declared.entry.Entry.{Entry}
 use Rattle.rh_acts.specs.Act.{IsRising}
 use Rattle.rh_world.specs.World.{In, Ref}
 use Rattle.rh_world.specs.Notes.Note.{known, new_is, old_is, size_is, target_is}
@@ -14,20 +12,21 @@ use Rattle.rh_world.specs.Sides.{Side, open_side}
 use Rattle.rh_world.specs.Moves.{Entries, note_entries}
 use Rattle.rh_world.proofs.Updated.{same_nat}
 use Rattle.rh_history.specs.History.{act_of}
-use Rattle.rh_descriptor.specs.declared.entry.Entry.{Entry as OwnEntry}
 use Rattle.rh_descriptor.specs.declared.shape.Shape.{Shape}
 use Rattle.rh_descriptor.specs.View.{OwnDesc, View}
+use Rattle.rh_descriptor.specs.Words.{IsPlain}
 use Rattle.rh_descriptor.specs.Steps.{AreEntries, CanOpen, entries_at, entries_of, entry_of, next_entries, open_noted, own_desc}
 use Rattle.rh_rule.proofs.OpensKept.{entries_current, entries_length, entries_notes}
 use Rattle.rh_helping.specs.Goal.{IsAllNoted, KnowsOwn, OwesNothing}
 use Rattle.rh_helping.specs.declared.work.Work.TheVariants as work
+use Rattle.rh_helping.proofs.OwnRows.{entry_is}
 use Rattle.rh_worker.specs.declared.place.Plan.{Plan}
 use Rattle.rh_worker.specs.declared.place.Place.TheVariants as place
 use Rattle.rh_worker.specs.declared.sights.Sights.{Sights}
-use Rattle.rh_worker.specs.Sights.{AreFit, own_entries, own_entry}
+use Rattle.rh_worker.specs.Sights.{AreFit}
 use Rattle.rh_worker.specs.Worker.{Stays}
 use Rattle.rh_run.specs.Advance.{Opens}
-use Rattle.rh_worker.proofs.Keeping.{all_noted, plain_value}
+use Rattle.rh_worker.proofs.Keeping.{all_noted}
 use Rattle.rh_worker.proofs.Rows.{rows_say}
 
 -- ---- the entries
@@ -39,36 +38,31 @@ rising_of Remove b k true act d = d.1.front.rising
 rising_of Remove b k false act d = d.1.front.rising
 rising_of Ask b k changes act d = absurd d
 
-own_at : (act : List Entry) (e : ℕ) (d : Entry) → e < length act → entry_of (own_entries act) e ≡ own_entry (get_or act e d)
-own_at [] e d l = absurd (omega arith)
-own_at (x ∷ act) zero d l = refl
-own_at (x ∷ act) (suc e) d l = own_at act e d (omega arith)
-
-plain_tag : (x : ℕ) → tag_of (plain_number x) ≡ 0
-plain_tag x = omega arith
-
-pub act_is : (act : List Entry) → act_of (own_entries act) ≡ act
-act_is [] = refl
-act_is (x ∷ act) = λ i. record { cell = x.cell; old = plain_value x.old i; new = plain_value x.new i } ∷ act_is act i
-
 nothing : Entry
 nothing = record { cell = 0; old = 0; new = 0 }
 
-are_entries : (z : Shape) (act : List Entry) → 0 < length act → IsRising act → AreFit z.bits act → AreEntries z (own_entries act)
-are_entries z act more rising fit =
-    let size = length-map act own_entry in
-    let at = λ (e : ℕ) (l : e < length (own_entries act)). own_at act e nothing (omega (arith, size)) in
-    let is_fit = λ (e : ℕ) (l : e < length (own_entries act)). fit (get_or act e nothing) (Contains-get_or act e nothing (omega (arith, size))) in
+act_cell : (es : List Entry) (e : ℕ) → e < length es → (get_or (act_of es) e nothing).cell ≡ (entry_of es e).cell
+act_cell [] e l = absurd (omega arith)
+act_cell (x ∷ es) zero l = refl
+act_cell (x ∷ es) (suc e) l = act_cell es e (omega arith)
+
+act_size : (es : List Entry) → length (act_of es) ≡ length es
+act_size [] = refl
+act_size (x ∷ es) = ap suc (act_size es)
+
+are_entries : (z : Shape) (es : List Entry) → 0 < length es → IsRising (act_of es) → AreFit z.bits es → AreEntries z es
+are_entries z es more rising fit =
+    let is_fit = λ (e : ℕ) (l : e < length es). subst (λ (x : Entry). (x.cell < 2 ^ z.bits) × IsPlain x.old × IsPlain x.new) (sym (entry_is es e nothing l)) (fit (get_or es e nothing) (Contains-get_or es e nothing l)) in
     record {
-      some = omega (arith, size);
+      some = more;
       rising = λ e f l m.
-          let a = ap (λ (o : OwnEntry). o.cell) (at e (omega arith)) in
-          let b = ap (λ (o : OwnEntry). o.cell) (at f m) in
-          let less = rising e f nothing l (omega (arith, size)) in
+          let a = act_cell es e (omega arith) in
+          let b = act_cell es f m in
+          let less = rising e f nothing l (omega (arith, act_size es)) in
           omega (arith, a, b, less);
-      cells = λ e l. subst (λ (o : OwnEntry). o.cell < 2 ^ z.bits) (sym (at e l)) (is_fit e l).0;
-      olds = λ e l. subst (λ (o : OwnEntry). tag_of o.old ≡ 0) (sym (at e l)) (plain_tag (get_or act e nothing).old);
-      news = λ e l. subst (λ (o : OwnEntry). tag_of o.new ≡ 0) (sym (at e l)) (plain_tag (get_or act e nothing).new);
+      cells = λ e l. (is_fit e l).0;
+      olds = λ e l. (is_fit e l).1;
+      news = λ e l. (is_fit e l).2;
     }
 
 -- ---- what is noted
@@ -108,29 +102,26 @@ module _ (s : Side) (d : Ref) (p : Entries) where
 -- ---- the step
 
 module _ (z : Shape) (v : View) (kind : Kind) (k : ℕ) (s : Sights) (p : Plan) (h : Stays z v kind k s (place.Open p)) where
-  abbrev act : List Entry
-  act = take p.entries s.entries.items
+  abbrev es : List Entry
+  es = take p.entries s.entries.items
 
-  act_length : length act ≡ p.entries
-  act_length = length-take-le p.entries s.entries.items h.0.plan.within
+  es_length : length es ≡ p.entries
+  es_length = length-take-le p.entries s.entries.items h.0.plan.within
 
-  own_length : length (own_entries act) ≡ p.entries
-  own_length = length-map act own_entry ∙ act_length
-
-  says : next_entries v p.entries ≡ own_entries act
-  says = subst (λ (n : ℕ). entries_at v.written v.next_number n ≡ own_entries act) own_length (rows_say v.written (own_entries act) v.next_number
-      (λ f l. let in' : f < p.entries = omega (arith, own_length) in (h.1.cells f in', h.1.olds f in', h.1.news f in')))
+  says : next_entries v p.entries ≡ es
+  says = subst (λ (n : ℕ). entries_at v.written v.next_number n ≡ es) es_length (rows_say v.written es v.next_number
+      (λ f l. let in' : f < p.entries = omega (arith, es_length) in (h.1.cells f in', h.1.olds f in', h.1.news f in')))
 
   pub can_open : CanOpen z v p.entries
   can_open = record {
     length_is = h.1.size;
-    entries = subst (AreEntries z) (sym says) (are_entries z act (omega (arith, act_length, h.0.plan.some)) (rising_of kind z.bits k p.changes act h.0.plan.act) h.0.plan.fit);
+    entries = subst (AreEntries z) (sym says) (are_entries z es (omega (arith, es_length, h.0.plan.some)) (rising_of kind z.bits k p.changes (act_of es) h.0.plan.act) h.0.plan.fit);
     room = h.0.room;
     closed = h.0.clear.own.current;
   }
 
   does : Does kind z.bits k p.changes (act_of (next_entries v p.entries))
-  does = subst (Does kind z.bits k p.changes) (sym (ap act_of says ∙ act_is act)) h.0.plan.act
+  does = subst (λ (l : List Entry). Does kind z.bits k p.changes (act_of l)) (sym says) h.0.plan.act
 
   abbrev own : OwnDesc
   own = record { number = v.next_number; entries = next_entries v p.entries }
@@ -138,8 +129,8 @@ module _ (z : Shape) (v : View) (kind : Kind) (k : ℕ) (s : Sights) (p : Plan) 
   abbrev side : Side
   side = open_side v.side v.next_number
 
-  abbrev es : Entries
-  es = entries_of (next_entries v p.entries)
+  abbrev row : Entries
+  row = entries_of (next_entries v p.entries)
 
   abbrev then : View
   then = open_noted v p.entries
@@ -148,38 +139,42 @@ module _ (z : Shape) (v : View) (kind : Kind) (k : ℕ) (s : Sights) (p : Plan) 
   own_noted =
       let size = entries_length v.written v.next_number p.entries in
       record {
-        known = entries_known side (own_desc v) es p.entries;
-        size = entries_size side (own_desc v) es p.entries;
-        cells = λ e l. entries_cell side (own_desc v) es p.entries e (omega (arith, size));
-        olds = λ e l. entries_old side (own_desc v) es p.entries e (omega (arith, size));
-        news = λ e l. entries_new side (own_desc v) es p.entries e (omega (arith, size));
+        known = entries_known side (own_desc v) row p.entries;
+        size = entries_size side (own_desc v) row p.entries;
+        cells = λ e l. entries_cell side (own_desc v) row p.entries e (omega (arith, size));
+        olds = λ e l. entries_old side (own_desc v) row p.entries e (omega (arith, size));
+        news = λ e l. entries_new side (own_desc v) row p.entries e (omega (arith, size));
       }
 
   open_current : then.side.current ≡ Some v.next_number
-  open_current = entries_current side (own_desc v) es p.entries
+  open_current = entries_current side (own_desc v) row p.entries
 
-  knows : KnowsOwn then (Some v.next_number)
+  knows : KnowsOwn then (Some own)
   knows = record {
     current = open_current;
     newest = refl;
     noted = λ o i. ⊎_elim (λ (q : o ≡ own). subst (IsAllNoted then) (sym q) own_noted)
-        (λ (i : In o v.opened). all_noted v then refl (λ n j. entries_notes side (own_desc v) es p.entries n j) o (h.0.clear.own.noted o i)) i;
+        (λ (i : In o v.opened). all_noted v then refl (λ n j. entries_notes side (own_desc v) row p.entries n j) o (h.0.clear.own.noted o i)) i;
   }
 
   owes : OwesNothing then
   owes =
-      let same = entries_same side (own_desc v) es p.entries in
+      let same = entries_same side (own_desc v) row p.entries in
       record { settled = same.unsettled ∙ h.0.clear.owes.settled; paid = same.debts ∙ h.0.clear.owes.paid; unreleased = same.released }
 
-  stays_open : Stays z then kind k s (place.Swap (work.Control (record { worker = v.worker; number = v.next_number })) v.next_number p.changes)
-  stays_open = (knows, (owes, inl (entries_known side (own_desc v) es p.entries)), record { own = own; earlier = v.opened; newest = refl; number_is = refl; does = does })
+  abbrev Swaps : View → (worker number : ℕ) → Type 0
+  Swaps x worker number = Stays z x kind k s (place.Swap (work.Control (record { worker = worker; number = number })) number p)
 
-  pub open_goes : (worker number : ℕ) (next : View) → v.worker ≡ worker → v.next_number ≡ number → next ≡ then
-      → Stays z next kind k s (place.Swap (work.Control (record { worker = worker; number = number })) number p.changes)
-  open_goes worker number next a b is =
-      subst (λ (n : View). Stays z n kind k s (place.Swap (work.Control (record { worker = worker; number = number })) number p.changes)) (sym is)
-      (subst (λ (w : ℕ). Stays z then kind k s (place.Swap (work.Control (record { worker = w; number = number })) number p.changes)) a
-      (subst (λ (n : ℕ). Stays z then kind k s (place.Swap (work.Control (record { worker = v.worker; number = n })) n p.changes)) b stays_open))
+  stays_open : Swaps then v.worker v.next_number
+  stays_open = (
+    subst (λ (l : List Entry). KnowsOwn then (Some (record { number = v.next_number; entries = l }))) says knows,
+    (owes, inl (entries_known side (own_desc v) row p.entries)),
+    h.0.plan,
+  )
+
+  pub open_goes : (worker number : ℕ) (next : View) → v.worker ≡ worker → v.next_number ≡ number → next ≡ then → Swaps next worker number
+  open_goes worker number next a b is = subst (λ (n : View). Swaps n worker number) (sym is)
+      (subst (λ (w : ℕ). Swaps then w number) a (subst (λ (n : ℕ). Swaps then v.worker n) b stays_open))
 
   pub opened_so : (next : View) → next ≡ then → Opens z kind k v next
   opened_so next is = subst (Opens z kind k v) (sym is)

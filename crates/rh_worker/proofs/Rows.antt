@@ -1,9 +1,7 @@
 -- What the words of an own row say once they are written.
-use Rattle.std.proofs.Common.{◌≡◌, ◌≢◌, ℕ, zero, suc, ◌+◌, ◌<◌, ◌≤◌, ◌⊎◌, cond, Bool, List, [], ◌∷◌, length, get_or, get_or-take, length-take-le, take, refl, sym, ap, ◌∙◌, subst, inl, ⊎_elim, arith, eq-eqb, ne_eqb}
-use Rattle.std.specs.List.{Contains}
+use Rattle.std.proofs.Common.{◌≡◌, ◌≢◌, ℕ, suc, ◌+◌, ◌<◌, ◌≤◌, ◌⊎◌, cond, Bool, List, [], ◌∷◌, length, get_or, get_or-take, length-take-le, take, refl, sym, ap, ◌∙◌, subst, inl, ⊎_elim, arith, eq-eqb, ne_eqb}
 use Rattle.rh_ledger.specs.declared.tally.Kind.{Kind}
-use Rattle.rh_acts.specs.declared.entry.Entry.{Entry}
-use Rattle.rh_descriptor.specs.declared.entry.Entry.{Entry as OwnEntry}
+use Rattle.rh_layout.specs.declared.entry.Entry.{Entry}
 use Rattle.rh_descriptor.specs.declared.shape.Shape.{Shape}
 use Rattle.rh_descriptor.specs.Places.{entry_row}
 use Rattle.rh_descriptor.specs.View.{View, Written}
@@ -11,8 +9,8 @@ use Rattle.rh_descriptor.specs.Steps.{entries_at, entry_of, row_word}
 use Rattle.rh_world.proofs.Updated.{same_nat}
 use Rattle.rh_worker.specs.declared.place.Plan.{Plan}
 use Rattle.rh_worker.specs.declared.sights.Sights.{Sights}
-use Rattle.rh_worker.specs.Sights.{own_entries, own_entry}
 use Rattle.rh_worker.specs.Worker.{HasCell, HasNew, HasOld, HasWritten, IsPlanned, row_of_entry}
+use Rattle.rh_helping.proofs.OwnRows.{entry_is}
 use Rattle.rh_worker.proofs.Keeping.{keeps_clear, written_keeps}
 
 abbrev row : (r u : ℕ) → Written
@@ -25,14 +23,8 @@ row_there : (rows : List Written) (r u q : ℕ) → q ≢ r → row_word (row r 
 row_there rows r u q ne = ap (λ (b : Bool). cond b u (row_word rows q)) (ne_eqb q r ne)
 
 -- the planned entry is the one that stands there
-pub planned_is : (es : List Entry) (n e : ℕ) (x : Entry) → e < n → n ≤ length es → x ≡ get_or es e x → entry_of (own_entries (take n es)) e ≡ own_entry x
-planned_is [] n e x l w is = absurd (omega arith)
-planned_is (y ∷ es) zero e x l w is = absurd (omega arith)
-planned_is (y ∷ es) (suc n) zero x l w is = ap own_entry (sym is)
-planned_is (y ∷ es) (suc n) (suc e) x l w is = planned_is es n e x (omega arith) (omega arith) is
-
-pub planned_here : (es : List Entry) (n e : ℕ) (x : Entry) → e < n → n ≤ length es → x ≡ get_or es e x → Contains (take n es) x
-planned_here es n e x l w is = (e, omega (arith, length-take-le n es w), get_or-take n es e x l ∙ sym is)
+pub planned_is : (es : List Entry) (n e : ℕ) (x : Entry) → e < n → n ≤ length es → x ≡ get_or es e x → entry_of (take n es) e ≡ x
+planned_is es n e x l w is = entry_is (take n es) e x (omega (arith, length-take-le n es w)) ∙ get_or-take n es e x l ∙ sym is
 
 -- ---- after one more Write
 
@@ -87,15 +79,15 @@ entry_written v s p e h cell old new = record {
 
 -- ---- all rows together
 
-same_entry : (a b : OwnEntry) → a.cell ≡ b.cell → a.old ≡ b.old → a.new ≡ b.new → a ≡ b
+same_entry : (a b : Entry) → a.cell ≡ b.cell → a.old ≡ b.old → a.new ≡ b.new → a ≡ b
 same_entry a b c o n = λ i. record { cell = c i; old = o i; new = n i }
 
-abbrev Says : List Written → (place : ℕ) → List OwnEntry → Type 0
+abbrev Says : List Written → (place : ℕ) → List Entry → Type 0
 Says rows place act = (f : ℕ) → f < length act
     → (row_word rows (entry_row (place + f) 2) ≡ (entry_of act f).cell) × (row_word rows (entry_row (place + f) 3) ≡ (entry_of act f).old)
     × (row_word rows (entry_row (place + f) 4) ≡ (entry_of act f).new)
 
-pub rows_say : (rows : List Written) (act : List OwnEntry) (place : ℕ) → Says rows place act → entries_at rows place (length act) ≡ act
+pub rows_say : (rows : List Written) (act : List Entry) (place : ℕ) → Says rows place act → entries_at rows place (length act) ≡ act
 rows_say rows [] place h = refl
 rows_say rows (a ∷ act) place h =
     let q : place + 0 ≡ place = omega arith in

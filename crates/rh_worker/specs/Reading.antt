@@ -37,7 +37,7 @@ seen_at (place.WriteCell p e) = 0
 seen_at (place.WriteOld p e) = 0
 seen_at (place.WriteNew p e) = 0
 seen_at (place.Open p) = 0
-seen_at (place.Swap w n changes) = 0
+seen_at (place.Swap w n p) = 0
 
 -- what the worker sees was read anew
 abbrev pub ReadsAnew : Shape → (before : List Kept) → Worker → Type 0

@@ -1,5 +1,5 @@
 -- What the cells from a key's home on lead to, and the entries of the key's act. (own)
-use Rattle.std.specs.Prelude.{◌≡◌, ℕ, ◌^◌, ◌<◌, ◌≤◌, ◌⊎◌, Bool, true, false, List, length, map, take, slice_index}
+use Rattle.std.specs.Prelude.{◌≡◌, ℕ, ◌^◌, ◌<◌, ◌≤◌, ◌⊎◌, Bool, true, false, List, length, take, slice_index}
 use Rattle.std.specs.List.{Contains}
 use Rattle.rh_tagword.specs.Word.{IsValue, plain_number}
 use Rattle.rh_probe.specs.Look.{Finds}
@@ -7,34 +7,36 @@ use Rattle.rh_probe.specs.declared.answer.Look.TheVariants as look
 use Rattle.rh_ledger.specs.declared.tally.Kind.{Kind}
 use Rattle.rh_ledger.specs.declared.tally.Kind.TheVariants.{Insert, Remove, Ask}
 use Rattle.rh_acts.specs.Done.{Does}
-use Rattle.rh_acts.specs.declared.entry.Entry.{Entry}
+use Rattle.rh_layout.specs.declared.entry.Entry.{Entry}
 use Rattle.rh_acts.specs.declared.answer.Insertion.TheVariants as insertion
 use Rattle.rh_acts.specs.declared.answer.Removal.{Removal}
 use Rattle.rh_acts.specs.declared.answer.Removal.TheVariants as removal
 use Rattle.rh_acts.specs.Decision.{Inserts, Removes}
-use Rattle.rh_descriptor.specs.declared.entry.Entry.{Entry as OwnEntry}
+use Rattle.rh_descriptor.specs.Words.{IsPlain}
+use Rattle.rh_history.specs.History.{act_of}
 use Rattle.rh_worker.specs.declared.place.Plan.{Plan}
 use Rattle.rh_worker.specs.declared.sights.Decision.{Decision}
 use Rattle.rh_worker.specs.declared.sights.Decision.TheVariants.{Done, More, Acts}
 use Rattle.rh_worker.specs.declared.sights.Sights.{Sights}
 
--- the entries are of cells of the table, and their values are values of cells
-abbrev pub AreFit : (b : ℕ) → List Entry → Type 0
-AreFit b act = (e : Entry) → Contains act e → (e.cell < 2 ^ b) × IsValue e.old × IsValue e.new
+-- an entry of values, with the words that say them
+abbrev pub worded : Entry → Entry
+worded e = record { cell = e.cell; old = plain_number e.old; new = plain_number e.new }
 
--- the first of the entries are the act that is planned for the key
+-- the values of the entries are values of cells
+abbrev pub AreValued : List Entry → Type 0
+AreValued act = (e : Entry) → Contains act e → IsValue e.old × IsValue e.new
+
+-- the entries are of cells of the table, and their words are plain words
+abbrev pub AreFit : (b : ℕ) → List Entry → Type 0
+AreFit b entries = (e : Entry) → Contains entries e → (e.cell < 2 ^ b) × IsPlain e.old × IsPlain e.new
+
+-- the first of the entries are those of a descriptor whose act is planned for the key
 pub record IsPlan (kind : Kind) (b k : ℕ) (entries : List Entry) (p : Plan) : Type 0 where
   pub some : 0 < p.entries
   pub within : p.entries ≤ length entries
-  pub act : Does kind b k p.changes (take p.entries entries)
+  pub act : Does kind b k p.changes (act_of (take p.entries entries))
   pub fit : AreFit b (take p.entries entries)
-
--- as a descriptor has them
-abbrev pub own_entry : Entry → OwnEntry
-own_entry e = record { cell = e.cell; old = plain_number e.old; new = plain_number e.new }
-
-abbrev pub own_entries : List Entry → List OwnEntry
-own_entries act = map own_entry act
 
 -- room for what each cell holds, and for an entry of each
 pub record HasRoom (b : ℕ) (s : Sights) : Type 0 where
@@ -58,8 +60,8 @@ removal_of false n = removal.ShowsAbsent n
 
 -- what was seen asks for the planned act
 abbrev pub IsAskedBy : Kind → (b k : ℕ) → (seen : List ℕ) → (entries : List Entry) → Plan → Type 0
-IsAskedBy Insert b k seen entries p = Inserts b k seen entries (insertion.PutsIn p.entries)
-IsAskedBy Remove b k seen entries p = Removes b k seen entries (removal_of p.changes p.entries)
+IsAskedBy Insert b k seen entries p = Inserts b k seen (act_of entries) (insertion.PutsIn p.entries)
+IsAskedBy Remove b k seen entries p = Removes b k seen (act_of entries) (removal_of p.changes p.entries)
 IsAskedBy Ask b k seen entries p = ⊥
 
 -- what was seen leaves it open

@@ -8,8 +8,8 @@ use Rattle.rh_ledger.specs.declared.tally.Kind.{Kind}
 use Rattle.rh_world.specs.World.{In}
 use Rattle.rh_world.specs.World.Control.{withdrawn}
 use Rattle.rh_world.specs.Notes.Note.{decided, found, known}
-use Rattle.rh_acts.specs.Done.{Does, Kept, kept}
-use Rattle.rh_descriptor.specs.declared.entry.Entry.{Entry as OwnEntry}
+use Rattle.rh_acts.specs.Done.{Kept, kept}
+use Rattle.rh_layout.specs.declared.entry.Entry.{Entry}
 use Rattle.rh_descriptor.specs.declared.shape.Shape.{Shape}
 use Rattle.rh_descriptor.specs.declared.steps.StepKind.{StepKind}
 use Rattle.rh_descriptor.specs.declared.steps.StepKind.TheVariants as kind
@@ -21,9 +21,9 @@ use Rattle.rh_tagword.specs.Word.{IsValue}
 use Rattle.rh_helping.specs.Goal.{KnowsOwn, OwesNothing, own_ref}
 use Rattle.rh_helping.specs.Settling.{IsSettling, kind_of_settling}
 use Rattle.rh_helping.specs.Work.{Stands, kind_of_work}
-use Rattle.rh_history.specs.History.{act_of, kept_of}
+use Rattle.rh_history.specs.History.{kept_of}
 use Rattle.rh_history.specs.OwnActs.{Closes}
-use Rattle.rh_worker.specs.Sights.{HasRoom, IsPlan, own_entries}
+use Rattle.rh_worker.specs.Sights.{HasRoom, IsPlan}
 use Rattle.rh_worker.specs.declared.place.Plan.{Plan}
 use Rattle.rh_worker.specs.declared.place.Place.{Place}
 use Rattle.rh_worker.specs.declared.place.Place.TheVariants as place
@@ -43,7 +43,7 @@ kind_of_place (place.WriteCell p e) = kind.Write
 kind_of_place (place.WriteOld p e) = kind.Write
 kind_of_place (place.WriteNew p e) = kind.Write
 kind_of_place (place.Open p) = kind.Open
-kind_of_place (place.Swap w n changes) = kind_of_work w
+kind_of_place (place.Swap w n p) = kind_of_work w
 
 -- a step is left
 abbrev pub IsBusy : Place → Type 0
@@ -57,7 +57,7 @@ IsBusy (place.WriteCell p e) = Unit {0}
 IsBusy (place.WriteOld p e) = Unit {0}
 IsBusy (place.WriteNew p e) = Unit {0}
 IsBusy (place.Open p) = Unit {0}
-IsBusy (place.Swap w n changes) = Unit {0}
+IsBusy (place.Swap w n p) = Unit {0}
 
 -- a worker is idle exactly where the key was done
 abbrev pub EndsAt : (done : Option Bool) → Place → Type 0
@@ -102,8 +102,8 @@ abbrev pub row_of_entry : View → (e word : ℕ) → ℕ
 row_of_entry v e word = row_word v.written (entry_row (v.next_number + e) word)
 
 -- its e-th entry
-abbrev pub planned : Sights → Plan → (e : ℕ) → OwnEntry
-planned s p e = entry_of (own_entries (take p.entries s.entries.items)) e
+abbrev pub planned : Sights → Plan → (e : ℕ) → Entry
+planned s p e = entry_of (take p.entries s.entries.items) e
 
 abbrev pub HasLength : View → Plan → Type 0
 HasLength v p = row_word v.written (entry_row v.next_number 1) ≡ p.entries
@@ -126,13 +126,9 @@ pub record HasWritten (v : View) (s : Sights) (p : Plan) (e : ℕ) : Type 0 wher
 
 -- ---- an own descriptor that is open, or was
 
--- the newest one does the key, and has this number
-pub record IsAbout (z : Shape) (v : View) (kind : Kind) (k number : ℕ) (changes : Bool) : Type 0 where
-  pub own : OwnDesc
-  pub earlier : List OwnDesc
-  pub newest : v.opened ≡ own ∷ earlier
-  pub number_is : own.number ≡ number
-  pub does : Does kind z.bits k changes (act_of own.entries)
+-- the planned one, opened with this number
+abbrev pub opened_as : (number : ℕ) → Sights → Plan → OwnDesc
+opened_as number s p = record { number = number; entries = take p.entries s.entries.items }
 
 -- the own descriptor that was open was closed, and the worker had withdrawn it
 pub record GivesUp (v next : View) : Type 0 where
@@ -157,7 +153,7 @@ Stays z v kind k s (place.WriteCell p e) = IsPlanned z v kind k s p × (e < p.en
 Stays z v kind k s (place.WriteOld p e) = IsPlanned z v kind k s p × (e < p.entries) × HasWritten v s p e × HasCell v s p e
 Stays z v kind k s (place.WriteNew p e) = IsPlanned z v kind k s p × (e < p.entries) × HasWritten v s p e × HasCell v s p e × HasOld v s p e
 Stays z v kind k s (place.Open p) = IsPlanned z v kind k s p × HasWritten v s p p.entries
-Stays z v kind k s (place.Swap w n changes) = KnowsOwn v (Some n) × Stands z v w × IsAbout z v kind k n changes
+Stays z v kind k s (place.Swap w n p) = KnowsOwn v (Some (opened_as n s p)) × Stands z v w × IsPlan kind z.bits k s.entries.items p
 
 -- what is so of a worker at a place
 pub record IsAt (z : Shape) (w : Worker) (p : Place) : Type 0 where

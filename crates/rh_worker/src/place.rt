@@ -6,7 +6,7 @@ ghost use Rattle.rh_worker.specs.Worker.{kind_of_place};
 use rh_descriptor::StepKind;
 use rh_helping::{Settling, Work};
 
-/// An own descriptor that is to be opened. Its entries stand in the worker's `Sights`.
+/// An own descriptor that is to be opened, or is open. Its entries stand in the worker's `Sights`.
 #[derive(Clone, Copy)]
 pub struct Plan {
     /// How many entries it has.
@@ -55,11 +55,11 @@ pub enum Place {
     },
     /// Open of the own descriptor.
     Open(Plan),
-    /// Work on the own descriptor of this number, which is open, and on those that it leads to.
+    /// Work on the own descriptor that was opened with this number, and on those that it leads to.
     Swap {
         work: Work,
         number: usize,
-        changes: bool,
+        plan: Plan,
     },
 }
 

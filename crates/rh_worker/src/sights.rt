@@ -1,14 +1,17 @@
 //! What a worker has seen of the table, and the entries that it makes of it.
 
-ghost use Rattle.std.specs.Prelude.{◌≡◌, ◌^◌, ◌≤◌, IfOk, take};
+ghost use Rattle.std.specs.Prelude.{◌≡◌, ◌^◌, ◌≤◌, ◌++◌, IfOk, drop, length, map, take};
 ghost use Rattle.rh_layout.specs.Key.{IsBits, IsKey};
-ghost use Rattle.rh_worker.specs.Sights.{Decides, HasRoom};
+ghost use Rattle.rh_worker.specs.Sights.{AreValued, Decides, HasRoom, worded};
+ghost use Rattle.rh_worker.specs.declared.sights.Decision.TheVariants.{Acts};
 ghost use Rattle.rh_ledger.specs.declared.tally.Kind.TheVariants.{Insert, Remove, Ask};
 
 use crate::place::Plan;
-use rh_acts::{Entry, Insertion, Removal, insert_entries, remove_entries};
+use rh_acts::{Insertion, Removal, insert_entries, remove_entries};
+use rh_layout::Entry;
 use rh_ledger::Kind;
 use rh_probe::{Look, look};
+use rh_tagword::plain_word;
 use std::alloc::{AllocError, Global};
 
 /// Room for what the cells from a key's home on hold, and for the entries of the key's act. Each has
@@ -19,7 +22,7 @@ pub struct Sights {
     pub seen: Vec<u64>,
     /// What they are to hold after the act.
     pub news: Vec<u64>,
-    /// The act, in the order of its cells.
+    /// The entries of the planned descriptor, in the order of their cells. Their values are plain words.
     pub entries: Vec<Entry>,
 }
 
@@ -84,10 +87,7 @@ impl Sights {
         let seen = &self.seen[..count];
         match insert_entries(bits, key, seen, &mut self.news, &mut self.entries) {
             Insertion::Held => Decision::Done(false),
-            Insertion::PutsIn(entries) => Decision::Acts(Plan {
-                entries,
-                changes: true,
-            }),
+            Insertion::PutsIn(entries) => self.planned(entries, true),
             Insertion::More => Decision::More,
         }
     }
@@ -104,16 +104,24 @@ impl Sights {
     {
         let seen = &self.seen[..count];
         match remove_entries(bits, key, seen, &mut self.news, &mut self.entries) {
-            Removal::TakesOut(entries) => Decision::Acts(Plan {
-                entries,
-                changes: true,
-            }),
-            Removal::ShowsAbsent(entries) => Decision::Acts(Plan {
-                entries,
-                changes: false,
-            }),
+            Removal::TakesOut(entries) => self.planned(entries, true),
+            Removal::ShowsAbsent(entries) => self.planned(entries, false),
             Removal::More => Decision::More,
         }
+    }
+
+    /// The first entries are planned: their values become words.
+    fn planned(&mut self, entries: usize, changes: bool) -> Decision
+        requires within { entries ≤ length self.old.entries.items }
+        requires values { AreValued (take entries self.old.entries.items) }
+        ensures seen { self.new.seen ≡ self.old.seen }
+        ensures news { self.new.news ≡ self.old.news }
+        ensures entries { self.new.entries.items ≡
+            map worded (take entries self.old.entries.items) ++ drop entries self.old.entries.items }
+        ensures plan { result ≡ Acts (record { entries = entries; changes = changes }) }
+    {
+        word_first(&mut self.entries, entries);
+        Decision::Acts(Plan { entries, changes })
     }
 
     fn answer(&self, bits: u32, key: u64, count: usize) -> Decision
@@ -129,5 +137,24 @@ impl Sights {
             Look::Goes(_) => Decision::Done(false),
             Look::More => Decision::More,
         }
+    }
+}
+
+/// Makes the values of the first `count` entries the words that say them.
+fn word_first(entries: &mut [Entry], count: usize)
+    requires within { count ≤ length entries.old }
+    requires values { AreValued (take count entries.old) }
+    ensures { entries.new ≡ map worded (take count entries.old) ++ drop count entries.old }
+{
+    word_all(&mut entries[..count]);
+}
+
+fn word_all(entries: &mut [Entry])
+    requires { AreValued entries.old }
+    ensures { entries.new ≡ map worded entries.old }
+{
+    for entry in entries.iter_mut() {
+        entry.old = plain_word(entry.old);
+        entry.new = plain_word(entry.new);
     }
 }

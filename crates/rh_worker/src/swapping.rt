@@ -11,10 +11,10 @@ ghost use Rattle.rh_worker.specs.declared.place.Place.TheVariants as place;
 ghost use Rattle.rh_acts.specs.Done.{Kept};
 ghost use Rattle.rh_helping.specs.Work.{kind_of_work};
 
-use crate::place::Place;
+use crate::place::{Place, Plan};
 use crate::worker::Worker;
 use rh_descriptor::Shape;
-use rh_helping::{Outcome, Work};
+use rh_helping::{OpenDesc, Outcome, Work};
 use rh_steps::Steps;
 use rh_tagword::Control;
 
@@ -26,11 +26,11 @@ pub(crate) fn swap<T: Steps>(
     table: &mut T,
     work: Work,
     number: usize,
-    changes: bool,
+    plan: Plan,
 ) -> Option<bool>
     requires shape { IsShape shape.now }
     requires relies { Relies T.shows T.serves shape.now table.old worker.old.side.known.view }
-    requires worker { IsAt shape.now worker.old (place.Swap work number changes) }
+    requires worker { IsAt shape.now worker.old (place.Swap work number plan) }
     ensures makes { Makes T.shows T.made shape.now (kind_of_work work) table.old worker.old.side.known.view
         table.new worker.new.side.known.view }
     ensures worker { IsWorker shape.now worker.new }
@@ -44,18 +44,18 @@ pub(crate) fn swap<T: Steps>(
     ensures anew { (before : List Kept) → HasRead shape.now before worker.old.side.known.view worker.old.key
         worker.old.sights.seen.items 0 → ReadsAnew shape.now before worker.new }
 {
-    match work.step(shape, table, &mut worker.side, Some(number)) {
+    let open = OpenDesc {
+        number,
+        entries: &worker.sights.entries[..plan.entries],
+    };
+    match work.step(shape, table, &mut worker.side, Some(open)) {
         Outcome::On(work) => {
-            worker.place = Place::Swap {
-                work,
-                number,
-                changes,
-            };
+            worker.place = Place::Swap { work, number, plan };
             None
         }
         Outcome::Closed(Control::Succeeded) => {
             worker.place = Place::Idle;
-            Some(changes)
+            Some(plan.changes)
         }
         Outcome::Closed(Control::Withdrawn) => {
             worker.place = Place::Spent;

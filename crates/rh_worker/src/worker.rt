@@ -189,11 +189,9 @@ impl Worker {
                 writing::open(self, shape, table, plan);
                 None
             }
-            Place::Swap {
-                work,
-                number,
-                changes,
-            } => swapping::swap(self, shape, table, work, number, changes),
+            Place::Swap { work, number, plan } => {
+                swapping::swap(self, shape, table, work, number, plan)
+            }
         };
         Stepped { kind, done }
     }

@@ -15,7 +15,6 @@ use crate::worker::Worker;
 use rh_descriptor::{Ask, Part, Ref, Shape, StepKind};
 use rh_helping::Work;
 use rh_steps::Steps;
-use rh_tagword::plain_word;
 
 /// Writes the number of entries.
 pub(crate) fn write_length<T: Steps>(worker: &mut Worker, shape: &Shape, table: &mut T, plan: Plan)
@@ -108,7 +107,7 @@ pub(crate) fn write_old<T: Steps>(
     ensures anew { (before : List Kept) → HasRead shape.now before worker.old.side.known.view worker.old.key
         worker.old.sights.seen.items 0 → ReadsAnew shape.now before worker.new }
 {
-    let old = plain_word(worker.sights.entries[entry].old);
+    let old = worker.sights.entries[entry].old;
     let part = Part::EntryOld {
         worker: worker.side.worker,
         entry: worker.side.next_number + entry,
@@ -139,7 +138,7 @@ pub(crate) fn write_new<T: Steps>(
     ensures anew { (before : List Kept) → HasRead shape.now before worker.old.side.known.view worker.old.key
         worker.old.sights.seen.items 0 → ReadsAnew shape.now before worker.new }
 {
-    let new = plain_word(worker.sights.entries[entry].new);
+    let new = worker.sights.entries[entry].new;
     let part = Part::EntryNew {
         worker: worker.side.worker,
         entry: worker.side.next_number + entry,
@@ -183,6 +182,6 @@ pub(crate) fn open<T: Steps>(worker: &mut Worker, shape: &Shape, table: &mut T, 
     worker.place = Place::Swap {
         work: Work::Control(desc),
         number: desc.number,
-        changes: plan.changes,
+        plan,
     };
 }

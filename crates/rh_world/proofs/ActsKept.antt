@@ -23,14 +23,14 @@ is_succeeded unused = inr (λ e. cc)
 is_succeeded undecided = inr (λ e. cc)
 is_succeeded succeeded = inl refl
 is_succeeded withdrawn = inr (λ e. cc)
-is_succeeded (failed e) = inr (λ e. cc)
+is_succeeded (failed e by) = inr (λ e. cc)
 
 pub chosen_old : (k : Control) (o n : ℕ) → k ≢ succeeded → entry_value k o n ≡ o
 chosen_old unused o n h = refl
 chosen_old undecided o n h = refl
 chosen_old succeeded o n h = absurd (h refl)
 chosen_old withdrawn o n h = refl
-chosen_old (failed e) o n h = refl
+chosen_old (failed e by) o n h = refl
 
 chosen_same : (k j : Control) (o n : ℕ) → (k ≡ succeeded → j ≡ succeeded) → (j ≡ succeeded → k ≡ succeeded)
     → entry_value j o n ≡ entry_value k o n

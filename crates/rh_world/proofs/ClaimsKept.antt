@@ -60,14 +60,14 @@ control_claims s d unused = refl
 control_claims s d undecided = refl
 control_claims s d succeeded = refl
 control_claims s d withdrawn = refl
-control_claims s d (failed e) = refl
+control_claims s d (failed e by) = refl
 
 mark_claims : (s : Side) (x : Ref) (c : ℕ) (k : Control) → (mark_noted s x c k).claims ≡ s.claims
 mark_claims s x c unused = refl
 mark_claims s x c undecided = refl
 mark_claims s x c succeeded = refl
 mark_claims s x c withdrawn = refl
-mark_claims s x c (failed e) = refl
+mark_claims s x c (failed e by) = refl
 
 either_claims : (s t r : Side) (b : Bool) → s.claims ≡ r.claims → t.claims ≡ r.claims → (cond b s t).claims ≡ r.claims
 either_claims s t r true p q = p
@@ -91,10 +91,10 @@ decided_uncounted w d undecided unused = uncounted w
 decided_uncounted w d undecided undecided = uncounted w
 decided_uncounted w d undecided succeeded = record { counter = refl; keys = refl; workers = refl }
 decided_uncounted w d undecided withdrawn = record { counter = refl; keys = refl; workers = refl }
-decided_uncounted w d undecided (failed e) = record { counter = refl; keys = refl; workers = refl }
+decided_uncounted w d undecided (failed e by) = record { counter = refl; keys = refl; workers = refl }
 decided_uncounted w d succeeded r = uncounted w
 decided_uncounted w d withdrawn r = uncounted w
-decided_uncounted w d (failed e) r = uncounted w
+decided_uncounted w d (failed e by) r = uncounted w
 
 either_uncounted : (w v : World) (b : Bool) → Uncounted w v → Uncounted w (cond b v w)
 either_uncounted w v true u = u

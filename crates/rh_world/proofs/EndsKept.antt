@@ -1,7 +1,7 @@
 -- The rule at the start, in a new round and at rest; what it says of acts, prefixes and claims.
 use Rattle.std.proofs.Common.{◌≡◌, ◌≢◌, ℕ, zero, suc, ◌+◌, ◌<◌, ◌≤◌, Bool, true, false, cond, List, [], sym, refl, ap, ◌∙◌, subst, ⊎_elim, arith}
 use native.Mathlib.Decide.{dec_lt}
-use Rattle.rh_world.specs.World.{Cell, Control, In, IsOpened, Ref, World}
+use Rattle.rh_world.specs.World.{Cell, Control, HasFailed, In, Ref, World}
 use Rattle.rh_world.specs.World.Cell.{desc, mark, plain}
 use Rattle.rh_world.specs.World.Control.{failed, succeeded, undecided, unused, withdrawn}
 use Rattle.rh_world.specs.Logical.{IsLogical, StandsFor, changed_by}
@@ -17,7 +17,7 @@ use Rattle.rh_world.specs.Laws.{ActsAreOneOrder, ClaimsShareOut, NewRoundMeets, 
 use Rattle.rh_world.proofs.ActsKept.{changed_at, changed_else, entry_or, succeeded_opened}
 use Rattle.rh_world.proofs.ClaimsKept.{claims_stay}
 use Rattle.rh_world.proofs.OwnList.{own_acts_are}
-use Rattle.rh_world.proofs.Updated.{some_not_none}
+use Rattle.rh_world.proofs.Updated.{failed_opened, some_not_none}
 
 -- plain cells, and Sides that are new but for their claims
 module _ (workers keys counter : ℕ) (opening : ℕ → ℕ) (claims_of : ℕ → List ℕ) where
@@ -59,7 +59,7 @@ module _ (workers keys counter : ℕ) (opening : ℕ → ℕ) (claims_of : ℕ �
   opening_prefixes = record {
     acts_before = λ d h. absurd (h refl);
     opens = λ d f h. absurd (h refl);
-    failed = λ d e h. cc;
+    failed = λ d e h. absurd (failed_opened (opening_world workers keys counter opening) d e h refl);
     reads = λ v k h. absurd h;
     in_order = λ v. tt;
     at_rest = λ v p k h. absurd h;
@@ -153,24 +153,23 @@ failed_acts_of w side d p unused e = 0
 failed_acts_of w side d p undecided e = 0
 failed_acts_of w side d p succeeded e = 0
 failed_acts_of w side d p withdrawn e = 0
-failed_acts_of w side d p (failed i) e = (p.failed d i e).acts
+failed_acts_of w side d p (failed i by) e = (p.failed d i (by, e)).acts
 
-failed_facts : (w : World) (side : ℕ → Side) (d : Ref) (p : Prefixes w side) (i : ℕ) (k : Control) (e : w.control d ≡ k)
-    → k ≡ failed i → (t : FailedAt w side d i) × (failed_acts_of w side d p k e ≡ t.acts)
-failed_facts w side d p i unused e q = cc
-failed_facts w side d p i undecided e q = cc
-failed_facts w side d p i succeeded e q = cc
-failed_facts w side d p i withdrawn e q = cc
-failed_facts w side d p i (failed j) e q =
+failed_facts : (w : World) (side : ℕ → Side) (d : Ref) (p : Prefixes w side) (i by : ℕ) (k : Control) (e : w.control d ≡ k)
+    → k ≡ failed i by → (t : FailedAt w side d i) × (failed_acts_of w side d p k e ≡ t.acts)
+failed_facts w side d p i by unused e q = cc
+failed_facts w side d p i by undecided e q = cc
+failed_facts w side d p i by succeeded e q = cc
+failed_facts w side d p i by withdrawn e q = cc
+failed_facts w side d p i by (failed j decider) e q =
     let same : j ≡ i = cc in
-    subst (λ (x : ℕ). (t : FailedAt w side d x) × ((p.failed d j e).acts ≡ t.acts)) same (p.failed d j e, refl)
+    subst (λ (x : ℕ). (t : FailedAt w side d x) × ((p.failed d j (decider, e)).acts ≡ t.acts)) same (p.failed d j (decider, e), refl)
 
 pub prefixes_say : PrefixesSay
 prefixes_say w side r =
     let p = r.prefixes in
     let acts_of : Ref → ℕ = λ d. failed_acts_of w side d p (w.control d) refl in
-    let fact : (d : Ref) (i : ℕ) → w.control d ≡ failed i → (t : FailedAt w side d i) × (acts_of d ≡ t.acts) = λ d i h. failed_facts w side d p i (w.control d) refl h in
-    let opened : (d : Ref) (i : ℕ) → w.control d ≡ failed i → IsOpened (w.control d) = λ d i h q. (let t : failed i ≡ unused = sym h ∙ q in cc) in
+    let fact : (d : Ref) (i : ℕ) → HasFailed w d i → (t : FailedAt w side d i) × (acts_of d ≡ t.acts) = λ d i h. failed_facts w side d p i h.0 (w.control d) refl h.1 in
     record {
       failed_acts = acts_of;
       fails = λ d i h.
@@ -184,7 +183,7 @@ prefixes_say w side r =
           let u = fact f g hf in
           let a : acts_of d ≡ t.0.acts = t.1 in
           let b : acts_of f ≡ u.0.acts = u.1 in
-          let c : t.0.acts ≤ w.acts_before f = t.0.opens f (opened f g hf) (sym same) less in
+          let c : t.0.acts ≤ w.acts_before f = t.0.opens f (failed_opened w f g hf) (sym same) less in
           let m : w.acts_before f ≤ u.0.acts = u.0.mismatch.acts_before in
           omega arith;
       failed_then_read = λ d e k hd h less.
@@ -195,7 +194,7 @@ prefixes_say w side r =
       read_then_failed = λ d e k hd h less.
           let t = fact d e hd in
           let a : acts_of d ≡ t.0.acts = t.1 in
-          let c : k.acts ≤ w.acts_before d = (p.reads d.worker k h).high d (opened d e hd) refl less in
+          let c : k.acts ≤ w.acts_before d = (p.reads d.worker k h).high d (failed_opened w d e hd) refl less in
           let m : w.acts_before d ≤ t.0.acts = t.0.mismatch.acts_before in
           omega arith;
     }

@@ -95,9 +95,9 @@ are_allowed = (
                                                       (
                                                         (record { size = 1; known = inr (inr (inr (inl refl))); within = omega arith }, refl),
                                                         (
-                                                          (inr (inr (inr (inr (inr (inl refl))))), (1, inl refl)),
+                                                          (inr (inr (inr (inr (inr (inl refl))))), (refl, (1, inl refl))),
                                                           (
-                                                            (record { size = 1; known = inr (inr (inr (inr (inr (inl refl))))); within = omega arith }, inl ((failed 0), inl refl)),
+                                                            (record { size = 1; known = inr (inr (inr (inr (inr (inl refl))))); within = omega arith }, inl (failed 0 0, inl refl)),
                                                             (
                                                               record { worker = omega arith; closed = refl; keys = λ n h. absurd h },
                                                               (

@@ -59,12 +59,12 @@ module _ (w : World) (side : ℕ → Side) (a : Acts w side) (v : ℕ) where
       (λ (p : (w.act n).worker ≢ v). subst (λ (b : Bool). IsFalling (cond b ((w.act n).number ∷ own_acts w v n) (own_acts w v n))) (sym (ne_eqb _ _ p)) (own_falling n (omega arith)))
       (same_nat (w.act n).worker v)
 
-success_yes : (k : Control) → is_success k ≡ true → k ≡ succeeded
+pub success_yes : (k : Control) → is_success k ≡ true → k ≡ succeeded
 success_yes unused e = absurd (true≢false (sym e))
 success_yes undecided e = absurd (true≢false (sym e))
 success_yes succeeded e = refl
 success_yes withdrawn e = absurd (true≢false (sym e))
-success_yes (failed n) e = absurd (true≢false (sym e))
+success_yes (failed n by) e = absurd (true≢false (sym e))
 
 kept_from : (b : Bool) (y n : ℕ) (ns : List ℕ) → In y (cond b (n ∷ ns) ns) → ((b ≡ true) × (y ≡ n)) ⊎ In y ns
 kept_from true y n ns j = ⊎_elim (λ p. inl (refl, p)) inr j

@@ -1,6 +1,6 @@
 -- Each small change keeps the parts of the rule: of the world alone, of one side alone, and the two of both.
 use Rattle.std.proofs.Common.{◌≡◌, ◌≢◌, ℕ, ◌<◌, ◌≤◌, List, sym, refl, ap, ◌∙◌, subst, inl, ⊎_elim, arith, Some, None}
-use Rattle.rh_world.specs.World.{Cell, Control, In, IsDecided, IsOpened, Ref, World, updated, updated_ref}
+use Rattle.rh_world.specs.World.{Cell, Control, HasFailed, In, IsDecided, IsOpened, Ref, World, updated, updated_ref}
 use Rattle.rh_world.specs.World.Cell.{desc, mark, plain}
 use Rattle.rh_world.specs.World.Control.{failed, succeeded, undecided, unused, withdrawn}
 use Rattle.rh_world.specs.Logical.{entry_value}
@@ -24,7 +24,7 @@ use Rattle.rh_world.proofs.Updated.{some_not_none, updated_at, updated_else, upd
 -- the world alone changes: nothing is opened, and nothing fails
 prefixes_world : (w v : World) (side : ℕ → Side) → Steady w v → Rows w side
     → ((f : Ref) → IsOpened (v.control f) → IsOpened (w.control f))
-    → ((d : Ref) (e : ℕ) → v.control d ≡ failed e → w.control d ≡ failed e)
+    → ((d : Ref) (e : ℕ) → HasFailed v d e → HasFailed w d e)
     → ((u : ℕ) → w.next_number u ≤ v.next_number u) → Prefixes w side → Prefixes v side
 prefixes_world w v side l rows back failing more p = prefixes_stay w v side side l rows back (λ d e h. inl (failing d e h)) more (λ u. refl) (λ u q h. h)
     (λ u n h q. prefixes_note_stays w v side rows l n q (p.notes u n h q)) p
@@ -41,9 +41,9 @@ not_opened_by : (w : World) (d : Ref) (r : Control) → w.control d ≡ undecide
     → IsOpened (updated_ref w.control d r f) → IsOpened (w.control f)
 not_opened_by w d r und f h = ⊎_elim (λ p q. let t : undecided ≡ unused = sym und ∙ (ap w.control (sym p.0) ∙ q) in cc) (λ p q. h (p.1 ∙ q)) (updated_ref_at w.control d f r)
 
-not_failed_by : (w : World) (d : Ref) (r : Control) → ((e : ℕ) → r ≢ failed e) → (f : Ref) (e : ℕ)
-    → updated_ref w.control d r f ≡ failed e → w.control f ≡ failed e
-not_failed_by w d r other f e h = ⊎_elim (λ p. absurd (other e (sym p.1 ∙ h))) (λ p. sym p.1 ∙ h) (updated_ref_at w.control d f r)
+not_failed_by : (w : World) (d : Ref) (r : Control) → ((e by : ℕ) → r ≢ failed e by) → (f : Ref) (e : ℕ)
+    → ((by : ℕ) × (updated_ref w.control d r f ≡ failed e by)) → HasFailed w f e
+not_failed_by w d r other f e h = (h.0, ⊎_elim (λ p. absurd (other e h.0 (sym p.1 ∙ h.1))) (λ p. sym p.1 ∙ h.1) (updated_ref_at w.control d f r))
 
 module _ (A P : Type 0) where
   pub parts_promote : (w : World) (side : ℕ → Side) (c : ℕ) (x : Ref) → w.cell c ≡ mark x
@@ -78,15 +78,15 @@ module _ (A P : Type 0) where
   parts_withdraw w side d und r = record {
     rows = rows_decide w side d withdrawn und tt (λ q. cc) r.rows;
     acts = λ a. acts_decide w side d withdrawn r.rows und tt (λ q. cc) (r.acts a);
-    prefixes = λ a p. prefixes_world w (decide_world w d withdrawn) side (steady_decide w d withdrawn und tt (λ q. cc)) r.rows (not_opened_by w d withdrawn und) (not_failed_by w d withdrawn (λ e q. cc)) (λ u. omega arith) (r.prefixes a p);
+    prefixes = λ a p. prefixes_world w (decide_world w d withdrawn) side (steady_decide w d withdrawn und tt (λ q. cc)) r.rows (not_opened_by w d withdrawn und) (not_failed_by w d withdrawn (λ e by q. cc)) (λ u. omega arith) (r.prefixes a p);
   }
 
-  pub parts_fail : (w : World) (side : ℕ → Side) (d : Ref) (e n : ℕ) → w.control d ≡ undecided
-      → (A → P → IsMismatch w d e n) → Partly A P w side → Partly A P (decide_world w d (failed e)) side
-  parts_fail w side d e n und m r = record {
-    rows = rows_decide w side d (failed e) und tt (λ q. cc) r.rows;
-    acts = λ a. acts_decide w side d (failed e) r.rows und tt (λ q. cc) (r.acts a);
-    prefixes = λ a p. prefixes_fail w side d e n r.rows und (m a p) (r.prefixes a p);
+  pub parts_fail : (w : World) (side : ℕ → Side) (d : Ref) (e by n : ℕ) → w.control d ≡ undecided
+      → (A → P → IsMismatch w d e n) → Partly A P w side → Partly A P (decide_world w d (failed e by)) side
+  parts_fail w side d e by n und m r = record {
+    rows = rows_decide w side d (failed e by) und tt (λ q. cc) r.rows;
+    acts = λ a. acts_decide w side d (failed e by) r.rows und tt (λ q. cc) (r.acts a);
+    prefixes = λ a p. prefixes_fail w side d e by n r.rows und (m a p) (r.prefixes a p);
   }
 
   pub parts_succeed : (w : World) (side : ℕ → Side) (d : Ref) → w.control d ≡ undecided
@@ -95,7 +95,7 @@ module _ (A P : Type 0) where
   parts_succeed w side d und all r = record {
     rows = rows_succeed w side d und r.rows;
     acts = λ a. acts_succeed w side d r.rows und (all a) (r.acts a);
-    prefixes = λ a p. prefixes_world w (succeed_world w d) side (steady_succeed w d und) r.rows (not_opened_by w d succeeded und) (not_failed_by w d succeeded (λ e q. cc)) (λ u. omega arith) (r.prefixes a p);
+    prefixes = λ a p. prefixes_world w (succeed_world w d) side (steady_succeed w d und) r.rows (not_opened_by w d succeeded und) (not_failed_by w d succeeded (λ e by q. cc)) (λ u. omega arith) (r.prefixes a p);
   }
 
   pub parts_claim : (w : World) (side : ℕ → Side) → Partly A P w side → Partly A P (claim_world w) side

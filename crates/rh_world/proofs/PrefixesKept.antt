@@ -1,6 +1,6 @@
 -- The prefixes are kept.
 use Rattle.std.proofs.Common.{◌≡◌, ◌≢◌, ℕ, ◌+◌, ◌<◌, ◌≤◌, ◌⊎◌, sym, refl, ap, ◌∙◌, subst, inl, inr, ⊎_elim, arith, Some, None}
-use Rattle.rh_world.specs.World.{Cell, In, IsOpened, Ref, World, updated, updated_ref}
+use Rattle.rh_world.specs.World.{Cell, HasFailed, In, IsOpened, Ref, World, updated}
 use Rattle.rh_world.specs.World.Cell.{plain}
 use Rattle.rh_world.specs.World.Control.{failed, undecided, unused}
 use Rattle.rh_world.specs.Logical.{StandsFor}
@@ -17,7 +17,7 @@ use Rattle.rh_world.proofs.Conditions.{OpensNext}
 use Rattle.rh_world.proofs.Laters.{steady_decide, steady_open, steady_same}
 use Rattle.rh_world.proofs.RowsKept.{by_side, field_same}
 use Rattle.rh_world.proofs.Stays.{at_work, mismatch_stays, prefix_stays, prefixes_note_stays}
-use Rattle.rh_world.proofs.Updated.{some_injective, some_not_none, updated_at, updated_ref_at, updated_ref_here}
+use Rattle.rh_world.proofs.Updated.{failed_opened, some_injective, some_not_none, updated_at, updated_ref_at, updated_ref_here}
 
 module _ (w v : World) (l : Steady w v) where
   read_later : (side : ℕ → Side) (u : ℕ) (k : KeptRead)
@@ -49,7 +49,7 @@ module _ (w v : World) (side side' : ℕ → Side) (l : Steady w v) (rows : Rows
     reads = λ k i n. t.reads k (subst (In k) (reads d.worker) i) n;
   }
 
-  pub prefixes_stay : ((d : Ref) (e : ℕ) → v.control d ≡ failed e → (w.control d ≡ failed e) ⊎ FailedAt w side d e)
+  pub prefixes_stay : ((d : Ref) (e : ℕ) → HasFailed v d e → HasFailed w d e ⊎ FailedAt w side d e)
       → ((u : ℕ) → w.next_number u ≤ v.next_number u) → ((u : ℕ) → (side' u).reads ≡ (side u).reads)
       → ((u p : ℕ) → (side' u).current ≡ Some p → (side u).current ≡ Some p)
       → ((u : ℕ) (n : Note) → In n (side' u).notes → part_of n ≡ of_prefixes → HoldsIn v n) → Prefixes w side
@@ -59,7 +59,7 @@ module _ (w v : World) (side side' : ℕ → Side) (l : Steady w v) (rows : Rows
     acts_before = λ d h. let o = back d h in
         subst (λ (n : ℕ). IsPrefix v d.worker d.number n) (sym (l.acts_before d o)) (prefix_stays w v l d.worker d.number (w.acts_before d) (λ f. not_below d f o) (p.acts_before d o));
     opens = λ d f h i s n. subst (λ (x : ℕ × ℕ). x.0 ≤ x.1) (λ k. (sym (l.acts_before d (back d h)) k, sym (l.acts_before f (back f i)) k)) (p.opens d f (back d h) (back f i) s n);
-    failed = λ d e h. let o = back d (λ q. let r : failed e ≡ unused = sym h ∙ q in cc) in failed_stay d e o reads (⊎_elim (λ q. p.failed d e q) (λ q. q) (failing d e h));
+    failed = λ d e h. let o = back d (failed_opened v d e h) in failed_stay d e o reads (⊎_elim (λ q. p.failed d e q) (λ q. q) (failing d e h));
     reads = λ u k i. let j = subst (In k) (reads u) i in
         read_later w v l side u k (λ f und s. p.at_rest f.worker f.number k (subst (λ (x : ℕ). In k (side x).reads) (sym s) j) (at_work w side f rows und)) back (numbers u) (p.reads u k j);
     in_order = λ u. subst InOrder (sym (reads u)) (p.in_order u);
@@ -85,19 +85,21 @@ failing w side d e n rows p u m = record {
   reads = λ k i lt. let r = p.at_rest d.worker d.number k i (at_work w side d rows u) in absurd (omega arith);
 }
 
-pub prefixes_fail : (w : World) (side : ℕ → Side) (d : Ref) (e n : ℕ) → Rows w side → w.control d ≡ undecided
-    → IsMismatch w d e n → Prefixes w side → Prefixes (decide_world w d (failed e)) side
-prefixes_fail w side d e n rows u m p =
+pub prefixes_fail : (w : World) (side : ℕ → Side) (d : Ref) (e by n : ℕ) → Rows w side → w.control d ≡ undecided
+    → IsMismatch w d e n → Prefixes w side → Prefixes (decide_world w d (failed e by)) side
+prefixes_fail w side d e by n rows u m p =
     let o : IsOpened (w.control d) = λ q. (let r : undecided ≡ unused = sym u ∙ q in cc) in
-    prefixes_stay w (decide_world w d (failed e)) side side (steady_decide w d (failed e) u tt (λ q. cc)) rows
-    (λ f h. ⊎_elim (λ (q : (f ≡ d) × (updated_ref w.control d (failed e) f ≡ failed e)). subst (λ (x : Ref). IsOpened (w.control x)) (sym q.0) o) (λ q r. h (q.1 ∙ r)) (updated_ref_at w.control d f (failed e)))
+    let v : World = decide_world w d (failed e by) in
+    let l = steady_decide w d (failed e by) u tt (λ q. cc) in
+    prefixes_stay w v side side l rows
+    (λ f h. ⊎_elim (λ (q : (f ≡ d) × (v.control f ≡ failed e by)). subst (λ (x : Ref). IsOpened (w.control x)) (sym q.0) o) (λ q r. h (q.1 ∙ r)) (updated_ref_at w.control d f (failed e by)))
     (λ f i h. ⊎_elim
-    (λ (q : (f ≡ d) × (updated_ref w.control d (failed e) f ≡ failed e)).
-    let r : e ≡ i = (let r : failed e ≡ failed i = sym q.1 ∙ h in cc) in
+    (λ (q : (f ≡ d) × (v.control f ≡ failed e by)).
+    let r : e ≡ i = (let r : failed e by ≡ failed i h.0 = sym q.1 ∙ h.1 in cc) in
     inr (subst (λ (x : Ref). FailedAt w side x i) (sym q.0) (subst (FailedAt w side d) r (failing w side d e n rows p u m))))
-    (λ q. inl (sym q.1 ∙ h)) (updated_ref_at w.control d f (failed e)))
+    (λ q. inl (h.0, sym q.1 ∙ h.1)) (updated_ref_at w.control d f (failed e by)))
     (λ x. omega arith) (λ x. refl) (λ x q h. h)
-    (λ y n h q. prefixes_note_stays w (decide_world w d (failed e)) side rows (steady_decide w d (failed e) u tt (λ q. cc)) n q (p.notes y n h q)) p
+    (λ y n h q. prefixes_note_stays w v side rows l n q (p.notes y n h q)) p
 
 -- all acts of a worker are of lower numbers than its next
 all_before : (w : World) (side : ℕ → Side) (u : ℕ) → Rows w side → Acts w side
@@ -146,10 +148,10 @@ prefixes_open w side d p rows acts can pre =
           (λ (o' : IsOpened (w.control g)). subst (λ (x : ℕ × ℕ). x.0 ≤ x.1) (λ k. (sym (l.acts_before f o) k, sym (l.acts_before g o') k)) (pre.opens f g o o' q n)) (opened_or g i))
           (opened_or f h);
       failed = λ f e h. ⊎_elim
-          (λ (q : (f ≡ d) × (v.control f ≡ undecided)). let r : undecided ≡ failed e = sym q.1 ∙ h in cc)
+          (λ (q : (f ≡ d) × (v.control f ≡ undecided)). let r : undecided ≡ failed e h.0 = sym q.1 ∙ h.1 in cc)
           (λ (q : (f ≢ d) × (v.control f ≡ w.control f)).
-          let was : w.control f ≡ failed e = sym q.1 ∙ h in
-          let o : IsOpened (w.control f) = λ r. (let t : failed e ≡ unused = sym was ∙ r in cc) in
+          let was : HasFailed w f e = (h.0, sym q.1 ∙ h.1) in
+          let o = failed_opened w f e was in
           let t = pre.failed f e was in
           let b : t.acts ≤ w.act_count = t.mismatch.prefix.within in
           record {

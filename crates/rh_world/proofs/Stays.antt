@@ -60,7 +60,7 @@ module _ (w v : World) (side : ℕ → Side) (rows : Rows w side) where
   rows_note_stays l (decided d k) p t = (t.0, l.decided d (subst IsDecided (sym t.1) t.0) ∙ t.1)
   rows_note_stays l (over d) p t = subst IsDecided (sym (l.decided d t)) t
   rows_note_stays l (passed d) p t = cc
-  rows_note_stays l (failed_at d e) p t = l.decided d (subst IsDecided (sym t) tt) ∙ t
+  rows_note_stays l (failed_at d e) p t = (t.0, l.decided d (subst IsDecided (sym t.1) tt) ∙ t.1)
   rows_note_stays l (desc_is x d) p t = (l.marks x t.0, l.mark_desc x t.0 ∙ t.1)
   rows_note_stays l (which_is x e) p t = (l.marks x t.0, l.mark_entry x t.0 ∙ t.1)
   rows_note_stays l (found x c) p t =

@@ -40,7 +40,7 @@ module _ (A P : Type 0) where
     step_control d undecided e = more_note w side who (forget_side (side who) d) (known d) (λ q. let t : undecided ≡ unused = sym e ∙ q in cc) (parts_forget A P w side who r d e)
     step_control d succeeded e = one_note (decided d succeeded) (tt, e)
     step_control d withdrawn e = one_note (decided d withdrawn) (tt, e)
-    step_control d (failed n) e = one_note (decided d (failed n)) (tt, e)
+    step_control d (failed n by) e = one_note (decided d (failed n by)) (tt, e)
 
     step_mark : (x : Ref) (c : ℕ) (k : Control) → IsUsed w x → w.control (w.mark_desc x) ≡ k → (s : Side)
         → Partly A P w (updated side who s) → Partly A P w (updated side who (mark_noted s x c k))
@@ -48,7 +48,7 @@ module _ (A P : Type 0) where
     step_mark x c undecided u e s h = more_note w side who s (may_promote x c) (u, λ q t. let a : undecided ≡ succeeded = sym e ∙ t in cc) h
     step_mark x c succeeded u e s h = more_note w side who s (may_demote x) (u, subst IsDecided (sym e) tt) h
     step_mark x c withdrawn u e s h = more_note w side who s (may_demote x) (u, subst IsDecided (sym e) tt) h
-    step_mark x c (failed n) u e s h = more_note w side who s (may_demote x) (u, subst IsDecided (sym e) tt) h
+    step_mark x c (failed n by) u e s h = more_note w side who s (may_demote x) (u, subst IsDecided (sym e) tt) h
 
     found_is : (c : ℕ) (x : Ref) → w.cell c ≡ mark x → HoldsIn w (found x c)
     found_is c x e = let m = r.rows.marks c x e in (m.used, m.here)
@@ -148,10 +148,10 @@ module _ (A P : Type 0) where
         let size = r.rows.notes who (size_is d may.0) may.1 refl in
         parts_succeed A P w side d e (λ a i h. ((r.acts a).notes who (held d i) (may.2 i (subst (λ (n : ℕ). i < n) size.1 h)) refl).1 e) r
     step_decided d undecided withdrawn e may = parts_withdraw A P w side d e r
-    step_decided d undecided (failed i) e may = parts_fail A P w side d i may.0 e (λ a p. ((r.prefixes a p).notes who (mismatch d i may.0) may.1 refl).1 e) r
+    step_decided d undecided (failed i by) e may = parts_fail A P w side d i by may.1.0 e (λ a p. ((r.prefixes a p).notes who (mismatch d i may.1.0) may.1.1 refl).1 e) r
     step_decided d succeeded x e may = r
     step_decided d withdrawn x e may = r
-    step_decided d (failed i) x e may = r
+    step_decided d (failed i by) x e may = r
 
   -- the world first, then the side
   gone_after : (w : World) (c : ℕ) (k : Cell) (x : Ref) → k ≢ mark x → ((j : ℕ) → w.cell j ≡ mark x → j ≡ c) → (j : ℕ)

@@ -22,10 +22,10 @@ decided_later w side who d undecided succeeded rows acts e may =
     let size = rows.notes who (size_is d may.0) may.1 refl in
     later_succeed w side d rows e (λ i h. (acts.notes who (held d i) (may.2 i (subst (λ (n : ℕ). i < n) size.1 h)) refl).1 e)
 decided_later w side who d undecided withdrawn rows acts e may = later_decide w d withdrawn e tt (λ q. cc)
-decided_later w side who d undecided (failed i) rows acts e may = later_decide w d (failed i) e tt (λ q. cc)
+decided_later w side who d undecided (failed i by) rows acts e may = later_decide w d (failed i by) e tt (λ q. cc)
 decided_later w side who d succeeded x rows acts e may = later_same w
 decided_later w side who d withdrawn x rows acts e may = later_same w
-decided_later w side who d (failed i) x rows acts e may = later_same w
+decided_later w side who d (failed i by) x rows acts e may = later_same w
 
 placed_later : (w : World) (side : ℕ → Side) (who : ℕ) (d : Ref) (e : ℕ) (k : Cell) → Rows w side
     → w.cell (w.target d e) ≡ k → MayWork (side who) d e → (side who).unsettled ≡ None → (b : Bool)

@@ -1,8 +1,8 @@
 -- A function that is changed at one place; controls, references and options told apart.
-use Rattle.std.proofs.Common.{◌≡◌, ◌≢◌, ℕ, eqb, ◌⊎◌, Bool, true, false, cond, ◌&&◌, refl, ap, ◌∙◌, subst, inl, inr, ⊎_elim, eq-eqb, ne_eqb, Some, None}
+use Rattle.std.proofs.Common.{◌≡◌, ◌≢◌, ℕ, eqb, ◌⊎◌, Bool, true, false, cond, ◌&&◌, sym, refl, ap, ◌∙◌, subst, inl, inr, ⊎_elim, eq-eqb, ne_eqb, Some, None}
 use native.Mathlib.Decide.{ℕ_discrete}
-use Rattle.rh_world.specs.World.{Control, IsDecided, Ref, updated, updated_ref}
-use Rattle.rh_world.specs.World.Control.{undecided, unused}
+use Rattle.rh_world.specs.World.{Control, HasFailed, IsDecided, Ref, World, updated, updated_ref}
+use Rattle.rh_world.specs.World.Control.{failed, undecided, unused}
 
 pub updated_here : {A : Type 0} (f : ℕ → A) (k j : ℕ) (a : A) → j ≡ k → updated f k a j ≡ a
 updated_here f k j a e = ap (λ (b : Bool). cond b a (f j)) (eq-eqb j k e)
@@ -53,6 +53,9 @@ undecided_open k e h = subst IsDecided e h
 
 pub decided_opened : (k : Control) → IsDecided k → k ≢ unused
 decided_opened k h e = subst IsDecided e h
+
+pub failed_opened : (w : World) (d : Ref) (e : ℕ) → HasFailed w d e → w.control d ≢ unused
+failed_opened w d e h q = let t : failed e h.0 ≡ unused = sym h.1 ∙ q in cc
 
 -- options
 pub some_not_none : (n : ℕ) → Some n ≢ None

@@ -48,7 +48,7 @@ is_success unused = false
 is_success undecided = false
 is_success succeeded = true
 is_success withdrawn = false
-is_success (failed e) = false
+is_success (failed e by) = false
 
 -- of these numbers of descriptors of worker v those that succeeded
 abbrev pub successes_of : World → (v : ℕ) → List ℕ → List ℕ

@@ -69,7 +69,7 @@ helped_run =
     ∷ turn 0 (releases second 0)
     ∷ turn 0 (opens (entry_at_2 6))
     ∷ turn 0 (places third 0)
-    ∷ turn 0 (decides third (failed 0))
+    ∷ turn 0 (decides third (failed 0 0))
     ∷ turn 0 (releases third 0)
     ∷ turn 1 claims
     ∷ turn 0 claims
@@ -85,7 +85,7 @@ pub record HelpedEnd (v : World) (then : ℕ → Side) : Type 0 where
   pub acts : v.act_count ≡ 1
   pub act : v.act 0 ≡ first
   pub withdrew : v.control second ≡ withdrawn
-  pub missed : v.control third ≡ failed 0
+  pub missed : v.control third ≡ failed 0 0
   pub counter : v.counter ≡ 2
 
 -- with one key in the list, and 5 in each cell

@@ -1,8 +1,8 @@
 -- What the laws of this crate say.
 use Rattle.std.specs.Prelude.{◌≡◌, ◌≢◌, ℕ, ◌+◌, ◌<◌, ◌≤◌, ◌↔◌, List}
-use Rattle.rh_world.specs.World.{Ref, World, IsOpened, IsDecided, In, IsFalling}
+use Rattle.rh_world.specs.World.{Ref, World, IsOpened, IsDecided, HasFailed, In, IsFalling}
 use Rattle.rh_world.specs.World.Cell.{desc, plain}
-use Rattle.rh_world.specs.World.Control.{succeeded, failed}
+use Rattle.rh_world.specs.World.Control.{succeeded}
 use Rattle.rh_world.specs.Logical.{IsLogical}
 use Rattle.rh_world.specs.Notes.{HoldsIn, IsPrefix}
 use Rattle.rh_world.specs.Notes.Note.{over, passed}
@@ -78,16 +78,16 @@ RestIsSettled = (w : World) (side : ℕ → Side) → Rule w side → AllAtRest 
 -- the word. Along the descriptors and reads of one worker the numbers never get smaller.
 pub record Foretold (w : World) (side : ℕ → Side) : Type 0 where
   pub failed_acts : Ref → ℕ
-  pub fails : (d : Ref) (e : ℕ) → w.control d ≡ failed e
+  pub fails : (d : Ref) (e : ℕ) → HasFailed w d e
       → IsPrefix w d.worker d.number (failed_acts d) × (cells_after w (failed_acts d) (w.target d e) ≢ w.old d e)
   pub reads : (v : ℕ) (k : KeptRead) → In k (side v).reads
       → IsPrefix w v k.next_number k.acts × (cells_after w k.acts k.cell ≡ k.word)
   pub two_reads : (v : ℕ) → InOrder (side v).reads
-  pub two_failed : (d f : Ref) (e g : ℕ) → w.control d ≡ failed e → w.control f ≡ failed g → d.worker ≡ f.worker
+  pub two_failed : (d f : Ref) (e g : ℕ) → HasFailed w d e → HasFailed w f g → d.worker ≡ f.worker
       → d.number < f.number → failed_acts d ≤ failed_acts f
-  pub failed_then_read : (d : Ref) (e : ℕ) (k : KeptRead) → w.control d ≡ failed e → In k (side d.worker).reads
+  pub failed_then_read : (d : Ref) (e : ℕ) (k : KeptRead) → HasFailed w d e → In k (side d.worker).reads
       → d.number < k.next_number → failed_acts d ≤ k.acts
-  pub read_then_failed : (d : Ref) (e : ℕ) (k : KeptRead) → w.control d ≡ failed e → In k (side d.worker).reads
+  pub read_then_failed : (d : Ref) (e : ℕ) (k : KeptRead) → HasFailed w d e → In k (side d.worker).reads
       → k.next_number ≤ d.number → k.acts ≤ failed_acts d
 
 abbrev pub PrefixesSay : Type 0

@@ -10,7 +10,7 @@ entry_value unused old new = old
 entry_value undecided old new = old
 entry_value succeeded old new = new
 entry_value withdrawn old new = old
-entry_value (failed e) old new = old
+entry_value (failed e by) old new = old
 
 -- d has an entry for cell c, whose value is v
 pub record EntryStandsFor (w : World) (d : Ref) (c : ℕ) (v : ℕ) : Type 0 where

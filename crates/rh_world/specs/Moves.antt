@@ -81,14 +81,14 @@ pub record MayWork (s : Side) (d : Ref) (e : ℕ) : Type 0 where
   pub within : e < size
 
 -- Succeeded: each entry is noted as held, of the entries that d is known to have. Failed: a mismatch is noted at the
--- entry. Withdrawn: d is the worker's own. That no mark is left to it then is asked where the marks have room: the rule
+-- entry, and the worker names itself. Withdrawn: d is the worker's own. That no mark is left to it then is asked where the marks have room: the rule
 -- is kept without it.
 abbrev pub MayDecide : Side → (who : ℕ) → Ref → Control → Type 0
 MayDecide s who d unused = ⊥
 MayDecide s who d undecided = ⊥
 MayDecide s who d succeeded = (n : ℕ) × In (size_is d n) s.notes × ((e : ℕ) → e < n → In (held d e) s.notes)
 MayDecide s who d withdrawn = d.worker ≡ who
-MayDecide s who d (failed e) = (n : ℕ) × In (mismatch d e n) s.notes
+MayDecide s who d (failed e by) = (by ≡ who) × ((n : ℕ) × In (mismatch d e n) s.notes)
 
 -- The worker knows how d is decided, or that it is and that its opener has gone on.
 abbrev pub KnowsOver : Side → Ref → Type 0
@@ -184,10 +184,10 @@ decided_world w d undecided unused = w
 decided_world w d undecided undecided = w
 decided_world w d undecided succeeded = succeed_world w d
 decided_world w d undecided withdrawn = decide_world w d withdrawn
-decided_world w d undecided (failed e) = decide_world w d (failed e)
+decided_world w d undecided (failed e by) = decide_world w d (failed e by)
 decided_world w d succeeded k = w
 decided_world w d withdrawn k = w
-decided_world w d (failed e) k = w
+decided_world w d (failed e by) k = w
 
 -- what a Settle of mark x puts in its place
 abbrev pub settled_cell : World → Ref → Bool → Cell
@@ -238,7 +238,7 @@ control_noted s d unused = s
 control_noted s d undecided = note_side (forget_side s d) (known d)
 control_noted s d succeeded = note_side s (decided d succeeded)
 control_noted s d withdrawn = note_side s (decided d withdrawn)
-control_noted s d (failed e) = note_side s (decided d (failed e))
+control_noted s d (failed e by) = note_side s (decided d (failed e by))
 
 -- of mark x, found in cell c, whose descriptor has this control
 abbrev pub mark_noted : Side → Ref → (c : ℕ) → Control → Side
@@ -246,7 +246,7 @@ mark_noted s x c unused = s
 mark_noted s x c undecided = note_side s (may_promote x c)
 mark_noted s x c succeeded = note_side s (may_demote x)
 mark_noted s x c withdrawn = note_side s (may_demote x)
-mark_noted s x c (failed e) = note_side s (may_demote x)
+mark_noted s x c (failed e by) = note_side s (may_demote x)
 
 -- the own mark x was placed in cell c for entry e of d
 abbrev pub placed_noted : Side → (x d : Ref) → (e c : ℕ) → Side

@@ -1,8 +1,8 @@
 -- What a worker may note: facts that stay true, whatever the other workers do. (own)
 use Rattle.std.specs.Prelude.{◌≡◌, ◌≢◌, ℕ, ◌<◌, ◌≤◌}
-use Rattle.rh_world.specs.World.{Ref, Control, World, IsOpened, IsDecided, IsUsed}
+use Rattle.rh_world.specs.World.{Ref, Control, World, IsOpened, IsDecided, HasFailed, IsUsed}
 use Rattle.rh_world.specs.World.Cell.{mark, desc}
-use Rattle.rh_world.specs.World.Control.{undecided, succeeded, failed}
+use Rattle.rh_world.specs.World.Control.{undecided, succeeded}
 
 pub data Note : Type 0 where
   -- of a descriptor: it was opened; how many entries it has; the cell, the old and the new value of an entry; how it was
@@ -51,7 +51,7 @@ HoldsIn w (new_is d e u) = IsOpened (w.control d) × (w.new d e ≡ u)
 HoldsIn w (decided d k) = IsDecided k × (w.control d ≡ k)
 HoldsIn w (over d) = IsDecided (w.control d)
 HoldsIn w (passed d) = IsDecided (w.control d) × (w.control d ≡ succeeded → (c : ℕ) → w.cell c ≢ desc d)
-HoldsIn w (failed_at d e) = w.control d ≡ failed e
+HoldsIn w (failed_at d e) = HasFailed w d e
 HoldsIn w (desc_is x d) = IsUsed w x × (w.mark_desc x ≡ d)
 HoldsIn w (which_is x e) = IsUsed w x × (w.mark_entry x ≡ e)
 HoldsIn w (found x c) = IsUsed w x × (w.target (w.mark_desc x) (w.mark_entry x) ≡ c)

@@ -1,8 +1,7 @@
 -- The third part of the rule: what a worker's failed descriptors and kept reads say of the acts. Each has its own
 -- number of acts, its prefix, and along one worker's events these numbers never get smaller. (own)
 use Rattle.std.specs.Prelude.{◌≡◌, ℕ, ◌<◌, ◌≤◌, Some, List, [], ◌∷◌}
-use Rattle.rh_world.specs.World.{Ref, World, IsOpened, In}
-use Rattle.rh_world.specs.World.Control.{failed}
+use Rattle.rh_world.specs.World.{Ref, World, IsOpened, HasFailed, In}
 use Rattle.rh_world.specs.Notes.{Note, HoldsIn, IsPrefix, IsMismatch, part_of}
 use Rattle.rh_world.specs.Notes.Part.{of_prefixes}
 use Rattle.rh_world.specs.Sides.{Side, KeptRead}
@@ -33,7 +32,7 @@ pub record Prefixes (w : World) (side : ℕ → Side) : Type 0 where
   -- the acts at the opening of a descriptor are a prefix for it, and never fewer than those at an earlier opening
   pub acts_before : (d : Ref) → IsOpened (w.control d) → IsPrefix w d.worker d.number (w.acts_before d)
   pub opens : (d f : Ref) → IsOpened (w.control d) → IsOpened (w.control f) → d.worker ≡ f.worker → d.number < f.number → w.acts_before d ≤ w.acts_before f
-  pub failed : (d : Ref) (e : ℕ) → w.control d ≡ failed e → FailedAt w side d e
+  pub failed : (d : Ref) (e : ℕ) → HasFailed w d e → FailedAt w side d e
   pub reads : (v : ℕ) (k : KeptRead) → In k (side v).reads → ReadAt w v k
   pub in_order : (v : ℕ) → InOrder (side v).reads
   -- no read is kept while a descriptor is open

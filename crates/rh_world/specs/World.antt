@@ -15,10 +15,10 @@ pub data Cell : Type 0 where
   mark : Ref → Cell
   desc : Ref → Cell
 
--- how far the swap of a descriptor has come; `failed e`: entry e did not hold its old value
+-- how far the swap of a descriptor has come; `failed e by`: entry e did not hold its old value, as worker `by` decided
 pub data Control : Type 0 where
   unused undecided succeeded withdrawn : Control
-  failed : ℕ → Control
+  failed : (entry decider : ℕ) → Control
 
 pub record World : Type 0 where
   pub cell : ℕ → Cell
@@ -53,7 +53,11 @@ IsDecided unused = ⊥
 IsDecided undecided = ⊥
 IsDecided succeeded = Unit {0}
 IsDecided withdrawn = Unit {0}
-IsDecided (failed e) = Unit {0}
+IsDecided (failed e by) = Unit {0}
+
+-- d failed at entry e, whoever decided so
+abbrev pub HasFailed : World → Ref → ℕ → Type 0
+HasFailed w d e = (by : ℕ) × (w.control d ≡ failed e by)
 
 -- a mark is used up once it was placed in a cell
 abbrev pub IsUsed : World → Ref → Type 0

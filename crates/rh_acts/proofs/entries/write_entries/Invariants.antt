@@ -1,5 +1,5 @@
 use Rattle.std.proofs.Common.{◌≡◌, ℕ, ◌^◌, ◌<◌, length, get_or}
-use Rattle.rh_acts.specs.declared.entry.Entry.{Entry}
+use Rattle.rh_layout.specs.declared.entry.Entry.{Entry}
 use Rattle.rh_acts.specs.CellOrder.{entry_of, place_at}
 use Rattle.rh_acts.proofs.entries.write_entries.Given as goal
 

@@ -3,7 +3,7 @@ use Rattle.rh_tagword.specs.declared.control.Control.TheVariants.{Failed}
 use Rattle.rh_descriptor.specs.View.{View}
 use Rattle.rh_descriptor.specs.Words.{control_of, ref_of}
 use Rattle.rh_descriptor.specs.Steps.{decided_now}
-use Rattle.rh_helping.specs.Goal.{KnowsOwn}
+use Rattle.rh_helping.specs.Goal.{KnowsOwn, opened_by}
 use Rattle.rh_helping.proofs.Decisions.{decided_next, may_fail, undecided_owes}
 use Rattle.rh_helping.proofs.Made.{made_then}
 use Rattle.rh_helping.proofs.Starting.{read_own}
@@ -16,8 +16,8 @@ pub at_entry-requires-clause-trusts : goal.at_entry-requires-clause-trusts
 at_entry-requires-clause-trusts g c = c.make-found.ensures.trusts
 
 pub at_entry-requires-clause-own : goal.at_entry-requires-clause-own
-at_entry-requires-clause-own g c = subst (λ (n : View). KnowsOwn n c.args.opens) (sym c.make-found.ensures.view_is)
-    (read_own c.args.side.now.known.view c.args.opens (ref_of c.args.task.desc) (decided_now (control_of (Failed c.args.task.entry)) c.make-found.result) c.requires.own)
+at_entry-requires-clause-own g c = subst (λ (n : View). KnowsOwn n (opened_by c.args.opens)) (sym c.make-found.ensures.view_is)
+    (read_own c.args.side.now.known.view (opened_by c.args.opens) (ref_of c.args.task.desc) (decided_now (control_of (Failed c.args.task.entry)) c.make-found.result) c.requires.own)
 
 pub at_entry-requires-clause-next : goal.at_entry-requires-clause-next
 at_entry-requires-clause-next g c =

@@ -4,7 +4,7 @@ use Rattle.rh_descriptor.specs.declared.reference.Ref.{Ref as Reference}
 use Rattle.rh_descriptor.specs.View.{View}
 use Rattle.rh_descriptor.specs.Words.{control_of, ref_of}
 use Rattle.rh_descriptor.specs.Steps.{decided_now}
-use Rattle.rh_helping.specs.Goal.{KnowsOwn}
+use Rattle.rh_helping.specs.Goal.{KnowsOwn, opened_by}
 use Rattle.rh_helping.proofs.Decisions.{decided_stands, may_withdraw}
 use Rattle.rh_helping.proofs.Made.{made_then}
 use Rattle.rh_helping.proofs.Starting.{read_own}
@@ -23,8 +23,8 @@ start-requires-clause-trusts g c =
 pub start-requires-clause-own : goal.start-requires-clause-own
 start-requires-clause-own g c =
     let d : Reference = record { worker = c.args.side.now.worker; number = c.args.number } in
-    subst (λ (n : View). KnowsOwn n c.args.opens) (sym c.make-found.ensures.view_is)
-    (read_own c.args.side.now.known.view c.args.opens (ref_of d) (decided_now (control_of Withdrawn) c.make-found.result) c.requires.own)
+    subst (λ (n : View). KnowsOwn n (opened_by c.args.opens)) (sym c.make-found.ensures.view_is)
+    (read_own c.args.side.now.known.view (opened_by c.args.opens) (ref_of d) (decided_now (control_of Withdrawn) c.make-found.result) c.requires.own)
 
 pub start-requires-clause-stands : goal.start-requires-clause-stands
 start-requires-clause-stands g c =

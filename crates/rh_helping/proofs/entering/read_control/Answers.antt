@@ -1,7 +1,7 @@
 use Rattle.std.proofs.Common.{sym, subst}
 use Rattle.rh_descriptor.specs.View.{View}
 use Rattle.rh_descriptor.specs.Words.{read_control, ref_of}
-use Rattle.rh_helping.specs.Goal.{KnowsOwn, StandsAt}
+use Rattle.rh_helping.specs.Goal.{KnowsOwn, StandsAt, opened_by}
 use Rattle.rh_helping.proofs.Controls.{read_stands}
 use Rattle.rh_helping.proofs.Made.{made_then}
 use Rattle.rh_helping.proofs.Starting.{may_read_control, read_own}
@@ -14,8 +14,8 @@ pub start-requires-clause-trusts : goal.start-requires-clause-trusts
 start-requires-clause-trusts g c = c.make.ensures.trusts
 
 pub start-requires-clause-own : goal.start-requires-clause-own
-start-requires-clause-own g c = subst (λ (n : View). KnowsOwn n c.args.opens) (sym c.make.ensures.view_is)
-    (read_own c.args.side.now.known.view c.args.opens (ref_of c.args.desc) (read_control c.make.result) c.requires.own)
+start-requires-clause-own g c = subst (λ (n : View). KnowsOwn n (opened_by c.args.opens)) (sym c.make.ensures.view_is)
+    (read_own c.args.side.now.known.view (opened_by c.args.opens) (ref_of c.args.desc) (read_control c.make.result) c.requires.own)
 
 pub start-requires-clause-stands : goal.start-requires-clause-stands
 start-requires-clause-stands g c =

@@ -2,7 +2,7 @@ use Rattle.std.proofs.Common.{sym, subst}
 use Rattle.rh_world.specs.Notes.Note.{size_is}
 use Rattle.rh_descriptor.specs.View.{View}
 use Rattle.rh_descriptor.specs.Words.{ref_of}
-use Rattle.rh_helping.specs.Goal.{KnowsOwn}
+use Rattle.rh_helping.specs.Goal.{KnowsOwn, opened_by}
 use Rattle.rh_helping.proofs.Growing.{own_grows}
 use Rattle.rh_helping.proofs.Made.{made_then}
 use Rattle.rh_helping.proofs.Rows.{grows_note}
@@ -18,7 +18,7 @@ at_entry-requires-clause-trusts g c = c.make-size.ensures.trusts
 pub at_entry-requires-clause-own : goal.at_entry-requires-clause-own
 at_entry-requires-clause-own g c =
     let g = grows_note c.args.side.now.known.view (size_is (ref_of c.args.desc) c.make-size.result) in
-    subst (λ (n : View). KnowsOwn n c.args.opens) (sym c.make-size.ensures.view_is) (own_grows _ _ g _ c.requires.own)
+    subst (λ (n : View). KnowsOwn n (opened_by c.args.opens)) (sym c.make-size.ensures.view_is) (own_grows _ _ g _ c.requires.own)
 
 pub at_entry-requires-clause-next : goal.at_entry-requires-clause-next
 at_entry-requires-clause-next g c =

@@ -1,6 +1,6 @@
 use Rattle.std.proofs.Common.{Some, sym, subst}
 use Rattle.rh_descriptor.specs.View.{View}
-use Rattle.rh_helping.specs.Goal.{KnowsOwn}
+use Rattle.rh_helping.specs.Goal.{KnowsOwn, opened_by}
 use Rattle.rh_helping.proofs.Made.{made_then}
 use Rattle.rh_helping.proofs.Marking.{demoted, is_found, piece_of, settled_own}
 use Rattle.rh_helping.proofs.Marks.{may_settle}
@@ -13,7 +13,7 @@ pub at_entry-requires-clause-trusts : goal.at_entry-requires-clause-trusts
 at_entry-requires-clause-trusts g c = c.make.ensures.trusts
 
 pub at_entry-requires-clause-own : goal.at_entry-requires-clause-own
-at_entry-requires-clause-own g c = subst (λ (x : View). KnowsOwn x c.args.opens) (sym c.make.ensures.view_is) (settled_own _ _ c.requires.stands.0 _ c.requires.own (Some c.args.placed.goal.old) c.make.result)
+at_entry-requires-clause-own g c = subst (λ (x : View). KnowsOwn x (opened_by c.args.opens)) (sym c.make.ensures.view_is) (settled_own _ _ c.requires.stands.0 _ c.requires.own (Some c.args.placed.goal.old) c.make.result)
 
 pub at_entry-requires-clause-next : goal.at_entry-requires-clause-next
 at_entry-requires-clause-next g c = demoted _ _ c.requires.stands.0 c.args.shape.now c.make.result _ c.make.ensures.view_is (c.make.ensures.trusts.knows) c.requires.stands.1

@@ -1,40 +1,53 @@
-use Rattle.std.proofs.Common.{ap, inl, inr}
+use Rattle.std.proofs.Common.{ap, inl, inr, sym, take}
 use Rattle.rh_tagword.specs.declared.control.Control.{Control}
 use Rattle.rh_world.specs.Acts.{is_success}
 use Rattle.rh_descriptor.specs.Words.{control_of}
 use Rattle.rh_worker.proofs.Anew.{kept_alike, none_read}
-use Rattle.rh_worker.proofs.CloseStep.{still_open, swap_fails, swap_gives_up, swap_spends, swap_succeeds}
+use Rattle.rh_worker.proofs.CloseStep.{does_same, opens_same, still_open, swap_fails, swap_gives_up, swap_spends, swap_succeeds}
 use Rattle.rh_worker.proofs.swapping.swap.Goals as goal
+
+pub step-requires-clause-own : goal.step-requires-clause-own
+step-requires-clause-own g c = opens_same _ c.args.number _ _ (ap (take c.args.plan.entries) c.deref.ensures.value) c.requires.worker.stays.0
+
+pub returns-in-On-clause-worker : goal.returns-in-On-clause-worker
+returns-in-On-clause-worker g c =
+    let same = ap (take c.args.plan.entries) c.deref.ensures.value in
+    let leads = c.in-On.ensures.leads in
+    record { key = c.requires.worker.key; room = c.requires.worker.room; stays = (opens_same _ c.args.number _ _ (sym same) leads.0, leads.1, c.requires.worker.stays.2) }
 
 pub returns-in-Closed-Succeeded-clause-advances : goal.returns-in-Closed-Succeeded-clause-advances
 returns-in-Closed-Succeeded-clause-advances g c =
     let w = c.args.worker.now in
     let h = c.requires.worker.stays in
+    let same = ap (take c.args.plan.entries) c.deref.ensures.value in
     let a = c.in-Closed-Succeeded in
-    inr (swap_succeeds c.args.shape.now _ _ w.side.known.view _ _ a.ensures.made w.kind w.key c.args.number c.args.changes h.0 h.2 a.field-0 a.ensures.leads a.field-0-is)
+    inr (swap_succeeds c.args.shape.now _ _ w.side.known.view _ _ a.ensures.made w.kind w.key c.args.plan.changes _ (opens_same _ c.args.number _ _ same h.0) (does_same w.kind c.args.shape.now.bits w.key c.args.plan.changes _ _ same h.2.act) a.field-0 a.ensures.leads a.field-0-is)
 
 pub returns-in-Closed-Withdrawn-clause-advances : goal.returns-in-Closed-Withdrawn-clause-advances
 returns-in-Closed-Withdrawn-clause-advances g c =
     let w = c.args.worker.now in
     let h = c.requires.worker.stays in
+    let same = ap (take c.args.plan.entries) c.deref.ensures.value in
     let a = c.in-Closed-Withdrawn in
-    inr (inr (swap_fails c.args.shape.now _ _ w.side.known.view _ _ a.ensures.made w.kind w.key c.args.number c.args.changes h.0 h.2 a.field-0 a.ensures.leads (ap (λ (r : Control). is_success (control_of r)) a.field-0-is)))
+    inr (inr (swap_fails c.args.shape.now _ _ w.side.known.view _ _ a.ensures.made w.kind w.key c.args.plan.changes _ (opens_same _ c.args.number _ _ same h.0) (does_same w.kind c.args.shape.now.bits w.key c.args.plan.changes _ _ same h.2.act) a.field-0 a.ensures.leads (ap (λ (r : Control). is_success (control_of r)) a.field-0-is)))
 
 pub returns-in-Closed-Withdrawn-clause-worker : goal.returns-in-Closed-Withdrawn-clause-worker
 returns-in-Closed-Withdrawn-clause-worker g c =
     let w = c.args.worker.now in
     let h = c.requires.worker.stays in
+    let same = ap (take c.args.plan.entries) c.deref.ensures.value in
     let a = c.in-Closed-Withdrawn in
     let closed = a.ensures.leads.2 in
-    let full = swap_spends c.args.shape.now _ _ w.side.known.view _ _ a.ensures.made w.kind w.key c.args.number c.args.changes h.0 h.2 a.field-0 a.ensures.leads a.field-0-is in
+    let full = swap_spends c.args.shape.now _ _ w.side.known.view _ _ a.ensures.made w.kind w.key c.args.plan.changes _ (opens_same _ c.args.number _ _ same h.0) (does_same w.kind c.args.shape.now.bits w.key c.args.plan.changes _ _ same h.2.act) a.field-0 a.ensures.leads a.field-0-is in
     record { key = c.requires.worker.key; room = c.requires.worker.room; stays = (record { own = closed.own; owes = closed.owes }, inl full) }
 
 pub returns-in-Closed-Failed-clause-advances : goal.returns-in-Closed-Failed-clause-advances
 returns-in-Closed-Failed-clause-advances g c =
     let w = c.args.worker.now in
     let h = c.requires.worker.stays in
+    let same = ap (take c.args.plan.entries) c.deref.ensures.value in
     let a = c.in-Closed-Failed in
-    inr (inr (swap_fails c.args.shape.now _ _ w.side.known.view _ _ a.ensures.made w.kind w.key c.args.number c.args.changes h.0 h.2 a.field-0 a.ensures.leads (ap (λ (r : Control). is_success (control_of r)) a.field-0-is)))
+    inr (inr (swap_fails c.args.shape.now _ _ w.side.known.view _ _ a.ensures.made w.kind w.key c.args.plan.changes _ (opens_same _ c.args.number _ _ same h.0) (does_same w.kind c.args.shape.now.bits w.key c.args.plan.changes _ _ same h.2.act) a.field-0 a.ensures.leads (ap (λ (r : Control). is_success (control_of r)) a.field-0-is)))
 
 pub returns-in-On-clause-gives_up : goal.returns-in-On-clause-gives_up
 returns-in-On-clause-gives_up g c gives =
@@ -44,8 +57,9 @@ pub returns-in-Closed-Succeeded-clause-gives_up : goal.returns-in-Closed-Succeed
 returns-in-Closed-Succeeded-clause-gives_up g c gives =
     let w = c.args.worker.now in
     let h = c.requires.worker.stays in
+    let same = ap (take c.args.plan.entries) c.deref.ensures.value in
     let a = c.in-Closed-Succeeded in
-    let e = swap_gives_up c.args.shape.now _ _ w.side.known.view _ _ a.ensures.made w.kind w.key c.args.number c.args.changes h.0 h.2 a.field-0 a.ensures.leads c.requires.relies.now.knows.sound gives in
+    let e = swap_gives_up c.args.shape.now _ _ w.side.known.view _ _ a.ensures.made w.kind w.key c.args.plan.changes _ (opens_same _ c.args.number _ _ same h.0) (does_same w.kind c.args.shape.now.bits w.key c.args.plan.changes _ _ same h.2.act) a.field-0 a.ensures.leads c.requires.relies.now.knows.sound gives in
     let is = ap control_of a.field-0-is in
     absurd (cc)
 
@@ -53,8 +67,9 @@ pub returns-in-Closed-Failed-clause-gives_up : goal.returns-in-Closed-Failed-cla
 returns-in-Closed-Failed-clause-gives_up g c gives =
     let w = c.args.worker.now in
     let h = c.requires.worker.stays in
+    let same = ap (take c.args.plan.entries) c.deref.ensures.value in
     let a = c.in-Closed-Failed in
-    let e = swap_gives_up c.args.shape.now _ _ w.side.known.view _ _ a.ensures.made w.kind w.key c.args.number c.args.changes h.0 h.2 a.field-0 a.ensures.leads c.requires.relies.now.knows.sound gives in
+    let e = swap_gives_up c.args.shape.now _ _ w.side.known.view _ _ a.ensures.made w.kind w.key c.args.plan.changes _ (opens_same _ c.args.number _ _ same h.0) (does_same w.kind c.args.shape.now.bits w.key c.args.plan.changes _ _ same h.2.act) a.field-0 a.ensures.leads c.requires.relies.now.knows.sound gives in
     let is = ap control_of a.field-0-is in
     absurd (cc)
 

@@ -1,16 +1,11 @@
-use Rattle.std.proofs.Common.{ap, ◌∙◌, rules, subst, sym}
-use Rattle.rh_worker.proofs.Rows.{planned_here, planned_is}
+use Rattle.std.proofs.Common.{ap, rules, subst, sym}
+use Rattle.rh_worker.proofs.Rows.{planned_is}
 use Rattle.rh_worker.proofs.RowSteps.{last_goes, new_goes, write_anew, write_makes}
 use Rattle.rh_worker.specs.Reading.{HasRead, seen_at}
 use Rattle.rh_worker.specs.declared.place.Place.{Place}
 use Rattle.rh_worker.specs.Worker.{Stays}
 use Rattle.rh_worker.proofs.writing.write_new.Goals.{then-next-plan, else-next-plan}
 use Rattle.rh_worker.proofs.writing.write_new.Goals as goal
-
-pub plain_word-new-requires : goal.plain_word-new-requires
-plain_word-new-requires g c =
-    let h = c.requires.worker.stays in
-    (h.0.plan.fit _ (planned_here c.args.worker.now.sights.entries.items c.args.plan.entries c.args.entry c.index.result.now h.1 h.0.plan.within c.index.ensures)).2
 
 pub returns-clause-makes : goal.returns-clause-makes
 returns-clause-makes g c = write_makes c.args.shape.now _ c.args.worker.now.side.known.view _ _ _ _ _ c.requires.relies (search rules) c.make.ensures
@@ -20,7 +15,7 @@ returns-clause-worker g c =
     let w = c.args.worker.now in
     let h = c.requires.worker.stays in
     let is = planned_is w.sights.entries.items c.args.plan.entries c.args.entry c.index.result.now h.1 h.0.plan.within c.index.ensures in
-    let says = c.plain_word-new.ensures ∙ ap (λ e. e.new) (sym is) in
+    let says = ap (λ e. e.new) (sym is) in
     let v = w.side.known.view in
     record {
       key = c.requires.worker.key;

@@ -1,12 +1,7 @@
-use Rattle.std.proofs.Common.{ap, ◌∙◌, rules, sym}
-use Rattle.rh_worker.proofs.Rows.{planned_here, planned_is}
+use Rattle.std.proofs.Common.{ap, rules, sym}
+use Rattle.rh_worker.proofs.Rows.{planned_is}
 use Rattle.rh_worker.proofs.RowSteps.{old_goes, write_anew, write_makes}
 use Rattle.rh_worker.proofs.writing.write_old.Goals as goal
-
-pub plain_word-old-requires : goal.plain_word-old-requires
-plain_word-old-requires g c =
-    let h = c.requires.worker.stays in
-    (h.0.plan.fit _ (planned_here c.args.worker.now.sights.entries.items c.args.plan.entries c.args.entry c.index.result.now h.1 h.0.plan.within c.index.ensures)).1
 
 pub returns-clause-makes : goal.returns-clause-makes
 returns-clause-makes g c = write_makes c.args.shape.now _ c.args.worker.now.side.known.view _ _ _ _ _ c.requires.relies (search rules) c.make.ensures
@@ -19,7 +14,7 @@ returns-clause-worker g c =
     record {
       key = c.requires.worker.key;
       room = c.requires.worker.room;
-      stays = old_goes c.args.shape.now w.side.known.view w.kind w.key w.sights c.args.plan _ w.side.same_number _ c.args.entry _ c.make.ensures.view_is (c.plain_word-old.ensures ∙ ap (λ e. e.old) (sym is)) h;
+      stays = old_goes c.args.shape.now w.side.known.view w.kind w.key w.sights c.args.plan _ w.side.same_number _ c.args.entry _ c.make.ensures.view_is (ap (λ e. e.old) (sym is)) h;
     }
 
 pub returns-clause-anew : goal.returns-clause-anew

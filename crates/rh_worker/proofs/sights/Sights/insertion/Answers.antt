@@ -1,15 +1,26 @@
-use Rattle.std.proofs.Common.{◌≡◌, ◌++◌, List, ℕ, length, length-take, drop, true, false, refl, sym, subst, take, arith}
+use Rattle.std.proofs.Common.{◌≡◌, ◌≤◌, List, ℕ, length, length-take, drop, false, refl, sym, subst, take, arith}
 use Rattle.std.proofs.lemmas.List.{take_at}
 use Rattle.rh_ledger.specs.declared.tally.Kind.TheVariants.{Insert}
-use Rattle.rh_acts.specs.declared.entry.Entry.{Entry}
-use Rattle.rh_worker.specs.declared.sights.Decision.TheVariants.{Acts, Done, More}
+use Rattle.rh_worker.specs.declared.sights.Decision.TheVariants.{Done, More}
 use Rattle.rh_worker.specs.Sights.{Decides}
-use Rattle.rh_worker.proofs.Plans.{AreValues, plan_in, values_take}
+use Rattle.rh_worker.proofs.Plans.{AreValues, decides_in, valued_in, values_take}
 use Rattle.rh_worker.proofs.sights.Sights.insertion.Goals as goal
 
 pub returns-in-Held-clause-decides : goal.returns-in-Held-clause-decides
 returns-in-Held-clause-decides c = subst (λ (l : List ℕ). Decides Insert c.args.bits c.args.key (take c.args.count l) c.args.self.now.entries.items (Done false))
     c.deref.ensures.value (refl, c.in-Held.ensures)
+
+pub planned-requires-clause-values : goal.planned-requires-clause-values
+planned-requires-clause-values c =
+    let s = c.args.self.now in
+    let new = c.insert_entries.new.entries in
+    let now = c.deref.result.now in
+    let same : length new ≡ s.entries.len = omega arith in
+    let values = subst (λ (l : List ℕ). AreValues (take c.args.count l)) (sym c.deref.ensures.value) (values_take c.args.count s.seen.items c.requires.room.values) in
+    let a = c.in-PutsIn in
+    let room : length (take c.args.count now) ≤ length new = omega (arith, length-take c.args.count now) in
+    let is = take_at new (drop (length new) s.entries.items) s.entries.len same in
+    valued_in c.args.bits c.args.key c.requires.bits (take c.args.count now) values new a.entries a.ensures.0 room _ is c.requires.key a.ensures.1
 
 pub returns-in-PutsIn-clause-decides : goal.returns-in-PutsIn-clause-decides
 returns-in-PutsIn-clause-decides c =
@@ -19,10 +30,10 @@ returns-in-PutsIn-clause-decides c =
     let same : length new ≡ s.entries.len = omega arith in
     let values = subst (λ (l : List ℕ). AreValues (take c.args.count l)) (sym c.deref.ensures.value) (values_take c.args.count s.seen.items c.requires.room.values) in
     let a = c.in-PutsIn in
-    let plan = plan_in c.args.bits c.args.key c.requires.bits (take c.args.count now) values new a.entries a.ensures.0 (omega (arith, length-take c.args.count now)) c.requires.key a.ensures.1 in
-    subst (λ (l : List ℕ). Decides Insert c.args.bits c.args.key (take c.args.count l) (take s.entries.len (new ++ drop (length new) s.entries.items)) (Acts (record { entries = a.entries; changes = true }))) c.deref.ensures.value
-    (subst (λ (l : List Entry). Decides Insert c.args.bits c.args.key (take c.args.count now) l (Acts (record { entries = a.entries; changes = true })))
-    (sym (take_at new (drop (length new) s.entries.items) s.entries.len same)) (plan, a.ensures))
+    let room : length (take c.args.count now) ≤ length new = omega (arith, length-take c.args.count now) in
+    let is = take_at new (drop (length new) s.entries.items) s.entries.len same in
+    subst (λ (l : List ℕ). Decides Insert c.args.bits c.args.key (take c.args.count l) c.planned.new.self.entries.items c.planned.result) c.deref.ensures.value
+    (decides_in c.args.bits c.args.key c.requires.bits (take c.args.count now) values new a.entries a.ensures.0 room _ _ is c.planned.ensures.entries c.planned.result c.requires.key c.planned.ensures.plan a.ensures.1)
 
 pub returns-in-More-clause-decides : goal.returns-in-More-clause-decides
 returns-in-More-clause-decides c = subst (λ (l : List ℕ). Decides Insert c.args.bits c.args.key (take c.args.count l) c.args.self.now.entries.items More)
