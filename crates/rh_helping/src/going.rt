@@ -157,7 +157,7 @@ fn own_size<T: Steps>(
     }
 }
 
-/// The next entry of an own descriptor, which is looked up as its size is.
+/// The next entry of an own descriptor, looked up where its size is.
 fn own_goal<T: Steps>(
     shape: &Shape,
     table: &mut T,

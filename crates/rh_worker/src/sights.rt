@@ -22,7 +22,8 @@ pub struct Sights {
     pub seen: Vec<u64>,
     /// What they are to hold after the act.
     pub news: Vec<u64>,
-    /// The entries of the planned descriptor, in the order of their cells. Their values are plain words.
+    /// The entries of the planned descriptor, in the order of their cells, with plain words for
+    /// values.
     pub entries: Vec<Entry>,
 }
 
@@ -87,7 +88,7 @@ impl Sights {
         let seen = &self.seen[..count];
         match insert_entries(bits, key, seen, &mut self.news, &mut self.entries) {
             Insertion::Held => Decision::Done(false),
-            Insertion::PutsIn(entries) => self.planned(entries, true),
+            Insertion::PutsIn(entries) => self.plan(entries, true),
             Insertion::More => Decision::More,
         }
     }
@@ -104,14 +105,14 @@ impl Sights {
     {
         let seen = &self.seen[..count];
         match remove_entries(bits, key, seen, &mut self.news, &mut self.entries) {
-            Removal::TakesOut(entries) => self.planned(entries, true),
-            Removal::ShowsAbsent(entries) => self.planned(entries, false),
+            Removal::TakesOut(entries) => self.plan(entries, true),
+            Removal::ShowsAbsent(entries) => self.plan(entries, false),
             Removal::More => Decision::More,
         }
     }
 
-    /// The first entries are planned: their values become words.
-    fn planned(&mut self, entries: usize, changes: bool) -> Decision
+    /// Asks for a descriptor of the first entries, whose values become words.
+    fn plan(&mut self, entries: usize, changes: bool) -> Decision
         requires within { entries ≤ length self.old.entries.items }
         requires values { AreValued (take entries self.old.entries.items) }
         ensures seen { self.new.seen ≡ self.old.seen }
@@ -149,6 +150,7 @@ fn word_first(entries: &mut [Entry], count: usize)
     word_all(&mut entries[..count]);
 }
 
+/// Makes the values of all of them words.
 fn word_all(entries: &mut [Entry])
     requires { AreValued entries.old }
     ensures { entries.new ≡ map worded entries.old }

@@ -81,8 +81,8 @@ pub record MayWork (s : Side) (d : Ref) (e : ℕ) : Type 0 where
   pub within : e < size
 
 -- Succeeded: each entry is noted as held, of the entries that d is known to have. Failed: a mismatch is noted at the
--- entry, and the worker names itself. Withdrawn: d is the worker's own. That no mark is left to it then is asked where the marks have room: the rule
--- is kept without it.
+-- entry, and the worker names itself. Withdrawn: d is the worker's own. That no mark is left to it then is asked where
+-- the marks have room: the rule is kept without it.
 abbrev pub MayDecide : Side → (who : ℕ) → Ref → Control → Type 0
 MayDecide s who d unused = ⊥
 MayDecide s who d undecided = ⊥

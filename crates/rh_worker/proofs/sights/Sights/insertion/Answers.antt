@@ -10,8 +10,8 @@ pub returns-in-Held-clause-decides : goal.returns-in-Held-clause-decides
 returns-in-Held-clause-decides c = subst (λ (l : List ℕ). Decides Insert c.args.bits c.args.key (take c.args.count l) c.args.self.now.entries.items (Done false))
     c.deref.ensures.value (refl, c.in-Held.ensures)
 
-pub planned-requires-clause-values : goal.planned-requires-clause-values
-planned-requires-clause-values c =
+pub plan-requires-clause-values : goal.plan-requires-clause-values
+plan-requires-clause-values c =
     let s = c.args.self.now in
     let new = c.insert_entries.new.entries in
     let now = c.deref.result.now in
@@ -32,8 +32,8 @@ returns-in-PutsIn-clause-decides c =
     let a = c.in-PutsIn in
     let room : length (take c.args.count now) ≤ length new = omega (arith, length-take c.args.count now) in
     let is = take_at new (drop (length new) s.entries.items) s.entries.len same in
-    subst (λ (l : List ℕ). Decides Insert c.args.bits c.args.key (take c.args.count l) c.planned.new.self.entries.items c.planned.result) c.deref.ensures.value
-    (decides_in c.args.bits c.args.key c.requires.bits (take c.args.count now) values new a.entries a.ensures.0 room _ _ is c.planned.ensures.entries c.planned.result c.requires.key c.planned.ensures.plan a.ensures.1)
+    subst (λ (l : List ℕ). Decides Insert c.args.bits c.args.key (take c.args.count l) c.plan.new.self.entries.items c.plan.result) c.deref.ensures.value
+    (decides_in c.args.bits c.args.key c.requires.bits (take c.args.count now) values new a.entries a.ensures.0 room _ _ is c.plan.ensures.entries c.plan.result c.requires.key c.plan.ensures.plan a.ensures.1)
 
 pub returns-in-More-clause-decides : goal.returns-in-More-clause-decides
 returns-in-More-clause-decides c = subst (λ (l : List ℕ). Decides Insert c.args.bits c.args.key (take c.args.count l) c.args.self.now.entries.items More)

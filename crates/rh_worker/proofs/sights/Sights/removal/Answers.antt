@@ -6,8 +6,8 @@ use Rattle.rh_worker.specs.Sights.{Decides}
 use Rattle.rh_worker.proofs.Plans.{AreValues, decides_absent, decides_out, valued_absent, valued_out, values_take}
 use Rattle.rh_worker.proofs.sights.Sights.removal.Goals as goal
 
-pub planned-requires-clause-values : goal.planned-requires-clause-values
-planned-requires-clause-values c =
+pub plan-requires-clause-values : goal.plan-requires-clause-values
+plan-requires-clause-values c =
     let s = c.args.self.now in
     let new = c.remove_entries.new.entries in
     let now = c.deref.result.now in
@@ -28,11 +28,11 @@ returns-in-TakesOut-clause-decides c =
     let a = c.in-TakesOut in
     let room : length (take c.args.count now) ≤ length new = omega (arith, length-take c.args.count now) in
     let is = take_at new (drop (length new) s.entries.items) s.entries.len same in
-    subst (λ (l : List ℕ). Decides Remove c.args.bits c.args.key (take c.args.count l) c.planned.new.self.entries.items c.planned.result) c.deref.ensures.value
-    (decides_out c.args.bits c.args.key c.requires.bits (take c.args.count now) values new a.entries a.ensures.0 room _ _ is c.planned.ensures.entries c.planned.result c.planned.ensures.plan a.ensures.1)
+    subst (λ (l : List ℕ). Decides Remove c.args.bits c.args.key (take c.args.count l) c.plan.new.self.entries.items c.plan.result) c.deref.ensures.value
+    (decides_out c.args.bits c.args.key c.requires.bits (take c.args.count now) values new a.entries a.ensures.0 room _ _ is c.plan.ensures.entries c.plan.result c.plan.ensures.plan a.ensures.1)
 
-pub planned-requires-in-ShowsAbsent-clause-values : goal.planned-requires-in-ShowsAbsent-clause-values
-planned-requires-in-ShowsAbsent-clause-values c =
+pub plan-requires-in-ShowsAbsent-clause-values : goal.plan-requires-in-ShowsAbsent-clause-values
+plan-requires-in-ShowsAbsent-clause-values c =
     let s = c.args.self.now in
     let new = c.remove_entries.new.entries in
     let now = c.deref.result.now in
@@ -53,8 +53,8 @@ returns-in-ShowsAbsent-clause-decides c =
     let a = c.in-ShowsAbsent in
     let room : length (take c.args.count now) ≤ length new = omega (arith, length-take c.args.count now) in
     let is = take_at new (drop (length new) s.entries.items) s.entries.len same in
-    subst (λ (l : List ℕ). Decides Remove c.args.bits c.args.key (take c.args.count l) c.planned-in-ShowsAbsent.new.self.entries.items c.planned-in-ShowsAbsent.result) c.deref.ensures.value
-    (decides_absent c.args.bits c.args.key c.requires.bits (take c.args.count now) values new a.entries a.ensures.0 room _ _ is c.planned-in-ShowsAbsent.ensures.entries c.planned-in-ShowsAbsent.result c.planned-in-ShowsAbsent.ensures.plan a.ensures.1)
+    subst (λ (l : List ℕ). Decides Remove c.args.bits c.args.key (take c.args.count l) c.plan-in-ShowsAbsent.new.self.entries.items c.plan-in-ShowsAbsent.result) c.deref.ensures.value
+    (decides_absent c.args.bits c.args.key c.requires.bits (take c.args.count now) values new a.entries a.ensures.0 room _ _ is c.plan-in-ShowsAbsent.ensures.entries c.plan-in-ShowsAbsent.result c.plan-in-ShowsAbsent.ensures.plan a.ensures.1)
 
 pub returns-in-More-clause-decides : goal.returns-in-More-clause-decides
 returns-in-More-clause-decides c = subst (λ (l : List ℕ). Decides Remove c.args.bits c.args.key (take c.args.count l) c.args.self.now.entries.items More)
