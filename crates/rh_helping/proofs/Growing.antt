@@ -1,16 +1,16 @@
 -- What a worker knows it still knows when it has noted more.
-use Rattle.std.proofs.Common.{◌≡◌, ℕ, Option, List, length, sym, ◌∙◌, subst, inl, inr, ⊎_elim}
+use Rattle.std.proofs.Common.{◌≡◌, ℕ, Option, None, List, length, refl, sym, ◌∙◌, subst, inl, inr, ⊎_elim}
 use Rattle.rh_tagword.specs.declared.control.Control.{Control}
 use Rattle.rh_tagword.specs.declared.control.Control.TheVariants.{Unused, Undecided, Succeeded, Withdrawn, Failed}
 use Rattle.rh_world.specs.World.{In, Ref}
 use Rattle.rh_world.specs.Notes.{Note}
 use Rattle.rh_world.specs.Notes.Note.{decided, held, known, new_is, old_is, size_is, target_is}
-use Rattle.rh_descriptor.specs.View.{OwnDesc, View}
+use Rattle.rh_descriptor.specs.View.{OwnDesc, View, Written}
 use Rattle.rh_descriptor.specs.Words.{control_of, ref_of}
 use Rattle.rh_descriptor.specs.Steps.{IsKnown, entry_of}
 use Rattle.rh_helping.specs.declared.goal.Task.{Task}
 use Rattle.rh_helping.specs.declared.goal.Goal.{Goal}
-use Rattle.rh_helping.specs.Goal.{HasReleased, IsAllNoted, IsOpenOf, KnowsGoal, KnowsOwn, KnowsTask, OwesNothing, Releases, StandsAt, open_number, own_ref}
+use Rattle.rh_helping.specs.Goal.{HasReleased, IsAllNoted, IsClear, IsOpenOf, KnowsGoal, KnowsOwn, KnowsTask, OwesNothing, Releases, StandsAt, open_number, own_ref}
 use Rattle.rh_helping.specs.Settling.{Grows}
 use Rattle.rh_helping.specs.Work.{IsAt, IsOver, Owes}
 
@@ -121,3 +121,13 @@ module _ (v next : View) (g : Grows v next) where
 
   pub at_grows : (t : Task) → IsAt v t → IsAt next t
   at_grows t h = record { task = task_sub v next g.notes t h.task; left = h.left; owes = owes_grows (ref_of t.desc) t.control t.entry t.size h.owes }
+
+  pub clear_grows : IsClear v → IsClear next
+  clear_grows h = record { own = own_grows None h.own; owes = nothing_grows h.owes }
+
+-- a word is written into its rows
+pub clear_with : (v : View) (rows : List Written) → IsClear v → IsClear (record v { written = rows })
+clear_with v rows h = record {
+  own = own_sub v (record v { written = rows }) (λ n i. i) refl None None refl h.own.current h.own.newest h.own;
+  owes = record { settled = h.owes.settled; paid = h.owes.paid; unreleased = h.owes.unreleased };
+}

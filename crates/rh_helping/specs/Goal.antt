@@ -87,6 +87,11 @@ pub record OwesNothing (v : View) : Type 0 where
   pub paid : v.side.debts ≡ []
   pub unreleased : v.side.released ≡ []
 
+-- no own descriptor is open, and nothing is owed
+pub record IsClear (v : View) : Type 0 where
+  pub own : KnowsOwn v None
+  pub owes : OwesNothing v
+
 -- the numbers below this one, the greatest first
 abbrev pub below : ℕ → List ℕ
 below zero = []

@@ -3,42 +3,14 @@ use Rattle.std.specs.Prelude.{◌≡◌, ℕ, Option, Some, None}
 use Rattle.rh_world.specs.World.{In}
 use Rattle.rh_world.specs.Notes.{Note}
 use Rattle.rh_world.specs.Notes.Note.{found, desc_is, which_is, may_promote, may_demote, old_is}
-use Rattle.rh_descriptor.specs.declared.shape.Shape.{Shape}
 use Rattle.rh_descriptor.specs.declared.reference.Ref.{Ref as Reference}
 use Rattle.rh_descriptor.specs.declared.reference.Piece.{Piece}
 use Rattle.rh_descriptor.specs.declared.steps.StepKind.{StepKind}
 use Rattle.rh_descriptor.specs.declared.steps.StepKind.TheVariants as kind
 use Rattle.rh_descriptor.specs.View.{View}
 use Rattle.rh_descriptor.specs.Words.{ref_of}
-use Rattle.rh_descriptor.specs.Steps.{Allowed, Step, noted}
-use Rattle.rh_steps.specs.Relies.{Trusts}
 use Rattle.rh_helping.specs.declared.settling.Settling.{Settling}
 use Rattle.rh_helping.specs.declared.settling.Settling.TheVariants as settling
-
-abbrev pub kind_of : Step → StepKind
-kind_of (Step.writes p u) = kind.Write
-kind_of (Step.opens size) = kind.Open
-kind_of (Step.reads r) = kind.Read
-kind_of (Step.places d e c old) = kind.Place
-kind_of (Step.settles x c d e old) = kind.Settle
-kind_of (Step.decides d k) = kind.Decide
-kind_of (Step.releases d e c k value) = kind.Release
-kind_of Step.claims = kind.Claim
-
--- One allowed step of this kind was made, which opened no descriptor, and by which no cell was kept as read and no key
--- claimed.
-pub record HasMade {T : Type 0} (shows : Shape → T → View → Type 0) (made : Shape → Step → T → View → ℕ → T → View → Type 0) (z : Shape) (k : StepKind) (t : T) (v : View) (then : T) (next : View) : Type 0 where
-  pub step : Step
-  pub word : ℕ
-  pub kind : kind_of step ≡ k
-  pub allowed : Allowed z v step
-  pub view_is : next ≡ noted z v step word
-  pub steps : made z step t v word then next
-  pub trusts : Trusts shows z then next
-  pub notes : (n : Note) → In n v.side.notes → In n next.side.notes
-  pub opened : next.opened ≡ v.opened
-  pub reads : next.side.reads ≡ v.side.reads
-  pub claims : next.side.claims ≡ v.side.claims
 
 -- more is noted, and nothing else is changed
 pub record Grows (v next : View) : Type 0 where

@@ -5,7 +5,7 @@ ghost use Rattle.rh_descriptor.specs.Places.{IsShape};
 ghost use Rattle.rh_descriptor.specs.Steps.{decided_now};
 ghost use Rattle.rh_descriptor.specs.Words.{control_of};
 ghost use Rattle.rh_steps.specs.Relies.{Relies};
-ghost use Rattle.rh_helping.specs.Settling.{HasMade};
+ghost use Rattle.rh_helping.specs.Made.{HasMade};
 ghost use Rattle.rh_helping.specs.Goal.{KnowsOwn, opened_by};
 ghost use Rattle.rh_helping.specs.Work.{Stands, Leads, MayEnd};
 ghost use Rattle.rh_helping.specs.declared.work.Work.TheVariants.{Fail, Succeed, Withdraw};

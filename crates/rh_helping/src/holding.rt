@@ -4,7 +4,8 @@
 ghost use Rattle.std.specs.Prelude.{◌≡◌};
 ghost use Rattle.rh_descriptor.specs.Places.{IsShape};
 ghost use Rattle.rh_steps.specs.Relies.{Relies};
-ghost use Rattle.rh_helping.specs.Settling.{HasMade, kind_of_settling};
+ghost use Rattle.rh_helping.specs.Settling.{kind_of_settling};
+ghost use Rattle.rh_helping.specs.Made.{HasMade};
 ghost use Rattle.rh_helping.specs.Goal.{KnowsOwn, opened_by};
 ghost use Rattle.rh_helping.specs.Work.{Stands, Leads, MayEnd};
 

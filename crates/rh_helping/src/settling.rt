@@ -4,7 +4,8 @@ ghost use Rattle.std.specs.Prelude.{◌≡◌, None};
 ghost use Rattle.rh_descriptor.specs.Places.{IsShape};
 ghost use Rattle.rh_helping.specs.Goal.{OwesNothing};
 ghost use Rattle.rh_steps.specs.Relies.{Relies};
-ghost use Rattle.rh_helping.specs.Settling.{Grows, HasMade, IsSettling, LeadsOn, kind_of_settling};
+ghost use Rattle.rh_helping.specs.Settling.{Grows, IsSettling, LeadsOn, kind_of_settling};
+ghost use Rattle.rh_helping.specs.Made.{HasMade};
 
 use crate::reading::{control_of_word, named_desc};
 use rh_descriptor::{Ask, Piece, Reading, Ref, Shape, Side, StepKind};

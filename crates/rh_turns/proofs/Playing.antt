@@ -23,7 +23,8 @@ use Rattle.rh_rule.specs.Rest.{AllRest}
 use Rattle.rh_rule.proofs.Telling.{tells}
 use Rattle.rh_steps.specs.Relies.{Relies, Serves, Shows}
 use Rattle.rh_steps.proofs.Relying.{workers_may_rely}
-use Rattle.rh_worker.specs.Worker.{IsClear, IsWorker, Stays}
+use Rattle.rh_helping.specs.Goal.{IsClear}
+use Rattle.rh_worker.specs.Worker.{IsWorker, Stays}
 use Rattle.rh_worker.specs.declared.place.Place.{Place}
 use Rattle.rh_run.specs.Claimed.{claimed}
 use Rattle.rh_run.proofs.Saying.{logical_words, words_lead_inside}

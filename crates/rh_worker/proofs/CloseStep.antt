@@ -17,7 +17,7 @@ use Rattle.rh_descriptor.specs.declared.steps.StepKind.{StepKind}
 use Rattle.rh_descriptor.specs.Words.{control_of}
 use Rattle.rh_helping.specs.declared.work.Outcome.TheVariants.{Closed}
 use Rattle.rh_helping.specs.Goal.{IsNewest, KnowsOwn, own_ref}
-use Rattle.rh_helping.specs.Settling.{HasMade}
+use Rattle.rh_helping.specs.Made.{HasMade}
 use Rattle.rh_helping.specs.Work.{Leads}
 use Rattle.rh_worker.specs.Worker.{GivesUp}
 use Rattle.rh_rule.specs.Sound.{Sound}

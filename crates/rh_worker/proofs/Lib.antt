@@ -1,7 +1,5 @@
 pub mod Anew
 pub mod Keeping
-pub mod Rows
-pub mod RowSteps
 pub mod OpenStep
 pub mod CloseStep
 pub mod Plans

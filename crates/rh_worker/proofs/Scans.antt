@@ -1,5 +1,5 @@
 -- What a scan has seen, and what it tells.
-use Rattle.std.proofs.Common.{◌≡◌, ◌≢◌, ℕ, ◌+◌, ◌<◌, ◌≤◌, Bool, List, [], ◌∷◌, ◌++◌, length, get_or, set, take, length-take-le, sym, ap, ◌∙◌, subst, ⊎_elim, arith}
+use Rattle.std.proofs.Common.{◌≡◌, ◌≢◌, None, ℕ, ◌+◌, ◌<◌, ◌≤◌, Bool, List, [], ◌∷◌, ◌++◌, length, get_or, set, take, length-take-le, sym, ap, ◌∙◌, subst, ⊎_elim, arith}
 use Rattle.std.specs.List.{Contains}
 use Rattle.std.proofs.lemmas.List.{get_or_append_left, get_or_push, length_push, take_more_set}
 use Rattle.rh_layout.specs.Round.{place_after}
@@ -13,6 +13,12 @@ use Rattle.rh_history.specs.History.{kept_of}
 use Rattle.rh_descriptor.specs.declared.shape.Shape.{Shape}
 use Rattle.rh_descriptor.specs.Places.{cell_count}
 use Rattle.rh_descriptor.specs.View.{View}
+use Rattle.rh_helping.specs.declared.looking.Looked.{Looked}
+use Rattle.rh_helping.specs.declared.looking.Looked.TheVariants.{On, Sees, Spent}
+use Rattle.rh_helping.specs.declared.looking.Looking.{Looking}
+use Rattle.rh_helping.specs.declared.looking.Looking.TheVariants as looking
+use Rattle.rh_helping.specs.Looking.{IsLooking, LooksOn}
+use Rattle.rh_run.specs.Advance.{GoesOn}
 use Rattle.rh_worker.specs.declared.sights.Sights.{Sights}
 use Rattle.rh_worker.specs.declared.sights.Decision.TheVariants.{Done}
 use Rattle.rh_worker.specs.Sights.{Decides}
@@ -48,3 +54,19 @@ more_seen z v next k n c value items stay before inside at now =
     let less : p < length (take n items) = omega (arith, length_push (take n items) value) in
     subst (λ (x : ℕ). Contains (kept_of z next) (kept (is p) x)) (sym (get_or_append_left (take n items) (value ∷ []) 0 p less)) (stay _ (before p less)))
     (same_nat p n))
+
+-- ---- looking at a cell
+
+looking_closed : (z : Shape) (v : View) (l : Looking) → IsLooking z v l → v.side.current ≡ None
+looking_closed z v looking.Read h = h.own.current
+looking_closed z v (looking.Settle s) h = h.0.own.current
+looking_closed z v (looking.Help w) h = h.0.current
+
+looked_closed : (z : Shape) (v : View) (r : Looked) → LooksOn z v r → v.side.current ≡ None
+looked_closed z v (On l) h = looking_closed z v l h
+looked_closed z v (Sees word) h = h.0.own.current
+looked_closed z v Spent h = h.0.own.current
+
+-- no own descriptor is opened or closed by it
+pub looks_on : (z : Shape) (v next : View) (l : Looking) (r : Looked) → IsLooking z v l → LooksOn z next r → next.opened ≡ v.opened → GoesOn v next
+looks_on z v next l r h on opened = record { opened = opened; current = looked_closed z next r on ∙ sym (looking_closed z v l h) }

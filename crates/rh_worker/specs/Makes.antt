@@ -7,7 +7,7 @@ use Rattle.rh_descriptor.specs.declared.steps.StepKind.{StepKind}
 use Rattle.rh_descriptor.specs.View.{View}
 use Rattle.rh_descriptor.specs.Steps.{Allowed, Step, noted}
 use Rattle.rh_steps.specs.Relies.{Trusts}
-use Rattle.rh_helping.specs.Settling.{kind_of}
+use Rattle.rh_helping.specs.Made.{kind_of}
 use Rattle.rh_history.specs.History.{kept_of}
 
 -- One allowed step of this kind was made. It claimed no key, and what was kept as read is still kept.

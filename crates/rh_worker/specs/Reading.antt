@@ -29,14 +29,8 @@ pub record HasRead (z : Shape) (before : List Kept) (v : View) (k : ℕ) (seen :
 abbrev pub seen_at : Place → ℕ
 seen_at place.Idle = 0
 seen_at place.Spent = 0
-seen_at (place.Scan n) = n
-seen_at (place.Settle s n) = n
-seen_at (place.Help w n) = n
-seen_at (place.WriteLength p) = 0
-seen_at (place.WriteCell p e) = 0
-seen_at (place.WriteOld p e) = 0
-seen_at (place.WriteNew p e) = 0
-seen_at (place.Open p) = 0
+seen_at (place.Scan l n) = n
+seen_at (place.Open o p) = 0
 seen_at (place.Swap w n p) = 0
 
 -- what the worker sees was read anew

@@ -9,7 +9,6 @@ mod scanning;
 mod sights;
 mod swapping;
 mod worker;
-mod writing;
 
 pub use laws::keys_are_done;
 pub use place::{Place, Plan};

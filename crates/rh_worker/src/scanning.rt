@@ -7,16 +7,15 @@ ghost use Rattle.rh_worker.specs.Makes.{Makes};
 ghost use Rattle.rh_steps.specs.Relies.{Relies};
 ghost use Rattle.rh_worker.specs.Worker.{IsAt, IsWorker};
 ghost use Rattle.rh_worker.specs.declared.place.Place.TheVariants as place;
-ghost use Rattle.rh_run.specs.Advance.{GoesOn};
 ghost use Rattle.rh_acts.specs.Done.{IsTold, Kept};
 ghost use Rattle.rh_worker.specs.Reading.{HasRead, IsToldAnew, ReadsAnew, TellsAnew, seen_at};
 ghost use Rattle.rh_history.specs.History.{kept_of};
-ghost use Rattle.rh_helping.specs.Work.{kind_of_work};
-ghost use Rattle.rh_helping.specs.Settling.{kind_of_settling};
+ghost use Rattle.rh_helping.specs.Goal.{IsClear};
+ghost use Rattle.rh_helping.specs.Looking.{kind_of_looking};
 ghost use Rattle.rh_worker.specs.Sights.{HasRoom, IsPlan};
 ghost use Rattle.rh_worker.specs.declared.sights.Sights.{Sights};
 ghost use Rattle.rh_ledger.specs.declared.tally.Kind.{Kind};
-ghost use Rattle.rh_worker.specs.Worker.{EndsAt, IsClear, Sees, Stays, WereRead, newly_kept};
+ghost use Rattle.rh_worker.specs.Worker.{EndsAt, Stays, WereRead};
 ghost use Rattle.rh_descriptor.specs.Places.{cell_count};
 ghost use Rattle.rh_layout.specs.Key.{IsKey};
 ghost use Rattle.rh_rule.specs.Sound.{Sound};
@@ -24,54 +23,26 @@ ghost use Rattle.rh_rule.specs.Sound.{Sound};
 use crate::place::{Place, Plan};
 use crate::sights::Decision;
 use crate::worker::Worker;
-use rh_descriptor::{Ask, Reading, Ref, Shape, Side, StepKind};
-use rh_helping::{Met, Outcome, Settling, Work, what_stands};
+use rh_descriptor::{Shape, Side};
+use rh_helping::{Looked, Looking, Opening};
 use rh_layout::home;
 use rh_probe::cell_after;
 use rh_steps::Steps;
 use rh_tagword::plain_value;
 
-/// What a cell was read to hold.
-#[derive(Clone, Copy)]
-pub(crate) enum Sight {
-    Value(u64),
-    Mark(Ref),
-    Desc(Ref),
-}
-
-/// Reads a cell.
-fn read_cell<T: Steps>(shape: &Shape, table: &mut T, side: &mut Side, cell: usize) -> Sight
-    requires shape { IsShape shape.now }
-    requires relies { Relies T.shows T.serves shape.now table.old side.old.known.view }
-    requires clear { IsClear side.old.known.view }
-    requires cell { cell < cell_count shape.now }
-    ensures makes { Makes T.shows T.made shape.now StepKind.Read table.old side.old.known.view
-        table.new side.new.known.view }
-    ensures clear { IsClear side.new.known.view }
-    ensures goes_on { GoesOn side.old.known.view side.new.known.view }
-    ensures sees { Sees shape.now side.new.known.view cell result }
-    ensures reads { kept_of shape.now side.new.known.view ≡
-        newly_kept cell result ++ kept_of shape.now side.old.known.view }
-{
-    let word = table.make(shape, side, Ask::Read(Reading::Cell(cell)));
-    match what_stands(word) {
-        Met::Value => Sight::Value(plain_value(word).unwrap_or(0)),
-        Met::Mark(mark) => Sight::Mark(mark),
-        Met::Desc(desc) => Sight::Desc(desc),
-    }
-}
-
-/// Reads the next cell, and goes by what stands there. Answers whether the key is done, and how.
-pub(crate) fn read<T: Steps>(
+/// Looks at the next cell, and goes by the value that it holds. Answers whether the key is done, and
+/// how.
+pub(crate) fn scan<T: Steps>(
     worker: &mut Worker,
     shape: &Shape,
     table: &mut T,
+    looking: Looking,
     seen: usize,
 ) -> Option<bool>
     requires shape { IsShape shape.now }
     requires relies { Relies T.shows T.serves shape.now table.old worker.old.side.known.view }
-    requires worker { IsAt shape.now worker.old (place.Scan seen) }
-    ensures makes { Makes T.shows T.made shape.now StepKind.Read table.old worker.old.side.known.view
+    requires worker { IsAt shape.now worker.old (place.Scan looking seen) }
+    ensures makes { Makes T.shows T.made shape.now (kind_of_looking looking) table.old worker.old.side.known.view
         table.new worker.new.side.known.view }
     ensures worker { IsWorker shape.now worker.new }
     ensures same_kind { worker.new.kind ≡ worker.old.kind }
@@ -85,19 +56,17 @@ pub(crate) fn read<T: Steps>(
         worker.new.side.known.view result }
 {
     let cell = cell_after(shape.cells(), home(shape.bits, worker.key), seen);
-    match read_cell(shape, table, &mut worker.side, cell) {
-        Sight::Value(value) => {
-            worker.sights.seen[seen] = value;
-            decide(worker, shape, seen + 1)
-        }
-        Sight::Mark(mark) => {
-            let settling = Settling::Desc { mark, cell };
-            worker.place = Place::Settle { settling, seen };
+    match looking.step(shape, table, &mut worker.side, cell) {
+        Looked::On(looking) => {
+            worker.place = Place::Scan { looking, seen };
             None
         }
-        Sight::Desc(desc) => {
-            let work = Work::Control(desc);
-            worker.place = Place::Help { work, seen };
+        Looked::Sees(word) => {
+            worker.sights.seen[seen] = plain_value(word).unwrap_or(0);
+            decide(worker, shape, seen + 1)
+        }
+        Looked::Spent => {
+            worker.place = Place::Spent;
             None
         }
     }
@@ -138,7 +107,7 @@ fn decide(worker: &mut Worker, shape: &Shape, count: usize) -> Option<bool>
         }
         Decision::More => {
             let seen = if count < shape.cells() { count } else { 0 };
-            worker.place = Place::Scan { seen };
+            worker.place = Place::reading(seen);
             None
         }
     }
@@ -155,66 +124,11 @@ fn planned(shape: &Shape, side: &Side, plan: Plan) -> Place
 {
     let places = shape.entry_room - side.next_number;
     if plan.entries <= places && side.marks_used < shape.mark_room {
-        Place::WriteLength(plan)
+        Place::Open {
+            opening: Opening::Length,
+            plan,
+        }
     } else {
         Place::Spent
     }
-}
-
-/// Goes on with a mark that was met, and then reads the cell again.
-pub(crate) fn settle<T: Steps>(
-    worker: &mut Worker,
-    shape: &Shape,
-    table: &mut T,
-    settling: Settling,
-    seen: usize,
-)
-    requires shape { IsShape shape.now }
-    requires relies { Relies T.shows T.serves shape.now table.old worker.old.side.known.view }
-    requires worker { IsAt shape.now worker.old (place.Settle settling seen) }
-    ensures makes { Makes T.shows T.made shape.now (kind_of_settling settling) table.old worker.old.side.known.view
-        table.new worker.new.side.known.view }
-    ensures worker { IsWorker shape.now worker.new }
-    ensures same_kind { worker.new.kind ≡ worker.old.kind }
-    ensures same_key { worker.new.key ≡ worker.old.key }
-    ensures advances { Advances shape.now worker.old.kind worker.old.key worker.old.side.known.view
-        worker.new.side.known.view None }
-    ensures ends { EndsAt None worker.new.place }
-    ensures anew { (before : List Kept) → HasRead shape.now before worker.old.side.known.view worker.old.key
-        worker.old.sights.seen.items seen → ReadsAnew shape.now before worker.new }
-{
-    worker.place = match settling.step(shape, table, &mut worker.side) {
-        Some(settling) => Place::Settle { settling, seen },
-        None => Place::Scan { seen },
-    };
-}
-
-/// Goes on with a descriptor that was met, and then reads the cell again.
-pub(crate) fn help<T: Steps>(
-    worker: &mut Worker,
-    shape: &Shape,
-    table: &mut T,
-    work: Work,
-    seen: usize,
-)
-    requires shape { IsShape shape.now }
-    requires relies { Relies T.shows T.serves shape.now table.old worker.old.side.known.view }
-    requires worker { IsAt shape.now worker.old (place.Help work seen) }
-    ensures makes { Makes T.shows T.made shape.now (kind_of_work work) table.old worker.old.side.known.view
-        table.new worker.new.side.known.view }
-    ensures worker { IsWorker shape.now worker.new }
-    ensures same_kind { worker.new.kind ≡ worker.old.kind }
-    ensures same_key { worker.new.key ≡ worker.old.key }
-    ensures advances { Advances shape.now worker.old.kind worker.old.key worker.old.side.known.view
-        worker.new.side.known.view None }
-    ensures ends { EndsAt None worker.new.place }
-    ensures anew { (before : List Kept) → HasRead shape.now before worker.old.side.known.view worker.old.key
-        worker.old.sights.seen.items seen → ReadsAnew shape.now before worker.new }
-{
-    worker.place = match work.step(shape, table, &mut worker.side, None) {
-        Outcome::On(work) => Place::Help { work, seen },
-        Outcome::Over => Place::Scan { seen },
-        Outcome::Spent => Place::Spent,
-        Outcome::Closed(_) => unreachable!(),
-    };
 }

@@ -1,6 +1,6 @@
-//! An own descriptor that is open, up to its end.
+//! An own descriptor, from its opening to its end.
 
-ghost use Rattle.std.specs.Prelude.{◌≡◌, List};
+ghost use Rattle.std.specs.Prelude.{◌≡◌, List, None};
 ghost use Rattle.rh_descriptor.specs.Places.{IsShape};
 ghost use Rattle.rh_run.specs.Advance.{Advances};
 ghost use Rattle.rh_worker.specs.Makes.{Makes};
@@ -9,14 +9,54 @@ ghost use Rattle.rh_worker.specs.Worker.{EndsAt, GivesUp, IsAt, IsWorker};
 ghost use Rattle.rh_worker.specs.Reading.{HasRead, ReadsAnew};
 ghost use Rattle.rh_worker.specs.declared.place.Place.TheVariants as place;
 ghost use Rattle.rh_acts.specs.Done.{Kept};
+ghost use Rattle.rh_helping.specs.Opening.{kind_of_opening};
 ghost use Rattle.rh_helping.specs.Work.{kind_of_work};
 
 use crate::place::{Place, Plan};
 use crate::worker::Worker;
-use rh_descriptor::Shape;
-use rh_helping::{OpenDesc, Outcome, Work};
+use rh_descriptor::{Ref, Shape};
+use rh_helping::{OpenDesc, Opening, Outcome, Work};
 use rh_steps::Steps;
 use rh_tagword::Control;
+
+/// Opens the own descriptor step by step.
+pub(crate) fn open<T: Steps>(
+    worker: &mut Worker,
+    shape: &Shape,
+    table: &mut T,
+    opening: Opening,
+    plan: Plan,
+)
+    requires shape { IsShape shape.now }
+    requires relies { Relies T.shows T.serves shape.now table.old worker.old.side.known.view }
+    requires worker { IsAt shape.now worker.old (place.Open opening plan) }
+    ensures makes { Makes T.shows T.made shape.now (kind_of_opening opening) table.old worker.old.side.known.view
+        table.new worker.new.side.known.view }
+    ensures worker { IsWorker shape.now worker.new }
+    ensures same_kind { worker.new.kind ≡ worker.old.kind }
+    ensures same_key { worker.new.key ≡ worker.old.key }
+    ensures advances { Advances shape.now worker.old.kind worker.old.key worker.old.side.known.view
+        worker.new.side.known.view None }
+    ensures ends { EndsAt None worker.new.place }
+    ensures anew { (before : List Kept) → HasRead shape.now before worker.old.side.known.view worker.old.key
+        worker.old.sights.seen.items 0 → ReadsAnew shape.now before worker.new }
+{
+    let desc = Ref {
+        worker: worker.side.worker,
+        number: worker.side.next_number,
+    };
+    let entries = &worker.sights.entries[..plan.entries];
+    match opening.step(shape, table, &mut worker.side, entries) {
+        Some(opening) => worker.place = Place::Open { opening, plan },
+        None => {
+            worker.place = Place::Swap {
+                work: Work::Control(desc),
+                number: desc.number,
+                plan,
+            };
+        }
+    }
+}
 
 /// Goes on with it. Where it is over, the key is done, or begins again, or the worker is spent.
 /// Answers whether the key is done, and how.
@@ -62,7 +102,7 @@ pub(crate) fn swap<T: Steps>(
             None
         }
         Outcome::Closed(Control::Failed { .. }) => {
-            worker.place = Place::Scan { seen: 0 };
+            worker.place = Place::reading(0);
             None
         }
         Outcome::Closed(Control::Unused | Control::Undecided) => unreachable!(),

@@ -18,7 +18,7 @@ ghost use Rattle.rh_worker.specs.declared.place.Place.TheVariants as place;
 
 use crate::place::Place;
 use crate::sights::Sights;
-use crate::{scanning, swapping, writing};
+use crate::{scanning, swapping};
 use rh_descriptor::{Ask, Shape, Side, StepKind};
 use rh_ledger::Kind;
 use rh_steps::Steps;
@@ -98,7 +98,7 @@ impl Worker {
         ensures anew { (z : Shape) → ReadsAnew z (kept_of z self.new.side.known.view) self.new }
     {
         self.key = key;
-        self.place = Place::Scan { seen: 0 };
+        self.place = Place::reading(0);
     }
 
     /// Claims the next place of the list of keys, and answers it.
@@ -131,7 +131,7 @@ impl Worker {
     {
         self.side.begin_round(cells);
         if self.is_spent() {
-            self.place = Place::Scan { seen: 0 };
+            self.place = Place::reading(0);
         }
     }
 
@@ -160,33 +160,9 @@ impl Worker {
         let kind = place.kind();
         let done = match place {
             Place::Idle | Place::Spent => unreachable!(),
-            Place::Scan { seen } => scanning::read(self, shape, table, seen),
-            Place::Settle { settling, seen } => {
-                scanning::settle(self, shape, table, settling, seen);
-                None
-            }
-            Place::Help { work, seen } => {
-                scanning::help(self, shape, table, work, seen);
-                None
-            }
-            Place::WriteLength(plan) => {
-                writing::write_length(self, shape, table, plan);
-                None
-            }
-            Place::WriteCell { plan, entry } => {
-                writing::write_cell(self, shape, table, plan, entry);
-                None
-            }
-            Place::WriteOld { plan, entry } => {
-                writing::write_old(self, shape, table, plan, entry);
-                None
-            }
-            Place::WriteNew { plan, entry } => {
-                writing::write_new(self, shape, table, plan, entry);
-                None
-            }
-            Place::Open(plan) => {
-                writing::open(self, shape, table, plan);
+            Place::Scan { looking, seen } => scanning::scan(self, shape, table, looking, seen),
+            Place::Open { opening, plan } => {
+                swapping::open(self, shape, table, opening, plan);
                 None
             }
             Place::Swap { work, number, plan } => {

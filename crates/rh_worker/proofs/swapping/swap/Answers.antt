@@ -1,4 +1,6 @@
-use Rattle.std.proofs.Common.{ap, inl, inr, sym, take}
+use Rattle.std.proofs.Common.{ap, inl, inr, subst, sym, take}
+use Rattle.rh_worker.specs.Reading.{HasRead, seen_at}
+use Rattle.rh_worker.specs.declared.place.Place.{Place}
 use Rattle.rh_tagword.specs.declared.control.Control.{Control}
 use Rattle.rh_world.specs.Acts.{is_success}
 use Rattle.rh_descriptor.specs.Words.{control_of}
@@ -95,4 +97,5 @@ pub returns-in-Closed-Failed-clause-anew : goal.returns-in-Closed-Failed-clause-
 returns-in-Closed-Failed-clause-anew g c before h =
     let w = c.args.worker.now in
     let z = c.args.shape.now in
-    none_read z before w.side.known.view c.step.new.side.known.view w.key w.sights.seen.items 0 (kept_alike z w.side.known.view c.step.new.side.known.view c.in-Closed-Failed.ensures.made.reads) h
+    subst (λ (p : Place). HasRead z before c.step.new.side.known.view w.key w.sights.seen.items (seen_at p)) (sym c.reading-worker.ensures)
+    (none_read z before w.side.known.view c.step.new.side.known.view w.key w.sights.seen.items 0 (kept_alike z w.side.known.view c.step.new.side.known.view c.in-Closed-Failed.ensures.made.reads) h)

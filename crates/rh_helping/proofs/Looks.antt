@@ -1,0 +1,74 @@
+-- The Read of a cell: a plain word is kept as read, and of a mark or a descriptor it is noted that it stands there.
+use Rattle.std.proofs.Common.{◌≡◌, ℕ, ◌<◌, Option, Some, None, inl, inr, refl, sym, subst}
+use Rattle.rh_world.specs.World.{Cell}
+use Rattle.rh_world.specs.World.Cell.{desc, mark, plain}
+use Rattle.rh_world.specs.Moves.{cell_noted}
+use Rattle.rh_descriptor.specs.declared.shape.Shape.{Shape}
+use Rattle.rh_descriptor.specs.declared.reference.Reading.TheVariants as reading
+use Rattle.rh_descriptor.specs.declared.reference.Ref.{Ref as Reference}
+use Rattle.rh_descriptor.specs.View.{View}
+use Rattle.rh_descriptor.specs.Words.{cell_in, ref_of}
+use Rattle.rh_descriptor.specs.Places.{cell_count}
+use Rattle.rh_descriptor.specs.Steps.{Allowed, Step, noted, with_side}
+use Rattle.rh_rule.specs.Mirrors.{IsCell}
+use Rattle.rh_steps.specs.Relies.{Knows}
+use Rattle.rh_helping.specs.declared.looking.Looked.{Looked}
+use Rattle.rh_helping.specs.declared.looking.Looked.TheVariants.{On, Sees}
+use Rattle.rh_helping.specs.declared.looking.Looking.TheVariants as looking
+use Rattle.rh_helping.specs.declared.settling.Settling.TheVariants as settling
+use Rattle.rh_helping.specs.declared.work.Work.TheVariants as work
+use Rattle.rh_helping.specs.Goal.{IsClear}
+use Rattle.rh_helping.specs.Looking.{LooksOn, reads_after}
+use Rattle.rh_helping.specs.Settling.{Grows}
+use Rattle.rh_helping.proofs.Growing.{clear_grows}
+use Rattle.rh_helping.proofs.Knowing.{allowed}
+use Rattle.rh_helping.proofs.Made.{Leaves}
+
+abbrev noted_cell : View → (c : ℕ) → Cell → Option ℕ → View
+noted_cell v c k current = with_side v (cell_noted v.side c k current 0 v.next_number)
+
+cell_grows : (v : View) (c : ℕ) (k : Cell) (current : Option ℕ) → Grows v (noted_cell v c k current)
+cell_grows v c (plain u) None = record { worker = refl; next_number = refl; marks_used = refl; opened = refl; written = refl; current = refl; released = refl; unsettled = refl; debts = refl; notes = λ n i. i }
+cell_grows v c (plain u) (Some p) = record { worker = refl; next_number = refl; marks_used = refl; opened = refl; written = refl; current = refl; released = refl; unsettled = refl; debts = refl; notes = λ n i. i }
+cell_grows v c (mark x) current = record { worker = refl; next_number = refl; marks_used = refl; opened = refl; written = refl; current = refl; released = refl; unsettled = refl; debts = refl; notes = λ n i. inr i }
+cell_grows v c (desc d) current = record { worker = refl; next_number = refl; marks_used = refl; opened = refl; written = refl; current = refl; released = refl; unsettled = refl; debts = refl; notes = λ n i. inr i }
+
+module _ (z : Shape) (v : View) (c word : ℕ) where
+  abbrev then : View
+  then = noted z v (Step.reads (reading.Cell c)) word
+
+  abbrev Reads : Looked → View → Type 0
+  Reads r next = Leaves v.opened (reads_after v c r) v next × LooksOn z next r
+
+  pub may_look : Knows z v → c < cell_count z → Allowed z v (Step.reads (reading.Cell c))
+  may_look knows inside = allowed z v knows (Step.reads (reading.Cell c)) (inside, tt)
+
+  module _ (clear : IsClear v) where
+    stays_clear : (k : Cell) (current : Option ℕ) → IsClear (noted_cell v c k current)
+    stays_clear k current = clear_grows v (noted_cell v c k current) (cell_grows v c k current) clear
+
+    -- of the cell that the word says
+    of_cell : (k : Cell) (r : Looked) → k ≡ cell_in word → Reads r (noted_cell v c k v.side.current) → Reads r then
+    of_cell k r is h = subst (λ (x : Cell). Reads r (noted_cell v c x v.side.current)) is h
+
+    pub reads_value : plain word ≡ cell_in word → IsCell z (cell_in word) → Reads (Sees word) then
+    reads_value is found_is = of_cell (plain word) (Sees word) is (
+      subst (λ (q : Option ℕ). Leaves v.opened (reads_after v c (Sees word)) v (noted_cell v c (plain word) q)) (sym clear.own.current)
+          record { opened = refl; reads = refl; claims = refl; notes = λ n i. i },
+      (stays_clear (plain word) v.side.current, subst (IsCell z) (sym is) found_is),
+    )
+
+    pub reads_mark : (x : Reference) → mark (ref_of x) ≡ cell_in word → Reads (On (looking.Settle (settling.Desc x c))) then
+    reads_mark x is = of_cell (mark (ref_of x)) (On (looking.Settle (settling.Desc x c))) is (
+      record { opened = refl; reads = refl; claims = refl; notes = λ n i. inr i },
+      (stays_clear (mark (ref_of x)) v.side.current, inl refl),
+    )
+
+    pub reads_desc : (d : Reference) → desc (ref_of d) ≡ cell_in word → Reads (On (looking.Help (work.Control d))) then
+    reads_desc d is = of_cell (desc (ref_of d)) (On (looking.Help (work.Control d))) is (
+      record { opened = refl; reads = refl; claims = refl; notes = λ n i. inr i },
+      let h = stays_clear (desc (ref_of d)) v.side.current in (h.own, (h.owes, inl (inl refl))),
+    )
+
+pub looks : (z : Shape) (next said : View) (r : Looked) → next ≡ said → LooksOn z said r → LooksOn z next r
+looks z next said r e h = subst (λ (v : View). LooksOn z v r) (sym e) h

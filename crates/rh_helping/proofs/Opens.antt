@@ -1,0 +1,292 @@
+-- Opening an own descriptor: the row that is written says its entries, and its Open notes them.
+use Rattle.std.proofs.Common.{◌≡◌, ◌≢◌, ℕ, zero, suc, ◌+◌, ◌<◌, ◌⊎◌, cond, Bool, Option, Some, List, [], ◌∷◌, length, get_or, refl, sym, ap, ◌∙◌, subst, inl, inr, ⊎_elim, arith, eq-eqb, ne_eqb}
+use Rattle.std.specs.Prelude.{nat_lt}
+use Rattle.std.proofs.lemmas.Bool.Decides.{nat_tests}
+use Rattle.rh_layout.specs.declared.entry.Entry.{Entry}
+use Rattle.rh_world.specs.World.{In, Ref}
+use Rattle.rh_world.specs.Notes.Note.{known, new_is, old_is, size_is, target_is}
+use Rattle.rh_world.specs.Sides.{Side, open_side}
+use Rattle.rh_world.specs.Moves.{Entries, note_entries}
+use Rattle.rh_world.proofs.Tests.{by_cond}
+use Rattle.rh_world.proofs.Updated.{same_nat}
+use Rattle.rh_descriptor.specs.declared.shape.Shape.{Shape}
+use Rattle.rh_descriptor.specs.declared.shape.Part.TheVariants as part
+use Rattle.rh_descriptor.specs.declared.steps.StepKind.{StepKind}
+use Rattle.rh_descriptor.specs.Places.{entry_row}
+use Rattle.rh_descriptor.specs.View.{OwnDesc, View, Written}
+use Rattle.rh_descriptor.specs.Steps.{Allowed, AreEntries, CanOpen, IsStep, Step, entries_at, entries_of, entry_of, next_entries, noted, open_noted, own_desc, row_word}
+use Rattle.rh_rule.proofs.OpensKept.{entries_current, entries_length, entries_notes}
+use Rattle.rh_steps.specs.Relies.{Knows, Went}
+use Rattle.rh_helping.specs.declared.opening.Opening.{Opening}
+use Rattle.rh_helping.specs.declared.opening.Opening.TheVariants as opening
+use Rattle.rh_helping.specs.Goal.{IsAllNoted, KnowsOwn, OwesNothing}
+use Rattle.rh_helping.specs.Made.{HasStepped, kind_of}
+use Rattle.rh_helping.specs.Opening.{HasCell, HasNew, HasOld, HasWritten, IsOpening, MayOpen, OpensOn, after_opening, kind_of_opening, next_desc, opened_after, opening_step, row_of_entry}
+use Rattle.rh_helping.proofs.Growing.{clear_with, noted_sub}
+use Rattle.rh_helping.proofs.Knowing.{allowed}
+use Rattle.rh_helping.proofs.OwnRows.{entry_is}
+use Rattle.rh_helping.proofs.Made.{Leaves, leaves, stepped}
+
+-- ---- the words of a row
+
+abbrev row : (r u : ℕ) → Written
+row r u = record { row = r; word = u }
+
+row_here : (rows : List Written) (r u : ℕ) → row_word (row r u ∷ rows) r ≡ u
+row_here rows r u = ap (λ (b : Bool). cond b u (row_word rows r)) (eq-eqb r r refl)
+
+row_there : (rows : List Written) (r u q : ℕ) → q ≢ r → row_word (row r u ∷ rows) q ≡ row_word rows q
+row_there rows r u q ne = ap (λ (b : Bool). cond b u (row_word rows q)) (ne_eqb q r ne)
+
+abbrev with_row : View → (r u : ℕ) → View
+with_row v r u = record v { written = row r u ∷ v.written }
+
+may_with : (z : Shape) (v : View) (es : List Entry) (r u : ℕ) → MayOpen z v es → MayOpen z (with_row v r u) es
+may_with z v es r u h = record { clear = clear_with v (row r u ∷ v.written) h.clear; entries = h.entries; room = h.room }
+
+length_written : (v : View) (es : List Entry) → HasWritten (with_row v (entry_row v.next_number 1) (length es)) es 0
+length_written v es = record {
+  size = row_here v.written (entry_row v.next_number 1) (length es);
+  cells = λ f l. absurd (omega arith);
+  olds = λ f l. absurd (omega arith);
+  news = λ f l. absurd (omega arith);
+}
+
+module _ (v : View) (es : List Entry) (e w u : ℕ) (low : 1 < w) (high : w < 5) where
+  abbrev then : View
+  then = with_row v (entry_row (v.next_number + e) w) u
+
+  word_here : row_of_entry then e w ≡ u
+  word_here = row_here v.written (entry_row (v.next_number + e) w) u
+
+  word_there : (f x : ℕ) → x < 5 → f < e ⊎ (x ≢ w) → row_of_entry then f x ≡ row_of_entry v f x
+  word_there f x l other = row_there v.written (entry_row (v.next_number + e) w) u (entry_row (v.next_number + f) x)
+      (⊎_elim (λ (less : f < e). λ q. omega arith) (λ (ne : x ≢ w). λ q. ne (omega arith)) other)
+
+  written_stays : HasWritten v es e → HasWritten then es e
+  written_stays h = record {
+    size = row_there v.written (entry_row (v.next_number + e) w) u (entry_row v.next_number 1) (λ q. omega arith) ∙ h.size;
+    cells = λ f l. word_there f 2 (omega arith) (inl l) ∙ h.cells f l;
+    olds = λ f l. word_there f 3 (omega arith) (inl l) ∙ h.olds f l;
+    news = λ f l. word_there f 4 (omega arith) (inl l) ∙ h.news f l;
+  }
+
+-- all words of the e-th entry are written
+entry_written : (v : View) (es : List Entry) (e : ℕ) → HasWritten v es e → HasCell v es e → HasOld v es e → HasNew v es e → HasWritten v es (suc e)
+entry_written v es e h cell old new = record {
+  size = h.size;
+  cells = λ f l. up_to (λ f. HasCell v es f) f h.cells cell l;
+  olds = λ f l. up_to (λ f. HasOld v es f) f h.olds old l;
+  news = λ f l. up_to (λ f. HasNew v es f) f h.news new l;
+}
+  where
+    up_to : (P : ℕ → Type 0) (f : ℕ) → ((g : ℕ) → g < e → P g) → P e → f < suc e → P f
+    up_to P f before at l = ⊎_elim (λ (q : f ≡ e). subst P (sym q) at) (λ (ne : f ≢ e). before f (omega arith)) (same_nat f e)
+
+-- ---- the row that is written whole
+
+same_entry : (a b : Entry) → a.cell ≡ b.cell → a.old ≡ b.old → a.new ≡ b.new → a ≡ b
+same_entry a b c o n = λ i. record { cell = c i; old = o i; new = n i }
+
+abbrev Says : List Written → (place : ℕ) → List Entry → Type 0
+Says rows place act = (f : ℕ) → f < length act
+    → (row_word rows (entry_row (place + f) 2) ≡ (entry_of act f).cell) × (row_word rows (entry_row (place + f) 3) ≡ (entry_of act f).old)
+    × (row_word rows (entry_row (place + f) 4) ≡ (entry_of act f).new)
+
+rows_say : (rows : List Written) (act : List Entry) (place : ℕ) → Says rows place act → entries_at rows place (length act) ≡ act
+rows_say rows [] place h = refl
+rows_say rows (a ∷ act) place h =
+    let q : place + 0 ≡ place = omega arith in
+    let first = h 0 (omega arith) in
+    let at = λ (w : ℕ). ap (λ (p : ℕ). row_word rows (entry_row p w)) (sym q) in
+    let head : record { cell = row_word rows (entry_row place 2); old = row_word rows (entry_row place 3); new = row_word rows (entry_row place 4) } ≡ a =
+    same_entry _ a (at 2 ∙ first.0) (at 3 ∙ first.1) (at 4 ∙ first.2) in
+    let rest = rows_say rows act (suc place) (λ f l.
+    let r : suc place + f ≡ place + suc f = omega arith in
+    let next = h (suc f) (omega arith) in
+    let to = λ (w : ℕ). ap (λ (p : ℕ). row_word rows (entry_row p w)) r in
+    (to 2 ∙ next.0, to 3 ∙ next.1, to 4 ∙ next.2)) in
+    λ i. head i ∷ rest i
+
+says : (v : View) (es : List Entry) → HasWritten v es (length es) → next_entries v (length es) ≡ es
+says v es h = rows_say v.written es v.next_number (λ f l. (h.cells f l, h.olds f l, h.news f l))
+
+-- ---- what an Open notes
+
+record Same (s t : Side) : Type 0 where
+  pub unsettled : t.unsettled ≡ s.unsettled
+  pub debts : t.debts ≡ s.debts
+  pub released : t.released ≡ s.released
+  pub claims : t.claims ≡ s.claims
+  pub reads : t.reads ≡ s.reads
+
+module _ (s : Side) (d : Ref) (p : Entries) where
+  entries_same : (n : ℕ) → Same s (note_entries s d p n)
+  entries_same zero = record { unsettled = refl; debts = refl; released = refl; claims = refl; reads = refl }
+  entries_same (suc n) = let h = entries_same n in record { unsettled = h.unsettled; debts = h.debts; released = h.released; claims = h.claims; reads = h.reads }
+
+  entries_known : (n : ℕ) → In (known d) (note_entries s d p n).notes
+  entries_known zero = inr (inl refl)
+  entries_known (suc n) = inr (inr (inr (entries_known n)))
+
+  entries_size : (n : ℕ) → In (size_is d p.size) (note_entries s d p n).notes
+  entries_size zero = inl refl
+  entries_size (suc n) = inr (inr (inr (entries_size n)))
+
+  entries_cell : (n e : ℕ) → e < n → In (target_is d e (p.target e)) (note_entries s d p n).notes
+  entries_cell zero e l = absurd (omega arith)
+  entries_cell (suc n) e l = ⊎_elim (λ (q : e ≡ n). inr (inr (inl (ap (λ (f : ℕ). target_is d f (p.target f)) q)))) (λ (ne : e ≢ n). inr (inr (inr (entries_cell n e (omega arith))))) (same_nat e n)
+
+  entries_old : (n e : ℕ) → e < n → In (old_is d e (p.old e)) (note_entries s d p n).notes
+  entries_old zero e l = absurd (omega arith)
+  entries_old (suc n) e l = ⊎_elim (λ (q : e ≡ n). inr (inl (ap (λ (f : ℕ). old_is d f (p.old f)) q))) (λ (ne : e ≢ n). inr (inr (inr (entries_old n e (omega arith))))) (same_nat e n)
+
+  entries_new : (n e : ℕ) → e < n → In (new_is d e (p.new e)) (note_entries s d p n).notes
+  entries_new zero e l = absurd (omega arith)
+  entries_new (suc n) e l = ⊎_elim (λ (q : e ≡ n). inl (ap (λ (f : ℕ). new_is d f (p.new f)) q)) (λ (ne : e ≢ n). inr (inr (inr (entries_new n e (omega arith))))) (same_nat e n)
+
+-- ---- the Open
+
+module _ (z : Shape) (v : View) (es : List Entry) (may : MayOpen z v es) (written : HasWritten v es (length es)) where
+  can_open : CanOpen z v (length es)
+  can_open = record {
+    length_is = written.size;
+    entries = subst (AreEntries z) (sym (says v es written)) may.entries;
+    room = may.room;
+    closed = may.clear.own.current;
+  }
+
+  abbrev side : Side
+  side = open_side v.side v.next_number
+
+  abbrev entries : Entries
+  entries = entries_of (next_entries v (length es))
+
+  abbrev after : View
+  after = open_noted v (length es)
+
+  own_noted : IsAllNoted after (record { number = v.next_number; entries = next_entries v (length es) })
+  own_noted =
+      let size = entries_length v.written v.next_number (length es) in
+      record {
+        known = entries_known side (own_desc v) entries (length es);
+        size = entries_size side (own_desc v) entries (length es);
+        cells = λ e l. entries_cell side (own_desc v) entries (length es) e (omega (arith, size));
+        olds = λ e l. entries_old side (own_desc v) entries (length es) e (omega (arith, size));
+        news = λ e l. entries_new side (own_desc v) entries (length es) e (omega (arith, size));
+      }
+
+  is_next : record { number = v.next_number; entries = next_entries v (length es) } ≡ next_desc v es
+  is_next = ap (λ (l : List Entry). record { number = v.next_number; entries = l }) (says v es written)
+
+  knows : KnowsOwn after (Some (next_desc v es))
+  knows = subst (λ (o : OwnDesc). KnowsOwn after (Some o)) is_next record {
+    current = entries_current side (own_desc v) entries (length es);
+    newest = refl;
+    noted = λ o i. ⊎_elim (λ (q : o ≡ record { number = v.next_number; entries = next_entries v (length es) }). subst (IsAllNoted after) (sym q) own_noted)
+        (λ (i : In o v.opened). noted_sub v after (λ n j. entries_notes side (own_desc v) entries (length es) n j) refl o (may.clear.own.noted o i)) i;
+  }
+
+  owes : OwesNothing after
+  owes =
+      let same = entries_same side (own_desc v) entries (length es) in
+      record { settled = same.unsettled ∙ may.clear.owes.settled; paid = same.debts ∙ may.clear.owes.paid; unreleased = same.released }
+
+  open_leaves : Leaves (next_desc v es ∷ v.opened) v.side.reads v after
+  open_leaves =
+      let same = entries_same side (own_desc v) entries (length es) in
+      record {
+        opened = ap (λ (o : OwnDesc). o ∷ v.opened) is_next;
+        reads = same.reads;
+        claims = same.claims;
+        notes = λ n i. entries_notes side (own_desc v) entries (length es) n i;
+      }
+
+-- ---- each step
+
+abbrev none : Entry
+none = record { cell = 0; old = 0; new = 0 }
+
+-- what is asked for of an entry
+module _ (v : View) (es : List Entry) (e w n : ℕ) (worker : v.worker ≡ w) (number : v.next_number ≡ n) (inside : e < length es) where
+  pub asks_cell : Step.writes (part.EntryCell w (n + e)) (get_or es e none).cell ≡ opening_step v es (opening.Cell e)
+  asks_cell = λ i. Step.writes (part.EntryCell (sym worker i) (sym number i + e)) (sym (entry_is es e none inside) i).cell
+
+  pub asks_old : Step.writes (part.EntryOld w (n + e)) (get_or es e none).old ≡ opening_step v es (opening.Old e)
+  asks_old = λ i. Step.writes (part.EntryOld (sym worker i) (sym number i + e)) (sym (entry_is es e none inside) i).old
+
+  pub asks_new : Step.writes (part.EntryNew w (n + e)) (get_or es e none).new ≡ opening_step v es (opening.New e)
+  asks_new = λ i. Step.writes (part.EntryNew (sym worker i) (sym number i + e)) (sym (entry_is es e none inside) i).new
+
+module _ (z : Shape) (v : View) (es : List Entry) (may : MayOpen z v es) where
+  is_step : (o : Opening) → IsOpening v es o → IsStep z v (opening_step v es o)
+  is_step opening.Length h = let some = may.entries.some in let room = may.room in (refl, omega arith, omega arith)
+  is_step (opening.Cell e) h = let less = h.0 in let room = may.room in (refl, omega arith, omega arith)
+  is_step (opening.Old e) h = let less = h.0 in let room = may.room in (refl, omega arith, omega arith)
+  is_step (opening.New e) h = let less = h.0 in let room = may.room in (refl, omega arith, omega arith)
+  is_step opening.Open h = can_open z v es may h
+
+  pub may_step : Knows z v → (o : Opening) (s : Step) → IsOpening v es o → s ≡ opening_step v es o → Allowed z v s
+  may_step knows o s h is = subst (Allowed z v) (sym is) (allowed z v knows _ (is_step o h))
+
+  step_leaves : (o : Opening) (word : ℕ) → IsOpening v es o → Leaves (opened_after v es (after_opening (length es) o)) v.side.reads v (noted z v (opening_step v es o) word)
+  step_leaves opening.Length word h = leaves z v (opening_step v es opening.Length) word tt
+  step_leaves (opening.Cell e) word h = leaves z v (opening_step v es (opening.Cell e)) word tt
+  step_leaves (opening.Old e) word h = leaves z v (opening_step v es (opening.Old e)) word tt
+  step_leaves (opening.New e) word h = by_cond (λ (o : Option Opening). Leaves (opened_after v es o) v.side.reads v (noted z v (opening_step v es (opening.New e)) word)) (nat_lt (suc e) (length es)) _ _
+      (λ q. leaves z v (opening_step v es (opening.New e)) word tt) (λ q. leaves z v (opening_step v es (opening.New e)) word tt)
+  step_leaves opening.Open word h = open_leaves z v es may h
+
+  is_kind : (o : Opening) → kind_of (opening_step v es o) ≡ kind_of_opening o
+  is_kind opening.Length = refl
+  is_kind (opening.Cell e) = refl
+  is_kind (opening.Old e) = refl
+  is_kind (opening.New e) = refl
+  is_kind opening.Open = refl
+
+  pub opening_made : {T : Type 0} {shows : Shape → T → View → Type 0} {makes : Shape → Step → T → View → ℕ → T → View → Type 0} (o : Opening) (s : Step) (t : T) (word : ℕ) (then : T) (next : View) (on : Option Opening)
+      → Knows z v → IsOpening v es o → s ≡ opening_step v es o → on ≡ after_opening (length es) o → Went shows makes z s t v word then next
+      → HasStepped shows makes z (kind_of_opening o) (opened_after v es on) v.side.reads t v then next
+  opening_made {T} {shows} {makes} o s t word then next on knows h is on_is to =
+      subst (λ (k : StepKind). HasStepped shows makes z k (opened_after v es on) v.side.reads t v then next) (ap kind_of is ∙ is_kind o)
+      (stepped z s t v word then next (opened_after v es on) v.side.reads
+      (subst (λ (a : Option Opening). Leaves (opened_after v es a) v.side.reads v (noted z v s word)) (sym on_is)
+      (subst (λ (x : Step). Leaves (opened_after v es (after_opening (length es) o)) v.side.reads v (noted z v x word)) (sym is) (step_leaves o word h)))
+      (may_step knows o s h is) to)
+
+  leads_on : (o : Opening) (word : ℕ) → IsOpening v es o → OpensOn z es v (noted z v (opening_step v es o) word) (after_opening (length es) o)
+  leads_on opening.Length word h =
+      (may_with z v es (entry_row v.next_number 1) (length es) may, (may.entries.some, length_written v es), refl)
+  leads_on (opening.Cell e) word h = (
+    may_with z v es (entry_row (v.next_number + e) 2) (entry_of es e).cell may,
+    (h.0, written_stays v es e 2 (entry_of es e).cell (omega arith) (omega arith) h.1, word_here v es e 2 (entry_of es e).cell (omega arith) (omega arith)),
+    refl,
+  )
+  leads_on (opening.Old e) word h = (
+    may_with z v es (entry_row (v.next_number + e) 3) (entry_of es e).old may,
+    (
+      h.0,
+      written_stays v es e 3 (entry_of es e).old (omega arith) (omega arith) h.1,
+      word_there v es e 3 (entry_of es e).old (omega arith) (omega arith) e 2 (omega arith) (inr (λ q. omega arith)) ∙ h.2,
+      word_here v es e 3 (entry_of es e).old (omega arith) (omega arith),
+    ),
+    refl,
+  )
+  leads_on (opening.New e) word h =
+      let u = (entry_of es e).new in
+      let next = with_row v (entry_row (v.next_number + e) 4) u in
+      let all = entry_written next es e (written_stays v es e 4 u (omega arith) (omega arith) h.1)
+      (word_there v es e 4 u (omega arith) (omega arith) e 2 (omega arith) (inr (λ q. omega arith)) ∙ h.2)
+      (word_there v es e 4 u (omega arith) (omega arith) e 3 (omega arith) (inr (λ q. omega arith)) ∙ h.3)
+      (word_here v es e 4 u (omega arith) (omega arith)) in
+      let may_on = may_with z v es (entry_row (v.next_number + e) 4) u may in
+      by_cond (λ (o : Option Opening). OpensOn z es v next o) (nat_lt (suc e) (length es)) _ _
+      (λ q. (may_on, (grind (arith, nat_tests), all), refl))
+      (λ q. (may_on, subst (λ (n : ℕ). HasWritten next es n) (let less = h.0 in grind (arith, nat_tests)) all, refl))
+  leads_on opening.Open word h = (knows z v es may h, owes z v es may h)
+
+  pub opening_leads : (o : Opening) (s : Step) (word : ℕ) (next : View) (on : Option Opening) → IsOpening v es o → s ≡ opening_step v es o
+      → next ≡ noted z v s word → on ≡ after_opening (length es) o → OpensOn z es v next on
+  opening_leads o s word next on h is view_is after_is =
+      subst (λ (a : Option Opening). OpensOn z es v next a) (sym after_is)
+      (subst (λ (x : View). OpensOn z es v x (after_opening (length es) o)) (sym (view_is ∙ ap (λ (x : Step). noted z v x word) is)) (leads_on o word h))

@@ -1,0 +1,46 @@
+-- What is so while a cell is read until it holds a value. (own)
+use Rattle.std.specs.Prelude.{◌≡◌, ℕ, ◌≤◌, None, List, ◌∷◌}
+use Rattle.rh_world.specs.Sides.{KeptRead}
+use Rattle.rh_descriptor.specs.declared.shape.Shape.{Shape}
+use Rattle.rh_descriptor.specs.declared.steps.StepKind.{StepKind}
+use Rattle.rh_descriptor.specs.declared.steps.StepKind.TheVariants as kind
+use Rattle.rh_descriptor.specs.View.{View}
+use Rattle.rh_descriptor.specs.Words.{IsPlain}
+use Rattle.rh_helping.specs.declared.looking.Looking.{Looking}
+use Rattle.rh_helping.specs.declared.looking.Looking.TheVariants as looking
+use Rattle.rh_helping.specs.declared.looking.Looked.{Looked}
+use Rattle.rh_helping.specs.declared.looking.Looked.TheVariants.{On, Sees, Spent}
+use Rattle.rh_helping.specs.Goal.{IsClear, KnowsOwn}
+use Rattle.rh_helping.specs.Settling.{IsSettling, kind_of_settling}
+use Rattle.rh_helping.specs.Work.{ReleasesLast, Stands, kind_of_work}
+
+abbrev pub kind_of_looking : Looking → StepKind
+kind_of_looking looking.Read = kind.Read
+kind_of_looking (looking.Settle s) = kind_of_settling s
+kind_of_looking (looking.Help w) = kind_of_work w
+
+abbrev pub IsLooking : Shape → View → Looking → Type 0
+IsLooking z v looking.Read = IsClear v
+IsLooking z v (looking.Settle s) = IsClear v × IsSettling v s
+IsLooking z v (looking.Help w) = KnowsOwn v None × Stands z v w
+
+-- what is kept as read after a step: a plain word that is seen, before all that was kept
+abbrev pub reads_after : View → (c : ℕ) → Looked → List KeptRead
+reads_after v c (On l) = v.side.reads
+reads_after v c (Sees word) = record { cell = c; word = word; acts = 0; next_number = v.next_number } ∷ v.side.reads
+reads_after v c Spent = v.side.reads
+
+abbrev pub LooksOn : Shape → View → Looked → Type 0
+LooksOn z v (On l) = IsLooking z v l
+LooksOn z v (Sees word) = IsClear v × IsPlain word
+LooksOn z v Spent = IsClear v × (z.mark_room ≤ v.marks_used)
+
+-- The step ends the work on what stood in the cell.
+abbrev pub EndsLooking : Looking → Type 0
+EndsLooking looking.Read = ⊥
+EndsLooking (looking.Settle s) = kind_of_settling s ≡ kind.Settle
+EndsLooking (looking.Help w) = ReleasesLast w
+
+-- Where marks are left, the cell is not read again before that.
+abbrev pub MayLookOn : Looking → Looked → Type 0
+MayLookOn l r = r ≡ On looking.Read → EndsLooking l

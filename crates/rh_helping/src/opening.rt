@@ -1,0 +1,118 @@
+//! Opening an own descriptor: its row is written word by word, and then its control is set.
+
+ghost use Rattle.std.specs.Prelude.{◌≡◌, ◌<◌, length};
+ghost use Rattle.rh_descriptor.specs.Asks.{step_of};
+ghost use Rattle.rh_descriptor.specs.Places.{IsShape};
+ghost use Rattle.rh_helping.specs.Made.{HasStepped};
+ghost use Rattle.rh_helping.specs.Opening.{IsOpening, MayOpen, OpensOn, after_opening, kind_of_opening, opened_after, opening_step};
+ghost use Rattle.rh_steps.specs.Relies.{Relies};
+
+use rh_descriptor::{Ask, Part, Shape, Side, StepKind};
+use rh_layout::Entry;
+use rh_steps::Steps;
+
+/// The next step with an own descriptor that is to be opened.
+#[derive(Clone, Copy)]
+pub enum Opening {
+    /// Write of the number of its entries.
+    Length,
+    /// Write of the cell of this entry.
+    Cell(usize),
+    /// Write of its old value.
+    Old(usize),
+    /// Write of its new value.
+    New(usize),
+    Open,
+}
+
+impl Opening {
+    /// The kind of the step.
+    pub fn kind(&self) -> StepKind
+        ensures { result ≡ kind_of_opening self.now }
+    {
+        match self {
+            Opening::Open => StepKind::Open,
+            _ => StepKind::Write,
+        }
+    }
+
+    /// Makes the step for a descriptor of these entries, and answers the next one, or none where it
+    /// was opened: it has the number that is counted before the first of the steps.
+    pub fn step<T: Steps>(
+        self,
+        shape: &Shape,
+        table: &mut T,
+        side: &mut Side,
+        entries: &[Entry],
+    ) -> Option<Opening>
+        requires shape { IsShape shape.now }
+        requires relies { Relies T.shows T.serves shape.now table.old side.old.known.view }
+        requires may { MayOpen shape.now side.old.known.view entries.now }
+        requires opening { IsOpening side.old.known.view entries.now self }
+        ensures made { HasStepped T.shows T.made shape.now (kind_of_opening self)
+            (opened_after side.old.known.view entries.now result) side.old.known.view.side.reads
+            table.old side.old.known.view table.new side.new.known.view }
+        ensures leads { OpensOn shape.now entries.now side.old.known.view side.new.known.view result }
+    {
+        let ask = self.ask(shape, side, entries);
+        table.make(shape, side, ask);
+        self.next(entries)
+    }
+
+    fn ask(self, shape: &Shape, side: &Side, entries: &[Entry]) -> Ask
+        requires shape { IsShape shape.now }
+        requires may { MayOpen shape.now side.now.known.view entries.now }
+        requires opening { IsOpening side.now.known.view entries.now self }
+        ensures { step_of result ≡ opening_step side.now.known.view entries.now self }
+    {
+        let worker = side.worker;
+        let first = side.next_number;
+        match self {
+            Opening::Length => Ask::Write {
+                part: Part::Length {
+                    worker,
+                    entry: first,
+                },
+                word: entries.len() as u64,
+            },
+            Opening::Cell(at) => Ask::Write {
+                part: Part::EntryCell {
+                    worker,
+                    entry: first + at,
+                },
+                word: entries[at].cell as u64,
+            },
+            Opening::Old(at) => Ask::Write {
+                part: Part::EntryOld {
+                    worker,
+                    entry: first + at,
+                },
+                word: entries[at].old,
+            },
+            Opening::New(at) => Ask::Write {
+                part: Part::EntryNew {
+                    worker,
+                    entry: first + at,
+                },
+                word: entries[at].new,
+            },
+            Opening::Open => Ask::Open {
+                entries: entries.len(),
+            },
+        }
+    }
+
+    /// The next step. All words of an entry are written before the next one.
+    fn next(self, entries: &[Entry]) -> Option<Opening>
+        ensures { result ≡ after_opening (length entries.now) self }
+    {
+        match self {
+            Opening::Length => Some(Opening::Cell(0)),
+            Opening::Cell(at) => Some(Opening::Old(at)),
+            Opening::Old(at) => Some(Opening::New(at)),
+            Opening::New(at) if at < entries.len().saturating_sub(1) => Some(Opening::Cell(at + 1)),
+            Opening::New(_) => Some(Opening::Open),
+            Opening::Open => None,
+        }
+    }
+}

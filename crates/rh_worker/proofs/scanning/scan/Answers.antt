@@ -1,0 +1,85 @@
+use Rattle.std.proofs.Common.{suc, ◌≡◌, ◌+◌, ◌∙◌, inl, rules, set, subst, sym, arith}
+use Rattle.rh_layout.specs.Order.{home_of}
+use Rattle.rh_layout.specs.Round.{place_after}
+use Rattle.rh_descriptor.specs.Places.{cell_count}
+use Rattle.rh_descriptor.specs.View.{View}
+use Rattle.rh_run.specs.Advance.{GoesOn}
+use Rattle.rh_helping.specs.declared.looking.Looked.TheVariants.{On, Sees}
+use Rattle.rh_helping.specs.Looking.{kind_of_looking}
+use Rattle.rh_worker.specs.Makes.{Makes}
+use Rattle.rh_worker.specs.Reading.{HasRead}
+use Rattle.rh_worker.proofs.Anew.{kept_alike, left_off, none_read, one_read, tells_anew}
+use Rattle.rh_worker.proofs.Keeping.{has_seen, read_first, stepped_makes, value_kept, value_said}
+use Rattle.rh_worker.proofs.Scans.{looks_on, more_seen}
+use Rattle.rh_worker.proofs.scanning.scan.Goals as goal
+
+pub returns-in-On-clause-worker : goal.returns-in-On-clause-worker
+returns-in-On-clause-worker g c =
+    let w = c.args.worker.now in
+    let z = c.args.shape.now in
+    let made = stepped_makes z _ _ _ _ w.side.known.view _ _ c.in-On.ensures.made in
+    record {
+      key = c.requires.worker.key;
+      room = c.requires.worker.room;
+      stays = (c.in-On.ensures.leads, has_seen z _ _ w.side.known.view _ _ made w.key w.sights c.args.seen c.requires.worker.stays.1);
+    }
+
+pub returns-in-On-clause-advances : goal.returns-in-On-clause-advances
+returns-in-On-clause-advances g c =
+    inl (looks_on c.args.shape.now _ _ c.args.looking (On c.in-On.looking) c.requires.worker.stays.0 c.in-On.ensures.leads c.in-On.ensures.made.opened)
+
+pub returns-in-On-clause-anew : goal.returns-in-On-clause-anew
+returns-in-On-clause-anew g c before h =
+    let w = c.args.worker.now in
+    let z = c.args.shape.now in
+    let next = c.step.new.side.known.view in
+    (none_read z before w.side.known.view next w.key w.sights.seen.items c.args.seen (kept_alike z w.side.known.view next c.in-On.ensures.made.reads) h, tt)
+
+pub decide-requires-clause-sound : goal.decide-requires-clause-sound
+decide-requires-clause-sound g c = c.in-Sees.ensures.made.trusts.knows.sound
+
+pub decide-requires-clause-were_read : goal.decide-requires-clause-were_read
+decide-requires-clause-were_read g c =
+    let w = c.args.worker.now in
+    let z = c.args.shape.now in
+    let v = w.side.known.view in
+    let next = c.step.new.side.known.view in
+    let a = c.in-Sees in
+    let h = c.requires.worker.stays.1 in
+    let at : c.cell_after-cell.result ≡ place_after (cell_count z) (home_of z.bits w.key) c.args.seen = cc in
+    let said = value_said c.plain_value.result a.word c.plain_value.ensures a.ensures.leads.1 in
+    let first = read_first z v next c.cell_after-cell.result a.word v.next_number c.unwrap_or.result a.ensures.made.reads (search rules) (c.unwrap_or.ensures ∙ said.1) in
+    let made = stepped_makes z _ _ _ _ v _ next a.ensures.made in
+    more_seen z v next w.key c.args.seen c.cell_after-cell.result c.unwrap_or.result w.sights.seen.items made.reads h.were_read (omega (arith, h.within, c.requires.worker.room.seen)) at (value_kept z v c.cell_after-cell.result c.unwrap_or.result next first)
+
+pub returns-in-Sees-clause-makes : goal.returns-in-Sees-clause-makes
+returns-in-Sees-clause-makes g c =
+    let z = c.args.shape.now in
+    let made = stepped_makes z _ _ _ _ c.args.worker.now.side.known.view _ _ c.in-Sees.ensures.made in
+    subst (λ (n : View). Makes g.T.Steps.shows g.T.Steps.made z (kind_of_looking c.args.looking) c.args.table.now c.args.worker.now.side.known.view c.step.new.table n) (sym c.decide.ensures.same_view) made
+
+pub returns-in-Sees-clause-anew : goal.returns-in-Sees-clause-anew
+returns-in-Sees-clause-anew g c before h =
+    let w = c.args.worker.now in
+    let z = c.args.shape.now in
+    let v = w.side.known.view in
+    let next = c.step.new.side.known.view in
+    let a = c.in-Sees in
+    let room = c.requires.worker.room.seen in
+    let inside = c.requires.worker.stays.1.within in
+    let at : c.cell_after-cell.result ≡ place_after (cell_count z) (home_of z.bits w.key) c.args.seen = cc in
+    let said = value_said c.plain_value.result a.word c.plain_value.ensures a.ensures.leads.1 in
+    let first = read_first z v next c.cell_after-cell.result a.word v.next_number c.unwrap_or.result a.ensures.made.reads (search rules) (c.unwrap_or.ensures ∙ said.1) in
+    let on = looks_on z v next c.args.looking (Sees a.word) c.requires.worker.stays.0 a.ensures.leads a.ensures.made.opened in
+    let count : suc c.args.seen ≡ c.args.seen + 1 = omega arith in
+    let one = one_read z before v next w.key w.sights.seen.items c.args.seen c.cell_after-cell.result c.unwrap_or.result (omega (arith, inside, room)) at first h in
+    let got = c.decide.ensures.anew before (subst (HasRead z before next w.key (set w.sights.seen.items c.args.seen c.unwrap_or.result)) count one) in
+    (got.0, tells_anew z before w.kind w.key v _ _ (subst (GoesOn v) (sym c.decide.ensures.same_view) on) got.1)
+
+pub returns-in-Spent-clause-anew : goal.returns-in-Spent-clause-anew
+returns-in-Spent-clause-anew g c before h =
+    let w = c.args.worker.now in
+    let z = c.args.shape.now in
+    let next = c.step.new.side.known.view in
+    let same = none_read z before w.side.known.view next w.key w.sights.seen.items c.args.seen (kept_alike z w.side.known.view next c.in-Spent.ensures.made.reads) h in
+    (left_off z before next w.key w.sights.seen.items w.sights.seen.items c.args.seen same, tt)
