@@ -11,7 +11,7 @@ mod side;
 mod steps;
 mod words;
 
-pub use known::Known;
+pub use known::{First, Known};
 pub use laws::one_part;
 pub use limits::{MAX_ROOM, MAX_WORKERS};
 pub use reference::{Piece, Reading, Ref};
