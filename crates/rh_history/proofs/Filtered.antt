@@ -26,10 +26,3 @@ module _ {A B : Type 0} (test : A → Bool) (f : A → B) where
       go true was (inr j) later = contains_tail (f a) (f x) (map f (filter test xs)) (later j)
       go false was (inl e) later = absurd (true≢false (sym is ∙ ap test e ∙ was))
       go false was (inr j) later = later j
-
--- two tests that agree at each element keep the same
-pub same_filtered : {A : Type 0} (p q : A → Bool) (xs : List A) → ((x : A) → In x xs → p x ≡ q x) → filter p xs ≡ filter q xs
-same_filtered p q [] same = refl
-same_filtered p q (x ∷ xs) same =
-    ap (λ b. cond b (x ∷ filter p xs) (filter p xs)) (same x (inl refl))
-    ∙ ap (λ ys. cond (q x) (x ∷ ys) ys) (same_filtered p q xs (λ y i. same y (inr i)))

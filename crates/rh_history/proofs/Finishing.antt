@@ -1,12 +1,10 @@
 -- The acts that a worker has finished, from step to step.
-use Rattle.std.proofs.Common.{◌≡◌, ◌≢◌, ℕ, ◌+◌, ◌<◌, inl, inr, ⊎_elim, refl, sym, ap, ◌∙◌, subst, arith, eq-eqb, ne_eqb, Bool, true, false, true≢false, cond, not, ◌&&◌, List, [], ◌∷◌, ◌++◌, length, map, filter, reverse, Option, Some, None}
+use Rattle.std.proofs.Common.{◌≡◌, ◌≢◌, ℕ, ◌+◌, ◌<◌, inl, inr, ⊎_elim, refl, sym, ap, ◌∙◌, subst, arith, eq-eqb, ne_eqb, Bool, true, false, cond, not, ◌&&◌, List, [], ◌∷◌, ◌++◌, length, map, filter, reverse, Option, Some, None}
 use mathlib.Core.List.{reverse-cons}
 use Rattle.rh_world.specs.World.{Control, In, IsFalling, Ref}
 use Rattle.rh_world.specs.World.Control.{succeeded}
-use Rattle.rh_world.specs.Notes.{Note}
 use Rattle.rh_world.specs.Notes.Note.{decided}
 use Rattle.rh_world.specs.Sides.{Side, close_side, is_number, open_side, paid_side, release_side}
-use Rattle.rh_world.specs.Acts.{is_success}
 use Rattle.rh_world.specs.Moves.{covers, release_noted}
 use Rattle.rh_world.proofs.Tests.{is_number_yes}
 use Rattle.rh_world.proofs.Updated.{ref_path, some_injective, some_not_none}
@@ -16,29 +14,11 @@ use Rattle.rh_descriptor.specs.Steps.{CanOpen, Step, entries_of, next_entries, n
 use Rattle.rh_rule.specs.Mirrors.{numbers_of}
 use Rattle.rh_rule.specs.Rest.{is_noted_success}
 use Rattle.rh_rule.proofs.OpensKept.{entries_current, entries_length}
-use Rattle.rh_rule.proofs.Telling.{in_noted, noted_in, same_bool}
+use Rattle.rh_rule.proofs.Telling.{OneResult, in_noted, noted_no, noted_same, same_filtered}
 use Rattle.rh_acts.specs.Act.{Act}
 use Rattle.rh_history.specs.History.{act_of, is_current, is_finished, own_acts_of, own_ref}
 use Rattle.rh_history.specs.OwnActs.{Orderly, StepFinishes, StepsFinish}
-use Rattle.rh_history.proofs.Filtered.{same_filtered}
 use Rattle.rh_history.proofs.Learning.{KeepsCurrent, Learns, steps_grow, steps_learn}
-
-abbrev OneResult : List Note → Type 0
-OneResult ns = (d : Ref) (j k : Control) → In (decided d j) ns → In (decided d k) ns → j ≡ k
-
--- ---- what is noted as succeeded
-
--- of what is noted as decided, no more is noted as succeeded later
-noted_same : (ns more : List Note) (d : Ref) (k : Control) → ((n : Note) → In n ns → In n more) → OneResult more → In (decided d k) ns
-    → is_noted_success more d ≡ is_noted_success ns d
-noted_same ns more d k grow one i = same_bool (is_noted_success more d) (is_noted_success ns d)
-    (λ e. in_noted ns d (subst (λ (r : Control). In (decided d r) ns) (one d k succeeded (grow (decided d k) i) (noted_in more d e)) i))
-    (λ e. in_noted more d (grow (decided d succeeded) (noted_in ns d e)))
-
-noted_no : (ns : List Note) (d : Ref) (k : Control) → OneResult ns → In (decided d k) ns → is_success k ≡ false → is_noted_success ns d ≡ false
-noted_no ns d k one i fails = same_bool (is_noted_success ns d) false
-    (λ e. sym fails ∙ ap is_success (one d k succeeded i (noted_in ns d e)))
-    (λ e. absurd (true≢false (sym e)))
 
 -- ---- what is finished
 

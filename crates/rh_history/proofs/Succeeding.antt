@@ -16,14 +16,13 @@ use Rattle.rh_rule.specs.Core.{Core}
 use Rattle.rh_rule.specs.Mirrors.{numbers_of}
 use Rattle.rh_rule.specs.Rest.{Told, is_noted_success}
 use Rattle.rh_rule.proofs.Deciders.{told_success}
-use Rattle.rh_rule.proofs.Telling.{in_noted, noted_in, same_bool, tells}
+use Rattle.rh_rule.proofs.Telling.{in_noted, noted_in, same_bool, same_filtered, tells}
 use Rattle.rh_acts.specs.Act.{Act}
 use Rattle.rh_acts.specs.Workers.{own}
 use Rattle.rh_acts.proofs.ListLemmas.{one_more_own}
 use Rattle.rh_history.specs.History.{act_of, history, history_up_to, is_finished, made_by, own_acts_of, own_ref, succeeded_acts, world_act}
 use Rattle.rh_history.specs.Laws.{OwnSoFar}
 use Rattle.rh_history.specs.OwnActs.{Orderly}
-use Rattle.rh_history.proofs.Filtered.{same_filtered}
 use Rattle.rh_history.proofs.Finishing.{in_numbers, none_open, once_closed, open_no, while_open}
 use Rattle.rh_history.proofs.Happening.{opened_act}
 use Rattle.rh_history.proofs.Ordered.{kept_is_orderly}

@@ -137,3 +137,28 @@ rests w z words keep core rest =
           (⊎_elim (λ q. let bad : None ≡ Some o.number = sym (rest.rest v lt).closed ∙ q in cc) (λ q. q) (h.over o i))
           ∙ ap (is_noted_success (keep v).side.notes) (λ j. record { worker = sym h.worker j; number = o.number }));
     }
+
+-- ---- what is noted as succeeded
+
+-- no two results are noted of one descriptor
+abbrev pub OneResult : List Note → Type 0
+OneResult ns = (d : Ref) (j k : Control) → In (decided d j) ns → In (decided d k) ns → j ≡ k
+
+-- of what is noted as decided, no more is noted as succeeded later
+pub noted_same : (ns more : List Note) (d : Ref) (k : Control) → ((n : Note) → In n ns → In n more) → OneResult more → In (decided d k) ns
+    → is_noted_success more d ≡ is_noted_success ns d
+noted_same ns more d k grow one i = same_bool (is_noted_success more d) (is_noted_success ns d)
+    (λ e. in_noted ns d (subst (λ (r : Control). In (decided d r) ns) (one d k succeeded (grow (decided d k) i) (noted_in more d e)) i))
+    (λ e. in_noted more d (grow (decided d succeeded) (noted_in ns d e)))
+
+pub noted_no : (ns : List Note) (d : Ref) (k : Control) → OneResult ns → In (decided d k) ns → is_success k ≡ false → is_noted_success ns d ≡ false
+noted_no ns d k one i fails = same_bool (is_noted_success ns d) false
+    (λ e. sym fails ∙ ap is_success (one d k succeeded i (noted_in ns d e)))
+    (λ e. absurd (true≢false (sym e)))
+
+-- two tests that agree at each element keep the same
+pub same_filtered : {A : Type 0} (p q : A → Bool) (xs : List A) → ((x : A) → In x xs → p x ≡ q x) → filter p xs ≡ filter q xs
+same_filtered p q [] same = refl
+same_filtered p q (x ∷ xs) same =
+    ap (λ b. cond b (x ∷ filter p xs) (filter p xs)) (same x (inl refl))
+    ∙ ap (λ ys. cond (q x) (x ∷ ys) ys) (same_filtered p q xs (λ y i. same y (inr i)))

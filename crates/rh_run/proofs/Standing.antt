@@ -14,7 +14,7 @@ use Rattle.rh_world.specs.Acts.{cells_after, is_success}
 use Rattle.rh_rule.specs.Mirrors.{word_at}
 use Rattle.rh_rule.specs.Rest.{Told}
 use Rattle.rh_rule.proofs.Deciders.{told_success}
-use Rattle.rh_rule.proofs.Telling.{tells}
+use Rattle.rh_rule.proofs.Telling.{same_filtered, tells}
 use Rattle.rh_descriptor.specs.declared.shape.Shape.{Shape}
 use Rattle.rh_descriptor.specs.declared.shape.Part.TheVariants as part
 use Rattle.rh_descriptor.specs.Words.{read_control}
@@ -33,7 +33,6 @@ use Rattle.rh_history.specs.History.{act_of, cells_of, history, kept_of, logical
 use Rattle.rh_history.specs.Laws.{HappenedSo, OwnSo}
 use Rattle.rh_history.specs.Rounds.{JoinedSo}
 use Rattle.rh_history.proofs.Happening.{happened}
-use Rattle.rh_history.proofs.Filtered.{same_filtered}
 use Rattle.rh_history.proofs.Joining.{rounds_join}
 use Rattle.rh_history.proofs.Succeeding.{own_so_far}
 use Rattle.rh_history.proofs.Values.{cells_length, get_cells}
