@@ -53,6 +53,7 @@ impl Opening {
             (opened_after side.old.known.view entries.now result) side.old.known.view.side.reads
             table.old side.old.known.view table.new side.new.known.view }
         ensures leads { OpensOn shape.now entries.now side.old.known.view side.new.known.view result }
+        ensures next { result ≡ after_opening (length entries.now) self }
     {
         let ask = self.ask(shape, side, entries);
         table.make(shape, side, ask);

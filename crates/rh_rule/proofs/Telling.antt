@@ -100,7 +100,7 @@ same_bool false true f g = g refl
 same_bool false false f g = refl
 
 -- a control that is noted is noted as a success exactly where it is one
-success_noted : (ns : List Note) (d : Ref) (c : Control) → ((r : Control) → In (decided d r) ns → c ≡ r)
+pub success_noted : (ns : List Note) (d : Ref) (c : Control) → ((r : Control) → In (decided d r) ns → c ≡ r)
     → (r : Control) × In (decided d r) ns → is_success c ≡ is_noted_success ns d
 success_noted ns d c true_of noted = same_bool (is_success c) (is_noted_success ns d)
     (λ e. in_noted ns d (subst (λ (k : Control). In (decided d k) ns) (sym (true_of noted.0 noted.1) ∙ success_yes c e) noted.1))

@@ -1,0 +1,4 @@
+mod Noting
+mod Carried
+mod Left
+mod Swapped

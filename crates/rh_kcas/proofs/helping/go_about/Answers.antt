@@ -1,0 +1,52 @@
+use Rattle.std.proofs.Common.{inl, inr, sym}
+use Rattle.rh_rdcss.proofs.Staying.{stays_first, stays_on}
+use Rattle.rh_kcas.proofs.Noting.{is_decided_so, made_notes, noted_first, noted_on, still_known}
+use Rattle.rh_kcas.proofs.helping.go_about.Goals as goal
+
+pub loop-init : goal.loop-init
+loop-init g c = record {
+  trusts = c.requires.trusts;
+  own = c.requires.clear.own;
+  stands = (c.requires.clear.owes, c.requires.known);
+  known = c.requires.known;
+  stays = stays_first _;
+  noted = noted_first _;
+}
+
+pub loop-preserved-in-On : goal.loop-preserved-in-On
+loop-preserved-in-On g c =
+    let h = c.loop.invariant in
+    let m = c.in-On.ensures.made in record {
+      trusts = m.trusts;
+      own = c.in-On.ensures.leads.0;
+      stands = c.in-On.ensures.leads.1;
+      known = still_known _ _ m.notes _ h.known;
+      stays = stays_on _ _ _ h.stays m.steps;
+      noted = noted_on _ _ _ h.noted (made_notes _ _ _ _ _ _ m);
+    }
+
+pub returns-in-Spent-clause-helps : goal.returns-in-Spent-clause-helps
+returns-in-Spent-clause-helps g c = record {
+  noted = noted_on _ _ _ c.loop.invariant.noted (made_notes _ _ _ _ _ _ c.in-Spent.ensures.made);
+  decided_so = inr c.in-Spent.ensures.leads.3;
+}
+
+pub returns-then-is_decided-clause-helps : goal.returns-then-is_decided-clause-helps
+returns-then-is_decided-clause-helps g c = record {
+  noted = noted_on _ _ _ (noted_on _ _ _ c.loop.invariant.noted (made_notes _ _ _ _ _ _ c.in-Over.ensures.made)) c.control.ensures.notes;
+  decided_so = inl (is_decided_so _ _ c.control.result c.control.ensures.stands (sym c.if-is_decided.ensures));
+}
+
+pub loop-preserved : goal.loop-preserved
+loop-preserved g c =
+    let h = c.loop.invariant in
+    let m = c.in-Over.ensures.made in
+    let k = c.control.ensures in
+    let known = still_known _ _ k.notes.notes _ (still_known _ _ m.notes _ h.known) in record {
+      trusts = k.trusts;
+      own = k.clear.own;
+      stands = (k.clear.owes, known);
+      known = known;
+      stays = stays_on _ _ _ (stays_on _ _ _ h.stays m.steps) k.stays;
+      noted = noted_on _ _ _ (noted_on _ _ _ h.noted (made_notes _ _ _ _ _ _ m)) k.notes;
+    }

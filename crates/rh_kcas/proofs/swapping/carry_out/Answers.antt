@@ -1,0 +1,42 @@
+use Rattle.std.proofs.Common.{ℕ, inl, subst}
+use Rattle.rh_world.specs.World.{In}
+use Rattle.rh_world.specs.Notes.Note.{known}
+use Rattle.rh_descriptor.specs.Words.{control_of}
+use Rattle.rh_world.specs.Notes.Note.{decided}
+use Rattle.rh_helping.specs.Goal.{own_ref}
+use Rattle.rh_helping.proofs.Owing.{open_all_noted}
+use Rattle.rh_rdcss.proofs.Staying.{stays_first, stays_on}
+use Rattle.rh_kcas.proofs.Noting.{closed_number, made_notes, noted_first, noted_on}
+use Rattle.rh_kcas.proofs.swapping.carry_out.Goals as goal
+
+pub loop-init : goal.loop-init
+loop-init g c =
+    let v = c.args.side.now.known.view in
+    let k = (open_all_noted v _ c.requires.own).known in record {
+      trusts = c.requires.trusts;
+      own = c.requires.own;
+      stands = (c.requires.owes, inl (subst (λ (w : ℕ). In (known (record { worker = w; number = c.args.own.number })) v.side.notes) c.args.side.now.same_worker k));
+      stays = stays_first _;
+      noted = noted_first _;
+    }
+
+pub loop-preserved : goal.loop-preserved
+loop-preserved g c =
+    let h = c.loop.invariant in
+    let m = c.in-On.ensures.made in record {
+      trusts = m.trusts;
+      own = c.in-On.ensures.leads.0;
+      stands = c.in-On.ensures.leads.1;
+      stays = stays_on _ _ _ h.stays m.steps;
+      noted = noted_on _ _ _ h.noted (made_notes _ _ _ _ _ _ m);
+    }
+
+pub returns-in-Closed-clause-carries : goal.returns-in-Closed-clause-carries
+returns-in-Closed-clause-carries g c =
+    let e = c.in-Closed.ensures in
+    let l = e.leads.2 in record {
+      noted = noted_on _ _ _ c.loop.invariant.noted (made_notes _ _ _ _ _ _ e.made);
+      clear = record { own = l.own; owes = l.owes };
+      over = l.over;
+      result = subst (λ (n : ℕ). In (decided (own_ref c.step.new.side.known.view n) (control_of c.in-Closed.control)) c.step.new.side.known.view.side.notes) (closed_number _ e.leads.0 e.leads.1) l.result;
+    }

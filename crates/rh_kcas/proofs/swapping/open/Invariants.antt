@@ -1,0 +1,20 @@
+use Rattle.std.proofs.Common.{◌≡◌, length}
+use Rattle.rh_helping.specs.Opening.{IsOpening, MayOpen}
+use Rattle.rh_rdcss.specs.Sits.{Sits, Stays}
+use Rattle.rh_steps.specs.Relies.{Trusts}
+use Rattle.rh_kcas.specs.Swaps.{HasNoted}
+use Rattle.rh_kcas.proofs.Left.{steps_left}
+use Rattle.rh_kcas.proofs.swapping.open.Given as goal
+
+abbrev pub invariant-loop-next : goal.invariant-loop-next
+invariant-loop-next l = record {
+  trusts : Trusts Sits l.shape l.here l.side.known.view;
+  may : MayOpen l.shape l.side.known.view l.entries;
+  is : IsOpening l.side.known.view l.entries l.opening;
+  stays : Stays l.fn.here l.here;
+  noted : HasNoted l.fn.side.known.view l.side.known.view;
+  number : l.side.known.view.next_number ≡ l.fn.side.known.view.next_number;
+}
+
+abbrev pub decreases-loop-next : goal.decreases-loop-next
+decreases-loop-next l = steps_left (length l.entries) l.opening

@@ -1,0 +1,19 @@
+-- A seat of one worker that rests at its table. (own)
+use Rattle.rh_world.specs.World.{Control, In}
+use Rattle.rh_world.specs.Notes.Note.{decided}
+use Rattle.rh_descriptor.specs.View.{OwnDesc, View}
+use Rattle.rh_helping.specs.Goal.{IsClear, own_ref}
+use Rattle.rh_rdcss.specs.Sits.{IsHere, view_of}
+use Rattle.rh_rdcss.specs.declared.seat.Seat.{Seat}
+use Rattle.rh_rdcss.specs.declared.table.Table.{Table}
+use Rattle.rh_steps.specs.Relies.{Knows}
+
+-- no own descriptor is open, nothing is owed, and of each own descriptor it is noted how it was decided
+pub record IsRested (v : View) : Type 0 where
+  pub clear : IsClear v
+  pub over : (o : OwnDesc) → In o v.opened → (k : Control) × In (decided (own_ref v o.number) k) v.side.notes
+
+pub record Rests (t : Table) (s : Seat) : Type 0 where
+  pub here : IsHere t s
+  pub knows : Knows t.shape (view_of s)
+  pub rested : IsRested (view_of s)

@@ -1,0 +1,13 @@
+//! Compare-and-swap of several cells of a table that threads share (Harris, Fraser and Pratt 2002).
+#![tactic(auto)]
+
+mod claiming;
+mod helping;
+mod reading;
+mod swapping;
+
+pub use claiming::claim;
+pub use helping::help;
+pub use reading::read;
+pub use rh_rdcss::{Seat, Table};
+pub use swapping::{Outcome, kcas};

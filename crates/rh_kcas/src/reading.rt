@@ -1,0 +1,58 @@
+//! Reading a cell.
+
+ghost use Rattle.std.specs.Prelude.{◌≡◌, ◌<◌};
+ghost use Rattle.rh_descriptor.specs.Places.{IsShape, cell_count};
+ghost use Rattle.rh_helping.specs.Goal.{IsClear};
+ghost use Rattle.rh_kcas.specs.Rests.{Rests};
+ghost use Rattle.rh_kcas.specs.Swaps.{HasRead};
+ghost use Rattle.rh_rdcss.specs.Sits.{IsSame, Sits, Stays, view_of};
+ghost use Rattle.rh_rule.specs.Rest.{made};
+ghost use Rattle.rh_steps.specs.Relies.{Trusts};
+
+use rh_descriptor::{Shape, Side};
+use rh_helping::{Looked, Looking};
+use rh_rdcss::{OnTable, Seat, Table};
+use std::sync::Wait;
+
+/// The plain word that the cell holds, or none where no mark is left.
+pub fn read<R: Wait>(rt: &R, table: &Table, seat: &mut Seat, cell: usize) -> Option<u64>
+    requires rests { Rests table.now seat.old }
+    requires cell { cell < cell_count table.now.shape }
+    ensures rests { Rests table.now seat.new }
+    ensures same { IsSame seat.old seat.new }
+    ensures acts { made (view_of seat.new) ≡ made (view_of seat.old) }
+    ensures reads { HasRead table.now.shape cell (view_of seat.old) (view_of seat.new) result }
+{
+    let mut here = OnTable {
+        table,
+        seat: &mut seat.inner,
+    };
+    look(rt, &table.shape, &mut here, &mut seat.side, cell)
+}
+
+fn look<R: Wait>(
+    rt: &R,
+    shape: &Shape,
+    here: &mut OnTable,
+    side: &mut Side,
+    cell: usize,
+) -> Option<u64>
+    requires shape { IsShape shape.now }
+    requires trusts { Trusts Sits shape.now here.old side.old.known.view }
+    requires clear { IsClear side.old.known.view }
+    requires cell { cell < cell_count shape.now }
+    ensures trusts { Trusts Sits shape.now here.new side.new.known.view }
+    ensures clear { IsClear side.new.known.view }
+    ensures stays { Stays here.old here.new }
+    ensures reads { HasRead shape.now cell side.old.known.view side.new.known.view result }
+{
+    let mut looking = Looking::Read;
+    for _ in rt.forever() {
+        match looking.step(shape, here, side, cell) {
+            Looked::On(next) => looking = next,
+            Looked::Sees(word) => return Some(word),
+            Looked::Spent => return None,
+        }
+    }
+    unreachable!()
+}

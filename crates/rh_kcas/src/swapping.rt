@@ -1,0 +1,108 @@
+//! An own K-CAS: its descriptor is opened, and carried out.
+
+ghost use Rattle.std.specs.Prelude.{◌≡◌, Some};
+ghost use Rattle.rh_descriptor.specs.Places.{IsShape};
+ghost use Rattle.rh_descriptor.specs.Steps.{AreEntries};
+ghost use Rattle.rh_helping.specs.Goal.{KnowsOwn, OwesNothing, opened_by};
+ghost use Rattle.rh_helping.specs.Opening.{MayOpen, next_desc};
+ghost use Rattle.rh_kcas.specs.Rests.{Rests};
+ghost use Rattle.rh_kcas.specs.Swaps.{HasCarriedOut, HasOpened, Swaps};
+ghost use Rattle.rh_rdcss.specs.Sits.{IsSame, Sits, Stays, view_of};
+ghost use Rattle.rh_steps.specs.Relies.{Trusts};
+
+use rh_descriptor::{Ref, Shape, Side};
+use rh_helping::{OpenDesc, Opening, Outcome as Worked, Work};
+use rh_layout::Entry;
+use rh_rdcss::{OnTable, Seat, Table};
+use rh_tagword::Control;
+use std::sync::Wait;
+
+/// What became of a K-CAS.
+#[derive(Clone, Copy, Debug, PartialEq, Eq)]
+pub enum Outcome {
+    /// All its entries changed their cells, in one act.
+    Done,
+    /// No cell was changed: that of this entry held another value.
+    Failed { entry: usize },
+    /// No cell was changed: the worker has too few places for the entries, or no mark is left.
+    Spent,
+}
+
+/// Changes the cells of the entries from their old words to their new ones, all in one act, or none.
+pub fn kcas<R: Wait>(rt: &R, table: &Table, seat: &mut Seat, entries: &[Entry]) -> Outcome
+    requires rests { Rests table.now seat.old }
+    requires entries { AreEntries table.now.shape entries.now }
+    ensures rests { Rests table.now seat.new }
+    ensures same { IsSame seat.old seat.new }
+    ensures swaps { Swaps table.now.shape entries.now (view_of seat.old) (view_of seat.new) result }
+{
+    let shape = &table.shape;
+    if shape.entry_room - seat.side.next_number < entries.len()
+        || shape.mark_room <= seat.side.marks_used
+    {
+        return Outcome::Spent;
+    }
+    let number = seat.side.next_number;
+    let mut here = OnTable {
+        table,
+        seat: &mut seat.inner,
+    };
+    open(shape, &mut here, &mut seat.side, entries);
+    let own = OpenDesc { number, entries };
+    match carry_out(rt, shape, &mut here, &mut seat.side, own) {
+        Control::Succeeded => Outcome::Done,
+        Control::Failed { entry } => Outcome::Failed {
+            entry: entry as usize,
+        },
+        Control::Withdrawn => Outcome::Spent,
+        // (it is decided)
+        Control::Unused | Control::Undecided => unreachable!(),
+    }
+}
+
+/// Opens a descriptor of the entries.
+fn open(shape: &Shape, here: &mut OnTable, side: &mut Side, entries: &[Entry])
+    requires shape { IsShape shape.now }
+    requires trusts { Trusts Sits shape.now here.old side.old.known.view }
+    requires may { MayOpen shape.now side.old.known.view entries.now }
+    ensures trusts { Trusts Sits shape.now here.new side.new.known.view }
+    ensures stays { Stays here.old here.new }
+    ensures opens { HasOpened side.old.known.view (next_desc side.old.known.view entries.now) side.new.known.view }
+{
+    let mut opening = Opening::Length;
+    while let Some(next) = opening.step(shape, here, side, entries) {
+        opening = next;
+    }
+}
+
+/// Goes about the own open descriptor until it is decided and released, and answers how it was
+/// decided.
+fn carry_out<R: Wait>(
+    rt: &R,
+    shape: &Shape,
+    here: &mut OnTable,
+    side: &mut Side,
+    own: OpenDesc<'_>,
+) -> Control
+    requires shape { IsShape shape.now }
+    requires trusts { Trusts Sits shape.now here.old side.old.known.view }
+    requires own { KnowsOwn side.old.known.view (opened_by (Some own)) }
+    requires owes { OwesNothing side.old.known.view }
+    ensures trusts { Trusts Sits shape.now here.new side.new.known.view }
+    ensures stays { Stays here.old here.new }
+    ensures carries { HasCarriedOut side.old.known.view own.entry.number side.new.known.view result }
+{
+    let mut work = Work::Control(Ref {
+        worker: side.worker,
+        number: own.number,
+    });
+    for _ in rt.forever() {
+        match work.step(shape, here, side, Some(own)) {
+            Worked::On(next) => work = next,
+            Worked::Closed(control) => return control,
+            // (an own descriptor is open)
+            Worked::Over | Worked::Spent => unreachable!(),
+        }
+    }
+    unreachable!()
+}

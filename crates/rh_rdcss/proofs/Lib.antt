@@ -1,0 +1,2 @@
+mod Allowing
+pub mod Staying

@@ -1,0 +1,17 @@
+-- A seat stays the same from step to step.
+use Rattle.std.proofs.Common.{◌≡◌, refl, ◌∙◌}
+use Rattle.rh_rdcss.specs.declared.on_table.OnTable.{OnTable}
+use Rattle.rh_rdcss.specs.Sits.{Stays}
+
+pub stays_first : (t : OnTable) → Stays t t
+stays_first t = record { table = refl; seat = refl; id = refl; lent = refl }
+
+pub stays_on : (s t u : OnTable) → Stays s t → Stays t u → Stays s u
+stays_on s t u a b =
+    let seat = u.seat.now in
+    let lent : record t.seat { now = seat } ≡ record s.seat { now = seat } = λ i. record (a.lent i) { now = seat } in record {
+      table = b.table ∙ a.table;
+      seat = b.seat ∙ a.seat;
+      id = b.id ∙ a.id;
+      lent = b.lent ∙ lent;
+    }

@@ -1,0 +1,43 @@
+//! One worker on a table that threads share.
+
+ghost use Rattle.std.specs.Prelude.{◌≡◌};
+
+use crate::steps::{count, exchange, load, swap};
+use crate::table::{Inner, Table};
+use rh_descriptor::{Ask, Effect, Part, Reading, Shape, Side};
+use rh_steps::Steps;
+use std::marker::Brand;
+
+/// A worker's seat at a table.
+#[derive(Drop)]
+pub struct OnTable<'a> {
+    pub table: &'a Table,
+    pub seat: &'a mut Inner,
+}
+
+impl<'a> Steps for OnTable<'a> {
+    ghost use Rattle.rh_rdcss.specs.Sits.{Sits, Stays};
+
+    ghost shows = { Sits };
+
+    ghost serves = { Sits };
+
+    ghost made = { λ z s t v word then next. Stays t then };
+
+    fn make(&mut self, shape: &Shape, side: &mut Side, ask: Ask) -> u64 {
+        let at = ask.place(shape, side);
+        let word = match ask.effect(shape, side) {
+            Effect::Keep => load::<Brand>(self, side, ask, at),
+            Effect::Put(new) => exchange::<Brand>(self, side, ask, at, new),
+            Effect::Swap { old, new } => { swap::<Brand>(self, side, ask, at, old, new) }
+            Effect::Count => count::<Brand>(self, side, ask, at),
+        };
+        side.note(shape, ask, word);
+        word
+    }
+
+    fn own_word(&mut self, shape: &Shape, side: &Side, part: Part) -> u64 {
+        let at = shape.place(part);
+        load::<Brand>(self, side, Ask::Read(Reading::Place(at)), at)
+    }
+}

@@ -1,0 +1,99 @@
+//! The single steps of one worker's seat.
+
+ghost use Rattle.std.specs.Prelude.{◌+◌, ◌%◌, ◌^◌};
+ghost use Rattle.rh_descriptor.specs.Steps.{swapped};
+ghost use Rattle.rh_rule.specs.Seats.{StepTells};
+ghost use Rattle.rh_rdcss.specs.Sits.{Ready, Stays};
+
+use crate::on_table::OnTable;
+use atomic_table::Play;
+use rh_descriptor::{Ask, Known, Side};
+use std::collections::LinkedList;
+use std::marker::{Brand, PhantomData};
+
+/// Which step a call makes, of whom this is kept. Each call of a program picks it.
+pub(crate) trait Makes {
+    ghost use Rattle.rh_descriptor.specs.declared.shape.Shape.{Shape};
+    ghost use Rattle.rh_descriptor.specs.Steps.{Step};
+    ghost use Rattle.rh_descriptor.specs.View.{View};
+
+    ghost shape: { Shape };
+
+    ghost view: { View };
+
+    ghost step: { Step };
+}
+
+impl Makes for Brand {
+    ghost use Rattle.std.specs.Prelude.{[]};
+    ghost use Rattle.rh_descriptor.specs.Steps.Step.{claims};
+    ghost use Rattle.rh_descriptor.specs.View.{new_view};
+
+    ghost shape = { record { bits = 3; workers = 0; entry_room = 0; mark_room = 0; keys = 0 } };
+
+    ghost view = { new_view [] 0 };
+
+    ghost step = { claims };
+}
+
+struct Making<B> {
+    of: PhantomData<B>,
+}
+
+impl<B: Makes> Play<(), LinkedList<Known>> for Making<B> {
+    ghost then = { λ _ _ word me. StepTells B.shape B.view B.step word me };
+}
+
+pub(crate) fn load<B: Makes>(here: &mut OnTable, _side: &Side, _ask: Ask, at: usize) -> u64
+    requires { Ready here.old B.shape B.view B.step at (λ n. n) }
+    ensures stays { Stays here.old here.new }
+    ensures tells { StepTells B.shape B.view B.step result here.new.seat.now.me }
+{
+    here.table.inner.shared.load::<Making<B>>(here.seat, at)
+}
+
+pub(crate) fn exchange<B: Makes>(
+    here: &mut OnTable,
+    _side: &Side,
+    _ask: Ask,
+    at: usize,
+    new: u64,
+) -> u64
+    requires { Ready here.old B.shape B.view B.step at (λ _. new) }
+    ensures stays { Stays here.old here.new }
+    ensures tells { StepTells B.shape B.view B.step result here.new.seat.now.me }
+{
+    here.table
+        .inner
+        .shared
+        .swap::<Making<B>>(here.seat, at, new)
+}
+
+pub(crate) fn swap<B: Makes>(
+    here: &mut OnTable,
+    _side: &Side,
+    _ask: Ask,
+    at: usize,
+    old: u64,
+    new: u64,
+) -> u64
+    requires { Ready here.old B.shape B.view B.step at (swapped old new) }
+    ensures stays { Stays here.old here.new }
+    ensures tells { StepTells B.shape B.view B.step result here.new.seat.now.me }
+{
+    here.table
+        .inner
+        .shared
+        .compare_exchange::<Making<B>>(here.seat, at, old, new)
+}
+
+pub(crate) fn count<B: Makes>(here: &mut OnTable, _side: &Side, _ask: Ask, at: usize) -> u64
+    requires { Ready here.old B.shape B.view B.step at (λ n. (n + 1) % 2 ^ 64) }
+    ensures stays { Stays here.old here.new }
+    ensures tells { StepTells B.shape B.view B.step result here.new.seat.now.me }
+{
+    here.table
+        .inner
+        .shared
+        .fetch_add::<Making<B>>(here.seat, at, 1)
+}
