@@ -2,3 +2,4 @@ mod Noting
 mod Carried
 mod Left
 mod Swapped
+mod Crews

@@ -4,10 +4,12 @@
 mod claiming;
 mod helping;
 mod reading;
+mod seats;
 mod swapping;
 
 pub use claiming::claim;
 pub use helping::help;
 pub use reading::read;
 pub use rh_rdcss::{Seat, Table};
+pub use seats::{join, split};
 pub use swapping::{Outcome, kcas};

@@ -7,5 +7,5 @@ mod steps;
 mod table;
 
 pub use on_table::OnTable;
-pub use seat::Seat;
+pub use seat::{Seat, unused_side};
 pub use table::{Inner, Table};

@@ -1,21 +1,28 @@
-//! A seat at a table.
+//! The seats of a table.
 
-ghost use Rattle.std.specs.Prelude.{◌≡◌, ◌∷◌, ◌<◌, []};
+ghost use Rattle.std.specs.Prelude.{◌≡◌, ◌<◌, [], ◌∷◌};
 ghost use Rattle.rh_rule.specs.Seats.{Spans, known};
 
 use crate::table::Inner;
 use rh_descriptor::Side;
 
-/// The seat of some workers of a table, which follow one another.
+/// The seat of `count` workers of a table, from `side.worker` on. Only the seat of one worker makes
+/// steps: it has the worker's own state beside what the table keeps of it. For more workers the
+/// counts in `side` mean nothing.
 #[derive(Drop)]
 pub struct Seat {
     pub inner: Inner,
-    /// The number of its first worker. Where it is the only one, what that worker counts and knows.
     pub side: Side,
-    /// How many workers it has.
     pub count: usize,
     pub ghost some: { 0 < count },
     pub ghost spans: { Spans inner.me.0 side.worker count },
     pub ghost empty: { inner.me.1 ≡ [] },
-    pub ghost alone: { count ≡ 1 → inner.me.0 ≡ known side.known.view ∷ [] },
+    pub ghost alone: { count ≡ 1 → inner.me ≡ (known side.known.view ∷ [], []) },
+}
+
+/// The state of nobody, which stands in the seat of more than one worker, of whom this is the first.
+pub fn unused_side(worker: usize) -> Side
+    ensures { result.worker ≡ worker }
+{
+    Side::new(worker, &[])
 }
