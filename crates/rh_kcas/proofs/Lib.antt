@@ -3,3 +3,4 @@ mod Carried
 mod Left
 mod Swapped
 mod Crews
+mod Clearing

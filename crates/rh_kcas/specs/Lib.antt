@@ -1,3 +1,4 @@
 pub mod Rests
 pub mod Swaps
 pub mod Crews
+pub mod Ends

@@ -6,6 +6,7 @@ mod helping;
 mod reading;
 mod seats;
 mod swapping;
+mod wiping;
 
 pub use claiming::claim;
 pub use helping::help;
@@ -13,3 +14,4 @@ pub use reading::read;
 pub use rh_rdcss::{Seat, Table};
 pub use seats::{join, split};
 pub use swapping::{Outcome, kcas};
+pub use wiping::wipe;

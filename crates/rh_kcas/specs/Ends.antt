@@ -1,0 +1,52 @@
+-- What a wipe and the close of a table leave, where all workers are at rest. (own)
+use Rattle.std.specs.Prelude.{◌≡◌, ℕ, ◌<◌, Option, Some, None, List, [], length, slice_index, map}
+use mathlib.Core.Option.{some}
+use lib.ListN.{get_elem?}
+use Rattle.rh_world.specs.World.{World}
+use Rattle.rh_world.specs.Sides.{Side}
+use Rattle.rh_tagword.specs.Word.{plain_number}
+use Rattle.rh_descriptor.specs.declared.known.Known.{Known}
+use Rattle.rh_descriptor.specs.declared.shape.Shape.{Shape}
+use Rattle.rh_descriptor.specs.Places.{cell_count}
+use Rattle.rh_descriptor.specs.View.{View, Wiping, round_view}
+use Rattle.rh_rule.specs.Rest.{Rested}
+use Rattle.rh_rule.specs.Seats.{all_views}
+
+-- The cells of a table whose workers are at rest, as words: those that it was made or wiped with, changed by all acts since,
+-- act by act.
+pub record AreMade (z : Shape) (vs : List Known) : Type 0 where
+  pub cells : List ℕ
+  pub long : length cells ≡ cell_count z
+  pub w : World
+  pub keep : ℕ → View
+  pub side : ℕ → Side
+  pub rested : Rested w z cells keep side
+  pub of_view : (r : ℕ) (s : Known) → get_elem? vs r ≡ some s → keep r ≡ s.view
+
+-- A wipe leaves these cells, and each worker as when a round begins with them.
+pub record IsWiped (z : Shape) (vs us : List Known) : Type 0 where
+  pub made : AreMade z vs
+  pub views : us ≡ all_views (round_view made.cells) vs
+
+-- The values of the cells are handed out.
+pub record Leaves (z : Shape) (vs : List Known) (values : List ℕ) : Type 0 where
+  pub made : AreMade z vs
+  pub values_are : made.cells ≡ map plain_number values
+
+-- ---- in the midst of a wipe
+
+abbrev pub cleared_to : ℕ → Option Wiping → Option Wiping
+cleared_to n None = None
+cleared_to n (Some w) = Some (record { cells = w.cells; cleared = n })
+
+abbrev pub kept_cells : Option Wiping → List ℕ
+kept_cells None = []
+kept_cells (Some w) = w.cells
+
+-- so many row words are cleared
+abbrev pub with_cleared : ℕ → View → View
+with_cleared n v = record v { wiping = cleared_to n v.wiping }
+
+-- a round begins with the cells that the wipe keeps
+abbrev pub renewed : View → View
+renewed v = round_view (kept_cells v.wiping) v
