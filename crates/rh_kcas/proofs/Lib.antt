@@ -4,3 +4,4 @@ mod Left
 mod Swapped
 mod Crews
 mod Clearing
+mod Made

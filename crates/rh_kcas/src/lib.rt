@@ -2,6 +2,7 @@
 #![tactic(auto)]
 
 mod claiming;
+mod ends;
 mod helping;
 mod reading;
 mod seats;
@@ -9,6 +10,7 @@ mod swapping;
 mod wiping;
 
 pub use claiming::claim;
+pub use ends::{close, make};
 pub use helping::help;
 pub use reading::read;
 pub use rh_rdcss::{Seat, Table};

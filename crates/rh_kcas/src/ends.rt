@@ -1,0 +1,77 @@
+//! How a table is made, and what it leaves.
+
+ghost use Rattle.std.specs.Prelude.{◌≡◌, ◌<◌, IfOk, ℕ, length, map, slice_index};
+ghost use Rattle.rh_descriptor.specs.Places.{IsShape, cell_count};
+ghost use Rattle.rh_kcas.specs.Crews.{HasAll, IsQuiet, views_of};
+ghost use Rattle.rh_kcas.specs.Ends.{Leaves};
+ghost use Rattle.rh_kcas.specs.Rests.{Rests};
+ghost use Rattle.rh_rule.specs.Seats.{InView, first_view};
+ghost use Rattle.rh_tagword.specs.Word.{IsValue, plain_number};
+
+use rh_descriptor::{Shape, Side};
+use rh_rdcss::{Seat, Table};
+use rh_rule::Opening;
+use rh_tagword::{plain_value, plain_word};
+use std::alloc::{AllocError, Global};
+
+/// A table whose cells hold these values, and the seat of all its workers.
+pub fn make(alloc: Global, shape: Shape, cells: &[u64]) -> Result<(Table, Seat), AllocError>
+    requires shape { IsShape shape }
+    requires some { 0 < shape.workers }
+    requires sized { length cells.now ≡ cell_count shape }
+    requires values { (c : ℕ) → c < length cells.now → IsValue (slice_index cells.now c) }
+    ensures shape { IfOk result (λ r. r.0.shape ≡ shape) }
+    ensures all { IfOk result (λ r. HasAll r.0 r.1) }
+    ensures views { IfOk result (λ r. views_of r.1 ≡ first_view shape (map plain_number cells.now)) }
+    ensures rests { IfOk result (λ r. r.1.count ≡ 1 → Rests r.0 r.1) }
+{
+    let opening = Opening {
+        shape,
+        cells: plain_words(alloc, cells)?,
+    };
+    let side = Side::new(0, &opening.cells);
+    let mut words = opening.cells.to_vec(alloc)?;
+    words.resize(shape.words(), 0)?;
+    let (inner, seat) = atomic_table::Table::of_words(alloc, &words, &opening)?;
+    Ok((
+        Table { inner, shape },
+        Seat {
+            inner: seat,
+            side,
+            count: shape.workers,
+        },
+    ))
+}
+
+/// The words of cells that hold these values.
+fn plain_words(alloc: Global, cells: &[u64]) -> Result<Vec<u64>, AllocError>
+    requires { (c : ℕ) → c < length cells.now → IsValue (slice_index cells.now c) }
+    ensures { IfOk result (λ words. words.items ≡ map plain_number cells.now) }
+{
+    let mut words = Vec::new(alloc);
+    for value in cells {
+        words.push(plain_word(*value))?;
+    }
+    Ok(words)
+}
+
+/// Hands out the values of the cells, and frees the table. All workers are at rest: no mark and no
+/// descriptor is left in a cell.
+pub fn close(table: Table, seat: Seat, cells: &mut [u64])
+    requires all { HasAll table seat }
+    requires rest { InView IsQuiet (views_of seat) }
+    requires sized { length cells.old ≡ cell_count table.shape }
+    ensures { Leaves table.shape (views_of seat) cells.new }
+{
+    let Table { inner, shape: _ } = table;
+    let Seat {
+        inner: seat,
+        side: _,
+        count: _,
+    } = seat;
+    let closed = inner.close_with(seat);
+    for cell in 0..cells.len() {
+        cells[cell] = plain_value(closed.word(cell)).unwrap_or(0);
+    }
+    closed.free();
+}
