@@ -1,17 +1,12 @@
 -- The views of a seat of several workers: they are cut and joined, and a worker that is fresh rests.
-use Rattle.std.proofs.Common.{◌≡◌, ℕ, zero, suc, ◌+◌, ◌-◌, ◌<◌, ◌≤◌, ◌⊎◌, None, List, [], ◌∷◌, ◌++◌, length, length-append, length-take-le, take, drop, refl, sym, ap, ◌∙◌, subst, inl, inr, ⊎_elim, arith}
-use mathlib.Core.Option.{some}
-use lib.ListN.{get_elem?}
-use Rattle.rh_world.specs.World.{Control, In}
-use Rattle.rh_world.specs.Notes.Note.{decided}
+use Rattle.std.proofs.Common.{◌≡◌, ℕ, zero, suc, ◌+◌, ◌-◌, ◌<◌, ◌≤◌, List, [], ◌∷◌, ◌++◌, length, length-append, length-take-le, take, drop, refl, sym, ap, ◌∙◌, subst, ⊎_elim, arith}
 use Rattle.rh_descriptor.specs.declared.known.Known.{Known}
 use Rattle.rh_descriptor.specs.declared.shape.Shape.{Shape}
 use Rattle.rh_descriptor.specs.Places.{word_count}
-use Rattle.rh_descriptor.specs.View.{OwnDesc, View, round_view}
+use Rattle.rh_descriptor.specs.View.{View, round_view}
 use Rattle.rh_rule.specs.Seats.{InView, Spans, known}
 use Rattle.rh_rule.specs.Sound.{Sound}
 use Rattle.rh_rule.proofs.SeatsKept.{at_append, at_drop, at_take}
-use Rattle.rh_steps.specs.Relies.{Knows}
 use Rattle.rh_rdcss.specs.declared.seat.Seat.{Seat}
 use Rattle.rh_rdcss.specs.declared.table.Table.{Table}
 use Rattle.rh_kcas.specs.Crews.{IsAt, IsFresh, head_of, views_of}
@@ -128,7 +123,7 @@ fresh_rests t s at one is fresh =
     let worker = s.side.same_worker in
     let within = at.within in
     record {
-      here = record { own = at.own; one = one };
+      here = record { own = at.own; alone = one };
       knows = record {
         worker = omega (arith, worker, within, one);
         still = ap (λ (x : View). x.wiping) fresh_v;

@@ -13,7 +13,7 @@ use Rattle.rh_descriptor.specs.Places.{IsShape, cell_count, word_count}
 use Rattle.rh_descriptor.specs.View.{View, new_view}
 use Rattle.rh_descriptor.specs.Words.{IsPlain}
 use Rattle.rh_rule.specs.Rest.{AllRest}
-use Rattle.rh_rule.specs.Seats.{Holds, InView, NoSlot, Spans, first_view, known, new_views}
+use Rattle.rh_rule.specs.Seats.{Holds, InView, NoSlot, Spans, first_view, new_views}
 use Rattle.rh_rule.specs.Wipes.{row_total}
 use Rattle.rh_rule.proofs.SeatsKept.{close_sees, item_at, new_at, new_long, starts}
 use Rattle.rh_rule.proofs.Telling.{rests}
@@ -101,7 +101,6 @@ closes_with z y id vs st words same some_one all holds at quiet is =
 word_of_value : (o : Option ℕ) (word : ℕ) → MatchOption o (is_plain word ≡ false) (λ value. IsValue value × (word ≡ plain_number value)) → IsPlain word → word ≡ plain_number (unwrap_or o 0)
 word_of_value None word h plain_word = absurd (true≢false (sym (eq-eqb (tag_of word) 0 plain_word) ∙ h))
 word_of_value (Some x) word h plain_word = h.1
-
 
 module _ (z : Shape) (vs : List Known) (words : List ℕ) (m : AreMade z vs) (front : m.cells ≡ take (cell_count z) words) where
   pub front_plain : (c : ℕ) → c < cell_count z → IsPlain (get_or words c 0)

@@ -1,5 +1,5 @@
 -- What a wipe and the close of a table leave, where all workers are at rest. (own)
-use Rattle.std.specs.Prelude.{◌≡◌, ℕ, ◌<◌, Option, Some, None, List, [], length, slice_index, map}
+use Rattle.std.specs.Prelude.{◌≡◌, ℕ, Option, Some, None, List, [], length, map}
 use mathlib.Core.Option.{some}
 use lib.ListN.{get_elem?}
 use Rattle.rh_world.specs.World.{World}

@@ -3,7 +3,7 @@ use Rattle.rh_world.specs.World.{Control, In}
 use Rattle.rh_world.specs.Notes.Note.{decided}
 use Rattle.rh_descriptor.specs.View.{OwnDesc, View}
 use Rattle.rh_helping.specs.Goal.{IsClear, own_ref}
-use Rattle.rh_rdcss.specs.Sits.{IsHere, view_of}
+use Rattle.rh_rdcss.specs.Calls.{IsHere, view_of}
 use Rattle.rh_rdcss.specs.declared.seat.Seat.{Seat}
 use Rattle.rh_rdcss.specs.declared.table.Table.{Table}
 use Rattle.rh_steps.specs.Relies.{Knows}

@@ -3,7 +3,7 @@
 ghost use Rattle.std.specs.Prelude.{◌<◌, ℕ};
 ghost use Rattle.rh_kcas.specs.Rests.{Rests};
 ghost use Rattle.rh_kcas.specs.Swaps.{Claims};
-ghost use Rattle.rh_rdcss.specs.Sits.{IsSame, view_of};
+ghost use Rattle.rh_rdcss.specs.Calls.{IsSame, view_of};
 ghost use Rattle.rh_world.specs.World.{In};
 
 use rh_descriptor::Ask;

@@ -7,7 +7,8 @@ ghost use Rattle.rh_descriptor.specs.Words.{ref_of};
 ghost use Rattle.rh_helping.specs.Goal.{IsClear, StandsAt};
 ghost use Rattle.rh_kcas.specs.Rests.{Rests};
 ghost use Rattle.rh_kcas.specs.Swaps.{HasHelped, HasNoted};
-ghost use Rattle.rh_rdcss.specs.Sits.{IsSame, Sits, Stays, view_of};
+ghost use Rattle.rh_rdcss.specs.Calls.{IsSame, view_of};
+ghost use Rattle.rh_rdcss.specs.Sits.{Sits, Stays};
 ghost use Rattle.rh_rule.specs.Rest.{made};
 ghost use Rattle.rh_steps.specs.Relies.{Trusts};
 

@@ -5,7 +5,8 @@ ghost use Rattle.rh_descriptor.specs.Places.{IsShape, cell_count};
 ghost use Rattle.rh_helping.specs.Goal.{IsClear};
 ghost use Rattle.rh_kcas.specs.Rests.{Rests};
 ghost use Rattle.rh_kcas.specs.Swaps.{HasRead};
-ghost use Rattle.rh_rdcss.specs.Sits.{IsSame, Sits, Stays, view_of};
+ghost use Rattle.rh_rdcss.specs.Calls.{IsSame, view_of};
+ghost use Rattle.rh_rdcss.specs.Sits.{Sits, Stays};
 ghost use Rattle.rh_rule.specs.Rest.{made};
 ghost use Rattle.rh_steps.specs.Relies.{Trusts};
 

@@ -104,7 +104,11 @@ pub fn join(table: &Table, seat: &mut Seat, other: Seat)
     ensures here { IsAt table.now seat.new }
     ensures joined { IsJoined seat.old other seat.new }
 {
-    let Seat { inner, side: _, count } = other;
+    let Seat {
+        inner,
+        side: _,
+        count,
+    } = other;
     table.inner.shared.join_seat::<Glue>(&mut seat.inner, inner);
     seat.side = unused_side(seat.side.worker);
     seat.count += count;

@@ -7,7 +7,8 @@ ghost use Rattle.rh_helping.specs.Goal.{KnowsOwn, OwesNothing, opened_by};
 ghost use Rattle.rh_helping.specs.Opening.{MayOpen, next_desc};
 ghost use Rattle.rh_kcas.specs.Rests.{Rests};
 ghost use Rattle.rh_kcas.specs.Swaps.{HasCarriedOut, HasOpened, Swaps};
-ghost use Rattle.rh_rdcss.specs.Sits.{IsSame, Sits, Stays, view_of};
+ghost use Rattle.rh_rdcss.specs.Calls.{IsSame, view_of};
+ghost use Rattle.rh_rdcss.specs.Sits.{Sits, Stays};
 ghost use Rattle.rh_steps.specs.Relies.{Trusts};
 
 use rh_descriptor::{Ref, Shape, Side};

@@ -1,2 +1,4 @@
-mod Allowing
-pub mod Staying
+pub mod Allowing
+pub mod Lending
+pub mod MarkRows
+pub mod MarksMet

@@ -1,4 +1,4 @@
--- A worker's seat at a table. (own)
+-- A worker's seat at a table that threads share. (own)
 use Rattle.std.specs.Prelude.{◌≡◌, ℕ, ◌<◌, [], ◌∷◌}
 use Rattle.rh_descriptor.specs.Places.{word_count}
 use Rattle.rh_descriptor.specs.Steps.{Allowed, Step, place, word_after}
@@ -6,16 +6,14 @@ use Rattle.rh_descriptor.specs.declared.shape.Shape.{Shape}
 use Rattle.rh_descriptor.specs.View.{View}
 use Rattle.rh_rule.specs.Seats.{known}
 use Rattle.rh_rdcss.specs.declared.on_table.OnTable.{OnTable}
-use Rattle.rh_rdcss.specs.declared.seat.Seat.{Seat}
-use Rattle.rh_rdcss.specs.declared.table.Table.{Table}
 
--- the seat is at the table, which has this shape, and knows what is kept of the worker
+-- the seat is at the table, which has this shape, and its view is what is kept of the worker
 pub record Sits (z : Shape) (t : OnTable) (v : View) : Type 0 where
   pub shape : t.table.now.shape ≡ z
   pub own : t.seat.now.table_id ≡ t.table.now.inner.shared.table_id
   pub view : t.seat.now.me ≡ (known v ∷ [], [])
 
--- it is the same seat at the same table, lent by the same caller
+-- it is the same seat at the same table, lent by the same borrow
 pub record Stays (t then : OnTable) : Type 0 where
   pub table : then.table ≡ t.table
   pub seat : then.seat.now.table_id ≡ t.seat.now.table_id
@@ -29,20 +27,3 @@ pub record Ready (t : OnTable) (z : Shape) (v : View) (s : Step) (at : ℕ) (f :
   pub place : at ≡ place z v s
   pub within : at < word_count z
   pub effect : (n : ℕ) → f n ≡ word_after v s n
-
--- ---- a seat of one worker
-
--- what is kept of the worker
-abbrev pub view_of : Seat → View
-view_of s = s.side.known.view
-
--- the seat is at the table, and has one worker
-pub record IsHere (t : Table) (s : Seat) : Type 0 where
-  pub own : s.inner.table_id ≡ t.inner.shared.table_id
-  pub one : s.count ≡ 1
-
--- it has the same workers at the same table
-pub record IsSame (s then : Seat) : Type 0 where
-  pub table : then.inner.table_id ≡ s.inner.table_id
-  pub first : then.side.worker ≡ s.side.worker
-  pub count : then.count ≡ s.count

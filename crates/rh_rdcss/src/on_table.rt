@@ -1,4 +1,4 @@
-//! One worker on a table that threads share.
+//! A table that threads share as a carrier of one worker's steps.
 
 ghost use Rattle.std.specs.Prelude.{◌≡◌};
 
@@ -8,7 +8,7 @@ use rh_descriptor::{Ask, Effect, Part, Reading, Shape, Side};
 use rh_steps::Steps;
 use std::marker::Brand;
 
-/// A worker's seat at a table.
+/// One worker's seat at a table, lent for some steps.
 #[derive(Drop)]
 pub struct OnTable<'a> {
     pub table: &'a Table,
@@ -29,7 +29,7 @@ impl<'a> Steps for OnTable<'a> {
         let word = match ask.effect(shape, side) {
             Effect::Keep => load::<Brand>(self, side, ask, at),
             Effect::Put(new) => exchange::<Brand>(self, side, ask, at, new),
-            Effect::Swap { old, new } => { swap::<Brand>(self, side, ask, at, old, new) }
+            Effect::Swap { old, new } => swap::<Brand>(self, side, ask, at, old, new),
             Effect::Count => count::<Brand>(self, side, ask, at),
         };
         side.note(shape, ask, word);

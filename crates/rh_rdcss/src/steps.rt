@@ -1,4 +1,5 @@
-//! The single steps of one worker's seat.
+//! The single steps of one worker's seat: each is one load, swap, compare-and-swap or increment of one
+//! word of the table.
 
 ghost use Rattle.std.specs.Prelude.{◌+◌, ◌%◌, ◌^◌};
 ghost use Rattle.rh_descriptor.specs.Steps.{swapped};
@@ -11,7 +12,8 @@ use rh_descriptor::{Ask, Known, Side};
 use std::collections::LinkedList;
 use std::marker::{Brand, PhantomData};
 
-/// Which step a call makes, of whom this is kept. Each call of a program picks it.
+/// Which step a call makes, and of whom this is kept before it. Each call in the program picks it, by
+/// its arguments alone: so the functions below are given the side and the step too.
 pub(crate) trait Makes {
     ghost use Rattle.rh_descriptor.specs.declared.shape.Shape.{Shape};
     ghost use Rattle.rh_descriptor.specs.Steps.{Step};
@@ -44,16 +46,20 @@ impl<B: Makes> Play<(), LinkedList<Known>> for Making<B> {
     ghost then = { λ _ _ word me. StepTells B.shape B.view B.step word me };
 }
 
-pub(crate) fn load<B: Makes>(here: &mut OnTable, _side: &Side, _ask: Ask, at: usize) -> u64
+pub(crate) fn load<B: Makes>(here: &mut OnTable<'_>, _side: &Side, _ask: Ask, at: usize) -> u64
     requires { Ready here.old B.shape B.view B.step at (λ n. n) }
     ensures stays { Stays here.old here.new }
     ensures tells { StepTells B.shape B.view B.step result here.new.seat.now.me }
 {
-    here.table.inner.shared.load::<Making<B>>(here.seat, at)
+    here.table
+        .inner
+        .shared
+        .load::<Making<B>>(&mut *here.seat, at)
 }
 
+/// A swap and no store, since only a swap tells what it found: so each step is told alike.
 pub(crate) fn exchange<B: Makes>(
-    here: &mut OnTable,
+    here: &mut OnTable<'_>,
     _side: &Side,
     _ask: Ask,
     at: usize,
@@ -66,11 +72,11 @@ pub(crate) fn exchange<B: Makes>(
     here.table
         .inner
         .shared
-        .swap::<Making<B>>(here.seat, at, new)
+        .swap::<Making<B>>(&mut *here.seat, at, new)
 }
 
 pub(crate) fn swap<B: Makes>(
-    here: &mut OnTable,
+    here: &mut OnTable<'_>,
     _side: &Side,
     _ask: Ask,
     at: usize,
@@ -84,10 +90,10 @@ pub(crate) fn swap<B: Makes>(
     here.table
         .inner
         .shared
-        .compare_exchange::<Making<B>>(here.seat, at, old, new)
+        .compare_exchange::<Making<B>>(&mut *here.seat, at, old, new)
 }
 
-pub(crate) fn count<B: Makes>(here: &mut OnTable, _side: &Side, _ask: Ask, at: usize) -> u64
+pub(crate) fn count<B: Makes>(here: &mut OnTable<'_>, _side: &Side, _ask: Ask, at: usize) -> u64
     requires { Ready here.old B.shape B.view B.step at (λ n. (n + 1) % 2 ^ 64) }
     ensures stays { Stays here.old here.new }
     ensures tells { StepTells B.shape B.view B.step result here.new.seat.now.me }
@@ -95,5 +101,5 @@ pub(crate) fn count<B: Makes>(here: &mut OnTable, _side: &Side, _ask: Ask, at: u
     here.table
         .inner
         .shared
-        .fetch_add::<Making<B>>(here.seat, at, 1)
+        .fetch_add::<Making<B>>(&mut *here.seat, at, 1)
 }

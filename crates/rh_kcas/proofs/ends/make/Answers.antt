@@ -1,7 +1,7 @@
-use Rattle.std.proofs.Common.{ℕ, ◌∷◌, [], ap, ◌∙◌, sym, subst, arith}
+use Rattle.std.proofs.Common.{ℕ, ap, ◌∙◌, sym, subst}
 use Rattle.rh_descriptor.specs.View.{new_view}
 use Rattle.rh_rule.specs.Seats.{Spans}
-use Rattle.rh_kcas.proofs.Crews.{fresh_rests, half_alone, half_fresh}
+use Rattle.rh_kcas.proofs.Crews.{half_alone}
 use Rattle.rh_kcas.proofs.Made.{made_half, made_head, opens}
 use Rattle.rh_kcas.proofs.ends.make.Goals as goal
 

@@ -1,5 +1,5 @@
 use Rattle.std.proofs.Common.{inl, inr, sym}
-use Rattle.rh_rdcss.proofs.Staying.{stays_first, stays_on}
+use Rattle.rh_rdcss.proofs.Lending.{stays_first, stays_on}
 use Rattle.rh_kcas.proofs.Noting.{is_decided_so, made_notes, noted_first, noted_on, still_known}
 use Rattle.rh_kcas.proofs.helping.go_about.Goals as goal
 

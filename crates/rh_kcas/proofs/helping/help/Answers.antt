@@ -5,7 +5,7 @@ use Rattle.rh_kcas.proofs.helping.help.Goals as goal
 pub returns-clause-rests : goal.returns-clause-rests
 returns-clause-rests g c =
     let e = c.go_about.ensures in record {
-      here = record { own = e.stays.seat ∙ c.requires.rests.here.own; one = c.requires.rests.here.one };
+      here = record { own = e.stays.seat ∙ c.requires.rests.here.own; alone = c.requires.rests.here.alone };
       knows = e.trusts.knows;
       rested = rested_on _ _ _ e.trusts.knows e.helps.noted c.requires.rests.rested e.clear;
     }

@@ -1,6 +1,6 @@
 use Rattle.std.proofs.Common.{List, ap, ◌∙◌, ◌∷◌}
 use Rattle.rh_world.specs.Sides.{KeptRead}
-use Rattle.rh_rdcss.proofs.Staying.{stays_on}
+use Rattle.rh_rdcss.proofs.Lending.{stays_on}
 use Rattle.rh_kcas.proofs.Noting.{made_notes, noted_on, step_worker}
 use Rattle.rh_kcas.proofs.reading.look.Goals as goal
 

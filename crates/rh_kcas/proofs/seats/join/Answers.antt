@@ -1,6 +1,5 @@
 use Rattle.std.proofs.Common.{ℕ, ◌+◌, ◌<◌, ◌++◌, [], ap, ◌∙◌, sym, subst, arith}
 use Rattle.atomic_table.specs.Table.{Joins}
-use Rattle.rh_descriptor.specs.declared.known.Known.{Known}
 use Rattle.rh_descriptor.specs.declared.shape.Shape.{Shape}
 use Rattle.rh_rule.specs.Seats.{Holds, NoSlot, Spans}
 use Rattle.rh_rule.proofs.SeatsKept.{views_join}

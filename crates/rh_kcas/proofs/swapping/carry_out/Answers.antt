@@ -5,7 +5,7 @@ use Rattle.rh_descriptor.specs.Words.{control_of}
 use Rattle.rh_world.specs.Notes.Note.{decided}
 use Rattle.rh_helping.specs.Goal.{own_ref}
 use Rattle.rh_helping.proofs.Owing.{open_all_noted}
-use Rattle.rh_rdcss.proofs.Staying.{stays_first, stays_on}
+use Rattle.rh_rdcss.proofs.Lending.{stays_first, stays_on}
 use Rattle.rh_kcas.proofs.Noting.{closed_number, made_notes, noted_first, noted_on}
 use Rattle.rh_kcas.proofs.swapping.carry_out.Goals as goal
 

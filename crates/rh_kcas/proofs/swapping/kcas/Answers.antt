@@ -6,7 +6,7 @@ pub returns-in-Succeeded-clause-rests : goal.returns-in-Succeeded-clause-rests
 returns-in-Succeeded-clause-rests g c =
     let e = c.in-Succeeded.ensures in
     let s = is_swapped c.args.table.now.shape c.args.entries.now c.args.seat.now.side.known.view _ c.carry_out.new.side.known.view _ _ c.args.seat.now.side.same_number e.trusts.knows c.requires.rests.rested c.open.ensures.opens e.carries in record {
-      here = record { own = e.stays.seat ∙ c.open.ensures.stays.seat ∙ c.requires.rests.here.own; one = c.requires.rests.here.one };
+      here = record { own = e.stays.seat ∙ c.open.ensures.stays.seat ∙ c.requires.rests.here.own; alone = c.requires.rests.here.alone };
       knows = e.trusts.knows;
       rested = s.rested;
     }
@@ -25,7 +25,7 @@ pub returns-in-Failed-clause-rests : goal.returns-in-Failed-clause-rests
 returns-in-Failed-clause-rests g c =
     let e = c.in-Failed.ensures in
     let s = is_swapped c.args.table.now.shape c.args.entries.now c.args.seat.now.side.known.view _ c.carry_out.new.side.known.view _ _ c.args.seat.now.side.same_number e.trusts.knows c.requires.rests.rested c.open.ensures.opens e.carries in record {
-      here = record { own = e.stays.seat ∙ c.open.ensures.stays.seat ∙ c.requires.rests.here.own; one = c.requires.rests.here.one };
+      here = record { own = e.stays.seat ∙ c.open.ensures.stays.seat ∙ c.requires.rests.here.own; alone = c.requires.rests.here.alone };
       knows = e.trusts.knows;
       rested = s.rested;
     }
@@ -44,7 +44,7 @@ pub returns-in-Withdrawn-clause-rests : goal.returns-in-Withdrawn-clause-rests
 returns-in-Withdrawn-clause-rests g c =
     let e = c.in-Withdrawn.ensures in
     let s = is_swapped c.args.table.now.shape c.args.entries.now c.args.seat.now.side.known.view _ c.carry_out.new.side.known.view _ _ c.args.seat.now.side.same_number e.trusts.knows c.requires.rests.rested c.open.ensures.opens e.carries in record {
-      here = record { own = e.stays.seat ∙ c.open.ensures.stays.seat ∙ c.requires.rests.here.own; one = c.requires.rests.here.one };
+      here = record { own = e.stays.seat ∙ c.open.ensures.stays.seat ∙ c.requires.rests.here.own; alone = c.requires.rests.here.alone };
       knows = e.trusts.knows;
       rested = s.rested;
     }

@@ -1,4 +1,4 @@
-use Rattle.std.proofs.Common.{ℕ, ◌+◌, ◌∷◌, [], ap, ◌∙◌, sym, subst, arith}
+use Rattle.std.proofs.Common.{ℕ, ◌∙◌, sym, subst, arith}
 use Rattle.rh_rule.specs.Seats.{Spans}
 use Rattle.rh_kcas.proofs.Clearing.{wiped_half}
 use Rattle.rh_kcas.proofs.Crews.{fresh_rests, half_alone, half_fresh, half_worker}

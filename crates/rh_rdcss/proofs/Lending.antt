@@ -1,7 +1,13 @@
--- A seat stays the same from step to step.
+-- A seat that stays the same from step to step.
 use Rattle.std.proofs.Common.{◌≡◌, refl, ◌∙◌}
 use Rattle.rh_rdcss.specs.declared.on_table.OnTable.{OnTable}
 use Rattle.rh_rdcss.specs.Sits.{Stays}
+
+-- where it has the view that it had, it is what it was
+pub unchanged : (t then : OnTable) → Stays t then → then.seat.now.me ≡ t.seat.now.me → then ≡ t
+unchanged t then s me =
+    let same : then.seat ≡ t.seat = s.lent ∙ (λ i. record t.seat { now = record { marker = t.seat.now.marker; table_id = s.seat i; id = s.id i; me = me i } }) in
+    λ i. record { table = s.table i; seat = same i }
 
 pub stays_first : (t : OnTable) → Stays t t
 stays_first t = record { table = refl; seat = refl; id = refl; lent = refl }

@@ -1,0 +1,31 @@
+//! Placing a mark.
+
+ghost use Rattle.std.specs.Prelude.{◌<◌};
+ghost use Rattle.rh_steps.specs.Relies.{Knows};
+ghost use Rattle.rh_rdcss.specs.Calls.{IsHere, IsSame, MayPlace, Tried, view_of};
+
+use crate::making::make;
+use crate::seat::Seat;
+use crate::table::Table;
+use rh_descriptor::{Ask, Part, Piece, desc_word};
+
+/// Places the next own mark, which is left, and answers the word that stood in the cell. The row is
+/// written first, since whoever meets the mark reads it.
+pub(crate) fn place_next(table: &Table, seat: &mut Seat, piece: Piece, old: u64) -> u64
+    requires here { IsHere table.now seat.old }
+    requires knows { Knows table.now.shape (view_of seat.old) }
+    requires may { MayPlace table.now.shape (view_of seat.old) piece old }
+    requires left { seat.old.side.marks_used < table.now.shape.mark_room }
+    ensures same { IsSame seat.old seat.new }
+    ensures tried { Tried table.now.shape piece old (view_of seat.old) result (view_of seat.new) }
+{
+    let worker = seat.side.worker;
+    let mark = seat.side.marks_used;
+    let part = Part::MarkDesc { worker, mark };
+    let word = desc_word(&table.shape, piece.desc);
+    make(table, seat, Ask::Write { part, word });
+    let part = Part::MarkEntry { worker, mark };
+    let word = piece.entry as u64;
+    make(table, seat, Ask::Write { part, word });
+    make(table, seat, Ask::Place { piece, old })
+}

@@ -1,0 +1,52 @@
+//! Settling a mark: what it is for, and what it is to be settled to.
+
+ghost use Rattle.std.specs.Prelude.{◌≡◌};
+ghost use Rattle.rh_world.specs.World.{In};
+ghost use Rattle.rh_world.specs.Notes.Note.{found};
+ghost use Rattle.rh_descriptor.specs.Words.{ref_of};
+ghost use Rattle.rh_steps.specs.Relies.{Knows};
+ghost use Rattle.rh_rdcss.specs.Calls.{IsHere, IsSame, Judged, Named, view_of};
+ghost use Rattle.rh_rdcss.specs.Met.{IsMet};
+
+use crate::making::make;
+use crate::reading::{control_of_word, desc_of_word};
+use crate::seat::Seat;
+use crate::table::Table;
+use rh_descriptor::{Ask, Piece, Reading, Ref};
+
+/// Reads the row of a mark that was found in this cell.
+pub(crate) fn read_row(table: &Table, seat: &mut Seat, mark: Ref, cell: usize) -> Piece
+    requires here { IsHere table.now seat.old }
+    requires knows { Knows table.now.shape (view_of seat.old) }
+    requires found { In (found (ref_of mark) cell) (view_of seat.old).side.notes }
+    ensures same { IsSame seat.old seat.new }
+    ensures cell { result.cell ≡ cell }
+    ensures named { Named table.now.shape mark result (view_of seat.old) (view_of seat.new) }
+{
+    let word = make(table, seat, Ask::Read(Reading::MarkDesc(mark)));
+    let Some(desc) = desc_of_word(word) else {
+        // (a mark is placed after its row is written)
+        unreachable!()
+    };
+    let entry = make(table, seat, Ask::Read(Reading::MarkEntry(mark))) as usize;
+    Piece { desc, entry, cell }
+}
+
+/// Reads the control of the descriptor that the mark is for, and answers the old value that the mark
+/// is to be settled to, or none where it is to be settled to the descriptor.
+pub(crate) fn judge(table: &Table, seat: &mut Seat, mark: Ref, piece: Piece) -> Option<u64>
+    requires here { IsHere table.now seat.old }
+    requires knows { Knows table.now.shape (view_of seat.old) }
+    requires met { IsMet (view_of seat.old) mark piece }
+    ensures same { IsSame seat.old seat.new }
+    ensures judged { Judged table.now.shape mark piece (view_of seat.old) result (view_of seat.new) }
+{
+    let Piece { desc, entry, cell } = piece;
+    let reading = Reading::MarkControl { mark, cell, desc };
+    let control = control_of_word(make(table, seat, Ask::Read(reading)));
+    if !control.is_decided() {
+        return None;
+    }
+    let reading = Reading::EntryOld { desc, entry };
+    Some(make(table, seat, Ask::Read(reading)))
+}
