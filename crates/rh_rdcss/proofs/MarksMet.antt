@@ -12,47 +12,19 @@ use Rattle.rh_descriptor.specs.declared.reference.Ref.{Ref as Reference}
 use Rattle.rh_descriptor.specs.declared.reference.Reading.TheVariants as reading
 use Rattle.rh_descriptor.specs.View.{View}
 use Rattle.rh_descriptor.specs.Words.{desc_in, read_control, ref_of}
-use Rattle.rh_descriptor.specs.Steps.{Allowed, IsStep, KnowsMark, MaySettle, Step, desc_noted, noted, with_side}
+use Rattle.rh_descriptor.specs.Steps.{Allowed, desc_noted, noted, with_side}
 use Rattle.rh_descriptor.specs.Steps.Step.{reads, settles}
+use Rattle.rh_helping.specs.Settling.{IsFound}
+use Rattle.rh_helping.proofs.Knowing.{allowed}
+use Rattle.rh_helping.proofs.Marks.{may_read_old, may_settle}
+use Rattle.rh_helping.proofs.Sides.{more_control, more_mark}
 use Rattle.rh_steps.specs.Relies.{Knows}
 use Rattle.rh_rdcss.specs.Calls.{ByControl, Judged, Learned, Named, ReadsOld}
-use Rattle.rh_rdcss.specs.Met.{IsMet}
 
 -- ---- what may be done, of what is known
 
-module _ (z : Shape) (v : View) (knows : Knows z v) where
-  allowed : (s : Step) → IsStep z v s → Allowed z v s
-  allowed s h = record { worker = knows.worker; still = knows.still; step = h }
-
-  module _ (x : Reference) where
-    pub may_read_desc : (c : ℕ) → In (found (ref_of x) c) v.side.notes → Allowed z v (reads (reading.MarkDesc x))
-    may_read_desc c h = allowed (reads (reading.MarkDesc x)) ((knows.sound.marks (ref_of x) c h).0, (c, h))
-
-    may_read_entry : (c : ℕ) → In (found (ref_of x) c) v.side.notes → Allowed z v (reads (reading.MarkEntry x))
-    may_read_entry c h = allowed (reads (reading.MarkEntry x)) ((knows.sound.marks (ref_of x) c h).0, (c, h))
-
-    module _ (p : Piece) (h : IsMet v x p) where
-      row : KnowsMark v.side.notes (ref_of p.desc) p.entry
-      row = (ref_of x, h.of_desc, h.of_entry)
-
-      pub may_read_control : Allowed z v (reads (reading.MarkControl x p.cell p.desc))
-      may_read_control = allowed (reads (reading.MarkControl x p.cell p.desc)) ((knows.sound.marked (ref_of p.desc) p.entry row).0, (h.met, h.of_desc))
-
-      may_read_old : Allowed z v (reads (reading.EntryOld p.desc p.entry))
-      may_read_old = let m = knows.sound.marked (ref_of p.desc) p.entry row in allowed (reads (reading.EntryOld p.desc p.entry)) ((m.0.0, m.1), inr row)
-
-      may_settle : (to : Option ℕ) → MaySettle v (ref_of x) p.cell (ref_of p.desc) p.entry to → Allowed z v (settles (ref_of x) p.cell (ref_of p.desc) p.entry to)
-      may_settle to m =
-          let at = knows.sound.marks (ref_of x) p.cell h.met in
-          allowed (settles (ref_of x) p.cell (ref_of p.desc) p.entry to) (record {
-            cell = at.1;
-            mark = at.0;
-            desc = (knows.sound.marked (ref_of p.desc) p.entry row).0;
-            found = h.met;
-            desc_is = h.of_desc;
-            which_is = h.of_entry;
-            may = m;
-          })
+may_read_entry : (z : Shape) (v : View) → Knows z v → (x : Reference) (c : ℕ) → In (found (ref_of x) c) v.side.notes → Allowed z v (reads (reading.MarkEntry x))
+may_read_entry z v knows x c h = allowed z v knows (reads (reading.MarkEntry x)) ((knows.sound.marks (ref_of x) c h).0, (c, h))
 
 -- ---- what is known is known after more was read
 
@@ -61,13 +33,9 @@ desc_keeps s x None n i = i
 desc_keeps s x (Some d) n i = inr i
 
 control_keeps : (s : Side) (x d : Ref) (c : ℕ) (k : Control) (n : Note) → In n s.notes → In n (mark_noted (control_noted s d k) x c k).notes
-control_keeps s x d c unused n i = i
-control_keeps s x d c undecided n i = inr (inr i)
-control_keeps s x d c succeeded n i = inr (inr i)
-control_keeps s x d c withdrawn n i = inr (inr i)
-control_keeps s x d c (failed e by) n i = inr (inr i)
+control_keeps s x d c k n i = (more_mark s (control_noted s d k) x c k (more_control s d k)).notes n i
 
-met_keeps : (v next : View) (x : Reference) (p : Piece) → ((n : Note) → In n v.side.notes → In n next.side.notes) → IsMet v x p → IsMet next x p
+met_keeps : (v next : View) (x : Reference) (p : Piece) → ((n : Note) → In n v.side.notes → In n next.side.notes) → IsFound v x p → IsFound next x p
 met_keeps v next x p keeps h = record {
   met = keeps (found (ref_of x) p.cell) h.met;
   of_desc = keeps (desc_is (ref_of x) (ref_of p.desc)) h.of_desc;
@@ -82,13 +50,13 @@ module _ (z : Shape) (v : View) (x : Reference) (c : ℕ) (here : In (found (ref
   then_entry word next l = may_read_entry z next l.knows x c
       (subst (λ (u : View). In (found (ref_of x) c) u.side.notes) (sym l.view_is) (desc_keeps v.side (ref_of x) (desc_in word) (found (ref_of x) c) here))
 
-  pub row_met : (p : Piece) (next : View) → p.cell ≡ c → Named z x p v next → IsMet next x p
+  pub row_met : (p : Piece) (next : View) → p.cell ≡ c → Named z x p v next → IsFound next x p
   row_met p next at h =
       let first : h.between ≡ with_side v (desc_noted v.side (ref_of x) (Some (ref_of p.desc))) =
       h.desc.view_is ∙ ap (λ (o : Option Ref). with_side v (desc_noted v.side (ref_of x) o)) h.names in
       let both : next ≡ noted z (with_side v (desc_noted v.side (ref_of x) (Some (ref_of p.desc)))) (reads (reading.MarkEntry x)) p.entry =
       h.entry.view_is ∙ ap (λ (u : View). noted z u (reads (reading.MarkEntry x)) p.entry) first in
-      subst (λ (u : View). IsMet u x p) (sym both) (record {
+      subst (λ (u : View). IsFound u x p) (sym both) (record {
         met = inr (inr (subst (λ (n : ℕ). In (found (ref_of x) n) v.side.notes) (sym at) here));
         of_desc = inr (inl refl);
         of_entry = inl refl;
@@ -96,15 +64,15 @@ module _ (z : Shape) (v : View) (x : Reference) (c : ℕ) (here : In (found (ref
 
 -- ---- the control is read, and where it is decided the old value
 
-module _ (z : Shape) (v : View) (x : Reference) (p : Piece) (h : IsMet v x p) where
+module _ (z : Shape) (v : View) (x : Reference) (p : Piece) (h : IsFound v x p) where
   abbrev control_view : Control → View
   control_view k = with_side v (mark_noted (control_noted v.side (ref_of p.desc) k) (ref_of x) p.cell k)
 
-  met_then : (k : Control) → IsMet (control_view k) x p
+  met_then : (k : Control) → IsFound (control_view k) x p
   met_then k = met_keeps v (control_view k) x p (control_keeps v.side (ref_of x) (ref_of p.desc) p.cell k) h
 
   pub then_old : (word : ℕ) (next : View) → Learned z (reads (reading.MarkControl x p.cell p.desc)) v word next → Allowed z next (reads (reading.EntryOld p.desc p.entry))
-  then_old word next l = may_read_old z next l.knows x p (subst (λ (u : View). IsMet u x p) (sym l.view_is) (met_then (read_control word)))
+  then_old word next l = may_read_old z next l.knows x p (subst (λ (u : View). IsFound u x p) (sym l.view_is) (met_then (read_control word)))
 
   -- a decided one: the mark may be settled to the old value that was read
   demotes : (k : Control) → In (may_demote (ref_of x)) (control_view k).side.notes → (to : Option ℕ) (next : View) → ReadsOld z p (control_view k) to next

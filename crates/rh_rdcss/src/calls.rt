@@ -12,11 +12,11 @@ ghost use Rattle.rh_rdcss.specs.Calls.{HasStatus, IsHere, IsSame, Learned, MayPl
 
 use crate::making::make;
 use crate::placing::place_next;
-use crate::reading::control_of_word;
 use crate::seat::Seat;
 use crate::settling::{judge, read_row};
 use crate::table::Table;
 use rh_descriptor::{Ask, Piece, Reading, Ref};
+use rh_helping::control_of_word;
 use rh_tagword::Control;
 
 /// What became of a mark that was to be placed.

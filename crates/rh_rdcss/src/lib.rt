@@ -7,7 +7,6 @@ mod calls;
 mod making;
 mod on_table;
 mod placing;
-mod reading;
 mod seat;
 mod settling;
 mod steps;

@@ -6,13 +6,13 @@ ghost use Rattle.rh_world.specs.Notes.Note.{found};
 ghost use Rattle.rh_descriptor.specs.Words.{ref_of};
 ghost use Rattle.rh_steps.specs.Relies.{Knows};
 ghost use Rattle.rh_rdcss.specs.Calls.{IsHere, IsSame, Judged, Named, view_of};
-ghost use Rattle.rh_rdcss.specs.Met.{IsMet};
+ghost use Rattle.rh_helping.specs.Settling.{IsFound};
 
 use crate::making::make;
-use crate::reading::{control_of_word, desc_of_word};
 use crate::seat::Seat;
 use crate::table::Table;
 use rh_descriptor::{Ask, Piece, Reading, Ref};
+use rh_helping::{control_of_word, named_desc};
 
 /// Reads the row of a mark that was found in this cell.
 pub(crate) fn read_row(table: &Table, seat: &mut Seat, mark: Ref, cell: usize) -> Piece
@@ -24,7 +24,7 @@ pub(crate) fn read_row(table: &Table, seat: &mut Seat, mark: Ref, cell: usize) -
     ensures named { Named table.now.shape mark result (view_of seat.old) (view_of seat.new) }
 {
     let word = make(table, seat, Ask::Read(Reading::MarkDesc(mark)));
-    let Some(desc) = desc_of_word(word) else {
+    let Some(desc) = named_desc(word) else {
         // (a mark is placed after its row is written)
         unreachable!()
     };
@@ -37,7 +37,7 @@ pub(crate) fn read_row(table: &Table, seat: &mut Seat, mark: Ref, cell: usize) -
 pub(crate) fn judge(table: &Table, seat: &mut Seat, mark: Ref, piece: Piece) -> Option<u64>
     requires here { IsHere table.now seat.old }
     requires knows { Knows table.now.shape (view_of seat.old) }
-    requires met { IsMet (view_of seat.old) mark piece }
+    requires met { IsFound (view_of seat.old) mark piece }
     ensures same { IsSame seat.old seat.new }
     ensures judged { Judged table.now.shape mark piece (view_of seat.old) result (view_of seat.new) }
 {

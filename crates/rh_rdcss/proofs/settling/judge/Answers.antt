@@ -1,4 +1,5 @@
-use Rattle.rh_rdcss.proofs.MarksMet.{may_read_control, then_old}
+use Rattle.rh_helping.proofs.Marks.{may_read_control}
+use Rattle.rh_rdcss.proofs.MarksMet.{then_old}
 use Rattle.rh_rdcss.proofs.settling.judge.Goals as goal
 
 pub make-requires-clause-allowed : goal.make-requires-clause-allowed

@@ -1,4 +1,5 @@
-use Rattle.rh_rdcss.proofs.MarksMet.{may_read_desc, then_entry}
+use Rattle.rh_helping.proofs.Marks.{may_read_desc}
+use Rattle.rh_rdcss.proofs.MarksMet.{then_entry}
 use Rattle.rh_rdcss.proofs.settling.read_row.Goals as goal
 
 pub make-word-requires-clause-allowed : goal.make-word-requires-clause-allowed
