@@ -1,4 +1,4 @@
-use Rattle.std.proofs.Common.{◌≡◌, ℕ, ◌<◌, Option, Some, None, IfSome, ⊎_elim, ap, subst, arith}
+use Rattle.std.proofs.Common.{ℕ, ◌<◌, Option, Some, None, IfSome, ⊎_elim, subst, arith}
 use Rattle.rh_world.specs.World.{In}
 use Rattle.rh_descriptor.specs.declared.shape.Shape.{Shape}
 use Rattle.rh_descriptor.specs.View.{View}
