@@ -15,3 +15,5 @@ mod peeks;
 mod swaps;
 #[cfg(test)]
 mod tables;
+#[cfg(test)]
+mod threads;

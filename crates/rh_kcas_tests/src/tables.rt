@@ -19,9 +19,9 @@ use std::process::Abort;
 use std::sync::Wait;
 use std::test::*;
 
-/// So many workers, with eight places for entries and eight marks each.
-pub fn shape(workers: usize, keys: u64) -> Shape
-    requires { (workers ≤ 16) × (keys ≤ 1000) }
+/// So many workers, with so many places for entries and as many marks each.
+pub fn shape(workers: usize, room: usize, keys: u64) -> Shape
+    requires { (workers ≤ 16) × (room ≤ 1000) × (keys ≤ 1000) }
     ensures shape { IsShape result }
     ensures workers { result.workers ≡ workers }
     ensures bits { result.bits ≡ 3 }
@@ -30,8 +30,8 @@ pub fn shape(workers: usize, keys: u64) -> Shape
     Shape {
         bits: 3,
         workers,
-        entry_room: 8,
-        mark_room: 8,
+        entry_room: room,
+        mark_room: room,
         keys,
     }
 }
@@ -48,7 +48,7 @@ pub fn are_values(cells: &[u64]) -> bool
     true
 }
 
-/// A table of one worker, which holds these values.
+/// A table of one worker, which holds these values, with eight places and eight marks.
 pub fn one_worker<R: Abort>(
     rt: &R,
     alloc: Global,
@@ -63,7 +63,7 @@ pub fn one_worker<R: Abort>(
     ensures claims { IfOk result (λ r. (view_of r.1).side.claims ≡ []) }
 {
     assert!(rt; are_values(cells));
-    make(alloc, shape(1, keys), cells)
+    make(alloc, shape(1, 8, keys), cells)
 }
 
 /// A swap of several cells.
@@ -76,11 +76,12 @@ pub fn swap<R: Wait + Abort>(rt: &R, table: &Table, seat: &mut Seat, entries: &[
     kcas(rt, table, seat, entries)
 }
 
-/// The value that a cell holds.
+/// The value that a cell holds, or none where no mark is left.
 pub fn value<R: Wait + Abort>(rt: &R, table: &Table, seat: &mut Seat, cell: usize) -> Option<u64>
     requires rests { Rests table.now seat.old }
     ensures rests { Rests table.now seat.new }
     ensures same { IsSame seat.old seat.new }
+    ensures value { IfSome result IsValue }
 {
     assert!(rt; cell < table.shape.cells());
     plain_value(read(rt, table, seat, cell)?)
@@ -120,15 +121,17 @@ pub fn wipe_one(table: &Table, seat: &mut Seat)
 pub fn two_workers<R: Abort>(
     rt: &R,
     alloc: Global,
+    room: usize,
     cells: &[u64; 8],
 ) -> Result<(Table, Seat, Seat), AllocError>
+    requires { room ≤ 1000 }
     ensures first { IfOk result (λ r. Rests r.0 r.1 × (r.1.side.worker ≡ 0)) }
     ensures second { IfOk result (λ r. Rests r.0 r.2 × (r.2.side.worker ≡ 1)) }
     ensures workers { IfOk result (λ r. r.0.shape.workers ≡ 2) }
     ensures bits { IfOk result (λ r. r.0.shape.bits ≡ 3) }
 {
     assert!(rt; are_values(cells));
-    let (table, mut first) = make(alloc, shape(2, 0), cells)?;
+    let (table, mut first) = make(alloc, shape(2, room, 0), cells)?;
     let second = split(&table, &mut first, 1);
     Ok((table, first, second))
 }
