@@ -1,4 +1,4 @@
-//! Tests of the crates that read plays and carry them out, from outside.
+//! Tests of the crates that read plays and report them, from outside.
 //!
 //! They stand apart from the code, so that each crate is proved once, and not once more with its tests.
 #![tactic(auto)]
@@ -7,9 +7,3 @@
 mod play;
 #[cfg(test)]
 mod play_report;
-#[cfg(test)]
-mod play_run;
-#[cfg(test)]
-mod player;
-#[cfg(test)]
-mod worker;

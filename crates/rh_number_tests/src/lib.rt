@@ -1,0 +1,9 @@
+//! Tests of the crates that read and write texts of numbers, from outside.
+//!
+//! They stand apart from the code, so that each crate is proved once, and not once more with its tests.
+#![tactic(auto)]
+
+#[cfg(test)]
+mod numbers;
+#[cfg(test)]
+mod packing;
