@@ -24,10 +24,10 @@ use Rattle.rh_helping.proofs.Growing.{clear_grows}
 use Rattle.rh_helping.proofs.Knowing.{allowed}
 use Rattle.rh_helping.proofs.Made.{Leaves}
 
-abbrev noted_cell : View → (c : ℕ) → Cell → Option ℕ → View
+abbrev pub noted_cell : View → (c : ℕ) → Cell → Option ℕ → View
 noted_cell v c k current = with_side v (cell_noted v.side c k current 0 v.next_number)
 
-cell_grows : (v : View) (c : ℕ) (k : Cell) (current : Option ℕ) → Grows v (noted_cell v c k current)
+pub cell_grows : (v : View) (c : ℕ) (k : Cell) (current : Option ℕ) → Grows v (noted_cell v c k current)
 cell_grows v c (plain u) None = record { worker = refl; next_number = refl; marks_used = refl; opened = refl; written = refl; current = refl; released = refl; unsettled = refl; debts = refl; notes = λ n i. i }
 cell_grows v c (plain u) (Some p) = record { worker = refl; next_number = refl; marks_used = refl; opened = refl; written = refl; current = refl; released = refl; unsettled = refl; debts = refl; notes = λ n i. i }
 cell_grows v c (mark x) current = record { worker = refl; next_number = refl; marks_used = refl; opened = refl; written = refl; current = refl; released = refl; unsettled = refl; debts = refl; notes = λ n i. inr i }

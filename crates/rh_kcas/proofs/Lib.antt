@@ -1,7 +1,9 @@
+mod Fitting
 mod Noting
+pub mod Peeking
 mod Carried
 mod Left
 mod Swapped
-mod Crews
+pub mod Crews
 mod Clearing
 mod Made

@@ -1,3 +1,4 @@
+pub mod Fits
 pub mod Rests
 pub mod Swaps
 pub mod Crews

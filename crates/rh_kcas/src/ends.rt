@@ -2,7 +2,7 @@
 
 ghost use Rattle.std.specs.Prelude.{◌≡◌, ◌<◌, IfOk, ℕ, length, map, slice_index};
 ghost use Rattle.rh_descriptor.specs.Places.{IsShape, cell_count};
-ghost use Rattle.rh_kcas.specs.Crews.{HasAll, IsQuiet, views_of};
+ghost use Rattle.rh_kcas.specs.Crews.{HasAll, IsFresh, IsQuiet, views_of};
 ghost use Rattle.rh_kcas.specs.Ends.{Leaves};
 ghost use Rattle.rh_kcas.specs.Rests.{Rests};
 ghost use Rattle.rh_rule.specs.Seats.{InView, first_view};
@@ -23,6 +23,7 @@ pub fn make(alloc: Global, shape: Shape, cells: &[u64]) -> Result<(Table, Seat),
     ensures shape { IfOk result (λ r. r.0.shape ≡ shape) }
     ensures all { IfOk result (λ r. HasAll r.0 r.1) }
     ensures views { IfOk result (λ r. views_of r.1 ≡ first_view shape (map plain_number cells.now)) }
+    ensures fresh { IfOk result (λ r. InView IsFresh (views_of r.1)) }
     ensures rests { IfOk result (λ r. r.1.count ≡ 1 → Rests r.0 r.1) }
 {
     let opening = Opening {

@@ -3,6 +3,7 @@
 
 mod claiming;
 mod ends;
+mod entries;
 mod helping;
 mod reading;
 mod seats;
@@ -11,9 +12,10 @@ mod wiping;
 
 pub use claiming::claim;
 pub use ends::{close, make};
+pub use entries::{are_entries, change};
 pub use helping::help;
 pub use reading::read;
 pub use rh_rdcss::{Seat, Table};
 pub use seats::{join, split};
-pub use swapping::{Outcome, kcas};
+pub use swapping::{Outcome, carry_out, kcas, open};
 pub use wiping::wipe;

@@ -80,6 +80,7 @@ pub fn split(table: &Table, seat: &mut Seat, at: usize) -> Seat
     ensures left { IsAt table.now seat.new }
     ensures right { IsAt table.now result }
     ensures cut { IsCut seat.old seat.new result at }
+    ensures still_fresh { InView IsFresh (views_of seat.new) × InView IsFresh (views_of result) }
     ensures left_rests { seat.new.count ≡ 1 → Rests table.now seat.new }
     ensures right_rests { result.count ≡ 1 → Rests table.now result }
 {

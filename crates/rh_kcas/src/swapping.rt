@@ -61,8 +61,8 @@ pub fn kcas<R: Wait>(rt: &R, table: &Table, seat: &mut Seat, entries: &[Entry]) 
     }
 }
 
-/// Opens a descriptor of the entries.
-fn open(shape: &Shape, here: &mut OnTable, side: &mut Side, entries: &[Entry])
+/// Opens a descriptor of the entries: the first part of a K-CAS, for who goes on with it later.
+pub fn open(shape: &Shape, here: &mut OnTable, side: &mut Side, entries: &[Entry])
     requires shape { IsShape shape.now }
     requires trusts { Trusts Sits shape.now here.old side.old.known.view }
     requires may { MayOpen shape.now side.old.known.view entries.now }
@@ -77,8 +77,8 @@ fn open(shape: &Shape, here: &mut OnTable, side: &mut Side, entries: &[Entry])
 }
 
 /// Goes about the own open descriptor until it is decided and released, and answers how it was
-/// decided.
-fn carry_out<R: Wait>(
+/// decided: the second part of a K-CAS.
+pub fn carry_out<R: Wait>(
     rt: &R,
     shape: &Shape,
     here: &mut OnTable,

@@ -3,7 +3,7 @@
 ghost use Rattle.std.specs.Prelude.{◌≡◌, ◌+◌, ◌<◌, [], ℕ, List};
 ghost use Rattle.atomic_table.specs.Table.{Allows};
 ghost use Rattle.rh_descriptor.specs.Places.{word_count};
-ghost use Rattle.rh_kcas.specs.Crews.{HasAll, IsQuiet, views_of};
+ghost use Rattle.rh_kcas.specs.Crews.{HasAll, IsFresh, IsQuiet, views_of};
 ghost use Rattle.rh_kcas.specs.Ends.{IsWiped, renewed, with_cleared};
 ghost use Rattle.rh_kcas.specs.Rests.{Rests};
 ghost use Rattle.rh_rule.specs.Seats.{Begun, Holds, InView, IsWiping, NoSlot, Spans, all_views};
@@ -44,6 +44,7 @@ pub fn wipe(table: &Table, seat: &mut Seat)
     requires rest { InView IsQuiet (views_of seat.old) }
     ensures all { HasAll table.now seat.new }
     ensures wiped { IsWiped table.now.shape (views_of seat.old) (views_of seat.new) }
+    ensures fresh { InView IsFresh (views_of seat.new) }
     ensures rests { seat.new.count ≡ 1 → Rests table.now seat.new }
 {
     wipe_rows(table, &mut seat.inner);

@@ -1,6 +1,5 @@
-use crate::entries::change;
 use crate::tables::*;
-use rh_kcas::Outcome;
+use rh_kcas::{Outcome, change};
 use std::test::*;
 
 #[test]

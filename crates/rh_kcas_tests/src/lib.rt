@@ -8,12 +8,20 @@ mod claims;
 #[cfg(test)]
 mod crews;
 #[cfg(test)]
-mod entries;
+mod halfway;
+#[cfg(test)]
+mod helping;
 #[cfg(test)]
 mod peeks;
+#[cfg(test)]
+mod random;
+#[cfg(test)]
+mod stress;
 #[cfg(test)]
 mod swaps;
 #[cfg(test)]
 mod tables;
 #[cfg(test)]
 mod threads;
+#[cfg(test)]
+mod working;

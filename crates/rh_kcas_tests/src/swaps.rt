@@ -1,6 +1,5 @@
-use crate::entries::change;
 use crate::tables::*;
-use rh_kcas::Outcome;
+use rh_kcas::{Outcome, change};
 use std::test::*;
 
 // Four of the eight places are used by the first two swaps, so that five are too many.

@@ -8,9 +8,10 @@ ghost use Rattle.rh_steps.specs.Relies.{Knows};
 ghost use Rattle.rh_tagword.specs.Word.{IsValue};
 ghost use Rattle.rh_world.specs.World.{In};
 
-use crate::entries::are_entries;
 use rh_descriptor::Shape;
-use rh_kcas::{Outcome, Seat, Table, claim, close, join, kcas, make, read, split, wipe};
+use rh_kcas::{
+    Outcome, Seat, Table, are_entries, claim, close, join, kcas, make, read, split, wipe,
+};
 use rh_layout::{Entry, MAX_KEY};
 use rh_rdcss::peek_cell;
 use rh_tagword::plain_value;
@@ -21,7 +22,7 @@ use std::test::*;
 
 /// So many workers, with so many places for entries and as many marks each.
 pub fn shape(workers: usize, room: usize, keys: u64) -> Shape
-    requires { (workers ≤ 16) × (room ≤ 1000) × (keys ≤ 1000) }
+    requires { (workers ≤ 16) × (room ≤ 10000) × (keys ≤ 1000) }
     ensures shape { IsShape result }
     ensures workers { result.workers ≡ workers }
     ensures bits { result.bits ≡ 3 }
@@ -124,7 +125,7 @@ pub fn two_workers<R: Abort>(
     room: usize,
     cells: &[u64; 8],
 ) -> Result<(Table, Seat, Seat), AllocError>
-    requires { room ≤ 1000 }
+    requires { room ≤ 10000 }
     ensures first { IfOk result (λ r. Rests r.0 r.1 × (r.1.side.worker ≡ 0)) }
     ensures second { IfOk result (λ r. Rests r.0 r.2 × (r.2.side.worker ≡ 1)) }
     ensures workers { IfOk result (λ r. r.0.shape.workers ≡ 2) }

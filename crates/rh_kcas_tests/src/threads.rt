@@ -1,9 +1,8 @@
 ghost use Rattle.std.specs.Prelude.{◌≡◌};
 ghost use Rattle.rh_kcas.specs.Rests.{Rests};
 
-use crate::entries::change;
 use crate::tables::*;
-use rh_kcas::{Outcome, Seat, Table};
+use rh_kcas::{Outcome, Seat, Table, change};
 use rh_layout::MAX_KEY;
 use std::process::Abort;
 use std::sync::Wait;

@@ -22,3 +22,6 @@ invariant_of-result-2 c =
       empty = ap (λ x. x.1) me;
       alone = λ one. λ i. (half_alone _ _ _ half c.new-side.result.known.view is one i, ap (λ x. x.1) me i);
     }
+
+pub returns-clause-fresh : goal.returns-clause-fresh
+returns-clause-fresh c = (made_half c.args.shape c.in_ok-plain_words.field-0.items c.in_ok-inner.seat.me.0 (ap (λ x. x.0) c.in_ok-inner.ensures.4)).fresh

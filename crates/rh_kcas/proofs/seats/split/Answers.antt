@@ -78,3 +78,13 @@ returns-clause-right_rests c one =
     let within = c.requires.here.within in
     fresh_rests c.args.table.now _ (record { own = c.cut-inner.ensures.table.1 ∙ c.requires.here.own; within = let e = c.fresh_side.ensures.worker in omega (arith, e, within, w.0, w.1) }) one c.fresh_side.ensures.known
     (half_fresh _ _ _ half (omega (arith, w.0, w.1)))
+
+pub returns-clause-still_fresh : goal.returns-clause-still_fresh
+returns-clause-still_fresh c =
+    let q = c.args.seat.now in
+    let first = q.side.worker in
+    let n = c.args.at - first in
+    let w = c.requires.within in (
+      (take_half q.inner.me.0 _ first q.count n (ap (λ x. x.0) c.cut-inner.ensures.left) (omega (arith, w.0, w.1)) q.spans c.requires.fresh).fresh,
+      (drop_half q.inner.me.0 _ first q.count n c.args.at (ap (λ x. x.0) c.cut-inner.ensures.right) (omega (arith, w.0)) q.spans c.requires.fresh).fresh,
+    )

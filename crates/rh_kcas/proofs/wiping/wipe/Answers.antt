@@ -32,3 +32,8 @@ returns-clause-rests c one =
     let e = c.fresh_side.ensures.worker in
     let all = c.requires.all.count in
     fresh_rests c.args.table.now _ (record { own = c.wipe_rows.ensures.own ∙ c.requires.all.own; within = omega (arith, e, all) }) one c.fresh_side.ensures.known (half_fresh _ _ _ half q.some)
+
+pub returns-clause-fresh : goal.returns-clause-fresh
+returns-clause-fresh c =
+    let q = c.args.seat.now in
+    (wiped_half _ _ _ q.side.worker q.count c.wipe_rows.ensures.wiped q.spans).fresh

@@ -6,7 +6,7 @@ use Rattle.rh_descriptor.specs.declared.shape.Shape.{Shape}
 use Rattle.rh_descriptor.specs.Places.{cell_count}
 use Rattle.rh_descriptor.specs.Steps.{AreEntries, entry_of, no_entry}
 use Rattle.rh_descriptor.specs.Words.{IsPlain}
-use Rattle.rh_kcas_tests.specs.Fits.{Fits, IsBehind}
+use Rattle.rh_kcas.specs.Fits.{Fits, IsBehind}
 
 pub entry_at : (es : List Entry) (e : ℕ) (d : Entry) → e < length es → get_or es e d ≡ entry_of es e
 entry_at [] e d l = absurd (omega arith)
@@ -30,6 +30,23 @@ fits_so z es e d l behind cell old new =
       behind = behind;
     }
 
+-- and the other way
+pub behind_back : (es : List Entry) (e : ℕ) → e < length es → 0 < e → IsBehind es e → (get_or es (e - 1) no_entry).cell < (get_or es e no_entry).cell
+behind_back es zero l more h = absurd (omega (arith, more))
+behind_back es (suc before) l more h =
+    let same : suc before - 1 ≡ before = omega arith in
+    subst (λ (k : ℕ). (get_or es k no_entry).cell < (get_or es (suc before) no_entry).cell) (sym same)
+    (subst (λ (x : Entry). x.cell < (get_or es (suc before) no_entry).cell) (sym (entry_at es before no_entry (omega (arith, l))))
+    (subst (λ (x : Entry). (entry_of es before).cell < x.cell) (sym (entry_at es (suc before) no_entry l)) (h before refl)))
+
+pub record WordsFit (z : Shape) (x : Entry) : Type 0 where
+  pub cell : x.cell < cell_count z
+  pub old : IsPlain x.old
+  pub new : IsPlain x.new
+
+pub words_fit : (z : Shape) (es : List Entry) (e : ℕ) (d : Entry) → e < length es → Fits z es e → WordsFit z (get_or es e d)
+words_fit z es e d l h = subst (WordsFit z) (sym (entry_at es e d l)) record { cell = h.cell; old = h.old; new = h.new }
+
 rises : (z : Shape) (es : List Entry) → ((e : ℕ) → e < length es → Fits z es e) → (e f : ℕ) → e < f → f < length es → (entry_of es e).cell < (entry_of es f).cell
 rises z es fit e zero l m = absurd (omega arith)
 rises z es fit e (suc f) l m =
@@ -44,4 +61,13 @@ are_entries z es more fit = record {
   cells = λ e l. (fit e l).cell;
   olds = λ e l. (fit e l).old;
   news = λ e l. (fit e l).new;
+}
+
+-- and each of those of a descriptor fits
+pub fit_of : (z : Shape) (es : List Entry) → AreEntries z es → (e : ℕ) → e < length es → Fits z es e
+fit_of z es h e l = record {
+  cell = h.cells e l;
+  old = h.olds e l;
+  new = h.news e l;
+  behind = λ before is. h.rising before e (omega (arith, is)) l;
 }

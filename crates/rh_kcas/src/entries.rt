@@ -1,11 +1,11 @@
-//! Entries of values, and the test of them that a call asks for.
+//! Entries of values, and whether a descriptor may have them.
 
-ghost use Rattle.std.specs.Prelude.{◌≡◌, ◌<◌, IsTrue, length};
+ghost use Rattle.std.specs.Prelude.{◌≡◌, ◌<◌, ◌↔◌, IsTrue, length};
 ghost use Rattle.rh_descriptor.specs.Places.{IsShape};
 ghost use Rattle.rh_descriptor.specs.Steps.{AreEntries};
 ghost use Rattle.rh_descriptor.specs.Words.{IsPlain};
-ghost use Rattle.rh_kcas_tests.specs.Fits.{Fits, IsBehind};
-ghost use Rattle.rh_tagword.specs.Word.{IsValue};
+ghost use Rattle.rh_kcas.specs.Fits.{Fits, IsBehind};
+ghost use Rattle.rh_tagword.specs.Word.{IsValue, plain_number};
 
 use rh_descriptor::Shape;
 use rh_layout::Entry;
@@ -14,6 +14,8 @@ use rh_tagword::{plain_value, plain_word};
 /// The entry that changes a cell from one value to another.
 pub fn change(cell: usize, old: u64, new: u64) -> Entry
     requires { IsValue old × IsValue new }
+    ensures cell { result.cell ≡ cell }
+    ensures words { (result.old ≡ plain_number old) × (result.new ≡ plain_number new) }
 {
     Entry {
         cell,
@@ -22,10 +24,11 @@ pub fn change(cell: usize, old: u64, new: u64) -> Entry
     }
 }
 
-/// Whether a descriptor may have these entries.
+/// Whether a descriptor may have these entries: there is one, their cells rise and are cells of the
+/// table, and their words are plain.
 pub fn are_entries(shape: &Shape, entries: &[Entry]) -> bool
     requires { IsShape shape.now }
-    ensures { IsTrue result → AreEntries shape.now entries.now }
+    ensures { IsTrue result ↔ AreEntries shape.now entries.now }
 {
     if entries.is_empty() {
         return false;
@@ -41,7 +44,7 @@ pub fn are_entries(shape: &Shape, entries: &[Entry]) -> bool
 fn fits(shape: &Shape, entries: &[Entry], entry: usize) -> bool
     requires shape { IsShape shape.now }
     requires entry { entry < length entries.now }
-    ensures { IsTrue result → Fits shape.now entries.now entry }
+    ensures { IsTrue result ↔ Fits shape.now entries.now entry }
 {
     if !is_behind(entries, entry) {
         return false;
@@ -59,7 +62,7 @@ fn fits(shape: &Shape, entries: &[Entry], entry: usize) -> bool
 /// Whether the cell of the entry is behind that of the entry before.
 fn is_behind(entries: &[Entry], entry: usize) -> bool
     requires { entry < length entries.now }
-    ensures { IsTrue result → IsBehind entries.now entry }
+    ensures { IsTrue result ↔ IsBehind entries.now entry }
 {
     if entry == 0 {
         return true;
@@ -68,7 +71,7 @@ fn is_behind(entries: &[Entry], entry: usize) -> bool
 }
 
 fn is_plain(word: u64) -> bool
-    ensures { IsTrue result → IsPlain word }
+    ensures { IsTrue result ↔ IsPlain word }
 {
     plain_value(word).is_some()
 }

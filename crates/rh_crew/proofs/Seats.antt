@@ -1,0 +1,39 @@
+-- Seats whose workers rest, one by one and joined.
+use Rattle.std.proofs.Common.{◌≡◌, ℕ, zero, suc, List, [], ◌∷◌, ◌++◌, refl, sym, ap, ◌∙◌, subst, ⊎_elim}
+use mathlib.Core.Option.{some, some-injective, some-ne-none}
+use lib.ListN.{get_elem?}
+use Rattle.rh_descriptor.specs.declared.known.Known.{Known}
+use Rattle.rh_descriptor.specs.View.{View}
+use Rattle.rh_rule.specs.Seats.{InView, known}
+use Rattle.rh_rule.proofs.SeatsKept.{at_append}
+use Rattle.rh_rdcss.specs.declared.seat.Seat.{Seat}
+use Rattle.rh_rdcss.specs.declared.table.Table.{Table}
+use Rattle.rh_rdcss.specs.Calls.{view_of}
+use Rattle.rh_kcas.specs.Crews.{IsAt, IsFresh, IsQuiet, head_of, views_of}
+use Rattle.rh_kcas.specs.Rests.{Rests}
+use Rattle.rh_kcas.proofs.Crews.{fresh_rests, head_in}
+
+-- what the seat of one worker keeps of it
+alone_views : (s : Seat) → s.count ≡ 1 → views_of s ≡ known (view_of s) ∷ []
+alone_views s one = ap (λ x. x.0) (s.alone one)
+
+-- a fresh worker alone rests
+pub alone_rests : (t : Table) (s : Seat) → IsAt t s → InView IsFresh (views_of s) → s.count ≡ 1 → Rests t s
+alone_rests t s at fresh one =
+    let views = alone_views s one in
+    fresh_rests t s at one (sym (ap head_of views))
+    (subst (λ (vs : List Known). IsFresh (head_of vs)) (sym views)
+    (subst (InView IsFresh) views fresh 0 (known (view_of s)) refl))
+
+pub rests_quiet : (t : Table) (s : Seat) → Rests t s → InView IsQuiet (views_of s)
+rests_quiet t s h = subst (InView IsQuiet) (sym (alone_views s h.here.alone)) quiet
+  where
+    quiet : InView IsQuiet (known (view_of s) ∷ [])
+    quiet zero k at = subst (λ (x : Known). IsQuiet x.view) (some-injective _ _ at) record {
+      still = h.knows.still;
+      rest = record { closed = h.rested.clear.own.current; settled = h.rested.clear.owes.settled; paid = h.rested.clear.owes.paid };
+    }
+    quiet (suc r) k at = absurd (some-ne-none k (sym at))
+
+pub both_quiet : (vs us : List Known) → InView IsQuiet vs → InView IsQuiet us → InView IsQuiet (vs ++ us)
+both_quiet vs us h g r k at = ⊎_elim (λ left. h r k left) (λ right. g right.0 k right.2) (at_append vs us r k at)

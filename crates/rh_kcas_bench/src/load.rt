@@ -1,0 +1,149 @@
+//! What each thread does: swaps that raise each of its cells by one.
+
+ghost use Rattle.std.specs.Prelude.{◌≡◌, ◌≤◌};
+ghost use Rattle.rh_kcas.specs.Rests.{Rests};
+ghost use Rattle.rh_rdcss.specs.Calls.{IsSame};
+
+use rh_crew::Work;
+use rh_kcas::{Outcome, Seat, Table, are_entries, change, kcas, read};
+use rh_layout::Entry;
+use rh_tagword::plain_value;
+use std::sync::Wait;
+use std::time::{Clock, Duration, Instant};
+
+/// The most entries of a swap, and the most threads.
+pub const MOST: usize = 8;
+
+/// The table has so many cells that each thread may have its own: two to the sixth power.
+pub const BITS: u32 = 6;
+
+/// Places for the entries of one round's swaps, and as many marks.
+pub const ROOM: usize = 4_000;
+
+/// The values in the cells stay below this.
+const VALUES: u64 = 1 << 60;
+
+/// What threads tell of a round.
+#[derive(Clone, Copy)]
+pub struct Told {
+    /// How many swaps were carried out.
+    pub done: u64,
+    /// How long the thread swapped that took longest, without its start.
+    pub took: Duration,
+}
+
+/// A round of swaps, which all raise so many cells by one.
+#[derive(Drop)]
+pub struct Load {
+    pub entries: usize,
+    /// Whether each thread has cells of its own.
+    pub own: bool,
+}
+
+impl<R: Wait + Clock> Work<R, Told> for Load {
+    fn work(&self, rt: &R, table: &Table, seat: Seat) -> (Seat, Told) {
+        let mut seat = seat;
+        let first = if self.own {
+            seat.side.worker.wrapping_mul(MOST)
+        } else {
+            0
+        };
+        let start = Instant::now(rt);
+        let done = raise_often(rt, table, &mut seat, first, self.entries);
+        let took = match (start, Instant::now(rt)) {
+            (Ok(start), Ok(end)) => end.duration_since(start),
+            // (no clock can be read: the time is told as nought)
+            _ => Duration::ZERO,
+        };
+        (seat, Told { done, took })
+    }
+
+    fn both(&self, first: Told, second: Told) -> Told {
+        Told {
+            done: first.done.wrapping_add(second.done),
+            took: first.took.max(second.took),
+        }
+    }
+}
+
+/// Raises so many cells from this one on, time after time, until the places or the marks are used.
+/// Answers how many swaps were carried out.
+fn raise_often<R: Wait>(rt: &R, table: &Table, seat: &mut Seat, first: usize, count: usize) -> u64
+    requires rests { Rests table.now seat.old }
+    ensures rests { Rests table.now seat.new }
+    ensures same { IsSame seat.old seat.new }
+{
+    let mut entries = [change(0, 0, 0); MOST];
+    let count = count.min(MOST);
+    let mut done = 0u64;
+    if !see(rt, table, seat, first, &mut entries, count) {
+        return done;
+    }
+    for tried in 0..ROOM {
+        // (also what the contract of a swap asks for)
+        if !are_entries(&table.shape, &entries[..count]) {
+            return done;
+        }
+        match kcas(rt, table, seat, &entries[..count]) {
+            Outcome::Done => {
+                done = done.wrapping_add(1);
+                go_on(&mut entries, count);
+            }
+            Outcome::Failed { .. } => {
+                if !see(rt, table, seat, first, &mut entries, count) {
+                    return done;
+                }
+            }
+            Outcome::Spent => return done,
+        }
+    }
+    done
+}
+
+/// Reads the cells, for a swap that raises each. Answers whether all could be read.
+fn see<R: Wait>(
+    rt: &R,
+    table: &Table,
+    seat: &mut Seat,
+    first: usize,
+    entries: &mut [Entry; MOST],
+    count: usize,
+) -> bool
+    requires rests { Rests table.now seat.old }
+    requires count { count ≤ 8 }
+    ensures rests { Rests table.now seat.new }
+    ensures same { IsSame seat.old seat.new }
+{
+    for entry in 0..count {
+        let cell = first.wrapping_add(entry);
+        if cell >= table.shape.cells() {
+            return false;
+        }
+        let Some(word) = read(rt, table, seat, cell) else {
+            return false;
+        };
+        let Some(value) = plain_value(word) else {
+            return false;
+        };
+        if value >= VALUES {
+            return false;
+        }
+        entries[entry] = change(cell, value, value + 1);
+    }
+    true
+}
+
+/// The swap that raises the cells once more.
+fn go_on(entries: &mut [Entry; MOST], count: usize)
+    requires { count ≤ 8 }
+{
+    for entry in 0..count {
+        let Entry { cell, old: _, new } = entries[entry];
+        let Some(value) = plain_value(new) else {
+            return;
+        };
+        if value < VALUES {
+            entries[entry] = change(cell, value, value + 1);
+        }
+    }
+}

@@ -1,0 +1,97 @@
+//! The program that `benchmarks/kcas` times: threads that swap several cells of one table.
+#![tactic(auto)]
+
+ghost use Rattle.std.specs.Prelude.{◌<◌, ◌≤◌, IfOk};
+ghost use Rattle.rh_kcas.specs.Crews.{HasAll, IsFresh, views_of};
+ghost use Rattle.rh_rule.specs.Seats.{InView};
+
+mod line;
+mod load;
+
+use line::Line;
+use load::{BITS, Load, ROOM, Told};
+use rh_crew::round;
+use rh_descriptor::Shape;
+use rh_kcas::{Seat, Table, make};
+use std::alloc::{AllocError, Global};
+use std::env;
+use std::env::Env;
+use std::process::ExitCode;
+use std::sync::Wait;
+use std::thread::Threads;
+use std::time::{Clock, Duration};
+
+const USAGE: &str = "usage: rh_kcas_bench THREADS ENTRIES own|same ROUNDS [timed]
+  THREADS  1 to 8
+  ENTRIES  1 to 8: how many cells each swap changes
+  own      each thread changes cells of its own
+  same     all threads change the same cells
+  ROUNDS   so often each thread uses 4000 places, a place an entry, and the rows are wiped
+  timed    tells how long the rounds took";
+
+fn main(rt: HostRuntime) -> ExitCode {
+    match carry_out(&rt) {
+        Ok(()) => ExitCode::SUCCESS,
+        Err(fault) => {
+            let _ = eprintln!(rt; "{fault}");
+            ExitCode::FAILURE
+        }
+    }
+}
+
+fn carry_out(
+    rt: &(impl Env + Threads + Wait + Sync + Clock + Print + AllocGlobal),
+) -> Result<(), &'static str> {
+    let args = env::args(rt).map_err(|_| "cannot read the command line")?;
+    let words: Vec<String> = args.collect(rt.alloc()).map_err(|_| "out of memory")?;
+    let Some(line) = words.get(1..).and_then(line::asked) else {
+        return Err(USAGE);
+    };
+    let Told { done, took } = measure(rt, &line).map_err(|_| "out of memory")?;
+    let printed = if line.timed {
+        println!(rt; "{done} swaps in {} microseconds", took.as_micros())
+    } else {
+        println!(rt; "{done} swaps")
+    };
+    printed.map_err(|_| "cannot write the output")
+}
+
+/// How many swaps were carried out, and how long the threads swapped, round after round.
+fn measure(
+    rt: &(impl Threads + Wait + Sync + Clock + AllocGlobal),
+    line: &Line,
+) -> Result<Told, AllocError> {
+    let (table, seat) = empty_table(rt.alloc(), line.threads)?;
+    let load = Load {
+        entries: line.entries,
+        own: line.own,
+    };
+    let mut seat = seat;
+    let mut all = Told {
+        done: 0,
+        took: Duration::ZERO,
+    };
+    for _ in 0..line.rounds {
+        let (next, told) = round(rt, &table, seat, &load);
+        seat = next;
+        all.done = all.done.wrapping_add(told.done);
+        all.took = all.took.saturating_add(told.took);
+    }
+    Ok(all)
+}
+
+/// A table of cells that all hold nought, with the seat of so many workers.
+fn empty_table(alloc: Global, workers: usize) -> Result<(Table, Seat), AllocError>
+    requires { (0 < workers) × (workers ≤ 8) }
+    ensures all { IfOk result (λ r. HasAll r.0 r.1) }
+    ensures fresh { IfOk result (λ r. InView IsFresh (views_of r.1)) }
+{
+    let shape = Shape {
+        bits: BITS,
+        workers,
+        entry_room: ROOM,
+        mark_room: ROOM,
+        keys: 0,
+    };
+    make(alloc, shape, &[0; 1 << BITS])
+}

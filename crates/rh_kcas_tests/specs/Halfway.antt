@@ -1,0 +1,14 @@
+-- A worker whose own descriptor is open, and that owes nothing. (own)
+use Rattle.std.specs.Prelude.{ℕ, Some, List}
+use Rattle.rh_layout.specs.declared.entry.Entry.{Entry}
+use Rattle.rh_helping.specs.Goal.{KnowsOwn, OwesNothing}
+use Rattle.rh_rdcss.specs.Calls.{IsHere, view_of}
+use Rattle.rh_rdcss.specs.declared.seat.Seat.{Seat}
+use Rattle.rh_rdcss.specs.declared.table.Table.{Table}
+use Rattle.rh_steps.specs.Relies.{Knows}
+
+pub record IsHalfway (t : Table) (s : Seat) (es : List Entry) (number : ℕ) : Type 0 where
+  pub here : IsHere t s
+  pub knows : Knows t.shape (view_of s)
+  pub own : KnowsOwn (view_of s) (Some (record { number = number; entries = es }))
+  pub owes : OwesNothing (view_of s)

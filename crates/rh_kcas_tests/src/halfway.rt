@@ -1,0 +1,119 @@
+//! A worker that stops on the way of its own swap: its marks are placed and settled, and only the
+//! decision is left.
+
+ghost use Rattle.std.specs.Prelude.{◌≡◌, ◌≤◌, ◌+◌, IsTrue, IfSome, Some, length};
+ghost use Rattle.rh_descriptor.specs.Places.{IsShape};
+ghost use Rattle.rh_descriptor.specs.Steps.{AreEntries};
+ghost use Rattle.rh_helping.specs.Goal.{KnowsOwn, OwesNothing, opened_by};
+ghost use Rattle.rh_kcas.specs.Rests.{Rests};
+ghost use Rattle.rh_kcas_tests.specs.Halfway.{IsHalfway};
+ghost use Rattle.rh_rdcss.specs.Calls.{view_of};
+ghost use Rattle.rh_rdcss.specs.Sits.{Sits, Stays};
+ghost use Rattle.rh_steps.specs.Relies.{Trusts};
+
+use rh_descriptor::{Ref, Shape, Side};
+use rh_helping::{OpenDesc, Outcome as Worked, Work};
+use rh_kcas::{Seat, Table, carry_out, open};
+use rh_layout::Entry;
+use rh_rdcss::{OnTable, status};
+use rh_tagword::Control;
+use std::sync::Wait;
+
+/// More steps than a worker makes alone until only the decision is left.
+const STEPS: usize = 40;
+
+/// Opens a descriptor of the entries, and works at it until it is to be decided. Answers its number,
+/// or none where that takes too many steps.
+pub fn stop_halfway(table: &Table, seat: &mut Seat, entries: &[Entry]) -> Option<usize>
+    requires rests { Rests table.now seat.old }
+    requires entries { AreEntries table.now.shape entries.now }
+    requires room { (view_of seat.old).next_number + length entries.now ≤ table.now.shape.entry_room }
+    ensures { IfSome result (λ number. IsHalfway table.now seat.new entries.now number) }
+{
+    let number = seat.side.next_number;
+    let mut here = OnTable {
+        table,
+        seat: &mut seat.inner,
+    };
+    open(&table.shape, &mut here, &mut seat.side, entries);
+    let own = OpenDesc { number, entries };
+    if comes_to_decide(&table.shape, &mut here, &mut seat.side, own) {
+        Some(number)
+    } else {
+        None
+    }
+}
+
+fn comes_to_decide(shape: &Shape, here: &mut OnTable, side: &mut Side, own: OpenDesc<'_>) -> bool
+    requires shape { IsShape shape.now }
+    requires trusts { Trusts Sits shape.now here.old side.old.known.view }
+    requires own { KnowsOwn side.old.known.view (opened_by (Some own)) }
+    requires owes { OwesNothing side.old.known.view }
+    ensures stays { Stays here.old here.new }
+    ensures trusts { Trusts Sits shape.now here.new side.new.known.view }
+    ensures own { IsTrue result → KnowsOwn side.new.known.view (opened_by (Some own.entry)) }
+    ensures owes { IsTrue result → OwesNothing side.new.known.view }
+{
+    let mut work = Work::Control(Ref {
+        worker: side.worker,
+        number: own.number,
+    });
+    for made in 0..STEPS {
+        let Worked::On(next) = work.step(shape, here, side, Some(own)) else {
+            return false;
+        };
+        if let Work::Succeed(_) = next {
+            return true;
+        }
+        work = next;
+    }
+    false
+}
+
+/// Reads the status of the own descriptor until it is decided, so often at the most, and makes no
+/// other step.
+pub fn watch(
+    table: &Table,
+    seat: &mut Seat,
+    entries: &[Entry],
+    number: usize,
+    reads: usize,
+) -> Control
+    requires { IsHalfway table.now seat.old entries.now number }
+    ensures { IsHalfway table.now seat.new entries.now number }
+{
+    let mut seen = Control::Undecided;
+    for made in 0..reads {
+        seen = look(table, seat, entries, number);
+        if seen.is_decided() {
+            break;
+        }
+    }
+    seen
+}
+
+fn look(table: &Table, seat: &mut Seat, entries: &[Entry], number: usize) -> Control
+    requires { IsHalfway table.now seat.old entries.now number }
+    ensures { IsHalfway table.now seat.new entries.now number }
+{
+    let worker = seat.side.worker;
+    status(table, seat, Ref { worker, number })
+}
+
+/// Goes on with the own swap, and answers how it was decided.
+pub fn go_on<R: Wait>(
+    rt: &R,
+    table: &Table,
+    seat: &mut Seat,
+    entries: &[Entry],
+    number: usize,
+) -> Control
+    requires { IsHalfway table.now seat.old entries.now number }
+{
+    let mut here = OnTable {
+        table,
+        seat: &mut seat.inner,
+    };
+    let own = OpenDesc { number, entries };
+    carry_out(rt, &table.shape, &mut here, &mut seat.side, own)
+}

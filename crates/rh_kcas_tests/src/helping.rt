@@ -1,0 +1,159 @@
+//! A worker that stops before its decision is helped to it by another one, on a thread of its own.
+
+ghost use Rattle.std.specs.Prelude.{◌≡◌};
+ghost use Rattle.rh_kcas.specs.Rests.{Rests};
+ghost use Rattle.rh_kcas_tests.specs.Halfway.{IsHalfway};
+
+use crate::halfway::{go_on, stop_halfway, watch};
+use crate::tables::*;
+use rh_helping::named_desc;
+use rh_kcas::{Outcome, Seat, Table, are_entries, change, help};
+use rh_layout::Entry;
+use rh_rdcss::peek_cell;
+use rh_tagword::Control;
+use std::alloc::{AllocError, Global};
+use std::process::Abort;
+use std::sync::Wait;
+use std::test::*;
+use std::thread::{Threads, join};
+
+// So often each run is made, each time on a table of its own.
+const RUNS: usize = 100;
+
+// The worker that stops goes on by itself where so many Reads tell of no help.
+const READS: usize = 100_000_000;
+
+/// What the two workers tell.
+#[derive(Drop)]
+struct Told {
+    /// The status that the worker that stopped saw last.
+    seen: Control,
+    /// How its swap ended.
+    ended: Control,
+    /// What became of the other worker's own swap, if it tried one.
+    own: Option<Outcome>,
+    /// The value in the cell at the end.
+    left: Option<u64>,
+}
+
+/// One worker stops before its decision on cell 4, and the other one swaps the same cell, or helps.
+fn run<R: Threads + Wait + Abort + Sync>(
+    rt: &R,
+    alloc: Global,
+    swaps: bool,
+) -> Result<Told, AllocError> {
+    let (table, first, second) = two_workers(rt, alloc, 8, &[0; 8])?;
+    let entries = [change(4, 0, 9)];
+    let (first, number) = stopped(rt, &table, first, &entries);
+    let ((mut first, seen), (mut second, own)) = both(
+        rt, &table, first, second, &entries, number, swaps,
+    );
+    let ended = go_on(rt, &table, &mut first, &entries, number);
+    let left = value(rt, &table, &mut second, 4);
+    Ok(Told {
+        seen,
+        ended,
+        own,
+        left,
+    })
+}
+
+fn stopped<R: Abort>(rt: &R, table: &Table, seat: Seat, entries: &[Entry]) -> (Seat, usize)
+    requires { Rests table.now seat }
+    ensures { IsHalfway table.now result.0 entries.now result.1 }
+{
+    let mut seat = seat;
+    let left = table.shape.entry_room - seat.side.next_number;
+    assert!(rt; are_entries(&table.shape, entries) && entries.len() <= left);
+    let number = stop_halfway(table, &mut seat, entries);
+    (seat, number.expect(rt, "the worker comes to its decision"))
+}
+
+fn both<R: Threads + Wait + Abort + Sync>(
+    rt: &R,
+    table: &Table,
+    first: Seat,
+    second: Seat,
+    entries: &[Entry],
+    number: usize,
+    swaps: bool,
+) -> ((Seat, Control), (Seat, Option<Outcome>))
+    requires first { IsHalfway table.now first entries.now number }
+    requires second { Rests table.now second }
+    ensures first { IsHalfway table.now result.0.0 entries.now number }
+    ensures second { Rests table.now result.1.0 }
+{
+    join(
+        rt,
+        || -> (Seat, Control)
+            requires { IsHalfway table.now first entries.now number }
+            ensures { IsHalfway table.entry.now result.0 entries.entry.now number }
+        { watched(table, first, entries, number) },
+        || -> (Seat, Option<Outcome>)
+            requires { Rests table.now second }
+            ensures { Rests table.entry.now result.0 }
+        { helped(rt, table, second, swaps) },
+    )
+}
+
+fn watched(table: &Table, seat: Seat, entries: &[Entry], number: usize) -> (Seat, Control)
+    requires { IsHalfway table.now seat entries.now number }
+    ensures { IsHalfway table.now result.0 entries.now number }
+{
+    let mut seat = seat;
+    let seen = watch(table, &mut seat, entries, number, READS);
+    (seat, seen)
+}
+
+fn helped<R: Wait + Abort>(
+    rt: &R,
+    table: &Table,
+    seat: Seat,
+    swaps: bool,
+) -> (Seat, Option<Outcome>)
+    requires { Rests table.now seat }
+    ensures { Rests table.now result.0 }
+{
+    let mut seat = seat;
+    if swaps {
+        let own = swap(rt, table, &mut seat, &[change(4, 0, 1)]);
+        return (seat, Some(own));
+    }
+    help_at(rt, table, &mut seat, 4);
+    (seat, None)
+}
+
+/// Helps the descriptor that stands in the cell.
+fn help_at<R: Wait + Abort>(rt: &R, table: &Table, seat: &mut Seat, cell: usize)
+    requires { Rests table.now seat.old }
+    ensures { Rests table.now seat.new }
+{
+    assert!(rt; cell < table.shape.cells());
+    let word = peek_cell(table, seat, cell);
+    let desc = named_desc(word).expect(rt, "a descriptor stands in the cell");
+    help(rt, table, seat, desc);
+}
+
+// A worker that only waited until the descriptor is decided would wait for ever.
+#[test]
+fn who_swaps_the_cell_helps_first(rt: HostRuntime) -> Result<(), Fail> {
+    for _ in 0..RUNS {
+        let told = run(&rt, rt.alloc(), true)?;
+        assert_eq!(rt; told.seen, Control::Succeeded);
+        assert_eq!(rt; told.ended, Control::Succeeded);
+        assert_eq!(rt; told.own, Some(Outcome::Failed { entry: 0 }));
+        assert_eq!(rt; told.left, Some(9));
+    }
+    Ok(())
+}
+
+#[test]
+fn who_peeks_at_the_cell_helps(rt: HostRuntime) -> Result<(), Fail> {
+    for _ in 0..RUNS {
+        let told = run(&rt, rt.alloc(), false)?;
+        assert_eq!(rt; told.seen, Control::Succeeded);
+        assert_eq!(rt; told.ended, Control::Succeeded);
+        assert_eq!(rt; told.left, Some(9));
+    }
+    Ok(())
+}

@@ -1,0 +1,146 @@
+//! One worker's many random swaps, and what it is told of them.
+
+ghost use Rattle.std.specs.Prelude.{◌≡◌, ◌<◌};
+ghost use Rattle.rh_kcas.specs.Rests.{Rests};
+ghost use Rattle.rh_rdcss.specs.Calls.{IsSame};
+
+use crate::random::*;
+use crate::tables::*;
+use rh_crew::Work;
+use rh_kcas::{Outcome, Seat, Table, change};
+use rh_layout::MAX_KEY;
+use std::process::Abort;
+use std::sync::Wait;
+
+/// How many swaps a worker tries before the rows are wiped.
+pub const TRIES: usize = 2_000;
+
+/// What workers were told.
+#[derive(Drop)]
+pub struct Told {
+    /// How many of their swaps were carried out or failed.
+    pub swaps: u64,
+    /// How many of them were carried out.
+    pub done: u64,
+    /// What these added to each cell, modulo 2^64.
+    pub added: [u64; CELLS],
+    /// How often a worker read of its own counter another count than its own.
+    pub wrong: u64,
+}
+
+impl Told {
+    pub fn nothing() -> Told {
+        Told {
+            swaps: 0,
+            done: 0,
+            added: [0; CELLS],
+            wrong: 0,
+        }
+    }
+
+    /// What these and others were told.
+    pub fn and(mut self, other: &Told) -> Told {
+        self.swaps = self.swaps.wrapping_add(other.swaps);
+        self.done = self.done.wrapping_add(other.done);
+        self.wrong = self.wrong.wrapping_add(other.wrong);
+        add_amounts(&mut self.added, &other.added);
+        self
+    }
+
+    fn note(&mut self, outcome: Outcome, amounts: &[u64; CELLS]) {
+        match outcome {
+            Outcome::Done => {
+                self.swaps = self.swaps.wrapping_add(1);
+                self.done = self.done.wrapping_add(1);
+                add_amounts(&mut self.added, amounts);
+            }
+            Outcome::Failed { .. } => self.swaps = self.swaps.wrapping_add(1),
+            Outcome::Spent => {}
+        }
+    }
+}
+
+/// A round of random swaps, which go by a seed.
+#[derive(Drop)]
+pub struct Swaps {
+    pub seed: u64,
+}
+
+impl<R: Wait + Abort> Work<R, Told> for Swaps {
+    fn work(&self, rt: &R, table: &Table, seat: Seat) -> (Seat, Told) {
+        let mut seat = seat;
+        let seed = self.seed.wrapping_add(seat.side.worker as u64);
+        let told = try_swaps(rt, table, &mut seat, seed);
+        (seat, told)
+    }
+
+    fn both(&self, first: Told, second: Told) -> Told {
+        first.and(&second)
+    }
+}
+
+/// Tries so many swaps, or fewer where the worker is spent.
+fn try_swaps<R: Wait + Abort>(rt: &R, table: &Table, seat: &mut Seat, seed: u64) -> Told
+    requires rests { Rests table.now seat.old }
+    ensures rests { Rests table.now seat.new }
+    ensures same { IsSame seat.old seat.new }
+{
+    let mut told = Told::nothing();
+    let counter = Counter::of(seat.side.worker);
+    let mut random = Random::new(seed);
+    let Some(first) = value(rt, table, seat, counter.cell) else {
+        return told;
+    };
+    let mut raised = counter.raised(first);
+    for tried in 0..TRIES {
+        let amounts = amounts(&mut random, counter);
+        let (outcome, read) = add(rt, table, seat, &amounts, counter.cell);
+        told.note(outcome, &amounts);
+        if amounts[counter.cell] != 0 {
+            if read.is_some_and(|value| counter.raised(value) != raised) {
+                told.wrong = told.wrong.wrapping_add(1);
+            }
+            if outcome == Outcome::Done {
+                raised = raised.wrapping_add(1);
+            }
+        }
+    }
+    told
+}
+
+/// Adds the amounts to the cells, all in one act, unless another worker changes one of them
+/// meanwhile. Answers what became of it, and what was read of this cell, where it was to change.
+fn add<R: Wait + Abort>(
+    rt: &R,
+    table: &Table,
+    seat: &mut Seat,
+    amounts: &[u64; CELLS],
+    counter: usize,
+) -> (Outcome, Option<u64>)
+    requires rests { Rests table.now seat.old }
+    ensures rests { Rests table.now seat.new }
+    ensures same { IsSame seat.old seat.new }
+{
+    let mut entries = [change(0, 0, 0); CELLS];
+    let mut count = 0;
+    let mut read = None;
+    for cell in 0..CELLS {
+        if amounts[cell] == 0 {
+            continue;
+        }
+        let Some(old) = value(rt, table, seat, cell) else {
+            return (Outcome::Spent, None);
+        };
+        let new = old.wrapping_add(amounts[cell]);
+        // (an account that would fall below nought)
+        if new > MAX_KEY + 1 {
+            return (Outcome::Spent, None);
+        }
+        if cell == counter {
+            read = Some(old);
+        }
+        entries[count] = change(cell, old, new);
+        count += 1;
+    }
+    (swap(rt, table, seat, &entries[..count]), read)
+}
