@@ -50,6 +50,7 @@ pub enum Reading {
 
 impl Reading {
     // The word of the table that is read.
+    #[inline(always)]
     pub(crate) fn place(self, shape: &Shape) -> usize
         requires shape { IsShape shape.now }
         requires reading { IsRead shape.now self }

@@ -79,6 +79,7 @@ impl Shape {
     }
 
     /// The word of a part.
+    #[inline(always)]
     pub fn place(&self, part: Part) -> usize
         requires shape { IsShape self.now }
         requires part { IsPart self.now part }
@@ -99,6 +100,7 @@ impl Shape {
     }
 
     #[tactic(auto, using(crate::proofs::PlaceLemmas::entry_inside))]
+    #[inline(always)]
     fn entry_word(&self, worker: usize, entry: usize, word: usize) -> usize
         requires shape { IsShape self.now }
         requires worker { worker < self.now.workers }
@@ -111,6 +113,7 @@ impl Shape {
     }
 
     #[tactic(auto, using(crate::proofs::PlaceLemmas::mark_inside))]
+    #[inline(always)]
     fn mark_word(&self, worker: usize, mark: usize, word: usize) -> usize
         requires shape { IsShape self.now }
         requires worker { worker < self.now.workers }
@@ -125,6 +128,7 @@ impl Shape {
         )
     }
 
+    #[inline(always)]
     fn row_word(&self, worker: usize, row: usize) -> usize
         requires shape { IsShape self.now }
         requires worker { worker < self.now.workers }

@@ -68,6 +68,7 @@ impl Side {
     }
 
     /// Notes a step that was made and found this word.
+    #[inline(always)]
     pub fn note(&mut self, shape: &Shape, ask: Ask, word: u64)
         requires shape { IsShape shape.now }
         requires allowed { Allowed shape.now self.old.known.view (step_of ask) }

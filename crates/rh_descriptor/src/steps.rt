@@ -75,6 +75,7 @@ pub enum Effect {
 
 impl Ask {
     /// The word that the step touches.
+    #[inline(always)]
     pub fn place(&self, shape: &Shape, side: &Side) -> usize
         requires shape { IsShape shape.now }
         requires allowed { Allowed shape.now side.now.known.view (step_of self.now) }
@@ -100,6 +101,7 @@ impl Ask {
     }
 
     /// What becomes of the word.
+    #[inline(always)]
     pub fn effect(&self, shape: &Shape, side: &Side) -> Effect
         requires shape { IsShape shape.now }
         requires allowed { Allowed shape.now side.now.known.view (step_of self.now) }

@@ -89,6 +89,7 @@ fn two_threads_keep_the_sum_of_two_cells(rt: HostRuntime) -> Result<(), Fail> {
     let (table, first, second) = two_workers(&rt, rt.alloc(), 1000, &cells)?;
     let ((first, there), (second, back)) = move_both(&rt, &table, first, second);
     let left = close_two(table, first, second);
+    assert!(rt; there > 0 || back > 0);
     assert_eq!(rt; left[2].checked_add(left[6]), Some(1000));
     assert_eq!(rt; left[2].checked_add(there), back.checked_add(500));
     assert_eq!(rt; left, [0, 0, left[2], 0, 0, 0, left[6], 0]);

@@ -24,6 +24,7 @@ impl<'a> Steps for OnTable<'a> {
 
     ghost made = { λ z s t v word then next. Stays t then };
 
+    #[inline(always)]
     fn make(&mut self, shape: &Shape, side: &mut Side, ask: Ask) -> u64 {
         let at = ask.place(shape, side);
         let word = match ask.effect(shape, side) {
