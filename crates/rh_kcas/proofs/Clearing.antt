@@ -8,11 +8,11 @@ use Rattle.rh_descriptor.specs.declared.known.Known.{Known}
 use Rattle.rh_descriptor.specs.declared.shape.Shape.{Shape}
 use Rattle.rh_descriptor.specs.Places.{IsShape, cell_count}
 use Rattle.rh_descriptor.specs.View.{View, round_view}
-use Rattle.rh_rule.specs.Seats.{Begun, Holds, InView, IsWiping, NoSlot, Spans, WipeSteps, all_views, known}
+use Rattle.rh_rule.specs.Seats.{AreMade, Begun, Holds, InView, IsWiping, NoSlot, Spans, WipeSteps, all_views, known}
 use Rattle.rh_rule.specs.Wipes.{row_total, wiping_view}
 use Rattle.rh_rule.proofs.SeatsKept.{all_may_wipe, of_map}
 use Rattle.rh_kcas.specs.Crews.{IsFresh, IsQuiet}
-use Rattle.rh_kcas.specs.Ends.{AreMade, IsWiped, cleared_to, kept_cells, renewed, with_cleared}
+use Rattle.rh_kcas.specs.Ends.{IsWiped, cleared_to, kept_cells, renewed, with_cleared}
 use Rattle.rh_kcas.proofs.Crews.{IsHalf}
 
 -- ---- views that are changed alike
@@ -82,9 +82,6 @@ module _ (z : Shape) (slots id : ℕ) (me : Me NoSlot (List Known)) (shape : IsS
       renews cells v is = λ i. round_view (kept_cells (sym is i)) v
 
 -- ---- from the begin to the end
-
-pub begun_made : (z : Shape) (vs : List Known) (me : Me NoSlot (List Known)) → Begun z vs me → (m : AreMade z vs) × (me ≡ (all_views (wiping_view m.cells 0) vs, []))
-begun_made z vs me b = (record { cells = b.cells; long = b.long; w = b.w; keep = b.keep; side = b.side; rested = b.rested; of_view = b.of_view }, b.view)
 
 pub cleared_on : (vs us : List Known) (cells : List ℕ) (n : ℕ) → us ≡ all_views (wiping_view cells n) vs → all_views (with_cleared (n + 1)) us ≡ all_views (wiping_view cells (n + 1)) vs
 cleared_on vs us cells n is = ap (all_views (with_cleared (n + 1))) is ∙ all_twice (with_cleared (n + 1)) (wiping_view cells n) (wiping_view cells (n + 1)) (λ v. refl) vs

@@ -13,12 +13,12 @@ use Rattle.rh_descriptor.specs.Places.{IsShape, cell_count, word_count}
 use Rattle.rh_descriptor.specs.View.{View, new_view}
 use Rattle.rh_descriptor.specs.Words.{IsPlain}
 use Rattle.rh_rule.specs.Rest.{AllRest}
-use Rattle.rh_rule.specs.Seats.{Holds, InView, NoSlot, Spans, first_view, new_views}
+use Rattle.rh_rule.specs.Seats.{AreMade, Holds, InView, NoSlot, Spans, first_view, new_views}
 use Rattle.rh_rule.specs.Wipes.{row_total}
 use Rattle.rh_rule.proofs.SeatsKept.{close_sees, item_at, new_at, new_long, starts}
 use Rattle.rh_rule.proofs.Telling.{rests}
 use Rattle.rh_kcas.specs.Crews.{IsFresh, IsQuiet, head_of}
-use Rattle.rh_kcas.specs.Ends.{AreMade, Leaves}
+use Rattle.rh_kcas.specs.Ends.{Leaves}
 use Rattle.rh_kcas.proofs.Crews.{IsHalf}
 
 -- ---- the start
@@ -72,17 +72,20 @@ closes z y id vs st same some_one all holds at quiet =
     let rest : AllRest z keep = record { still = λ v inside. (each IsQuiet quiet v inside).still; rest = λ v inside. (each IsQuiet quiet v inside).rest } in
     let r = rests ruled.0 z st.words keep ruled.1 rest in
     let sized : length st.words ≡ word_count z = ruled.1.mirrors.sized in
-    let same_cell : (c : ℕ) → c < cell_count z → get_or st.words c 0 ≡ get_or (take (cell_count z) st.words) c 0 = λ c inside. sym (get_or-take (cell_count z) st.words c 0 inside) in (
+    let front : (c : ℕ) → c < cell_count z → get_or st.words c 0 ≡ get_or (take (cell_count z) st.words) c 0 = λ c inside. sym (get_or-take (cell_count z) st.words c 0 inside) in (
       record {
         cells = take (cell_count z) st.words;
         long = length-take-le (cell_count z) st.words (omega (arith, sized));
+        words = st.words;
+        front = front;
         w = ruled.0;
         keep = keep;
-        side = ruled.1.side;
+        core = ruled.1;
+        rest = rest;
         rested = record {
           told = r.told;
-          cells = λ c inside. sym (same_cell c inside) ∙ r.cells c inside;
-          plain = λ c inside. ap (λ (n : ℕ). tag_of n) (sym (same_cell c inside)) ∙ r.plain c inside;
+          cells = λ c inside. sym (front c inside) ∙ r.cells c inside;
+          plain = λ c inside. ap (λ (n : ℕ). tag_of n) (sym (front c inside)) ∙ r.plain c inside;
           acts = r.acts;
         };
         of_view = of_view;

@@ -1,27 +1,10 @@
 -- What a wipe and the close of a table leave, where all workers are at rest. (own)
-use Rattle.std.specs.Prelude.{◌≡◌, ℕ, Option, Some, None, List, [], length, map}
-use mathlib.Core.Option.{some}
-use lib.ListN.{get_elem?}
-use Rattle.rh_world.specs.World.{World}
-use Rattle.rh_world.specs.Sides.{Side}
+use Rattle.std.specs.Prelude.{◌≡◌, ℕ, Option, Some, None, List, [], map}
 use Rattle.rh_tagword.specs.Word.{plain_number}
 use Rattle.rh_descriptor.specs.declared.known.Known.{Known}
 use Rattle.rh_descriptor.specs.declared.shape.Shape.{Shape}
-use Rattle.rh_descriptor.specs.Places.{cell_count}
 use Rattle.rh_descriptor.specs.View.{View, Wiping, round_view}
-use Rattle.rh_rule.specs.Rest.{Rested}
-use Rattle.rh_rule.specs.Seats.{all_views}
-
--- The cells of a table whose workers are at rest, as words: those that it was made or wiped with, changed by all acts since,
--- act by act.
-pub record AreMade (z : Shape) (vs : List Known) : Type 0 where
-  pub cells : List ℕ
-  pub long : length cells ≡ cell_count z
-  pub w : World
-  pub keep : ℕ → View
-  pub side : ℕ → Side
-  pub rested : Rested w z cells keep side
-  pub of_view : (r : ℕ) (s : Known) → get_elem? vs r ≡ some s → keep r ≡ s.view
+use Rattle.rh_rule.specs.Seats.{AreMade, all_views}
 
 -- A wipe leaves these cells, and each worker as when a round begins with them.
 pub record IsWiped (z : Shape) (vs us : List Known) : Type 0 where

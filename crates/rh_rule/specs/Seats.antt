@@ -5,15 +5,15 @@ use mathlib.Core.Option.{some}
 use lib.ListN.{get_elem?}
 use Rattle.atomic_table.specs.Table.{State, Me, Allows, Joins, Splits, opening}
 use Rattle.rh_world.specs.World.{World}
-use Rattle.rh_world.specs.Sides.{Side, AtRest}
+use Rattle.rh_world.specs.Sides.{AtRest}
 use Rattle.rh_descriptor.specs.declared.known.Known.{Known}
 use Rattle.rh_descriptor.specs.declared.shape.Shape.{Shape}
 use Rattle.rh_descriptor.specs.Places.{IsShape, cell_count}
 use Rattle.rh_descriptor.specs.View.{View, new_view, round_view}
 use Rattle.rh_descriptor.specs.Words.{IsPlain}
 use Rattle.rh_descriptor.specs.Steps.{Step, Allowed, noted, place, word_after}
-use Rattle.rh_rule.specs.Core.{Ruled}
-use Rattle.rh_rule.specs.Rest.{Rested}
+use Rattle.rh_rule.specs.Core.{Core, Ruled}
+use Rattle.rh_rule.specs.Rest.{AllRest, Rested}
 use Rattle.rh_rule.specs.Sound.{Finds, Sound}
 use Rattle.rh_rule.specs.Wipes.{Rules, row_total, wiping_view}
 
@@ -90,16 +90,24 @@ abbrev pub ViewsJoin : Type 0
 ViewsJoin = (z : Shape) (id : ℕ) (vs : List Known) (other : ℕ) (us : List Known)
     → Joins {S = NoSlot} (Holds z) id vs other us (vs ++ us) []
 
--- what the seat of all workers learns where it begins a wipe: the cells, which are those that all the acts made
-pub record Begun (z : Shape) (vs : List Known) (me : Me NoSlot (List Known)) : Type 0 where
+-- Where all workers of a seat's view are at rest: the words of the table, which is ruled, and its cells, as words. These are
+-- those that it was made or wiped with, changed by all acts since, act by act.
+pub record AreMade (z : Shape) (vs : List Known) : Type 0 where
   pub cells : List ℕ
   pub long : length cells ≡ cell_count z
+  pub words : List ℕ
+  pub front : (c : ℕ) → c < cell_count z → slice_index words c ≡ slice_index cells c
   pub w : World
   pub keep : ℕ → View
-  pub side : ℕ → Side
-  pub rested : Rested w z cells keep side
+  pub core : Core w z words keep
+  pub rest : AllRest z keep
+  pub rested : Rested w z cells keep core.side
   pub of_view : (r : ℕ) (s : Known) → get_elem? vs r ≡ some s → keep r ≡ s.view
-  pub view : me ≡ (all_views (wiping_view cells 0) vs, [])
+
+-- what the seat of all workers learns where it begins a wipe
+pub record Begun (z : Shape) (vs : List Known) (me : Me NoSlot (List Known)) : Type 0 where
+  pub made : AreMade z vs
+  pub view : me ≡ (all_views (wiping_view made.cells 0) vs, [])
 
 -- what the seat of all workers does in a wipe
 pub record WipeSteps (z : Shape) (slots id : ℕ) (vs : List Known) : Type 0 where

@@ -146,7 +146,7 @@ run_gathers kind z opening words then keep next keys done more_done told more_to
     }
 
 -- no step changes what the worker keeps of the opening
-opening_stays : (z : Shape) (v : View) (s : Step) (word : ℕ) → (noted z v s word).opening ≡ v.opening
+pub opening_stays : (z : Shape) (v : View) (s : Step) (word : ℕ) → (noted z v s word).opening ≡ v.opening
 opening_stays z v (Step.writes p u) word = refl
 opening_stays z v (Step.opens size) word = refl
 opening_stays z v (Step.reads r) word = refl

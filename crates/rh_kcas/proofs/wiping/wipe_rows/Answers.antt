@@ -2,11 +2,11 @@ use Rattle.std.proofs.Common.{◌≡◌, ℕ, [], ap, ◌∙◌, arith, subst, s
 use Rattle.rh_rule.specs.Seats.{InView, IsWiping}
 use Rattle.rh_rule.specs.Wipes.{row_total}
 use Rattle.rh_kcas.specs.Ends.{IsWiped}
-use Rattle.rh_kcas.proofs.Clearing.{are_wiping, begun_made, cleared_on, finished, wiping_spans}
+use Rattle.rh_kcas.proofs.Clearing.{are_wiping, cleared_on, finished, wiping_spans}
 use Rattle.rh_kcas.proofs.wiping.wipe_rows.Goals as goal
 
 pub loop-row-init : goal.loop-row-init
-loop-row-init c = record { within = omega arith; own = c.begin.ensures.own; at = begun_made _ _ _ c.begin.ensures.begun }
+loop-row-init c = record { within = omega arith; own = c.begin.ensures.own; at = let b = c.begin.ensures.begun in (b.made, b.view) }
 
 pub clear-requires-clause-own : goal.clear-requires-clause-own
 clear-requires-clause-own c = c.loop-row.invariant.own ∙ c.requires.own

@@ -1,7 +1,6 @@
 use Rattle.std.proofs.Common.{◌≡◌, ◌≤◌, []}
-use Rattle.rh_rule.specs.Seats.{all_views}
 use Rattle.rh_rule.specs.Wipes.{row_total, wiping_view}
-use Rattle.rh_kcas.specs.Ends.{AreMade}
+use Rattle.rh_rule.specs.Seats.{AreMade, all_views}
 use Rattle.rh_kcas.proofs.wiping.wipe_rows.Given as goal
 
 abbrev pub invariant-loop-row : goal.invariant-loop-row

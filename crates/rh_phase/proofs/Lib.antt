@@ -1,0 +1,4 @@
+mod KeySteps
+mod Claiming
+mod Standing
+mod Crews

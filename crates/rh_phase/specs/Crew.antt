@@ -1,0 +1,43 @@
+-- Workers of a phase with their seat, who fork in halves and join again. (own)
+use Rattle.std.specs.Prelude.{◌≡◌, ℕ, false, List, All, Bool, length, take, drop}
+use Rattle.rh_layout.specs.Key.{IsKey}
+use Rattle.rh_kcas.specs.Crews.{IsAt, IsCut, IsFresh, IsQuiet, views_of}
+use Rattle.rh_rdcss.specs.declared.table.Table.{Table}
+use Rattle.rh_rule.specs.Seats.{InView}
+use Rattle.rh_phase.specs.Hands.{AllStand, HasStopped, InPairs, IsHand, Past}
+use Rattle.rh_phase.specs.declared.crew.Crew.{Crew}
+use Rattle.rh_phase.specs.declared.crew.Refused.{Refused}
+use Rattle.rh_phase.specs.declared.crew.Refused.TheVariants.{NotAllowed, NotStarted}
+
+-- it sits at the table, each worker with its hand, at a list of keys of which each is claimed once
+pub record IsCrew (t : Table) (keys : List ℕ) (c : Crew) : Type 0 where
+  pub here : IsAt t c.seat
+  pub long : length c.hands ≡ c.seat.count
+  pub stopped : InPairs (λ v h. HasStopped h) (views_of c.seat) c.hands
+  pub hands : InPairs (λ v h. IsHand t.shape keys h v) (views_of c.seat) c.hands
+  pub list : t.shape.keys ≡ length keys
+  pub keys_are : All IsKey keys
+
+-- nobody has done anything in this round
+pub record CanWork (t : Table) (keys : List ℕ) (c : Crew) : Type 0 where
+  pub crew : IsCrew t keys c
+  pub fresh : InView IsFresh (views_of c.seat)
+
+-- They worked and are at rest. Whatever each had done of the list, it has come as far as its hand says.
+pub record HaveWorked (t : Table) (keys : List ℕ) (c then : Crew) : Type 0 where
+  pub crew : IsCrew t keys then
+  pub first : then.seat.side.worker ≡ c.seat.side.worker
+  pub count : then.seat.count ≡ c.seat.count
+  pub quiet : InView IsQuiet (views_of then.seat)
+  pub stands : (past : ℕ → Past) → AllStand t.shape keys past (views_of c.seat) c.hands → AllStand t.shape keys past (views_of then.seat) then.hands
+
+-- the first workers and the others
+pub record AreHalves (c left right : Crew) : Type 0 where
+  pub seats : IsCut c.seat left.seat right.seat right.seat.side.worker
+  pub left_hands : left.hands ≡ take left.seat.count c.hands
+  pub right_hands : right.hands ≡ drop left.seat.count c.hands
+
+-- Why they did not: one is not allowed to start, or the system refused a thread.
+abbrev pub RefusedBy : (allows : ℕ → Bool) → Refused → Type 0
+RefusedBy allows (NotAllowed worker) = allows worker ≡ false
+RefusedBy allows NotStarted = Unit {0}

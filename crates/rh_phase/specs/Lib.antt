@@ -1,0 +1,4 @@
+pub mod Keys
+pub mod Hands
+pub mod Seated
+pub mod Crew

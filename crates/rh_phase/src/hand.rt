@@ -1,0 +1,44 @@
+//! What one worker of a phase works with, and what it has done.
+
+use rh_worker::Worker;
+
+/// A worker of a phase, with what came of its keys. Between two rounds its state is kept at its seat,
+/// and the one in `worker` means nothing.
+#[derive(Drop)]
+pub struct Hand {
+    pub worker: Worker,
+    /// The place in the list of the key that it claimed last.
+    pub place: usize,
+    /// Whether it found the end of the list.
+    pub ended: bool,
+    /// How many keys it has done, up to the greatest number.
+    pub done: usize,
+    /// Of how many of these it was told that they were added, removed or found, up to the greatest
+    /// number.
+    pub changed: u64,
+    /// Which places have a key that it was told so of. It is empty where no one asks for them.
+    pub found: Vec<bool>,
+}
+
+impl Hand {
+    ghost use Rattle.std.specs.Prelude.{◌≡◌, ◌+◌, ◌-◌, ◌^◌, true, min, cond, set};
+
+    /// Counts the key as done.
+    pub(crate) fn count(&mut self, told: bool)
+        ensures worker { self.new.worker ≡ self.old.worker }
+        ensures place { self.new.place ≡ self.old.place }
+        ensures ended { self.new.ended ≡ self.old.ended }
+        ensures changed { self.new.changed ≡
+            cond told (min (self.old.changed + 1) (2 ^ 64 - 1)) self.old.changed }
+        ensures found { self.new.found.items ≡
+            cond told (set self.old.found.items self.old.place true) self.old.found.items }
+    {
+        self.done = self.done.saturating_add(1);
+        if told {
+            self.changed = self.changed.saturating_add(1);
+            if let Some(found) = self.found.get_mut(self.place) {
+                *found = true;
+            }
+        }
+    }
+}

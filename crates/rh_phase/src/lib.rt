@@ -1,0 +1,15 @@
+//! Phases with several workers: a list of keys that are all inserted, all removed or all looked up in
+//! one table, by threads that claim them and change the table by swaps of several cells (Robin Hood
+//! tables on K-CAS: Kelly, Pearlmutter and Maguire 2018).
+#![tactic(auto)]
+
+mod crew;
+mod doing;
+mod gate;
+mod hand;
+mod seated;
+
+pub use crew::{AllStart, Starts};
+pub use doing::do_key;
+pub use gate::{Gate, OpenGate};
+pub use hand::Hand;
