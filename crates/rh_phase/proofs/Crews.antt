@@ -1,10 +1,9 @@
 -- Crews that are cut and glued, and what their workers have done.
-use Rattle.std.proofs.Common.{◌≡◌, ℕ, zero, suc, ◌+◌, ◌<◌, ◌≤◌, ⊎_elim, List, [], ◌∷◌, ◌++◌, length, length-append, length-set, length-take-le, get_or, set, take, drop, All, refl, sym, ap, ◌∙◌, subst, arith, Result, Ok, Err}
+use Rattle.std.proofs.Common.{◌≡◌, ℕ, ◌+◌, ◌<◌, ⊎_elim, List, [], ◌∷◌, ◌++◌, length, length-append, length-set, length-take-le, get_or, set, take, drop, sym, ap, ◌∙◌, subst, arith, Result, Ok, Err}
 use Rattle.std.specs.Prelude.{IfOk}
 use Rattle.std.proofs.lemmas.List.{length-drop}
-use mathlib.Core.Option.{some, some-injective, some-ne-none}
+use mathlib.Core.Option.{some, some-injective}
 use lib.ListN.{get_elem?}
-use Rattle.rh_layout.specs.Key.{IsKey}
 use Rattle.rh_descriptor.specs.declared.known.Known.{Known}
 use Rattle.rh_descriptor.specs.View.{View}
 use Rattle.rh_rule.specs.Seats.{InView, known}
@@ -13,7 +12,7 @@ use Rattle.rh_rdcss.specs.Calls.{view_of}
 use Rattle.rh_rdcss.specs.declared.seat.Seat.{Seat}
 use Rattle.rh_rdcss.specs.declared.table.Table.{Table}
 use Rattle.rh_kcas.specs.Crews.{IsAt, IsCut, IsFresh, IsJoined, IsQuiet, views_of}
-use Rattle.rh_phase.specs.Crew.{AreHalves, CanWork, HaveWorked, IsCrew}
+use Rattle.rh_phase.specs.Crew.{AreHalves, CanWork, HaveWorked}
 use Rattle.rh_phase.specs.Hands.{AllStand, HasStopped, InPairs, IsHand, Past, Stands}
 use Rattle.rh_phase.specs.declared.crew.Crew.{Crew}
 use Rattle.rh_phase.specs.declared.hand.Hand.{Hand}

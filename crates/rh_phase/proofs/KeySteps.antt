@@ -1,9 +1,7 @@
 -- What the steps of a key make of it.
 use Rattle.std.proofs.Common.{◌≡◌, ℕ, inl, inr, ⊎_elim, Option, Some, None, Bool, refl, sym, ◌∙◌, ap, subst, List, [], ◌∷◌, ◌++◌}
-use Rattle.std.specs.List.{Contains}
 use Rattle.rh_ledger.specs.declared.tally.Kind.{Kind}
 use Rattle.rh_acts.specs.Act.{Act}
-use Rattle.rh_acts.specs.Done.{Does, Kept}
 use Rattle.rh_descriptor.specs.declared.shape.Shape.{Shape}
 use Rattle.rh_descriptor.specs.declared.steps.StepKind.{StepKind}
 use Rattle.rh_descriptor.specs.View.{View}
@@ -13,7 +11,6 @@ use Rattle.rh_history.specs.OwnActs.{Orderly, StepFinishes}
 use Rattle.rh_history.proofs.Finishing.{steps_finish}
 use Rattle.rh_rule.specs.Sound.{Sound}
 use Rattle.rh_run.specs.Advance.{Advances, GoesOn, Succeeds}
-use Rattle.rh_run.specs.Run.{Doing}
 use Rattle.rh_run.proofs.Stepping.{opening_stays, worker_steps}
 use Rattle.rh_worker.specs.Laws.{AfterStep}
 use Rattle.rh_worker.specs.Makes.{Makes}

@@ -2,3 +2,6 @@ mod KeySteps
 mod Claiming
 mod Standing
 mod Crews
+mod Wiped
+mod Gathering
+mod Rounding

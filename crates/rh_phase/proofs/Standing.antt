@@ -1,15 +1,13 @@
 -- A worker comes as far as its hand says.
-use Rattle.std.proofs.Common.{◌≡◌, ◌≢◌, ℕ, ◌+◌, ◌<◌, ◌≤◌, inl, inr, ⊎_elim, Option, Some, None, Bool, true, false, true≢false, cond, min, refl, sym, ◌∙◌, ap, subst, arith, List, [], ◌∷◌, ◌++◌, length, length-set, get_or, map, filter, reverse, set}
+use Rattle.std.proofs.Common.{◌≡◌, ◌≢◌, ℕ, ◌+◌, ◌<◌, ◌≤◌, ⊎_elim, Some, None, Bool, true, false, true≢false, cond, min, refl, sym, ◌∙◌, ap, subst, arith, List, [], ◌∷◌, ◌++◌, length, length-set, filter, reverse, set}
 use mathlib.Core.List.{reverse-cons}
 use Rattle.std.specs.Prelude.{◌-◌, ◌^◌, ◌↔◌, nat_lt, count_by, slice_index, slice_index_or}
 use Rattle.std.specs.List.{Contains}
-use Rattle.std.proofs.lemmas.Bool.{cases_eq}
 use Rattle.std.proofs.lemmas.Bool.Decides.{nat_tests}
 use Rattle.std.proofs.lemmas.List.{append-nil, get_or-set_other, get_or-set_same, map_push}
 use Rattle.std.proofs.lemmas.List.Elements.{Contains-append_cases, Contains-append_left, Contains-append_right}
 use Rattle.std.proofs.lemmas.List.Sums.{sum_by_push}
 use Rattle.rh_ledger.specs.declared.tally.Kind.{Kind}
-use Rattle.rh_world.specs.World.{In}
 use Rattle.rh_world.proofs.Updated.{same_nat}
 use Rattle.rh_acts.proofs.ActLemmas.{contains_cases, contains_head, contains_none}
 use Rattle.rh_descriptor.specs.declared.shape.Shape.{Shape}
@@ -23,7 +21,7 @@ use Rattle.rh_worker.specs.Worker.{IsBusy}
 use Rattle.rh_worker.specs.declared.place.Place.{Place}
 use Rattle.rh_worker.specs.declared.place.Place.TheVariants as at
 use Rattle.rh_phase.specs.Keys.{Furthers}
-use Rattle.rh_phase.specs.Hands.{Answer, Answered, Past, Stands, answer, keys_done, left_over, places_of, told_of}
+use Rattle.rh_phase.specs.Hands.{Answer, Past, Stands, answer, keys_done, left_over, places_of, told_of}
 use Rattle.rh_phase.specs.declared.hand.Hand.{Hand}
 
 -- ---- the places that it claimed

@@ -2,3 +2,4 @@ pub mod Keys
 pub mod Hands
 pub mod Seated
 pub mod Crew
+pub mod Rounds

@@ -21,7 +21,15 @@ pub struct Hand {
 }
 
 impl Hand {
-    ghost use Rattle.std.specs.Prelude.{◌≡◌, ◌+◌, ◌-◌, ◌^◌, true, min, cond, set};
+    ghost use Rattle.std.specs.Prelude.{◌↔◌, IsTrue, ◌≡◌, ◌+◌, ◌-◌, ◌^◌, true, min, cond, set};
+    ghost use Rattle.rh_phase.specs.Hands.{IsFinished};
+
+    /// Whether all keys that it claimed are done, and none is left to claim.
+    pub(crate) fn is_finished(&self) -> bool
+        ensures { IsTrue result ↔ IsFinished self.now }
+    {
+        self.worker.is_idle() && self.ended
+    }
 
     /// Counts the key as done.
     pub(crate) fn count(&mut self, told: bool)

@@ -7,6 +7,7 @@ mod crew;
 mod doing;
 mod gate;
 mod hand;
+mod rounds;
 mod seated;
 
 pub use crew::{AllStart, Starts};

@@ -1,0 +1,47 @@
+//! Rounds of work, until all keys of a list are done.
+
+ghost use Rattle.std.specs.Prelude.{◌↔◌, All, IfErr, IfOk, IsTrue};
+ghost use Rattle.rh_kcas.specs.Crews.{HasAll};
+ghost use Rattle.rh_phase.specs.Crew.{CanWork, RefusedBy};
+ghost use Rattle.rh_phase.specs.Hands.{IsFinished};
+ghost use Rattle.rh_phase.specs.Rounds.{HaveDone};
+
+use crate::crew::{Crew, Refused, Starts, work_all};
+use crate::gate::Gate;
+use crate::hand::Hand;
+use rh_kcas::{Table, wipe};
+use std::collections::LinkedList;
+use std::sync::Wait;
+use std::thread::Threads;
+
+/// Has all workers of the table do keys, round after round, while one of them is spent.
+pub(crate) fn rounds<R: Threads + Wait + Sync, G: Gate + Sync, S: Starts + Sync>(
+    rt: &R,
+    table: &Table,
+    crew: Crew,
+    keys: &[u64],
+    gate: &G,
+    starts: &S,
+) -> Result<Crew, Refused>
+    requires can { CanWork table.now keys.now crew }
+    requires all { HasAll table.now crew.seat }
+    ensures done { IfOk result (HaveDone table.now keys.now crew) }
+    ensures refused { IfErr result (RefusedBy (S.allows starts.now)) }
+{
+    let mut crew = crew;
+    for _ in rt.forever() {
+        crew = work_all(rt, table, crew, keys, gate, starts)?;
+        if are_finished(&crew.hands) {
+            return Ok(crew);
+        }
+        wipe(table, &mut crew.seat);
+    }
+    unreachable!()
+}
+
+/// Whether all keys are done.
+fn are_finished(hands: &LinkedList<Hand>) -> bool
+    ensures { IsTrue result ↔ All IsFinished hands.now }
+{
+    hands.iter().all(|hand| hand.is_finished())
+}
