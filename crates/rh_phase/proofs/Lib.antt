@@ -5,3 +5,6 @@ mod Crews
 mod Wiped
 mod Gathering
 mod Rounding
+mod Sums
+mod Ending
+mod Beginning

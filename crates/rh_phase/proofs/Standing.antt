@@ -118,6 +118,7 @@ module _ (z : Shape) (keys : List ℕ) (past : Past) (h then : Hand) (v next : V
       marks = subst (λ (l : List Bool). (p : ℕ) → p < length l → (slice_index_or l p false ≡ true) ↔ Contains was.answers (answer p true)) (sym found) was.answered.marks;
     };
     opening = opening ∙ was.opening;
+    long = ap length found ∙ was.long;
   }
 
   pub stands_still : then.worker.kind ≡ h.worker.kind → next ≡ v → left_over then.worker.place then.place ≡ left_over h.worker.place h.place → then.changed ≡ h.changed → then.found.items ≡ h.found.items → Stands z keys past then next
@@ -169,6 +170,7 @@ module _ (z : Shape) (keys : List ℕ) (past : Past) (h then : Hand) (v next : V
             (λ p inside. let l : p < length h.found.items = let m = marked_long h.found.items h.place told in omega (arith, inside, m) in marks_more h.found.items was.answers h.place told p l (was.answered.marks p l));
       };
       opening = opening ∙ was.opening;
+      long = ap length found ∙ marked_long h.found.items h.place told ∙ was.long;
     }
       where
         answers : List Answer

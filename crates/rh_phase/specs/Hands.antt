@@ -81,9 +81,11 @@ pub record Answered (z : Shape) (h : Hand) (v : View) (answers : List Answer) : 
   pub counts : h.changed ≡ min (how_many (told_of answers)) (2 ^ 64 - 1)
   pub marks : (p : ℕ) → p < length h.found.items → (slice_index_or h.found.items p false ≡ true) ↔ Contains answers (answer p true)
 
--- the kind of the phase, and of its rounds before this one: the cells at their end, and what the worker did and read in them
+-- the kind of the phase, how many places may be marked, and of the rounds before this one: the cells at their end, and what the
+-- worker did and read in them
 pub record Past : Type 0 where
   pub kind : Kind
+  pub places : ℕ
   pub opening : List ℕ
   pub acts : List Act
   pub reads : List Kept
@@ -95,6 +97,7 @@ pub record Stands (z : Shape) (keys : List ℕ) (past : Past) (h : Hand) (v : Vi
   pub doing : Doing z h.worker.kind v keys past.acts past.reads (keys_done keys answers) (told_of answers)
   pub answered : Answered z h v answers
   pub opening : v.opening ≡ past.opening
+  pub long : length h.found.items ≡ past.places
 
 -- ---- all hands of a seat, whose view has the worker of each
 

@@ -3,3 +3,4 @@ pub mod Hands
 pub mod Seated
 pub mod Crew
 pub mod Rounds
+pub mod Made

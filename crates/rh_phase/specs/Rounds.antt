@@ -16,18 +16,18 @@ use Rattle.rh_phase.specs.declared.hand.Hand.{Hand}
 
 -- what a run has of its rounds before this one
 abbrev pub past_of : {kind : Kind} {z : Shape} {opening words : List ℕ} {keep : ℕ → View} {keys done : ℕ → List ℕ} {told : ℕ → List Bool}
-    → Running kind z opening words keep keys done told → (v : ℕ) → Past
-past_of {kind = kind} {keep = keep} run v = record { kind = kind; opening = (keep v).opening; acts = own v run.before; reads = run.reads v }
+    → (places : ℕ) → Running kind z opening words keep keys done told → (v : ℕ) → Past
+past_of {kind = kind} {keep = keep} places run v = record { kind = kind; places = places; opening = (keep v).opening; acts = own v run.before; reads = run.reads v }
 
 -- At the begin of the round there was a run from these opening cells, in which each worker had the list. From it on each has
--- come as far as its hand says.
-pub record Comes (z : Shape) (kind : Kind) (opening keys : List ℕ) (vs : List Known) (hs : List Hand) : Type 0 where
+-- come as far as its hand says, in which so many places may be marked.
+pub record Comes (z : Shape) (kind : Kind) (places : ℕ) (opening keys : List ℕ) (vs : List Known) (hs : List Hand) : Type 0 where
   pub words : List ℕ
   pub keep : ℕ → View
   pub done : ℕ → List ℕ
   pub told : ℕ → List Bool
   pub run : Running kind z opening words keep (λ v. keys) done told
-  pub stands : AllStand z keys (past_of run) vs hs
+  pub stands : AllStand z keys (past_of places run) vs hs
 
 -- All workers of the table have done all keys that they claimed, and found the end of the list. They came so far from where
 -- they were.
@@ -36,7 +36,8 @@ pub record HaveDone (t : Table) (keys : List ℕ) (c then : Crew) : Type 0 where
   pub all : HasAll t then.seat
   pub quiet : InView IsQuiet (views_of then.seat)
   pub finished : All IsFinished then.hands
-  pub comes : (kind : Kind) (opening : List ℕ) → Comes t.shape kind opening keys (views_of c.seat) c.hands → Comes t.shape kind opening keys (views_of then.seat) then.hands
+  pub comes : (kind : Kind) (places : ℕ) (opening : List ℕ)
+      → Comes t.shape kind places opening keys (views_of c.seat) c.hands → Comes t.shape kind places opening keys (views_of then.seat) then.hands
 
 -- ---- what all hands say
 

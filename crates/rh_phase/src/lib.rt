@@ -7,6 +7,8 @@ mod crew;
 mod doing;
 mod gate;
 mod hand;
+mod hands;
+mod phase;
 mod rounds;
 mod seated;
 
@@ -14,3 +16,5 @@ pub use crew::{AllStart, Starts};
 pub use doing::do_key;
 pub use gate::{Gate, OpenGate};
 pub use hand::Hand;
+pub use phase::{ask, ask_with, change, change_with};
+pub use rh_runner::PhaseFault;

@@ -1,0 +1,133 @@
+-- How a phase begins.
+use Rattle.std.proofs.Common.{◌≡◌, ℕ, ◌+◌, ◌<◌, ◌≤◌, inl, inr, ⊎_elim, All, List, [], ◌∷◌, ◌++◌, false, true, true≢false, length, get_or, map, min, replicate, refl, sym, ap, ◌∙◌, subst, arith, zero-add, Bool}
+use Rattle.std.specs.Prelude.{◌-◌, ◌^◌, ◌↔◌, slice_index, slice_index_or}
+use Rattle.std.specs.List.{Contains}
+use Rattle.std.specs.FinSet as set
+use Rattle.std.proofs.lemmas.Bool.{cases_eq}
+use Rattle.std.proofs.lemmas.List.{get_or-replicate, length-replicate}
+use mathlib.Core.Option.{some, some-injective, some-ne-none}
+use lib.ListN.{get_elem?}
+use Rattle.std.proofs.Math.Pow.{pow-lt}
+use Rattle.rh_layout.specs.Key.{IsBits, IsKey, cell_of, is_full, key_in}
+use Rattle.rh_layout.specs.Layout.{IsLayout, Keys, Layout, keys_of}
+use Rattle.rh_layout.specs.declared.limits.TheConstants.{MAX_KEY}
+use Rattle.rh_ledger.specs.declared.tally.Kind.{Kind}
+use Rattle.rh_ledger.specs.declared.tally.Kind.TheVariants.{Insert, Remove, Ask}
+use Rattle.rh_ledger.specs.Phase.{most_added, set_after, tally_of}
+use Rattle.rh_ledger.proofs.PhaseLemmas.{len-insert_all}
+use Rattle.rh_tagword.specs.Word.{IsValue, plain_number}
+use Rattle.rh_acts.specs.Workers.{LeavesRoom}
+use Rattle.rh_acts.proofs.ActLemmas.{contains_none}
+use Rattle.rh_acts.proofs.FoldLemmas.{added_len, removed_len}
+use Rattle.rh_descriptor.specs.declared.known.Known.{Known}
+use Rattle.rh_descriptor.specs.declared.shape.Shape.{Shape}
+use Rattle.rh_descriptor.specs.Places.{IsShape, cell_count}
+use Rattle.rh_descriptor.specs.View.{View, new_view}
+use Rattle.rh_rule.specs.Seats.{InView, first_view, known}
+use Rattle.rh_rule.proofs.SeatsKept.{new_at, there}
+use Rattle.rh_rdcss.specs.declared.seat.Seat.{Seat}
+use Rattle.rh_rdcss.specs.declared.table.Table.{Table}
+use Rattle.rh_world.specs.World.{In}
+use Rattle.rh_rule.specs.Wipes.{row_total}
+use Rattle.rh_run.specs.Run.{Doing, Running}
+use Rattle.rh_run.proofs.Turning.{run_starts}
+use Rattle.rh_kcas.specs.Crews.{HasAll, IsFresh, views_of}
+use Rattle.rh_worker.specs.declared.place.Place.{Place}
+use Rattle.rh_worker.specs.declared.place.Place.TheVariants as place
+use Rattle.rh_phase.specs.Crew.{CanWork}
+use Rattle.rh_phase.specs.Hands.{HasStopped, IsHand, Stands, answer, left_over}
+use Rattle.rh_phase.specs.Made.{AreNew, IsNew}
+use Rattle.rh_phase.specs.Rounds.{Comes, past_of}
+use Rattle.rh_phase.specs.declared.crew.Crew.{Crew}
+use Rattle.rh_phase.specs.declared.hand.Hand.{Hand}
+use Rattle.rh_phase.proofs.Ending.{at_or}
+use Rattle.rh_phase.proofs.Rounding.{all_at}
+use Rattle.rh_phase.proofs.Sums.{count_in}
+
+-- a cell of a layout holds a value
+pub is_value : (bits : ℕ) (cells : List ℕ) (c : ℕ) → IsLayout bits cells → c < length cells → IsValue (slice_index cells c)
+is_value bits cells c layout inside = ⊎_elim
+    (λ (none : slice_index cells c ≡ 0). omega (arith, none))
+    (λ full_cell.
+    let key : ℕ = key_in (slice_index cells c) in
+    let is : slice_index cells c ≡ cell_of key = full (slice_index cells c) full_cell in
+    let small : key ≤ MAX_KEY = layout.keys key (layout.no_other c key (inside, is)) in
+    omega (arith, is, small)) (cases_eq (slice_index cells c) 0)
+  where
+    full : (v : ℕ) → (v ≡ 0 → ⊥) → v ≡ cell_of (key_in v)
+    full v full_cell = omega (arith, full_cell)
+
+-- ---- room
+
+pub small : (b : ℕ) → IsBits b → 2 ^ b < 2 ^ 64
+small b is = pow-lt {j = 64} (let most = is.1 in omega (arith, most))
+
+pub leaves_room : (kind : Kind) (b : ℕ) (S : Keys) (keys : List ℕ) → set.len S + most_added kind keys < 2 ^ b → LeavesRoom kind b S keys
+leaves_room Insert b S keys room = let most = len-insert_all S keys in omega (arith, room, most)
+leaves_room Remove b S keys room = tt
+leaves_room Ask b S keys room = tt
+
+pub few_changed : (kind : Kind) (b : ℕ) (S : Keys) (keys : List ℕ) → 2 ^ b < 2 ^ 64 → set.len S + most_added kind keys < 2 ^ b → (kind ≡ Ask → ⊥) → count_in kind (tally_of kind S keys) < 2 ^ 64
+few_changed Insert b S keys small room changes = let most = len-insert_all S keys in let added = added_len S keys in omega (arith, small, room, most, added)
+few_changed Remove b S keys small room changes = let removed = removed_len S keys in omega (arith, small, room, removed)
+few_changed Ask b S keys small room changes = absurd (changes refl)
+
+-- ---- the start
+
+module _ (t : Table) (kind : Kind) (places : ℕ) (cells keys : List ℕ) (c : Crew) (all : HasAll t c.seat) (fresh : InView IsFresh (views_of c.seat)) (views : views_of c.seat ≡ first_view t.shape (map plain_number cells)) (new : AreNew t.shape kind places c.hands) (list : t.shape.keys ≡ length keys) (keys_are : All IsKey keys) where
+  view_is : (r : ℕ) (s : Known) → get_elem? (views_of c.seat) r ≡ some s → s ≡ known (new_view (map plain_number cells) r)
+  view_is r s e = new_at (map plain_number cells) 0 t.shape.workers r s (subst (λ (l : List Known). get_elem? l r ≡ some s) views e) ∙ (λ i. known (new_view (map plain_number cells) (zero-add r i)))
+
+  new_hand : (r : ℕ) (h : Hand) → get_elem? c.hands r ≡ some h → IsNew t.shape kind places h
+  new_hand r h at = subst (IsNew t.shape kind places) (at_or c.hands r h h at) (new.each r h (there c.hands r h at))
+
+  pub can_begin : CanWork t keys c
+  can_begin = record {
+    crew = record {
+      here = all_at t c.seat all;
+      long = new.long ∙ sym all.count;
+      stopped = λ r s h e f. inl (new_hand r h f).idle;
+      hands = λ r s h e f. let n = new_hand r h f in record {
+        key = n.key;
+        room = n.room;
+        within = λ at. absurd (at n.idle);
+        at = λ at. absurd (at n.idle);
+        claims = record {
+          below = λ _ m i. absurd (subst (λ (k : Known). In m k.view.side.claims) (view_is r s e) i);
+          ended = λ ended. absurd (true≢false (sym ended ∙ n.to_claim));
+        };
+      };
+      list = list;
+      keys_are = keys_are;
+    };
+    fresh = fresh;
+  }
+
+  pub comes_first : length cells ≡ cell_count t.shape → Comes t.shape kind places cells keys (views_of c.seat) c.hands
+  comes_first long = record {
+    words = map plain_number cells ++ replicate (row_total t.shape + 1) 0;
+    keep = new_view (map plain_number cells);
+    done = λ v. [];
+    told = λ v. [];
+    run = run;
+    stands = λ r s h e f.
+        let n = new_hand r h f in
+        let less : r < t.shape.workers = let l = there c.hands r h f in let w = new.long in omega (arith, l, w) in
+        subst (λ (k : Known). Stands t.shape keys (past_of places run k.view.worker) h k.view) (sym (view_is r s e)) (record {
+          kind_is = n.kind_is;
+          answers = [];
+          doing = subst (λ (k : Kind). Doing t.shape k (new_view (map plain_number cells) r) keys (past_of places run r).acts (past_of places run r).reads [] []) (sym n.kind_is) (run.doing r less);
+          answered = record {
+            claimed_are = ap (λ (p : Place). left_over p h.place) (sym n.idle);
+            counts = n.unchanged;
+            marks = λ p inside. ((λ is. absurd (true≢false (sym is ∙ unmarked h n p inside))), (λ has. absurd (contains_none (answer p true) has)));
+          };
+          opening = refl;
+          long = ap length n.unmarked ∙ length-replicate places false;
+        });
+  }
+    where
+      run : Running kind t.shape cells (map plain_number cells ++ replicate (row_total t.shape + 1) 0) (new_view (map plain_number cells)) (λ v. keys) (λ v. []) (λ v. [])
+      run = run_starts kind t.shape cells (λ v. keys) t.fits long
+      unmarked : (h : Hand) → IsNew t.shape kind places h → (p : ℕ) → p < length h.found.items → slice_index_or h.found.items p false ≡ false
+      unmarked h n p inside = ap (λ (l : List Bool). slice_index_or l p false) n.unmarked ∙ get_or-replicate places p false false (let e : length h.found.items ≡ places = ap length n.unmarked ∙ length-replicate places false in omega (arith, inside, e))

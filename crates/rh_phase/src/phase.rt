@@ -1,0 +1,233 @@
+//! Phases over a list of keys that several workers share.
+
+ghost use Rattle.std.specs.Prelude.{◌≡◌, ◌≢◌, ◌+◌, ◌^◌, ◌<◌, ◌≤◌, All, IfOk, OnErr, OnOk, length};
+ghost use Rattle.std.specs.FinSet as set;
+ghost use Rattle.rh_layout.specs.Key.{IsBits, IsKey};
+ghost use Rattle.rh_layout.specs.Layout.{IsLayout, keys_of};
+ghost use Rattle.rh_ledger.specs.Phase.{looked_up, most_added, set_after, tally_of};
+ghost use Rattle.rh_acts.specs.Workers.{tally_by};
+ghost use Rattle.rh_descriptor.specs.Places.{IsShape};
+ghost use Rattle.rh_phase.specs.Made.{HasMade, IsRooms, IsWorkers};
+
+use crate::crew::{AllStart, Crew, Starts};
+use crate::gate::Gate;
+use crate::hand::Hand;
+use crate::hands::{all_changed, mark_all, new_hands};
+use crate::rounds::rounds;
+use rh_descriptor::{Rooms, Shape};
+use rh_kcas::{close, make};
+use rh_ledger::{Kind, Tally};
+use rh_runner::PhaseFault;
+use std::alloc::Global;
+use std::collections::LinkedList;
+use std::sync::Wait;
+use std::thread::Threads;
+
+/// Inserts or removes the keys, by so many workers that change one table at once. The cells and the
+/// tally are those that one worker makes. On a fault the cells are as they were. All memory is taken
+/// before the first worker starts.
+pub fn change<R: Threads + Wait + Sync, G: Gate + Sync>(
+    rt: &R,
+    alloc: Global,
+    workers: usize,
+    kind: Kind,
+    bits: u32,
+    cells: &mut Vec<u64>,
+    keys: &[u64],
+    gate: &G,
+) -> Result<Tally, PhaseFault>
+    requires workers { IsWorkers workers }
+    requires kind { kind ≢ Kind.Ask }
+    requires keys { All IsKey keys.now }
+    requires layout { IsLayout bits cells.old.items }
+    requires room { set.len (keys_of cells.old.items) + most_added kind keys.now < 2 ^ bits }
+    ensures layout { OnOk result (IsLayout bits cells.new.items) }
+    ensures keys { OnOk result
+        (keys_of cells.new.items ≡ set_after kind (keys_of cells.old.items) keys.now) }
+    ensures tally { IfOk result (λ t. t ≡ tally_of kind (keys_of cells.old.items) keys.now) }
+    ensures unchanged { OnErr result (cells.new.items ≡ cells.old.items) }
+{
+    let rooms = usual_rooms(bits);
+    change_with(
+        rt, alloc, workers, kind, bits, cells, keys, gate, &AllStart, rooms,
+    )
+}
+
+/// Looks the keys up, by so many workers at one table, and answers in list order which are there.
+pub fn ask<R: Threads + Wait + Sync, G: Gate + Sync>(
+    rt: &R,
+    alloc: Global,
+    workers: usize,
+    bits: u32,
+    cells: &[u64],
+    keys: &[u64],
+    gate: &G,
+) -> Result<Vec<bool>, PhaseFault>
+    requires workers { IsWorkers workers }
+    requires keys { All IsKey keys.now }
+    requires layout { IsLayout bits cells.now }
+    requires room { set.len (keys_of cells.now) < 2 ^ bits }
+    ensures found { IfOk result (λ found. found.items ≡ looked_up (keys_of cells.now) keys.now) }
+{
+    let rooms = usual_rooms(bits);
+    ask_with(rt, alloc, workers, bits, cells, keys, gate, &AllStart, rooms)
+}
+
+/// `change`, where some threads may not be started, and each worker has this room in a round: a round
+/// more takes place where it does not do.
+pub fn change_with<R: Threads + Wait + Sync, G: Gate + Sync, S: Starts + Sync>(
+    rt: &R,
+    alloc: Global,
+    workers: usize,
+    kind: Kind,
+    bits: u32,
+    cells: &mut Vec<u64>,
+    keys: &[u64],
+    gate: &G,
+    starts: &S,
+    rooms: Rooms,
+) -> Result<Tally, PhaseFault>
+    requires workers { IsWorkers workers }
+    requires kind { kind ≢ Kind.Ask }
+    requires keys { All IsKey keys.now }
+    requires layout { IsLayout bits cells.old.items }
+    requires room { set.len (keys_of cells.old.items) + most_added kind keys.now < 2 ^ bits }
+    requires rooms { IsRooms bits rooms }
+    ensures layout { OnOk result (IsLayout bits cells.new.items) }
+    ensures keys { OnOk result
+        (keys_of cells.new.items ≡ set_after kind (keys_of cells.old.items) keys.now) }
+    ensures tally { IfOk result (λ t. t ≡ tally_of kind (keys_of cells.old.items) keys.now) }
+    ensures unchanged { OnErr result (cells.new.items ≡ cells.old.items) }
+{
+    let shape = shape_of(bits, workers, rooms, keys);
+    let cells = cells.as_mut_slice();
+    let hands = carry_out(rt, alloc, shape, kind, cells, keys, 0, gate, starts)?;
+    Ok(tally_by(kind, keys.len() as u64, all_changed(hands)))
+}
+
+/// `ask`, where some threads may not be started, and each worker has this room in a round.
+pub fn ask_with<R: Threads + Wait + Sync, G: Gate + Sync, S: Starts + Sync>(
+    rt: &R,
+    alloc: Global,
+    workers: usize,
+    bits: u32,
+    cells: &[u64],
+    keys: &[u64],
+    gate: &G,
+    starts: &S,
+    rooms: Rooms,
+) -> Result<Vec<bool>, PhaseFault>
+    requires workers { IsWorkers workers }
+    requires keys { All IsKey keys.now }
+    requires layout { IsLayout bits cells.now }
+    requires room { set.len (keys_of cells.now) < 2 ^ bits }
+    requires rooms { IsRooms bits rooms }
+    ensures found { IfOk result (λ found. found.items ≡ looked_up (keys_of cells.now) keys.now) }
+{
+    let shape = shape_of(bits, workers, rooms, keys);
+    let places = keys.len();
+    let mut found = vec![in alloc; false; places].map_err(|_| PhaseFault::Memory)?;
+    // (the cells at the end are the same)
+    let mut then = cells.to_vec(alloc).map_err(|_| PhaseFault::Memory)?;
+    let hands = carry_out(
+        rt,
+        alloc,
+        shape,
+        Kind::Ask,
+        then.as_mut_slice(),
+        keys,
+        places,
+        gate,
+        starts,
+    )?;
+    mark_all(hands, found.as_mut_slice());
+    Ok(found)
+}
+
+/// A phase by all workers of a table of this shape. The hands mark so many places of the list.
+fn carry_out<R: Threads + Wait + Sync, G: Gate + Sync, S: Starts + Sync>(
+    rt: &R,
+    alloc: Global,
+    shape: Shape,
+    kind: Kind,
+    cells: &mut [u64],
+    keys: &[u64],
+    places: usize,
+    gate: &G,
+    starts: &S,
+) -> Result<LinkedList<Hand>, PhaseFault>
+    requires shape { IsShape shape }
+    requires some { 0 < shape.workers }
+    requires list { shape.keys ≡ length keys.now }
+    requires keys { All IsKey keys.now }
+    requires layout { IsLayout shape.bits cells.old }
+    requires room { set.len (keys_of cells.old) + most_added kind keys.now < 2 ^ shape.bits }
+    ensures made { IfOk result (HasMade shape.bits kind places (keys_of cells.old) keys.now cells.new) }
+    ensures unchanged { OnErr result (cells.new ≡ cells.old) }
+{
+    let Ok(hands) = new_hands(alloc, &shape, kind, places) else {
+        return Err(PhaseFault::Memory);
+    };
+    let Ok((table, seat)) = make(alloc, shape, cells) else {
+        return Err(PhaseFault::Memory);
+    };
+    let crew = Crew { seat, hands };
+    let Ok(Crew { seat, hands }) = rounds(rt, &table, crew, keys, gate, starts) else {
+        return Err(PhaseFault::NoThread);
+    };
+    close(table, seat, cells);
+    Ok(hands)
+}
+
+fn shape_of(bits: u32, workers: usize, rooms: Rooms, keys: &[u64]) -> Shape
+    ensures bits { result.bits ≡ bits }
+    ensures workers { result.workers ≡ workers }
+    ensures entries { result.entry_room ≡ rooms.entries }
+    ensures marks { result.mark_room ≡ rooms.marks }
+    ensures keys { result.keys ≡ length keys.now }
+{
+    Shape {
+        bits,
+        workers,
+        entry_room: rooms.entries,
+        mark_room: rooms.marks,
+        keys: keys.len() as u64,
+    }
+}
+
+/// Room that does in one round for most lists.
+fn usual_rooms(bits: u32) -> Rooms
+    requires { IsBits bits }
+    ensures { IsRooms bits result }
+{
+    let entries = (1 << bits) + 1024;
+    Rooms {
+        entries,
+        marks: 2 * entries,
+    }
+}
+
+fn tally_by(kind: Kind, read: u64, changed: u64) -> Tally
+    ensures { result ≡ tally_by kind read changed }
+{
+    let none = Tally {
+        read,
+        added: 0,
+        removed: 0,
+        found: 0,
+    };
+    match kind {
+        Kind::Insert => Tally {
+            added: changed,
+            ..none
+        },
+        Kind::Remove => Tally {
+            removed: changed,
+            ..none
+        },
+        Kind::Ask => Tally {
+            found: changed,
+            ..none
+        },
+    }
+}
