@@ -1,31 +1,28 @@
 -- How a phase begins.
-use Rattle.std.proofs.Common.{◌≡◌, ℕ, ◌+◌, ◌<◌, ◌≤◌, inl, inr, ⊎_elim, All, List, [], ◌∷◌, ◌++◌, false, true, true≢false, length, get_or, map, min, replicate, refl, sym, ap, ◌∙◌, subst, arith, zero-add, Bool}
-use Rattle.std.specs.Prelude.{◌-◌, ◌^◌, ◌↔◌, slice_index, slice_index_or}
-use Rattle.std.specs.List.{Contains}
+use Rattle.std.proofs.Common.{◌≡◌, ℕ, ◌+◌, ◌<◌, ◌≤◌, inl, ⊎_elim, All, List, [], ◌++◌, false, true, true≢false, length, map, replicate, refl, sym, ap, ◌∙◌, subst, arith, zero-add, Bool}
+use Rattle.std.specs.Prelude.{◌^◌, slice_index, slice_index_or}
 use Rattle.std.specs.FinSet as set
 use Rattle.std.proofs.lemmas.Bool.{cases_eq}
 use Rattle.std.proofs.lemmas.List.{get_or-replicate, length-replicate}
-use mathlib.Core.Option.{some, some-injective, some-ne-none}
+use mathlib.Core.Option.{some}
 use lib.ListN.{get_elem?}
 use Rattle.std.proofs.Math.Pow.{pow-lt}
-use Rattle.rh_layout.specs.Key.{IsBits, IsKey, cell_of, is_full, key_in}
-use Rattle.rh_layout.specs.Layout.{IsLayout, Keys, Layout, keys_of}
+use Rattle.rh_layout.specs.Key.{IsBits, IsKey, cell_of, key_in}
+use Rattle.rh_layout.specs.Layout.{IsLayout, Keys}
 use Rattle.rh_layout.specs.declared.limits.TheConstants.{MAX_KEY}
 use Rattle.rh_ledger.specs.declared.tally.Kind.{Kind}
 use Rattle.rh_ledger.specs.declared.tally.Kind.TheVariants.{Insert, Remove, Ask}
-use Rattle.rh_ledger.specs.Phase.{most_added, set_after, tally_of}
+use Rattle.rh_ledger.specs.Phase.{most_added, tally_of}
 use Rattle.rh_ledger.proofs.PhaseLemmas.{len-insert_all}
 use Rattle.rh_tagword.specs.Word.{IsValue, plain_number}
 use Rattle.rh_acts.specs.Workers.{LeavesRoom}
 use Rattle.rh_acts.proofs.ActLemmas.{contains_none}
 use Rattle.rh_acts.proofs.FoldLemmas.{added_len, removed_len}
 use Rattle.rh_descriptor.specs.declared.known.Known.{Known}
-use Rattle.rh_descriptor.specs.declared.shape.Shape.{Shape}
-use Rattle.rh_descriptor.specs.Places.{IsShape, cell_count}
-use Rattle.rh_descriptor.specs.View.{View, new_view}
+use Rattle.rh_descriptor.specs.Places.{cell_count}
+use Rattle.rh_descriptor.specs.View.{new_view}
 use Rattle.rh_rule.specs.Seats.{InView, first_view, known}
 use Rattle.rh_rule.proofs.SeatsKept.{new_at, there}
-use Rattle.rh_rdcss.specs.declared.seat.Seat.{Seat}
 use Rattle.rh_rdcss.specs.declared.table.Table.{Table}
 use Rattle.rh_world.specs.World.{In}
 use Rattle.rh_rule.specs.Wipes.{row_total}
@@ -33,9 +30,8 @@ use Rattle.rh_run.specs.Run.{Doing, Running}
 use Rattle.rh_run.proofs.Turning.{run_starts}
 use Rattle.rh_kcas.specs.Crews.{HasAll, IsFresh, views_of}
 use Rattle.rh_worker.specs.declared.place.Place.{Place}
-use Rattle.rh_worker.specs.declared.place.Place.TheVariants as place
 use Rattle.rh_phase.specs.Crew.{CanWork}
-use Rattle.rh_phase.specs.Hands.{HasStopped, IsHand, Stands, answer, left_over}
+use Rattle.rh_phase.specs.Hands.{Stands, answer, left_over}
 use Rattle.rh_phase.specs.Made.{AreNew, IsNew}
 use Rattle.rh_phase.specs.Rounds.{Comes, past_of}
 use Rattle.rh_phase.specs.declared.crew.Crew.{Crew}
@@ -129,5 +125,6 @@ module _ (t : Table) (kind : Kind) (places : ℕ) (cells keys : List ℕ) (c : C
     where
       run : Running kind t.shape cells (map plain_number cells ++ replicate (row_total t.shape + 1) 0) (new_view (map plain_number cells)) (λ v. keys) (λ v. []) (λ v. [])
       run = run_starts kind t.shape cells (λ v. keys) t.fits long
+
       unmarked : (h : Hand) → IsNew t.shape kind places h → (p : ℕ) → p < length h.found.items → slice_index_or h.found.items p false ≡ false
       unmarked h n p inside = ap (λ (l : List Bool). slice_index_or l p false) n.unmarked ∙ get_or-replicate places p false false (let e : length h.found.items ≡ places = ap length n.unmarked ∙ length-replicate places false in omega (arith, inside, e))

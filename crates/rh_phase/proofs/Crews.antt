@@ -145,8 +145,10 @@ module _ (t : Table) (keys : List ℕ) (c : Crew) (one : c.seat.count ≡ 1) (ca
     where
       whose : (view_of seat).worker ≡ (view_of c.seat).worker
       whose = seat.side.same_worker ∙ same ∙ sym c.seat.side.same_worker
+
       here_is : (r : ℕ) (s : Known) → get_elem? (views_of seat) r ≡ some s → (r ≡ 0) × (known (view_of seat) ≡ s)
       here_is r s e = one_at (known (view_of seat)) s r (subst (λ (l : List Known). get_elem? l r ≡ some s) (alone_views seat alone) e)
+
       each : (P : View → Hand → Type 0) → P (view_of seat) next → InPairs P (views_of seat) (set c.hands 0 next)
       each P p r s h e f =
           let q = here_is r s e in

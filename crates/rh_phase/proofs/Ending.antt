@@ -1,5 +1,5 @@
 -- What a phase makes, once all keys of its list are done.
-use Rattle.std.proofs.Common.{◌≡◌, ◌≢◌, ℕ, zero, suc, ◌+◌, ◌<◌, ◌≤◌, min, Bool, true, false, List, [], ◌∷◌, ◌++◌, length, get_or, map, All, refl, sym, ap, ◌∙◌, subst, arith}
+use Rattle.std.proofs.Common.{◌≡◌, ◌≢◌, ℕ, zero, suc, ◌<◌, min, Bool, true, false, List, [], ◌∷◌, ◌++◌, length, get_or, map, All, sym, ap, ◌∙◌, subst, arith}
 use Rattle.std.specs.Prelude.{◌-◌, ◌^◌, slice_index, slice_index_or}
 use Rattle.std.specs.List.{Contains}
 use Rattle.std.specs.FinSet.{contains}
@@ -11,14 +11,13 @@ use lib.ListN.{get_elem?}
 use Rattle.rh_layout.specs.Layout.{Keys, Layout, keys_of}
 use Rattle.rh_ledger.specs.declared.tally.Kind.{Kind}
 use Rattle.rh_ledger.specs.declared.tally.Kind.TheVariants.{Ask}
-use Rattle.rh_ledger.specs.Phase.{looked_up, set_after, tally_of}
+use Rattle.rh_ledger.specs.Phase.{set_after, tally_of}
 use Rattle.rh_tagword.specs.Word.{plain_number}
 use Rattle.rh_acts.specs.Shared.{IsSharedOut}
-use Rattle.rh_acts.specs.Workers.{LeavesRoom, counted, how_many, piece, sum_of_all, tally_by}
+use Rattle.rh_acts.specs.Workers.{LeavesRoom, how_many, tally_by}
 use Rattle.rh_descriptor.specs.declared.known.Known.{Known}
 use Rattle.rh_descriptor.specs.declared.shape.Shape.{Shape}
 use Rattle.rh_descriptor.specs.Places.{cell_count}
-use Rattle.rh_descriptor.specs.View.{View}
 use Rattle.rh_history.specs.History.{value_of}
 use Rattle.rh_rule.specs.Seats.{AreMade, Spans}
 use Rattle.rh_rule.proofs.SeatsKept.{item_at, there}
@@ -33,7 +32,7 @@ use Rattle.rh_phase.specs.Hands.{Answer, InPairs, IsFinished, IsHand, answer, ke
 use Rattle.rh_phase.specs.Made.{HasMade}
 use Rattle.rh_phase.specs.Rounds.{Comes, all_changed, is_marked}
 use Rattle.rh_phase.specs.declared.hand.Hand.{Hand}
-use Rattle.rh_phase.proofs.Gathering.{AnsweredBy, Gathered, gathered}
+use Rattle.rh_phase.proofs.Gathering.{Gathered, gathered}
 use Rattle.rh_phase.proofs.Sums.{alike_at, all_changed_is, by_one, count_in, count_sum, marked_by, of_mapped, one_of_sum, same_truth, sum_below, tally_is}
 
 pub at_or : {A : Type 0} (l : List A) (i : ℕ) (a d : A) → get_elem? l i ≡ some a → get_or l i d ≡ a

@@ -120,7 +120,9 @@ module _ (z : Shape) (kind : Kind) (places : ℕ) (opening keys : List ℕ) (vs 
     where
       wiped : (then : List ℕ) × IsWiped z m.words then
       wiped = wiped_words z m.words m.core.mirrors.sized
+
       then : List ℕ
       then = wiped.0
+
       run : Running kind z opening then (λ v. round_view m.cells (m.keep v)) (λ v. keys) (λ v. keys_done keys (gathered.answers v)) (λ v. told_of (gathered.answers v))
       run = run_rounds kind z opening m.words then m.cells m.keep (λ v. keys) (λ v. keys_done keys (gathered.answers v)) (λ v. told_of (gathered.answers v)) shape some_one m.rest m.front wiped.1 gathered.run

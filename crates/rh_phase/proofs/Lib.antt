@@ -8,3 +8,5 @@ mod Rounding
 mod Sums
 mod Ending
 mod Beginning
+mod Slices
+mod Answering

@@ -66,8 +66,10 @@ marks_more found answers place true p inside was = (there, back)
         (λ (e : p ≡ place). Contains-append_right answers (answer place true ∷ []) (answer p true) (subst (λ (q : ℕ). Contains (answer place true ∷ []) (answer q true)) (sym e) (contains_head (answer place true) [])))
         (λ (ne : p ≢ place). Contains-append_left answers (answer place true ∷ []) (answer p true) (was.0 (sym (get_or-set_other found place p true false ne) ∙ is)))
         (same_nat p place)
+
     here : p ≡ place → slice_index_or (set found place true) p false ≡ true
     here e = ap (λ (q : ℕ). slice_index_or (set found place true) q false) e ∙ get_or-set_same found place true false (subst (λ (q : ℕ). q < length found) e inside)
+
     back : Contains (answers ++ answer place true ∷ []) (answer p true) → slice_index_or (set found place true) p false ≡ true
     back h = ⊎_elim
         (λ (old : Contains answers (answer p true)). ⊎_elim here (λ (ne : p ≢ place). get_or-set_other found place p true false ne ∙ was.1 old) (same_nat p place))
@@ -94,6 +96,7 @@ counts_more answers place old new told was is = go told is more
   where
     more : count_by (λ so. so) (told_of (answers ++ answer place told ∷ [])) ≡ count_by (λ so. so) (told_of answers) + cond told 1 0
     more = ap (count_by (λ so. so)) (map_push (λ (a : Answer). a.told) answers (answer place told)) ∙ sum_by_push (λ (so : Bool). cond so 1 0) (told_of answers) told
+
     go : (b : Bool) → new ≡ cond b (min (old + 1) (2 ^ 64 - 1)) old → count_by (λ so. so) (told_of (answers ++ answer place told ∷ [])) ≡ count_by (λ so. so) (told_of answers) + cond b 1 0
         → new ≡ min (count_by (λ so. so) (told_of (answers ++ answer place told ∷ []))) (2 ^ 64 - 1)
     go true i m = omega (arith, was, i, m)
@@ -175,5 +178,6 @@ module _ (z : Shape) (keys : List ℕ) (past : Past) (h then : Hand) (v next : V
       where
         answers : List Answer
         answers = was.answers ++ answer h.place told ∷ []
+
         keys_are : keys_done keys answers ≡ keys_done keys was.answers ++ key ∷ []
         keys_are = map_push (λ (a : Answer). slice_index keys a.place) was.answers (answer h.place told) ∙ ap (λ (k : ℕ). keys_done keys was.answers ++ k ∷ []) is

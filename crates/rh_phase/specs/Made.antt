@@ -2,7 +2,7 @@
 use Rattle.std.specs.Prelude.{◌≡◌, ◌≢◌, ℕ, ◌^◌, ◌<◌, ◌≤◌, false, All, List, length, replicate, slice_index}
 use Rattle.std.specs.FinSet.{contains}
 use Rattle.rh_layout.specs.Key.{IsKey}
-use Rattle.rh_layout.specs.Layout.{Keys, Layout, keys_of}
+use Rattle.rh_layout.specs.Layout.{Keys, Layout}
 use Rattle.rh_ledger.specs.declared.tally.Kind.{Kind}
 use Rattle.rh_ledger.specs.declared.tally.Kind.TheVariants.{Ask}
 use Rattle.rh_ledger.specs.Phase.{set_after, tally_of}

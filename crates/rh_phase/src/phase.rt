@@ -70,7 +70,9 @@ pub fn ask<R: Threads + Wait + Sync, G: Gate + Sync>(
     ensures found { IfOk result (λ found. found.items ≡ looked_up (keys_of cells.now) keys.now) }
 {
     let rooms = usual_rooms(bits);
-    ask_with(rt, alloc, workers, bits, cells, keys, gate, &AllStart, rooms)
+    ask_with(
+        rt, alloc, workers, bits, cells, keys, gate, &AllStart, rooms,
+    )
 }
 
 /// `change`, where some threads may not be started, and each worker has this room in a round: a round
@@ -126,9 +128,13 @@ pub fn ask_with<R: Threads + Wait + Sync, G: Gate + Sync, S: Starts + Sync>(
 {
     let shape = shape_of(bits, workers, rooms, keys);
     let places = keys.len();
-    let mut found = vec![in alloc; false; places].map_err(|_| PhaseFault::Memory)?;
+    let Ok(mut found) = vec![in alloc; false; places] else {
+        return Err(PhaseFault::Memory);
+    };
     // (the cells at the end are the same)
-    let mut then = cells.to_vec(alloc).map_err(|_| PhaseFault::Memory)?;
+    let Ok(mut then) = cells.to_vec(alloc) else {
+        return Err(PhaseFault::Memory);
+    };
     let hands = carry_out(
         rt,
         alloc,
