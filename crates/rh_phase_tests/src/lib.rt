@@ -1,0 +1,7 @@
+//! Tests of phases by several workers, from outside.
+#![tactic(auto)]
+
+#[cfg(test)]
+mod phases;
+#[cfg(test)]
+mod starts;

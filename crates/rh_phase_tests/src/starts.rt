@@ -1,0 +1,87 @@
+ghost use Rattle.std.specs.Prelude.{◌==◌, not};
+
+use rh_descriptor::Rooms;
+use rh_edit::SeqSet;
+use rh_layout::is_layout;
+use rh_ledger::{Kind, Tally};
+use rh_phase::{AllStart, OpenGate, PhaseFault, Starts, change_with};
+use std::test::Fail;
+
+// Room for one key of 3 bits.
+const ROOMS: Rooms = Rooms {
+    entries: 8,
+    marks: 8,
+};
+
+/// The half whose first worker this is does not start.
+#[derive(Drop)]
+struct AllBut(usize);
+
+impl Starts for AllBut {
+    ghost allows = { λ s worker. not (worker == s.0) };
+
+    fn allowed(&self, worker: usize) -> bool {
+        worker != self.0
+    }
+}
+
+#[test]
+fn a_refused_start_leaves_the_cells(rt: HostRuntime) -> Result<(), Fail> {
+    for refused in 1..8 {
+        let set = SeqSet::new(rt.alloc(), 3)?;
+        assert!(rt; set.len() == 0);
+        let mut cells = set.into_cells();
+        assert!(rt; is_layout(3, &cells));
+        let starts = AllBut(refused);
+        let told = change_with(
+            &rt,
+            rt.alloc(),
+            8,
+            Kind::Insert,
+            3,
+            &mut cells,
+            &[9, 9],
+            &OpenGate,
+            &starts,
+            ROOMS,
+        );
+        assert!(rt; told == Err(PhaseFault::NoThread));
+        assert_eq!(rt; cells.as_slice(), [0, 0, 0, 0, 0, 0, 0, 0].as_slice());
+    }
+    Ok(())
+}
+
+#[test]
+fn small_rooms_take_more_rounds(rt: HostRuntime) -> Result<(), Fail> {
+    for workers in [1, 2, 5, 8] {
+        assert!(rt; 0 < workers && workers <= 16);
+        let set = SeqSet::new(rt.alloc(), 3)?;
+        assert!(rt; set.len() == 0);
+        let mut cells = set.into_cells();
+        assert!(rt; is_layout(3, &cells));
+        let keys = [1, 9, 17, 6, 14, 3];
+        let told = change_with(
+            &rt,
+            rt.alloc(),
+            workers,
+            Kind::Insert,
+            3,
+            &mut cells,
+            &keys,
+            &OpenGate,
+            &AllStart,
+            ROOMS,
+        )?;
+        assert_eq!(rt;
+            told,
+            Tally {
+                read: 6,
+                added: 6,
+                removed: 0,
+                found: 0
+            }
+        );
+        assert_eq!(rt; cells.as_slice(), [15, 4, 0, 0, 2, 10, 18, 7].as_slice());
+    }
+    Ok(())
+}
