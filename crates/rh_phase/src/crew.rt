@@ -1,6 +1,6 @@
 //! The workers of a phase in threads, whose start may be refused.
 
-ghost use Rattle.std.specs.Prelude.{◌≡◌, ◌+◌, ◌<◌, ◌++◌, Bool, IfErr, IfOk, length};
+ghost use Rattle.std.specs.Prelude.{◌≡◌, ◌+◌, ◌<◌, ◌++◌, IfErr, IfOk, length};
 ghost use Rattle.std.specs.Thread.{IsSync};
 ghost use Rattle.rh_kcas.specs.Crews.{IsAt, IsJoined};
 ghost use Rattle.rh_phase.specs.Crew.{AreHalves, CanWork, HaveWorked, RefusedBy};

@@ -1,8 +1,7 @@
 //! The keys of one worker, each to its end.
 
-ghost use Rattle.std.specs.Prelude.{◌≡◌, ℕ, ◌<◌, ◌↔◌, ◌⊎◌, IfNone, IfSome, IsTrue, All, false, length};
+ghost use Rattle.std.specs.Prelude.{◌≡◌, All, IfNone, IfSome, IsTrue, false, length};
 ghost use Rattle.rh_layout.specs.Key.{IsKey};
-ghost use Rattle.rh_ledger.specs.declared.tally.Kind.{Kind};
 ghost use Rattle.rh_descriptor.specs.Places.{IsShape};
 ghost use Rattle.rh_history.specs.History.{kept_of, own_acts_of};
 ghost use Rattle.rh_history.specs.OwnActs.{Orderly};

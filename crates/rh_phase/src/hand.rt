@@ -5,7 +5,7 @@ use rh_worker::Worker;
 /// A worker of a phase, with what came of its keys. Between two rounds its state is kept at its seat,
 /// and the one in `worker` means nothing.
 #[derive(Drop)]
-pub struct Hand {
+pub(crate) struct Hand {
     pub worker: Worker,
     /// The place in the list of the key that it claimed last.
     pub place: usize,

@@ -15,6 +15,5 @@ mod seated;
 pub use crew::{AllStart, Starts};
 pub use doing::do_key;
 pub use gate::{Gate, OpenGate};
-pub use hand::Hand;
 pub use phase::{ask, ask_with, change, change_with};
 pub use rh_runner::PhaseFault;

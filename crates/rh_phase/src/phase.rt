@@ -1,6 +1,6 @@
 //! Phases over a list of keys that several workers share.
 
-ghost use Rattle.std.specs.Prelude.{◌≡◌, ◌≢◌, ◌+◌, ◌^◌, ◌<◌, ◌≤◌, All, IfOk, OnErr, OnOk, length};
+ghost use Rattle.std.specs.Prelude.{◌≡◌, ◌≢◌, ◌+◌, ◌^◌, ◌<◌, All, IfOk, OnErr, OnOk, length};
 ghost use Rattle.std.specs.FinSet as set;
 ghost use Rattle.rh_layout.specs.Key.{IsBits, IsKey};
 ghost use Rattle.rh_layout.specs.Layout.{IsLayout, keys_of};
