@@ -11,9 +11,11 @@ mod hands;
 mod phase;
 mod rounds;
 mod seated;
+mod threads;
 
 pub use crew::{AllStart, Starts};
 pub use doing::do_key;
 pub use gate::{Gate, OpenGate};
 pub use phase::{ask, ask_with, change, change_with};
 pub use rh_runner::PhaseFault;
+pub use threads::Threads;

@@ -32,6 +32,7 @@ use rh_runner::{
 use rh_shelf::Shelf;
 use std::alloc::Global;
 use std::sync::Wait;
+use std::thread::Threads;
 
 /// How many keys the file at the path has. It is read to its end.
 pub(crate) fn use_file<S: Shelf>(alloc: Global, shelf: &mut S, path: &str) -> Result<u64, Cause>
@@ -53,7 +54,7 @@ pub(crate) fn use_file<S: Shelf>(alloc: Global, shelf: &mut S, path: &str) -> Re
 }
 
 /// Adds the keys of the list to the set, in a table that has grown for them.
-pub(crate) fn add<T: Wait, S: Shelf, N: Runner>(
+pub(crate) fn add<T: Threads + Wait + Sync, S: Shelf, N: Runner>(
     rt: &T,
     alloc: Global,
     shelf: &mut S,
@@ -84,7 +85,7 @@ pub(crate) fn add<T: Wait, S: Shelf, N: Runner>(
 }
 
 /// Takes the keys of the list out of the set.
-pub(crate) fn drop_keys<T: Wait, S: Shelf, N: Runner>(
+pub(crate) fn drop_keys<T: Threads + Wait + Sync, S: Shelf, N: Runner>(
     rt: &T,
     alloc: Global,
     shelf: &mut S,
@@ -115,7 +116,7 @@ pub(crate) fn drop_keys<T: Wait, S: Shelf, N: Runner>(
 }
 
 /// Looks the keys of the list up.
-pub(crate) fn ask<T: Wait, S: Shelf, N: Runner>(
+pub(crate) fn ask<T: Threads + Wait + Sync, S: Shelf, N: Runner>(
     rt: &T,
     alloc: Global,
     shelf: &mut S,
@@ -142,7 +143,7 @@ pub(crate) fn ask<T: Wait, S: Shelf, N: Runner>(
 
 /// Keeps of the set the keys of the list alone, in a table of the least size for them, and answers
 /// how many places of the list they have. The list is read twice.
-pub(crate) fn keep<T: Wait, S: Shelf, N: Runner>(
+pub(crate) fn keep<T: Threads + Wait + Sync, S: Shelf, N: Runner>(
     rt: &T,
     alloc: Global,
     shelf: &mut S,
@@ -174,7 +175,7 @@ pub(crate) fn keep<T: Wait, S: Shelf, N: Runner>(
 }
 
 /// How many places of the list have a key of the set.
-fn count_found<T: Wait, S: Shelf, N: Runner>(
+fn count_found<T: Threads + Wait + Sync, S: Shelf, N: Runner>(
     rt: &T,
     alloc: Global,
     shelf: &mut S,
@@ -202,7 +203,7 @@ fn count_found<T: Wait, S: Shelf, N: Runner>(
 
 /// Inserts into the cells those keys of the list that the set holds, or where `wanted` is false,
 /// those that it does not hold. `many` is how many places an earlier reading chose.
-fn insert_listed<T: Wait, S: Shelf, N: Runner>(
+fn insert_listed<T: Threads + Wait + Sync, S: Shelf, N: Runner>(
     rt: &T,
     alloc: Global,
     shelf: &mut S,
@@ -250,7 +251,7 @@ fn insert_listed<T: Wait, S: Shelf, N: Runner>(
 
 /// Takes the keys of the list that the set holds out of it, and adds the others, in a table that
 /// has grown for those; answers what was counted of the two. The list is read twice.
-pub(crate) fn flip<T: Wait, S: Shelf, N: Runner>(
+pub(crate) fn flip<T: Threads + Wait + Sync, S: Shelf, N: Runner>(
     rt: &T,
     alloc: Global,
     shelf: &mut S,
@@ -283,7 +284,7 @@ pub(crate) fn flip<T: Wait, S: Shelf, N: Runner>(
 
 /// A copy of the set without the keys of the list, what was counted, and how many places of the
 /// list have a key that the set does not hold.
-fn without_listed<T: Wait, S: Shelf, N: Runner>(
+fn without_listed<T: Threads + Wait + Sync, S: Shelf, N: Runner>(
     rt: &T,
     alloc: Global,
     shelf: &mut S,

@@ -25,6 +25,7 @@ use rh_shelf::Shelf;
 use std::alloc::{AllocError, Global};
 use std::io::Write;
 use std::sync::Wait;
+use std::thread::Threads;
 
 /// Carries out the commands of a script, from an empty table of the least size, and writes their
 /// reports. It ends at the first command that is refused; what was written then is the text of the
@@ -35,7 +36,7 @@ use std::sync::Wait;
 ///
 /// Each text is a few writes, so give it a writer with a buffer. A run may wait for ever where its
 /// runner does.
-pub fn run<T: Wait, S: Shelf, N: Runner, W: Write>(
+pub fn run<T: Threads + Wait + Sync, S: Shelf, N: Runner, W: Write>(
     rt: &T,
     alloc: Global,
     script: &Script,
@@ -82,7 +83,7 @@ fn begin(alloc: Global, script: &Script) -> Result<(Plan<'_>, SeqSet), AllocErro
 }
 
 /// Carries out the steps of a plan, from an empty set on.
-fn carry_out_all<T: Wait, S: Shelf, N: Runner, W: Write>(
+fn carry_out_all<T: Threads + Wait + Sync, S: Shelf, N: Runner, W: Write>(
     rt: &T,
     alloc: Global,
     shelf: &mut S,

@@ -33,9 +33,10 @@ use rh_shelf::Shelf;
 use std::alloc::Global;
 use std::io::Write;
 use std::sync::Wait;
+use std::thread::Threads;
 
 /// `add`: the keys of the list are held too.
-pub(crate) fn add_step<T: Wait, S: Shelf, N: Runner, W: Write>(
+pub(crate) fn add_step<T: Threads + Wait + Sync, S: Shelf, N: Runner, W: Write>(
     rt: &T,
     alloc: Global,
     shelf: &mut S,
@@ -68,7 +69,7 @@ pub(crate) fn add_step<T: Wait, S: Shelf, N: Runner, W: Write>(
 }
 
 /// `drop`: the keys of the list are held no more.
-pub(crate) fn drop_step<T: Wait, S: Shelf, N: Runner, W: Write>(
+pub(crate) fn drop_step<T: Threads + Wait + Sync, S: Shelf, N: Runner, W: Write>(
     rt: &T,
     alloc: Global,
     shelf: &mut S,
@@ -101,7 +102,7 @@ pub(crate) fn drop_step<T: Wait, S: Shelf, N: Runner, W: Write>(
 }
 
 /// `ask`: the keys of the list are looked up.
-pub(crate) fn ask_step<T: Wait, S: Shelf, N: Runner, W: Write>(
+pub(crate) fn ask_step<T: Threads + Wait + Sync, S: Shelf, N: Runner, W: Write>(
     rt: &T,
     alloc: Global,
     shelf: &mut S,
@@ -132,7 +133,7 @@ pub(crate) fn ask_step<T: Wait, S: Shelf, N: Runner, W: Write>(
 }
 
 /// `keep`: of the keys that are held, those of the list stay.
-pub(crate) fn keep_step<T: Wait, S: Shelf, N: Runner, W: Write>(
+pub(crate) fn keep_step<T: Threads + Wait + Sync, S: Shelf, N: Runner, W: Write>(
     rt: &T,
     alloc: Global,
     shelf: &mut S,
@@ -165,7 +166,7 @@ pub(crate) fn keep_step<T: Wait, S: Shelf, N: Runner, W: Write>(
 }
 
 /// `flip`: of the keys of the list, those that are held are held no more, and the others are.
-pub(crate) fn flip_step<T: Wait, S: Shelf, N: Runner, W: Write>(
+pub(crate) fn flip_step<T: Threads + Wait + Sync, S: Shelf, N: Runner, W: Write>(
     rt: &T,
     alloc: Global,
     shelf: &mut S,

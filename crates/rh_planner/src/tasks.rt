@@ -26,10 +26,11 @@ use rh_shelf::Shelf;
 use std::alloc::Global;
 use std::io::Write;
 use std::sync::Wait;
+use std::thread::Threads;
 
 /// Carries a task out and writes its report.
 #[tactic(auto, unfolding(crate::specs::Meaning::outcome_of, rh_script::specs::Plan::number_after))]
-pub(crate) fn carry_out<'a, T: Wait, S: Shelf, N: Runner, W: Write>(
+pub(crate) fn carry_out<'a, T: Threads + Wait + Sync, S: Shelf, N: Runner, W: Write>(
     rt: &T,
     alloc: Global,
     shelf: &mut S,

@@ -12,12 +12,13 @@ ghost use Rattle.rh_runner.specs.Lists.{Took, Ran, Refused, RefusedBatch, Refuse
 ghost use Rattle.rh_runner.specs.Lists.{is_wanted, chosen};
 
 use crate::fault::ListFault;
-use crate::lists::{BATCH, NONE_YET};
+use crate::lists::{NONE_YET, phase_room};
 use crate::runner::Runner;
 use rh_files::KeySource;
 use rh_ledger::{Kind, Tally, joined};
 use std::alloc::Global;
 use std::sync::Wait;
+use std::thread::Threads;
 
 fn count_wanted(wanted: bool, found: &[bool]) -> usize
     ensures { result ≡ count_by (is_wanted wanted) found.now }
@@ -44,7 +45,7 @@ fn choose(wanted: bool, found: &[bool], batch: &mut [u64]) -> usize
 
 /// How many places of a list have a key that the table holds, or where `wanted` is false, a key
 /// that it does not hold.
-pub fn count_chosen<T: Wait, N: Runner, K: KeySource>(
+pub fn count_chosen<T: Threads + Wait + Sync, N: Runner, K: KeySource>(
     rt: &T,
     alloc: Global,
     runner: &mut N,
@@ -63,11 +64,12 @@ pub fn count_chosen<T: Wait, N: Runner, K: KeySource>(
     ensures fine { OnOk result (N.refused_starts runner.new ≡ N.refused_starts runner.old) }
 {
     // The count is no greater.
-    let _most = keys.left();
+    let most = keys.left();
+    let mut room = phase_room(alloc, most)?;
+    let batch = room.as_mut_slice();
     let mut many = 0;
-    let mut batch = [0; BATCH];
     loop {
-        let n = keys.next_keys(&mut batch)?;
+        let n = keys.next_keys(batch)?;
         if n == 0 {
             return Ok(many);
         }
@@ -77,7 +79,7 @@ pub fn count_chosen<T: Wait, N: Runner, K: KeySource>(
 }
 
 /// Inserts the chosen keys of a batch, unless they are more than `left`. The batch is used up.
-fn insert_batch<T: Wait, N: Runner>(
+fn insert_batch<T: Threads + Wait + Sync, N: Runner>(
     rt: &T,
     alloc: Global,
     runner: &mut N,
@@ -113,7 +115,7 @@ fn insert_batch<T: Wait, N: Runner>(
 /// Inserts the keys of a list that the old table holds, or where `wanted` is false, those that it
 /// does not hold. `many` is how many places of the list an earlier reading chose: where this one
 /// chooses more or fewer, the list has `Changed`. On a fault the cells may hold some of the keys.
-pub fn insert_chosen<T: Wait, N: Runner, K: KeySource>(
+pub fn insert_chosen<T: Threads + Wait + Sync, N: Runner, K: KeySource>(
     rt: &T,
     alloc: Global,
     runner: &mut N,
@@ -138,15 +140,16 @@ pub fn insert_chosen<T: Wait, N: Runner, K: KeySource>(
         (N.refused_starts runner.old) (N.refused_starts runner.new)) }
     ensures fine { OnOk result (N.refused_starts runner.new ≡ N.refused_starts runner.old) }
 {
+    let mut room = phase_room(alloc, keys.left())?;
+    let room = room.as_mut_slice();
     let mut left = many;
     let mut tally = NONE_YET;
-    let mut batch = [0; BATCH];
     loop {
-        let n = keys.next_keys(&mut batch)?;
+        let n = keys.next_keys(room)?;
         if n == 0 {
             break;
         }
-        let batch = &mut batch[..n];
+        let batch = &mut room[..n];
         let told = insert_batch(
             rt, alloc, runner, wanted, left, old_bits, old, bits, cells, batch,
         )?;
@@ -161,7 +164,7 @@ pub fn insert_chosen<T: Wait, N: Runner, K: KeySource>(
 
 /// Removes all keys of a list, and counts its places with keys that the old table, of the same
 /// size, does not hold. On a fault some of the keys may be removed.
-pub fn remove_and_count_absent<T: Wait, N: Runner, K: KeySource>(
+pub fn remove_and_count_absent<T: Threads + Wait + Sync, N: Runner, K: KeySource>(
     rt: &T,
     alloc: Global,
     runner: &mut N,
@@ -183,12 +186,13 @@ pub fn remove_and_count_absent<T: Wait, N: Runner, K: KeySource>(
     ensures fine { OnOk result (N.refused_starts runner.new ≡ N.refused_starts runner.old) }
 {
     // No count is greater.
-    let _most = keys.left();
+    let most = keys.left();
+    let mut room = phase_room(alloc, most)?;
+    let batch = room.as_mut_slice();
     let mut tally = NONE_YET;
     let mut absent = 0;
-    let mut batch = [0; BATCH];
     loop {
-        let n = keys.next_keys(&mut batch)?;
+        let n = keys.next_keys(batch)?;
         if n == 0 {
             return Ok((tally, absent));
         }

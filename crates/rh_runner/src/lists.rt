@@ -1,6 +1,6 @@
 //! Phases over whole lists of keys, batch by batch.
 
-ghost use Rattle.std.specs.Prelude.{◌≡◌, ◌≢◌, ◌+◌, ◌^◌, ◌<◌, ℕ, List, IfOk, IfErr, OnOk};
+ghost use Rattle.std.specs.Prelude.{◌≡◌, ◌≢◌, ◌+◌, ◌^◌, ◌<◌, ℕ, List, IfOk, IfErr, OnOk, length};
 ghost use Rattle.std.specs.FinSet as set;
 ghost use Rattle.rh_layout.specs.Layout.{IsLayout, keys_of};
 ghost use Rattle.rh_files.specs.Source.{FaultComes};
@@ -13,9 +13,23 @@ use rh_files::{KeyFault, KeySource};
 use rh_ledger::{Kind, Tally, joined};
 use std::alloc::Global;
 use std::sync::Wait;
+use std::thread::Threads;
 
-/// How many keys of a list are taken at a time.
+/// How many keys are taken at a time of a list that is only read through.
 pub const BATCH: usize = 4_096;
+
+/// How many keys a phase takes at most. A phase of several workers makes a table of its own, which is
+/// to be a small part of what it costs.
+pub const PHASE: usize = 65_536;
+
+/// Room for the keys of a phase over a list of which so many are to come.
+pub(crate) fn phase_room(alloc: Global, left: u64) -> Result<Vec<u64>, PhaseFault>
+    ensures some { IfOk result (λ room. 0 < length room.items) }
+    ensures fault { IfErr result (λ fault. fault ≡ PhaseFault.Memory) }
+{
+    let long = left.min(PHASE as u64).max(1) as usize;
+    vec![in alloc; 0; long].map_err(|_| PhaseFault::Memory)
+}
 
 pub(crate) const NONE_YET: Tally = Tally {
     read: 0,
@@ -36,7 +50,7 @@ pub fn read_through<K: KeySource>(keys: &mut K) -> Result<(), KeyFault>
 }
 
 /// Inserts or removes all keys of a list. On a fault the cells may hold some of the changes.
-pub fn change_all<T: Wait, N: Runner, K: KeySource>(
+pub fn change_all<T: Threads + Wait + Sync, N: Runner, K: KeySource>(
     rt: &T,
     alloc: Global,
     runner: &mut N,
@@ -57,11 +71,12 @@ pub fn change_all<T: Wait, N: Runner, K: KeySource>(
     ensures fine { OnOk result (N.refused_starts runner.new ≡ N.refused_starts runner.old) }
 {
     // No count of the tally is greater.
-    let _most = keys.left();
+    let most = keys.left();
+    let mut room = phase_room(alloc, most)?;
+    let batch = room.as_mut_slice();
     let mut tally = NONE_YET;
-    let mut batch = [0; BATCH];
     loop {
-        let n = keys.next_keys(&mut batch)?;
+        let n = keys.next_keys(batch)?;
         if n == 0 {
             return Ok(tally);
         }
@@ -71,7 +86,7 @@ pub fn change_all<T: Wait, N: Runner, K: KeySource>(
 }
 
 /// Looks all keys of a list up, and answers in list order which are there.
-pub fn ask_all<T: Wait, N: Runner, K: KeySource>(
+pub fn ask_all<T: Threads + Wait + Sync, N: Runner, K: KeySource>(
     rt: &T,
     alloc: Global,
     runner: &mut N,
@@ -88,11 +103,12 @@ pub fn ask_all<T: Wait, N: Runner, K: KeySource>(
         (N.refused_starts runner.old) (N.refused_starts runner.new)) }
     ensures fine { OnOk result (N.refused_starts runner.new ≡ N.refused_starts runner.old) }
 {
-    let many = keys.left() as usize;
-    let mut found = Vec::with_capacity(alloc, many).map_err(|_| PhaseFault::Memory)?;
-    let mut batch = [0; BATCH];
+    let many = keys.left();
+    let mut found = Vec::with_capacity(alloc, many as usize).map_err(|_| PhaseFault::Memory)?;
+    let mut room = phase_room(alloc, many)?;
+    let batch = room.as_mut_slice();
     loop {
-        let n = keys.next_keys(&mut batch)?;
+        let n = keys.next_keys(batch)?;
         if n == 0 {
             return Ok(found);
         }

@@ -2,6 +2,7 @@
 
 ghost use Rattle.std.specs.Prelude.{◌≡◌, ◌≢◌, ◌+◌, ◌^◌, ◌<◌, ℕ, All, IfOk, IsErrOf, OnOk, OnErr};
 ghost use Rattle.std.specs.FinSet as set;
+ghost use Rattle.std.specs.Thread.{IsSync};
 ghost use Rattle.rh_layout.specs.Key.{IsKey};
 ghost use Rattle.rh_layout.specs.Layout.{IsLayout, keys_of};
 ghost use Rattle.rh_files.specs.Counting.{Rose};
@@ -10,6 +11,7 @@ ghost use Rattle.rh_ledger.specs.Phase.{set_after, tally_of, looked_up, most_add
 use rh_ledger::{Kind, Tally};
 use std::alloc::Global;
 use std::sync::Wait;
+use std::thread::Threads;
 use thiserror::Error;
 
 /// Why a phase was not carried out.
@@ -22,13 +24,14 @@ pub enum PhaseFault {
 }
 
 /// Carries out phases on the cells of a table, with the meaning of one worker that takes the keys
-/// in list order. A call may wait for ever; what it promises holds where it returns.
+/// in list order. A call may start threads, and wait for ever; what it promises holds where it
+/// returns. `shared` is what the bound `R: Sync` says, for the proofs of those who implement this.
 pub trait Runner {
     /// How often the start of a thread was refused. The count stops at the greatest `u64`.
     ghost refused_starts: { Self → ℕ };
 
     /// Inserts or removes the keys. On a fault the cells are as they were.
-    fn change<R: Wait>(
+    fn change<R: Threads + Wait + Sync>(
         &mut self,
         rt: &R,
         alloc: Global,
@@ -37,6 +40,7 @@ pub trait Runner {
         cells: &mut Vec<u64>,
         keys: &[u64],
     ) -> Result<Tally, PhaseFault>
+        requires shared { IsSync R.row }
         requires kind { kind ≢ Kind.Ask }
         requires keys { All IsKey keys.now }
         requires layout { IsLayout bits cells.old.items }
@@ -51,7 +55,7 @@ pub trait Runner {
         ensures fine { OnOk result (refused_starts self.new ≡ refused_starts self.old) };
 
     /// Looks the keys up, and answers in list order which are there.
-    fn ask<R: Wait>(
+    fn ask<R: Threads + Wait + Sync>(
         &mut self,
         rt: &R,
         alloc: Global,
@@ -59,6 +63,7 @@ pub trait Runner {
         cells: &[u64],
         keys: &[u64],
     ) -> Result<Vec<bool>, PhaseFault>
+        requires shared { IsSync R.row }
         requires keys { All IsKey keys.now }
         requires layout { IsLayout bits cells.now }
         requires room { set.len (keys_of cells.now) < 2 ^ bits }

@@ -13,6 +13,7 @@ use rh_ledger::{Kind, Tally};
 use rh_probe::find;
 use std::alloc::Global;
 use std::sync::Wait;
+use std::thread::Threads;
 
 /// Carries out each phase itself, on the calling thread: it starts no other. Only a look-up takes
 /// memory, for its answers.
@@ -22,7 +23,7 @@ pub struct Single;
 impl Runner for Single {
     ghost refused_starts = { λ _. 0 };
 
-    fn change<R: Wait>(
+    fn change<R: Threads + Wait + Sync>(
         &mut self,
         _rt: &R,
         _alloc: Global,
@@ -39,7 +40,7 @@ impl Runner for Single {
         }
     }
 
-    fn ask<R: Wait>(
+    fn ask<R: Threads + Wait + Sync>(
         &mut self,
         _rt: &R,
         alloc: Global,

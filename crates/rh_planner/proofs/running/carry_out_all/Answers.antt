@@ -3,8 +3,8 @@ use Rattle.rh_script.specs.Names.{names_in}
 use Rattle.rh_planner.proofs.RunLemmas.{all_carried_out, goes_on, has_list, is_apart, its_number, more_lists, reached_start, step_at, stops_here}
 use Rattle.rh_planner.proofs.running.carry_out_all.Goals as goal
 
-pub carry_out-told-requires : goal.carry_out-told-requires
-carry_out-told-requires g c =
+pub carry_out-told-requires-after_bounds : goal.carry_out-told-requires-after_bounds
+carry_out-told-requires-after_bounds g c κs within =
     let steps = c.requires.planned.0 in
     let i = c.loop-step.step-index in
     let here = step_at c.steps-step-items.result.now steps i _ (c.steps-step-items.ensures ∙ c.requires.planned.1) c.loop-step-test.true in

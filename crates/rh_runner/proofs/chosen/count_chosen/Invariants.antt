@@ -4,12 +4,12 @@ use Rattle.rh_runner.specs.Lists.{chosen}
 use Rattle.rh_runner.proofs.ListLemmas.{Came}
 use Rattle.rh_runner.proofs.chosen.count_chosen.Given as goal
 
-abbrev pub invariant-loop-n : goal.invariant-loop-n
-invariant-loop-n g l =
+abbrev pub invariant-loop-room : goal.invariant-loop-room
+invariant-loop-room g l =
     (done : List ℕ)
     × Came (g.K.KeySource.coming l.fn.keys) (g.K.KeySource.coming l.keys) (g.K.KeySource.left_of l.fn.keys) (g.K.KeySource.left_of l.keys) done
     × (l.many ≡ length (chosen l.wanted (keys_of l.cells) done))
     × (g.N.Runner.refused_starts l.runner ≡ g.N.Runner.refused_starts l.fn.runner)
 
-abbrev pub decreases-loop-n : goal.decreases-loop-n
-decreases-loop-n g l = g.K.KeySource.left_of l.keys
+abbrev pub decreases-loop-room : goal.decreases-loop-room
+decreases-loop-room g l = g.K.KeySource.left_of l.keys

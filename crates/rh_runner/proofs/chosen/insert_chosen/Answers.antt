@@ -1,11 +1,14 @@
-use Rattle.std.proofs.Common.{◌∙◌, arith, take}
+use Rattle.std.proofs.Common.{◌∙◌, refl, arith, take}
 use Rattle.rh_layout.specs.Layout.{keys_of}
-use Rattle.rh_runner.proofs.ListLemmas.{more_came, inserted-le, read_of, tally_fits}
+use Rattle.rh_runner.proofs.ListLemmas.{none_came, more_came, inserted-le, read_of, tally_fits}
 use Rattle.rh_runner.proofs.ChosenLemmas.{ran_chosen, length_chosen-append}
 use Rattle.rh_runner.proofs.chosen.insert_chosen.Goals as goal
 
+pub loop-room-init : goal.loop-room-init
+loop-room-init g c = (_, none_came _ _, record { layout = c.requires.layout; held = refl; tally = refl }, omega arith, refl)
+
 pub insert_batch-requires-clause-room : goal.insert_batch-requires-clause-room
-insert_batch-requires-clause-room g c = omega (arith, inserted-le c.loop-n.invariant.2, c.loop-n.invariant.3, c.requires.room)
+insert_batch-requires-clause-room g c = omega (arith, inserted-le c.loop-room.invariant.2, c.loop-room.invariant.3, c.requires.room)
 
 pub overflow_sub-left : goal.overflow_sub-left
 overflow_sub-left g c = omega (arith, read_of c.in_ok-told.ensures.done, c.in_ok-told.ensures.few)
@@ -13,21 +16,21 @@ overflow_sub-left g c = omega (arith, read_of c.in_ok-told.ensures.done, c.in_ok
 pub unwrap-tally-requires : goal.unwrap-tally-requires
 unwrap-tally-requires g c =
     let S = keys_of c.args.old.now in
-    let done = c.loop-n.invariant.0 in
+    let done = c.loop-room.invariant.0 in
     let batch = take c.in_ok-n.n c.next_keys.new.batch in
-    let ran = ran_chosen c.args.wanted S c.args.bits done batch c.args.cells.now.items c.loop-n.cells.items c.insert_batch.new.cells.items c.loop-n.tally c.in_ok-told.told c.loop-n.invariant.2 c.in_ok-told.ensures.done in
-    c.joined.ensures.fits.1 (tally_fits ran (omega (arith, length_chosen-append c.args.wanted S done batch, c.loop-n.invariant.3, c.in_ok-told.ensures.few, c.ranges.many.fits)))
+    let ran = ran_chosen c.args.wanted S c.args.bits done batch c.args.cells.now.items c.loop-room.cells.items c.insert_batch.new.cells.items c.loop-room.tally c.in_ok-told.told c.loop-room.invariant.2 c.in_ok-told.ensures.done in
+    c.joined.ensures.fits.1 (tally_fits ran (omega (arith, length_chosen-append c.args.wanted S done batch, c.loop-room.invariant.3, c.in_ok-told.ensures.few, c.ranges.many.fits)))
 
-pub loop-n-preserved : goal.loop-n-preserved
-loop-n-preserved g c =
+pub loop-room-preserved : goal.loop-room-preserved
+loop-room-preserved g c =
     let S = keys_of c.args.old.now in
-    let done = c.loop-n.invariant.0 in
+    let done = c.loop-room.invariant.0 in
     let batch = take c.in_ok-n.n c.next_keys.new.batch in
-    let ran = ran_chosen c.args.wanted S c.args.bits done batch c.args.cells.now.items c.loop-n.cells.items c.insert_batch.new.cells.items c.loop-n.tally c.in_ok-told.told c.loop-n.invariant.2 c.in_ok-told.ensures.done in
+    let ran = ran_chosen c.args.wanted S c.args.bits done batch c.args.cells.now.items c.loop-room.cells.items c.insert_batch.new.cells.items c.loop-room.tally c.in_ok-told.told c.loop-room.invariant.2 c.in_ok-told.ensures.done in
     let sums = rw c.unwrap-tally.ensures at c.joined.ensures.sums in (
       _,
-      more_came c.loop-n.invariant.1 _ c.next_keys.new.batch _ c.in_ok-n.n c.in_ok-n.ensures.gives c.if-n-eq0.false c.in_ok-n.ensures.room c.in_ok-n.ensures.left c.in_ok-n.ensures.in_range,
+      more_came c.loop-room.invariant.1 _ c.next_keys.new.batch _ c.in_ok-n.n c.in_ok-n.ensures.gives c.if-n-eq0.false c.in_ok-n.ensures.room c.in_ok-n.ensures.left c.in_ok-n.ensures.in_range,
       record { layout = ran.layout; held = ran.held; tally = sums ∙ ran.tally },
-      omega (arith, length_chosen-append c.args.wanted S done batch, c.loop-n.invariant.3, c.in_ok-told.ensures.few, read_of c.in_ok-told.ensures.done),
-      c.in_ok-told.ensures.fine ∙ c.loop-n.invariant.4,
+      omega (arith, length_chosen-append c.args.wanted S done batch, c.loop-room.invariant.3, c.in_ok-told.ensures.few, read_of c.in_ok-told.ensures.done),
+      c.in_ok-told.ensures.fine ∙ c.loop-room.invariant.4,
     )
