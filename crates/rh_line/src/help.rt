@@ -44,10 +44,14 @@ pub const RUN: &str = "Carries out a script";
 /// The command `run`, on `rhset run --help` alone.
 pub const RUN_AT_LENGTH: &str = "\
 Reads a script, carries out its commands one after another on one table, which is empty at first,
-and writes a report of each to standard output.";
+and writes a report of each to standard output. Every byte of it, and of each snapshot, is the same
+for any number of workers, which change the table at once, each in a thread. With more than one a
+command needs more memory, up to 50 MB for each worker, and the run ends with status 3 where a
+thread cannot be started.";
 
 /// The argument `--workers`.
-pub const WORKERS: &str = "How many workers share each command: 1 alone in this version";
+pub const WORKERS: &str = "\
+How many workers share the keys of each command, from 1 to 16; what is written is the same";
 
 /// The argument `SCRIPT`.
 pub const SCRIPT: &str = "The file that holds the script";

@@ -80,6 +80,15 @@ fn run_is_a_command(rt: HostRuntime) -> Result<(), Fail> {
 }
 
 #[test]
+fn a_run_has_up_to_16_workers(rt: HostRuntime) -> Result<(), Fail> {
+    for (word, number) in [("1", 1), ("2", 2), ("8", 8), ("+9", 9), ("16", 16)] {
+        let (workers, _) = run_of(rt.alloc(), &["run", "--workers", word, "s"])?.ok_or("no run")?;
+        assert!(rt; workers == number, "{word}");
+    }
+    Ok(())
+}
+
+#[test]
 fn a_script_may_have_any_name(rt: HostRuntime) -> Result<(), Fail> {
     for name in ["", "run", "help", "a b", "-"] {
         let (_, script) = run_of(rt.alloc(), &["run", name])?.ok_or("no run")?;
@@ -128,7 +137,7 @@ fn other_words_are_refused(rt: HostRuntime) -> Result<(), Fail> {
         &["--what"],
         &["run"],
         &["run", "--workers", "1"],
-        &["run", "--workers", "2", "s"],
+        &["run", "--workers", "17", "s"],
         &["run", "--workers", "0", "s"],
         &["run", "--workers", "x", "s"],
         &["run", "--workers=", "s"],

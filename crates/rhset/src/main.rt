@@ -22,6 +22,7 @@ use std::fs::Files;
 use std::io::{BufReader, BufWriter, ErrorKind, Write};
 use std::process::ExitCode;
 use std::sync::Wait;
+use std::thread::Threads;
 use std::{env, io};
 
 fn main(rt: HostRuntime) -> ExitCode {
@@ -33,13 +34,13 @@ fn main(rt: HostRuntime) -> ExitCode {
 }
 
 fn carry_out(
-    rt: &(impl Env + Files + Input + Print + Eprint + AllocGlobal + Wait),
+    rt: &(impl Env + Files + Input + Print + Eprint + AllocGlobal + Threads + Wait + Sync),
 ) -> Result<Status, Fault> {
     let words = words(rt)?;
     match line(rt.alloc(), &words) {
         Ok(Line::Dump) => dump_streams(rt),
-        Ok(Line::Run { script, .. }) => {
-            run_script(rt, &script)?;
+        Ok(Line::Run { workers, script }) => {
+            run_script(rt, workers, &script)?;
             Ok(Status::Done)
         }
         Ok(Line::Play { file }) => play_file(rt, &file),

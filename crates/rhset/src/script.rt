@@ -1,38 +1,52 @@
 //! The command `run`: a script over the files of the current folder.
 
 ghost use Rattle.std.specs.Prelude.{◌≡◌, ◌⊎◌, IfErr, IfOk, IfSome, take};
+ghost use Rattle.rh_phase.specs.Made.{IsWorkers};
 ghost use Rattle.rhset.specs.declared.script.TheConstants.{MAX_BYTES};
 
 use crate::file_shelf::FileShelf;
 use crate::input::open;
 use crate::status::Fault;
 use rh_files::Counted;
+use rh_phase::Threads;
 use rh_planner::run;
-use rh_runner::Single;
+use rh_runner::{Runner, Single};
 use rh_script::{MAX_LINE_BYTES, MAX_LINES, parse};
 use std::alloc::Global;
 use std::fs::Files;
 use std::io::{self, BufReader, BufWriter, ErrorKind, Read, Write};
 use std::sync::Wait;
+use std::thread;
 
 // A script of more bytes has a faulty line within these: one too many, or one that is too long.
 const MAX_BYTES: u64 = MAX_LINES * (MAX_LINE_BYTES as u64 + 1) + 1;
 
-/// Carries out the script at the path, and writes its report to standard output through a buffer.
-pub fn run_script(rt: &(impl Files + Print + AllocGlobal + Wait), path: &str) -> Result<(), Fault> {
+/// Carries out the script at the path by so many workers, and writes its report to standard output.
+pub fn run_script(
+    rt: &(impl Files + Print + AllocGlobal + thread::Threads + Wait + Sync),
+    workers: usize,
+    path: &str,
+) -> Result<(), Fault>
+    requires { IsWorkers workers }
+{
+    match workers {
+        1 => run_by(rt, &mut Single, path),
+        _ => run_by(rt, &mut Threads::new(workers), path),
+    }
+}
+
+// Its report goes through a buffer.
+fn run_by<N: Runner>(
+    rt: &(impl Files + Print + AllocGlobal + thread::Threads + Wait + Sync),
+    runner: &mut N,
+    path: &str,
+) -> Result<(), Fault> {
     let text = script_text(rt, path)?;
     let script = parse(rt.alloc(), &text).map_err(Fault::Script)?;
     let output = BufWriter::new(rt.alloc(), io::writer(rt)).map_err(|_| Fault::Memory)?;
     let mut writer = Counted::new(output);
     let mut shelf = FileShelf::new(rt);
-    let told = run(
-        rt,
-        rt.alloc(),
-        &script,
-        &mut shelf,
-        &mut Single,
-        &mut writer,
-    );
+    let told = run(rt, rt.alloc(), &script, &mut shelf, runner, &mut writer);
     // What the commands before a fault told is written too.
     let flushed = writer.flush();
     told.map_err(Fault::Run)?;
