@@ -2,6 +2,10 @@
 #![tactic(auto)]
 
 #[cfg(test)]
+mod gates;
+#[cfg(test)]
 mod phases;
+#[cfg(test)]
+mod runners;
 #[cfg(test)]
 mod starts;

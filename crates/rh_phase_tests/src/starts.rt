@@ -4,7 +4,7 @@ use rh_descriptor::Rooms;
 use rh_edit::SeqSet;
 use rh_layout::is_layout;
 use rh_ledger::{Kind, Tally};
-use rh_phase::{AllStart, OpenGate, PhaseFault, Starts, change_with};
+use rh_phase::{AllStart, OpenGate, PhaseFault, Starts, ask_with, change_with};
 use std::test::Fail;
 
 // Room for one key of 3 bits.
@@ -27,7 +27,7 @@ impl Starts for AllBut {
 
 #[test]
 fn a_refused_start_leaves_the_cells(rt: HostRuntime) -> Result<(), Fail> {
-    for refused in 1..8 {
+    for refused in 1..16 {
         let set = SeqSet::new(rt.alloc(), 3)?;
         assert!(rt; set.len() == 0);
         let mut cells = set.into_cells();
@@ -36,7 +36,7 @@ fn a_refused_start_leaves_the_cells(rt: HostRuntime) -> Result<(), Fail> {
         let told = change_with(
             &rt,
             rt.alloc(),
-            8,
+            16,
             Kind::Insert,
             3,
             &mut cells,
@@ -47,6 +47,34 @@ fn a_refused_start_leaves_the_cells(rt: HostRuntime) -> Result<(), Fail> {
         );
         assert!(rt; told == Err(PhaseFault::NoThread));
         assert_eq!(rt; cells.as_slice(), [0, 0, 0, 0, 0, 0, 0, 0].as_slice());
+    }
+    Ok(())
+}
+
+#[test]
+fn a_refused_start_ends_the_look_ups(rt: HostRuntime) -> Result<(), Fail> {
+    for refused in 0..16 {
+        let set = SeqSet::from_keys(rt.alloc(), 3, &[1, 9, 17])?;
+        assert!(rt; set.bits() == 3);
+        let starts = AllBut(refused);
+        let found = ask_with(
+            &rt,
+            rt.alloc(),
+            16,
+            3,
+            set.cells(),
+            &[1, 2, 9],
+            &OpenGate,
+            &starts,
+            ROOMS,
+        );
+        // (the first worker starts with the call)
+        match found {
+            Ok(found) => assert!(rt;
+                refused == 0 && found.as_slice() == [true, false, true].as_slice()
+            ),
+            Err(fault) => assert!(rt; refused != 0 && fault == PhaseFault::NoThread),
+        }
     }
     Ok(())
 }

@@ -8,6 +8,7 @@ use std::alloc::Global;
 use std::io::Cursor;
 use std::sync::Wait;
 use std::test::*;
+use std::thread::Threads;
 
 mod changing;
 mod failures;
@@ -63,7 +64,7 @@ fn told_before(alloc: Global, told: &[&str], line: u64) -> Result<Vec<u8>, Fail>
 
 // What a script tells over these files, and how it ends.
 fn run_over(
-    rt: &(impl Wait + AllocGlobal),
+    rt: &(impl Threads + Wait + Sync + AllocGlobal),
     shelf: &mut MemShelf,
     script: &str,
 ) -> Result<(Vec<u8>, Result<Report, RunFault>), Fail> {

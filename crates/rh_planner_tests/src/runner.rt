@@ -3,9 +3,10 @@ use rh_files::HeldKeys;
 use rh_layout::is_layout;
 use rh_ledger::{Kind, Tally};
 use rh_runner::*;
-use std::alloc::Global;
+use std::alloc::{AllocError, Global};
 use std::sync::Wait;
 use std::test::Fail;
+use std::thread::Threads;
 
 mod batches;
 
@@ -16,61 +17,58 @@ const NOTHING: Tally = Tally {
     found: 0,
 };
 
-// More keys than one batch has.
-const MANY: usize = 5_000;
-
-// The keys from 1 to MANY.
-fn many_keys() -> [u64; MANY] {
-    let mut keys = [0; MANY];
+// The keys from 1 to 70,000: more than one phase has.
+fn many_keys(alloc: Global) -> Result<Vec<u64>, AllocError> {
+    let mut keys = vec![in alloc; 0; 70_000]?;
     for (i, key) in keys.iter_mut().enumerate() {
         *key = i as u64 + 1;
     }
-    keys
+    Ok(keys)
 }
 
 #[test]
 fn a_long_list_changes_a_table(rt: HostRuntime) -> Result<(), Fail> {
-    let keys = many_keys();
-    assert!(rt; keys.iter().all(|key| *key <= 5_000));
-    let set = SeqSet::new(rt.alloc(), 13)?;
+    let keys = many_keys(rt.alloc())?;
+    assert!(rt; keys.len() == 70_000 && keys.iter().all(|key| *key <= 70_000));
+    let set = SeqSet::new(rt.alloc(), 17)?;
     assert!(rt; set.len() == 0);
     let mut cells = set.into_cells();
-    assert!(rt; is_layout(13, &cells));
+    assert!(rt; is_layout(17, &cells));
     let mut list = HeldKeys::new(&keys);
     let told = change_all(
         &rt,
         rt.alloc(),
         &mut Single,
         Kind::Insert,
-        13,
+        17,
         &mut cells,
         &mut list,
     )?;
     assert_eq!(rt;
         told,
         Tally {
-            read: 5_000,
-            added: 5_000,
+            read: 70_000,
+            added: 70_000,
             ..NOTHING
         }
     );
-    let all = SeqSet::from_keys(rt.alloc(), 13, &keys)?;
+    let all = SeqSet::from_keys(rt.alloc(), 17, &keys)?;
     assert_eq!(rt; cells.as_slice(), all.cells());
     Ok(())
 }
 
 #[test]
 fn a_long_list_is_looked_up(rt: HostRuntime) -> Result<(), Fail> {
-    let keys = many_keys();
-    assert!(rt; keys.iter().all(|key| *key <= 5_000));
+    let keys = many_keys(rt.alloc())?;
+    assert!(rt; keys.len() == 70_000 && keys.iter().all(|key| *key <= 70_000));
     let set = SeqSet::from_keys(rt.alloc(), 3, &[1, 9, 17])?;
     assert!(rt; set.bits() == 3);
     let mut list = HeldKeys::new(&keys);
     let found = ask_all(&rt, rt.alloc(), &mut Single, 3, set.cells(), &mut list)?;
-    assert_eq!(rt; found.len(), 5_000);
+    assert_eq!(rt; found.len(), 70_000);
     assert_eq!(rt; found.iter().position(|there| *there), Some(0));
     assert_eq!(rt; found.iter().filter(|there| **there).count(), 3);
-    for (wanted, many) in [(true, 3), (false, 4_997)] {
+    for (wanted, many) in [(true, 3), (false, 69_997)] {
         let mut list = HeldKeys::new(&keys);
         let told = count_chosen(
             &rt,
@@ -90,26 +88,26 @@ fn a_long_list_is_looked_up(rt: HostRuntime) -> Result<(), Fail> {
 // The old table holds 1, 9 and 17.
 #[test]
 fn chosen_keys_of_a_long_list(rt: HostRuntime) -> Result<(), Fail> {
-    let keys = many_keys();
-    assert!(rt; keys.iter().all(|key| *key <= 5_000));
+    let keys = many_keys(rt.alloc())?;
+    assert!(rt; keys.len() == 70_000 && keys.iter().all(|key| *key <= 70_000));
     let old = SeqSet::from_keys(rt.alloc(), 3, &[1, 9, 17])?;
     assert!(rt; old.bits() == 3);
     for (many, told) in [
-        (4_996, Err(ListFault::Changed)),
+        (69_996, Err(ListFault::Changed)),
         (
-            4_997,
+            69_997,
             Ok(Tally {
-                read: 4_997,
-                added: 4_997,
+                read: 69_997,
+                added: 69_997,
                 ..NOTHING
             }),
         ),
-        (4_998, Err(ListFault::Changed)),
+        (69_998, Err(ListFault::Changed)),
     ] {
-        let set = SeqSet::new(rt.alloc(), 13)?;
-        assert!(rt; set.len() == 0 && many < 5_000);
+        let set = SeqSet::new(rt.alloc(), 17)?;
+        assert!(rt; set.len() == 0 && many < 70_000);
         let mut cells = set.into_cells();
-        assert!(rt; is_layout(13, &cells));
+        assert!(rt; is_layout(17, &cells));
         let mut list = HeldKeys::new(&keys);
         assert_eq!(rt;
             insert_chosen(
@@ -120,7 +118,7 @@ fn chosen_keys_of_a_long_list(rt: HostRuntime) -> Result<(), Fail> {
                 many,
                 3,
                 old.cells(),
-                13,
+                17,
                 &mut cells,
                 &mut list,
             ),
@@ -220,7 +218,7 @@ struct Refusing {
 impl Runner for Refusing {
     ghost refused_starts = { λ r. r.refused };
 
-    fn change<R: Wait>(
+    fn change<R: Threads + Wait + Sync>(
         &mut self,
         _rt: &R,
         _alloc: Global,
@@ -232,7 +230,7 @@ impl Runner for Refusing {
         Err(PhaseFault::Memory)
     }
 
-    fn ask<R: Wait>(
+    fn ask<R: Threads + Wait + Sync>(
         &mut self,
         _rt: &R,
         _alloc: Global,
@@ -283,6 +281,7 @@ fn faults_of_the_runner_are_told(rt: HostRuntime) -> Result<(), Fail> {
 }
 
 #[test]
-fn the_length_of_a_batch_is_this(rt: HostRuntime) {
+fn batches_and_phases_are_so_long(rt: HostRuntime) {
     assert_eq!(rt; BATCH, 4_096);
+    assert_eq!(rt; PHASE, 65_536);
 }

@@ -32,7 +32,7 @@ impl Shelf for ChangingShelf<'_> {
 
 // A script over files that are fetched one after the other tells this and ends so at this line.
 fn ends_at(
-    rt: &(impl Wait + Abort + AllocGlobal),
+    rt: &(impl Threads + Wait + Sync + Abort + AllocGlobal),
     files: &[&[u8]],
     script: &str,
     told: &str,

@@ -86,7 +86,7 @@ const SCRIPTS: [(&str, &[&str], &[(u64, Asked)]); 2] = [
 
 // How a script ends over a shelf that fails so, at this line by this cause.
 fn fails_at(
-    rt: &(impl Wait + Abort + AllocGlobal),
+    rt: &(impl Threads + Wait + Sync + Abort + AllocGlobal),
     script: &str,
     told: &[&str],
     failure: ShelfFailure,
@@ -139,7 +139,7 @@ fn each_call_and_each_read_fails(rt: HostRuntime) -> Result<(), Fail> {
 
 // How the script ends where its write of this number is refused; whether it met that write.
 fn write_fails(
-    rt: &(impl Wait + Abort + AllocGlobal),
+    rt: &(impl Threads + Wait + Sync + Abort + AllocGlobal),
     script: &str,
     told: &[&str],
     n: u64,

@@ -26,11 +26,11 @@ impl KeySource for Noting<'_> {
     }
 }
 
-// The old table holds 1, 9 and 17, and the others have room for all keys.
+// The old table holds 1, 9 and 17.
 #[test]
-fn a_list_is_taken_by_4096_keys(rt: HostRuntime) -> Result<(), Fail> {
-    let keys = many_keys();
-    assert!(rt; keys.iter().all(|key| *key <= 5_000));
+fn a_list_is_read_by_4096_keys_and_looked_up_by_65536(rt: HostRuntime) -> Result<(), Fail> {
+    let keys = many_keys(rt.alloc())?;
+    assert!(rt; keys.len() == 70_000 && keys.iter().all(|key| *key <= 70_000));
     let old = SeqSet::from_keys(rt.alloc(), 3, &[1, 9, 17])?;
     assert!(rt; old.bits() == 3);
     let (old, longest) = (old.cells(), 0);
@@ -40,21 +40,36 @@ fn a_list_is_taken_by_4096_keys(rt: HostRuntime) -> Result<(), Fail> {
     assert_eq!(rt; list.longest, 4_096);
     let mut list = Noting { keys, longest };
     ask_all(&rt, rt.alloc(), &mut Single, 3, old, &mut list)?;
-    assert_eq!(rt; list.longest, 4_096);
+    assert_eq!(rt; list.longest, 65_536);
     let mut list = Noting { keys, longest };
     count_chosen(&rt, rt.alloc(), &mut Single, true, 3, old, &mut list)?;
-    assert_eq!(rt; list.longest, 4_096);
+    assert_eq!(rt; list.longest, 65_536);
+    Ok(())
+}
+
+// A phase takes no more room than its list.
+#[test]
+fn a_short_list_is_taken_whole(rt: HostRuntime) -> Result<(), Fail> {
+    let old = SeqSet::from_keys(rt.alloc(), 3, &[1, 9, 17])?;
+    assert!(rt; old.bits() == 3);
+    for (keys, long) in [([9, 3].as_slice(), 2), ([].as_slice(), 1)] {
+        assert!(rt; keys.iter().all(|key| *key <= 9));
+        let (keys, longest) = (HeldKeys::new(keys), 0);
+        let mut list = Noting { keys, longest };
+        ask_all(&rt, rt.alloc(), &mut Single, 3, old.cells(), &mut list)?;
+        assert_eq!(rt; list.longest, long);
+    }
     Ok(())
 }
 
 #[test]
-fn a_table_is_changed_by_4096_keys(rt: HostRuntime) -> Result<(), Fail> {
-    let keys = many_keys();
-    assert!(rt; keys.iter().all(|key| *key <= 5_000));
-    let set = SeqSet::new(rt.alloc(), 13)?;
+fn a_table_is_changed_by_65536_keys(rt: HostRuntime) -> Result<(), Fail> {
+    let keys = many_keys(rt.alloc())?;
+    assert!(rt; keys.len() == 70_000 && keys.iter().all(|key| *key <= 70_000));
+    let set = SeqSet::new(rt.alloc(), 17)?;
     assert!(rt; set.len() == 0);
     let mut cells = set.into_cells();
-    assert!(rt; is_layout(13, &cells));
+    assert!(rt; is_layout(17, &cells));
     let keys = HeldKeys::new(&keys);
     let mut list = Noting { keys, longest: 0 };
     let kind = Kind::Insert;
@@ -63,37 +78,37 @@ fn a_table_is_changed_by_4096_keys(rt: HostRuntime) -> Result<(), Fail> {
         rt.alloc(),
         &mut Single,
         kind,
-        13,
+        17,
         &mut cells,
         &mut list,
     )?;
-    assert_eq!(rt; list.longest, 4_096);
+    assert_eq!(rt; list.longest, 65_536);
     Ok(())
 }
 
 // The two tables begin without a key.
 #[test]
-fn two_tables_are_gone_through_by_4096_keys(rt: HostRuntime) -> Result<(), Fail> {
-    let keys = many_keys();
-    assert!(rt; keys.iter().all(|key| *key <= 5_000));
+fn two_tables_are_gone_through_by_65536_keys(rt: HostRuntime) -> Result<(), Fail> {
+    let keys = many_keys(rt.alloc())?;
+    assert!(rt; keys.len() == 70_000 && keys.iter().all(|key| *key <= 70_000));
     let keys = HeldKeys::new(&keys);
-    for many in [0, 5_000] {
-        let old = SeqSet::new(rt.alloc(), 13)?;
-        let set = SeqSet::new(rt.alloc(), 13)?;
-        assert!(rt; old.len() == 0 && set.len() == 0 && many <= 5_000);
+    for many in [0, 70_000] {
+        let old = SeqSet::new(rt.alloc(), 17)?;
+        let set = SeqSet::new(rt.alloc(), 17)?;
+        assert!(rt; old.len() == 0 && set.len() == 0 && many <= 70_000);
         let old = old.cells();
         let mut cells = set.into_cells();
-        assert!(rt; is_layout(13, &cells));
+        assert!(rt; is_layout(17, &cells));
         let mut list = Noting { keys, longest: 0 };
         let (alloc, runner) = (rt.alloc(), &mut Single);
         if many == 0 {
-            remove_and_count_absent(&rt, alloc, runner, 13, old, &mut cells, &mut list)?;
+            remove_and_count_absent(&rt, alloc, runner, 17, old, &mut cells, &mut list)?;
         } else {
             insert_chosen(
-                &rt, alloc, runner, false, many, 13, old, 13, &mut cells, &mut list,
+                &rt, alloc, runner, false, many, 17, old, 17, &mut cells, &mut list,
             )?;
         }
-        assert_eq!(rt; list.longest, 4_096);
+        assert_eq!(rt; list.longest, 65_536);
     }
     Ok(())
 }
