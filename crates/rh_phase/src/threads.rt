@@ -23,9 +23,11 @@ pub struct Threads {
 }
 
 impl Threads {
-    /// So many workers. It takes no memory: each phase takes its own, and gives it back.
+    /// So many workers, of which no start was refused yet. It takes no memory: each phase takes its
+    /// own, and gives it back.
     pub fn new(workers: usize) -> Threads
         requires { IsWorkers workers }
+        ensures { ⟦<Threads as Runner>⟧.refused_starts result ≡ 0 }
     {
         Threads {
             workers,
