@@ -5,14 +5,14 @@ use Rattle.std.proofs.lemmas.Bool.{false_from_ne_true, lt-ltb, ltb-true}
 use Rattle.std.proofs.lemmas.Nat.{div-mul-add, mod-mul-add, mul-add-lt}
 use Rattle.rh_descriptor.specs.declared.shape.Shape.{Shape}
 use Rattle.rh_descriptor.specs.declared.shape.Part.{Part}
-use Rattle.rh_descriptor.specs.declared.shape.Part.TheVariants.{Cell, Control, Length, EntryCell, EntryOld, EntryNew, MarkDesc, MarkEntry, Counter}
+use Rattle.rh_descriptor.specs.declared.shape.Part.TheVariants.{Cell, Control, Length, EntryCell, EntryOld, EntryNew, MarkSerial, MarkDesc, MarkEntry, Counter}
 use Rattle.rh_descriptor.specs.Places.{IsPart, cell_count, entry_row, mark_row, place_of, row_count, row_place}
 
-pub entry_inside : (e m entry word : ℕ) → entry < e → word < 5 → 5 * entry + word < 5 * e + 2 * m
-entry_inside e m entry word inside below = omega (arith, inside, below)
+pub entry_inside : (e entry word : ℕ) → entry < e → word < 5 → 5 * entry + word < 5 * e + 3
+entry_inside e entry word inside below = omega (arith, inside, below)
 
-pub mark_inside : (e m mark word : ℕ) → mark < m → word < 2 → 5 * e + (2 * mark + word) < 5 * e + 2 * m
-mark_inside e m mark word inside below = omega (arith, inside, below)
+pub row_inside : (worker workers row rows : ℕ) → worker < workers → row < rows → worker * rows + row < workers * rows
+row_inside worker workers row rows mine inside = omega (arith, mul-add-lt worker rows row workers mine inside)
 
 -- ---- the part that stands at a place
 
@@ -23,14 +23,14 @@ entry_part worker entry (suc (suc zero)) = EntryCell worker entry
 entry_part worker entry (suc (suc (suc zero))) = EntryOld worker entry
 entry_part worker entry (suc (suc (suc (suc n)))) = EntryNew worker entry
 
-abbrev mark_part : (worker mark word : ℕ) → Part
-mark_part worker mark zero = MarkDesc worker mark
-mark_part worker mark (suc n) = MarkEntry worker mark
+abbrev mark_part : (worker word : ℕ) → Part
+mark_part worker zero = MarkSerial worker
+mark_part worker (suc zero) = MarkDesc worker
+mark_part worker (suc (suc n)) = MarkEntry worker
 
 abbrev row_part : Shape → (worker row : ℕ) → Part
 row_part z worker row =
-    let marks = row - 5 * z.entry_room in
-    if nat_lt row (5 * z.entry_room) then entry_part worker (row / 5) (row % 5) else mark_part worker (marks / 2) (marks % 2)
+    if nat_lt row (5 * z.entry_room) then entry_part worker (row / 5) (row % 5) else mark_part worker (row - 5 * z.entry_room)
 
 abbrev part_at : Shape → ℕ → Part
 part_at z n =
@@ -60,21 +60,18 @@ module _ (z : Shape) where
       let what : entry_row entry word % 5 ≡ word = omega (arith, below) in
       rw (is_less _ _ fits, which, what) refl
 
-  mark_found : (worker mark word : ℕ) → word < 2 → row_part z worker (mark_row z mark word) ≡ mark_part worker mark word
-  mark_found worker mark word below =
-      let beyond : nat_lt (mark_row z mark word) (5 * z.entry_room) ≡ false = is_not_less _ _ (λ h. omega (arith, h)) in
-      let rest : mark_row z mark word - 5 * z.entry_room ≡ 2 * mark + word = omega arith in
-      let which : (2 * mark + word) / 2 ≡ mark = omega (arith, below) in
-      let what : (2 * mark + word) % 2 ≡ word = omega (arith, below) in
-      rw (beyond, rest, which, what) refl
+  mark_found : (worker word : ℕ) → row_part z worker (mark_row z word) ≡ mark_part worker word
+  mark_found worker word =
+      let beyond : nat_lt (mark_row z word) (5 * z.entry_room) ≡ false = is_not_less _ _ (λ h. omega (arith, h)) in
+      let rest : mark_row z word - 5 * z.entry_room ≡ word = omega arith in
+      rw (beyond, rest) refl
 
   entry_at : (worker entry word : ℕ) → (worker < z.workers) × (entry < z.entry_room) → word < 5 → part_at z (row_place z worker (entry_row entry word)) ≡ entry_part worker entry word
   entry_at worker entry word here below =
-      row_found worker (entry_row entry word) here.0 (entry_inside z.entry_room z.mark_room entry word here.1 below) ∙ entry_found worker entry word here.1 below
+      row_found worker (entry_row entry word) here.0 (entry_inside z.entry_room entry word here.1 below) ∙ entry_found worker entry word here.1 below
 
-  mark_at : (worker mark word : ℕ) → (worker < z.workers) × (mark < z.mark_room) → word < 2 → part_at z (row_place z worker (mark_row z mark word)) ≡ mark_part worker mark word
-  mark_at worker mark word here below =
-      row_found worker (mark_row z mark word) here.0 (mark_inside z.entry_room z.mark_room mark word here.1 below) ∙ mark_found worker mark word below
+  mark_at : (worker word : ℕ) → worker < z.workers → word < 3 → part_at z (row_place z worker (mark_row z word)) ≡ mark_part worker word
+  mark_at worker word here below = row_found worker (mark_row z word) here (omega (arith, below)) ∙ mark_found worker word
 
   found_at : (p : Part) → IsPart z p → part_at z (place_of z p) ≡ p
   found_at (Cell c) here = rw (is_less c (cell_count z) here) refl
@@ -83,8 +80,9 @@ module _ (z : Shape) where
   found_at (EntryCell worker entry) here = entry_at worker entry 2 here (omega arith)
   found_at (EntryOld worker entry) here = entry_at worker entry 3 here (omega arith)
   found_at (EntryNew worker entry) here = entry_at worker entry 4 here (omega arith)
-  found_at (MarkDesc worker mark) here = mark_at worker mark 0 here (omega arith)
-  found_at (MarkEntry worker mark) here = mark_at worker mark 1 here (omega arith)
+  found_at (MarkSerial worker) here = mark_at worker 0 here (omega arith)
+  found_at (MarkDesc worker) here = mark_at worker 1 here (omega arith)
+  found_at (MarkEntry worker) here = mark_at worker 2 here (omega arith)
   found_at Counter here =
       let beyond : nat_lt (place_of z Counter) (cell_count z) ≡ false = is_not_less _ _ (λ h. omega (arith, h)) in
       let rest : place_of z Counter - cell_count z ≡ z.workers * row_count z = omega arith in

@@ -1,26 +1,26 @@
 -- Where each part of a shared table stands in its words (this project's own).
 use Rattle.std.specs.Prelude.{ℕ, ◌+◌, ◌*◌, ◌^◌, ◌<◌, ◌≤◌}
 use Rattle.rh_layout.specs.Key.{IsBits}
-use Rattle.rh_descriptor.specs.declared.limits.TheConstants.{MAX_WORKERS, MAX_ROOM, WORDS_PER_ENTRY, WORDS_PER_MARK}
+use Rattle.rh_descriptor.specs.declared.limits.TheConstants.{MAX_WORKERS, MAX_ROOM, MAX_MARKS, WORDS_PER_ENTRY, MARK_WORDS}
 use Rattle.rh_descriptor.specs.declared.shape.Shape.{Shape}
 use Rattle.rh_descriptor.specs.declared.shape.Part.{Part}
-use Rattle.rh_descriptor.specs.declared.shape.Part.TheVariants.{Cell, Control, Length, EntryCell, EntryOld, EntryNew, MarkDesc, MarkEntry, Counter}
+use Rattle.rh_descriptor.specs.declared.shape.Part.TheVariants.{Cell, Control, Length, EntryCell, EntryOld, EntryNew, MarkSerial, MarkDesc, MarkEntry, Counter}
 
 -- the sizes that a table may have
 pub record IsShape (z : Shape) : Type 0 where
   pub bits : IsBits z.bits
   pub workers : z.workers ≤ MAX_WORKERS
   pub entries : z.entry_room ≤ MAX_ROOM
-  pub marks : z.mark_room ≤ MAX_ROOM
+  pub marks : z.mark_room ≤ MAX_MARKS
   -- so that the counter does not pass a word
   pub keys : z.keys < 2 ^ 63
 
 abbrev pub cell_count : Shape → ℕ
 cell_count z = 2 ^ z.bits
 
--- how many words the rows of one worker have: those of its entries, then those of its marks
+-- how many words the rows of one worker have: those of its entries, then its mark row
 abbrev pub row_count : Shape → ℕ
-row_count z = WORDS_PER_ENTRY * z.entry_room + WORDS_PER_MARK * z.mark_room
+row_count z = WORDS_PER_ENTRY * z.entry_room + MARK_WORDS
 
 -- the cells come first, then the rows of each worker, then the counter
 abbrev pub word_count : Shape → ℕ
@@ -30,12 +30,12 @@ word_count z = cell_count z + z.workers * row_count z + 1
 abbrev pub row_place : Shape → (worker row : ℕ) → ℕ
 row_place z worker row = cell_count z + (worker * row_count z + row)
 
--- the word of an entry's place in the pool, and that of a mark
+-- the word of an entry's place in the pool, and that of the mark row
 abbrev pub entry_row : (entry word : ℕ) → ℕ
 entry_row entry word = WORDS_PER_ENTRY * entry + word
 
-abbrev pub mark_row : Shape → (mark word : ℕ) → ℕ
-mark_row z mark word = WORDS_PER_ENTRY * z.entry_room + (WORDS_PER_MARK * mark + word)
+abbrev pub mark_row : Shape → (word : ℕ) → ℕ
+mark_row z word = WORDS_PER_ENTRY * z.entry_room + word
 
 abbrev pub place_of : Shape → Part → ℕ
 place_of z (Cell c) = c
@@ -44,8 +44,9 @@ place_of z (Length worker entry) = row_place z worker (entry_row entry 1)
 place_of z (EntryCell worker entry) = row_place z worker (entry_row entry 2)
 place_of z (EntryOld worker entry) = row_place z worker (entry_row entry 3)
 place_of z (EntryNew worker entry) = row_place z worker (entry_row entry 4)
-place_of z (MarkDesc worker mark) = row_place z worker (mark_row z mark 0)
-place_of z (MarkEntry worker mark) = row_place z worker (mark_row z mark 1)
+place_of z (MarkSerial worker) = row_place z worker (mark_row z 0)
+place_of z (MarkDesc worker) = row_place z worker (mark_row z 1)
+place_of z (MarkEntry worker) = row_place z worker (mark_row z 2)
 place_of z Counter = cell_count z + z.workers * row_count z
 
 -- the table has this part
@@ -56,6 +57,7 @@ IsPart z (Length worker entry) = (worker < z.workers) × (entry < z.entry_room)
 IsPart z (EntryCell worker entry) = (worker < z.workers) × (entry < z.entry_room)
 IsPart z (EntryOld worker entry) = (worker < z.workers) × (entry < z.entry_room)
 IsPart z (EntryNew worker entry) = (worker < z.workers) × (entry < z.entry_room)
-IsPart z (MarkDesc worker mark) = (worker < z.workers) × (mark < z.mark_room)
-IsPart z (MarkEntry worker mark) = (worker < z.workers) × (mark < z.mark_room)
+IsPart z (MarkSerial worker) = worker < z.workers
+IsPart z (MarkDesc worker) = worker < z.workers
+IsPart z (MarkEntry worker) = worker < z.workers
 IsPart z Counter = Unit {0}

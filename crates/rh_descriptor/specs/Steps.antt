@@ -1,14 +1,14 @@
 -- The kinds of step on the words of a table: when a worker may make one, which word it touches, what becomes of the word,
 -- and what the worker notes. Each is the swap, store, load or increment of one word. The swaps are those of Harris,
 -- Fraser and Pratt 2002; that each worker places marks of its own, and Claims, are this project's.
-use Rattle.std.specs.Prelude.{zero, suc, ◌≡◌, ℕ, ◌+◌, ◌<◌, ◌≤◌, ◌%◌, ◌^◌, ◌==◌, ◌&&◌, ◌⊎◌, Option, Some, None, Bool, true, false, cond, List, [], ◌∷◌, length, slice_index, slice_set}
+use Rattle.std.specs.Prelude.{zero, suc, ◌≡◌, ℕ, ◌+◌, ◌<◌, ◌≤◌, ◌%◌, ◌^◌, ◌==◌, ◌&&◌, ◌⊎◌, Option, Some, None, Bool, true, false, cond, List, [], ◌∷◌, ◌++◌, length, slice_index, slice_set}
 use Rattle.rh_tagword.specs.declared.limits.TheConstants.{ENTRY_BITS, UNUSED, UNDECIDED}
-use Rattle.rh_world.specs.World.{Ref, Control, In}
+use Rattle.rh_world.specs.World.{Ref, Control, In, is_ref}
 use Rattle.rh_world.specs.World.Control.{unused, undecided, succeeded, withdrawn, failed}
 use Rattle.rh_world.specs.Notes.{Note}
 use Rattle.rh_world.specs.Notes.Note.{known, size_is, target_is, old_is, new_is, desc_is, which_is, decided, found, may_promote, may_demote}
 use Rattle.rh_world.specs.Sides.{Side, is_number, note_side, open_side, paid_side, claim_side}
-use Rattle.rh_world.specs.Moves.{Entries, MayWork, MayDecide, note_entries, cell_noted, control_noted, mark_noted, place_noted, settle_noted, release_noted}
+use Rattle.rh_world.specs.Moves.{Entries, MayWork, MayDecide, note_entries, cell_noted, control_noted, mark_noted, place_noted, settle_noted, release_noted, note_all}
 use Rattle.rh_layout.specs.declared.entry.Entry.{Entry}
 use Rattle.rh_descriptor.specs.declared.shape.Shape.{Shape}
 use Rattle.rh_descriptor.specs.declared.shape.Part.{Part}
@@ -16,7 +16,8 @@ use Rattle.rh_descriptor.specs.declared.shape.Part.TheVariants as part
 use Rattle.rh_descriptor.specs.declared.reference.Reading.{Reading}
 use Rattle.rh_descriptor.specs.declared.reference.Reading.TheVariants as reading
 use Rattle.rh_descriptor.specs.Places.{cell_count, word_count, entry_row, mark_row, place_of}
-use Rattle.rh_descriptor.specs.View.{OwnDesc, Written, View}
+use Rattle.rh_descriptor.specs.View.{MarkWord, OwnDesc, Raw, Written, View}
+use Rattle.rh_descriptor.specs.View.MarkWord.{desc_word, entry_word}
 use Rattle.rh_descriptor.specs.Words.{IsPlain, mark_number, desc_number, number_of, decided_by, cell_in, read_control, desc_in, ref_of}
 
 pub data Step : Type 0 where
@@ -75,19 +76,25 @@ own_desc v = record { worker = v.worker; number = v.next_number }
 abbrev pub own_mark : View → Ref
 own_mark v = record { worker = v.worker; number = v.marks_used }
 
+-- the own mark row is of the next own mark
+abbrev pub HasSerial : Shape → View → Type 0
+HasSerial z v = row_word v.written (mark_row z 0) ≡ v.marks_used
+
 -- ---- when it is allowed
 
--- a word of a row that no opened descriptor and no used mark has
-abbrev pub IsFree : Shape → View → Part → Type 0
-IsFree z v (part.Cell c) = ⊥
-IsFree z v (part.Control worker entry) = ⊥
-IsFree z v (part.Length worker entry) = (worker ≡ v.worker) × (v.next_number ≤ entry) × (entry < z.entry_room)
-IsFree z v (part.EntryCell worker entry) = (worker ≡ v.worker) × (v.next_number ≤ entry) × (entry < z.entry_room)
-IsFree z v (part.EntryOld worker entry) = (worker ≡ v.worker) × (v.next_number ≤ entry) × (entry < z.entry_room)
-IsFree z v (part.EntryNew worker entry) = (worker ≡ v.worker) × (v.next_number ≤ entry) × (entry < z.entry_room)
-IsFree z v (part.MarkDesc worker mark) = (worker ≡ v.worker) × (v.marks_used ≤ mark) × (mark < z.mark_room)
-IsFree z v (part.MarkEntry worker mark) = (worker ≡ v.worker) × (v.marks_used ≤ mark) × (mark < z.mark_room)
-IsFree z v part.Counter = ⊥
+-- This word may be written there: to a row that no opened descriptor has, or to the mark row, once the mark that it was of
+-- is settled, and then the number of the next mark before all else.
+abbrev pub IsFree : Shape → View → Part → (word : ℕ) → Type 0
+IsFree z v (part.Cell c) u = ⊥
+IsFree z v (part.Control worker entry) u = ⊥
+IsFree z v (part.Length worker entry) u = (worker ≡ v.worker) × (v.next_number ≤ entry) × (entry < z.entry_room)
+IsFree z v (part.EntryCell worker entry) u = (worker ≡ v.worker) × (v.next_number ≤ entry) × (entry < z.entry_room)
+IsFree z v (part.EntryOld worker entry) u = (worker ≡ v.worker) × (v.next_number ≤ entry) × (entry < z.entry_room)
+IsFree z v (part.EntryNew worker entry) u = (worker ≡ v.worker) × (v.next_number ≤ entry) × (entry < z.entry_room)
+IsFree z v (part.MarkSerial worker) u = (worker ≡ v.worker) × (v.side.unsettled ≡ None) × (u ≡ v.marks_used) × (u < z.mark_room)
+IsFree z v (part.MarkDesc worker) u = (worker ≡ v.worker) × (v.side.unsettled ≡ None) × HasSerial z v
+IsFree z v (part.MarkEntry worker) u = (worker ≡ v.worker) × (v.side.unsettled ≡ None) × HasSerial z v
+IsFree z v part.Counter u = ⊥
 
 -- the table has this descriptor, or this mark
 abbrev pub IsDesc : Shape → Ref → Type 0
@@ -125,6 +132,7 @@ IsRead z (reading.Length d) = IsDesc z (ref_of d)
 IsRead z (reading.EntryCell d e) = (d.worker < z.workers) × (d.number + e < z.entry_room)
 IsRead z (reading.EntryOld d e) = (d.worker < z.workers) × (d.number + e < z.entry_room)
 IsRead z (reading.EntryNew d e) = (d.worker < z.workers) × (d.number + e < z.entry_room)
+IsRead z (reading.MarkSerial x) = IsMark z (ref_of x)
 IsRead z (reading.MarkDesc x) = IsMark z (ref_of x)
 IsRead z (reading.MarkEntry x) = IsMark z (ref_of x)
 
@@ -133,7 +141,8 @@ abbrev pub KnowsMark : List Note → Ref → (e : ℕ) → Type 0
 KnowsMark notes d e = (x : Ref) × In (desc_is x d) notes × In (which_is x e) notes
 
 -- What is noted of it is true: what a row says is noted only of a descriptor that is known as opened, or of a mark that
--- was found; that a mark may be settled, only where its control is read after it was found.
+-- was found, and then only once its row is seen to be still of it; that a mark may be settled, only where its control is
+-- read after it was found.
 abbrev pub IsNoted : View → Reading → Type 0
 IsNoted v (reading.Place p) = Unit {0}
 IsNoted v (reading.Cell c) = Unit {0}
@@ -143,15 +152,17 @@ IsNoted v (reading.Length d) = IsKnown v.side.notes (ref_of d)
 IsNoted v (reading.EntryCell d e) = MayWork v.side (ref_of d) e
 IsNoted v (reading.EntryOld d e) = MayWork v.side (ref_of d) e ⊎ KnowsMark v.side.notes (ref_of d) e
 IsNoted v (reading.EntryNew d e) = MayWork v.side (ref_of d) e
+IsNoted v (reading.MarkSerial x) = (c : ℕ) × In (found (ref_of x) c) v.side.notes
 IsNoted v (reading.MarkDesc x) = (c : ℕ) × In (found (ref_of x) c) v.side.notes
 IsNoted v (reading.MarkEntry x) = (c : ℕ) × In (found (ref_of x) c) v.side.notes
 
--- the next own mark is left, its row names the entry, the entry is known, and no own mark is unsettled
+-- the next own mark is left, the mark row is of it and names the entry, the entry is known, and no own mark is unsettled
 pub record CanPlace (z : Shape) (v : View) (d : Ref) (e c old : ℕ) : Type 0 where
   pub cell : c < cell_count z
   pub room : v.marks_used < z.mark_room
-  pub desc : row_word v.written (mark_row z v.marks_used 0) ≡ desc_number d
-  pub entry : row_word v.written (mark_row z v.marks_used 1) ≡ e
+  pub serial : HasSerial z v
+  pub desc : row_word v.written (mark_row z 1) ≡ desc_number d
+  pub entry : row_word v.written (mark_row z 2) ≡ e
   pub work : MayWork v.side d e
   pub knows_cell : In (target_is d e c) v.side.notes
   pub knows_old : In (old_is d e old) v.side.notes
@@ -210,7 +221,7 @@ pub record CanClaim (z : Shape) (v : View) : Type 0 where
   pub keys : (n : ℕ) → In n v.side.claims → n < z.keys
 
 abbrev pub IsStep : Shape → View → Step → Type 0
-IsStep z v (writes p u) = IsFree z v p
+IsStep z v (writes p u) = IsFree z v p u
 IsStep z v (opens size) = CanOpen z v size
 IsStep z v (reads r) = IsRead z r × IsNoted v r
 IsStep z v (places d e c old) = CanPlace z v d e c old
@@ -236,8 +247,9 @@ place_read z (reading.Length d) = place_of z (part.Length d.worker d.number)
 place_read z (reading.EntryCell d e) = place_of z (part.EntryCell d.worker (d.number + e))
 place_read z (reading.EntryOld d e) = place_of z (part.EntryOld d.worker (d.number + e))
 place_read z (reading.EntryNew d e) = place_of z (part.EntryNew d.worker (d.number + e))
-place_read z (reading.MarkDesc x) = place_of z (part.MarkDesc x.worker x.number)
-place_read z (reading.MarkEntry x) = place_of z (part.MarkEntry x.worker x.number)
+place_read z (reading.MarkSerial x) = place_of z (part.MarkSerial x.worker)
+place_read z (reading.MarkDesc x) = place_of z (part.MarkDesc x.worker)
+place_read z (reading.MarkEntry x) = place_of z (part.MarkEntry x.worker)
 
 abbrev pub place : Shape → View → Step → ℕ
 place z v (writes p u) = place_of z p
@@ -279,16 +291,26 @@ row_of z (part.Length worker entry) = entry_row entry 1
 row_of z (part.EntryCell worker entry) = entry_row entry 2
 row_of z (part.EntryOld worker entry) = entry_row entry 3
 row_of z (part.EntryNew worker entry) = entry_row entry 4
-row_of z (part.MarkDesc worker mark) = mark_row z mark 0
-row_of z (part.MarkEntry worker mark) = mark_row z mark 1
+row_of z (part.MarkSerial worker) = mark_row z 0
+row_of z (part.MarkDesc worker) = mark_row z 1
+row_of z (part.MarkEntry worker) = mark_row z 2
 row_of z part.Counter = 0
 
 abbrev pub with_side : View → Side → View
 with_side v s = record v { side = s }
 
-abbrev pub desc_noted : Side → Ref → Option Ref → Side
-desc_noted s x None = s
-desc_noted s x (Some d) = note_side s (desc_is x d)
+-- what the words that were read in the row of a mark say of it
+abbrev pub desc_said : Ref → Option Ref → List Note
+desc_said x None = []
+desc_said x (Some d) = desc_is x d ∷ []
+
+abbrev pub mark_said : Ref → MarkWord → List Note
+mark_said x (desc_word u) = desc_said x (desc_in u)
+mark_said x (entry_word u) = which_is x u ∷ []
+
+abbrev pub row_said : List Raw → Ref → List Note
+row_said [] x = []
+row_said (r ∷ rs) x = cond (is_ref r.mark x) (mark_said x r.word ++ row_said rs x) (row_said rs x)
 
 abbrev pub read_noted : View → Reading → (word : ℕ) → Side
 read_noted v (reading.Place p) word = v.side
@@ -299,8 +321,25 @@ read_noted v (reading.Length d) word = note_side v.side (size_is (ref_of d) word
 read_noted v (reading.EntryCell d e) word = note_side v.side (target_is (ref_of d) e word)
 read_noted v (reading.EntryOld d e) word = note_side v.side (old_is (ref_of d) e word)
 read_noted v (reading.EntryNew d e) word = note_side v.side (new_is (ref_of d) e word)
-read_noted v (reading.MarkDesc x) word = desc_noted v.side (ref_of x) (desc_in word)
-read_noted v (reading.MarkEntry x) word = note_side v.side (which_is (ref_of x) word)
+read_noted v (reading.MarkSerial x) word = cond (word == x.number) (note_all v.side (row_said v.raw (ref_of x))) v.side
+read_noted v (reading.MarkDesc x) word = v.side
+read_noted v (reading.MarkEntry x) word = v.side
+
+abbrev pub read_raw : List Raw → Reading → (word : ℕ) → List Raw
+read_raw raw (reading.Place p) word = raw
+read_raw raw (reading.Cell c) word = raw
+read_raw raw (reading.Control d) word = raw
+read_raw raw (reading.MarkControl x c d) word = raw
+read_raw raw (reading.Length d) word = raw
+read_raw raw (reading.EntryCell d e) word = raw
+read_raw raw (reading.EntryOld d e) word = raw
+read_raw raw (reading.EntryNew d e) word = raw
+read_raw raw (reading.MarkSerial x) word = raw
+read_raw raw (reading.MarkDesc x) word = record { mark = ref_of x; word = desc_word word } ∷ raw
+read_raw raw (reading.MarkEntry x) word = record { mark = ref_of x; word = entry_word word } ∷ raw
+
+abbrev pub read_view : View → Reading → (word : ℕ) → View
+read_view v r word = record v { side = read_noted v r word; raw = read_raw v.raw r word }
 
 abbrev pub open_noted : View → (size : ℕ) → View
 open_noted v size = record v {
@@ -334,7 +373,7 @@ release_view v d e c =
 abbrev pub noted : Shape → View → Step → (word : ℕ) → View
 noted z v (writes p u) word = record v { written = record { row = row_of z p; word = u } ∷ v.written }
 noted z v (opens size) word = open_noted v size
-noted z v (reads r) word = with_side v (read_noted v r word)
+noted z v (reads r) word = read_view v r word
 noted z v (places d e c old) word = place_view v d e c old word
 noted z v (settles x c d e old) word = with_side v (settle_view v x c d e old word)
 noted z v (decides d k) word = with_side v (control_noted v.side d (decided_now k word))

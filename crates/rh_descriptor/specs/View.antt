@@ -1,5 +1,6 @@
 -- What a worker's seat keeps of it: what it has done and knows, its own rows, and how far a wipe is. (own)
 use Rattle.std.specs.Prelude.{ℕ, Option, None, List, []}
+use Rattle.rh_world.specs.World.{Ref}
 use Rattle.rh_world.specs.Sides.{Side, new_side}
 use Rattle.rh_layout.specs.declared.entry.Entry.{Entry}
 
@@ -13,12 +14,21 @@ pub record Written : Type 0 where
   pub row : ℕ
   pub word : ℕ
 
+-- a word that was read in the row of a mark: what it says is so of the mark only where the row's serial number, read after
+-- it, is still the mark's
+pub data MarkWord : Type 0 where
+  desc_word entry_word : (word : ℕ) → MarkWord
+
+pub record Raw : Type 0 where
+  pub mark : Ref
+  pub word : MarkWord
+
 -- a wipe that is under way: the words of the cells, and how many row words are cleared
 pub record Wiping : Type 0 where
   pub cells : List ℕ
   pub cleared : ℕ
 
--- of opened and written the newest stands first
+-- of opened, written and raw the newest stands first
 pub record View : Type 0 where
   pub worker : ℕ
   -- the words of the cells when the round began
@@ -30,6 +40,7 @@ pub record View : Type 0 where
   pub marks_used : ℕ
   pub opened : List OwnDesc
   pub written : List Written
+  pub raw : List Raw
   pub wiping : Option Wiping
 
 -- what is kept of a worker when a table is made with these cells, which are given as words
@@ -42,6 +53,7 @@ new_view cells worker = record {
   marks_used = 0;
   opened = [];
   written = [];
+  raw = [];
   wiping = None;
 }
 
@@ -55,5 +67,6 @@ round_view cells v = record {
   marks_used = 0;
   opened = [];
   written = [];
+  raw = [];
   wiping = None;
 }

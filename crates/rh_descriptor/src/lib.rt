@@ -13,7 +13,7 @@ mod words;
 
 pub use known::{First, Known};
 pub use laws::one_part;
-pub use limits::{MAX_ROOM, MAX_WORKERS};
+pub use limits::{MAX_MARKS, MAX_ROOM, MAX_WORKERS};
 pub use reference::{Piece, Reading, Ref};
 pub use shape::{Part, Rooms, Shape};
 pub use side::Side;

@@ -42,6 +42,8 @@ pub enum Reading {
     EntryOld { desc: Ref, entry: usize },
     /// The new value of a descriptor's entry.
     EntryNew { desc: Ref, entry: usize },
+    /// The serial number in the row of this mark, which tells whether the row is still of it.
+    MarkSerial(Ref),
     /// The descriptor of a mark.
     MarkDesc(Ref),
     /// The entry of a mark.
@@ -82,13 +84,14 @@ impl Reading {
                 worker: desc.worker,
                 entry: desc.number + entry,
             }),
+            Reading::MarkSerial(mark) => shape.place(Part::MarkSerial {
+                worker: mark.worker,
+            }),
             Reading::MarkDesc(mark) => shape.place(Part::MarkDesc {
                 worker: mark.worker,
-                mark: mark.number,
             }),
             Reading::MarkEntry(mark) => shape.place(Part::MarkEntry {
                 worker: mark.worker,
-                mark: mark.number,
             }),
         }
     }

@@ -1,15 +1,16 @@
 //! The shape of a shared table, and where its parts stand in its words.
 
 ghost use Rattle.std.specs.Prelude.{◌≡◌, ◌<◌};
-ghost use Rattle.rh_descriptor.specs.declared.limits.TheConstants.{WORDS_PER_ENTRY, WORDS_PER_MARK};
+ghost use Rattle.rh_descriptor.specs.declared.limits.TheConstants.{MARK_WORDS, WORDS_PER_ENTRY};
 
-use crate::limits::{WORDS_PER_ENTRY, WORDS_PER_MARK};
+use crate::limits::{MARK_WORDS, WORDS_PER_ENTRY};
 
 /// How much room each worker has in a round.
 #[derive(Clone, Copy, Debug, PartialEq, Eq)]
 pub struct Rooms {
     /// Places for the entries of its descriptors.
     pub entries: usize,
+    /// How many marks it may place. They take no room: a worker has one row for all its marks.
     pub marks: usize,
 }
 
@@ -21,14 +22,14 @@ pub struct Shape {
     pub workers: usize,
     /// How many places for entries each worker has.
     pub entry_room: usize,
-    /// How many marks each worker has.
+    /// How many marks each worker may place in a round.
     pub mark_room: usize,
     /// The length of the list of keys whose places the workers claim.
     pub keys: u64,
 }
 
-/// A part of a shared table: one word. Workers, entries and marks are counted from 0, entries by
-/// their place in the worker's pool; a descriptor has the number of its first entry.
+/// A part of a shared table: one word. Workers and entries are counted from 0, entries by their place
+/// in the worker's pool; a descriptor has the number of its first entry.
 #[derive(Clone, Copy)]
 pub enum Part {
     Cell(usize),
@@ -42,10 +43,12 @@ pub enum Part {
     EntryOld { worker: usize, entry: usize },
     /// The word that it is to put there.
     EntryNew { worker: usize, entry: usize },
-    /// The reference of a mark's descriptor.
-    MarkDesc { worker: usize, mark: usize },
-    /// The entry that a mark is for, counted from 0 in its descriptor.
-    MarkEntry { worker: usize, mark: usize },
+    /// The number of the mark that a worker's mark row is of.
+    MarkSerial { worker: usize },
+    /// The reference of that mark's descriptor.
+    MarkDesc { worker: usize },
+    /// The entry that it is for, counted from 0 in its descriptor.
+    MarkEntry { worker: usize },
     /// How many places of the list of keys were claimed.
     Counter,
 }
@@ -75,7 +78,7 @@ impl Shape {
         requires { IsShape self.now }
         ensures { result ≡ row_count self.now }
     {
-        WORDS_PER_ENTRY * self.entry_room + WORDS_PER_MARK * self.mark_room
+        WORDS_PER_ENTRY * self.entry_room + MARK_WORDS
     }
 
     /// The word of a part.
@@ -93,8 +96,9 @@ impl Shape {
             Part::EntryCell { worker, entry } => self.entry_word(worker, entry, 2),
             Part::EntryOld { worker, entry } => self.entry_word(worker, entry, 3),
             Part::EntryNew { worker, entry } => self.entry_word(worker, entry, 4),
-            Part::MarkDesc { worker, mark } => self.mark_word(worker, mark, 0),
-            Part::MarkEntry { worker, mark } => self.mark_word(worker, mark, 1),
+            Part::MarkSerial { worker } => self.mark_word(worker, 0),
+            Part::MarkDesc { worker } => self.mark_word(worker, 1),
+            Part::MarkEntry { worker } => self.mark_word(worker, 2),
             Part::Counter => self.cells() + self.workers * self.rows(),
         }
     }
@@ -112,20 +116,15 @@ impl Shape {
         self.row_word(worker, WORDS_PER_ENTRY * entry + word)
     }
 
-    #[tactic(auto, using(crate::proofs::PlaceLemmas::mark_inside))]
     #[inline(always)]
-    fn mark_word(&self, worker: usize, mark: usize, word: usize) -> usize
+    fn mark_word(&self, worker: usize, word: usize) -> usize
         requires shape { IsShape self.now }
         requires worker { worker < self.now.workers }
-        requires mark { mark < self.now.mark_room }
-        requires word { word < WORDS_PER_MARK }
-        ensures value { result ≡ row_place self.now worker (mark_row self.now mark word) }
+        requires word { word < MARK_WORDS }
+        ensures value { result ≡ row_place self.now worker (mark_row self.now word) }
         ensures within { result < word_count self.now }
     {
-        self.row_word(
-            worker,
-            WORDS_PER_ENTRY * self.entry_room + (WORDS_PER_MARK * mark + word),
-        )
+        self.row_word(worker, WORDS_PER_ENTRY * self.entry_room + word)
     }
 
     #[inline(always)]

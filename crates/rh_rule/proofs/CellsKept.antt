@@ -32,7 +32,7 @@ use Rattle.rh_rule.proofs.Frames.{word_new, word_same}
 use Rattle.rh_rule.proofs.Kept.{Grows, kept_stays, mirrors, over_grows}
 use Rattle.rh_rule.proofs.ReadsKept.{grows_none, known_decided, known_note, true_decided, true_note, work_known}
 use Rattle.rh_rule.proofs.Said.{cell_said_is, desc_test, mark_test}
-use Rattle.rh_rule.proofs.Touched.{controls_same, counter_same, others_stay, own_same, rows_same, set_sized}
+use Rattle.rh_rule.proofs.Touched.{controls_same, counter_same, marks_same, others_stay, own_same, placed_same, raw_same, rows_same, set_sized}
 
 pub is_plain_yes : (k : Cell) (u : ℕ) → is_plain k u ≡ true → k ≡ plain u
 is_plain_yes (plain v) u e = ap plain (eqb_yes v u e)
@@ -85,9 +85,9 @@ module _ (z : Shape) (shape : IsShape z) (words : List ℕ) (keep : ℕ → View
 
   -- the swap took place, and a cell alone changes
   cell_step : (mv : Move) → IsAllowed w side who mv → (c : ℕ) (n : Cell) → c < cell_count z → IsCell z n
-      → world_after w who mv ≡ cell_world w c n → (x : Side) → x ≡ erased (side_after w t who mv) → Over who k.opened x
+      → ((i : Ref) → n ≢ mark i) → world_after w who mv ≡ cell_world w c n → (x : Side) → x ≡ erased (side_after w t who mv) → Over who k.opened x
       → Core (world_after w who mv) z (set words c (cell_number n)) (updated keep who (record k { side = x }))
-  cell_step mv may c n here is e x same over =
+  cell_step mv may c n here is unmarked e x same over =
       let v : World = cell_world w c n in
       let l = steady_at mv may v e in
       let p : Part = part.Cell c in
@@ -99,9 +99,14 @@ module _ (z : Shape) (shape : IsShape z) (words : List ℕ) (keep : ℕ → View
             (counter_same z words keep w side m p here (cell_number n) v l (λ q. cc) refl)
             (cells_new c n v here is (λ j. refl))
             (controls_same z words keep w side m p here (cell_number n) v l (λ a b q. cc) (λ d. refl))
-            (rows_same z words keep w side m p here (cell_number n) v l (λ o. o) (λ u. refl) (λ d o. o) (λ y o. o))
-            (kept_stays z words (set words c (cell_number n)) w v l t (side_after w t who mv) who k x refl refl (λ i o. o) (own_same z words keep w side m p here (cell_number n) v l who mine (λ o. o)) same over h)
-            (others_stay z words keep w side m p here (cell_number n) v l who (λ u ne. refl) (λ u ne. refl) (λ d ne o. o) (λ u ne o. o));
+            (rows_same z words keep w side m p here (cell_number n) v l (λ o. o) (λ u. refl) (λ d o. o) (λ y o. o)
+            (marks_same z words keep w side m p here (cell_number n) v l (λ o. o))
+            (placed_same z words keep w side m p here (cell_number n) v l (λ o. o)
+            (λ j i q. ⊎_elim (λ r. absurd (unmarked i (sym r.1 ∙ q))) (λ r. sym r.1 ∙ q) (updated_at w.cell c j n))))
+            (kept_stays z words (set words c (cell_number n)) w v l t (side_after w t who mv) who k x k.raw refl refl (λ i o. o) (own_same z words keep w side m p here (cell_number n) v l who mine (λ o. o))
+            (λ r i. raw_same z words keep w side m p here (cell_number n) v l (λ o. o) r (h.raw r i)) same over h)
+            (others_stay z words keep w side m p here (cell_number n) v l who (λ u ne. refl) (λ u ne. refl) (λ d ne o. o) (λ u ne o. o)
+            (marks_same z words keep w side m p here (cell_number n) v l (λ o. o)));
       }
 
   -- the swap found another word
@@ -113,7 +118,7 @@ module _ (z : Shape) (shape : IsShape z) (words : List ℕ) (keep : ℕ → View
     rule = rule_at mv may w e;
     mirrors = mirrors z words words keep w w side m (steady_at mv may w e) who mine (side_after w t who mv) (record k { side = x })
         m.sized m.counter m.cells m.controls m.rows
-        (kept_stays z words words w w (steady_at mv may w e) t (side_after w t who mv) who k x refl refl (λ i o. o) (λ q i. refl) same over h)
+        (kept_stays z words words w w (steady_at mv may w e) t (side_after w t who mv) who k x k.raw refl refl (λ i o. o) (λ q i. refl) h.raw same over h)
         (λ u lt ne. m.kept u lt);
   }
 
@@ -158,6 +163,10 @@ module _ (z : Shape) (shape : IsShape z) (words : List ℕ) (keep : ℕ → View
   settled_is x true u = m.controls.descs (w.mark_desc x) (rule.rows.used x u).0
   settled_is x false u = let q = rule.rows.used x u in (m.rows.descs (w.mark_desc x) q.0).plain_olds (w.mark_entry x) q.1
 
+  settled_unmarked : (x : Ref) (to : Bool) (i : Ref) → settled_cell w x to ≢ mark i
+  settled_unmarked x true i e = cc
+  settled_unmarked x false i e = cc
+
   with_word : (x : Ref) (c : ℕ) (old : Option ℕ) → MaySettle k x c (w.mark_desc x) (w.mark_entry x) old
       → MaySettle k x 0 (w.mark_desc x) (w.mark_entry x) old ⊎ (old ≡ None)
   with_word x c None may = inr refl
@@ -178,7 +187,7 @@ module _ (z : Shape) (shape : IsShape z) (words : List ℕ) (keep : ℕ → View
       subst (λ (b : Bool). q (cond b (settled_word (w.mark_desc x) old) (found_in c))) (sym test)
       (by_cond q (is_mark (w.cell c) x) (settled_word (w.mark_desc x) old) (found_in c)
       (λ yes. subst q (sym (settled_word_is x old (with_word x c old can.may)))
-      (cell_step (settles x c (is_none old)) may c n can.cell (settled_is x (is_none old) used) (ap (λ (y : Bool). cond y (cell_world w c n) w) yes) s same over))
+      (cell_step (settles x c (is_none old)) may c n can.cell (settled_is x (is_none old) used) (settled_unmarked x (is_none old)) (ap (λ (y : Bool). cond y (cell_world w c n) w) yes) s same over))
       (λ not. still_step (settles x c (is_none old)) may c (ap (λ (y : Bool). cond y (cell_world w c n) w) not) s same over))
 
   pub keeps_settle : (x : Ref) (c : ℕ) (d : Ref) (e : ℕ) (old : Option ℕ) → CanSettle z k x c d e old
@@ -291,7 +300,7 @@ module _ (z : Shape) (shape : IsShape z) (words : List ℕ) (keep : ℕ → View
       subst (λ (b : Bool). q (cond b value (found_in c))) (sym test)
       (by_cond q (is_desc (w.cell c) d) value (found_in c)
       (λ yes. subst q (sym (released_value d e r value dec.1 can.knows_value))
-      (cell_step (releases d e) may c n can.cell is (ap (λ (y : Bool). cond y (cell_world w c n) w) yes) s same over))
+      (cell_step (releases d e) may c n can.cell is (λ i q. cc) (ap (λ (y : Bool). cond y (cell_world w c n) w) yes) s same over))
       (λ not. still_step (releases d e) may c (ap (λ (y : Bool). cond y (cell_world w c n) w) not) s same over))
 
   pub keeps_release : (d : Ref) (e c : ℕ) (r : Control) (value : ℕ) → CanRelease z k d e c r value

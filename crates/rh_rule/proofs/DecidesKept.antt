@@ -28,7 +28,7 @@ use Rattle.rh_rule.proofs.Frames.{word_new, word_same}
 use Rattle.rh_rule.proofs.Kept.{kept_stays, mirrors, over_grows}
 use Rattle.rh_rule.proofs.ReadsKept.{grows_control, known_note}
 use Rattle.rh_rule.proofs.Said.{HasNumber, control_said_is, is_undecided, undecided_test}
-use Rattle.rh_rule.proofs.Touched.{cells_same, counter_same, marks_stay, others_stay, own_same, rows_same, set_sized}
+use Rattle.rh_rule.proofs.Touched.{cells_same, counter_same, marks_same, marks_stay, others_stay, own_same, placed_same, raw_same, rows_same, set_sized}
 
 -- the world after: the control alone is of interest to the words
 record OnlyControl (w v : World) (control : Ref → Control) : Type 0 where
@@ -182,9 +182,13 @@ module _ (z : Shape) (shape : IsShape z) (words : List ℕ) (keep : ℕ → View
             (cells_same z words keep w side m p can.desc n v l (λ c q. cc) (λ c. ap (λ (f : ℕ → Cell). f c) only.cell))
             (controls_new z words keep w side m d set_to v can.desc (small r can.result) (λ f. ap (λ (g : Ref → Control). g f) only.control_is) l
             (λ q. subst (λ (n : ℕ). z.mark_room ≤ n) (sym (marks d.worker)) (full r can.may can.result q)))
-            (rows_same z words keep w side m p can.desc n v l (λ o. o) numbers back (λ y o. subst (λ (i : ℕ). y.number < i) (marks y.worker) o))
-            (kept_stays z words (set words (place_of z p) n) w v l t s who k (x r) (numbers who) (marks who) (λ i o. back record { worker = who; number = i } o) (own_same z words keep w side m p can.desc n v l who mine (λ o. o)) side_is (over r) h)
-            (others_stay z words keep w side m p can.desc n v l who (λ u ne. numbers u) (λ u ne. marks u) (λ f ne o. back f o) (λ u ne o. o));
+            (rows_same z words keep w side m p can.desc n v l (λ o. o) numbers back (λ y o. subst (λ (i : ℕ). y.number < i) (marks y.worker) o)
+            (marks_same z words keep w side m p can.desc n v l (λ o. o))
+            (placed_same z words keep w side m p can.desc n v l (λ o. o) (λ j i q. sym (ap (λ (f : ℕ → Cell). f j) only.cell) ∙ q)))
+            (kept_stays z words (set words (place_of z p) n) w v l t s who k (x r) k.raw (numbers who) (marks who) (λ i o. back record { worker = who; number = i } o) (own_same z words keep w side m p can.desc n v l who mine (λ o. o))
+            (λ q i. raw_same z words keep w side m p can.desc n v l (λ o. o) q (h.raw q i)) side_is (over r) h)
+            (others_stay z words keep w side m p can.desc n v l who (λ u ne. numbers u) (λ u ne. marks u) (λ f ne o. back f o) (λ u ne o. o)
+            (marks_same z words keep w side m p can.desc n v l (λ o. o)));
       }
 
   -- it was decided before
@@ -201,7 +205,7 @@ module _ (z : Shape) (shape : IsShape z) (words : List ℕ) (keep : ℕ → View
         rule = rule_at z shape words keep w side rule m who mine (decides d set_to) may w same;
         mirrors = mirrors z words words keep w w side m l who mine s (record k { side = x (read_control word) })
             m.sized m.counter m.cells m.controls m.rows
-            (kept_stays z words words w w l t s who k (x (read_control word)) refl refl (λ i o. o) (λ q i. refl) side_is (over (read_control word)) h)
+            (kept_stays z words words w w l t s who k (x (read_control word)) k.raw refl refl (λ i o. o) (λ q i. refl) h.raw side_is (over (read_control word)) h)
             (λ u lt ne. m.kept u lt);
       }
 

@@ -1,12 +1,12 @@
 -- Without the numbers of acts and without deciders the notes are the same, and so is what a step notes.
-use Rattle.std.proofs.Common.{◌≡◌, ℕ, zero, suc, eqb, Bool, true, false, cond, List, [], ◌∷◌, map, refl, ap, subst, inl, inr, ⊎_elim, Some, None, Option}
+use Rattle.std.proofs.Common.{◌≡◌, ℕ, zero, suc, eqb, Bool, true, false, cond, List, [], ◌∷◌, map, sym, refl, ap, subst, inl, inr, ⊎_elim, Some, None, Option}
 use Rattle.rh_world.specs.World.{Cell, Control, In, Ref, is_ref}
 use Rattle.rh_world.specs.World.Cell.{desc, mark, plain}
 use Rattle.rh_world.specs.World.Control.{failed, succeeded, undecided, unused, withdrawn}
 use Rattle.rh_world.specs.Notes.{Note}
 use Rattle.rh_world.specs.Notes.Note.{decided, desc_is, failed_at, found, held, known, may_demote, may_promote, mismatch, new_is, old_is, over, passed, size_is, target_is, which_is}
 use Rattle.rh_world.specs.Sides.{Side, close_side, note_side, release_side, settle_side}
-use Rattle.rh_world.specs.Moves.{Entries, cell_noted, control_noted, covers, mark_noted, note_entries, place_noted, placed_noted, release_noted, settle_noted}
+use Rattle.rh_world.specs.Moves.{Entries, IsRowNote, cell_noted, control_noted, covers, mark_noted, note_all, note_entries, place_noted, placed_noted, release_noted, settle_noted}
 use Rattle.rh_descriptor.specs.Words.{without_decider}
 use Rattle.rh_rule.specs.Erased.{erased, erased_note}
 
@@ -151,6 +151,29 @@ erased_settle s d e c b = erased_cond b (note_side (settle_side s d c) (held d e
 
 pub erased_release : (s : Side) (e n : ℕ) → release_noted (erased s) e n ≡ erased (release_noted s e n)
 erased_release s e n = erased_cond (covers n (e ∷ s.released)) (close_side (release_side s e)) (release_side s e)
+
+-- what rows say is whole
+row_whole : (n : Note) → IsRowNote n → erased_note n ≡ n
+row_whole (known d) h = absurd h
+row_whole (size_is d i) h = refl
+row_whole (target_is d e c) h = refl
+row_whole (old_is d e u) h = refl
+row_whole (new_is d e u) h = refl
+row_whole (decided d k) h = absurd h
+row_whole (over d) h = refl
+row_whole (passed d) h = refl
+row_whole (failed_at d e) h = refl
+row_whole (desc_is x d) h = refl
+row_whole (which_is x e) h = refl
+row_whole (found x c) h = refl
+row_whole (may_promote x c) h = refl
+row_whole (may_demote x) h = refl
+row_whole (held d e) h = absurd h
+row_whole (mismatch d e i) h = absurd h
+
+pub erased_all : (s : Side) (ns : List Note) → ((n : Note) → In n ns → IsRowNote n) → note_all (erased s) ns ≡ erased (note_all s ns)
+erased_all s [] h = refl
+erased_all s (n ∷ ns) h = (λ i. note_side (erased_all s ns (λ m j. h m (inr j)) i) (sym (row_whole n (h n (inl refl))) i))
 
 pub erased_entries : (s : Side) (d : Ref) (p : Entries) (n : ℕ)
     → note_entries (erased s) d p n ≡ erased (note_entries s d p n)

@@ -5,7 +5,7 @@ use Rattle.rh_descriptor.specs.declared.shape.Shape.{Shape}
 use Rattle.rh_descriptor.specs.declared.shape.Part.{Part}
 use Rattle.rh_descriptor.specs.declared.shape.Part.TheVariants as part
 use Rattle.rh_descriptor.specs.Places.{IsPart, entry_row, mark_row, place_of, row_count, row_place, word_count}
-use Rattle.rh_descriptor.proofs.PlaceLemmas.{entry_inside, mark_inside, same_part}
+use Rattle.rh_descriptor.proofs.PlaceLemmas.{entry_inside, same_part}
 use Rattle.rh_rule.specs.Mirrors.{word_at}
 
 module _ (z : Shape) where
@@ -14,11 +14,10 @@ module _ (z : Shape) where
 
   entry_within : (worker entry word : ℕ) → (worker < z.workers) × (entry < z.entry_room) → word < 5
       → row_place z worker (entry_row entry word) < word_count z
-  entry_within worker entry word here below = row_within worker (entry_row entry word) here.0 (entry_inside z.entry_room z.mark_room entry word here.1 below)
+  entry_within worker entry word here below = row_within worker (entry_row entry word) here.0 (entry_inside z.entry_room entry word here.1 below)
 
-  mark_within : (worker mark word : ℕ) → (worker < z.workers) × (mark < z.mark_room) → word < 2
-      → row_place z worker (mark_row z mark word) < word_count z
-  mark_within worker mark word here below = row_within worker (mark_row z mark word) here.0 (mark_inside z.entry_room z.mark_room mark word here.1 below)
+  mark_within : (worker word : ℕ) → worker < z.workers → word < 3 → row_place z worker (mark_row z word) < word_count z
+  mark_within worker word here below = row_within worker (mark_row z word) here (omega (arith, below))
 
   pub place_within : (p : Part) → IsPart z p → place_of z p < word_count z
   place_within (part.Cell c) here = omega arith
@@ -27,8 +26,9 @@ module _ (z : Shape) where
   place_within (part.EntryCell worker entry) here = entry_within worker entry 2 here (omega arith)
   place_within (part.EntryOld worker entry) here = entry_within worker entry 3 here (omega arith)
   place_within (part.EntryNew worker entry) here = entry_within worker entry 4 here (omega arith)
-  place_within (part.MarkDesc worker mark) here = mark_within worker mark 0 here (omega arith)
-  place_within (part.MarkEntry worker mark) here = mark_within worker mark 1 here (omega arith)
+  place_within (part.MarkSerial worker) here = mark_within worker 0 here (omega arith)
+  place_within (part.MarkDesc worker) here = mark_within worker 1 here (omega arith)
+  place_within (part.MarkEntry worker) here = mark_within worker 2 here (omega arith)
   place_within part.Counter here = omega arith
 
   module _ (words : List ℕ) (p : Part) (n : ℕ) (here : IsPart z p) where

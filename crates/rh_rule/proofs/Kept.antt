@@ -1,6 +1,7 @@
 -- What stays of a mirror, and how a new one is put together.
 use Rattle.std.proofs.Common.{◌≡◌, ◌≢◌, ℕ, ◌+◌, ◌<◌, ◌≤◌, ◌⊎◌, List, length, sym, ap, ◌∙◌, subst, inl, inr, ⊎_elim, arith, Some}
 use Rattle.rh_world.specs.World.{Control, In, IsOpened, IsUsed, Ref, World, updated}
+use Rattle.rh_world.specs.World.Cell.{mark}
 use Rattle.rh_world.specs.Notes.{Note}
 use Rattle.rh_world.specs.Notes.Note.{decided}
 use Rattle.rh_world.specs.Later.{Steady}
@@ -10,13 +11,14 @@ use Rattle.rh_descriptor.specs.declared.shape.Shape.{Shape}
 use Rattle.rh_descriptor.specs.declared.shape.Part.{Part}
 use Rattle.rh_descriptor.specs.declared.shape.Part.TheVariants as part
 use Rattle.rh_descriptor.specs.Places.{cell_count, word_count}
-use Rattle.rh_descriptor.specs.View.{OwnDesc, View}
+use Rattle.rh_descriptor.specs.View.{MarkWord, OwnDesc, Raw, View}
+use Rattle.rh_descriptor.specs.View.MarkWord.{desc_word, entry_word}
 use Rattle.rh_descriptor.specs.Words.{desc_number}
-use Rattle.rh_descriptor.specs.Steps.{IsDesc}
+use Rattle.rh_descriptor.specs.Steps.{IsDesc, IsMark}
 use Rattle.rh_rule.specs.Erased.{erased}
-use Rattle.rh_rule.specs.Mirrors.{Cells, Controls, DescRow, IsOwn, Kept, MarkRow, RowWords, word_at, Mirrors}
+use Rattle.rh_rule.specs.Mirrors.{Cells, Controls, DescRow, IsOwn, IsRaw, IsSaid, Kept, MarkRow, RowWords, Stands, word_at, Mirrors}
 
--- a word of the row of an opened descriptor, or of a used mark
+-- a word of the row of an opened descriptor
 abbrev pub IsFixed : Shape → World → Part → Type 0
 IsFixed z w (part.Cell c) = ⊥
 IsFixed z w (part.Control worker n) = ⊥
@@ -24,9 +26,19 @@ IsFixed z w (part.Length worker n) = (worker < z.workers) × (n < w.next_number 
 IsFixed z w (part.EntryCell worker n) = (worker < z.workers) × (n < w.next_number worker) × (n < z.entry_room)
 IsFixed z w (part.EntryOld worker n) = (worker < z.workers) × (n < w.next_number worker) × (n < z.entry_room)
 IsFixed z w (part.EntryNew worker n) = (worker < z.workers) × (n < w.next_number worker) × (n < z.entry_room)
-IsFixed z w (part.MarkDesc worker n) = (worker < z.workers) × (n < w.marks_used worker) × (n < z.mark_room)
-IsFixed z w (part.MarkEntry worker n) = (worker < z.workers) × (n < w.marks_used worker) × (n < z.mark_room)
+IsFixed z w (part.MarkSerial worker) = ⊥
+IsFixed z w (part.MarkDesc worker) = ⊥
+IsFixed z w (part.MarkEntry worker) = ⊥
 IsFixed z w part.Counter = ⊥
+
+-- a used mark whose row stands after a step had it before, and the row says the same
+pub record RowStays (z : Shape) (words then : List ℕ) (x : Ref) : Type 0 where
+  pub stood : Stands z words x
+  pub desc : word_at z then (part.MarkDesc x.worker) ≡ word_at z words (part.MarkDesc x.worker)
+  pub entry : word_at z then (part.MarkEntry x.worker) ≡ word_at z words (part.MarkEntry x.worker)
+
+abbrev pub MarksStay : Shape → (words then : List ℕ) → World → Type 0
+MarksStay z words then w = (x : Ref) → IsMark z x → IsUsed w x → Stands z then x → RowStays z words then x
 
 module _ (z : Shape) (words then : List ℕ) (w v : World) (l : Steady w v) where
   -- the rows
@@ -52,34 +64,48 @@ module _ (z : Shape) (words then : List ℕ) (w v : World) (l : Steady w v) wher
         room = omega arith;
       }
 
-  pub mark_row_stays : (x : Ref) → IsUsed w x → ((q : Part) → IsFixed z w q → word_at z then q ≡ word_at z words q)
-      → MarkRow z words w x → MarkRow z then v x
-  mark_row_stays x u same r = record {
-    is_mark = r.is_mark;
-    desc = same (part.MarkDesc x.worker x.number) (r.is_mark.0, u, r.is_mark.1) ∙ r.desc ∙ ap desc_number (sym (l.mark_desc x u));
-    entry = same (part.MarkEntry x.worker x.number) (r.is_mark.0, u, r.is_mark.1) ∙ r.entry ∙ sym (l.mark_entry x u);
+  said_stays : (x : Ref) (n : MarkWord) → IsUsed w x → IsSaid w x n → IsSaid v x n
+  said_stays x (desc_word n) u s = s ∙ ap desc_number (sym (l.mark_desc x u))
+  said_stays x (entry_word n) u s = s ∙ sym (l.mark_entry x u)
+
+  pub mark_row_stays : MarksStay z words then w → RowWords z words w → (x : Ref) → IsUsed w x → Stands z then x
+      → MarkRow z then v x
+  mark_row_stays same rows x u stands =
+      let s = same x (rows.are_marks x u) u stands in let r = rows.marks x u s.stood in record {
+        desc = s.desc ∙ said_stays x (desc_word (word_at z words (part.MarkDesc x.worker))) u r.desc;
+        entry = s.entry ∙ said_stays x (entry_word (word_at z words (part.MarkEntry x.worker))) u r.entry;
+      }
+
+  pub raw_stays : MarksStay z words then w → RowWords z words w → (r : Raw) → IsRaw z words w r → IsRaw z then v r
+  raw_stays same rows r h = record {
+    used = l.marks r.mark h.used;
+    said = λ s. said_stays r.mark r.word h.used (h.said (same r.mark (rows.are_marks r.mark h.used) h.used s).stood);
   }
 
   -- where nothing is opened and no mark is placed
   pub rows_stay : Controls z words w → ((u : ℕ) → u < z.workers → w.next_number u ≤ z.entry_room)
       → ((u : ℕ) → v.next_number u ≡ w.next_number u) → ((d : Ref) → IsOpened (v.control d) → IsOpened (w.control d))
       → ((x : Ref) → IsUsed v x → IsUsed w x)
-      → ((q : Part) → IsFixed z w q → word_at z then q ≡ word_at z words q) → RowWords z words w → RowWords z then v
-  rows_stay c room numbers back fewer same r = record {
+      → ((q : Part) → IsFixed z w q → word_at z then q ≡ word_at z words q) → MarksStay z words then w
+      → ((j : ℕ) (x : Ref) → j < cell_count z → v.cell j ≡ mark x → Stands z then x) → RowWords z words w → RowWords z then v
+  rows_stay c room numbers back fewer same marks placed r = record {
     descs = λ d o. let h = back d o in let here = c.descs d h in
         desc_row_stays d here h (room d.worker here.0) (let e = numbers d.worker in omega arith) same (r.descs d h);
-    marks = λ x u. let h = fewer x u in mark_row_stays x h same (r.marks x h);
+    are_marks = λ x u. r.are_marks x (fewer x u);
+    marks = λ x u. mark_row_stays marks r x (fewer x u);
+    placed = placed;
   }
 
-  -- what is kept of a worker, but for its Side
-  pub kept_stays : (s t : Side) (u : ℕ) (k : View) (x : Side) → v.next_number u ≡ w.next_number u
+  -- what is kept of a worker, but for its Side and the words that it read in the rows of marks
+  pub kept_stays : (s t : Side) (u : ℕ) (k : View) (x : Side) (rs : List Raw) → v.next_number u ≡ w.next_number u
       → v.marks_used u ≡ w.marks_used u
       → ((n : ℕ) → IsOpened (v.control (record { worker = u; number = n })) → IsOpened (w.control (record { worker = u; number = n })))
-      → ((q : Part) → IsOwn z u q → word_at z then q ≡ word_at z words q) → x ≡ erased t
+      → ((q : Part) → IsOwn z u q → word_at z then q ≡ word_at z words q)
+      → ((r : Raw) → In r rs → IsRaw z then v r) → x ≡ erased t
       → ((o : OwnDesc) → In o k.opened
       → (x.current ≡ Some o.number) ⊎ ((r : Control) × In (decided (record { worker = u; number = o.number }) r) x.notes))
-      → Kept z words w s u k → Kept z then v t u (record k { side = x })
-  kept_stays s t u k x numbers marks back same side_is over h = record {
+      → Kept z words w s u k → Kept z then v t u (record k { side = x; raw = rs })
+  kept_stays s t u k x rs numbers marks back same raw side_is over h = record {
     worker = h.worker;
     still = h.still;
     side_is = side_is;
@@ -89,6 +115,7 @@ module _ (z : Shape) (words then : List ℕ) (w v : World) (l : Steady w v) wher
     marks_used = h.marks_used ∙ sym marks;
     mark_room = h.mark_room;
     written = λ q i. same q i ∙ h.written q i;
+    raw = raw;
     opened = λ o i. let d : Ref = record { worker = u; number = o.number } in let t = h.opened o i in record {
       opened = l.opened d t.opened;
       size = l.size d t.opened ∙ t.size;

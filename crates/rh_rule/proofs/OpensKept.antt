@@ -26,7 +26,7 @@ use Rattle.rh_rule.proofs.CellsKept.{rule_at, steady_at}
 use Rattle.rh_rule.proofs.DecidesKept.{controls_new}
 use Rattle.rh_rule.proofs.Erasing.{erased_entries}
 use Rattle.rh_rule.proofs.Kept.{desc_row_stays, mark_row_stays, mirrors, numbers_within}
-use Rattle.rh_rule.proofs.Touched.{cells_same, counter_same, fixed_same, others_stay, own_same, set_sized}
+use Rattle.rh_rule.proofs.Touched.{cells_same, counter_same, fixed_same, marks_same, others_stay, own_same, placed_same, raw_same, set_sized}
 
 -- the entries that the rows say
 pub entries_length : (rows : List Written) (place n : ℕ) → length (entries_at rows place n) ≡ n
@@ -204,6 +204,7 @@ module _ (z : Shape) (shape : IsShape z) (words : List ℕ) (keep : ℕ → View
     marks_used = h.marks_used;
     mark_room = h.mark_room;
     written = written;
+    raw = λ r i. raw_same z words keep w side m p here (number_of undecided) v l (λ o. o) r (h.raw r i);
     opened = λ o i. ⊎_elim
         (λ (e : o ≡ record { number = k.next_number; entries = es }).
         subst (λ (y : OwnDesc). IsOpenedSo v (record { worker = who; number = y.number }) y) (sym e)
@@ -247,9 +248,11 @@ module _ (z : Shape) (shape : IsShape z) (words : List ℕ) (keep : ℕ → View
             record {
               descs = λ f o. ⊎_elim (λ (e : f ≡ d). subst (λ (x : Ref). DescRow z then v x) (sym e) new_row)
                   (λ (o : IsOpened (w.control f)). let at = m.controls.descs f o in desc_row_stays z words then w v l f at o (numbers_within z words keep w side m f.worker at.0) (more f.worker) (fixed_same z words keep w side m p here (number_of undecided) v l (λ i. i)) (m.rows.descs f o)) (opened_or f o);
-              marks = λ y u. mark_row_stays z words then w v l y u (fixed_same z words keep w side m p here (number_of undecided) v l (λ i. i)) (m.rows.marks y u);
+              are_marks = m.rows.are_marks;
+              marks = mark_row_stays z words then w v l (marks_same z words keep w side m p here (number_of undecided) v l (λ o. o)) m.rows;
+              placed = placed_same z words keep w side m p here (number_of undecided) v l (λ o. o) (λ j i q. q);
             }
             kept
             (others_stay z words keep w side m p here (number_of undecided) v l who (λ u ne. updated_else w.next_number who u (w.next_number who + es_of.size) ne) (λ u ne. refl)
-            (λ f ne o. ⊎_elim (λ e. absurd (ne (number_or f e))) (λ o. o) (opened_or f o)) (λ u ne o. o));
+            (λ f ne o. ⊎_elim (λ e. absurd (ne (number_or f e))) (λ o. o) (opened_or f o)) (λ u ne o. o) (marks_same z words keep w side m p here (number_of undecided) v l (λ o. o)));
       }))

@@ -12,19 +12,20 @@ use Rattle.rh_world.proofs.Updated.{ref_path, same_nat, updated_at, updated_else
 use Rattle.rh_descriptor.specs.declared.shape.Shape.{Shape}
 use Rattle.rh_descriptor.specs.declared.shape.Part.{Part}
 use Rattle.rh_descriptor.specs.declared.shape.Part.TheVariants as part
-use Rattle.rh_descriptor.specs.Places.{IsShape, cell_count}
+use Rattle.rh_descriptor.specs.Places.{IsShape}
 use Rattle.rh_descriptor.specs.View.{View}
 use Rattle.rh_descriptor.specs.Words.{IsPlain, cell_in, desc_number, mark_number}
-use Rattle.rh_descriptor.specs.Steps.{CanPlace, Step, noted, own_mark, row_word, swapped}
+use Rattle.rh_descriptor.specs.Steps.{CanPlace, IsMark, Step, noted, own_mark, swapped}
 use Rattle.rh_rule.specs.Erased.{erased}
-use Rattle.rh_rule.specs.Mirrors.{Kept, MarkRow, word_at, Mirrors}
+use Rattle.rh_rule.specs.Mirrors.{IsCell, Kept, MarkRow, Stands, Mirrors}
 use Rattle.rh_rule.specs.Core.{Core}
+use Rattle.rh_rule.proofs.Frames.{word_same}
 use Rattle.rh_rule.proofs.CellsKept.{Over, cell_found, cells_new, rule_at, steady_at, still_step}
 use Rattle.rh_rule.proofs.Erasing.{erased_place}
 use Rattle.rh_rule.proofs.Kept.{Grows, desc_row_stays, mark_row_stays, mirrors, numbers_within, over_grows}
 use Rattle.rh_rule.proofs.ReadsKept.{grows_note, known_note, true_note, work_known}
 use Rattle.rh_rule.proofs.Said.{plain_test}
-use Rattle.rh_rule.proofs.Touched.{controls_same, counter_same, fixed_same, others_stay, own_same, set_sized}
+use Rattle.rh_rule.proofs.Touched.{controls_same, counter_same, fixed_same, mark_word_same, marks_same, others_stay, own_same, raw_same, set_sized}
 
 grows_place : (s : Side) (x d : Ref) (e c old : ℕ) (n : Cell) → Grows s (place_noted s x d e c old n 0)
 grows_place s x d e c old (plain u) = either (eqb u old)
@@ -95,26 +96,27 @@ module _ (z : Shape) (shape : IsShape z) (words : List ℕ) (keep : ℕ → View
   abbrev then : List ℕ
   then = set words c (mark_number x)
 
+  abbrev p : Part
+  p = part.Cell c
+
+  is_mark : IsMark z x
+  is_mark = (mine, subst (λ (n : ℕ). n < z.mark_room) h.marks_used can.room)
+
   -- the row of the mark was written before
+  stands : Stands z then x
+  stands = word_same z words p (mark_number x) can.cell (part.MarkSerial who) mine (λ q. cc) ∙ h.written (part.MarkSerial who) refl ∙ can.serial ∙ h.marks_used
+
   new_row : MarkRow z then v x
-  new_row =
-      let is : k.marks_used ≡ w.marks_used who = h.marks_used in
-      let room : w.marks_used who < z.mark_room = subst (λ (n : ℕ). n < z.mark_room) is can.room in
-      let p : Part = part.Cell c in
-      let desc_word : word_at z words (part.MarkDesc who (w.marks_used who)) ≡ desc_number d = h.written (part.MarkDesc who (w.marks_used who)) (refl, room) ∙ ap (λ (n : ℕ). row_word k.written (Rattle.rh_descriptor.specs.Places.mark_row z n 0)) (sym is) ∙ can.desc in
-      let entry_word : word_at z words (part.MarkEntry who (w.marks_used who)) ≡ e = h.written (part.MarkEntry who (w.marks_used who)) (refl, room) ∙ ap (λ (n : ℕ). row_word k.written (Rattle.rh_descriptor.specs.Places.mark_row z n 1)) (sym is) ∙ can.entry in
-      record {
-        is_mark = (mine, room);
-        desc = Rattle.rh_rule.proofs.Frames.word_same z words p (mark_number x) can.cell (part.MarkDesc who (w.marks_used who)) (mine, room) (λ q. cc) ∙ desc_word ∙ ap desc_number (sym (updated_ref_here w.mark_desc x x d refl));
-        entry = Rattle.rh_rule.proofs.Frames.word_same z words p (mark_number x) can.cell (part.MarkEntry who (w.marks_used who)) (mine, room) (λ q. cc) ∙ entry_word ∙ sym (updated_ref_here w.mark_entry x x e refl);
-      }
+  new_row = record {
+    desc = word_same z words p (mark_number x) can.cell (part.MarkDesc who) mine (λ q. cc) ∙ h.written (part.MarkDesc who) refl ∙ can.desc ∙ ap desc_number (sym (updated_ref_here w.mark_desc x x d refl));
+    entry = word_same z words p (mark_number x) can.cell (part.MarkEntry who) mine (λ q. cc) ∙ h.written (part.MarkEntry who) refl ∙ can.entry ∙ sym (updated_ref_here w.mark_entry x x e refl);
+  }
 
   placed : is_plain (w.cell c) old ≡ true
       → Core (world_after w who (places d e)) z then (updated keep who (record k { side = place_noted k.side (own_mark k) d e c old (cell_in word) 0; marks_used = suc k.marks_used }))
   placed same_word =
       let same : world_after w who (places d e) ≡ v = ap (λ (b : Bool). cond b v w) same_word in
       let l : Steady w v = steady_at z shape words keep w side rule m who mine (places d e) may v same in
-      let p : Part = part.Cell c in
       let s : Side = side_after w t who (places d e) in
       let k' : View = record k { side = place_noted k.side (own_mark k) d e c old (cell_in word) 0; marks_used = suc k.marks_used } in
       let n : ℕ = mark_number x in
@@ -126,13 +128,21 @@ module _ (z : Shape) (shape : IsShape z) (words : List ℕ) (keep : ℕ → View
         mirrors = mirrors z words then keep w v side m l who mine s k'
             (set_sized z words keep w side m p can.cell n v l)
             (counter_same z words keep w side m p can.cell n v l (λ q. cc) refl)
-            (cells_new z shape words keep w side rule m who mine c (mark x) v can.cell new_row.is_mark (λ j. refl))
+            (cells_new z shape words keep w side rule m who mine c (mark x) v can.cell is_mark (λ j. refl))
             (controls_same z words keep w side m p can.cell n v l (λ a b q. cc) (λ f. refl))
             record {
               descs = λ f o. let here = m.controls.descs f o in
                   desc_row_stays z words then w v l f here o (numbers_within z words keep w side m f.worker here.0) (omega arith) (fixed_same z words keep w side m p can.cell n v l (λ i. i)) (m.rows.descs f o);
-              marks = λ y u. ⊎_elim (λ (q : y ≡ x). subst (λ (i : Ref). MarkRow z then v i) (sym q) new_row)
-                  (λ (u : IsUsed w y). mark_row_stays z words then w v l y u (fixed_same z words keep w side m p can.cell n v l (λ i. i)) (m.rows.marks y u)) (used_or y u);
+              are_marks = λ y u. ⊎_elim (λ (q : y ≡ x). subst (λ (i : Ref). IsMark z i) (sym q) is_mark) (m.rows.are_marks y) (used_or y u);
+              marks = λ y u here. ⊎_elim (λ (q : y ≡ x). subst (λ (i : Ref). MarkRow z then v i) (sym q) new_row)
+                  (λ (u : IsUsed w y). mark_row_stays z words then w v l (marks_same z words keep w side m p can.cell n v l (λ o. o)) m.rows y u here) (used_or y u);
+              placed = λ j y lt q. ⊎_elim
+                  (λ (r : (j ≡ c) × (updated w.cell c (mark x) j ≡ mark x)). let same : x ≡ y = (let i : mark x ≡ mark y = sym r.1 ∙ q in cc) in subst (λ (i : Ref). Stands z then i) same stands)
+                  (λ (r : (j ≢ c) × (updated w.cell c (mark x) j ≡ w.cell j)).
+                  let before : w.cell j ≡ mark y = sym r.1 ∙ q in
+                  let here : IsMark z y = subst (λ (i : Cell). IsCell z i) before (m.cells.standing j lt) in
+                  mark_word_same z words keep w side m p can.cell n v l (λ o. o) (part.MarkSerial y.worker) here.0 tt ∙ m.rows.placed j y lt before)
+                  (updated_at w.cell c j (mark x));
             }
             record {
               worker = h.worker;
@@ -144,12 +154,13 @@ module _ (z : Shape) (shape : IsShape z) (words : List ℕ) (keep : ℕ → View
               marks_used = ap suc used ∙ sym marks_now;
               mark_room = omega arith;
               written = λ q i. own_same z words keep w side m p can.cell n v l who mine (λ o. o) q i ∙ h.written q i;
+              raw = λ r i. raw_same z words keep w side m p can.cell n v l (λ o. o) r (h.raw r i);
               opened = λ o i. let r = h.opened o i in record { opened = r.opened; size = r.size; targets = r.targets; olds = r.olds; news = r.news };
               all = h.all;
               falling = h.falling;
               over = over;
             }
-            (others_stay z words keep w side m p can.cell n v l who (λ u ne. refl) (λ u ne. updated_else w.marks_used who u (suc (w.marks_used who)) ne) (λ f ne o. o) (λ u ne o. o));
+            (others_stay z words keep w side m p can.cell n v l who (λ u ne. refl) (λ u ne. updated_else w.marks_used who u (suc (w.marks_used who)) ne) (λ f ne o. o) (λ u ne o. o) (marks_same z words keep w side m p can.cell n v l (λ o. o)));
       }
 
   place_here : Core (world_after w who (places d e)) z (set words c (swapped old (mark_number (own_mark k)) word)) (updated keep who (noted z k (Step.places d e c old) word))

@@ -16,6 +16,7 @@ use Rattle.rh_descriptor.specs.declared.reference.Reading.{Reading}
 use Rattle.rh_descriptor.specs.declared.reference.Reading.TheVariants as reading
 use Rattle.rh_descriptor.specs.Places.{IsShape, cell_count}
 use Rattle.rh_descriptor.specs.View.{OwnDesc, View}
+use Rattle.rh_descriptor.specs.View.MarkWord.{desc_word}
 use Rattle.rh_descriptor.specs.Words.{cell_in, desc_in, read_control, ref_of}
 use Rattle.rh_descriptor.specs.Steps.{IsDesc, IsKnown, IsNoted, IsRead, IsStep, Step, place, place_read, row_of, row_word}
 use Rattle.rh_rule.specs.Mirrors.{DescRow, IsCell, IsOpenedSo, IsOwn, Kept, Mirrors, numbers_of, word_at}
@@ -94,7 +95,7 @@ module _ (z : Shape) (shape : IsShape z) (words : List ℕ) (keep : ℕ → View
     marks = λ x c i.
         let q = true_note z shape words keep w side rule m who mine (found x c) tt refl i in
         let o = rule.rows.used x q.0 in
-        ((m.rows.marks x q.0).is_mark, subst (λ (n : ℕ). n < cell_count z) q.1 ((m.rows.descs (w.mark_desc x) o.0).within (w.mark_entry x) o.1));
+        (m.rows.are_marks x q.0, subst (λ (n : ℕ). n < cell_count z) q.1 ((m.rows.descs (w.mark_desc x) o.0).within (w.mark_entry x) o.1));
     marked = λ d e i.
         let o = mark_known z shape words keep w side rule m who mine d e i in
         let at = m.controls.descs d o.0 in
@@ -139,10 +140,11 @@ module _ (z : Shape) (shape : IsShape z) (words : List ℕ) (keep : ℕ → View
   reads_find (reading.EntryCell d e) here may = tt
   reads_find (reading.EntryOld d e) here may = tt
   reads_find (reading.EntryNew d e) here may = tt
-  reads_find (reading.MarkDesc x) here may =
-      let f = true_note z shape words keep w side rule m who mine (found (ref_of x) may.0) tt refl may.1 in
+  reads_find (reading.MarkSerial x) here may = λ u stands i.
+      let r = h.raw record { mark = ref_of x; word = desc_word u } i in
       let d : Ref = w.mark_desc (ref_of x) in
-      (d, ap desc_in (m.rows.marks (ref_of x) f.0).desc ∙ desc_said_is z shape d (m.controls.descs d (rule.rows.used (ref_of x) f.0).0))
+      (d, ap desc_in (r.said stands) ∙ desc_said_is z shape d (m.controls.descs d (rule.rows.used (ref_of x) r.used).0))
+  reads_find (reading.MarkDesc x) here may = tt
   reads_find (reading.MarkEntry x) here may = tt
 
   pub finds : (s : Step) → IsStep z v s → Finds z v s (get_or words (place z v s) 0)

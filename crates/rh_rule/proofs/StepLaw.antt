@@ -5,7 +5,7 @@ use Rattle.rh_world.specs.World.{World, updated}
 use Rattle.rh_descriptor.specs.declared.shape.Shape.{Shape}
 use Rattle.rh_descriptor.specs.Places.{IsShape}
 use Rattle.rh_descriptor.specs.View.{View}
-use Rattle.rh_descriptor.specs.Steps.{IsStep, Step, noted, place, place_read, read_noted, word_after}
+use Rattle.rh_descriptor.specs.Steps.{IsStep, Step, noted, place, place_read, read_view, word_after}
 use Rattle.rh_rule.specs.Core.{Core, EachStepKeeps, world_then}
 use Rattle.rh_rule.proofs.CellsKept.{keeps_release, keeps_settle}
 use Rattle.rh_rule.proofs.DecidesKept.{keeps_decide}
@@ -21,7 +21,7 @@ step_keeps : (w : World) (z : Shape) (words : List ℕ) (keep : ℕ → View) (w
 step_keeps w z words keep who (Step.writes p u) shape core mine may = keeps_write z shape words keep w core.side core.rule core.mirrors who mine p u may
 step_keeps w z words keep who (Step.opens size) shape core mine may = keeps_open z shape words keep w core.side core.rule core.mirrors who mine size may
 step_keeps w z words keep who (Step.reads r) shape core mine may =
-    subst (λ (ws : List ℕ). Core w z ws (updated keep who (record (keep who) { side = read_noted (keep who) r (get_or words (place_read z r) 0) }))) (sym (set-get_or words (place_read z r) 0))
+    subst (λ (ws : List ℕ). Core w z ws (updated keep who (read_view (keep who) r (get_or words (place_read z r) 0)))) (sym (set-get_or words (place_read z r) 0))
     (keeps_read z shape words keep w core.side core.rule core.mirrors who mine r may.0 may.1 (get_or words (place_read z r) 0) refl)
 step_keeps w z words keep who (Step.places d e c old) shape core mine may = keeps_place z shape words keep w core.side core.rule core.mirrors who mine d e c old may
 step_keeps w z words keep who (Step.settles x c d e old) shape core mine may = keeps_settle z shape words keep w core.side core.rule core.mirrors who mine x c d e old may

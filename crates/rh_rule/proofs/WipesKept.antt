@@ -17,7 +17,7 @@ use Rattle.rh_descriptor.specs.Places.{cell_count, entry_row, place_of, row_coun
 use Rattle.rh_descriptor.specs.View.{View, Wiping, new_view, round_view}
 use Rattle.rh_descriptor.specs.Words.{IsPlain}
 use Rattle.rh_descriptor.specs.Steps.{row_of}
-use Rattle.rh_descriptor.proofs.PlaceLemmas.{entry_inside, mark_inside}
+use Rattle.rh_descriptor.proofs.PlaceLemmas.{entry_inside}
 use Rattle.rh_rule.specs.Mirrors.{IsCell, IsOwn, Kept, cell_number, word_at}
 use Rattle.rh_rule.specs.Core.{Core, Ruled}
 use Rattle.rh_rule.specs.Rest.{AllRest}
@@ -36,18 +36,19 @@ row_number z p v lt own =
     below : (p : Part) → IsOwn z v p → row_of z p < row_count z
     below (part.Cell c) o = absurd o
     below (part.Control worker n) o = absurd o
-    below (part.Length worker n) o = entry_inside z.entry_room z.mark_room n 1 o.1 (omega arith)
-    below (part.EntryCell worker n) o = entry_inside z.entry_room z.mark_room n 2 o.1 (omega arith)
-    below (part.EntryOld worker n) o = entry_inside z.entry_room z.mark_room n 3 o.1 (omega arith)
-    below (part.EntryNew worker n) o = entry_inside z.entry_room z.mark_room n 4 o.1 (omega arith)
-    below (part.MarkDesc worker n) o = mark_inside z.entry_room z.mark_room n 0 o.1 (omega arith)
-    below (part.MarkEntry worker n) o = mark_inside z.entry_room z.mark_room n 1 o.1 (omega arith)
+    below (part.Length worker n) o = entry_inside z.entry_room n 1 o.1 (omega arith)
+    below (part.EntryCell worker n) o = entry_inside z.entry_room n 2 o.1 (omega arith)
+    below (part.EntryOld worker n) o = entry_inside z.entry_room n 3 o.1 (omega arith)
+    below (part.EntryNew worker n) o = entry_inside z.entry_room n 4 o.1 (omega arith)
+    below (part.MarkSerial worker) o = omega arith
+    below (part.MarkDesc worker) o = omega arith
+    below (part.MarkEntry worker) o = omega arith
     below part.Counter o = absurd o
 
 control_number : (z : Shape) (worker n : ℕ) → worker < z.workers → n < z.entry_room
     → (i : ℕ) × (i < row_total z) × (place_of z (part.Control worker n) ≡ cell_count z + i)
 control_number z worker n lt room =
-    let h = mul-add-lt worker (row_count z) (entry_row n 0) z.workers lt (entry_inside z.entry_room z.mark_room n 0 room (omega arith)) in
+    let h = mul-add-lt worker (row_count z) (entry_row n 0) z.workers lt (entry_inside z.entry_room n 0 room (omega arith)) in
     (worker * row_count z + entry_row n 0, omega (arith, h), refl)
 
 -- it meets the rule, with these cells as its opening cells
@@ -78,7 +79,12 @@ fresh z words opening keep before sized cells plain_cells zeros s workers is =
             failures = λ d e q. absurd (failed_opened w d e q refl);
             withdrawals = λ d q. cc;
           };
-          rows = record { descs = λ d o. absurd (o refl); marks = λ x u. absurd (omega arith) };
+          rows = record {
+            descs = λ d o. absurd (o refl);
+            are_marks = λ x u. absurd (omega arith);
+            marks = λ x u here. absurd (omega arith);
+            placed = λ c x lt q. cc;
+          };
           kept = λ v lt. subst (λ (k : View). Kept z words w (side v) v k) (sym (is v lt)) record {
             worker = workers v lt;
             still = refl;
@@ -89,6 +95,7 @@ fresh z words opening keep before sized cells plain_cells zeros s workers is =
             marks_used = refl;
             mark_room = omega arith;
             written = λ p o. let i = row_number z p v lt o in ap (λ (n : ℕ). get_or words n 0) i.2 ∙ zeros i.0 i.1;
+            raw = λ r i. absurd i;
             opened = λ o i. absurd i;
             all = λ n o. absurd (o refl);
             falling = tt;

@@ -11,7 +11,8 @@ use Rattle.rh_descriptor.specs.declared.shape.Shape.{Shape}
 use Rattle.rh_descriptor.specs.declared.shape.Part.{Part}
 use Rattle.rh_descriptor.specs.declared.shape.Part.TheVariants as part
 use Rattle.rh_descriptor.specs.Places.{cell_count, place_of, word_count}
-use Rattle.rh_descriptor.specs.View.{OwnDesc, View}
+use Rattle.rh_descriptor.specs.View.{MarkWord, OwnDesc, Raw, View}
+use Rattle.rh_descriptor.specs.View.MarkWord.{desc_word, entry_word}
 use Rattle.rh_descriptor.specs.Words.{IsPlain, mark_number, desc_number, number_of}
 use Rattle.rh_descriptor.specs.Steps.{IsDesc, IsMark, row_of, row_word, entry_of}
 use Rattle.rh_rule.specs.Erased.{erased}
@@ -53,15 +54,27 @@ pub record DescRow (z : Shape) (words : List ℕ) (w : World) (d : Ref) : Type 0
   pub some : 0 < w.size d
   pub room : d.number + w.size d ≤ w.next_number d.worker
 
+-- the mark row of its worker is of x
+abbrev pub Stands : Shape → List ℕ → Ref → Type 0
+Stands z words x = word_at z words (part.MarkSerial x.worker) ≡ x.number
+
+-- what a word of the row of x says of x
+abbrev pub IsSaid : World → Ref → MarkWord → Type 0
+IsSaid w x (desc_word u) = u ≡ desc_number (w.mark_desc x)
+IsSaid w x (entry_word u) = u ≡ w.mark_entry x
+
 -- the row of a used mark
 pub record MarkRow (z : Shape) (words : List ℕ) (w : World) (x : Ref) : Type 0 where
-  pub is_mark : IsMark z x
-  pub desc : word_at z words (part.MarkDesc x.worker x.number) ≡ desc_number (w.mark_desc x)
-  pub entry : word_at z words (part.MarkEntry x.worker x.number) ≡ w.mark_entry x
+  pub desc : IsSaid w x (desc_word (word_at z words (part.MarkDesc x.worker)))
+  pub entry : IsSaid w x (entry_word (word_at z words (part.MarkEntry x.worker)))
 
+-- A mark has its worker's mark row until the number of the next one is written there, and that is not done while it stands
+-- in a cell.
 pub record RowWords (z : Shape) (words : List ℕ) (w : World) : Type 0 where
   pub descs : (d : Ref) → IsOpened (w.control d) → DescRow z words w d
-  pub marks : (x : Ref) → IsUsed w x → MarkRow z words w x
+  pub are_marks : (x : Ref) → IsUsed w x → IsMark z x
+  pub marks : (x : Ref) → IsUsed w x → Stands z words x → MarkRow z words w x
+  pub placed : (c : ℕ) (x : Ref) → c < cell_count z → w.cell c ≡ mark x → Stands z words x
 
 -- a part of the rows of worker v that v alone writes
 abbrev pub IsOwn : Shape → (v : ℕ) → Part → Type 0
@@ -71,8 +84,9 @@ IsOwn z v (part.Length worker entry) = (worker ≡ v) × (entry < z.entry_room)
 IsOwn z v (part.EntryCell worker entry) = (worker ≡ v) × (entry < z.entry_room)
 IsOwn z v (part.EntryOld worker entry) = (worker ≡ v) × (entry < z.entry_room)
 IsOwn z v (part.EntryNew worker entry) = (worker ≡ v) × (entry < z.entry_room)
-IsOwn z v (part.MarkDesc worker n) = (worker ≡ v) × (n < z.mark_room)
-IsOwn z v (part.MarkEntry worker n) = (worker ≡ v) × (n < z.mark_room)
+IsOwn z v (part.MarkSerial worker) = worker ≡ v
+IsOwn z v (part.MarkDesc worker) = worker ≡ v
+IsOwn z v (part.MarkEntry worker) = worker ≡ v
 IsOwn z v part.Counter = ⊥
 
 -- a descriptor that is kept as opened has these entries in the world
@@ -86,6 +100,11 @@ pub record IsOpenedSo (w : World) (d : Ref) (o : OwnDesc) : Type 0 where
 abbrev pub numbers_of : List OwnDesc → List ℕ
 numbers_of opened = map (λ o. o.number) opened
 
+-- A word that was read in the row of a mark says of it what the row says, as long as the row is of it.
+pub record IsRaw (z : Shape) (words : List ℕ) (w : World) (r : Raw) : Type 0 where
+  pub used : IsUsed w r.mark
+  pub said : Stands z words r.mark → IsSaid w r.mark r.word
+
 -- what is kept of worker v
 pub record Kept (z : Shape) (words : List ℕ) (w : World) (side : Side) (v : ℕ) (k : View) : Type 0 where
   pub worker : k.worker ≡ v
@@ -97,6 +116,7 @@ pub record Kept (z : Shape) (words : List ℕ) (w : World) (side : Side) (v : �
   pub marks_used : k.marks_used ≡ w.marks_used v
   pub mark_room : k.marks_used ≤ z.mark_room
   pub written : (p : Part) → IsOwn z v p → word_at z words p ≡ row_word k.written (row_of z p)
+  pub raw : (r : Raw) → In r k.raw → IsRaw z words w r
   -- its opened descriptors, each of which is open or noted as decided
   pub opened : (o : OwnDesc) → In o k.opened → IsOpenedSo w (record { worker = v; number = o.number }) o
   pub all : (n : ℕ) → IsOpened (w.control (record { worker = v; number = n })) → In n (numbers_of k.opened)

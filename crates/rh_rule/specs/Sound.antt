@@ -12,6 +12,7 @@ use Rattle.rh_descriptor.specs.declared.reference.Reading.{Reading}
 use Rattle.rh_descriptor.specs.declared.reference.Reading.TheVariants as reading
 use Rattle.rh_descriptor.specs.Places.{IsShape, cell_count, entry_row, place_of}
 use Rattle.rh_descriptor.specs.View.{OwnDesc, View}
+use Rattle.rh_descriptor.specs.View.MarkWord.{desc_word}
 use Rattle.rh_descriptor.specs.Words.{IsPlain, cell_in, desc_in, read_control, ref_of}
 use Rattle.rh_descriptor.specs.Steps.{Allowed, IsDesc, IsKnown, IsMark, KnowsMark, Step, entry_of, place, row_of, row_word}
 use Rattle.rh_rule.specs.Mirrors.{IsCell, IsOwn}
@@ -64,7 +65,8 @@ Reads z v (reading.Length d) word = Unit {0}
 Reads z v (reading.EntryCell d e) word = Unit {0}
 Reads z v (reading.EntryOld d e) word = Unit {0}
 Reads z v (reading.EntryNew d e) word = Unit {0}
-Reads z v (reading.MarkDesc x) word = (d : Ref) × (desc_in word ≡ Some d)
+Reads z v (reading.MarkSerial x) word = (u : ℕ) → word ≡ x.number → In (record { mark = ref_of x; word = desc_word u }) v.raw → (d : Ref) × (desc_in u ≡ Some d)
+Reads z v (reading.MarkDesc x) word = Unit {0}
 Reads z v (reading.MarkEntry x) word = Unit {0}
 
 -- what a step of a worker finds, of whom this was kept before

@@ -2,7 +2,7 @@ use rh_descriptor::*;
 use rh_tagword::Control;
 use std::test::*;
 
-// Two workers with eight places for entries and eight marks each: 56 words of rows a worker.
+// Two workers with eight places for entries and a mark row each: 43 words of rows a worker.
 const SHAPE: Shape = Shape {
     bits: 3,
     workers: 2,
@@ -14,20 +14,21 @@ const SHAPE: Shape = Shape {
 #[test]
 fn each_part_has_its_place(rt: HostRuntime) -> Result<(), Fail> {
     assert_eq!(rt; SHAPE.cells(), 8);
-    assert_eq!(rt; SHAPE.words(), 121);
+    assert_eq!(rt; SHAPE.words(), 95);
     assert_eq!(rt; SHAPE.place(Part::Cell(7)), 7);
-    for (worker, entry, first) in [(0, 0, 8), (0, 7, 43), (1, 0, 64), (1, 7, 99)] {
+    for (worker, entry, first) in [(0, 0, 8), (0, 7, 43), (1, 0, 51), (1, 7, 86)] {
         assert_eq!(rt; SHAPE.place(Part::Control { worker, entry }), first);
         assert_eq!(rt; SHAPE.place(Part::Length { worker, entry }), first + 1);
         assert_eq!(rt; SHAPE.place(Part::EntryCell { worker, entry }), first + 2);
         assert_eq!(rt; SHAPE.place(Part::EntryOld { worker, entry }), first + 3);
         assert_eq!(rt; SHAPE.place(Part::EntryNew { worker, entry }), first + 4);
     }
-    for (worker, mark, first) in [(0, 0, 48), (0, 7, 62), (1, 0, 104), (1, 7, 118)] {
-        assert_eq!(rt; SHAPE.place(Part::MarkDesc { worker, mark }), first);
-        assert_eq!(rt; SHAPE.place(Part::MarkEntry { worker, mark }), first + 1);
+    for (worker, first) in [(0, 48), (1, 91)] {
+        assert_eq!(rt; SHAPE.place(Part::MarkSerial { worker }), first);
+        assert_eq!(rt; SHAPE.place(Part::MarkDesc { worker }), first + 1);
+        assert_eq!(rt; SHAPE.place(Part::MarkEntry { worker }), first + 2);
     }
-    assert_eq!(rt; SHAPE.place(Part::Counter), 120);
+    assert_eq!(rt; SHAPE.place(Part::Counter), 94);
     Ok(())
 }
 
@@ -38,25 +39,25 @@ fn the_words_can_be_counted(rt: HostRuntime) -> Result<(), Fail> {
         bits: 18,
         workers: MAX_WORKERS,
         entry_room: MAX_ROOM,
-        mark_room: MAX_ROOM,
+        mark_room: MAX_MARKS,
         keys: 1_000_000,
     };
-    assert_eq!(rt; shape.words(), 117_702_657);
+    assert_eq!(rt; shape.words(), 84_148_273);
     Ok(())
 }
 
 #[test]
 fn a_claim_takes_the_next_place(rt: HostRuntime) -> Result<(), Fail> {
-    let mut words = [0u64; 121];
+    let mut words = [0u64; 95];
     let mut side = Side::new(1, &[0; 8]);
     assert_eq!(rt; make_step(&SHAPE, &mut words, &mut side, Ask::Claim), 0);
-    assert_eq!(rt; words[120], 1);
+    assert_eq!(rt; words[94], 1);
     Ok(())
 }
 
 #[test]
 fn a_word_of_an_own_row_is_written_and_read(rt: HostRuntime) -> Result<(), Fail> {
-    let mut words = [0u64; 121];
+    let mut words = [0u64; 95];
     let mut side = Side::new(1, &[0; 8]);
     let part = Part::EntryOld {
         worker: 1,
@@ -64,8 +65,8 @@ fn a_word_of_an_own_row_is_written_and_read(rt: HostRuntime) -> Result<(), Fail>
     };
     let write = Ask::Write { part, word: 40 };
     assert_eq!(rt; make_step(&SHAPE, &mut words, &mut side, write), 0);
-    assert_eq!(rt; words[102], 40);
-    let read = Ask::Read(Reading::Place(102));
+    assert_eq!(rt; words[89], 40);
+    let read = Ask::Read(Reading::Place(89));
     assert_eq!(rt; make_step(&SHAPE, &mut words, &mut side, read), 40);
     Ok(())
 }
@@ -73,7 +74,7 @@ fn a_word_of_an_own_row_is_written_and_read(rt: HostRuntime) -> Result<(), Fail>
 // Cell 4 goes from empty to key 1, by one worker alone.
 #[test]
 fn one_worker_changes_one_cell(rt: HostRuntime) -> Result<(), Fail> {
-    let mut words = [0u64; 121];
+    let mut words = [0u64; 95];
     let mut side = Side::new(0, &[0; 8]);
     let (worker, entry) = (0, 0);
     let write = Ask::Write {
@@ -107,12 +108,17 @@ fn one_worker_changes_one_cell(rt: HostRuntime) -> Result<(), Fail> {
         cell: 4,
     };
     let write = Ask::Write {
-        part: Part::MarkDesc { worker: 0, mark: 0 },
+        part: Part::MarkSerial { worker: 0 },
+        word: 0,
+    };
+    make_step(&SHAPE, &mut words, &mut side, write);
+    let write = Ask::Write {
+        part: Part::MarkDesc { worker: 0 },
         word: 2,
     };
     make_step(&SHAPE, &mut words, &mut side, write);
     let write = Ask::Write {
-        part: Part::MarkEntry { worker: 0, mark: 0 },
+        part: Part::MarkEntry { worker: 0 },
         word: 0,
     };
     make_step(&SHAPE, &mut words, &mut side, write);
