@@ -1,12 +1,12 @@
 -- What a step that is no Release leaves of a Side, and that it notes more.
-use Rattle.std.proofs.Common.{◌≡◌, ℕ, Bool, true, false, eqb, refl, inr}
+use Rattle.std.proofs.Common.{◌≡◌, ℕ, Bool, true, false, List, [], ◌∷◌, eqb, refl, inr}
 use Rattle.rh_world.specs.World.{Cell, Control, In, Ref, is_ref}
 use Rattle.rh_world.specs.World.Cell.{desc, mark, plain}
 use Rattle.rh_world.specs.World.Control.{failed, succeeded, undecided, unused, withdrawn}
 use Rattle.rh_world.specs.Notes.{Note}
 use Rattle.rh_world.specs.Notes.Note.{decided, found, held, known, mismatch}
 use Rattle.rh_world.specs.Sides.{Side, note_side}
-use Rattle.rh_world.specs.Moves.{control_noted, mark_noted, place_noted, placed_noted, settle_noted}
+use Rattle.rh_world.specs.Moves.{control_noted, mark_noted, note_all, place_noted, placed_noted, settle_noted}
 use Rattle.rh_world.proofs.Tests.{by_cond}
 
 pub record More (s t : Side) : Type 0 where
@@ -21,6 +21,10 @@ more_none s = record { current = refl; released = refl; reads = refl; claims = r
 
 pub more_note : (s : Side) (n : Note) → More s (note_side s n)
 more_note s n = record { current = refl; released = refl; reads = refl; claims = refl; notes = λ m i. inr i }
+
+pub more_all : (s : Side) (ns : List Note) → More s (note_all s ns)
+more_all s [] = more_none s
+more_all s (n ∷ ns) = let m = more_all s ns in record { current = m.current; released = m.released; reads = m.reads; claims = m.claims; notes = λ o i. inr (m.notes o i) }
 
 pub more_control : (s : Side) (d : Ref) (k : Control) → More s (control_noted s d k)
 more_control s d unused = more_none s

@@ -11,7 +11,7 @@ use Rattle.rh_helping.specs.declared.looking.Looking.TheVariants as looking
 use Rattle.rh_helping.specs.declared.looking.Looked.{Looked}
 use Rattle.rh_helping.specs.declared.looking.Looked.TheVariants.{On, Sees, Spent}
 use Rattle.rh_helping.specs.Goal.{IsClear, KnowsOwn}
-use Rattle.rh_helping.specs.Settling.{IsSettling, kind_of_settling}
+use Rattle.rh_helping.specs.Settling.{EndsSettling, IsSettling, kind_of_settling}
 use Rattle.rh_helping.specs.Work.{ReleasesLast, Stands, kind_of_work}
 
 abbrev pub kind_of_looking : Looking → StepKind
@@ -36,11 +36,11 @@ LooksOn z v (Sees word) = IsClear v × IsPlain word
 LooksOn z v Spent = IsClear v × (z.mark_room ≤ v.marks_used)
 
 -- The step ends the work on what stood in the cell.
-abbrev pub EndsLooking : Looking → Type 0
-EndsLooking looking.Read = ⊥
-EndsLooking (looking.Settle s) = kind_of_settling s ≡ kind.Settle
-EndsLooking (looking.Help w) = ReleasesLast w
+abbrev pub EndsLooking : (v next : View) → Looking → Type 0
+EndsLooking v next looking.Read = ⊥
+EndsLooking v next (looking.Settle s) = EndsSettling v next s
+EndsLooking v next (looking.Help w) = ReleasesLast w
 
 -- Where marks are left, the cell is not read again before that.
-abbrev pub MayLookOn : Looking → Looked → Type 0
-MayLookOn l r = r ≡ On looking.Read → EndsLooking l
+abbrev pub MayLookOn : (v next : View) → Looking → Looked → Type 0
+MayLookOn v next l r = r ≡ On looking.Read → EndsLooking v next l

@@ -7,7 +7,8 @@ use Rattle.rh_descriptor.specs.declared.reference.Ref.{Ref as Reference}
 use Rattle.rh_descriptor.specs.declared.reference.Piece.{Piece}
 use Rattle.rh_descriptor.specs.declared.steps.StepKind.{StepKind}
 use Rattle.rh_descriptor.specs.declared.steps.StepKind.TheVariants as kind
-use Rattle.rh_descriptor.specs.View.{View}
+use Rattle.rh_descriptor.specs.View.{MarkWord, View}
+use Rattle.rh_descriptor.specs.View.MarkWord.{desc_word, entry_word}
 use Rattle.rh_descriptor.specs.Words.{ref_of}
 use Rattle.rh_helping.specs.declared.settling.Settling.{Settling}
 use Rattle.rh_helping.specs.declared.settling.Settling.TheVariants as settling
@@ -27,7 +28,8 @@ pub record Grows (v next : View) : Type 0 where
 
 abbrev pub kind_of_settling : Settling → StepKind
 kind_of_settling (settling.Desc x c) = kind.Read
-kind_of_settling (settling.Entry x c d) = kind.Read
+kind_of_settling (settling.Entry x c u) = kind.Read
+kind_of_settling (settling.Serial x c u e) = kind.Read
 kind_of_settling (settling.Control x p) = kind.Read
 kind_of_settling (settling.Old x p) = kind.Read
 kind_of_settling (settling.Settle x p old) = kind.Settle
@@ -43,14 +45,28 @@ abbrev pub MaySwap : View → Reference → Piece → Option ℕ → Type 0
 MaySwap v x p None = In (may_promote (ref_of x) p.cell) v.side.notes
 MaySwap v x p (Some old) = In (may_demote (ref_of x)) v.side.notes × In (old_is (ref_of p.desc) p.entry old) v.side.notes
 
+-- this word was read in the row of the mark
+abbrev pub HasRead : View → Reference → MarkWord → Type 0
+HasRead v x u = In (record { mark = ref_of x; word = u }) v.raw
+
 abbrev pub IsSettling : View → Settling → Type 0
 IsSettling v (settling.Desc x c) = In (found (ref_of x) c) v.side.notes
-IsSettling v (settling.Entry x c d) = In (found (ref_of x) c) v.side.notes × In (desc_is (ref_of x) (ref_of d)) v.side.notes
+IsSettling v (settling.Entry x c u) = In (found (ref_of x) c) v.side.notes × HasRead v x (desc_word u)
+IsSettling v (settling.Serial x c u e) = In (found (ref_of x) c) v.side.notes × HasRead v x (desc_word u) × HasRead v x (entry_word e)
 IsSettling v (settling.Control x p) = IsFound v x p
 IsSettling v (settling.Old x p) = IsFound v x p × In (may_demote (ref_of x)) v.side.notes
 IsSettling v (settling.Settle x p old) = IsFound v x p × MaySwap v x p old
 
--- what the step leads to: the next one, and none once the mark is settled
-abbrev pub LeadsOn : View → Settling → Option Settling → Type 0
-LeadsOn v s None = kind_of_settling s ≡ kind.Settle
-LeadsOn v s (Some next) = IsSettling v next
+-- The mark is left once it is settled, or where its row has gone on: then nothing is noted of it.
+abbrev pub EndsSettling : (v next : View) → Settling → Type 0
+EndsSettling v next (settling.Desc x c) = ⊥
+EndsSettling v next (settling.Entry x c u) = ⊥
+EndsSettling v next (settling.Serial x c u e) = next.side ≡ v.side
+EndsSettling v next (settling.Control x p) = ⊥
+EndsSettling v next (settling.Old x p) = ⊥
+EndsSettling v next (settling.Settle x p old) = Unit {0}
+
+-- what the step leads to: the next one, or none where the mark is left
+abbrev pub LeadsOn : (v next : View) → Settling → Option Settling → Type 0
+LeadsOn v next s None = EndsSettling v next s
+LeadsOn v next s (Some on) = IsSettling next on

@@ -10,7 +10,7 @@ use Rattle.rh_descriptor.specs.declared.steps.StepKind.TheVariants as kind
 use Rattle.rh_descriptor.specs.Places.{mark_row}
 use Rattle.rh_descriptor.specs.View.{OwnDesc, View}
 use Rattle.rh_descriptor.specs.Words.{control_of, desc_number, ref_of}
-use Rattle.rh_descriptor.specs.Steps.{IsKnown, row_word}
+use Rattle.rh_descriptor.specs.Steps.{HasSerial, IsKnown, row_word}
 use Rattle.rh_helping.specs.declared.goal.Task.{Task}
 use Rattle.rh_helping.specs.declared.goal.Goal.{Goal}
 use Rattle.rh_helping.specs.declared.goal.Placed.{Placed}
@@ -27,6 +27,7 @@ kind_of_work (work.Length d k) = kind.Read
 kind_of_work (work.EntryCell t) = kind.Read
 kind_of_work (work.EntryOld t c) = kind.Read
 kind_of_work (work.EntryNew t c o) = kind.Read
+kind_of_work (work.MarkSerial g) = kind.Write
 kind_of_work (work.MarkDesc g) = kind.Write
 kind_of_work (work.MarkEntry g) = kind.Write
 kind_of_work (work.Place g) = kind.Place
@@ -76,12 +77,15 @@ pub record CanTry (z : Shape) (v : View) (g : Goal) : Type 0 where
   pub owes : OwesNothing v
   pub mark : v.marks_used < z.mark_room
 
--- the next own mark's row names the goal's descriptor, and its entry
-abbrev pub NamesDesc : Shape → View → Goal → Type 0
-NamesDesc z v g = row_word v.written (mark_row z v.marks_used 0) ≡ desc_number (ref_of g.task.desc)
+-- the mark row, which is of the next own mark, names the goal's descriptor
+pub record NamesDesc (z : Shape) (v : View) (g : Goal) : Type 0 where
+  pub serial : HasSerial z v
+  pub desc : row_word v.written (mark_row z 1) ≡ desc_number (ref_of g.task.desc)
 
-abbrev pub NamesEntry : Shape → View → Goal → Type 0
-NamesEntry z v g = row_word v.written (mark_row z v.marks_used 1) ≡ g.task.entry
+-- and its entry
+pub record NamesEntry (z : Shape) (v : View) (g : Goal) : Type 0 where
+  pub named : NamesDesc z v g
+  pub entry : row_word v.written (mark_row z 2) ≡ g.task.entry
 
 -- the own mark is placed for the goal, and not settled yet
 pub record IsPlaced (v : View) (p : Placed) : Type 0 where
@@ -108,10 +112,11 @@ Stands z v (work.Length d k) = OwesNothing v × StandsAt v.side.notes (ref_of d)
 Stands z v (work.EntryCell t) = IsAt v t
 Stands z v (work.EntryOld t c) = IsAt v t × In (target_is (ref_of t.desc) t.entry c) v.side.notes
 Stands z v (work.EntryNew t c o) = IsAt v t × In (target_is (ref_of t.desc) t.entry c) v.side.notes × In (old_is (ref_of t.desc) t.entry o) v.side.notes
-Stands z v (work.MarkDesc g) = CanTry z v g
+Stands z v (work.MarkSerial g) = CanTry z v g
+Stands z v (work.MarkDesc g) = CanTry z v g × HasSerial z v
 Stands z v (work.MarkEntry g) = CanTry z v g × NamesDesc z v g
-Stands z v (work.Place g) = CanTry z v g × NamesDesc z v g × NamesEntry z v g
-Stands z v (work.Settle s g) = CanTry z v g × NamesDesc z v g × NamesEntry z v g × IsSettling v s
+Stands z v (work.Place g) = CanTry z v g × NamesEntry z v g
+Stands z v (work.Settle s g) = CanTry z v g × NamesEntry z v g × IsSettling v s
 Stands z v (work.MarkControl p) = IsPlaced v p × (p.goal.task.control ≡ Undecided)
 Stands z v (work.Promote p) = IsPlaced v p × (p.goal.task.control ≡ Undecided) × In (may_promote (ref_of p.mark) p.goal.cell) v.side.notes
 Stands z v (work.Demote p) = IsPlaced v p × IsOver p.goal.task.control × In (may_demote (ref_of p.mark)) v.side.notes

@@ -92,7 +92,7 @@ pub(crate) fn ready(shape: &Shape, side: &Side, opens: Option<OpenDesc<'_>>, goa
     if goal.task.control.is_decided() {
         Outcome::On(Work::Release(goal))
     } else if side.marks_used < shape.mark_room {
-        Outcome::On(Work::MarkDesc(goal))
+        Outcome::On(Work::MarkSerial(goal))
     } else {
         match opens {
             Some(open) => Outcome::On(Work::Withdraw(open.number)),

@@ -17,6 +17,31 @@ use crate::work::{Outcome, Work};
 use rh_descriptor::{Ask, Part, Piece, Reading, Ref, Shape, Side, StepKind, desc_word, mark_word};
 use rh_steps::Steps;
 
+/// Takes the mark row for the next mark, before all else that is written there.
+pub(crate) fn write_serial<T: Steps>(
+    shape: &Shape,
+    table: &mut T,
+    side: &mut Side,
+    opens: Option<OpenDesc<'_>>,
+    goal: Goal,
+) -> Outcome
+    requires shape { IsShape shape.now }
+    requires relies { Relies T.shows T.serves shape.now table.old side.old.known.view }
+    requires own { KnowsOwn side.old.known.view (opened_by opens) }
+    requires stands { Stands shape.now side.old.known.view (Work.MarkSerial goal) }
+    ensures made { HasMade T.shows T.made shape.now StepKind.Write table.old side.old.known.view
+        table.new side.new.known.view }
+    ensures leads { Leads shape.now side.new.known.view (opened_by opens.entry) result }
+    ensures ends { MayEnd (Work.MarkSerial goal) result }
+{
+    let part = Part::MarkSerial {
+        worker: side.worker,
+    };
+    let word = side.marks_used as u64;
+    table.make(shape, side, Ask::Write { part, word });
+    Outcome::On(Work::MarkDesc(goal))
+}
+
 pub(crate) fn write_desc<T: Steps>(
     shape: &Shape,
     table: &mut T,
@@ -36,7 +61,6 @@ pub(crate) fn write_desc<T: Steps>(
     let word = desc_word(shape, goal.task.desc);
     let part = Part::MarkDesc {
         worker: side.worker,
-        mark: side.marks_used,
     };
     table.make(shape, side, Ask::Write { part, word });
     Outcome::On(Work::MarkEntry(goal))
@@ -60,7 +84,6 @@ pub(crate) fn write_entry<T: Steps>(
 {
     let part = Part::MarkEntry {
         worker: side.worker,
-        mark: side.marks_used,
     };
     table.make(
         shape,

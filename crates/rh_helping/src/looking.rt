@@ -64,7 +64,7 @@ impl Looking {
             (reads_after side.old.known.view cell result) table.old side.old.known.view
             table.new side.new.known.view }
         ensures leads { LooksOn shape.now side.new.known.view result }
-        ensures ends { MayLookOn self result }
+        ensures ends { MayLookOn side.old.known.view side.new.known.view self result }
     {
         match self {
             Looking::Read => read(shape, table, side, cell),
@@ -93,7 +93,7 @@ fn read<T: Steps>(shape: &Shape, table: &mut T, side: &mut Side, cell: usize) ->
         (reads_after side.old.known.view cell result) table.old side.old.known.view
         table.new side.new.known.view }
     ensures leads { LooksOn shape.now side.new.known.view result }
-    ensures ends { MayLookOn Looking.Read result }
+    ensures ends { MayLookOn side.old.known.view side.new.known.view Looking.Read result }
 {
     let word = table.make(shape, side, Ask::Read(Reading::Cell(cell)));
     match what_stands(word) {

@@ -19,11 +19,19 @@ pub enum Settling {
         mark: Ref,
         cell: usize,
     },
-    /// Read of its entry.
+    /// Read of its entry. Its descriptor was named by this word.
     Entry {
         mark: Ref,
         cell: usize,
-        desc: Ref,
+        named: u64,
+    },
+    /// Read of the number of the mark that the row is of by now: what was read in it is so of this mark
+    /// only where it is still that one.
+    Serial {
+        mark: Ref,
+        cell: usize,
+        named: u64,
+        entry: usize,
     },
     /// Read of the control of its descriptor.
     Control {
@@ -54,7 +62,8 @@ impl Settling {
         }
     }
 
-    /// Makes the step, and answers the next one, or none where the mark was settled.
+    /// Makes the step, and answers the next one, or none where the mark was settled, or where its row
+    /// has gone on to a later one: then it stands in no cell any more.
     pub fn step<T: Steps>(self, shape: &Shape, table: &mut T, side: &mut Side) -> Option<Settling>
         requires shape { IsShape shape.now }
         requires relies { Relies T.shows T.serves shape.now table.old side.old.known.view }
@@ -63,13 +72,19 @@ impl Settling {
         ensures made { HasMade T.shows T.made shape.now (kind_of_settling self) table.old side.old.known.view
             table.new side.new.known.view }
         ensures grows { Grows side.old.known.view side.new.known.view }
-        ensures leads { LeadsOn side.new.known.view self result }
+        ensures leads { LeadsOn side.old.known.view side.new.known.view self result }
     {
         match self {
             Settling::Desc { mark, cell } => read_desc(shape, table, side, mark, cell),
-            Settling::Entry { mark, cell, desc } => read_entry(
-                shape, table, side, mark, cell, desc,
+            Settling::Entry { mark, cell, named } => read_entry(
+                shape, table, side, mark, cell, named,
             ),
+            Settling::Serial {
+                mark,
+                cell,
+                named,
+                entry,
+            } => read_serial(shape, table, side, mark, cell, named, entry),
             Settling::Control { mark, piece } => read_control(shape, table, side, mark, piece),
             Settling::Old { mark, piece } => read_old(shape, table, side, mark, piece),
             Settling::Settle { mark, piece, old } => swap(shape, table, side, mark, piece, old),
@@ -90,14 +105,10 @@ fn read_desc<T: Steps>(
     ensures made { HasMade T.shows T.made shape.now StepKind.Read table.old side.old.known.view
         table.new side.new.known.view }
     ensures grows { Grows side.old.known.view side.new.known.view }
-    ensures leads { LeadsOn side.new.known.view (Settling.Desc mark cell) result }
+    ensures leads { LeadsOn side.old.known.view side.new.known.view (Settling.Desc mark cell) result }
 {
-    let word = table.make(shape, side, Ask::Read(Reading::MarkDesc(mark)));
-    match named_desc(word) {
-        Some(desc) => Some(Settling::Entry { mark, cell, desc }),
-        // (a mark is placed after its row is written)
-        None => unreachable!(),
-    }
+    let named = table.make(shape, side, Ask::Read(Reading::MarkDesc(mark)));
+    Some(Settling::Entry { mark, cell, named })
 }
 
 fn read_entry<T: Steps>(
@@ -106,19 +117,54 @@ fn read_entry<T: Steps>(
     side: &mut Side,
     mark: Ref,
     cell: usize,
-    desc: Ref,
+    named: u64,
 ) -> Option<Settling>
     requires shape { IsShape shape.now }
     requires relies { Relies T.shows T.serves shape.now table.old side.old.known.view }
-    requires settling { IsSettling side.old.known.view (Settling.Entry mark cell desc) }
+    requires settling { IsSettling side.old.known.view (Settling.Entry mark cell named) }
     ensures made { HasMade T.shows T.made shape.now StepKind.Read table.old side.old.known.view
         table.new side.new.known.view }
     ensures grows { Grows side.old.known.view side.new.known.view }
-    ensures leads { LeadsOn side.new.known.view (Settling.Entry mark cell desc) result }
+    ensures leads { LeadsOn side.old.known.view side.new.known.view (Settling.Entry mark cell named) result }
 {
     let entry = table.make(shape, side, Ask::Read(Reading::MarkEntry(mark))) as usize;
-    let piece = Piece { desc, entry, cell };
-    Some(Settling::Control { mark, piece })
+    Some(Settling::Serial {
+        mark,
+        cell,
+        named,
+        entry,
+    })
+}
+
+fn read_serial<T: Steps>(
+    shape: &Shape,
+    table: &mut T,
+    side: &mut Side,
+    mark: Ref,
+    cell: usize,
+    named: u64,
+    entry: usize,
+) -> Option<Settling>
+    requires shape { IsShape shape.now }
+    requires relies { Relies T.shows T.serves shape.now table.old side.old.known.view }
+    requires settling { IsSettling side.old.known.view (Settling.Serial mark cell named entry) }
+    ensures made { HasMade T.shows T.made shape.now StepKind.Read table.old side.old.known.view
+        table.new side.new.known.view }
+    ensures grows { Grows side.old.known.view side.new.known.view }
+    ensures leads { LeadsOn side.old.known.view side.new.known.view (Settling.Serial mark cell named entry) result }
+{
+    let serial = table.make(shape, side, Ask::Read(Reading::MarkSerial(mark)));
+    if serial != mark.number as u64 {
+        return None;
+    }
+    match named_desc(named) {
+        Some(desc) => Some(Settling::Control {
+            mark,
+            piece: Piece { desc, entry, cell },
+        }),
+        // (a mark is placed after its row is written)
+        None => unreachable!(),
+    }
 }
 
 fn read_control<T: Steps>(
@@ -135,7 +181,7 @@ fn read_control<T: Steps>(
     ensures made { HasMade T.shows T.made shape.now StepKind.Read table.old side.old.known.view
         table.new side.new.known.view }
     ensures grows { Grows side.old.known.view side.new.known.view }
-    ensures leads { LeadsOn side.new.known.view (Settling.Control mark piece) result }
+    ensures leads { LeadsOn side.old.known.view side.new.known.view (Settling.Control mark piece) result }
 {
     let reading = Reading::MarkControl {
         mark,
@@ -167,7 +213,7 @@ fn read_old<T: Steps>(
     ensures made { HasMade T.shows T.made shape.now StepKind.Read table.old side.old.known.view
         table.new side.new.known.view }
     ensures grows { Grows side.old.known.view side.new.known.view }
-    ensures leads { LeadsOn side.new.known.view (Settling.Old mark piece) result }
+    ensures leads { LeadsOn side.old.known.view side.new.known.view (Settling.Old mark piece) result }
 {
     let reading = Reading::EntryOld {
         desc: piece.desc,

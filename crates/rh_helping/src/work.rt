@@ -27,7 +27,9 @@ pub enum Work {
     EntryOld { task: Task, cell: usize },
     /// Read of its new value.
     EntryNew { task: Task, cell: usize, old: u64 },
-    /// Write of the next own mark's descriptor.
+    /// Write of the next own mark's number into the mark row.
+    MarkSerial(Goal),
+    /// Write of its descriptor.
     MarkDesc(Goal),
     /// Write of its entry.
     MarkEntry(Goal),
@@ -72,7 +74,7 @@ impl Work {
         ensures { result ≡ kind_of_work self.now }
     {
         match self {
-            Work::MarkDesc(_) | Work::MarkEntry(_) => StepKind::Write,
+            Work::MarkSerial(_) | Work::MarkDesc(_) | Work::MarkEntry(_) => StepKind::Write,
             Work::Place(_) => StepKind::Place,
             Work::Settle { settling, .. } => settling.kind(),
             Work::Promote(_) | Work::Demote(_) => StepKind::Settle,
@@ -112,6 +114,7 @@ impl Work {
             Work::EntryNew { task, cell, old } => {
                 entering::read_new(shape, table, side, opens, task, cell, old)
             }
+            Work::MarkSerial(goal) => holding::write_serial(shape, table, side, opens, goal),
             Work::MarkDesc(goal) => holding::write_desc(shape, table, side, opens, goal),
             Work::MarkEntry(goal) => holding::write_entry(shape, table, side, opens, goal),
             Work::Place(goal) => holding::place(shape, table, side, opens, goal),

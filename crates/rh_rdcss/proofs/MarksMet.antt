@@ -11,26 +11,17 @@ use Rattle.rh_descriptor.specs.declared.reference.Piece.{Piece}
 use Rattle.rh_descriptor.specs.declared.reference.Ref.{Ref as Reference}
 use Rattle.rh_descriptor.specs.declared.reference.Reading.TheVariants as reading
 use Rattle.rh_descriptor.specs.View.{View}
+use Rattle.rh_descriptor.specs.View.MarkWord.{desc_word, entry_word}
 use Rattle.rh_descriptor.specs.Words.{desc_in, read_control, ref_of}
-use Rattle.rh_descriptor.specs.Steps.{Allowed, desc_noted, noted, with_side}
+use Rattle.rh_descriptor.specs.Steps.{Allowed, noted, with_side}
 use Rattle.rh_descriptor.specs.Steps.Step.{reads, settles}
-use Rattle.rh_helping.specs.Settling.{IsFound}
-use Rattle.rh_helping.proofs.Knowing.{allowed}
-use Rattle.rh_helping.proofs.Marks.{may_read_old, may_settle}
+use Rattle.rh_helping.specs.Settling.{HasRead, IsFound}
+use Rattle.rh_helping.proofs.Marks.{may_read_entry, may_read_old, may_read_serial, may_settle, serial_tells}
 use Rattle.rh_helping.proofs.Sides.{more_control, more_mark}
 use Rattle.rh_steps.specs.Relies.{Knows}
-use Rattle.rh_rdcss.specs.Calls.{ByControl, Judged, Learned, Named, ReadsOld}
-
--- ---- what may be done, of what is known
-
-may_read_entry : (z : Shape) (v : View) → Knows z v → (x : Reference) (c : ℕ) → In (found (ref_of x) c) v.side.notes → Allowed z v (reads (reading.MarkEntry x))
-may_read_entry z v knows x c h = allowed z v knows (reads (reading.MarkEntry x)) ((knows.sound.marks (ref_of x) c h).0, (c, h))
+use Rattle.rh_rdcss.specs.Calls.{ByControl, Judged, Learned, Named, ReadsOld, ReadsRow}
 
 -- ---- what is known is known after more was read
-
-desc_keeps : (s : Side) (x : Ref) (o : Option Ref) (n : Note) → In n s.notes → In n (desc_noted s x o).notes
-desc_keeps s x None n i = i
-desc_keeps s x (Some d) n i = inr i
 
 control_keeps : (s : Side) (x d : Ref) (c : ℕ) (k : Control) (n : Note) → In n s.notes → In n (mark_noted (control_noted s d k) x c k).notes
 control_keeps s x d c k n i = (more_mark s (control_noted s d k) x c k (more_control s d k)).notes n i
@@ -45,22 +36,46 @@ met_keeps v next x p keeps h = record {
 -- ---- the row is read
 
 module _ (z : Shape) (v : View) (x : Reference) (c : ℕ) (here : In (found (ref_of x) c) v.side.notes) where
-  -- once its descriptor was read, its entry may be
-  pub then_entry : (word : ℕ) (next : View) → Learned z (reads (reading.MarkDesc x)) v word next → Allowed z next (reads (reading.MarkEntry x))
-  then_entry word next l = may_read_entry z next l.knows x c
-      (subst (λ (u : View). In (found (ref_of x) c) u.side.notes) (sym l.view_is) (desc_keeps v.side (ref_of x) (desc_in word) (found (ref_of x) c) here))
+  abbrev Met : View → Type 0
+  Met u = In (found (ref_of x) c) u.side.notes
 
-  pub row_met : (p : Piece) (next : View) → p.cell ≡ c → Named z x p v next → IsFound next x p
-  row_met p next at h =
-      let first : h.between ≡ with_side v (desc_noted v.side (ref_of x) (Some (ref_of p.desc))) =
-      h.desc.view_is ∙ ap (λ (o : Option Ref). with_side v (desc_noted v.side (ref_of x) o)) h.names in
-      let both : next ≡ noted z (with_side v (desc_noted v.side (ref_of x) (Some (ref_of p.desc)))) (reads (reading.MarkEntry x)) p.entry =
-      h.entry.view_is ∙ ap (λ (u : View). noted z u (reads (reading.MarkEntry x)) p.entry) first in
-      subst (λ (u : View). IsFound u x p) (sym both) (record {
-        met = inr (inr (subst (λ (n : ℕ). In (found (ref_of x) n) v.side.notes) (sym at) here));
-        of_desc = inr (inl refl);
-        of_entry = inl refl;
-      })
+  met_entry : (named : ℕ) (first : View) → Learned z (reads (reading.MarkDesc x)) v named first → Met first
+  met_entry named first l = subst Met (sym l.view_is) here
+
+  met_serial : (named entry : ℕ) (first second : View) → Learned z (reads (reading.MarkDesc x)) v named first → Learned z (reads (reading.MarkEntry x)) first entry second → Met second
+  met_serial named entry first second l m = subst Met (sym m.view_is) (met_entry named first l)
+
+  -- once its descriptor was read, its entry may be, and then the number of the mark that it is of
+  pub then_entry : (named : ℕ) (first : View) → Learned z (reads (reading.MarkDesc x)) v named first → Allowed z first (reads (reading.MarkEntry x))
+  then_entry named first l = may_read_entry z first l.knows x c (met_entry named first l)
+
+  pub then_serial : (named entry : ℕ) (first second : View) → Learned z (reads (reading.MarkDesc x)) v named first → Learned z (reads (reading.MarkEntry x)) first entry second
+      → Allowed z second (reads (reading.MarkSerial x))
+  then_serial named entry first second l m = may_read_serial z second m.knows x c (met_serial named entry first second l m)
+
+  module _ (named entry serial : ℕ) (next : View) (r : ReadsRow z x named entry serial v next) where
+    abbrev said : View
+    said = noted z (noted z v (reads (reading.MarkDesc x)) named) (reads (reading.MarkEntry x)) entry
+
+    said_is : r.second ≡ said
+    said_is = r.of_entry.view_is ∙ ap (λ (u : View). noted z u (reads (reading.MarkEntry x)) entry) r.of_desc.view_is
+
+    -- while the row is of the mark, it names a descriptor
+    pub names_desc : serial ≡ x.number → None ≡ desc_in named → ⊥
+    names_desc is none =
+        let raw : HasRead r.second x (desc_word named) = subst (λ (u : View). HasRead u x (desc_word named)) (sym said_is) (inr (inl refl)) in
+        let d = r.of_serial.finds named is raw in
+        let both : None ≡ Some d.0 = none ∙ d.1 in
+        cc
+
+    pub row_tells : (p : Piece) → p.cell ≡ c → p.entry ≡ entry → serial ≡ x.number → desc_in named ≡ Some (ref_of p.desc) → IsFound next x p
+    row_tells p at of_entry is names =
+        subst (λ (u : View). IsFound u x p) (sym (r.of_serial.view_is ∙ ap (λ (u : View). noted z u (reads (reading.MarkSerial x)) serial) said_is))
+        (serial_tells said x serial p named is names (subst (λ (n : ℕ). In (found (ref_of x) n) v.side.notes) (sym at) here) (inr (inl refl))
+        (subst (λ (n : ℕ). HasRead said x (entry_word n)) (sym of_entry) (inl refl)))
+
+  pub row_met : (p : Piece) (next : View) → (p.cell ≡ c) × Named z x p v next → IsFound next x p
+  row_met p next h = row_tells h.1.word p.entry x.number next h.1.row p h.0 refl refl h.1.names
 
 -- ---- the control is read, and where it is decided the old value
 

@@ -61,10 +61,15 @@ pub record MayPlace (z : Shape) (v : View) (p : Piece) (old : ℕ) : Type 0 wher
   pub knows_old : In (old_is (ref_of p.desc) p.entry old) v.side.notes
   pub settled : v.side.unsettled ≡ None
 
--- the row of the next own mark is written: it names the entry
+-- the mark row is written: it is of the next own mark, and names the entry
+abbrev pub with_serial : Shape → View → View
+with_serial z v = noted z v (writes (part.MarkSerial v.worker) v.marks_used) 0
+
+abbrev pub with_desc : Shape → View → Piece → View
+with_desc z v p = noted z (with_serial z v) (writes (part.MarkDesc v.worker) (desc_number (ref_of p.desc))) 0
+
 abbrev pub with_row : Shape → View → Piece → View
-with_row z v p =
-    noted z (noted z v (writes (part.MarkDesc v.worker v.marks_used) (desc_number (ref_of p.desc))) 0) (writes (part.MarkEntry v.worker v.marks_used) p.entry) 0
+with_row z v p = noted z (with_desc z v p) (writes (part.MarkEntry v.worker) p.entry) 0
 
 -- a mark was left, its row was written, and the Place found this word
 pub record Tried (z : Shape) (p : Piece) (old : ℕ) (v : View) (word : ℕ) (next : View) : Type 0 where
@@ -80,13 +85,32 @@ Places z p old v placed.Spent next = (z.mark_room ≤ v.marks_used) × (next ≡
 
 -- ---- settling a mark
 
--- the mark's row was read, which names this entry
+-- the words of the mark's row were read, and after them the number of the mark that it is of by now
+pub record ReadsRow (z : Shape) (x : Reference) (named entry serial : ℕ) (v next : View) : Type 0 where
+  pub first : View
+  pub second : View
+  pub of_desc : Learned z (reads (reading.MarkDesc x)) v named first
+  pub of_entry : Learned z (reads (reading.MarkEntry x)) first entry second
+  pub of_serial : Learned z (reads (reading.MarkSerial x)) second serial next
+
+-- it is still of this mark, and names this entry
 pub record Named (z : Shape) (x : Reference) (p : Piece) (v next : View) : Type 0 where
   pub word : ℕ
-  pub between : View
-  pub desc : Learned z (reads (reading.MarkDesc x)) v word between
+  pub row : ReadsRow z x word p.entry x.number v next
   pub names : desc_in word ≡ Some (ref_of p.desc)
-  pub entry : Learned z (reads (reading.MarkEntry x)) between p.entry next
+
+-- it has gone on to another mark
+pub record HasGoneOn (z : Shape) (x : Reference) (v next : View) : Type 0 where
+  pub named : ℕ
+  pub entry : ℕ
+  pub serial : ℕ
+  pub row : ReadsRow z x named entry serial v next
+  pub other : serial ≢ x.number
+
+-- of a mark that was found in this cell
+abbrev pub RowSays : Shape → Reference → (c : ℕ) → Option Piece → View → View → Type 0
+RowSays z x c None v next = HasGoneOn z x v next
+RowSays z x c (Some p) v next = (p.cell ≡ c) × Named z x p v next
 
 -- the old value of the entry was read, and is what the mark is settled to
 abbrev pub ReadsOld : Shape → Piece → View → Option ℕ → View → Type 0
@@ -109,7 +133,7 @@ pub record Judged (z : Shape) (x : Reference) (p : Piece) (v : View) (to : Optio
   pub by : ByControl z p (read_control word) between to next
 
 -- the row was read, then the control, and the mark was settled by it; the Settle found this word
-pub record Settles (z : Shape) (x : Reference) (c : ℕ) (v : View) (word : ℕ) (next : View) : Type 0 where
+pub record HasSettled (z : Shape) (x : Reference) (c : ℕ) (v : View) (word : ℕ) (next : View) : Type 0 where
   pub piece : Piece
   pub to : Option ℕ
   pub in_cell : piece.cell ≡ c
@@ -118,3 +142,8 @@ pub record Settles (z : Shape) (x : Reference) (c : ℕ) (v : View) (word : ℕ)
   pub row : Named z x piece v named
   pub control : Judged z x piece named to judged
   pub swap : Learned z (settles (ref_of x) piece.cell (ref_of piece.desc) piece.entry to) judged word next
+
+-- or the row had gone on, and no Settle was made
+abbrev pub Settles : Shape → Reference → (c : ℕ) → View → Option ℕ → View → Type 0
+Settles z x c v None next = HasGoneOn z x v next
+Settles z x c v (Some word) next = HasSettled z x c v word next

@@ -52,8 +52,8 @@ pub fn status(table: &Table, seat: &mut Seat, desc: Ref) -> Control
     control_of_word(make(table, seat, Ask::Read(Reading::Control(desc))))
 }
 
-/// Places the worker's next mark for an entry, from this old value of it: two words of the mark's row
-/// are written, then one compare-and-swap of the cell is made.
+/// Places the worker's next mark for an entry, from this old value of it: the three words of the mark
+/// row are written, then one compare-and-swap of the cell is made.
 pub fn place(table: &Table, seat: &mut Seat, piece: Piece, old: u64) -> Placed
     requires here { IsHere table.now seat.old }
     requires knows { Knows table.now.shape (view_of seat.old) }
@@ -74,15 +74,16 @@ pub fn place(table: &Table, seat: &mut Seat, piece: Piece, old: u64) -> Placed
 
 /// Settles a mark that was found in this cell: reads its row, then the control of its descriptor, and
 /// puts the descriptor into the mark's place where that is undecided, else the old value. Answers the
-/// word that stood there; where it is not the mark, another worker settled it.
-pub fn settle(table: &Table, seat: &mut Seat, mark: Ref, cell: usize) -> u64
+/// word that stood there; where it is not the mark, another worker settled it. None where the mark's
+/// row has gone on to a later mark of its worker: it was settled before that.
+pub fn settle(table: &Table, seat: &mut Seat, mark: Ref, cell: usize) -> Option<u64>
     requires here { IsHere table.now seat.old }
     requires knows { Knows table.now.shape (view_of seat.old) }
     requires found { In (found (ref_of mark) cell) (view_of seat.old).side.notes }
     ensures same { IsSame seat.old seat.new }
     ensures settles { Settles table.now.shape mark cell (view_of seat.old) result (view_of seat.new) }
 {
-    let piece = read_row(table, seat, mark, cell);
+    let piece = read_row(table, seat, mark, cell)?;
     let old = judge(table, seat, mark, piece);
-    make(table, seat, Ask::Settle { mark, piece, old })
+    Some(make(table, seat, Ask::Settle { mark, piece, old }))
 }

@@ -9,8 +9,9 @@ use crate::seat::Seat;
 use crate::table::Table;
 use rh_descriptor::{Ask, Part, Piece, desc_word};
 
-/// Places the next own mark, which is left, and answers the word that stood in the cell. The row is
-/// written first, since whoever meets the mark reads it.
+/// Places the next own mark, which is left, and answers the word that stood in the cell. The mark row
+/// is written first, since whoever meets the mark reads it, and before all else the mark's number,
+/// since whoever meets an older one must see that the row has gone on.
 pub(crate) fn place_next(table: &Table, seat: &mut Seat, piece: Piece, old: u64) -> u64
     requires here { IsHere table.now seat.old }
     requires knows { Knows table.now.shape (view_of seat.old) }
@@ -20,11 +21,13 @@ pub(crate) fn place_next(table: &Table, seat: &mut Seat, piece: Piece, old: u64)
     ensures tried { Tried table.now.shape piece old (view_of seat.old) result (view_of seat.new) }
 {
     let worker = seat.side.worker;
-    let mark = seat.side.marks_used;
-    let part = Part::MarkDesc { worker, mark };
+    let part = Part::MarkSerial { worker };
+    let word = seat.side.marks_used as u64;
+    make(table, seat, Ask::Write { part, word });
+    let part = Part::MarkDesc { worker };
     let word = desc_word(&table.shape, piece.desc);
     make(table, seat, Ask::Write { part, word });
-    let part = Part::MarkEntry { worker, mark };
+    let part = Part::MarkEntry { worker };
     let word = piece.entry as u64;
     make(table, seat, Ask::Write { part, word });
     make(table, seat, Ask::Place { piece, old })

@@ -5,7 +5,7 @@ ghost use Rattle.rh_world.specs.World.{In};
 ghost use Rattle.rh_world.specs.Notes.Note.{found};
 ghost use Rattle.rh_descriptor.specs.Words.{ref_of};
 ghost use Rattle.rh_steps.specs.Relies.{Knows};
-ghost use Rattle.rh_rdcss.specs.Calls.{IsHere, IsSame, Judged, Named, view_of};
+ghost use Rattle.rh_rdcss.specs.Calls.{IsHere, IsSame, Judged, RowSays, view_of};
 ghost use Rattle.rh_helping.specs.Settling.{IsFound};
 
 use crate::making::make;
@@ -14,22 +14,26 @@ use crate::table::Table;
 use rh_descriptor::{Ask, Piece, Reading, Ref};
 use rh_helping::{control_of_word, named_desc};
 
-/// Reads the row of a mark that was found in this cell.
-pub(crate) fn read_row(table: &Table, seat: &mut Seat, mark: Ref, cell: usize) -> Piece
+/// Reads the row of a mark that was found in this cell, and then whether it is still of this mark: if
+/// not, the mark stands in no cell any more.
+pub(crate) fn read_row(table: &Table, seat: &mut Seat, mark: Ref, cell: usize) -> Option<Piece>
     requires here { IsHere table.now seat.old }
     requires knows { Knows table.now.shape (view_of seat.old) }
     requires found { In (found (ref_of mark) cell) (view_of seat.old).side.notes }
     ensures same { IsSame seat.old seat.new }
-    ensures cell { result.cell ≡ cell }
-    ensures named { Named table.now.shape mark result (view_of seat.old) (view_of seat.new) }
+    ensures says { RowSays table.now.shape mark cell result (view_of seat.old) (view_of seat.new) }
 {
-    let word = make(table, seat, Ask::Read(Reading::MarkDesc(mark)));
-    let Some(desc) = named_desc(word) else {
+    let named = make(table, seat, Ask::Read(Reading::MarkDesc(mark)));
+    let entry = make(table, seat, Ask::Read(Reading::MarkEntry(mark))) as usize;
+    let serial = make(table, seat, Ask::Read(Reading::MarkSerial(mark)));
+    if serial != mark.number as u64 {
+        return None;
+    }
+    let Some(desc) = named_desc(named) else {
         // (a mark is placed after its row is written)
         unreachable!()
     };
-    let entry = make(table, seat, Ask::Read(Reading::MarkEntry(mark))) as usize;
-    Piece { desc, entry, cell }
+    Some(Piece { desc, entry, cell })
 }
 
 /// Reads the control of the descriptor that the mark is for, and answers the old value that the mark

@@ -1,6 +1,6 @@
 use Rattle.std.proofs.Common.{◌<◌, length, refl, arith}
 use Rattle.std.proofs.lemmas.Bool.Decides.{nat_tests}
-use Rattle.rh_kcas.proofs.Fitting.{are_entries, fit_of}
+use Rattle.rh_kcas.proofs.Fitting.{are_entries}
 use Rattle.rh_kcas.proofs.entries.are_entries.Goals as goal
 
 pub returns : goal.returns

@@ -2,8 +2,10 @@ use Rattle.std.proofs.Common.{ℕ, ◌<◌, sym, subst}
 use Rattle.rh_rdcss.proofs.MarkRows.{may_place}
 use Rattle.rh_rdcss.proofs.placing.place_next.Goals as goal
 
-pub make-requires-3-clause-allowed : goal.make-requires-3-clause-allowed
-make-requires-3-clause-allowed c =
+pub make-requires-4-clause-allowed : goal.make-requires-4-clause-allowed
+make-requires-4-clause-allowed c =
     let side = c.args.seat.now.side in
     let left = subst (λ (m : ℕ). m < c.args.table.now.shape.mark_room) (sym side.same_marks) c.requires.left in
-    may_place _ side.known.view _ _ c.args.piece c.args.old side.worker side.marks_used c.desc_word-word.result c.make.result c.make-2.result c.requires.may left side.same_marks c.desc_word-word.ensures c.make.ensures.learned.view_is c.make-2.ensures.learned.view_is c.make-2.ensures.learned.knows
+    may_place _ side.known.view c.args.piece c.args.old side.worker side.marks_used c.desc_word-word.result c.requires.may left side.same_worker side.same_marks
+    _ _ c.make.result c.make-2.result c.make.ensures.learned.view_is c.make-2.ensures.learned.view_is
+    _ c.make-3.result c.desc_word-word.ensures c.make-3.ensures.learned.view_is c.make-3.ensures.learned.knows
