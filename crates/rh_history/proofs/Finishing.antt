@@ -9,7 +9,7 @@ use Rattle.rh_world.specs.Moves.{covers, release_noted}
 use Rattle.rh_world.proofs.Tests.{is_number_yes}
 use Rattle.rh_world.proofs.Updated.{ref_path, some_injective, some_not_none}
 use Rattle.rh_descriptor.specs.declared.shape.Shape.{Shape}
-use Rattle.rh_descriptor.specs.View.{OwnDesc, View, Written}
+use Rattle.rh_descriptor.specs.View.{OwnDesc, Raw, View, Written}
 use Rattle.rh_descriptor.specs.Steps.{CanOpen, Step, entries_of, next_entries, noted, own_desc, size_in, with_side}
 use Rattle.rh_rule.specs.Mirrors.{numbers_of}
 use Rattle.rh_rule.specs.Rest.{is_noted_success}
@@ -58,9 +58,9 @@ module _ (v : View) (t : Side) (learns : Learns v.side t) (one : OneResult t.not
       ∙ sym (once_closed v o before)
 
   -- nothing is opened or closed
-  module _ (marks : ℕ) (rows : List Written) where
+  module _ (marks : ℕ) (rows : List Written) (raw : List Raw) where
     abbrev next : View
-    next = record v { side = t; marks_used = marks; written = rows }
+    next = record v { side = t; marks_used = marks; written = rows; raw = raw }
 
     as_before : t.current ≡ v.side.current → StepFinishes v next
     as_before same = record {
@@ -165,10 +165,10 @@ module _ (v : View) (t : Side) (learns : Learns v.side t) (one : OneResult t.not
 -- ---- the steps
 
 kept_open : (z : Shape) (v : View) (s : Step) (word : ℕ) → KeepsCurrent s → OneResult (noted z v s word).side.notes → Orderly v
-    → StepFinishes v (record v { side = (noted z v s word).side; marks_used = (noted z v s word).marks_used; written = (noted z v s word).written })
+    → StepFinishes v (record v { side = (noted z v s word).side; marks_used = (noted z v s word).marks_used; written = (noted z v s word).written; raw = (noted z v s word).raw })
 kept_open z v s word h one tidy =
     let g = steps_grow z v s word h in
-    as_before v (noted z v s word).side g.learns one tidy (noted z v s word).marks_used (noted z v s word).written g.current
+    as_before v (noted z v s word).side g.learns one tidy (noted z v s word).marks_used (noted z v s word).written (noted z v s word).raw g.current
 
 opens_next : (z : Shape) (v : View) (size word : ℕ) → CanOpen z v size → OneResult (noted z v (Step.opens size) word).side.notes → Orderly v
     → StepFinishes v (noted z v (Step.opens size) word)
@@ -192,14 +192,14 @@ module _ (v : View) (d : Ref) (e c : ℕ) (k : Control) (tidy : Orderly v) (deci
   releases_own : d.worker ≡ v.worker → v.side.current ≡ Some d.number → (all : Bool) → OneResult (cond all (close_side fewer) fewer).notes
       → StepFinishes v (with_side v (cond all (close_side fewer) fewer))
   releases_own own current true one =
-      as_closed v (close_side fewer) (same (close_side fewer) refl refl) one tidy v.marks_used v.written d.number k current
+      as_closed v (close_side fewer) (same (close_side fewer) refl refl) one tidy v.marks_used v.written v.raw d.number k current
       (subst (λ (x : Ref). In (decided x k) v.side.notes) (ref_path d (own_ref v d.number) own refl) decided_so) refl
-  releases_own own current false one = as_before v fewer (same fewer refl refl) one tidy v.marks_used v.written refl
+  releases_own own current false one = as_before v fewer (same fewer refl refl) one tidy v.marks_used v.written v.raw refl
 
   releases_entry : (n : ℕ) (own : Bool) → is_number v.side.current v.worker d ≡ own → OneResult (cond own (release_noted paid e n) paid).notes
       → StepFinishes v (with_side v (cond own (release_noted paid e n) paid))
   releases_entry n true is one = let at = is_number_yes v.side.current v.worker d is in releases_own at.0 at.1 (covers n (e ∷ v.side.released)) one
-  releases_entry n false is one = as_before v paid (same paid refl refl) one tidy v.marks_used v.written refl
+  releases_entry n false is one = as_before v paid (same paid refl refl) one tidy v.marks_used v.written v.raw refl
 
 pub steps_finish : StepsFinish
 steps_finish z v (Step.writes p u) word may sound tidy = kept_open z v (Step.writes p u) word tt sound.one_result tidy

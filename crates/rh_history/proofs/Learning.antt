@@ -1,5 +1,5 @@
 -- What a worker knows only grows: in each step its notes and its reads stay.
-use Rattle.std.proofs.Common.{◌≡◌, ℕ, zero, suc, inr, refl, sym, ap, ◌∙◌, subst, arith, map, filter, eqb, Bool, true, false, cond, ◌&&◌, List, ◌∷◌, Option, Some, None}
+use Rattle.std.proofs.Common.{◌≡◌, ℕ, zero, suc, inr, refl, sym, ap, ◌∙◌, subst, arith, map, filter, eqb, Bool, true, false, cond, ◌&&◌, List, [], ◌∷◌, Option, Some, None}
 use Rattle.std.specs.Prelude.{nat_lt}
 use Rattle.std.specs.List.{Contains}
 use Rattle.std.proofs.lemmas.Bool.Decides.{nat_tests}
@@ -7,16 +7,16 @@ use Rattle.rh_world.specs.World.{Cell, Control, In, Ref, is_ref}
 use Rattle.rh_world.specs.World.Cell.{desc, mark, plain}
 use Rattle.rh_world.specs.World.Control.{failed, succeeded, undecided, unused, withdrawn}
 use Rattle.rh_world.specs.Notes.{Note}
-use Rattle.rh_world.specs.Notes.Note.{decided, desc_is, found, held, known, may_demote, may_promote, mismatch, new_is, old_is, size_is, target_is, which_is}
+use Rattle.rh_world.specs.Notes.Note.{decided, found, held, known, may_demote, may_promote, mismatch, new_is, old_is, size_is, target_is}
 use Rattle.rh_world.specs.Sides.{KeptRead, Side, close_side, is_number, note_side, open_side, paid_side, read_side, release_side, settle_side}
-use Rattle.rh_world.specs.Moves.{Entries, cell_noted, control_noted, covers, mark_noted, note_entries, place_noted, placed_noted, release_noted, settle_noted}
+use Rattle.rh_world.specs.Moves.{Entries, cell_noted, control_noted, covers, mark_noted, note_all, note_entries, place_noted, placed_noted, release_noted, settle_noted}
 use Rattle.rh_descriptor.specs.declared.reference.Reading.{Reading}
 use Rattle.rh_descriptor.specs.declared.reference.Reading.TheVariants as reading
 use Rattle.rh_descriptor.specs.declared.shape.Shape.{Shape}
 use Rattle.rh_descriptor.specs.Places.{cell_count}
 use Rattle.rh_descriptor.specs.View.{View}
-use Rattle.rh_descriptor.specs.Words.{cell_in, desc_in, mark_number, read_control, ref_of}
-use Rattle.rh_descriptor.specs.Steps.{Step, decided_now, desc_noted, entries_of, is_none, next_entries, noted, own_desc, own_mark, read_noted, size_in}
+use Rattle.rh_descriptor.specs.Words.{cell_in, mark_number, read_control, ref_of}
+use Rattle.rh_descriptor.specs.Steps.{Step, decided_now, entries_of, is_none, next_entries, noted, own_desc, own_mark, read_noted, row_said, size_in}
 use Rattle.rh_rule.proofs.OpensKept.{entries_notes}
 use Rattle.rh_rule.proofs.Said.{plain_said}
 use Rattle.rh_acts.specs.Done.{Kept, kept}
@@ -62,15 +62,15 @@ a_mark s x c succeeded = a_note s (may_demote x)
 a_mark s x c withdrawn = a_note s (may_demote x)
 a_mark s x c (failed e by) = a_note s (may_demote x)
 
-a_desc : (s : Side) (x : Ref) (d : Option Ref) → Grows s (desc_noted s x d)
-a_desc s x None = nothing s
-a_desc s x (Some d) = a_note s (desc_is x d)
-
 both : (s t r : Side) → Grows s t → Grows t r → Grows s r
 both s t r g h = record {
   learns = record { notes = λ n i. h.learns.notes n (g.learns.notes n i); reads = λ k i. h.learns.reads k (g.learns.reads k i) };
   current = h.current ∙ g.current;
 }
+
+all_notes : (s : Side) (ns : List Note) → Grows s (note_all s ns)
+all_notes s [] = nothing s
+all_notes s (n ∷ ns) = both s (note_all s ns) (note_side (note_all s ns) n) (all_notes s ns) (a_note (note_all s ns) n)
 
 either : (P : Side → Type 0) (b : Bool) (t r : Side) → P t → P r → P (cond b t r)
 either P true t r g h = g
@@ -99,8 +99,10 @@ a_reading v (reading.Length d) word = a_note v.side (size_is (ref_of d) word)
 a_reading v (reading.EntryCell d e) word = a_note v.side (target_is (ref_of d) e word)
 a_reading v (reading.EntryOld d e) word = a_note v.side (old_is (ref_of d) e word)
 a_reading v (reading.EntryNew d e) word = a_note v.side (new_is (ref_of d) e word)
-a_reading v (reading.MarkDesc x) word = a_desc v.side (ref_of x) (desc_in word)
-a_reading v (reading.MarkEntry x) word = a_note v.side (which_is (ref_of x) word)
+a_reading v (reading.MarkSerial x) word = either (Grows v.side) (eqb word x.number) (note_all v.side (row_said v.raw (ref_of x))) v.side
+    (all_notes v.side (row_said v.raw (ref_of x))) (nothing v.side)
+a_reading v (reading.MarkDesc x) word = nothing v.side
+a_reading v (reading.MarkEntry x) word = nothing v.side
 
 a_release : (s : Side) (d : Ref) (e c n : ℕ) (own : Bool) → Learns s (cond own (release_noted (paid_side s d c) e n) (paid_side s d c))
 a_release s d e c n own =

@@ -7,7 +7,7 @@ use Rattle.rh_ledger.specs.declared.tally.Kind.{Kind}
 use Rattle.rh_ledger.specs.declared.tally.Kind.TheVariants.{Ask}
 use Rattle.rh_ledger.specs.Phase.{set_after, tally_of}
 use Rattle.rh_acts.specs.Workers.{tally_by}
-use Rattle.rh_descriptor.specs.declared.limits.TheConstants.{MAX_ROOM, MAX_WORKERS}
+use Rattle.rh_descriptor.specs.declared.limits.TheConstants.{MAX_MARKS, MAX_ROOM, MAX_WORKERS}
 use Rattle.rh_descriptor.specs.declared.shape.Rooms.{Rooms}
 use Rattle.rh_descriptor.specs.declared.shape.Shape.{Shape}
 use Rattle.rh_worker.specs.Sights.{HasRoom}
@@ -24,7 +24,7 @@ pub record IsRooms (bits : ℕ) (rooms : Rooms) : Type 0 where
   pub key : 2 ^ bits ≤ rooms.entries
   pub entries : rooms.entries ≤ MAX_ROOM
   pub enough : rooms.entries ≤ rooms.marks
-  pub marks : rooms.marks ≤ MAX_ROOM
+  pub marks : rooms.marks ≤ MAX_MARKS
 
 -- it has done nothing yet, and has room for any key, and marks for so many places
 pub record IsNew (z : Shape) (kind : Kind) (places : ℕ) (h : Hand) : Type 0 where

@@ -14,7 +14,7 @@ use crate::gate::Gate;
 use crate::hand::Hand;
 use crate::hands::{all_changed, mark_all, new_hands};
 use crate::rounds::rounds;
-use rh_descriptor::{Rooms, Shape};
+use rh_descriptor::{MAX_MARKS, Rooms, Shape};
 use rh_kcas::{close, make};
 use rh_ledger::{Kind, Tally};
 use rh_runner::PhaseFault;
@@ -206,10 +206,9 @@ fn usual_rooms(bits: u32) -> Rooms
     requires { IsBits bits }
     ensures { IsRooms bits result }
 {
-    let entries = (1 << bits) + 1024;
     Rooms {
-        entries,
-        marks: 2 * entries,
+        entries: (1 << bits) + 1024,
+        marks: MAX_MARKS,
     }
 }
 

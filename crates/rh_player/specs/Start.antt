@@ -7,7 +7,7 @@ use Rattle.rh_layout.specs.Test.{layout_test}
 use Rattle.rh_layout.specs.declared.limits.TheConstants.{MAX_BITS, MAX_KEY}
 use Rattle.rh_ledger.specs.declared.tally.Kind.{Kind}
 use Rattle.rh_ledger.specs.Phase.{most_added}
-use Rattle.rh_descriptor.specs.declared.limits.TheConstants.{MAX_ROOM, MAX_WORKERS}
+use Rattle.rh_descriptor.specs.declared.limits.TheConstants.{MAX_MARKS, MAX_ROOM, MAX_WORKERS}
 use Rattle.rh_descriptor.specs.declared.shape.Rooms.{Rooms}
 use Rattle.rh_descriptor.specs.declared.shape.Shape.{Shape}
 use Rattle.rh_turns.specs.Game.{Game, keys_at}
@@ -44,10 +44,10 @@ Refuses (Some first) fault = fault ≡ first
 -- ---- what one is
 
 abbrev pub IsRooms : Rooms → Type 0
-IsRooms rooms = (rooms.entries ≤ MAX_ROOM) × (rooms.marks ≤ MAX_ROOM)
+IsRooms rooms = (rooms.entries ≤ MAX_ROOM) × (rooms.marks ≤ MAX_MARKS)
 
 abbrev pub usual_rooms : (bits : ℕ) → Rooms
-usual_rooms bits = record { entries = 2 ^ min bits MAX_BITS + 1024; marks = 2 * (2 ^ min bits MAX_BITS + 1024) }
+usual_rooms bits = record { entries = 2 ^ min bits MAX_BITS + 1024; marks = MAX_MARKS }
 
 -- with this length of the list that is shared, 0 if none is
 abbrev pub shape_for : (bits workers : ℕ) → Rooms → (shared : ℕ) → Shape

@@ -10,14 +10,14 @@ ghost use Rattle.rh_player.specs.Start.{are_keys, joined, shape_for, start_fault
 use crate::fault::PlayFault;
 use crate::player::Player;
 use crate::set_up::{deal, set_up, share_out};
-use rh_descriptor::{MAX_WORKERS, Rooms, Shape};
+use rh_descriptor::{MAX_MARKS, MAX_WORKERS, Rooms, Shape};
 use rh_layout::{MAX_BITS, MAX_KEY, is_layout, key_in};
 use rh_ledger::Kind;
 use std::alloc::Global;
 
 impl Player {
     /// A player of workers that each have a piece of the keys, with room for 1024 entries more than
-    /// the table has cells, and twice as many marks.
+    /// the table has cells, and as many marks as there are numbers for.
     pub fn new(
         alloc: Global,
         bits: u32,
@@ -157,10 +157,9 @@ fn usual_rooms(bits: u32) -> Rooms
     ensures rooms { result ≡ usual_rooms bits }
     ensures limits { IsRooms result }
 {
-    let entries = (1 << bits.min(MAX_BITS)) + 1024;
     Rooms {
-        entries,
-        marks: 2 * entries,
+        entries: (1 << bits.min(MAX_BITS)) + 1024,
+        marks: MAX_MARKS,
     }
 }
 

@@ -25,10 +25,10 @@ module _ (w : World) (z : Shape) (words : List ℕ) (keep : ℕ → View) (shape
 
   -- ---- a mark
 
-  mark_says : (c : ℕ) (x : Ref) → w.cell c ≡ mark x → stands_for z words c (mark x) ≡ w.old (w.mark_desc x) (w.mark_entry x)
-  mark_says c x e =
+  mark_says : (c : ℕ) (x : Ref) → c < cell_count z → w.cell c ≡ mark x → stands_for z words c (mark x) ≡ w.old (w.mark_desc x) (w.mark_entry x)
+  mark_says c x inside e =
       let used = (core.rule.rows.marks c x e).used in
-      let row = core.mirrors.rows.marks x used in
+      let row = core.mirrors.rows.marks x used (core.mirrors.rows.placed c x inside e) in
       let d = w.mark_desc x in
       let opened = core.rule.rows.used x used in
       let desc_is = ap desc_in row.desc ∙ desc_said_is z shape d (core.mirrors.controls.descs d opened.0) in
@@ -71,15 +71,15 @@ module _ (w : World) (z : Shape) (words : List ℕ) (keep : ℕ → View) (shape
 
   -- ---- a cell
 
-  says : (c v : ℕ) (k : Cell) → w.cell c ≡ k → StandsFor w c k v → stands_for z words c k ≡ v
-  says c v (plain u) e so = so
-  says c v (mark x) e so = mark_says c x e ∙ so
-  says c v (desc d) e so = desc_says c d (core.rule.rows.descs c d e).opened v so
+  says : (c v : ℕ) (k : Cell) → c < cell_count z → w.cell c ≡ k → StandsFor w c k v → stands_for z words c k ≡ v
+  says c v (plain u) inside e so = so
+  says c v (mark x) inside e so = mark_says c x inside e ∙ so
+  says c v (desc d) inside e so = desc_says c d (core.rule.rows.descs c d e).opened v so
 
   pub words_say : (c : ℕ) → c < cell_count z → logical_word z words c ≡ cells_after w w.act_count c
   words_say c inside =
       ap (λ (k : Cell). stands_for z words c k) (ap cell_in (core.mirrors.cells.cells c inside) ∙ cell_said_is z shape (w.cell c) (core.mirrors.cells.standing c inside))
-      ∙ says c (cells_after w w.act_count c) (w.cell c) refl ((tells w z words keep core).order.now c)
+      ∙ says c (cells_after w w.act_count c) (w.cell c) inside refl ((tells w z words keep core).order.now c)
 
   -- ---- where the words lead
 
@@ -92,11 +92,11 @@ module _ (w : World) (z : Shape) (words : List ℕ) (keep : ℕ → View) (shape
       let most : (keep d.worker).next_number ≤ z.entry_room = its.entry_room in
       omega arith
 
-  leads : (c : ℕ) (k : Cell) → w.cell c ≡ k → IsCell z k → LeadsInside z words k
-  leads c (plain u) e is = tt
-  leads c (mark x) e is =
+  leads : (c : ℕ) (k : Cell) → c < cell_count z → w.cell c ≡ k → IsCell z k → LeadsInside z words k
+  leads c (plain u) inside e is = tt
+  leads c (mark x) inside e is =
       let used = (core.rule.rows.marks c x e).used in
-      let row = core.mirrors.rows.marks x used in
+      let row = core.mirrors.rows.marks x used (core.mirrors.rows.placed c x inside e) in
       let d = w.mark_desc x in
       let opened = core.rule.rows.used x used in
       let within : w.mark_entry x < w.size d = opened.1 in
@@ -104,7 +104,7 @@ module _ (w : World) (z : Shape) (words : List ℕ) (keep : ℕ → View) (shape
       let here : d.number + w.mark_entry x < z.entry_room = omega arith in
       let known = core.mirrors.controls.descs d opened.0 in
       record { is_mark = is; desc = d; names = ap desc_in row.desc ∙ desc_said_is z shape d known; is_desc = known; entry = subst (λ (e : ℕ). d.number + e < z.entry_room) (sym row.entry) here }
-  leads c (desc d) e is =
+  leads c (desc d) inside e is =
       let opened = (core.rule.rows.descs c d e).opened in
       record { is_desc = is; entries = subst (λ (n : ℕ). d.number + n ≤ z.entry_room) (sym (row_of_opened d opened).length) (inside_pool d opened) }
 
@@ -112,7 +112,7 @@ module _ (w : World) (z : Shape) (words : List ℕ) (keep : ℕ → View) (shape
   words_lead c inside =
       let standing = core.mirrors.cells.standing c inside in
       let is : cell_in (get_or words c 0) ≡ w.cell c = ap cell_in (core.mirrors.cells.cells c inside) ∙ cell_said_is z shape (w.cell c) standing in
-      subst (LeadsInside z words) (sym is) (leads c (w.cell c) refl standing)
+      subst (LeadsInside z words) (sym is) (leads c (w.cell c) inside refl standing)
 
 pub words_lead_inside : WordsLeadInside
 words_lead_inside w z words keep c shape core inside = words_lead w z words keep shape core c inside

@@ -18,7 +18,7 @@ use Rattle.rh_history.specs.History.{act_of, cells_of}
 
 -- ---- what a cell stands for
 
--- the old value of an entry, which a mark's row says: 0 where it names no descriptor
+-- the old value of an entry, which the row of a mark says: 0 where it names no descriptor
 abbrev pub marked_value : Shape → (words : List ℕ) → Option Ref → (e : ℕ) → ℕ
 marked_value z words None e = 0
 marked_value z words (Some d) e = word_at z words (part.EntryOld d.worker (d.number + e))
@@ -39,19 +39,20 @@ entry_for z words d c (suc n) =
 abbrev pub stands_for : Shape → (words : List ℕ) → (c : ℕ) → Cell → ℕ
 stands_for z words c (plain u) = u
 stands_for z words c (mark x) =
-    marked_value z words (desc_in (word_at z words (part.MarkDesc x.worker x.number))) (word_at z words (part.MarkEntry x.worker x.number))
+    marked_value z words (desc_in (word_at z words (part.MarkDesc x.worker))) (word_at z words (part.MarkEntry x.worker))
 stands_for z words c (desc d) = entry_for z words d c (word_at z words (part.Length d.worker d.number))
 
 abbrev pub logical_word : Shape → (words : List ℕ) → (c : ℕ) → ℕ
 logical_word z words c = stands_for z words c (cell_in (slice_index words c))
 
--- the row of a mark names a descriptor of the table, and an entry that has a place
+-- the mark row of its worker, which is of a mark while it stands in a cell, names a descriptor of the table, and an entry
+-- that has a place
 pub record MarkLeads (z : Shape) (words : List ℕ) (x : Ref) : Type 0 where
   pub is_mark : IsMark z x
   pub desc : Ref
-  pub names : desc_in (word_at z words (part.MarkDesc x.worker x.number)) ≡ Some desc
+  pub names : desc_in (word_at z words (part.MarkDesc x.worker)) ≡ Some desc
   pub is_desc : IsDesc z desc
-  pub entry : desc.number + word_at z words (part.MarkEntry x.worker x.number) < z.entry_room
+  pub entry : desc.number + word_at z words (part.MarkEntry x.worker) < z.entry_room
 
 -- a descriptor is one of the table, and its entries have places
 pub record DescLeads (z : Shape) (words : List ℕ) (d : Ref) : Type 0 where

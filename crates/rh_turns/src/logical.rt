@@ -40,7 +40,8 @@ fn logical_word(shape: &Shape, words: &[u64], cell: usize) -> u64
     }
 }
 
-/// The old value of the entry that a mark is for.
+/// The old value of the entry that a mark is for. While it stands in a cell, its worker's mark row is of
+/// it.
 fn marked_word(shape: &Shape, words: &[u64], mark: Ref) -> u64
     requires shape { IsShape shape.now }
     requires sized { length words.now ≡ word_count shape.now }
@@ -48,9 +49,8 @@ fn marked_word(shape: &Shape, words: &[u64], mark: Ref) -> u64
     ensures { (c : ℕ) → result ≡ stands_for shape.now words.now c (is_mark (ref_of mark)) }
 {
     let worker = mark.worker;
-    let mark = mark.number;
-    let entry = words[shape.place(Part::MarkEntry { worker, mark })] as usize;
-    match named_desc(words[shape.place(Part::MarkDesc { worker, mark })]) {
+    let entry = words[shape.place(Part::MarkEntry { worker })] as usize;
+    match named_desc(words[shape.place(Part::MarkDesc { worker })]) {
         Some(desc) => {
             words[shape.place(Part::EntryOld {
                 worker: desc.worker,
