@@ -8,9 +8,8 @@ use std::time::{Duration, Instant};
 
 const MOST: usize = 8;
 const CELLS: usize = 64;
-const ROOM: usize = 4_000;
-// Enough for the swaps of others too that a thread helps.
-const MARKS: usize = 4 * ROOM;
+/// How many entries the swaps that a thread tries in one round have together.
+const ENTRIES: usize = 4_000;
 
 #[derive(Clone, Copy, Default)]
 struct Entry {
@@ -26,17 +25,11 @@ trait Swaps: Sync {
     fn wipe(&mut self);
 }
 
-/// One thread: its number, and how many places and marks it has used.
+/// One thread: its number, and the serial numbers of its next descriptor and its next mark.
 struct Me {
     worker: usize,
-    places: usize,
-    marks: usize,
-}
-
-impl Me {
-    fn has_room(&self, entries: usize) -> bool {
-        self.places + entries <= ROOM && self.marks + MOST * MOST <= MARKS
-    }
+    descriptors: u64,
+    marks: u64,
 }
 
 struct Locked {
@@ -44,8 +37,7 @@ struct Locked {
 }
 
 impl Swaps for Locked {
-    fn kcas(&self, me: &mut Me, entries: &[Entry]) -> bool {
-        me.places += entries.len();
+    fn kcas(&self, _me: &mut Me, entries: &[Entry]) -> bool {
         let mut cells = self.cells.lock().unwrap();
         if entries.iter().any(|e| cells[e.cell] != e.old) {
             return false;
@@ -61,41 +53,69 @@ impl Swaps for Locked {
     fn wipe(&mut self) {}
 }
 
-// A word: a value times four, or a reference (worker, number) with a tag: 1 for a mark, 2 for a descriptor.
+// A word: a value times four, or a reference (worker, serial number) with a tag: 1 for a mark, 2 for a descriptor.
 const MARK: u64 = 1;
 const DESC: u64 = 2;
+// A control: a serial number times four, and one of these.
 const UNDECIDED: u64 = 1;
 const SUCCEEDED: u64 = 2;
 const FAILED: u64 = 3;
 
-fn word(worker: usize, number: usize, tag: u64) -> u64 {
-    ((worker as u64) << 32 | number as u64) << 2 | tag
+fn word(worker: usize, number: u64, tag: u64) -> u64 {
+    ((worker as u64) << 56 | number) << 2 | tag
 }
 
-fn place(word: u64) -> usize {
-    let (worker, number) = ((word >> 34) as usize, (word >> 2) as u32 as usize);
-    number + worker * if word & 3 == MARK { MARKS } else { ROOM }
+fn worker_of(word: u64) -> usize {
+    (word >> 58) as usize
 }
 
+fn number_of(word: u64) -> u64 {
+    word >> 2 & ((1 << 56) - 1)
+}
+
+/// The words of one entry.
 #[derive(Default)]
-struct Place {
-    control: AtomicU64,
-    length: AtomicU64,
+struct EntryRow {
     cell: AtomicU64,
     old: AtomicU64,
     new: AtomicU64,
 }
 
+/// A worker's rows: one for all its descriptors, and one for all its marks.
 #[derive(Default)]
-struct Mark {
-    desc: AtomicU64,
-    entry: AtomicU64,
+struct Rows {
+    control: AtomicU64,
+    serial: AtomicU64,
+    length: AtomicU64,
+    entries: [EntryRow; MOST],
+    mark_serial: AtomicU64,
+    mark_desc: AtomicU64,
+    mark_entry: AtomicU64,
+}
+
+impl Rows {
+    /// Whether the row is of this descriptor: then what was read in it before was too.
+    fn is_of(&self, desc: u64) -> bool {
+        self.serial.load(SeqCst) == number_of(desc)
+    }
+
+    /// How the descriptor stands, or nothing where its worker has gone on to a later one.
+    fn state(&self, desc: u64) -> Option<u64> {
+        let control = self.control.load(SeqCst);
+        (control >> 2 == number_of(desc)).then_some(control & 3)
+    }
+
+    /// The cell and the old and the new value of an entry.
+    fn entry(&self, desc: u64, entry: usize) -> Option<(usize, u64, u64)> {
+        let row = &self.entries[entry];
+        let read = (row.cell.load(SeqCst) as usize, row.old.load(SeqCst), row.new.load(SeqCst));
+        self.is_of(desc).then_some(read)
+    }
 }
 
 struct Shared {
     cells: Vec<AtomicU64>,
-    places: Vec<Place>,
-    marks: Vec<Mark>,
+    rows: Vec<Rows>,
 }
 
 fn swap(word: &AtomicU64, old: u64, new: u64) -> u64 {
@@ -106,29 +126,40 @@ impl Shared {
     fn new(workers: usize) -> Shared {
         Shared {
             cells: (0..CELLS).map(|_| AtomicU64::new(0)).collect(),
-            places: (0..workers * ROOM).map(|_| Place::default()).collect(),
-            marks: (0..workers * MARKS).map(|_| Mark::default()).collect(),
+            rows: (0..workers).map(|_| Rows::default()).collect(),
         }
     }
 
-    /// Settles a mark: to its descriptor where that is undecided, else to the old value.
+    fn rows_of(&self, desc: u64) -> &Rows {
+        &self.rows[worker_of(desc)]
+    }
+
+    /// Settles a mark that was met: to its descriptor where that is undecided, else to the old value. Where its row or that of
+    /// its descriptor has gone on, its worker settles it.
     fn settle(&self, mark: u64, cell: usize) {
-        let row = &self.marks[place(mark)];
-        let (desc, entry) = (row.desc.load(SeqCst), row.entry.load(SeqCst) as usize);
-        let first = place(desc);
-        let to = match self.places[first].control.load(SeqCst) {
-            UNDECIDED => desc,
-            _ => self.places[first + entry].old.load(SeqCst),
+        let row = self.rows_of(mark);
+        let (desc, entry) = (row.mark_desc.load(SeqCst), row.mark_entry.load(SeqCst) as usize);
+        if row.mark_serial.load(SeqCst) != number_of(mark) {
+            return;
+        }
+        let to = match self.rows_of(desc).state(desc) {
+            None => return,
+            Some(UNDECIDED) => desc,
+            Some(_) => match self.rows_of(desc).entry(desc, entry) {
+                None => return,
+                Some((_, old, _)) => old,
+            },
         };
         swap(&self.cells[cell], mark, to);
     }
 
     /// Brings the descriptor into a cell that holds the old value; answers the word that it found there.
     fn restricted(&self, me: &mut Me, desc: u64, entry: usize, cell: usize, old: u64) -> u64 {
+        let row = &self.rows[me.worker];
+        row.mark_serial.store(me.marks, SeqCst);
+        row.mark_desc.store(desc, SeqCst);
+        row.mark_entry.store(entry as u64, SeqCst);
         let mark = word(me.worker, me.marks, MARK);
-        let row = &self.marks[place(mark)];
-        row.desc.store(desc, SeqCst);
-        row.entry.store(entry as u64, SeqCst);
         loop {
             let found = swap(&self.cells[cell], old, mark);
             if found & 3 == MARK {
@@ -137,60 +168,77 @@ impl Shared {
             }
             if found == old {
                 me.marks += 1;
-                self.settle(mark, cell);
+                let undecided = self.rows_of(desc).state(desc) == Some(UNDECIDED);
+                swap(&self.cells[cell], mark, if undecided { desc } else { old });
             }
             return found;
         }
     }
 
-    fn help(&self, me: &mut Me, desc: u64) -> bool {
-        let first = place(desc);
-        let control = &self.places[first].control;
-        let length = self.places[first].length.load(SeqCst) as usize;
-        if control.load(SeqCst) == UNDECIDED {
-            let result = self.hold(me, desc, first, length);
-            swap(control, UNDECIDED, result);
+    /// Finishes a descriptor; whether it succeeded, or nothing where its worker has gone on.
+    fn help(&self, me: &mut Me, desc: u64) -> Option<bool> {
+        let row = self.rows_of(desc);
+        let mut state = row.state(desc)?;
+        let length = row.length.load(SeqCst) as usize;
+        if !row.is_of(desc) {
+            return None;
         }
-        let succeeded = control.load(SeqCst) == SUCCEEDED;
-        for row in &self.places[first..first + length] {
-            let to = if succeeded { &row.new } else { &row.old };
-            swap(&self.cells[row.cell.load(SeqCst) as usize], desc, to.load(SeqCst));
+        if state == UNDECIDED {
+            let result = self.hold(me, desc, length)?;
+            let first = number_of(desc) << 2;
+            swap(&row.control, first | UNDECIDED, first | result);
+            state = row.state(desc)?;
         }
-        succeeded
+        for entry in 0..length {
+            let (cell, old, new) = row.entry(desc, entry)?;
+            swap(&self.cells[cell], desc, if state == SUCCEEDED { new } else { old });
+        }
+        Some(state == SUCCEEDED)
     }
 
-    fn hold(&self, me: &mut Me, desc: u64, first: usize, length: usize) -> u64 {
+    fn hold(&self, me: &mut Me, desc: u64, length: usize) -> Option<u64> {
+        let row = self.rows_of(desc);
         for entry in 0..length {
-            let row = &self.places[first + entry];
-            let (cell, old) = (row.cell.load(SeqCst) as usize, row.old.load(SeqCst));
+            let (cell, old, _) = row.entry(desc, entry)?;
             loop {
                 let found = self.restricted(me, desc, entry, cell, old);
+                if found == old {
+                    // (a late Settle may have put it there once it failed, or was left)
+                    match row.state(desc) {
+                        Some(UNDECIDED | SUCCEEDED) => {}
+                        state => {
+                            swap(&self.cells[cell], desc, old);
+                            state?;
+                        }
+                    }
+                }
                 if found == desc || found == old {
                     break;
                 }
                 if found & 3 != DESC {
-                    return FAILED;
+                    return Some(FAILED);
                 }
                 self.help(me, found);
             }
         }
-        SUCCEEDED
+        Some(SUCCEEDED)
     }
 }
 
 impl Swaps for Shared {
     fn kcas(&self, me: &mut Me, entries: &[Entry]) -> bool {
-        let desc = word(me.worker, me.places, DESC);
-        let first = place(desc);
-        self.places[first].length.store(entries.len() as u64, SeqCst);
-        for (row, entry) in self.places[first..].iter().zip(entries) {
+        let desc = word(me.worker, me.descriptors, DESC);
+        let row = &self.rows[me.worker];
+        row.serial.store(me.descriptors, SeqCst);
+        row.length.store(entries.len() as u64, SeqCst);
+        for (row, entry) in row.entries.iter().zip(entries) {
             row.cell.store(entry.cell as u64, SeqCst);
             row.old.store(entry.old << 2, SeqCst);
             row.new.store(entry.new << 2, SeqCst);
         }
-        self.places[first].control.store(UNDECIDED, SeqCst);
-        me.places += entries.len();
-        self.help(me, desc)
+        row.control.store(me.descriptors << 2 | UNDECIDED, SeqCst);
+        me.descriptors += 1;
+        self.help(me, desc).expect("an own descriptor does not go on")
     }
 
     fn read(&self, me: &mut Me, cell: usize) -> u64 {
@@ -205,17 +253,16 @@ impl Swaps for Shared {
     }
 
     fn wipe(&mut self) {
-        self.places.iter_mut().for_each(|row| *row = Place::default());
-        self.marks.iter_mut().for_each(|row| *row = Mark::default());
+        self.rows.iter_mut().for_each(|row| *row = Rows::default());
     }
 }
 
-/// Raises the cells from this one on, time after time, until the places or the marks are used.
+/// Raises the cells from this one on, time after time.
 fn raise_often(shared: &dyn Swaps, me: &mut Me, first: usize, count: usize) -> u64 {
     let mut entries = [Entry::default(); MOST];
     let mut done = 0;
     let mut seen = false;
-    while me.has_room(count) {
+    for _ in 0..ENTRIES / count {
         for (i, entry) in entries[..count].iter_mut().enumerate() {
             let cell = first + i;
             let old = if seen { entry.new } else { shared.read(me, cell) };
@@ -242,7 +289,7 @@ fn main() {
                 .map(|worker| {
                     let shared = &*shared;
                     scope.spawn(move || {
-                        let mut me = Me { worker, places: 0, marks: 0 };
+                        let mut me = Me { worker, descriptors: 0, marks: 0 };
                         let first = if cells == "own" { worker * MOST } else { 0 };
                         let start = Instant::now();
                         let done = raise_often(shared, &mut me, first, count);

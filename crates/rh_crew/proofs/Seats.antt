@@ -1,9 +1,7 @@
 -- Seats whose workers rest, one by one and joined.
-use Rattle.std.proofs.Common.{◌≡◌, ℕ, zero, suc, List, [], ◌∷◌, ◌++◌, refl, sym, ap, ◌∙◌, subst, ⊎_elim}
-use mathlib.Core.Option.{some, some-injective, some-ne-none}
-use lib.ListN.{get_elem?}
+use Rattle.std.proofs.Common.{◌≡◌, zero, suc, List, [], ◌∷◌, ◌++◌, refl, sym, ap, subst, ⊎_elim}
+use mathlib.Core.Option.{some-injective, some-ne-none}
 use Rattle.rh_descriptor.specs.declared.known.Known.{Known}
-use Rattle.rh_descriptor.specs.View.{View}
 use Rattle.rh_rule.specs.Seats.{InView, known}
 use Rattle.rh_rule.proofs.SeatsKept.{at_append}
 use Rattle.rh_rdcss.specs.declared.seat.Seat.{Seat}
@@ -11,7 +9,7 @@ use Rattle.rh_rdcss.specs.declared.table.Table.{Table}
 use Rattle.rh_rdcss.specs.Calls.{view_of}
 use Rattle.rh_kcas.specs.Crews.{IsAt, IsFresh, IsQuiet, head_of, views_of}
 use Rattle.rh_kcas.specs.Rests.{Rests}
-use Rattle.rh_kcas.proofs.Crews.{fresh_rests, head_in}
+use Rattle.rh_kcas.proofs.Crews.{fresh_rests}
 
 -- what the seat of one worker keeps of it
 alone_views : (s : Seat) → s.count ≡ 1 → views_of s ≡ known (view_of s) ∷ []

@@ -1,12 +1,11 @@
 -- The kinds of step on the words of a table: when a worker may make one, which word it touches, what becomes of the word,
 -- and what the worker notes. Each is the swap, store, load or increment of one word. The swaps are those of Harris,
 -- Fraser and Pratt 2002; that each worker places marks of its own, and Claims, are this project's.
-use Rattle.std.specs.Prelude.{zero, suc, ◌≡◌, ℕ, ◌+◌, ◌<◌, ◌≤◌, ◌%◌, ◌^◌, ◌==◌, ◌&&◌, ◌⊎◌, Option, Some, None, Bool, true, false, cond, List, [], ◌∷◌, ◌++◌, length, slice_index, slice_set}
-use Rattle.rh_tagword.specs.declared.limits.TheConstants.{ENTRY_BITS, UNUSED, UNDECIDED}
+use Rattle.std.specs.Prelude.{zero, suc, ◌≡◌, ℕ, ◌+◌, ◌<◌, ◌≤◌, ◌%◌, ◌^◌, ◌==◌, ◌&&◌, ◌||◌, ◌⊎◌, Option, Some, None, Bool, true, false, cond, List, [], ◌∷◌, ◌++◌, length, slice_index, slice_set}
 use Rattle.rh_world.specs.World.{Ref, Control, In, is_ref}
 use Rattle.rh_world.specs.World.Control.{unused, undecided, succeeded, withdrawn, failed}
 use Rattle.rh_world.specs.Notes.{Note}
-use Rattle.rh_world.specs.Notes.Note.{known, size_is, target_is, old_is, new_is, desc_is, which_is, decided, found, may_promote, may_demote}
+use Rattle.rh_world.specs.Notes.Note.{known, size_is, target_is, old_is, new_is, desc_is, which_is, decided, over, passed, failed_at, found, may_promote, may_demote, held, mismatch}
 use Rattle.rh_world.specs.Sides.{Side, is_number, note_side, open_side, paid_side, claim_side}
 use Rattle.rh_world.specs.Moves.{Entries, MayWork, MayDecide, note_entries, cell_noted, control_noted, mark_noted, place_noted, settle_noted, release_noted, note_all}
 use Rattle.rh_layout.specs.declared.entry.Entry.{Entry}
@@ -15,10 +14,11 @@ use Rattle.rh_descriptor.specs.declared.shape.Part.{Part}
 use Rattle.rh_descriptor.specs.declared.shape.Part.TheVariants as part
 use Rattle.rh_descriptor.specs.declared.reference.Reading.{Reading}
 use Rattle.rh_descriptor.specs.declared.reference.Reading.TheVariants as reading
-use Rattle.rh_descriptor.specs.Places.{cell_count, word_count, entry_row, mark_row, place_of}
-use Rattle.rh_descriptor.specs.View.{MarkWord, OwnDesc, Raw, Written, View}
+use Rattle.rh_descriptor.specs.Places.{cell_count, word_count, entry_row, mark_row, note_row, place_of}
+use Rattle.rh_descriptor.specs.View.{MarkWord, OwnDesc, Raw, RawRow, RowWord, Written, View}
+use Rattle.rh_descriptor.specs.View.RowWord.{length_word, cell_word, old_word, new_word}
 use Rattle.rh_descriptor.specs.View.MarkWord.{desc_word, entry_word}
-use Rattle.rh_descriptor.specs.Words.{IsPlain, mark_number, desc_number, number_of, decided_by, cell_in, read_control, desc_in, ref_of}
+use Rattle.rh_descriptor.specs.Words.{IsPlain, mark_number, desc_number, number_of, with_entry, serial_in, cell_in, read_control, desc_in, ref_of}
 
 pub data Step : Type 0 where
   -- Write of a word of an own row
@@ -31,8 +31,9 @@ pub data Step : Type 0 where
   -- Settle of a mark in a cell, which is for this entry: to its descriptor, or to this old value
   settles : (x : Ref) → (c : ℕ) → (d : Ref) → (e : ℕ) → (old : Option ℕ) → Step
   decides : Ref → Control → Step
-  -- Release of an entry of a descriptor that is decided so: its cell, and the value that it puts there
-  releases : Ref → (e c : ℕ) → Control → (value : ℕ) → Step
+  -- Release of an entry of a descriptor that is decided so, or whose row has gone on: its cell, and the value that it puts
+  -- there
+  releases : Ref → (e c : ℕ) → Option Control → (value : ℕ) → Step
   -- Claim of the next place of the list of keys
   claims : Step
 
@@ -43,12 +44,12 @@ abbrev pub row_word : List Written → (row : ℕ) → ℕ
 row_word [] row = 0
 row_word (o ∷ os) row = cond (row == o.row) o.word (row_word os row)
 
--- the entries that the row words say from a place of the pool on
-abbrev pub entries_at : List Written → (place size : ℕ) → List Entry
-entries_at rows place zero = []
-entries_at rows place (suc n) =
-    record { cell = row_word rows (entry_row place 2); old = row_word rows (entry_row place 3); new = row_word rows (entry_row place 4) }
-    ∷ entries_at rows (suc place) n
+-- the entries that the row words say from this one on
+abbrev pub entries_at : List Written → (entry size : ℕ) → List Entry
+entries_at rows entry zero = []
+entries_at rows entry (suc n) =
+    record { cell = row_word rows (entry_row entry 0); old = row_word rows (entry_row entry 1); new = row_word rows (entry_row entry 2) }
+    ∷ entries_at rows (suc entry) n
 
 abbrev pub no_entry : Entry
 no_entry = record { cell = 0; old = 0; new = 0 }
@@ -63,7 +64,7 @@ abbrev pub entries_of : List Entry → Entries
 entries_of es = record { size = length es; target = λ e. (entry_of es e).cell; old = λ e. (entry_of es e).old; new = λ e. (entry_of es e).new }
 
 abbrev pub next_entries : View → (size : ℕ) → List Entry
-next_entries v size = entries_at v.written v.next_number size
+next_entries v size = entries_at v.written 0 size
 
 -- how many entries the own descriptor of this number has
 abbrev pub size_in : List OwnDesc → (number : ℕ) → ℕ
@@ -76,32 +77,48 @@ own_desc v = record { worker = v.worker; number = v.next_number }
 abbrev pub own_mark : View → Ref
 own_mark v = record { worker = v.worker; number = v.marks_used }
 
+-- the own descriptor row is of the next own descriptor
+abbrev pub HasRow : View → Type 0
+HasRow v = row_word v.written 1 ≡ v.next_number
+
 -- the own mark row is of the next own mark
 abbrev pub HasSerial : Shape → View → Type 0
 HasSerial z v = row_word v.written (mark_row z 0) ≡ v.marks_used
 
 -- ---- when it is allowed
 
--- This word may be written there: to a row that no opened descriptor has, or to the mark row, once the mark that it was of
--- is settled, and then the number of the next mark before all else.
+-- The worker knows that an entry of a descriptor of this owner did not hold its old value, and decided no descriptor of the
+-- owner as failed that is not older than that one: so no note to the owner is lost that it is to read.
+pub record MayNote (v : View) (owner : ℕ) : Type 0 where
+  pub desc : Ref
+  pub entry : ℕ
+  pub of_owner : desc.worker ≡ owner
+  pub mismatch : (n : ℕ) × In (Note.mismatch desc entry n) v.side.notes
+  pub older : (d : Ref) → d.worker ≡ owner → In (decided d (failed 0 v.worker)) v.side.notes → d.number < desc.number
+
+-- This word may be written there: to the descriptor row, while nothing is open, and then the number of the next descriptor
+-- before all else; to the mark row, once the mark that it was of is settled, and then the number of the next mark first; or
+-- to the note to an owner.
 abbrev pub IsFree : Shape → View → Part → (word : ℕ) → Type 0
 IsFree z v (part.Cell c) u = ⊥
-IsFree z v (part.Control worker entry) u = ⊥
-IsFree z v (part.Length worker entry) u = (worker ≡ v.worker) × (v.next_number ≤ entry) × (entry < z.entry_room)
-IsFree z v (part.EntryCell worker entry) u = (worker ≡ v.worker) × (v.next_number ≤ entry) × (entry < z.entry_room)
-IsFree z v (part.EntryOld worker entry) u = (worker ≡ v.worker) × (v.next_number ≤ entry) × (entry < z.entry_room)
-IsFree z v (part.EntryNew worker entry) u = (worker ≡ v.worker) × (v.next_number ≤ entry) × (entry < z.entry_room)
-IsFree z v (part.MarkSerial worker) u = (worker ≡ v.worker) × (v.side.unsettled ≡ None) × (u ≡ v.marks_used) × (u < z.mark_room)
+IsFree z v (part.Control worker) u = ⊥
+IsFree z v (part.Serial worker) u = (worker ≡ v.worker) × (v.side.current ≡ None) × (u ≡ v.next_number) × (u < z.rooms.descriptors)
+IsFree z v (part.Length worker) u = (worker ≡ v.worker) × (v.side.current ≡ None) × HasRow v
+IsFree z v (part.EntryCell worker entry) u = (worker ≡ v.worker) × (v.side.current ≡ None) × HasRow v × (entry < cell_count z)
+IsFree z v (part.EntryOld worker entry) u = (worker ≡ v.worker) × (v.side.current ≡ None) × HasRow v × (entry < cell_count z)
+IsFree z v (part.EntryNew worker entry) u = (worker ≡ v.worker) × (v.side.current ≡ None) × HasRow v × (entry < cell_count z)
+IsFree z v (part.MarkSerial worker) u = (worker ≡ v.worker) × (v.side.unsettled ≡ None) × (u ≡ v.marks_used) × (u < z.rooms.marks)
 IsFree z v (part.MarkDesc worker) u = (worker ≡ v.worker) × (v.side.unsettled ≡ None) × HasSerial z v
 IsFree z v (part.MarkEntry worker) u = (worker ≡ v.worker) × (v.side.unsettled ≡ None) × HasSerial z v
+IsFree z v (part.Note worker owner) u = (worker ≡ v.worker) × (owner < z.workers) × MayNote v owner
 IsFree z v part.Counter u = ⊥
 
--- the table has this descriptor, or this mark
+-- the table may have this descriptor, or this mark
 abbrev pub IsDesc : Shape → Ref → Type 0
-IsDesc z d = (d.worker < z.workers) × (d.number < z.entry_room)
+IsDesc z d = (d.worker < z.workers) × (d.number < z.rooms.descriptors)
 
 abbrev pub IsMark : Shape → Ref → Type 0
-IsMark z x = (x.worker < z.workers) × (x.number < z.mark_room)
+IsMark z x = (x.worker < z.workers) × (x.number < z.rooms.marks)
 
 -- entries that a descriptor may have: the cells rise and are cells of the table, and the values are plain words
 pub record AreEntries (z : Shape) (es : List Entry) : Type 0 where
@@ -111,11 +128,12 @@ pub record AreEntries (z : Shape) (es : List Entry) : Type 0 where
   pub olds : (e : ℕ) → e < length es → IsPlain (entry_of es e).old
   pub news : (e : ℕ) → e < length es → IsPlain (entry_of es e).new
 
--- the own rows say the entries, there is a place for each, and nothing of the worker is open
+-- the own row is of the next descriptor and says the entries, it has a number, and nothing of the worker is open
 pub record CanOpen (z : Shape) (v : View) (size : ℕ) : Type 0 where
-  pub length_is : row_word v.written (entry_row v.next_number 1) ≡ size
+  pub row : HasRow v
+  pub length_is : row_word v.written 2 ≡ size
   pub entries : AreEntries z (next_entries v size)
-  pub room : v.next_number + size ≤ z.entry_room
+  pub room : v.next_number < z.rooms.descriptors
   pub closed : v.side.current ≡ None
 
 -- the worker knows that d was opened
@@ -128,26 +146,37 @@ IsRead z (reading.Place p) = p < word_count z
 IsRead z (reading.Cell c) = c < cell_count z
 IsRead z (reading.Control d) = IsDesc z (ref_of d)
 IsRead z (reading.MarkControl x c d) = IsDesc z (ref_of d)
+IsRead z (reading.Serial d) = IsDesc z (ref_of d)
 IsRead z (reading.Length d) = IsDesc z (ref_of d)
-IsRead z (reading.EntryCell d e) = (d.worker < z.workers) × (d.number + e < z.entry_room)
-IsRead z (reading.EntryOld d e) = (d.worker < z.workers) × (d.number + e < z.entry_room)
-IsRead z (reading.EntryNew d e) = (d.worker < z.workers) × (d.number + e < z.entry_room)
+IsRead z (reading.EntryCell d e) = IsDesc z (ref_of d) × (e < cell_count z)
+IsRead z (reading.EntryOld d e) = IsDesc z (ref_of d) × (e < cell_count z)
+IsRead z (reading.EntryNew d e) = IsDesc z (ref_of d) × (e < cell_count z)
 IsRead z (reading.MarkSerial x) = IsMark z (ref_of x)
 IsRead z (reading.MarkDesc x) = IsMark z (ref_of x)
 IsRead z (reading.MarkEntry x) = IsMark z (ref_of x)
+IsRead z (reading.Reason d by) = IsDesc z (ref_of d) × (by < z.workers)
 
 -- the row of a mark for entry e of d is known: so d was opened, and has that entry
 abbrev pub KnowsMark : List Note → Ref → (e : ℕ) → Type 0
 KnowsMark notes d e = (x : Ref) × In (desc_is x d) notes × In (which_is x e) notes
 
+-- d is known as opened, or a mark of it is known
+abbrev pub WasOpened : List Note → Ref → Type 0
+WasOpened notes d = IsKnown notes d ⊎ ((x : Ref) × In (desc_is x d) notes)
+
+-- d is the newest descriptor of the worker
+abbrev pub IsNewest : View → Ref → Type 0
+IsNewest v d = (d.worker ≡ v.worker) × (suc d.number ≡ v.next_number)
+
 -- What is noted of it is true: what a row says is noted only of a descriptor that is known as opened, or of a mark that
 -- was found, and then only once its row is seen to be still of it; that a mark may be settled, only where its control is
--- read after it was found.
+-- read after it was found; a note to the worker, only of its newest descriptor, which that other one decided.
 abbrev pub IsNoted : View → Reading → Type 0
 IsNoted v (reading.Place p) = Unit {0}
 IsNoted v (reading.Cell c) = Unit {0}
 IsNoted v (reading.Control d) = Unit {0}
 IsNoted v (reading.MarkControl x c d) = In (found (ref_of x) c) v.side.notes × In (desc_is (ref_of x) (ref_of d)) v.side.notes
+IsNoted v (reading.Serial d) = WasOpened v.side.notes (ref_of d)
 IsNoted v (reading.Length d) = IsKnown v.side.notes (ref_of d)
 IsNoted v (reading.EntryCell d e) = MayWork v.side (ref_of d) e
 IsNoted v (reading.EntryOld d e) = MayWork v.side (ref_of d) e ⊎ KnowsMark v.side.notes (ref_of d) e
@@ -155,11 +184,12 @@ IsNoted v (reading.EntryNew d e) = MayWork v.side (ref_of d) e
 IsNoted v (reading.MarkSerial x) = (c : ℕ) × In (found (ref_of x) c) v.side.notes
 IsNoted v (reading.MarkDesc x) = (c : ℕ) × In (found (ref_of x) c) v.side.notes
 IsNoted v (reading.MarkEntry x) = (c : ℕ) × In (found (ref_of x) c) v.side.notes
+IsNoted v (reading.Reason d by) = IsNewest v (ref_of d) × In (decided (ref_of d) (failed 0 by)) v.side.notes
 
 -- the next own mark is left, the mark row is of it and names the entry, the entry is known, and no own mark is unsettled
 pub record CanPlace (z : Shape) (v : View) (d : Ref) (e c old : ℕ) : Type 0 where
   pub cell : c < cell_count z
-  pub room : v.marks_used < z.mark_room
+  pub room : v.marks_used < z.rooms.marks
   pub serial : HasSerial z v
   pub desc : row_word v.written (mark_row z 1) ≡ desc_number d
   pub entry : row_word v.written (mark_row z 2) ≡ e
@@ -183,19 +213,23 @@ pub record CanSettle (z : Shape) (v : View) (x : Ref) (c : ℕ) (d : Ref) (e : �
   pub which_is : In (Note.which_is x e) v.side.notes
   pub may : MaySettle v x c d e old
 
--- of how it is decided: a word tells it, so the entry has a number and the decider is 0; a descriptor is withdrawn only
--- where no mark is left
+-- of how it is decided: a word tells it, so the entry is 0; the worker names itself; a descriptor is withdrawn only where no
+-- mark is left
 abbrev pub IsResult : Shape → View → Control → Type 0
 IsResult z v unused = ⊥
 IsResult z v undecided = ⊥
 IsResult z v succeeded = Unit {0}
-IsResult z v withdrawn = z.mark_room ≤ v.marks_used
-IsResult z v (failed e by) = (by ≡ 0) × (e < 2 ^ ENTRY_BITS)
+IsResult z v withdrawn = z.rooms.marks ≤ v.marks_used
+IsResult z v (failed e by) = (e ≡ 0) × (by ≡ v.worker)
+
+-- the entry at which it fails is that of the own note to its owner
+abbrev pub decided_so : Shape → View → Ref → Control → Control
+decided_so z v d k = with_entry (row_word v.written (note_row z d.worker)) k
 
 pub record CanDecide (z : Shape) (v : View) (d : Ref) (k : Control) : Type 0 where
   pub desc : IsDesc z d
   pub known : In (Note.known d) v.side.notes
-  pub may : MayDecide v.side v.worker d (decided_by v.worker k)
+  pub may : MayDecide v.side v.worker d (decided_so z v d k)
   pub result : IsResult z v k
 
 -- the value that the entry's cell gets: the new one if the descriptor succeeded, else the old one
@@ -206,14 +240,20 @@ IsReleased v d e succeeded value = In (new_is d e value) v.side.notes
 IsReleased v d e withdrawn value = In (old_is d e value) v.side.notes
 IsReleased v d e (failed f by) value = In (old_is d e value) v.side.notes
 
--- the entry is known, and how its descriptor was decided
-pub record CanRelease (z : Shape) (v : View) (d : Ref) (e c : ℕ) (k : Control) (value : ℕ) : Type 0 where
+-- how the descriptor was decided is known, and which value counts; or that it was, and that its row has gone on, so that it
+-- is not the own open one: then it is the old one, as a descriptor that succeeded stands nowhere any more
+abbrev pub KnowsValue : View → Ref → (e : ℕ) → Option Control → (value : ℕ) → Type 0
+KnowsValue v d e None value =
+    In (over d) v.side.notes × In (passed d) v.side.notes × In (old_is d e value) v.side.notes × (d.worker ≡ v.worker → v.side.current ≡ Some d.number → ⊥)
+KnowsValue v d e (Some k) value = In (decided d k) v.side.notes × IsReleased v d e k value
+
+-- the entry is known, and what its cell gets
+pub record CanRelease (z : Shape) (v : View) (d : Ref) (e c : ℕ) (k : Option Control) (value : ℕ) : Type 0 where
   pub cell : c < cell_count z
   pub desc : IsDesc z d
   pub work : MayWork v.side d e
   pub knows_cell : In (target_is d e c) v.side.notes
-  pub decided : In (Note.decided d k) v.side.notes
-  pub knows_value : IsReleased v d e k value
+  pub knows_value : KnowsValue v d e k value
 
 -- nothing of the worker is open, and no earlier Claim of it found the end
 pub record CanClaim (z : Shape) (v : View) : Type 0 where
@@ -241,23 +281,25 @@ pub record Allowed (z : Shape) (v : View) (s : Step) : Type 0 where
 abbrev pub place_read : Shape → Reading → ℕ
 place_read z (reading.Place p) = p
 place_read z (reading.Cell c) = c
-place_read z (reading.Control d) = place_of z (part.Control d.worker d.number)
-place_read z (reading.MarkControl x c d) = place_of z (part.Control d.worker d.number)
-place_read z (reading.Length d) = place_of z (part.Length d.worker d.number)
-place_read z (reading.EntryCell d e) = place_of z (part.EntryCell d.worker (d.number + e))
-place_read z (reading.EntryOld d e) = place_of z (part.EntryOld d.worker (d.number + e))
-place_read z (reading.EntryNew d e) = place_of z (part.EntryNew d.worker (d.number + e))
+place_read z (reading.Control d) = place_of z (part.Control d.worker)
+place_read z (reading.MarkControl x c d) = place_of z (part.Control d.worker)
+place_read z (reading.Serial d) = place_of z (part.Serial d.worker)
+place_read z (reading.Length d) = place_of z (part.Length d.worker)
+place_read z (reading.EntryCell d e) = place_of z (part.EntryCell d.worker e)
+place_read z (reading.EntryOld d e) = place_of z (part.EntryOld d.worker e)
+place_read z (reading.EntryNew d e) = place_of z (part.EntryNew d.worker e)
 place_read z (reading.MarkSerial x) = place_of z (part.MarkSerial x.worker)
 place_read z (reading.MarkDesc x) = place_of z (part.MarkDesc x.worker)
 place_read z (reading.MarkEntry x) = place_of z (part.MarkEntry x.worker)
+place_read z (reading.Reason d by) = place_of z (part.Note by d.worker)
 
 abbrev pub place : Shape → View → Step → ℕ
 place z v (writes p u) = place_of z p
-place z v (opens size) = place_of z (part.Control v.worker v.next_number)
+place z v (opens size) = place_of z (part.Control v.worker)
 place z v (reads r) = place_read z r
 place z v (places d e c old) = c
 place z v (settles x c d e old) = c
-place z v (decides d k) = place_of z (part.Control d.worker d.number)
+place z v (decides d k) = place_of z (part.Control d.worker)
 place z v (releases d e c k value) = c
 place z v claims = place_of z part.Counter
 
@@ -273,11 +315,11 @@ settled_word d (Some old) = old
 
 abbrev pub word_after : View → Step → (word : ℕ) → ℕ
 word_after v (writes p u) word = u
-word_after v (opens size) word = swapped UNUSED UNDECIDED word
+word_after v (opens size) word = swapped v.control (number_of v.next_number undecided) word
 word_after v (reads r) word = word
 word_after v (places d e c old) word = swapped old (mark_number (own_mark v)) word
 word_after v (settles x c d e old) word = swapped (mark_number x) (settled_word d old) word
-word_after v (decides d k) word = swapped UNDECIDED (number_of k) word
+word_after v (decides d k) word = swapped (number_of d.number undecided) (number_of d.number k) word
 word_after v (releases d e c k value) word = swapped (desc_number d) value word
 word_after v claims word = (word + 1) % 2 ^ 64
 
@@ -286,20 +328,32 @@ word_after v claims word = (word + 1) % 2 ^ 64
 -- the row of a part among its worker's
 abbrev pub row_of : Shape → Part → ℕ
 row_of z (part.Cell c) = 0
-row_of z (part.Control worker entry) = entry_row entry 0
-row_of z (part.Length worker entry) = entry_row entry 1
-row_of z (part.EntryCell worker entry) = entry_row entry 2
-row_of z (part.EntryOld worker entry) = entry_row entry 3
-row_of z (part.EntryNew worker entry) = entry_row entry 4
+row_of z (part.Control worker) = 0
+row_of z (part.Serial worker) = 1
+row_of z (part.Length worker) = 2
+row_of z (part.EntryCell worker entry) = entry_row entry 0
+row_of z (part.EntryOld worker entry) = entry_row entry 1
+row_of z (part.EntryNew worker entry) = entry_row entry 2
 row_of z (part.MarkSerial worker) = mark_row z 0
 row_of z (part.MarkDesc worker) = mark_row z 1
 row_of z (part.MarkEntry worker) = mark_row z 2
+row_of z (part.Note worker owner) = note_row z owner
 row_of z part.Counter = 0
 
 abbrev pub with_side : View → Side → View
 with_side v s = record v { side = s }
 
--- what the words that were read in the row of a mark say of it
+-- what the words that were read in a row say of its descriptor, or of its mark
+abbrev pub desc_row_said : Ref → RowWord → Note
+desc_row_said d (length_word u) = size_is d u
+desc_row_said d (cell_word e u) = target_is d e u
+desc_row_said d (old_word e u) = old_is d e u
+desc_row_said d (new_word e u) = new_is d e u
+
+abbrev pub rows_said : List RawRow → Ref → List Note
+rows_said [] d = []
+rows_said (r ∷ rs) d = cond (is_ref r.desc d) (desc_row_said d r.word ∷ rows_said rs d) (rows_said rs d)
+
 abbrev pub desc_said : Ref → Option Ref → List Note
 desc_said x None = []
 desc_said x (Some d) = desc_is x d ∷ []
@@ -312,24 +366,69 @@ abbrev pub row_said : List Raw → Ref → List Note
 row_said [] x = []
 row_said (r ∷ rs) x = cond (is_ref r.mark x) (mark_said x r.word ++ row_said rs x) (row_said rs x)
 
+-- the row of d is of another descriptor by now, so it was decided
+abbrev pub gone_noted : Side → Ref → Side
+gone_noted s d = note_side (note_side s (over d)) (passed d)
+
+-- whether a note says that d was opened
+abbrev pub tells_opened : Note → Ref → Bool
+tells_opened (known f) d = is_ref f d
+tells_opened (size_is f n) d = false
+tells_opened (target_is f e c) d = false
+tells_opened (old_is f e u) d = false
+tells_opened (new_is f e u) d = false
+tells_opened (decided f k) d = is_ref f d
+tells_opened (over f) d = false
+tells_opened (passed f) d = false
+tells_opened (failed_at f e) d = false
+tells_opened (desc_is x f) d = false
+tells_opened (which_is x e) d = false
+tells_opened (found x c) d = false
+tells_opened (may_promote x c) d = false
+tells_opened (may_demote x) d = false
+tells_opened (held f e) d = false
+tells_opened (mismatch f e n) d = false
+
+abbrev pub is_known : List Note → Ref → Bool
+is_known [] d = false
+is_known (n ∷ ns) d = tells_opened n d || is_known ns d
+
+-- A control word with the number of d tells how d is. With another one it tells that d has gone on, if it was opened.
+abbrev pub control_read : Side → Ref → (word : ℕ) → Side
+control_read s d word =
+    cond (serial_in word == d.number) (control_noted s d (read_control word)) (cond (is_known s.notes d) (gone_noted s d) s)
+
+-- the same of the control of a mark that was found in a cell
+abbrev pub mark_control_read : Side → (x : Ref) → (c : ℕ) → (d : Ref) → (word : ℕ) → Side
+mark_control_read s x c d word =
+    cond (serial_in word == d.number) (mark_noted (control_noted s d (read_control word)) x c (read_control word)) (note_side (gone_noted s d) (may_demote x))
+
+-- the number in the row of d
+abbrev pub serial_read : View → Ref → (word : ℕ) → Side
+serial_read v d word = cond (word == d.number) (note_all v.side (rows_said v.raw_rows d)) (gone_noted v.side d)
+
 abbrev pub read_noted : View → Reading → (word : ℕ) → Side
 read_noted v (reading.Place p) word = v.side
 read_noted v (reading.Cell c) word = cell_noted v.side c (cell_in word) v.side.current 0 v.next_number
-read_noted v (reading.Control d) word = control_noted v.side (ref_of d) (read_control word)
-read_noted v (reading.MarkControl x c d) word = mark_noted (control_noted v.side (ref_of d) (read_control word)) (ref_of x) c (read_control word)
-read_noted v (reading.Length d) word = note_side v.side (size_is (ref_of d) word)
-read_noted v (reading.EntryCell d e) word = note_side v.side (target_is (ref_of d) e word)
-read_noted v (reading.EntryOld d e) word = note_side v.side (old_is (ref_of d) e word)
-read_noted v (reading.EntryNew d e) word = note_side v.side (new_is (ref_of d) e word)
+read_noted v (reading.Control d) word = control_read v.side (ref_of d) word
+read_noted v (reading.MarkControl x c d) word = mark_control_read v.side (ref_of x) c (ref_of d) word
+read_noted v (reading.Serial d) word = serial_read v (ref_of d) word
+read_noted v (reading.Length d) word = v.side
+read_noted v (reading.EntryCell d e) word = v.side
+read_noted v (reading.EntryOld d e) word = v.side
+read_noted v (reading.EntryNew d e) word = v.side
 read_noted v (reading.MarkSerial x) word = cond (word == x.number) (note_all v.side (row_said v.raw (ref_of x))) v.side
 read_noted v (reading.MarkDesc x) word = v.side
 read_noted v (reading.MarkEntry x) word = v.side
+read_noted v (reading.Reason d by) word = note_side v.side (failed_at (ref_of d) word)
 
+-- the words that were read in rows, and whose numbers are not seen yet
 abbrev pub read_raw : List Raw → Reading → (word : ℕ) → List Raw
 read_raw raw (reading.Place p) word = raw
 read_raw raw (reading.Cell c) word = raw
 read_raw raw (reading.Control d) word = raw
 read_raw raw (reading.MarkControl x c d) word = raw
+read_raw raw (reading.Serial d) word = raw
 read_raw raw (reading.Length d) word = raw
 read_raw raw (reading.EntryCell d e) word = raw
 read_raw raw (reading.EntryOld d e) word = raw
@@ -337,14 +436,58 @@ read_raw raw (reading.EntryNew d e) word = raw
 read_raw raw (reading.MarkSerial x) word = raw
 read_raw raw (reading.MarkDesc x) word = record { mark = ref_of x; word = desc_word word } ∷ raw
 read_raw raw (reading.MarkEntry x) word = record { mark = ref_of x; word = entry_word word } ∷ raw
+read_raw raw (reading.Reason d by) word = raw
+
+abbrev pub read_rows : List RawRow → Reading → (word : ℕ) → List RawRow
+read_rows rows (reading.Place p) word = rows
+read_rows rows (reading.Cell c) word = rows
+read_rows rows (reading.Control d) word = rows
+read_rows rows (reading.MarkControl x c d) word = rows
+read_rows rows (reading.Serial d) word = rows
+read_rows rows (reading.Length d) word = record { desc = ref_of d; word = length_word word } ∷ rows
+read_rows rows (reading.EntryCell d e) word = record { desc = ref_of d; word = cell_word e word } ∷ rows
+read_rows rows (reading.EntryOld d e) word = record { desc = ref_of d; word = old_word e word } ∷ rows
+read_rows rows (reading.EntryNew d e) word = record { desc = ref_of d; word = new_word e word } ∷ rows
+read_rows rows (reading.MarkSerial x) word = rows
+read_rows rows (reading.MarkDesc x) word = rows
+read_rows rows (reading.MarkEntry x) word = rows
+read_rows rows (reading.Reason d by) word = rows
+
+-- the own control word, where it is the one that was seen
+abbrev pub is_newest : View → Ref → Bool
+is_newest v d = (d.worker == v.worker) && (suc d.number == v.next_number)
+
+abbrev pub control_seen : View → Ref → (word : ℕ) → ℕ
+control_seen v d word = cond (is_newest v d) word v.control
+
+abbrev pub read_own : View → Reading → (word : ℕ) → ℕ
+read_own v (reading.Place p) word = v.control
+read_own v (reading.Cell c) word = v.control
+read_own v (reading.Control d) word = control_seen v (ref_of d) word
+read_own v (reading.MarkControl x c d) word = control_seen v (ref_of d) word
+read_own v (reading.Serial d) word = v.control
+read_own v (reading.Length d) word = v.control
+read_own v (reading.EntryCell d e) word = v.control
+read_own v (reading.EntryOld d e) word = v.control
+read_own v (reading.EntryNew d e) word = v.control
+read_own v (reading.MarkSerial x) word = v.control
+read_own v (reading.MarkDesc x) word = v.control
+read_own v (reading.MarkEntry x) word = v.control
+read_own v (reading.Reason d by) word = v.control
 
 abbrev pub read_view : View → Reading → (word : ℕ) → View
-read_view v r word = record v { side = read_noted v r word; raw = read_raw v.raw r word }
+read_view v r word = record v {
+  side = read_noted v r word;
+  control = read_own v r word;
+  raw_rows = read_rows v.raw_rows r word;
+  raw = read_raw v.raw r word;
+}
 
 abbrev pub open_noted : View → (size : ℕ) → View
 open_noted v size = record v {
   side = note_entries (open_side v.side v.next_number) (own_desc v) (entries_of (next_entries v size)) size;
-  next_number = v.next_number + size;
+  next_number = suc v.next_number;
+  control = number_of v.next_number undecided;
   opened = record { number = v.next_number; entries = next_entries v size } ∷ v.opened;
 }
 
@@ -362,9 +505,15 @@ abbrev pub settle_view : View → (x : Ref) → (c : ℕ) → (d : Ref) → (e :
 settle_view v x c d e old word =
     cond (is_number v.side.unsettled v.worker x) (settle_noted v.side d e c (is_none old && (word == mark_number x))) v.side
 
--- how d stands after a swap of its control from undecided to k that found this word
-abbrev pub decided_now : Control → (word : ℕ) → Control
-decided_now k word = cond (word == UNDECIDED) k (read_control word)
+-- the control word of d after a swap of it from undecided to k that found this word
+abbrev pub decided_word : Ref → Control → (word : ℕ) → ℕ
+decided_word d k word = swapped (number_of d.number undecided) (number_of d.number k) word
+
+abbrev pub decide_view : View → Ref → Control → (word : ℕ) → View
+decide_view v d k word = record v {
+  side = control_read v.side d (decided_word d k word);
+  control = control_seen v d (decided_word d k word);
+}
 
 abbrev pub release_view : View → Ref → (e c : ℕ) → Side
 release_view v d e c =
@@ -376,7 +525,7 @@ noted z v (opens size) word = open_noted v size
 noted z v (reads r) word = read_view v r word
 noted z v (places d e c old) word = place_view v d e c old word
 noted z v (settles x c d e old) word = with_side v (settle_view v x c d e old word)
-noted z v (decides d k) word = with_side v (control_noted v.side d (decided_now k word))
+noted z v (decides d k) word = decide_view v d k word
 noted z v (releases d e c k value) word = with_side v (release_view v d e c)
 noted z v claims word = with_side v (claim_side v.side word)
 

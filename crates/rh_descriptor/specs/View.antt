@@ -14,6 +14,16 @@ pub record Written : Type 0 where
   pub row : ℕ
   pub word : ℕ
 
+-- a word that was read in the row of a descriptor: what it says is so of the descriptor only where the row's serial number,
+-- read after it, is still the descriptor's
+pub data RowWord : Type 0 where
+  length_word : (word : ℕ) → RowWord
+  cell_word old_word new_word : (entry word : ℕ) → RowWord
+
+pub record RawRow : Type 0 where
+  pub desc : Ref
+  pub word : RowWord
+
 -- a word that was read in the row of a mark: what it says is so of the mark only where the row's serial number, read after
 -- it, is still the mark's
 pub data MarkWord : Type 0 where
@@ -28,18 +38,20 @@ pub record Wiping : Type 0 where
   pub cells : List ℕ
   pub cleared : ℕ
 
--- of opened, written and raw the newest stands first
+-- of opened, written and what was read the newest stands first
 pub record View : Type 0 where
   pub worker : ℕ
   -- the words of the cells when the round began
   pub opening : List ℕ
-  -- what it has done and knows. How many acts there were no worker knows: in what it keeps these numbers are 0.
+  -- what it has done and knows. How many acts there were no worker knows, nor what no word tells: in what it keeps these are 0.
   pub side : Side
-  -- the number of its next descriptor, and how many marks it used up
+  -- the serial number of its next descriptor, the own control word as it was last seen, and how many marks it used up
   pub next_number : ℕ
+  pub control : ℕ
   pub marks_used : ℕ
   pub opened : List OwnDesc
   pub written : List Written
+  pub raw_rows : List RawRow
   pub raw : List Raw
   pub wiping : Option Wiping
 
@@ -50,9 +62,11 @@ new_view cells worker = record {
   opening = cells;
   side = new_side;
   next_number = 0;
+  control = 0;
   marks_used = 0;
   opened = [];
   written = [];
+  raw_rows = [];
   raw = [];
   wiping = None;
 }
@@ -64,9 +78,11 @@ round_view cells v = record {
   opening = cells;
   side = record new_side { claims = v.side.claims };
   next_number = 0;
+  control = 0;
   marks_used = 0;
   opened = [];
   written = [];
+  raw_rows = [];
   raw = [];
   wiping = None;
 }

@@ -1,12 +1,12 @@
 -- What the words of a table say: the cells and the controls of the world, by the one numbering of words. (own)
-use Rattle.std.specs.Prelude.{ℕ, ◌≡◌, Option, Some, None}
+use Rattle.std.specs.Prelude.{ℕ, ◌≡◌, ◌/◌, ◌%◌, ◌^◌, Option, Some, None}
 use Rattle.rh_tagword.specs.Word.{tag_of, word_number, word_in}
-use Rattle.rh_tagword.specs.Control.{control_in, control_number}
-use Rattle.rh_tagword.specs.declared.limits.TheConstants.{PLAIN}
+use Rattle.rh_tagword.specs.Control.{control_number, state_in}
+use Rattle.rh_tagword.specs.declared.limits.TheConstants.{PLAIN, STATE_BITS}
 use Rattle.rh_tagword.specs.declared.word.Word.{Word}
 use Rattle.rh_tagword.specs.declared.word.Word.TheVariants.{Empty, Key, Mark, Desc}
-use Rattle.rh_tagword.specs.declared.control.Control.{Control as Tagged}
-use Rattle.rh_tagword.specs.declared.control.Control.TheVariants.{Unused, Undecided, Succeeded, Withdrawn, Failed}
+use Rattle.rh_tagword.specs.declared.control.State.{State}
+use Rattle.rh_tagword.specs.declared.control.State.TheVariants.{Unused, Undecided, Succeeded, Withdrawn, Failed}
 use Rattle.rh_world.specs.World.{Ref, Cell, Control}
 use Rattle.rh_world.specs.World.Cell.{plain, mark, desc}
 use Rattle.rh_world.specs.World.Control.{unused, undecided, succeeded, withdrawn, failed}
@@ -34,48 +34,53 @@ cell_said (Some (Desc worker number)) n = desc (record { worker = worker; number
 abbrev pub cell_in : ℕ → Cell
 cell_in n = cell_said (word_in n) n
 
--- a control of the table as one of the world. Its word does not tell who decided that a descriptor failed: 0 stands there.
-abbrev pub control_of : Tagged → Control
+-- a state of the table as a control of the world. Its word does not tell the entry at which a descriptor failed: 0 stands
+-- there.
+abbrev pub control_of : State → Control
 control_of Unused = unused
 control_of Undecided = undecided
 control_of Succeeded = succeeded
 control_of Withdrawn = withdrawn
-control_of (Failed entry) = failed entry 0
+control_of (Failed decider) = failed 0 decider
 
 -- and the other way
-abbrev pub tagged_control : Control → Tagged
-tagged_control unused = Unused
-tagged_control undecided = Undecided
-tagged_control succeeded = Succeeded
-tagged_control withdrawn = Withdrawn
-tagged_control (failed e by) = Failed e
+abbrev pub state_of : Control → State
+state_of unused = Unused
+state_of undecided = Undecided
+state_of succeeded = Succeeded
+state_of withdrawn = Withdrawn
+state_of (failed e by) = Failed by
 
 -- a control of the world as its word tells it
-abbrev pub without_decider : Control → Control
-without_decider unused = unused
-without_decider undecided = undecided
-without_decider succeeded = succeeded
-without_decider withdrawn = withdrawn
-without_decider (failed e by) = failed e 0
+abbrev pub without_entry : Control → Control
+without_entry unused = unused
+without_entry undecided = undecided
+without_entry succeeded = succeeded
+without_entry withdrawn = withdrawn
+without_entry (failed e by) = failed 0 by
 
--- the control that this worker sets, where its word is to tell that
-abbrev pub decided_by : (who : ℕ) → Control → Control
-decided_by who unused = unused
-decided_by who undecided = undecided
-decided_by who succeeded = succeeded
-decided_by who withdrawn = withdrawn
-decided_by who (failed e by) = failed e who
+-- with this entry, where its word is to tell that it failed
+abbrev pub with_entry : ℕ → Control → Control
+with_entry e unused = unused
+with_entry e undecided = undecided
+with_entry e succeeded = succeeded
+with_entry e withdrawn = withdrawn
+with_entry e (failed f by) = failed e by
 
-abbrev pub number_of : Control → ℕ
-number_of k = control_number (tagged_control k)
+-- the control word of the descriptor of this number
+abbrev pub number_of : (number : ℕ) → Control → ℕ
+number_of number k = control_number number (state_of k)
 
--- what a descriptor with this control word is; another number is never written
-abbrev pub control_said : Option Tagged → Control
+-- the serial number that a control word has, and the state; another number is never written
+abbrev pub serial_in : ℕ → ℕ
+serial_in n = n / 2 ^ STATE_BITS
+
+abbrev pub control_said : Option State → Control
 control_said None = withdrawn
-control_said (Some k) = control_of k
+control_said (Some s) = control_of s
 
 abbrev pub read_control : ℕ → Control
-read_control n = control_said (control_in n)
+read_control n = control_said (state_in (n % 2 ^ STATE_BITS))
 
 -- a reference as the world has it, and the word that it says
 abbrev pub ref_of : Reference → Ref

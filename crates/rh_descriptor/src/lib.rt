@@ -13,9 +13,9 @@ mod words;
 
 pub use known::{First, Known};
 pub use laws::one_part;
-pub use limits::{MAX_MARKS, MAX_ROOM, MAX_WORKERS};
+pub use limits::{MAX_ROOM, MAX_WORKERS};
 pub use reference::{Piece, Reading, Ref};
 pub use shape::{Part, Rooms, Shape};
 pub use side::Side;
 pub use steps::{Ask, Effect, StepKind, make_step};
-pub use words::{desc_word, mark_word};
+pub use words::{decided_word, desc_word, mark_word};

@@ -6,11 +6,11 @@ ghost use Rattle.rh_descriptor.specs.Steps.{IsRead, place_read};
 
 use crate::shape::{Part, Shape};
 
-/// A mark or a descriptor: its worker, and its number among that worker's. Both count from 0.
+/// A mark or a descriptor: its worker, and its serial number among that worker's. Both count from 0.
 #[derive(Clone, Copy, Debug, PartialEq, Eq)]
 pub struct Ref {
     pub worker: usize,
-    pub number: usize,
+    pub number: u64,
 }
 
 /// An entry of a descriptor, as a worker goes about it.
@@ -34,6 +34,8 @@ pub enum Reading {
     Control(Ref),
     /// The control of this descriptor, for which this mark was found in this cell.
     MarkControl { mark: Ref, cell: usize, desc: Ref },
+    /// The serial number in the row of this descriptor, which tells whether the row is still of it.
+    Serial(Ref),
     /// The number of a descriptor's entries.
     Length(Ref),
     /// The cell of a descriptor's entry.
@@ -48,6 +50,8 @@ pub enum Reading {
     MarkDesc(Ref),
     /// The entry of a mark.
     MarkEntry(Ref),
+    /// The note of the worker that decided that this own descriptor failed: at which entry.
+    Reason { desc: Ref, decider: usize },
 }
 
 impl Reading {
@@ -65,24 +69,25 @@ impl Reading {
             Reading::Control(desc) | Reading::MarkControl { desc, .. } => shape.place(
                 Part::Control {
                     worker: desc.worker,
-                    entry: desc.number,
                 },
             ),
+            Reading::Serial(desc) => shape.place(Part::Serial {
+                worker: desc.worker,
+            }),
             Reading::Length(desc) => shape.place(Part::Length {
                 worker: desc.worker,
-                entry: desc.number,
             }),
             Reading::EntryCell { desc, entry } => shape.place(Part::EntryCell {
                 worker: desc.worker,
-                entry: desc.number + entry,
+                entry,
             }),
             Reading::EntryOld { desc, entry } => shape.place(Part::EntryOld {
                 worker: desc.worker,
-                entry: desc.number + entry,
+                entry,
             }),
             Reading::EntryNew { desc, entry } => shape.place(Part::EntryNew {
                 worker: desc.worker,
-                entry: desc.number + entry,
+                entry,
             }),
             Reading::MarkSerial(mark) => shape.place(Part::MarkSerial {
                 worker: mark.worker,
@@ -92,6 +97,10 @@ impl Reading {
             }),
             Reading::MarkEntry(mark) => shape.place(Part::MarkEntry {
                 worker: mark.worker,
+            }),
+            Reading::Reason { desc, decider } => shape.place(Part::Note {
+                worker: decider,
+                owner: desc.worker,
             }),
         }
     }

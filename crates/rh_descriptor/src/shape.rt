@@ -1,17 +1,29 @@
 //! The shape of a shared table, and where its parts stand in its words.
 
 ghost use Rattle.std.specs.Prelude.{◌≡◌, ◌<◌};
-ghost use Rattle.rh_descriptor.specs.declared.limits.TheConstants.{MARK_WORDS, WORDS_PER_ENTRY};
 
-use crate::limits::{MARK_WORDS, WORDS_PER_ENTRY};
+use crate::limits::{HEAD_WORDS, MARK_WORDS, MAX_ROOM, WORDS_PER_ENTRY};
 
-/// How much room each worker has in a round.
+/// How many descriptors a worker may open in a round, and how many marks it may place. They take no
+/// room: a worker writes one row again for all its descriptors, and one for all its marks.
 #[derive(Clone, Copy, Debug, PartialEq, Eq)]
 pub struct Rooms {
-    /// Places for the entries of its descriptors.
-    pub entries: usize,
-    /// How many marks it may place. They take no room: a worker has one row for all its marks.
-    pub marks: usize,
+    pub descriptors: u64,
+    pub marks: u64,
+}
+
+impl Rooms {
+    ghost use Rattle.rh_descriptor.specs.Places.{usual_rooms};
+
+    /// The usual rooms, which are the greatest: as many as a word has numbers for.
+    pub fn usual() -> Rooms
+        ensures { result ≡ usual_rooms }
+    {
+        Rooms {
+            descriptors: MAX_ROOM,
+            marks: MAX_ROOM,
+        }
+    }
 }
 
 /// How large a shared table is.
@@ -20,42 +32,43 @@ pub struct Shape {
     /// It has 2 to the power of its bits cells.
     pub bits: u32,
     pub workers: usize,
-    /// How many places for entries each worker has.
-    pub entry_room: usize,
-    /// How many marks each worker may place in a round.
-    pub mark_room: usize,
     /// The length of the list of keys whose places the workers claim.
     pub keys: u64,
+    pub rooms: Rooms,
 }
 
-/// A part of a shared table: one word. Workers and entries are counted from 0, entries by their place
-/// in the worker's pool; a descriptor has the number of its first entry.
+/// A part of a shared table: one word. Workers and entries are counted from 0.
 #[derive(Clone, Copy)]
 pub enum Part {
     Cell(usize),
-    /// How far the descriptor is that begins at this entry.
-    Control { worker: usize, entry: usize },
-    /// The number of entries of the descriptor that begins at this entry.
-    Length { worker: usize, entry: usize },
+    /// How far a worker's last descriptor is, with its serial number.
+    Control { worker: usize },
+    /// The serial number of the descriptor that a worker's row is of.
+    Serial { worker: usize },
+    /// The number of its entries.
+    Length { worker: usize },
     /// The cell that an entry changes.
     EntryCell { worker: usize, entry: usize },
     /// The word that it is to find there.
     EntryOld { worker: usize, entry: usize },
     /// The word that it is to put there.
     EntryNew { worker: usize, entry: usize },
-    /// The number of the mark that a worker's mark row is of.
+    /// The serial number of the mark that a worker's mark row is of.
     MarkSerial { worker: usize },
     /// The reference of that mark's descriptor.
     MarkDesc { worker: usize },
     /// The entry that it is for, counted from 0 in its descriptor.
     MarkEntry { worker: usize },
+    /// What a worker tells the owner of a descriptor: the entry at which it decided that it failed.
+    Note { worker: usize, owner: usize },
     /// How many places of the list of keys were claimed.
     Counter,
 }
 
 impl Shape {
-    ghost use Rattle.rh_descriptor.specs.Places.{IsPart, IsShape, cell_count, place_of};
-    ghost use Rattle.rh_descriptor.specs.Places.{entry_row, mark_row, row_count, row_place, word_count};
+    ghost use Rattle.rh_descriptor.specs.declared.limits.TheConstants.{HEAD_WORDS, MARK_WORDS, WORDS_PER_ENTRY};
+    ghost use Rattle.rh_descriptor.specs.Places.{IsPart, IsShape, cell_count, entry_words, place_of};
+    ghost use Rattle.rh_descriptor.specs.Places.{entry_row, row_count, row_place, word_count};
 
     /// How many cells there are.
     pub fn cells(&self) -> usize
@@ -73,12 +86,20 @@ impl Shape {
         self.cells() + self.workers * self.rows() + 1
     }
 
+    // How many words the entries of a row have: a descriptor has at most one for each cell.
+    fn entry_words(&self) -> usize
+        requires { IsShape self.now }
+        ensures { result ≡ entry_words self.now }
+    {
+        WORDS_PER_ENTRY * self.cells()
+    }
+
     // How many words the rows of one worker have.
     fn rows(&self) -> usize
         requires { IsShape self.now }
         ensures { result ≡ row_count self.now }
     {
-        WORDS_PER_ENTRY * self.entry_room + MARK_WORDS
+        HEAD_WORDS + self.entry_words() + MARK_WORDS + self.workers
     }
 
     /// The word of a part.
@@ -91,14 +112,22 @@ impl Shape {
     {
         match part {
             Part::Cell(cell) => cell,
-            Part::Control { worker, entry } => self.entry_word(worker, entry, 0),
-            Part::Length { worker, entry } => self.entry_word(worker, entry, 1),
-            Part::EntryCell { worker, entry } => self.entry_word(worker, entry, 2),
-            Part::EntryOld { worker, entry } => self.entry_word(worker, entry, 3),
-            Part::EntryNew { worker, entry } => self.entry_word(worker, entry, 4),
-            Part::MarkSerial { worker } => self.mark_word(worker, 0),
-            Part::MarkDesc { worker } => self.mark_word(worker, 1),
-            Part::MarkEntry { worker } => self.mark_word(worker, 2),
+            Part::Control { worker } => self.row_word(worker, 0),
+            Part::Serial { worker } => self.row_word(worker, 1),
+            Part::Length { worker } => self.row_word(worker, 2),
+            Part::EntryCell { worker, entry } => self.entry_word(worker, entry, 0),
+            Part::EntryOld { worker, entry } => self.entry_word(worker, entry, 1),
+            Part::EntryNew { worker, entry } => self.entry_word(worker, entry, 2),
+            Part::MarkSerial { worker } => self.row_word(worker, HEAD_WORDS + self.entry_words()),
+            Part::MarkDesc { worker } => self.row_word(worker, HEAD_WORDS + self.entry_words() + 1),
+            Part::MarkEntry { worker } => self.row_word(
+                worker,
+                HEAD_WORDS + self.entry_words() + 2,
+            ),
+            Part::Note { worker, owner } => self.row_word(
+                worker,
+                HEAD_WORDS + self.entry_words() + MARK_WORDS + owner,
+            ),
             Part::Counter => self.cells() + self.workers * self.rows(),
         }
     }
@@ -108,23 +137,12 @@ impl Shape {
     fn entry_word(&self, worker: usize, entry: usize, word: usize) -> usize
         requires shape { IsShape self.now }
         requires worker { worker < self.now.workers }
-        requires entry { entry < self.now.entry_room }
+        requires entry { entry < cell_count self.now }
         requires word { word < WORDS_PER_ENTRY }
         ensures value { result ≡ row_place self.now worker (entry_row entry word) }
         ensures within { result < word_count self.now }
     {
-        self.row_word(worker, WORDS_PER_ENTRY * entry + word)
-    }
-
-    #[inline(always)]
-    fn mark_word(&self, worker: usize, word: usize) -> usize
-        requires shape { IsShape self.now }
-        requires worker { worker < self.now.workers }
-        requires word { word < MARK_WORDS }
-        ensures value { result ≡ row_place self.now worker (mark_row self.now word) }
-        ensures within { result < word_count self.now }
-    {
-        self.row_word(worker, WORDS_PER_ENTRY * self.entry_room + word)
+        self.row_word(worker, HEAD_WORDS + (WORDS_PER_ENTRY * entry + word))
     }
 
     #[inline(always)]

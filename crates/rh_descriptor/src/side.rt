@@ -3,25 +3,32 @@
 ghost use Rattle.std.specs.Prelude.{◌≡◌};
 ghost use Rattle.rh_descriptor.specs.Asks.{step_of};
 ghost use Rattle.rh_descriptor.specs.Places.{IsShape};
-ghost use Rattle.rh_descriptor.specs.Steps.{Allowed, noted};
+ghost use Rattle.rh_descriptor.specs.Steps.{Allowed, control_seen, noted};
 ghost use Rattle.rh_descriptor.specs.View.{new_view, round_view};
+ghost use Rattle.rh_descriptor.specs.Words.{ref_of};
 
 use crate::known::{Change, First, Known};
+use crate::reference::{Reading, Ref};
 use crate::shape::Shape;
 use crate::steps::Ask;
+use crate::words::decided_word;
+use rh_tagword::{State, pack_control};
 
 /// One worker's state: what it counts, and what it has done and knows, for contracts.
 #[derive(Drop)]
 pub struct Side {
     /// Its number, from 0.
     pub worker: usize,
-    /// The number of its next descriptor, which is how many places of its pool are used.
-    pub next_number: usize,
+    /// The serial number of its next descriptor.
+    pub next_number: u64,
+    /// The control of its last descriptor, as it was last seen: the next one is opened in its place.
+    pub control: u64,
     /// How many of its marks are used up.
-    pub marks_used: usize,
+    pub marks_used: u64,
     pub known: Known,
     pub ghost same_worker: { known.view.worker ≡ worker },
     pub ghost same_number: { known.view.next_number ≡ next_number },
+    pub ghost same_control: { known.view.control ≡ control },
     pub ghost same_marks: { known.view.marks_used ≡ marks_used },
 }
 
@@ -52,6 +59,7 @@ impl Side {
         Side {
             worker,
             next_number: 0,
+            control: 0,
             marks_used: 0,
             known: Known::start::<Made, (usize, &[u64])>(&(worker, cells)),
         }
@@ -63,6 +71,7 @@ impl Side {
         ensures known { self.new.known.view ≡ round_view cells.now self.old.known.view }
     {
         self.next_number = 0;
+        self.control = 0;
         self.marks_used = 0;
         self.known = Known::next::<Renewed, &[u64]>(&self.known, &cells);
     }
@@ -74,9 +83,10 @@ impl Side {
         requires allowed { Allowed shape.now self.old.known.view (step_of ask) }
         ensures { self.new.known.view ≡ noted shape.now self.old.known.view (step_of ask) word }
     {
+        let control = self.control_after(shape, ask, word);
         let known = Known::next::<Noted, (Shape, Ask, u64)>(&self.known, &(*shape, ask, word));
         match ask {
-            Ask::Open { entries } => self.next_number += entries,
+            Ask::Open { .. } => self.next_number += 1,
             Ask::Place { old, .. } => {
                 if word == old {
                     self.marks_used += 1;
@@ -84,6 +94,37 @@ impl Side {
             }
             _ => {}
         }
+        self.control = control;
         self.known = known;
+    }
+
+    // The own control as the step shows it.
+    #[inline(always)]
+    fn control_after(&self, shape: &Shape, ask: Ask, word: u64) -> u64
+        requires shape { IsShape shape.now }
+        requires allowed { Allowed shape.now self.now.known.view (step_of ask) }
+        ensures { result ≡ (noted shape.now self.now.known.view (step_of ask) word).control }
+    {
+        let _ = shape;
+        match ask {
+            Ask::Open { .. } => pack_control(self.next_number, State::Undecided),
+            Ask::Read(Reading::Control(desc)) => self.control_seen(desc, word),
+            Ask::Read(Reading::MarkControl { desc, .. }) => self.control_seen(desc, word),
+            Ask::Decide { desc, state } => self.control_seen(desc, decided_word(desc, state, word)),
+            _ => self.control,
+        }
+    }
+
+    // The own control, once the control of this descriptor was seen.
+    #[inline(always)]
+    fn control_seen(&self, desc: Ref, word: u64) -> u64
+        ensures { result ≡ control_seen self.now.known.view (ref_of desc) word }
+    {
+        let newest = self.next_number > 0 && desc.number == self.next_number - 1;
+        if desc.worker == self.worker && newest {
+            word
+        } else {
+            self.control
+        }
     }
 }

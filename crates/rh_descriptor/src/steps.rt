@@ -9,7 +9,7 @@ use crate::reference::{Piece, Reading, Ref};
 use crate::shape::{Part, Shape};
 use crate::side::Side;
 use crate::words::{desc_word, mark_word};
-use rh_tagword::{Control, pack_control};
+use rh_tagword::{State, pack_control};
 
 /// The kinds of step. Each is one load, one store, one compare-and-swap or one increment of one word.
 #[derive(Clone, Copy, Debug, PartialEq, Eq)]
@@ -32,7 +32,7 @@ pub enum Ask {
         part: Part,
         word: u64,
     },
-    /// Open of the next own descriptor, which has so many entries.
+    /// Open of the next own descriptor, which has so many entries, in place of the last one.
     Open {
         entries: usize,
     },
@@ -48,14 +48,15 @@ pub enum Ask {
         piece: Piece,
         old: Option<u64>,
     },
+    /// Decide of a descriptor. At which entry it failed, the own note to its owner says.
     Decide {
         desc: Ref,
-        control: Control,
+        state: State,
     },
-    /// Release of an entry of a descriptor that is decided so, to this value.
+    /// Release of an entry of a descriptor that is decided so, or whose row has gone on, to this value.
     Release {
         piece: Piece,
-        control: Control,
+        state: Option<State>,
         value: u64,
     },
     Claim,
@@ -86,7 +87,6 @@ impl Ask {
             Ask::Write { part, .. } => shape.place(part),
             Ask::Open { .. } => shape.place(Part::Control {
                 worker: side.worker,
-                entry: side.next_number,
             }),
             Ask::Read(reading) => reading.place(shape),
             Ask::Place { piece, .. } | Ask::Settle { piece, .. } | Ask::Release { piece, .. } => {
@@ -94,7 +94,6 @@ impl Ask {
             }
             Ask::Decide { desc, .. } => shape.place(Part::Control {
                 worker: desc.worker,
-                entry: desc.number,
             }),
             Ask::Claim => shape.place(Part::Counter),
         }
@@ -110,8 +109,8 @@ impl Ask {
         match *self {
             Ask::Write { word, .. } => Effect::Put(word),
             Ask::Open { .. } => Effect::Swap {
-                old: pack_control(Control::Unused),
-                new: pack_control(Control::Undecided),
+                old: side.control,
+                new: pack_control(side.next_number, State::Undecided),
             },
             Ask::Read(_) => Effect::Keep,
             Ask::Place { old, .. } => Effect::Swap {
@@ -131,9 +130,9 @@ impl Ask {
                     Some(old) => old,
                 },
             },
-            Ask::Decide { control, .. } => Effect::Swap {
-                old: pack_control(Control::Undecided),
-                new: pack_control(control),
+            Ask::Decide { desc, state } => Effect::Swap {
+                old: pack_control(desc.number, State::Undecided),
+                new: pack_control(desc.number, state),
             },
             Ask::Release { piece, value, .. } => Effect::Swap {
                 old: desc_word(shape, piece.desc),

@@ -1,13 +1,14 @@
-//! The words of cells that refer to marks and descriptors.
+//! The words of a table that name marks and descriptors: of cells, and of controls.
 
 ghost use Rattle.std.specs.Prelude.{◌≡◌};
+ghost use Rattle.rh_tagword.specs.Control.{IsControl};
 ghost use Rattle.rh_descriptor.specs.Places.{IsShape};
-ghost use Rattle.rh_descriptor.specs.Steps.{IsDesc, IsMark};
-ghost use Rattle.rh_descriptor.specs.Words.{desc_number, mark_number, ref_of};
+ghost use Rattle.rh_descriptor.specs.Steps.{IsDesc, IsMark, decided_word};
+ghost use Rattle.rh_descriptor.specs.Words.{control_of, desc_number, mark_number, ref_of};
 
 use crate::reference::Ref;
 use crate::shape::Shape;
-use rh_tagword::{Word, pack};
+use rh_tagword::{State, Word, pack, pack_control};
 
 /// The word that refers to a mark of the table.
 pub fn mark_word(shape: &Shape, mark: Ref) -> u64
@@ -18,7 +19,7 @@ pub fn mark_word(shape: &Shape, mark: Ref) -> u64
     let _ = shape;
     pack(Word::Mark {
         worker: mark.worker as u64,
-        number: mark.number as u64,
+        number: mark.number,
     })
 }
 
@@ -31,6 +32,18 @@ pub fn desc_word(shape: &Shape, desc: Ref) -> u64
     let _ = shape;
     pack(Word::Desc {
         worker: desc.worker as u64,
-        number: desc.number as u64,
+        number: desc.number,
     })
+}
+
+/// The control of a descriptor after a swap of it from undecided to this state that found this word.
+pub fn decided_word(desc: Ref, state: State, word: u64) -> u64
+    requires { IsControl desc.number state }
+    ensures { result ≡ decided_word (ref_of desc) (control_of state) word }
+{
+    if word == pack_control(desc.number, State::Undecided) {
+        pack_control(desc.number, state)
+    } else {
+        word
+    }
 }

@@ -1,111 +1,484 @@
--- A control that was read or swapped, and what is noted of it.
-use Rattle.std.proofs.Common.{◌≡◌, ◌≢◌, ℕ, ◌<◌, eqb, Bool, true, false, true≢false, cond, Option, Some, None, sym, refl, ap, ◌∙◌, subst, inl, arith}
-use Rattle.rh_tagword.specs.Control.{control_in, is_decided}
-use Rattle.rh_tagword.specs.declared.control.Control.{Control}
-use Rattle.rh_tagword.specs.declared.control.Control.TheVariants.{Unused, Undecided, Succeeded, Withdrawn, Failed}
-use Rattle.rh_tagword.specs.declared.limits.TheConstants.{UNDECIDED}
-use Rattle.rh_tagword.proofs.ControlLemmas.{control_in_is}
-use Rattle.rh_world.specs.World.{Control as WorldControl, IsDecided, IsOpened, Ref}
+-- A control that was read or swapped, and what is noted of its descriptor.
+use Rattle.std.proofs.Common.{◌≡◌, ◌≢◌, ℕ, suc, ◌<◌, eqb, Bool, true, false, true≢false, cond, ◌||◌, ◌&&◌, ◌⊎◌, List, [], ◌∷◌, filter, not, Option, Some, None, sym, refl, ap, ◌∙◌, subst, inl, inr, ⊎_elim, arith, eq-eqb}
+use Rattle.std.specs.Prelude.{option_map}
+use Rattle.rh_tagword.specs.Control.{IsState, is_decided}
+use Rattle.rh_tagword.specs.declared.control.State.{State}
+use Rattle.rh_tagword.specs.declared.control.State.TheVariants.{Unused, Undecided, Succeeded, Withdrawn, Failed}
+use Rattle.rh_world.specs.World.{Control as WorldControl, In, IsDecided, IsOpened, Ref, is_ref}
 use Rattle.rh_world.specs.World.Control.{failed, succeeded, undecided, unused, withdrawn}
-use Rattle.rh_world.specs.Sides.{Side}
-use Rattle.rh_world.specs.Moves.{control_noted}
-use Rattle.rh_world.proofs.Tests.{eqb_not}
-use Rattle.rh_descriptor.specs.Words.{control_of, control_said, read_control}
-use Rattle.rh_descriptor.specs.Steps.{decided_now}
-use Rattle.rh_helping.specs.Goal.{StandsAt}
+use Rattle.rh_world.specs.Notes.{Note}
+use Rattle.rh_world.specs.Notes.Note.{decided, known, may_demote, may_promote, over, passed}
+use Rattle.rh_world.specs.Sides.{Debt, Side, note_side}
+use Rattle.rh_world.specs.Moves.{control_noted, mark_noted}
+use Rattle.rh_world.proofs.Tests.{eqb_not, eqb_yes}
+use Rattle.rh_descriptor.specs.View.{OwnDesc, View}
+use Rattle.rh_descriptor.specs.Words.{control_of, number_of, read_control, serial_in, state_of, without_entry}
+use Rattle.rh_descriptor.specs.Steps.{IsKnown, control_read, decided_word, gone_noted, is_known, mark_control_read, tells_opened}
+use Rattle.rh_rule.specs.Sound.{ControlTells, IsControlWord}
+use Rattle.rh_rule.proofs.Said.{control_said_is, serial_said_is}
+use Rattle.rh_helping.specs.Goal.{IsFresh, IsMet, IsOther, KnowsOwn, StandsAt}
+use Rattle.rh_helping.specs.Met.{state_said}
+use Rattle.rh_helping.specs.Settling.{FailsNone, Keeps}
 use Rattle.rh_helping.specs.Work.{IsOver}
+use Rattle.rh_helping.proofs.Growing.{met_sub}
+use Rattle.rh_helping.proofs.Sides.{DecidesNone, none_control, none_note, none_then, tells_decided}
 
--- ---- decided controls
+-- ---- decided states
 
-pub over_decided : (k : Control) → IsOver k → IsDecided (control_of k)
+pub over_decided : (k : State) → IsOver k → IsDecided (control_of k)
 over_decided Unused o = o
 over_decided Undecided o = o
 over_decided Succeeded o = o
 over_decided Withdrawn o = o
-over_decided (Failed at) o = o
+over_decided (Failed by) o = o
 
-decided_over : (k : Control) → IsDecided (control_of k) → IsOver k
+pub decided_over : (k : State) → IsDecided (control_of k) → IsOver k
 decided_over Unused o = o
 decided_over Undecided o = o
 decided_over Succeeded o = o
 decided_over Withdrawn o = o
-decided_over (Failed at) o = o
+decided_over (Failed by) o = o
 
-pub is_decided_over : (k : Control) → is_decided k ≡ true → IsOver k
+pub is_decided_over : (k : State) → is_decided k ≡ true → IsOver k
 is_decided_over Unused e = absurd (true≢false (sym e))
 is_decided_over Undecided e = absurd (true≢false (sym e))
 is_decided_over Succeeded e = tt
 is_decided_over Withdrawn e = tt
-is_decided_over (Failed at) e = tt
+is_decided_over (Failed by) e = tt
 
--- ---- one that was read
+abbrev tells_undecided : WorldControl → Bool
+tells_undecided unused = false
+tells_undecided undecided = true
+tells_undecided succeeded = false
+tells_undecided withdrawn = false
+tells_undecided (failed e by) = false
+
+abbrev tells_used : WorldControl → Bool
+tells_used unused = false
+tells_used undecided = true
+tells_used succeeded = true
+tells_used withdrawn = true
+tells_used (failed e by) = true
+
+abbrev is_undecided : State → Bool
+is_undecided Unused = false
+is_undecided Undecided = true
+is_undecided Succeeded = false
+is_undecided Withdrawn = false
+is_undecided (Failed by) = false
+
+pub over_not : (k : State) → IsOver k → k ≢ Undecided
+over_not Unused o e = o
+over_not Undecided o e = o
+over_not Succeeded o e = true≢false (sym (ap is_undecided e))
+over_not Withdrawn o e = true≢false (sym (ap is_undecided e))
+over_not (Failed by) o e = true≢false (sym (ap is_undecided e))
+
+pub opened_over : (k : State) → IsOpened (control_of k) → k ≢ Undecided → IsOver k
+opened_over Unused o ne = o refl
+opened_over Undecided o ne = ne refl
+opened_over Succeeded o ne = tt
+opened_over Withdrawn o ne = tt
+opened_over (Failed by) o ne = tt
+
+pub stands_opened : (l : List Note) (d : Ref) (k : State) (e : ℕ) → StandsAt l d k e → k ≢ Undecided → IsOver k
+stands_opened l d Unused e h ne = h
+stands_opened l d Undecided e h ne = ne refl
+stands_opened l d Succeeded e h ne = tt
+stands_opened l d Withdrawn e h ne = tt
+stands_opened l d (Failed by) e h ne = tt
+
+pub stands_undecided : (l : List Note) (d : Ref) (k : State) (e : ℕ) → StandsAt l d k e → is_decided k ≡ false → k ≡ Undecided
+stands_undecided l d Unused e h no_ = absurd h
+stands_undecided l d Undecided e h no_ = refl
+stands_undecided l d Succeeded e h no_ = absurd (true≢false no_)
+stands_undecided l d Withdrawn e h no_ = absurd (true≢false no_)
+stands_undecided l d (Failed by) e h no_ = absurd (true≢false no_)
+
+abbrev state_or : State → Option State → State
+state_or other None = other
+state_or other (Some k) = k
+
+pub some_state : (k q : State) → Some k ≡ Some q → k ≡ q
+some_state k q e = ap (state_or k) e
+
+-- ---- what a control word tells of a descriptor that is known
+
+is_ref_self : (d : Ref) → is_ref d d ≡ true
+is_ref_self d = ap (λ (b : Bool). b && eqb d.number d.number) (eq-eqb d.worker d.worker refl) ∙ eq-eqb d.number d.number refl
+
+known_is : (ns : List Note) (d : Ref) → IsKnown ns d → is_known ns d ≡ true
+known_is [] d h = absurd (⊎_elim (λ i. i) (λ q. q.1) h)
+known_is (n ∷ ns) d h = ⊎_elim
+    (λ i. ⊎_elim
+    (λ (e : known d ≡ n). here (ap (λ (m : Note). tells_opened m d) (sym e) ∙ is_ref_self d))
+    (λ j. there (known_is ns d (inl j))) i)
+    (λ q. ⊎_elim
+    (λ (e : decided d q.0 ≡ n). here (ap (λ (m : Note). tells_opened m d) (sym e) ∙ is_ref_self d))
+    (λ j. there (known_is ns d (inr (q.0, j)))) q.1) h
+  where
+    here : tells_opened n d ≡ true → (tells_opened n d || is_known ns d) ≡ true
+    here e = ap (λ (b : Bool). b || is_known ns d) e
+
+    or_true : (b : Bool) → (b || true) ≡ true
+    or_true true = refl
+    or_true false = refl
+
+    there : is_known ns d ≡ true → (tells_opened n d || is_known ns d) ≡ true
+    there e = ap (λ (b : Bool). tells_opened n d || b) e ∙ or_true (tells_opened n d)
+
+abbrev pub told_side : Side → Ref → Option WorldControl → Side
+told_side s d None = gone_noted s d
+told_side s d (Some k) = control_noted s d k
+
+told_is : (s : Side) (d : Ref) (word : ℕ) → is_known s.notes d ≡ true → control_read s d word ≡ told_side s d (state_said d.number word)
+told_is s d word is = by (eqb (serial_in word) d.number)
+  where
+    by : (b : Bool) → cond b (control_noted s d (read_control word)) (cond (is_known s.notes d) (gone_noted s d) s)
+        ≡ told_side s d (cond b (Some (read_control word)) None)
+    by true = refl
+    by false = ap (λ (c : Bool). cond c (gone_noted s d) s) is
+
+abbrev pub mark_told_side : Side → (x : Ref) → (c : ℕ) → (d : Ref) → Option WorldControl → Side
+mark_told_side s x c d None = note_side (gone_noted s d) (may_demote x)
+mark_told_side s x c d (Some k) = mark_noted (control_noted s d k) x c k
+
+mark_told_is : (s : Side) (x : Ref) (c : ℕ) (d : Ref) (word : ℕ) → mark_control_read s x c d word ≡ mark_told_side s x c d (state_said d.number word)
+mark_told_is s x c d word = by (eqb (serial_in word) d.number)
+  where
+    by : (b : Bool) → cond b (mark_noted (control_noted s d (read_control word)) x c (read_control word)) (note_side (gone_noted s d) (may_demote x))
+        ≡ mark_told_side s x c d (cond b (Some (read_control word)) None)
+    by true = refl
+    by false = refl
+
+abbrev said_or : (other : WorldControl) → Option WorldControl → WorldControl
+said_or other None = other
+said_or other (Some k) = k
+
+said_some : (n word : ℕ) (k : WorldControl) → Some k ≡ state_said n word → (serial_in word ≡ n) × (k ≡ read_control word)
+said_some n word k = by (eqb (serial_in word) n) refl
+  where
+    by : (b : Bool) → eqb (serial_in word) n ≡ b → Some k ≡ cond b (Some (read_control word)) None → (serial_in word ≡ n) × (k ≡ read_control word)
+    by true e is = (eqb_yes (serial_in word) n e, ap (said_or k) is)
+    by false e is = absurd (no_some k is)
+      where
+        no_some : (k : WorldControl) → Some k ≡ None → ⊥
+        no_some k e = true≢false (ap (λ (o : Option WorldControl). is_some o) e)
+          where
+            is_some : Option WorldControl → Bool
+            is_some None = false
+            is_some (Some q) = true
+
+said_none : (n word : ℕ) → None ≡ state_said n word → serial_in word ≢ n
+said_none n word is e = true≢false (sym (ap is_some (is ∙ ap (λ (b : Bool). cond {A = Option WorldControl} b (Some (read_control word)) None) (eq-eqb (serial_in word) n e))))
+  where
+    is_some : Option WorldControl → Bool
+    is_some None = false
+    is_some (Some q) = true
+
+-- ---- what is so after a control was seen
+
+abbrev pub debts_told : List Debt → Ref → Option State → List Debt
+debts_told debts d None = debts
+debts_told debts d (Some Unused) = debts
+debts_told debts d (Some Undecided) = filter (λ q. not (is_ref q.desc d)) debts
+debts_told debts d (Some Succeeded) = debts
+debts_told debts d (Some Withdrawn) = debts
+debts_told debts d (Some (Failed by)) = debts
+
+abbrev pub ToldAs : View → Ref → Option State → Type 0
+ToldAs next d None = In (over d) next.side.notes × In (passed d) next.side.notes
+ToldAs next d (Some k) = IsMet next d k 0
+
+-- it told this of d
+pub record Saw (v : View) (d : Ref) (r : Option State) (next : View) : Type 0 where
+  pub keeps : Keeps v next
+  pub marks_used : next.marks_used ≡ v.marks_used
+  pub opened : next.opened ≡ v.opened
+  pub written : next.written ≡ v.written
+  pub current : next.side.current ≡ v.side.current
+  pub released : next.side.released ≡ v.side.released
+  pub unsettled : next.side.unsettled ≡ v.side.unsettled
+  pub debts : next.side.debts ≡ debts_told v.side.debts d r
+  pub reads : next.side.reads ≡ v.side.reads
+  pub claims : next.side.claims ≡ v.side.claims
+  pub told : ToldAs next d r
+
+-- by what is known of it
+abbrev Known : View → Ref → Option State → Type 0
+Known v d None = Unit {0}
+Known v d (Some k) = IsOpened (control_of k) × (k ≡ Undecided → IsFresh v d) × (d.worker ≡ v.worker → suc d.number ≡ v.next_number)
 
 no_entry_before : (A : Type 0) (f : ℕ) → f < 0 → A
 no_entry_before A f lt = absurd (let h : ⊥ = omega arith in h)
 
-noted_so : (s : Side) (d : Ref) (k : Control) → IsOpened (control_of k) → StandsAt (control_noted s d (control_of k)).notes d k 0
-noted_so s d Unused o = absurd (o refl)
-noted_so s d Undecided o = (inl refl, λ f lt. no_entry_before _ f lt)
-noted_so s d Succeeded o = inl refl
-noted_so s d Withdrawn o = inl refl
-noted_so s d (Failed at) o = inl refl
+module _ (v : View) (d : Ref) (c : ℕ) where
+  abbrev pub told_view : Option State → View
+  told_view r = record v { side = told_side v.side d (option_map control_of r); control = c }
 
--- it says how its descriptor stands
-pub read_stands : (s : Side) (d : Ref) (k : Control) (said : WorldControl) → control_of k ≡ said → IsOpened said → StandsAt (control_noted s d said).notes d k 0
-read_stands s d k said e o = subst (λ (c : WorldControl). IsOpened c → StandsAt (control_noted s d c).notes d k 0) e (noted_so s d k) o
+  met_decided : (k : State) → IsOver k → StandsAt (told_view (Some k)).side.notes d k 0 → (d.worker ≡ v.worker → suc d.number ≡ v.next_number) → IsMet (told_view (Some k)) d k 0
+  met_decided k o stands last = record { stands = stands; fresh = λ u. absurd (over_not k o u); last = last }
 
--- ---- one that was swapped
+  saw : (r : Option State) → Known v d r → Saw v d r (told_view r)
+  saw None h = record {
+    keeps = record { worker = refl; next_number = refl; notes = λ n i. inr (inr i) };
+    marks_used = refl;
+    opened = refl;
+    written = refl;
+    current = refl;
+    released = refl;
+    unsettled = refl;
+    debts = refl;
+    reads = refl;
+    claims = refl;
+    told = (inr (inl refl), inl refl);
+  }
+  saw (Some Unused) h = absurd (h.0 refl)
+  saw (Some Undecided) h = record {
+    keeps = record { worker = refl; next_number = refl; notes = λ n i. inr i };
+    marks_used = refl;
+    opened = refl;
+    written = refl;
+    current = refl;
+    released = refl;
+    unsettled = refl;
+    debts = refl;
+    reads = refl;
+    claims = refl;
+    told = record {
+      stands = (inl refl, λ f lt. no_entry_before _ f lt);
+      fresh = λ u f same i. h.1 u f same (none_note (failed 0 v.worker) (known d) v.side.notes refl f i);
+      last = h.2;
+    };
+  }
+  saw (Some Succeeded) h = record {
+    keeps = record { worker = refl; next_number = refl; notes = λ n i. inr i };
+    marks_used = refl;
+    opened = refl;
+    written = refl;
+    current = refl;
+    released = refl;
+    unsettled = refl;
+    debts = refl;
+    reads = refl;
+    claims = refl;
+    told = met_decided Succeeded tt (inl refl) h.2;
+  }
+  saw (Some Withdrawn) h = record {
+    keeps = record { worker = refl; next_number = refl; notes = λ n i. inr i };
+    marks_used = refl;
+    opened = refl;
+    written = refl;
+    current = refl;
+    released = refl;
+    unsettled = refl;
+    debts = refl;
+    reads = refl;
+    claims = refl;
+    told = met_decided Withdrawn tt (inl refl) h.2;
+  }
+  saw (Some (Failed by)) h = record {
+    keeps = record { worker = refl; next_number = refl; notes = λ n i. inr i };
+    marks_used = refl;
+    opened = refl;
+    written = refl;
+    current = refl;
+    released = refl;
+    unsettled = refl;
+    debts = refl;
+    reads = refl;
+    claims = refl;
+    told = met_decided (Failed by) tt (inl refl) h.2;
+  }
 
-undecided_said : (n : ℕ) (o : Option Control) → control_in n ≡ o → control_said o ≡ undecided → n ≡ UNDECIDED
-undecided_said n None is e = absurd (let h : ⊥ = withdrawn_not e in h)
+-- and one thing more is noted, that is no decision
+saw_more : (v : View) (d : Ref) (r : Option State) (next : View) (n : Note) → tells_decided n ≡ false → Saw v d r next → Saw v d r (record next { side = note_side next.side n })
+saw_more v d r next n other h = record {
+  keeps = record { worker = h.keeps.worker; next_number = h.keeps.next_number; notes = λ m i. inr (h.keeps.notes m i) };
+  marks_used = h.marks_used;
+  opened = h.opened;
+  written = h.written;
+  current = h.current;
+  released = h.released;
+  unsettled = h.unsettled;
+  debts = h.debts;
+  reads = h.reads;
+  claims = h.claims;
+  told = more r h.told;
+}
   where
-    withdrawn_not : withdrawn ≢ undecided
-    withdrawn_not p = true≢false (ap (λ (k : WorldControl). said_withdrawn k) p)
-      where
-        said_withdrawn : WorldControl → Bool
-        said_withdrawn unused = false
-        said_withdrawn undecided = false
-        said_withdrawn succeeded = false
-        said_withdrawn withdrawn = true
-        said_withdrawn (failed i by) = false
-undecided_said n (Some k) is e = control_in_is n Undecided (is ∙ ap Some (only k e))
-  where
-    tells : WorldControl → Bool
-    tells unused = false
-    tells undecided = true
-    tells succeeded = false
-    tells withdrawn = false
-    tells (failed i by) = false
+    then : View
+    then = record next { side = note_side next.side n }
 
-    only : (k : Control) → control_of k ≡ undecided → k ≡ Undecided
-    only Unused p = absurd (true≢false (sym (ap tells p)))
-    only Undecided p = refl
-    only Succeeded p = absurd (true≢false (sym (ap tells p)))
-    only Withdrawn p = absurd (true≢false (sym (ap tells p)))
-    only (Failed i) p = absurd (true≢false (sym (ap tells p)))
+    more : (r : Option State) → ToldAs next d r → ToldAs then d r
+    more None h = (inr h.0, inr h.1)
+    more (Some k) h = met_sub next then (record { worker = refl; next_number = refl; notes = λ m i. inr i }) (none_note (failed 0 next.worker) n next.side.notes other) d k 0 h
 
-opened_decided : (k : WorldControl) → IsOpened k → k ≢ undecided → IsDecided k
-opened_decided unused o ne = absurd (o refl)
-opened_decided undecided o ne = absurd (ne refl)
-opened_decided succeeded o ne = tt
-opened_decided withdrawn o ne = tt
-opened_decided (failed e by) o ne = tt
+-- ---- by the word that was read
 
-now_decided : (k : WorldControl) (word : ℕ) (b : Bool) → eqb word UNDECIDED ≡ b → IsDecided k → IsOpened (read_control word)
-    → IsDecided (cond b k (read_control word))
-now_decided k word true is h o = h
-now_decided k word false is h o = opened_decided (read_control word) o (λ e. eqb_not word UNDECIDED is (undecided_said word (control_in word) refl e))
+module _ (v : View) (d : Ref) (word : ℕ) (tells : ControlTells v d word) where
+  tells_known : (r : Option State) → option_map control_of r ≡ state_said d.number word → Known v d r
+  tells_known None is = tt
+  tells_known (Some k) is =
+      let q = said_some d.number word (control_of k) is in
+      let t = tells.tells q.0 in
+      (subst IsOpened (sym q.1) t.opened, (λ u f same i. t.older (sym q.1 ∙ ap control_of u) f same i), t.newest)
 
--- after a Decide the control is decided, and noted so
-pub decide_over : (k c : Control) (word : ℕ) → control_of c ≡ decided_now (control_of k) word → IsOver k → IsOpened (read_control word) → IsOver c
-decide_over k c word e over o = decided_over c (subst IsDecided (sym e) (now_decided (control_of k) word (eqb word UNDECIDED) refl (over_decided k over) o))
+  -- who decided it, if this worker did, noted so
+  tells_had : (r : Option State) → option_map control_of r ≡ state_said d.number word → DecidesNone (failed 0 v.worker) v.side.notes (told_side v.side d (option_map control_of r)).notes
+  tells_had None is = none_then (failed 0 v.worker) v.side.notes (over d ∷ v.side.notes) (passed d ∷ over d ∷ v.side.notes)
+      (none_note (failed 0 v.worker) (over d) v.side.notes refl) (none_note (failed 0 v.worker) (passed d) (over d ∷ v.side.notes) refl)
+  tells_had (Some k) is =
+      let q = said_some d.number word (control_of k) is in
+      none_control (failed 0 v.worker) v.side d (control_of k) (λ e. (tells.tells q.0).noted 0 (sym q.1 ∙ e))
 
-pub decide_stands : (s : Side) (d : Ref) (c : Control) (said : WorldControl) (e : ℕ) → control_of c ≡ said → IsOver c → StandsAt (control_noted s d said).notes d c e
-decide_stands s d c said e is o = subst (λ (x : WorldControl). StandsAt (control_noted s d x).notes d c e) is (over_so c o)
-  where
-    over_so : (c : Control) → IsOver c → StandsAt (control_noted s d (control_of c)).notes d c e
-    over_so Unused o = absurd o
-    over_so Undecided o = absurd o
-    over_so Succeeded o = inl refl
-    over_so Withdrawn o = inl refl
-    over_so (Failed at) o = inl refl
+  -- an own one that has gone on is not open
+  pub tells_other : (opens : Option OwnDesc) → KnowsOwn v opens → (r : Option State) → option_map control_of r ≡ state_said d.number word → r ≡ None → IsOther v d
+  tells_other opens own r is none mine current =
+      said_none d.number word (sym (ap (λ (o : Option State). option_map control_of o) none) ∙ is) (tells.stays mine (own.last d.number current))
+
+  module _ (r : Option State) (is : option_map control_of r ≡ state_said d.number word) (c : ℕ) (next : View) where
+    pub saw_control : IsKnown v.side.notes d → next ≡ record v { side = control_read v.side d word; control = c } → Saw v d r next × FailsNone v next
+    saw_control opened next_is =
+        let side_is : control_read v.side d word ≡ told_side v.side d (option_map control_of r) = told_is v.side d word (known_is v.side.notes d opened) ∙ ap (told_side v.side d) (sym is) in
+        subst (λ (x : View). Saw v d r x × FailsNone v x) (sym (next_is ∙ ap (λ (s : Side). record v { side = s; control = c }) side_is))
+        (saw v d c r (tells_known r is), tells_had r is)
+
+-- ---- of a mark's descriptor
+
+abbrev pub MarkedAs : View → (x : Ref) → (c : ℕ) → Option State → Type 0
+MarkedAs next x c None = In (may_demote x) next.side.notes
+MarkedAs next x c (Some Unused) = ⊥
+MarkedAs next x c (Some Undecided) = In (may_promote x c) next.side.notes
+MarkedAs next x c (Some Succeeded) = In (may_demote x) next.side.notes
+MarkedAs next x c (Some Withdrawn) = In (may_demote x) next.side.notes
+MarkedAs next x c (Some (Failed by)) = In (may_demote x) next.side.notes
+
+pub marked_demotes : (next : View) (x : Ref) (c : ℕ) (r : Option State) → MarkedAs next x c r → r ≢ Some Undecided → In (may_demote x) next.side.notes
+marked_demotes next x c None h ne = h
+marked_demotes next x c (Some Unused) h ne = absurd h
+marked_demotes next x c (Some Undecided) h ne = absurd (ne refl)
+marked_demotes next x c (Some Succeeded) h ne = h
+marked_demotes next x c (Some Withdrawn) h ne = h
+marked_demotes next x c (Some (Failed by)) h ne = h
+
+module _ (v : View) (x d : Ref) (at c : ℕ) where
+  abbrev pub marked_view : Option State → View
+  marked_view r = record v { side = mark_told_side v.side x at d (option_map control_of r); control = c }
+
+  abbrev Marked : Option State → View → Type 0
+  Marked r next = Saw v d r next × FailsNone v next × MarkedAs next x at r
+
+  marked_note : (r : Option State) (n : Note) → tells_decided n ≡ false → DecidesNone (failed 0 v.worker) v.side.notes (told_side v.side d (option_map control_of r)).notes → Known v d r
+      → MarkedAs (record (told_view v d c r) { side = note_side (told_view v d c r).side n }) x at r → Marked r (record (told_view v d c r) { side = note_side (told_view v d c r).side n })
+  marked_note r n other none h so = (
+    saw_more v d r (told_view v d c r) n other (saw v d c r h),
+    none_then (failed 0 v.worker) v.side.notes (told_view v d c r).side.notes (n ∷ (told_view v d c r).side.notes) none (none_note (failed 0 v.worker) n (told_view v d c r).side.notes other),
+    so,
+  )
+
+  marked : (r : Option State) → DecidesNone (failed 0 v.worker) v.side.notes (told_side v.side d (option_map control_of r)).notes → Known v d r → Marked r (marked_view r)
+  marked None none h = marked_note None (may_demote x) refl none h (inl refl)
+  marked (Some Unused) none h = absurd (h.0 refl)
+  marked (Some Undecided) none h = marked_note (Some Undecided) (may_promote x at) refl none h (inl refl)
+  marked (Some Succeeded) none h = marked_note (Some Succeeded) (may_demote x) refl none h (inl refl)
+  marked (Some Withdrawn) none h = marked_note (Some Withdrawn) (may_demote x) refl none h (inl refl)
+  marked (Some (Failed by)) none h = marked_note (Some (Failed by)) (may_demote x) refl none h (inl refl)
+
+  pub saw_mark_control : (word : ℕ) → ControlTells v d word → (r : Option State) → option_map control_of r ≡ state_said d.number word
+      → (next : View) → next ≡ record v { side = mark_control_read v.side x at d word; control = c } → Marked r next
+  saw_mark_control word tells r is next next_is =
+      let side_is : mark_control_read v.side x at d word ≡ mark_told_side v.side x at d (option_map control_of r) = mark_told_is v.side x at d word ∙ ap (mark_told_side v.side x at d) (sym is) in
+      subst (Marked r) (sym (next_is ∙ ap (λ (s : Side). record v { side = s; control = c }) side_is))
+      (marked r (tells_had v d word tells r is) (tells_known v d word tells r is))
+
+-- ---- after a swap from undecided to k
+
+without : (k : State) → without_entry (control_of k) ≡ control_of k
+without Unused = refl
+without Undecided = refl
+without Succeeded = refl
+without Withdrawn = refl
+without (Failed by) = refl
+
+state_back : (k : State) → state_of (control_of k) ≡ k
+state_back Unused = refl
+state_back Undecided = refl
+state_back Succeeded = refl
+state_back Withdrawn = refl
+state_back (Failed by) = refl
+
+undecided_without : (c : WorldControl) → without_entry c ≡ undecided → c ≡ undecided
+undecided_without unused e = e
+undecided_without undecided e = e
+undecided_without succeeded e = e
+undecided_without withdrawn e = e
+undecided_without (failed i by) e = absurd (true≢false (sym (ap tells_undecided e)))
+
+-- a control word that tells that d is undecided is this one
+undecided_word : (word n : ℕ) → IsControlWord word → serial_in word ≡ n → read_control word ≡ undecided → word ≡ number_of n undecided
+undecided_word word n w serial is =
+    let number : w.number ≡ n = sym (serial_said_is w.number w.control w.state) ∙ ap serial_in (sym w.is) ∙ serial in
+    let control : w.control ≡ undecided = undecided_without w.control (sym (control_said_is w.number w.control w.state) ∙ ap read_control (sym w.is) ∙ is) in
+    w.is ∙ (λ i. number_of (number i) (control i))
+
+module _ (v : View) (d : Ref) (k : State) (over_k : IsOver k) (state : IsState k) (found : ℕ) (tells : ControlTells v d found) where
+  abbrev word : ℕ
+  word = decided_word d (control_of k) found
+
+  has_state : IsState (state_of (control_of k))
+  has_state = subst IsState (sym (state_back k)) state
+
+  -- it was swapped, or it was decided before, or has gone on
+  either : (word ≡ number_of d.number (control_of k)) × (serial_in found ≡ d.number) ⊎ (word ≡ found) × (found ≢ number_of d.number undecided)
+  either = by (eqb found (number_of d.number undecided)) refl
+    where
+      by : (b : Bool) → eqb found (number_of d.number undecided) ≡ b
+          → (cond b (number_of d.number (control_of k)) found ≡ number_of d.number (control_of k)) × (serial_in found ≡ d.number)
+          ⊎ (cond b (number_of d.number (control_of k)) found ≡ found) × (found ≢ number_of d.number undecided)
+      by true e = inl (refl, ap serial_in (eqb_yes found (number_of d.number undecided) e) ∙ serial_said_is d.number undecided tt)
+      by false e = inr (refl, eqb_not found (number_of d.number undecided) e)
+
+  now_over : (q : State) → option_map control_of (Some q) ≡ state_said d.number word → IsOver q × (d.worker ≡ v.worker → suc d.number ≡ v.next_number)
+  now_over q is =
+      let s = said_some d.number word (control_of q) is in
+      ⊎_elim
+      (λ swap. (
+        decided_over q (subst IsDecided (sym (s.1 ∙ ap read_control swap.0 ∙ control_said_is d.number (control_of k) has_state ∙ without k)) (over_decided k over_k)),
+        (tells.tells swap.1).newest,
+      ))
+      (λ same.
+      let serial : serial_in found ≡ d.number = ap serial_in (sym same.0) ∙ s.0 in
+      let control : control_of q ≡ read_control found = s.1 ∙ ap read_control same.0 in
+      let t = tells.tells serial in (
+        opened_over q (subst IsOpened (sym control) t.opened)
+            (λ u. same.1 (undecided_word found d.number tells.word_is serial (sym control ∙ ap control_of u))),
+        t.newest,
+      )) either
+
+  decided_known : (r : Option State) → option_map control_of r ≡ state_said d.number word → Known v d r
+  decided_known None is = tt
+  decided_known (Some q) is =
+      let o = now_over q is in
+      (opened_of q o.0, λ u. absurd (over_not q o.0 u), o.1)
+    where
+      opened_of : (q : State) → IsOver q → IsOpened (control_of q)
+      opened_of Unused o = absurd o
+      opened_of Undecided o = absurd o
+      opened_of Succeeded o = λ e. true≢false (ap tells_used e)
+      opened_of Withdrawn o = λ e. true≢false (ap tells_used e)
+      opened_of (Failed by) o = λ e. true≢false (ap tells_used e)
+
+  pub decided_other : (opens : Option OwnDesc) → KnowsOwn v opens → (r : Option State) → option_map control_of r ≡ state_said d.number word → r ≡ None → IsOther v d
+  decided_other opens own r is none mine current =
+      let gone = said_none d.number word (sym (ap (λ (o : Option State). option_map control_of o) none) ∙ is) in
+      let serial = tells.stays mine (own.last d.number current) in
+      gone (⊎_elim (λ swap. ap serial_in swap.0 ∙ serial_said_is d.number (control_of k) has_state) (λ same. ap serial_in same.0 ∙ serial) either)
+
+  pub saw_decided : IsKnown v.side.notes d → (r : Option State) → option_map control_of r ≡ state_said d.number word → (c : ℕ) (next : View)
+      → next ≡ record v { side = control_read v.side d word; control = c } → Saw v d r next × ((q : State) → r ≡ Some q → IsOver q)
+  saw_decided opened r is c next next_is =
+      let side_is : control_read v.side d word ≡ told_side v.side d (option_map control_of r) = told_is v.side d word (known_is v.side.notes d opened) ∙ ap (told_side v.side d) (sym is) in (
+        subst (Saw v d r) (sym (next_is ∙ ap (λ (s : Side). record v { side = s; control = c }) side_is)) (saw v d c r (decided_known r is)),
+        λ q e. (now_over q (ap (λ (o : Option State). option_map control_of o) (sym e) ∙ is)).0,
+      )

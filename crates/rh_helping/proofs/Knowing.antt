@@ -1,5 +1,5 @@
 -- What a worker knows of a task lets it go on: the descriptor and its entries are of the table.
-use Rattle.std.proofs.Common.{ℕ, ◌+◌, ◌<◌, ◌≤◌, arith}
+use Rattle.std.proofs.Common.{ℕ, ◌<◌, ◌≤◌, arith}
 use Rattle.rh_world.specs.Moves.{MayWork}
 use Rattle.rh_descriptor.specs.declared.shape.Shape.{Shape}
 use Rattle.rh_descriptor.specs.Places.{cell_count}
@@ -18,19 +18,19 @@ module _ (z : Shape) (v : View) (trusts : Knows z v) where
 
   module _ (t : Task) (k : KnowsTask v t) where
     pub task_known : IsKnown v.side.notes (ref_of t.desc)
-    task_known = stands_known v.side.notes (ref_of t.desc) t.control t.entry k.stands
+    task_known = stands_known v.side.notes (ref_of t.desc) t.state t.entry k.met.stands
 
     pub task_desc : IsDesc z (ref_of t.desc)
     task_desc = trusts.sound.descs (ref_of t.desc) task_known
 
-    pub task_room : t.desc.number + t.size ≤ z.entry_room
+    task_room : t.size ≤ cell_count z
     task_room = (trusts.sound.sizes (ref_of t.desc) t.size k.size).1
 
     pub task_work : (e : ℕ) → e < t.size → MayWork v.side (ref_of t.desc) e
     task_work e lt = record { size = t.size; known = k.size; within = lt }
 
-    pub entry_here : t.entry < t.size → (t.desc.worker < z.workers) × (t.desc.number + t.entry < z.entry_room)
-    entry_here lt = let room = task_room in (task_desc.0, omega arith)
+    pub entry_here : t.entry < t.size → t.entry < cell_count z
+    entry_here lt = let room = task_room in omega (arith, lt, room)
 
   module _ (g : Goal) (k : KnowsGoal v g) where
     pub goal_work : MayWork v.side (ref_of g.task.desc) g.task.entry

@@ -2,6 +2,8 @@
 use Rattle.std.proofs.Common.{◌≡◌, ℕ, ◌<◌, Option, Some, None, inl, inr, refl, sym, subst}
 use Rattle.rh_world.specs.World.{Cell}
 use Rattle.rh_world.specs.World.Cell.{desc, mark, plain}
+use Rattle.rh_world.specs.World.Control.{failed}
+use Rattle.rh_world.specs.Notes.Note.{found, known}
 use Rattle.rh_world.specs.Moves.{cell_noted}
 use Rattle.rh_descriptor.specs.declared.shape.Shape.{Shape}
 use Rattle.rh_descriptor.specs.declared.reference.Reading.TheVariants as reading
@@ -23,15 +25,17 @@ use Rattle.rh_helping.specs.Settling.{Grows}
 use Rattle.rh_helping.proofs.Growing.{clear_grows}
 use Rattle.rh_helping.proofs.Knowing.{allowed}
 use Rattle.rh_helping.proofs.Made.{Leaves}
+use Rattle.rh_helping.proofs.Rows.{grows_by, grows_note, grows_read}
+use Rattle.rh_helping.proofs.Sides.{none_same}
 
 abbrev pub noted_cell : View → (c : ℕ) → Cell → Option ℕ → View
 noted_cell v c k current = with_side v (cell_noted v.side c k current 0 v.next_number)
 
 pub cell_grows : (v : View) (c : ℕ) (k : Cell) (current : Option ℕ) → Grows v (noted_cell v c k current)
-cell_grows v c (plain u) None = record { worker = refl; next_number = refl; marks_used = refl; opened = refl; written = refl; current = refl; released = refl; unsettled = refl; debts = refl; notes = λ n i. i }
-cell_grows v c (plain u) (Some p) = record { worker = refl; next_number = refl; marks_used = refl; opened = refl; written = refl; current = refl; released = refl; unsettled = refl; debts = refl; notes = λ n i. i }
-cell_grows v c (mark x) current = record { worker = refl; next_number = refl; marks_used = refl; opened = refl; written = refl; current = refl; released = refl; unsettled = refl; debts = refl; notes = λ n i. inr i }
-cell_grows v c (desc d) current = record { worker = refl; next_number = refl; marks_used = refl; opened = refl; written = refl; current = refl; released = refl; unsettled = refl; debts = refl; notes = λ n i. inr i }
+cell_grows v c (plain u) None = grows_by v (cell_noted v.side c (plain u) None 0 v.next_number) v.control v.raw_rows v.raw refl refl refl refl (λ n i. i) (none_same (failed 0 v.worker) v.side.notes)
+cell_grows v c (plain u) (Some p) = grows_read v v.raw_rows v.raw
+cell_grows v c (mark x) current = grows_note v (found x c) refl
+cell_grows v c (desc d) current = grows_note v (known d) refl
 
 module _ (z : Shape) (v : View) (c word : ℕ) where
   abbrev then : View

@@ -1,5 +1,5 @@
 -- Opening an own descriptor: the row that is written says its entries, and its Open notes them.
-use Rattle.std.proofs.Common.{◌≡◌, ◌≢◌, ℕ, zero, suc, ◌+◌, ◌<◌, ◌⊎◌, cond, Bool, Option, Some, List, [], ◌∷◌, length, get_or, refl, sym, ap, ◌∙◌, subst, inl, inr, ⊎_elim, arith, eq-eqb, ne_eqb}
+use Rattle.std.proofs.Common.{◌≡◌, ◌≢◌, ℕ, zero, suc, ◌+◌, ◌<◌, ◌⊎◌, cond, Bool, Option, Some, None, List, [], ◌∷◌, length, get_or, refl, sym, ap, ◌∙◌, subst, inl, inr, ⊎_elim, arith, eq-eqb, ne_eqb}
 use Rattle.std.specs.Prelude.{nat_lt}
 use Rattle.std.proofs.lemmas.Bool.Decides.{nat_tests}
 use Rattle.rh_layout.specs.declared.entry.Entry.{Entry}
@@ -8,21 +8,21 @@ use Rattle.rh_world.specs.Notes.Note.{known, new_is, old_is, size_is, target_is}
 use Rattle.rh_world.specs.Sides.{Side, open_side}
 use Rattle.rh_world.specs.Moves.{Entries, note_entries}
 use Rattle.rh_world.proofs.Tests.{by_cond}
-use Rattle.rh_world.proofs.Updated.{same_nat}
+use Rattle.rh_world.proofs.Updated.{same_nat, some_injective}
 use Rattle.rh_descriptor.specs.declared.shape.Shape.{Shape}
 use Rattle.rh_descriptor.specs.declared.shape.Part.TheVariants as part
 use Rattle.rh_descriptor.specs.declared.steps.StepKind.{StepKind}
-use Rattle.rh_descriptor.specs.Places.{entry_row}
+use Rattle.rh_descriptor.specs.Places.{cell_count, entry_row}
 use Rattle.rh_descriptor.specs.View.{OwnDesc, View, Written}
-use Rattle.rh_descriptor.specs.Steps.{Allowed, AreEntries, CanOpen, IsStep, Step, entries_at, entries_of, entry_of, next_entries, noted, open_noted, own_desc, row_word}
-use Rattle.rh_rule.proofs.OpensKept.{entries_current, entries_length, entries_notes}
+use Rattle.rh_descriptor.specs.Steps.{Allowed, AreEntries, CanOpen, HasRow, IsStep, Step, entries_at, entries_of, entry_of, next_entries, noted, open_noted, own_desc, row_word}
+use Rattle.rh_rule.proofs.OpensKept.{entries_current, entries_length, entries_notes, fits_cells}
 use Rattle.rh_steps.specs.Relies.{Knows, Went}
 use Rattle.rh_helping.specs.declared.opening.Opening.{Opening}
 use Rattle.rh_helping.specs.declared.opening.Opening.TheVariants as opening
 use Rattle.rh_helping.specs.Goal.{IsAllNoted, KnowsOwn, OwesNothing}
 use Rattle.rh_helping.specs.Made.{HasStepped, kind_of}
-use Rattle.rh_helping.specs.Opening.{HasCell, HasNew, HasOld, HasWritten, IsOpening, MayOpen, OpensOn, after_opening, kind_of_opening, next_desc, opened_after, opening_step, row_of_entry}
-use Rattle.rh_helping.proofs.Growing.{clear_with, noted_sub}
+use Rattle.rh_helping.specs.Opening.{HasCell, HasNew, HasOld, HasWritten, IsOpening, MayOpen, OpensOn, after_opening, kind_of_opening, next_desc, opened_after, opening_step}
+use Rattle.rh_helping.proofs.Growing.{noted_sub, owns_sub}
 use Rattle.rh_helping.proofs.Knowing.{allowed}
 use Rattle.rh_helping.proofs.OwnRows.{entry_is}
 use Rattle.rh_helping.proofs.Made.{Leaves, leaves, stepped}
@@ -42,38 +42,46 @@ abbrev with_row : View → (r u : ℕ) → View
 with_row v r u = record v { written = row r u ∷ v.written }
 
 may_with : (z : Shape) (v : View) (es : List Entry) (r u : ℕ) → MayOpen z v es → MayOpen z (with_row v r u) es
-may_with z v es r u h = record { clear = clear_with v (row r u ∷ v.written) h.clear; entries = h.entries; room = h.room }
+may_with z v es r u h = record {
+  owns = owns_sub v (with_row v r u) (record { worker = refl; next_number = refl; notes = λ n i. i }) None None refl h.owns.current h.owns.newest (λ n e. e) h.owns;
+  owes = record { settled = h.owes.settled; paid = h.owes.paid; unreleased = h.owes.unreleased };
+  entries = h.entries;
+  room = h.room;
+}
 
-length_written : (v : View) (es : List Entry) → HasWritten (with_row v (entry_row v.next_number 1) (length es)) es 0
-length_written v es = record {
-  size = row_here v.written (entry_row v.next_number 1) (length es);
+length_written : (v : View) (es : List Entry) → HasRow v → HasWritten (with_row v 2 (length es)) es 0
+length_written v es h = record {
+  row = row_there v.written 2 (length es) 1 (λ q. omega arith) ∙ h;
+  size = row_here v.written 2 (length es);
   cells = λ f l. absurd (omega arith);
   olds = λ f l. absurd (omega arith);
   news = λ f l. absurd (omega arith);
 }
 
-module _ (v : View) (es : List Entry) (e w u : ℕ) (low : 1 < w) (high : w < 5) where
+module _ (v : View) (es : List Entry) (e w u : ℕ) (high : w < 3) where
   abbrev then : View
-  then = with_row v (entry_row (v.next_number + e) w) u
+  then = with_row v (entry_row e w) u
 
-  word_here : row_of_entry then e w ≡ u
-  word_here = row_here v.written (entry_row (v.next_number + e) w) u
+  word_here : row_word then.written (entry_row e w) ≡ u
+  word_here = row_here v.written (entry_row e w) u
 
-  word_there : (f x : ℕ) → x < 5 → f < e ⊎ (x ≢ w) → row_of_entry then f x ≡ row_of_entry v f x
-  word_there f x l other = row_there v.written (entry_row (v.next_number + e) w) u (entry_row (v.next_number + f) x)
+  word_there : (f x : ℕ) → x < 3 → f < e ⊎ (x ≢ w) → row_word then.written (entry_row f x) ≡ row_word v.written (entry_row f x)
+  word_there f x l other = row_there v.written (entry_row e w) u (entry_row f x)
       (⊎_elim (λ (less : f < e). λ q. omega arith) (λ (ne : x ≢ w). λ q. ne (omega arith)) other)
 
   written_stays : HasWritten v es e → HasWritten then es e
   written_stays h = record {
-    size = row_there v.written (entry_row (v.next_number + e) w) u (entry_row v.next_number 1) (λ q. omega arith) ∙ h.size;
-    cells = λ f l. word_there f 2 (omega arith) (inl l) ∙ h.cells f l;
-    olds = λ f l. word_there f 3 (omega arith) (inl l) ∙ h.olds f l;
-    news = λ f l. word_there f 4 (omega arith) (inl l) ∙ h.news f l;
+    row = row_there v.written (entry_row e w) u 1 (λ q. omega arith) ∙ h.row;
+    size = row_there v.written (entry_row e w) u 2 (λ q. omega arith) ∙ h.size;
+    cells = λ f l. word_there f 0 (omega arith) (inl l) ∙ h.cells f l;
+    olds = λ f l. word_there f 1 (omega arith) (inl l) ∙ h.olds f l;
+    news = λ f l. word_there f 2 (omega arith) (inl l) ∙ h.news f l;
   }
 
 -- all words of the e-th entry are written
 entry_written : (v : View) (es : List Entry) (e : ℕ) → HasWritten v es e → HasCell v es e → HasOld v es e → HasNew v es e → HasWritten v es (suc e)
 entry_written v es e h cell old new = record {
+  row = h.row;
   size = h.size;
   cells = λ f l. up_to (λ f. HasCell v es f) f h.cells cell l;
   olds = λ f l. up_to (λ f. HasOld v es f) f h.olds old l;
@@ -88,28 +96,31 @@ entry_written v es e h cell old new = record {
 same_entry : (a b : Entry) → a.cell ≡ b.cell → a.old ≡ b.old → a.new ≡ b.new → a ≡ b
 same_entry a b c o n = λ i. record { cell = c i; old = o i; new = n i }
 
-abbrev Says : List Written → (place : ℕ) → List Entry → Type 0
-Says rows place act = (f : ℕ) → f < length act
-    → (row_word rows (entry_row (place + f) 2) ≡ (entry_of act f).cell) × (row_word rows (entry_row (place + f) 3) ≡ (entry_of act f).old)
-    × (row_word rows (entry_row (place + f) 4) ≡ (entry_of act f).new)
+abbrev Says : List Written → (from : ℕ) → List Entry → Type 0
+Says rows from act = (f : ℕ) → f < length act
+    → (row_word rows (entry_row (from + f) 0) ≡ (entry_of act f).cell) × (row_word rows (entry_row (from + f) 1) ≡ (entry_of act f).old)
+    × (row_word rows (entry_row (from + f) 2) ≡ (entry_of act f).new)
 
-rows_say : (rows : List Written) (act : List Entry) (place : ℕ) → Says rows place act → entries_at rows place (length act) ≡ act
-rows_say rows [] place h = refl
-rows_say rows (a ∷ act) place h =
-    let q : place + 0 ≡ place = omega arith in
+rows_say : (rows : List Written) (act : List Entry) (from : ℕ) → Says rows from act → entries_at rows from (length act) ≡ act
+rows_say rows [] from h = refl
+rows_say rows (a ∷ act) from h =
+    let q : from + 0 ≡ from = omega arith in
     let first = h 0 (omega arith) in
     let at = λ (w : ℕ). ap (λ (p : ℕ). row_word rows (entry_row p w)) (sym q) in
-    let head : record { cell = row_word rows (entry_row place 2); old = row_word rows (entry_row place 3); new = row_word rows (entry_row place 4) } ≡ a =
-    same_entry _ a (at 2 ∙ first.0) (at 3 ∙ first.1) (at 4 ∙ first.2) in
-    let rest = rows_say rows act (suc place) (λ f l.
-    let r : suc place + f ≡ place + suc f = omega arith in
+    let head : record { cell = row_word rows (entry_row from 0); old = row_word rows (entry_row from 1); new = row_word rows (entry_row from 2) } ≡ a =
+    same_entry _ a (at 0 ∙ first.0) (at 1 ∙ first.1) (at 2 ∙ first.2) in
+    let rest = rows_say rows act (suc from) (λ f l.
+    let r : suc from + f ≡ from + suc f = omega arith in
     let next = h (suc f) (omega arith) in
     let to = λ (w : ℕ). ap (λ (p : ℕ). row_word rows (entry_row p w)) r in
-    (to 2 ∙ next.0, to 3 ∙ next.1, to 4 ∙ next.2)) in
+    (to 0 ∙ next.0, to 1 ∙ next.1, to 2 ∙ next.2)) in
     λ i. head i ∷ rest i
 
 says : (v : View) (es : List Entry) → HasWritten v es (length es) → next_entries v (length es) ≡ es
-says v es h = rows_say v.written es v.next_number (λ f l. (h.cells f l, h.olds f l, h.news f l))
+says v es h = rows_say v.written es 0 (λ f l.
+    let q : f ≡ 0 + f = omega arith in
+    let at = λ (w : ℕ). ap (λ (p : ℕ). row_word v.written (entry_row p w)) (sym q) in
+    (at 0 ∙ h.cells f l, at 1 ∙ h.olds f l, at 2 ∙ h.news f l))
 
 -- ---- what an Open notes
 
@@ -150,10 +161,11 @@ module _ (s : Side) (d : Ref) (p : Entries) where
 module _ (z : Shape) (v : View) (es : List Entry) (may : MayOpen z v es) (written : HasWritten v es (length es)) where
   can_open : CanOpen z v (length es)
   can_open = record {
+    row = written.row;
     length_is = written.size;
     entries = subst (AreEntries z) (sym (says v es written)) may.entries;
     room = may.room;
-    closed = may.clear.own.current;
+    closed = may.owns.current;
   }
 
   abbrev side : Side
@@ -167,7 +179,7 @@ module _ (z : Shape) (v : View) (es : List Entry) (may : MayOpen z v es) (writte
 
   own_noted : IsAllNoted after (record { number = v.next_number; entries = next_entries v (length es) })
   own_noted =
-      let size = entries_length v.written v.next_number (length es) in
+      let size = entries_length v.written 0 (length es) in
       record {
         known = entries_known side (own_desc v) entries (length es);
         size = entries_size side (own_desc v) entries (length es);
@@ -181,16 +193,20 @@ module _ (z : Shape) (v : View) (es : List Entry) (may : MayOpen z v es) (writte
 
   knows : KnowsOwn after (Some (next_desc v es))
   knows = subst (λ (o : OwnDesc). KnowsOwn after (Some o)) is_next record {
-    current = entries_current side (own_desc v) entries (length es);
-    newest = refl;
-    noted = λ o i. ⊎_elim (λ (q : o ≡ record { number = v.next_number; entries = next_entries v (length es) }). subst (IsAllNoted after) (sym q) own_noted)
-        (λ (i : In o v.opened). noted_sub v after (λ n j. entries_notes side (own_desc v) entries (length es) n j) refl o (may.clear.own.noted o i)) i;
+    owns = record {
+      current = entries_current side (own_desc v) entries (length es);
+      newest = refl;
+      noted = λ o i. ⊎_elim (λ (q : o ≡ record { number = v.next_number; entries = next_entries v (length es) }). subst (IsAllNoted after) (sym q) own_noted)
+          (λ (i : In o v.opened). noted_sub v after refl (λ n j. entries_notes side (own_desc v) entries (length es) n j) o (may.owns.noted o i)) i;
+      last = λ n e. ap suc (sym (some_injective v.next_number n (sym (entries_current side (own_desc v) entries (length es)) ∙ e)));
+    };
+    row = λ n e. written.row ∙ (let q : v.next_number ≡ n = omega (arith, e) in q);
   }
 
   owes : OwesNothing after
   owes =
       let same = entries_same side (own_desc v) entries (length es) in
-      record { settled = same.unsettled ∙ may.clear.owes.settled; paid = same.debts ∙ may.clear.owes.paid; unreleased = same.released }
+      record { settled = same.unsettled ∙ may.owes.settled; paid = same.debts ∙ may.owes.paid; unreleased = same.released }
 
   open_leaves : Leaves (next_desc v es ∷ v.opened) v.side.reads v after
   open_leaves =
@@ -208,28 +224,33 @@ abbrev none : Entry
 none = record { cell = 0; old = 0; new = 0 }
 
 -- what is asked for of an entry
-module _ (v : View) (es : List Entry) (e w n : ℕ) (worker : v.worker ≡ w) (number : v.next_number ≡ n) (inside : e < length es) where
-  pub asks_cell : Step.writes (part.EntryCell w (n + e)) (get_or es e none).cell ≡ opening_step v es (opening.Cell e)
-  asks_cell = λ i. Step.writes (part.EntryCell (sym worker i) (sym number i + e)) (sym (entry_is es e none inside) i).cell
+module _ (v : View) (es : List Entry) (e w : ℕ) (worker : v.worker ≡ w) (inside : e < length es) where
+  pub asks_cell : Step.writes (part.EntryCell w e) (get_or es e none).cell ≡ opening_step v es (opening.Cell e)
+  asks_cell = λ i. Step.writes (part.EntryCell (sym worker i) e) (sym (entry_is es e none inside) i).cell
 
-  pub asks_old : Step.writes (part.EntryOld w (n + e)) (get_or es e none).old ≡ opening_step v es (opening.Old e)
-  asks_old = λ i. Step.writes (part.EntryOld (sym worker i) (sym number i + e)) (sym (entry_is es e none inside) i).old
+  pub asks_old : Step.writes (part.EntryOld w e) (get_or es e none).old ≡ opening_step v es (opening.Old e)
+  asks_old = λ i. Step.writes (part.EntryOld (sym worker i) e) (sym (entry_is es e none inside) i).old
 
-  pub asks_new : Step.writes (part.EntryNew w (n + e)) (get_or es e none).new ≡ opening_step v es (opening.New e)
-  asks_new = λ i. Step.writes (part.EntryNew (sym worker i) (sym number i + e)) (sym (entry_is es e none inside) i).new
+  pub asks_new : Step.writes (part.EntryNew w e) (get_or es e none).new ≡ opening_step v es (opening.New e)
+  asks_new = λ i. Step.writes (part.EntryNew (sym worker i) e) (sym (entry_is es e none inside) i).new
 
 module _ (z : Shape) (v : View) (es : List Entry) (may : MayOpen z v es) where
+  inside : (e : ℕ) → e < length es → e < cell_count z
+  inside e less = let all = fits_cells z es may.entries in omega (arith, less, all)
+
   is_step : (o : Opening) → IsOpening v es o → IsStep z v (opening_step v es o)
-  is_step opening.Length h = let some = may.entries.some in let room = may.room in (refl, omega arith, omega arith)
-  is_step (opening.Cell e) h = let less = h.0 in let room = may.room in (refl, omega arith, omega arith)
-  is_step (opening.Old e) h = let less = h.0 in let room = may.room in (refl, omega arith, omega arith)
-  is_step (opening.New e) h = let less = h.0 in let room = may.room in (refl, omega arith, omega arith)
+  is_step opening.Serial h = (refl, may.owns.current, refl, may.room)
+  is_step opening.Length h = (refl, may.owns.current, h)
+  is_step (opening.Cell e) h = (refl, may.owns.current, h.1.row, inside e h.0)
+  is_step (opening.Old e) h = (refl, may.owns.current, h.1.row, inside e h.0)
+  is_step (opening.New e) h = (refl, may.owns.current, h.1.row, inside e h.0)
   is_step opening.Open h = can_open z v es may h
 
   pub may_step : Knows z v → (o : Opening) (s : Step) → IsOpening v es o → s ≡ opening_step v es o → Allowed z v s
   may_step knows o s h is = subst (Allowed z v) (sym is) (allowed z v knows _ (is_step o h))
 
   step_leaves : (o : Opening) (word : ℕ) → IsOpening v es o → Leaves (opened_after v es (after_opening (length es) o)) v.side.reads v (noted z v (opening_step v es o) word)
+  step_leaves opening.Serial word h = leaves z v (opening_step v es opening.Serial) word tt
   step_leaves opening.Length word h = leaves z v (opening_step v es opening.Length) word tt
   step_leaves (opening.Cell e) word h = leaves z v (opening_step v es (opening.Cell e)) word tt
   step_leaves (opening.Old e) word h = leaves z v (opening_step v es (opening.Old e)) word tt
@@ -238,6 +259,7 @@ module _ (z : Shape) (v : View) (es : List Entry) (may : MayOpen z v es) where
   step_leaves opening.Open word h = open_leaves z v es may h
 
   is_kind : (o : Opening) → kind_of (opening_step v es o) ≡ kind_of_opening o
+  is_kind opening.Serial = refl
   is_kind opening.Length = refl
   is_kind (opening.Cell e) = refl
   is_kind (opening.Old e) = refl
@@ -255,31 +277,33 @@ module _ (z : Shape) (v : View) (es : List Entry) (may : MayOpen z v es) where
       (may_step knows o s h is) to)
 
   leads_on : (o : Opening) (word : ℕ) → IsOpening v es o → OpensOn z es v (noted z v (opening_step v es o) word) (after_opening (length es) o)
+  leads_on opening.Serial word h =
+      (may_with z v es 1 v.next_number may, row_here v.written 1 v.next_number, refl)
   leads_on opening.Length word h =
-      (may_with z v es (entry_row v.next_number 1) (length es) may, (may.entries.some, length_written v es), refl)
+      (may_with z v es 2 (length es) may, (may.entries.some, length_written v es h), refl)
   leads_on (opening.Cell e) word h = (
-    may_with z v es (entry_row (v.next_number + e) 2) (entry_of es e).cell may,
-    (h.0, written_stays v es e 2 (entry_of es e).cell (omega arith) (omega arith) h.1, word_here v es e 2 (entry_of es e).cell (omega arith) (omega arith)),
+    may_with z v es (entry_row e 0) (entry_of es e).cell may,
+    (h.0, written_stays v es e 0 (entry_of es e).cell (omega arith) h.1, word_here v es e 0 (entry_of es e).cell (omega arith)),
     refl,
   )
   leads_on (opening.Old e) word h = (
-    may_with z v es (entry_row (v.next_number + e) 3) (entry_of es e).old may,
+    may_with z v es (entry_row e 1) (entry_of es e).old may,
     (
       h.0,
-      written_stays v es e 3 (entry_of es e).old (omega arith) (omega arith) h.1,
-      word_there v es e 3 (entry_of es e).old (omega arith) (omega arith) e 2 (omega arith) (inr (λ q. omega arith)) ∙ h.2,
-      word_here v es e 3 (entry_of es e).old (omega arith) (omega arith),
+      written_stays v es e 1 (entry_of es e).old (omega arith) h.1,
+      word_there v es e 1 (entry_of es e).old (omega arith) e 0 (omega arith) (inr (λ q. omega arith)) ∙ h.2,
+      word_here v es e 1 (entry_of es e).old (omega arith),
     ),
     refl,
   )
   leads_on (opening.New e) word h =
       let u = (entry_of es e).new in
-      let next = with_row v (entry_row (v.next_number + e) 4) u in
-      let all = entry_written next es e (written_stays v es e 4 u (omega arith) (omega arith) h.1)
-      (word_there v es e 4 u (omega arith) (omega arith) e 2 (omega arith) (inr (λ q. omega arith)) ∙ h.2)
-      (word_there v es e 4 u (omega arith) (omega arith) e 3 (omega arith) (inr (λ q. omega arith)) ∙ h.3)
-      (word_here v es e 4 u (omega arith) (omega arith)) in
-      let may_on = may_with z v es (entry_row (v.next_number + e) 4) u may in
+      let next = with_row v (entry_row e 2) u in
+      let all = entry_written next es e (written_stays v es e 2 u (omega arith) h.1)
+      (word_there v es e 2 u (omega arith) e 0 (omega arith) (inr (λ q. omega arith)) ∙ h.2)
+      (word_there v es e 2 u (omega arith) e 1 (omega arith) (inr (λ q. omega arith)) ∙ h.3)
+      (word_here v es e 2 u (omega arith)) in
+      let may_on = may_with z v es (entry_row e 2) u may in
       by_cond (λ (o : Option Opening). OpensOn z es v next o) (nat_lt (suc e) (length es)) _ _
       (λ q. (may_on, (grind (arith, nat_tests), all), refl))
       (λ q. (may_on, subst (λ (n : ℕ). HasWritten next es n) (let less = h.0 in grind (arith, nat_tests)) all, refl))

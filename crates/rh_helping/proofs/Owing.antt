@@ -1,67 +1,150 @@
 -- What a worker owes once its descriptor is decided, and what it owes when it comes to one.
-use Rattle.std.proofs.Common.{◌≡◌, ℕ, ◌<◌, ◌⊎◌, Option, Some, None, List, [], ◌∷◌, not, sym, refl, ap, ◌∙◌, subst, inl, inr, ⊎_elim, arith}
-use Rattle.rh_tagword.specs.declared.control.Control.{Control}
-use Rattle.rh_tagword.specs.declared.control.Control.TheVariants.{Unused, Undecided, Succeeded, Withdrawn, Failed}
-use Rattle.rh_world.specs.World.{Control as WorldControl, In, Ref, is_ref}
-use Rattle.rh_world.specs.World.Control.{failed, succeeded, undecided, unused, withdrawn}
-use Rattle.rh_world.specs.Notes.Note.{target_is}
-use Rattle.rh_world.specs.Moves.{control_noted}
+use Rattle.std.proofs.Common.{◌≡◌, ℕ, ◌<◌, ◌⊎◌, Bool, true, false, true≢false, Option, Some, None, List, [], ◌∷◌, filter, not, sym, refl, ap, ◌∙◌, subst, inl, inr, ⊎_elim, arith}
+use Rattle.rh_tagword.specs.declared.control.State.{State}
+use Rattle.rh_tagword.specs.declared.control.State.TheVariants.{Unused, Undecided, Succeeded, Withdrawn, Failed}
+use Rattle.rh_world.specs.World.{In, Ref, is_ref}
+use Rattle.rh_world.specs.Notes.Note.{old_is, over, passed, size_is, target_is}
+use Rattle.rh_world.specs.Moves.{MayWork}
+use Rattle.rh_world.specs.Sides.{Debt}
 use Rattle.rh_world.proofs.Updated.{ref_path, same_nat, some_injective, some_not_none}
 use Rattle.rh_descriptor.specs.View.{OwnDesc, View}
-use Rattle.rh_descriptor.specs.Steps.{with_side}
-use Rattle.rh_helping.specs.Goal.{HasReleased, IsAllNoted, IsNewest, KnowsOwn, OwesNothing, Releases, open_number, own_ref}
-use Rattle.rh_helping.specs.Work.{IsOver, Owes}
-use Rattle.rh_helping.proofs.Marks.{forget_nothing}
+use Rattle.rh_descriptor.specs.Words.{ref_of}
+use Rattle.rh_helping.specs.declared.goal.Goal.{Goal}
+use Rattle.rh_helping.specs.declared.goal.Owed.{Owed}
+use Rattle.rh_helping.specs.declared.goal.Task.{Task}
+use Rattle.rh_helping.specs.Goal.{HasGone, HasReleased, IsAllNoted, IsForeign, IsNewest, KnowsOwn, OwesNothing, OwesOne, Releases, StandsAt, debt_of, open_number, owed_of, own_ref}
+use Rattle.rh_helping.specs.Settling.{Grows}
+use Rattle.rh_helping.specs.Work.{IsAt, IsLeft, IsOver, OwesAs}
+use Rattle.rh_helping.proofs.Growing.{known_sub, nothing_grows, stands_known}
+use Rattle.rh_helping.proofs.Controls.{Saw, debts_told}
 
 same_number : (q : Option ℕ) (n : ℕ) → (q ≡ Some n) ⊎ (q ≡ Some n → ⊥)
 same_number None n = inr (λ e. some_not_none n (sym e))
 same_number (Some m) n = ⊎_elim (λ e. inl (ap Some e)) (λ ne. inr (λ e. ne (some_injective m n e))) (same_nat m n)
 
-module _ (v : View) (d : Ref) where
-  -- none of its entries is released yet
-  pub released_from : v.side.released ≡ [] → HasReleased v d 0
-  released_from none = ⊎_elim
-      (λ (mine : d.worker ≡ v.worker). ⊎_elim
-      (λ c. inl (ref_path d (own_ref v d.number) mine refl, c, none))
-      (λ other. inr ((λ a c. other c), none)) (same_number v.side.current d.number))
-      (λ foreign. inr ((λ a c. foreign a), none)) (same_nat d.worker v.worker)
+-- none of its entries is released yet
+pub released_from : (v : View) (d : Ref) (e : ℕ) → e ≡ 0 → v.side.released ≡ [] → HasReleased v d e
+released_from v d e zero none = subst (HasReleased v d) (sym zero) (⊎_elim
+    (λ (mine : d.worker ≡ v.worker). ⊎_elim
+    (λ c. inl (ref_path d (own_ref v d.number) mine refl, c, none))
+    (λ other. inr ((λ a c. other c), none)) (same_number v.side.current d.number))
+    (λ foreign. inr ((λ a c. foreign a), none)) (same_nat d.worker v.worker))
 
-  pub releases_from : (size : ℕ) → OwesNothing v → Releases v d 0 size
-  releases_from size h = record { settled = h.settled; owes = inl h.paid; released = released_from h.unreleased }
+module _ (v : View) (t : Task) (first : t.entry ≡ 0) where
+  pub releases_from : t.owed ≡ None → OwesNothing v → Releases v t
+  releases_from none h = record {
+    settled = h.settled;
+    owes = subst (λ (o : Option Owed). OwesOne v (ref_of t.desc) t.entry t.size o) (sym none) h.paid;
+    released = released_from v (ref_of t.desc) t.entry first h.unreleased;
+  }
 
   -- one cell is owed
-  pub releases_one : (size e c : ℕ) → v.side.unsettled ≡ None → v.side.released ≡ [] → v.side.debts ≡ record { desc = d; cell = c } ∷ []
-      → e < size → In (target_is d e c) v.side.notes → Releases v d 0 size
-  releases_one size e c settled none debts lt i = record { settled = settled; owes = inr (e, c, debts, omega arith, lt, i); released = released_from none }
+  pub releases_one : (g : Goal) → t.owed ≡ Some (owed_of g) → ref_of g.task.desc ≡ ref_of t.desc → v.side.unsettled ≡ None → v.side.released ≡ [] → v.side.debts ≡ debt_of (owed_of g) ∷ []
+      → g.task.entry < t.size → In (target_is (ref_of t.desc) g.task.entry g.cell) v.side.notes → In (old_is (ref_of t.desc) g.task.entry g.old) v.side.notes → Releases v t
+  releases_one g owed same settled none debts lt cell old = record {
+    settled = settled;
+    owes = subst (λ (o : Option Owed). OwesOne v (ref_of t.desc) t.entry t.size o) (sym owed) (debts, record { of_desc = same; left = omega (arith, first); within = lt; cell = cell; old = old });
+    released = released_from v (ref_of t.desc) t.entry first none;
+  }
 
-  pub owes_from : (k : Control) (size : ℕ) → OwesNothing v → Owes v d k 0 size
-  owes_from Unused size h = h
-  owes_from Undecided size h = h
-  owes_from Succeeded size h = releases_from size h
-  owes_from Withdrawn size h = releases_from size h
-  owes_from (Failed at) size h = releases_from size h
+pub owes_as_from : (v : View) (t : Task) (k : State) → (IsOver k → Releases v t) → OwesNothing v → OwesAs v t k
+owes_as_from v t Unused r h = h
+owes_as_from v t Undecided r h = h
+owes_as_from v t Succeeded r h = r tt
+owes_as_from v t Withdrawn r h = r tt
+owes_as_from v t (Failed by) r h = r tt
 
-  pub owes_over : (k : Control) (e size : ℕ) → IsOver k → Releases v d e size → Owes v d k e size
-  owes_over Unused e size o h = absurd o
-  owes_over Undecided e size o h = absurd o
-  owes_over Succeeded e size o h = h
-  owes_over Withdrawn e size o h = h
-  owes_over (Failed at) e size o h = h
+pub owes_over : (v : View) (t : Task) (k : State) → IsOver k → Releases v t → OwesAs v t k
+owes_over v t Unused o h = absurd o
+owes_over v t Undecided o h = absurd o
+owes_over v t Succeeded o h = h
+owes_over v t Withdrawn o h = h
+owes_over v t (Failed by) o h = h
 
-  pub over_owes : (k : Control) (e size : ℕ) → IsOver k → Owes v d k e size → Releases v d e size
-  over_owes Unused e size o h = absurd o
-  over_owes Undecided e size o h = absurd o
-  over_owes Succeeded e size o h = h
-  over_owes Withdrawn e size o h = h
-  over_owes (Failed at) e size o h = h
+pub over_owes : (v : View) (t : Task) (k : State) → IsOver k → OwesAs v t k → Releases v t
+over_owes v t Unused o h = absurd o
+over_owes v t Undecided o h = absurd o
+over_owes v t Succeeded o h = h
+over_owes v t Withdrawn o h = h
+over_owes v t (Failed by) o h = h
 
--- a control that is read, or decided, leaves who owes nothing so
-pub nothing_control : (v : View) (d : Ref) (k : WorldControl) → OwesNothing v → OwesNothing (with_side v (control_noted v.side d k))
-nothing_control v d unused h = h
-nothing_control v d undecided h = record { settled = h.settled; paid = forget_nothing (λ q. not (is_ref q.desc d)) v.side.debts h.paid ∙ h.paid; unreleased = h.unreleased }
-nothing_control v d succeeded h = record { settled = h.settled; paid = h.paid; unreleased = h.unreleased }
-nothing_control v d withdrawn h = record { settled = h.settled; paid = h.paid; unreleased = h.unreleased }
-nothing_control v d (failed e by) h = record { settled = h.settled; paid = h.paid; unreleased = h.unreleased }
+-- who owes nothing has nothing to forget
+pub forget_nothing : (f : Debt → Bool) (debts : List Debt) → debts ≡ [] → filter f debts ≡ debts
+forget_nothing f debts e = subst (λ (l : List Debt). filter f l ≡ l) (sym e) refl
+
+pub debts_same : (debts : List Debt) (d : Ref) (r : Option State) → debts ≡ [] → debts_told debts d r ≡ debts
+debts_same debts d None e = refl
+debts_same debts d (Some Unused) e = refl
+debts_same debts d (Some Undecided) e = forget_nothing (λ q. not (is_ref q.desc d)) debts e
+debts_same debts d (Some Succeeded) e = refl
+debts_same debts d (Some Withdrawn) e = refl
+debts_same debts d (Some (Failed by)) e = refl
+
+-- a control that is seen leaves who owes nothing so
+pub nothing_saw : (v next : View) (d : Ref) (r : Option State) → Saw v d r next → OwesNothing v → OwesNothing next
+nothing_saw v next d r saw h = record {
+  settled = saw.unsettled ∙ h.settled;
+  paid = saw.debts ∙ debts_same v.side.debts d r h.paid ∙ h.paid;
+  unreleased = saw.released ∙ h.unreleased;
+}
+
+-- ---- a descriptor of another worker is left, as its row has gone on
+
+module _ (v next : View) (g : Grows v next) (t : Task) (h : IsAt v t) (foreign : IsForeign v (ref_of t.desc)) (gone : In (over (ref_of t.desc)) next.side.notes × In (passed (ref_of t.desc)) next.side.notes) where
+  abbrev d : Ref
+  d = ref_of t.desc
+
+  unreleased : HasReleased v d t.entry → v.side.released ≡ []
+  unreleased r = ⊎_elim (λ mine. absurd (foreign (ap (λ (x : Ref). x.worker) mine.0))) (λ other. other.1) r
+
+  left_nothing : t.owed ≡ None → OwesNothing v
+  left_nothing none = by t.state refl h.owes
+    where
+      released : Releases v t → OwesNothing v
+      released r = record { settled = r.settled; paid = subst (λ (o : Option Owed). OwesOne v d t.entry t.size o) none r.owes; unreleased = unreleased r.released }
+
+      by : (k : State) → t.state ≡ k → OwesAs v t k → OwesNothing v
+      by Unused is h = h
+      by Undecided is h = h
+      by Succeeded is h = released h
+      by Withdrawn is h = released h
+      by (Failed who) is h = released h
+
+  left_releases : (o : Owed) → t.owed ≡ Some o → Releases v t
+  left_releases o some = by t.state refl h.owes
+    where
+      some_not : Some o ≡ None → ⊥
+      some_not e = true≢false (ap is_some e)
+        where
+          is_some : Option Owed → Bool
+          is_some None = false
+          is_some (Some q) = true
+
+      by : (k : State) → t.state ≡ k → OwesAs v t k → Releases v t
+      by Unused is q = absurd (subst (λ (k : State). StandsAt v.side.notes d k t.entry) is h.task.met.stands)
+      by Undecided is q = absurd (some_not (sym some ∙ h.task.unowed is))
+      by Succeeded is q = q
+      by Withdrawn is q = q
+      by (Failed who) is q = q
+
+  left_by : (owed : Option Owed) → t.owed ≡ owed → IsLeft next d owed
+  left_by None none = (nothing_grows v next g (left_nothing none), gone.1)
+  left_by (Some o) some =
+      let r = left_releases o some in
+      let one = subst (λ (q : Option Owed). OwesOne v d t.entry t.size q) some r.owes in
+      let same = sym one.1.of_desc in
+      record {
+        gone = subst (HasGone next) same (record { known = known_sub v.side.notes next.side.notes g.notes d (stands_known v.side.notes d t.state t.entry h.task.met.stands); over = gone.0; passed = gone.1; other = λ mine current. foreign (mine ∙ g.worker) });
+        work = subst (λ (f : Ref). MayWork next.side f o.piece.entry) same (record { size = t.size; known = g.notes (size_is d t.size) h.task.size; within = one.1.within });
+        cell = subst (λ (f : Ref). In (target_is f o.piece.entry o.piece.cell) next.side.notes) same (g.notes (target_is d o.piece.entry o.piece.cell) one.1.cell);
+        old = subst (λ (f : Ref). In (old_is f o.piece.entry o.old) next.side.notes) same (g.notes (old_is d o.piece.entry o.old) one.1.old);
+        settled = g.unsettled ∙ r.settled;
+        owes = g.debts ∙ one.0;
+        unreleased = g.released ∙ unreleased r.released;
+      }
+
+  pub left_at : IsLeft next d t.owed
+  left_at = left_by t.owed refl
 
 -- all is noted of the own open descriptor
 newest_noted : (v : View) (d : OwnDesc) (opened : List OwnDesc) → IsNewest opened d → ((o : OwnDesc) → In o opened → IsAllNoted v o) → IsAllNoted v d

@@ -1,13 +1,18 @@
 -- What a step that is no Release leaves of a Side, and that it notes more.
-use Rattle.std.proofs.Common.{◌≡◌, ℕ, Bool, true, false, List, [], ◌∷◌, eqb, refl, inr}
+use Rattle.std.proofs.Common.{◌≡◌, ℕ, Bool, true, false, true≢false, Option, Some, None, ◌⊎◌, List, [], ◌∷◌, ◌++◌, eqb, refl, sym, ap, ◌∙◌, subst, inl, inr, ⊎_elim}
 use Rattle.rh_world.specs.World.{Cell, Control, In, Ref, is_ref}
 use Rattle.rh_world.specs.World.Cell.{desc, mark, plain}
 use Rattle.rh_world.specs.World.Control.{failed, succeeded, undecided, unused, withdrawn}
 use Rattle.rh_world.specs.Notes.{Note}
-use Rattle.rh_world.specs.Notes.Note.{decided, found, held, known, mismatch}
+use Rattle.rh_world.specs.Notes.Note.{decided, desc_is, failed_at, found, held, known, may_demote, may_promote, mismatch, new_is, old_is, over, passed, size_is, target_is, which_is}
 use Rattle.rh_world.specs.Sides.{Side, note_side}
 use Rattle.rh_world.specs.Moves.{control_noted, mark_noted, note_all, place_noted, placed_noted, settle_noted}
 use Rattle.rh_world.proofs.Tests.{by_cond}
+use Rattle.rh_descriptor.specs.View.{MarkWord, Raw, RawRow, RowWord}
+use Rattle.rh_descriptor.specs.View.MarkWord.{desc_word, entry_word}
+use Rattle.rh_descriptor.specs.View.RowWord.{cell_word, length_word, new_word, old_word}
+use Rattle.rh_descriptor.specs.Words.{desc_in}
+use Rattle.rh_descriptor.specs.Steps.{desc_row_said, desc_said, gone_noted, mark_said, row_said, rows_said}
 
 pub record More (s t : Side) : Type 0 where
   pub current : t.current ≡ s.current
@@ -50,3 +55,121 @@ more_place s x d e c old (desc f) = by_cond (λ (t : Side). More s t) (is_ref f 
 pub more_settle : (s : Side) (d : Ref) (e c : ℕ) (b : Bool) → More s (settle_noted s d e c b)
 more_settle s d e c true = record { current = refl; released = refl; reads = refl; claims = refl; notes = λ n i. inr i }
 more_settle s d e c false = record { current = refl; released = refl; reads = refl; claims = refl; notes = λ n i. i }
+
+pub more_gone : (s : Side) (d : Ref) → More s (gone_noted s d)
+more_gone s d = record { current = refl; released = refl; reads = refl; claims = refl; notes = λ n i. inr (inr i) }
+
+-- ---- no descriptor is newly noted as decided so
+
+abbrev pub tells_decided : Note → Bool
+tells_decided (known d) = false
+tells_decided (size_is d n) = false
+tells_decided (target_is d e c) = false
+tells_decided (old_is d e u) = false
+tells_decided (new_is d e u) = false
+tells_decided (decided d k) = true
+tells_decided (over d) = false
+tells_decided (passed d) = false
+tells_decided (failed_at d e) = false
+tells_decided (desc_is x d) = false
+tells_decided (which_is x e) = false
+tells_decided (found x c) = false
+tells_decided (may_promote x c) = false
+tells_decided (may_demote x) = false
+tells_decided (held d e) = false
+tells_decided (mismatch d e n) = false
+
+-- each descriptor that is noted as decided so in the second list is noted so in the first
+abbrev pub DecidesNone : Control → (l m : List Note) → Type 0
+DecidesNone k l m = (f : Ref) → In (decided f k) m → In (decided f k) l
+
+pub none_same : (k : Control) (l : List Note) → DecidesNone k l l
+none_same k l f i = i
+
+pub none_note : (k : Control) (n : Note) (l : List Note) → tells_decided n ≡ false → DecidesNone k l (n ∷ l)
+none_note k n l other f i = ⊎_elim (λ (e : decided f k ≡ n). absurd (true≢false (ap tells_decided e ∙ other))) (λ j. j) i
+
+pub none_then : (k : Control) (l m q : List Note) → DecidesNone k l m → DecidesNone k m q → DecidesNone k l q
+none_then k l m q a b f i = a f (b f i)
+
+pub none_all : (k : Control) (s : Side) (ns : List Note) → ((n : Note) → In n ns → tells_decided n ≡ false) → DecidesNone k s.notes (note_all s ns).notes
+none_all k s [] other = none_same k s.notes
+none_all k s (n ∷ ns) other = none_then k s.notes (note_all s ns).notes (note_all s (n ∷ ns)).notes (none_all k s ns (λ m i. other m (inr i))) (none_note k n (note_all s ns).notes (other n (inl refl)))
+
+-- what rows say is no such note
+row_tells : (d : Ref) (u : RowWord) → tells_decided (desc_row_said d u) ≡ false
+row_tells d (length_word u) = refl
+row_tells d (cell_word e u) = refl
+row_tells d (old_word e u) = refl
+row_tells d (new_word e u) = refl
+
+pub rows_tell : (rs : List RawRow) (d : Ref) (n : Note) → In n (rows_said rs d) → tells_decided n ≡ false
+rows_tell [] d n i = absurd i
+rows_tell (r ∷ rs) d n i = by_cond (λ (l : List Note). In n l → tells_decided n ≡ false) (is_ref r.desc d) (desc_row_said d r.word ∷ rows_said rs d) (rows_said rs d)
+    (λ yes. ⊎_elim (λ (e : n ≡ desc_row_said d r.word). ap tells_decided e ∙ row_tells d r.word) (rows_tell rs d n)) (λ no. rows_tell rs d n) i
+
+desc_tells : (x : Ref) (o : Option Ref) (n : Note) → In n (desc_said x o) → tells_decided n ≡ false
+desc_tells x None n i = absurd i
+desc_tells x (Some d) n i = ⊎_elim (λ (e : n ≡ desc_is x d). ap tells_decided e) absurd i
+
+mark_tells : (x : Ref) (u : MarkWord) (n : Note) → In n (mark_said x u) → tells_decided n ≡ false
+mark_tells x (desc_word u) n i = desc_tells x (desc_in u) n i
+mark_tells x (entry_word u) n i = ⊎_elim (λ (e : n ≡ which_is x u). ap tells_decided e) absurd i
+
+pub in_either : (n : Note) (l r : List Note) → In n (l ++ r) → In n l ⊎ In n r
+in_either n [] r i = inr i
+in_either n (m ∷ l) r i = ⊎_elim (λ e. inl (inl e)) (λ j. ⊎_elim (λ k. inl (inr k)) inr (in_either n l r j)) i
+
+pub marks_tell : (rs : List Raw) (x : Ref) (n : Note) → In n (row_said rs x) → tells_decided n ≡ false
+marks_tell [] x n i = absurd i
+marks_tell (r ∷ rs) x n i = by_cond (λ (l : List Note). In n l → tells_decided n ≡ false) (is_ref r.mark x) (mark_said x r.word ++ row_said rs x) (row_said rs x)
+    (λ yes j. ⊎_elim (mark_tells x r.word n) (marks_tell rs x n) (in_either n (mark_said x r.word) (row_said rs x) j)) (λ no. marks_tell rs x n) i
+
+abbrev decided_desc : (other : Ref) → Note → Ref
+decided_desc d (known f) = d
+decided_desc d (size_is f n) = d
+decided_desc d (target_is f e c) = d
+decided_desc d (old_is f e u) = d
+decided_desc d (new_is f e u) = d
+decided_desc d (decided f k) = f
+decided_desc d (over f) = d
+decided_desc d (passed f) = d
+decided_desc d (failed_at f e) = d
+decided_desc d (desc_is x f) = d
+decided_desc d (which_is x e) = d
+decided_desc d (found x c) = d
+decided_desc d (may_promote x c) = d
+decided_desc d (may_demote x) = d
+decided_desc d (held f e) = d
+decided_desc d (mismatch f e n) = d
+
+abbrev decided_control : (other : Control) → Note → Control
+decided_control k (known f) = k
+decided_control k (size_is f n) = k
+decided_control k (target_is f e c) = k
+decided_control k (old_is f e u) = k
+decided_control k (new_is f e u) = k
+decided_control k (decided f q) = q
+decided_control k (over f) = k
+decided_control k (passed f) = k
+decided_control k (failed_at f e) = k
+decided_control k (desc_is x f) = k
+decided_control k (which_is x e) = k
+decided_control k (found x c) = k
+decided_control k (may_promote x c) = k
+decided_control k (may_demote x) = k
+decided_control k (held f e) = k
+decided_control k (mismatch f e n) = k
+
+none_decided : (k : Control) (s : Side) (d : Ref) (said : Control) → (said ≡ k → In (decided d k) s.notes) → DecidesNone k s.notes (decided d said ∷ s.notes)
+none_decided k s d said had f i = ⊎_elim
+    (λ (e : decided f k ≡ decided d said). subst (λ (y : Ref). In (decided y k) s.notes) (sym (ap (decided_desc d) e)) (had (sym (ap (decided_control k) e))))
+    (λ j. j) i
+
+-- a control tells how its descriptor is decided
+pub none_control : (k : Control) (s : Side) (d : Ref) (said : Control) → (said ≡ k → In (decided d k) s.notes) → DecidesNone k s.notes (control_noted s d said).notes
+none_control k s d unused had = none_same k s.notes
+none_control k s d undecided had = none_note k (known d) s.notes refl
+none_control k s d succeeded had = none_decided k s d succeeded had
+none_control k s d withdrawn had = none_decided k s d withdrawn had
+none_control k s d (failed e by) had = none_decided k s d (failed e by) had

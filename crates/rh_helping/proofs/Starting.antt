@@ -1,42 +1,49 @@
 -- A descriptor that a worker comes to.
-use Rattle.std.proofs.Common.{◌≡◌, ◌≢◌, ℕ, ◌<◌, ◌≤◌, Option, sym, refl, ◌∙◌, subst, inl, inr, ⊎_elim, arith}
-use Rattle.rh_tagword.specs.declared.control.Control.{Control}
-use Rattle.rh_world.specs.World.{Control as WorldControl, In, Ref}
-use Rattle.rh_world.specs.Sides.{note_side}
-use Rattle.rh_world.specs.Moves.{control_noted}
+use Rattle.std.proofs.Common.{◌≡◌, ◌≢◌, ℕ, ◌<◌, ◌≤◌, Option, None, List, refl, sym, ap, ◌∙◌, inl, ⊎_elim, arith}
+use Rattle.rh_tagword.specs.declared.control.State.{State}
+use Rattle.rh_world.specs.World.{In, Ref}
 use Rattle.rh_world.specs.Notes.Note.{size_is}
+use Rattle.rh_world.proofs.Updated.{some_not_none}
 use Rattle.rh_descriptor.specs.declared.shape.Shape.{Shape}
 use Rattle.rh_descriptor.specs.declared.reference.Ref.{Ref as Reference}
 use Rattle.rh_descriptor.specs.declared.reference.Reading.TheVariants as reading
-use Rattle.rh_descriptor.specs.View.{OwnDesc, View}
-use Rattle.rh_descriptor.specs.Steps.{Allowed, IsKnown, Step, with_side}
+use Rattle.rh_descriptor.specs.View.{OwnDesc, View, Written}
+use Rattle.rh_descriptor.specs.Steps.{Allowed, IsKnown, Step, row_word}
 use Rattle.rh_descriptor.specs.Words.{ref_of}
 use Rattle.rh_helping.specs.declared.goal.Task.{Task}
-use Rattle.rh_helping.specs.Goal.{KnowsOwn, OwesNothing, Releases, StandsAt}
+use Rattle.rh_helping.specs.Goal.{HasReason, IsMet, IsOther, KnowsOwn, OwesNothing}
 use Rattle.rh_steps.specs.Relies.{Knows}
-use Rattle.rh_helping.specs.Work.{IsNext, IsOver}
-use Rattle.rh_helping.proofs.Growing.{nothing_grows, own_sub, stands_known, stands_sub}
+use Rattle.rh_helping.specs.Work.{Begins, IsNext, failed_by}
+use Rattle.rh_helping.proofs.Controls.{Saw}
+use Rattle.rh_helping.proofs.Growing.{own_sub, stands_known}
 use Rattle.rh_helping.proofs.Knowing.{allowed}
-use Rattle.rh_helping.proofs.Rows.{grows_note}
-use Rattle.rh_helping.proofs.Sides.{more_control}
-use Rattle.rh_helping.proofs.Owing.{owes_from, owes_over}
+use Rattle.rh_helping.proofs.Owing.{owes_as_from, releases_from}
 
-module _ (z : Shape) (v : View) (trusts : Knows z v) (d : Reference) (k : Control) (n : ℕ) (sized : In (size_is (ref_of d) n) v.side.notes) (stands : StandsAt v.side.notes (ref_of d) k 0) where
-  -- its first entry is next
-  pub first_next : OwesNothing v → IsNext v (record { desc = d; size = n; control = k; entry = 0 })
-  first_next owes = record {
-    task = record { size = sized; stands = stands; within = omega arith };
-    left = inl (trusts.sound.sizes (ref_of d) n sized).0;
-    owes = owes_from v (ref_of d) k n owes;
-  }
+-- a descriptor that stands so is begun
+pub begins_first : (v : View) (d : Reference) (k : State) (n : ℕ) → In (size_is (ref_of d) n) v.side.notes → IsMet v (ref_of d) k 0 → OwesNothing v
+    → Begins v (record { desc = d; size = n; state = k; entry = 0; owed = None; reason = None })
+begins_first v d k n sized met owes = record {
+  task = record { size = sized; met = met; within = omega arith; unowed = λ u. refl };
+  first = refl;
+  owes = owes_as_from v _ k (λ over. releases_from v _ refl refl owes) owes;
+}
 
-  -- its first entry is to be released
-  pub first_released : IsOver k → Releases v (ref_of d) 0 n → IsNext v (record { desc = d; size = n; control = k; entry = 0 })
-  first_released over owes = record {
-    task = record { size = sized; stands = stands; within = omega arith };
-    left = inl (trusts.sound.sizes (ref_of d) n sized).0;
-    owes = owes_over v (ref_of d) k 0 n over owes;
-  }
+-- ---- and its first entry is next
+
+-- of one that did not fail there is nothing to know; of another worker's neither
+pub reason_none : (v : View) (t : Task) → failed_by t.state ≡ None → HasReason v t
+reason_none v t none own now by is = absurd (some_not_none by (sym (ap failed_by is) ∙ none))
+
+pub reason_other : (v : View) (t : Task) → IsOther v (ref_of t.desc) → HasReason v t
+reason_other v t other own now by is = absurd (other own now)
+
+pub begins_next : (z : Shape) (v : View) → Knows z v → (t : Task) → Begins v t → HasReason v t → IsNext v t
+begins_next z v trusts t h reason = record {
+  task = h.task;
+  left = inl (let some = (trusts.sound.sizes (ref_of t.desc) t.size h.task.size).0 in let first = h.first in omega (arith, some, first));
+  owes = h.owes;
+  reason = reason;
+}
 
 -- where an entry is left it has a number below the size
 pub left_below : (v : View) (t : Task) → IsNext v t → t.entry ≢ t.size → t.entry < t.size
@@ -51,20 +58,16 @@ module _ (z : Shape) (v : View) (trusts : Knows z v) (d : Reference) where
   pub may_read_control : IsKnown v.side.notes (ref_of d) → Allowed z v (Step.reads (reading.Control d))
   may_read_control known = allowed z v trusts _ (trusts.sound.descs (ref_of d) known, tt)
 
-  pub may_read_length : (k : Control) → StandsAt v.side.notes (ref_of d) k 0 → Allowed z v (Step.reads (reading.Length d))
-  may_read_length k stands = let known = stands_known v.side.notes (ref_of d) k 0 stands in allowed z v trusts _ (trusts.sound.descs (ref_of d) known, known)
+  module _ (k : State) (met : IsMet v (ref_of d) k 0) where
+    met_known : IsKnown v.side.notes (ref_of d)
+    met_known = stands_known v.side.notes (ref_of d) k 0 met.stands
 
--- what is so after the Read of its length
-pub length_next : (z : Shape) (v next : View) (d : Reference) (k : Control) (n : ℕ) → next ≡ with_side v (note_side v.side (size_is (ref_of d) n))
-    → Knows z next → StandsAt v.side.notes (ref_of d) k 0 → OwesNothing v → IsNext next (record { desc = d; size = n; control = k; entry = 0 })
-length_next z v next d k n is trusts stands owes =
-    let said : View = with_side v (note_side v.side (size_is (ref_of d) n)) in
-    subst (λ (x : View). Knows z x → IsNext x (record { desc = d; size = n; control = k; entry = 0 })) (sym is)
-    (λ t. first_next z said t d k n (inl refl) (stands_sub v.side.notes said.side.notes (λ m i. inr i) (ref_of d) k 0 stands)
-    (nothing_grows v said (grows_note v (size_is (ref_of d) n)) owes)) trusts
+    pub may_read_length : Allowed z v (Step.reads (reading.Length d))
+    may_read_length = allowed z v trusts _ (trusts.sound.descs (ref_of d) met_known, met_known)
 
--- after the Read of a control
-pub read_own : (v : View) (opens : Option OwnDesc) (d : Ref) (said : WorldControl) → KnowsOwn v opens → KnowsOwn (with_side v (control_noted v.side d said)) opens
-read_own v opens d said own =
-    let m = more_control v.side d said in
-    own_sub v (with_side v (control_noted v.side d said)) m.notes refl opens opens refl (m.current ∙ own.current) own.newest own
+    pub may_read_serial : Allowed z v (Step.reads (reading.Serial d))
+    may_read_serial = allowed z v trusts _ (trusts.sound.descs (ref_of d) met_known, inl met_known)
+
+-- after the Read of a control, or a swap of it
+pub own_saw : (v next : View) (d : Ref) (r : Option State) (opens : Option OwnDesc) → Saw v d r next → KnowsOwn v opens → KnowsOwn next opens
+own_saw v next d r opens saw own = own_sub v next saw.keeps opens opens saw.opened (saw.current ∙ own.current) own.newest (λ n e. e) (ap (λ (ws : List Written). row_word ws 1) saw.written) own

@@ -1,15 +1,20 @@
 -- What a worker knows of the descriptor that it goes about, and of the entry. (own)
-use Rattle.std.specs.Prelude.{zero, suc, ◌≡◌, ℕ, ◌<◌, ◌≤◌, ◌⊎◌, Option, Some, None, List, [], ◌∷◌, length}
-use Rattle.rh_tagword.specs.declared.control.Control.{Control}
-use Rattle.rh_tagword.specs.declared.control.Control.TheVariants.{Unused, Undecided, Succeeded, Withdrawn, Failed}
+use Rattle.std.specs.Prelude.{zero, suc, ◌≡◌, ℕ, ◌<◌, ◌≤◌, ◌==◌, ◌⊎◌, cond, Option, Some, None, List, [], ◌∷◌, length}
+use Rattle.rh_tagword.specs.declared.control.State.{State}
+use Rattle.rh_tagword.specs.declared.control.State.TheVariants.{Unused, Undecided, Succeeded, Withdrawn, Failed}
 use Rattle.rh_world.specs.World.{Ref, In}
+use Rattle.rh_world.specs.World.Control.{failed}
 use Rattle.rh_world.specs.Notes.{Note}
-use Rattle.rh_world.specs.Notes.Note.{known, size_is, target_is, old_is, new_is, held, decided}
-use Rattle.rh_descriptor.specs.View.{OwnDesc, View}
+use Rattle.rh_world.specs.Notes.Note.{known, size_is, target_is, old_is, new_is, held, decided, failed_at}
+use Rattle.rh_world.specs.Sides.{Debt}
+use Rattle.rh_world.specs.Moves.{MayWork}
+use Rattle.rh_descriptor.specs.declared.reference.Piece.{Piece}
+use Rattle.rh_descriptor.specs.View.{OwnDesc, RowWord, View}
 use Rattle.rh_descriptor.specs.Words.{control_of, ref_of}
-use Rattle.rh_descriptor.specs.Steps.{entry_of}
+use Rattle.rh_descriptor.specs.Steps.{IsKnown, entry_of, row_word}
 use Rattle.rh_helping.specs.declared.goal.Task.{Task}
 use Rattle.rh_helping.specs.declared.goal.Goal.{Goal}
+use Rattle.rh_helping.specs.declared.goal.Owed.{Owed}
 use Rattle.rh_helping.specs.declared.goal.OpenDesc.{OpenDesc}
 
 abbrev pub own_ref : View → (number : ℕ) → Ref
@@ -43,26 +48,51 @@ abbrev pub opened_by : Option OpenDesc → Option OwnDesc
 opened_by None = None
 opened_by (Some o) = Some (record { number = o.number; entries = o.entries.now })
 
--- what a worker knows of its descriptors, of which this one is open
-pub record KnowsOwn (v : View) (opens : Option OwnDesc) : Type 0 where
+-- what a worker knows of its descriptors, of which this one is open: it is the newest
+pub record Owns (v : View) (opens : Option OwnDesc) : Type 0 where
   pub current : v.side.current ≡ open_number opens
   pub newest : IsOpenOf v.opened opens
   pub noted : (o : OwnDesc) → In o v.opened → IsAllNoted v o
+  pub last : (n : ℕ) → v.side.current ≡ Some n → suc n ≡ v.next_number
+
+-- and that its row is still of the newest one
+pub record KnowsOwn (v : View) (opens : Option OwnDesc) : Type 0 where
+  pub owns : Owns v opens
+  pub open owns use *
+  pub row : (n : ℕ) → suc n ≡ v.next_number → row_word v.written 1 ≡ n
 
 -- ---- of the descriptor that it goes about
 
+abbrev pub IsForeign : View → Ref → Type 0
+IsForeign v d = d.worker ≡ v.worker → ⊥
+
+-- it is not the own open one
+abbrev pub IsOther : View → Ref → Type 0
+IsOther v d = d.worker ≡ v.worker → v.side.current ≡ Some d.number → ⊥
+
+-- each descriptor of its owner that this worker is noted to have decided as failed is older
+abbrev pub IsFresh : View → Ref → Type 0
+IsFresh v d = (f : Ref) → f.worker ≡ d.worker → In (decided f (failed 0 v.worker)) v.side.notes → f.number < d.number
+
 -- undecided, each entry before this one is held; or it is decided so
-abbrev pub StandsAt : List Note → Ref → Control → (entry : ℕ) → Type 0
+abbrev pub StandsAt : List Note → Ref → State → (entry : ℕ) → Type 0
 StandsAt notes d Unused e = ⊥
 StandsAt notes d Undecided e = In (known d) notes × ((f : ℕ) → f < e → In (held d f) notes)
 StandsAt notes d Succeeded e = In (decided d (control_of Succeeded)) notes
 StandsAt notes d Withdrawn e = In (decided d (control_of Withdrawn)) notes
-StandsAt notes d (Failed at) e = In (decided d (control_of (Failed at))) notes
+StandsAt notes d (Failed by) e = In (decided d (control_of (Failed by))) notes
+
+-- it stands so, as far as its entry e; an undecided one may still be failed by this worker, and an own one is the newest
+pub record IsMet (v : View) (d : Ref) (k : State) (e : ℕ) : Type 0 where
+  pub stands : StandsAt v.side.notes d k e
+  pub fresh : k ≡ Undecided → IsFresh v d
+  pub last : d.worker ≡ v.worker → suc d.number ≡ v.next_number
 
 pub record KnowsTask (v : View) (t : Task) : Type 0 where
   pub size : In (size_is (ref_of t.desc) t.size) v.side.notes
-  pub stands : StandsAt v.side.notes (ref_of t.desc) t.control t.entry
+  pub met : IsMet v (ref_of t.desc) t.state t.entry
   pub within : t.entry ≤ t.size
+  pub unowed : t.state ≡ Undecided → t.owed ≡ None
 
 pub record KnowsGoal (v : View) (g : Goal) : Type 0 where
   pub task : KnowsTask v g.task
@@ -71,13 +101,20 @@ pub record KnowsGoal (v : View) (g : Goal) : Type 0 where
   pub old : In (old_is (ref_of g.task.desc) g.task.entry g.old) v.side.notes
   pub new : In (new_is (ref_of g.task.desc) g.task.entry g.new) v.side.notes
 
+abbrev pub piece_of : Goal → Piece
+piece_of g = record { desc = g.task.desc; entry = g.task.entry; cell = g.cell }
+
+-- this word was read in the row of d, whose serial number was not read since
+abbrev pub HasReadRow : View → Ref → RowWord → Type 0
+HasReadRow v d u = In (record { desc = d; word = u }) v.raw_rows
+
 -- what the cell of an entry gets from a descriptor that is decided so
-abbrev pub released_value : Control → (old new : ℕ) → ℕ
+abbrev pub released_value : State → (old new : ℕ) → ℕ
 released_value Unused old new = old
 released_value Undecided old new = old
 released_value Succeeded old new = new
 released_value Withdrawn old new = old
-released_value (Failed at) old new = old
+released_value (Failed by) old new = old
 
 -- ---- what it owes
 
@@ -97,18 +134,61 @@ abbrev pub below : ℕ → List ℕ
 below zero = []
 below (suc n) = n ∷ below n
 
--- it owes no cell, or that of an entry of d from e on
-abbrev pub OwesOne : View → (d : Ref) → (e size : ℕ) → Type 0
-OwesOne v d e size = (v.side.debts ≡ []) ⊎ ((f c : ℕ) × (v.side.debts ≡ record { desc = d; cell = c } ∷ []) × (e ≤ f) × (f < size)
-    × In (target_is d f c) v.side.notes)
+abbrev pub owed_of : Goal → Owed
+owed_of g = record { piece = piece_of g; old = g.old }
+
+abbrev pub debt_of : Owed → Debt
+debt_of o = record { desc = ref_of o.piece.desc; cell = o.piece.cell }
+
+-- the cell is that of an entry of d from e on, and its old value is known
+pub record IsOwed (v : View) (d : Ref) (e size : ℕ) (o : Owed) : Type 0 where
+  pub of_desc : ref_of o.piece.desc ≡ d
+  pub left : e ≤ o.piece.entry
+  pub within : o.piece.entry < size
+  pub cell : In (target_is d o.piece.entry o.piece.cell) v.side.notes
+  pub old : In (old_is d o.piece.entry o.old) v.side.notes
+
+-- it owes no cell, or this one
+abbrev pub OwesOne : View → Ref → (e size : ℕ) → Option Owed → Type 0
+OwesOne v d e size None = v.side.debts ≡ []
+OwesOne v d e size (Some o) = (v.side.debts ≡ debt_of o ∷ []) × IsOwed v d e size o
+
+-- what is still owed once the entry for this cell is released
+abbrev pub owed_after : Option Owed → (cell : ℕ) → Option Owed
+owed_after None c = None
+owed_after (Some o) c = cond (o.piece.cell == c) None (Some o)
 
 -- of its open descriptor the entries before e are released, if it is d
 abbrev pub HasReleased : View → (d : Ref) → (e : ℕ) → Type 0
 HasReleased v d e = ((d ≡ own_ref v d.number) × (v.side.current ≡ Some d.number) × (v.side.released ≡ below e))
-    ⊎ ((d.worker ≡ v.worker → v.side.current ≡ Some d.number → ⊥) × (v.side.released ≡ []))
+    ⊎ (IsOther v d × (v.side.released ≡ []))
 
--- while d is released
-pub record Releases (v : View) (d : Ref) (e size : ℕ) : Type 0 where
+-- while the entries of a task are released
+pub record Releases (v : View) (t : Task) : Type 0 where
   pub settled : v.side.unsettled ≡ None
-  pub owes : OwesOne v d e size
-  pub released : HasReleased v d e
+  pub owes : OwesOne v (ref_of t.desc) t.entry t.size t.owed
+  pub released : HasReleased v (ref_of t.desc) t.entry
+
+-- of the own open descriptor it is known at which entry it failed
+abbrev pub HasReason : View → Task → Type 0
+HasReason v t = t.desc.worker ≡ v.worker → v.side.current ≡ Some t.desc.number → (by : ℕ) → t.state ≡ Failed by
+    → (e : ℕ) × (t.reason ≡ Some e) × In (failed_at (ref_of t.desc) e) v.side.notes
+
+-- ---- a descriptor whose row has gone on
+
+-- it is decided, and not the own open one
+pub record HasGone (v : View) (d : Ref) : Type 0 where
+  pub known : IsKnown v.side.notes d
+  pub over : In (Note.over d) v.side.notes
+  pub passed : In (Note.passed d) v.side.notes
+  pub other : IsOther v d
+
+-- the one cell that is owed gets its old value back, should such a descriptor stand there
+pub record GivesBack (v : View) (o : Owed) : Type 0 where
+  pub gone : HasGone v (ref_of o.piece.desc)
+  pub work : MayWork v.side (ref_of o.piece.desc) o.piece.entry
+  pub cell : In (target_is (ref_of o.piece.desc) o.piece.entry o.piece.cell) v.side.notes
+  pub old : In (old_is (ref_of o.piece.desc) o.piece.entry o.old) v.side.notes
+  pub settled : v.side.unsettled ≡ None
+  pub owes : v.side.debts ≡ debt_of o ∷ []
+  pub unreleased : v.side.released ≡ []

@@ -1,18 +1,20 @@
 -- What is so while a cell is read until it holds a value. (own)
-use Rattle.std.specs.Prelude.{◌≡◌, ℕ, ◌≤◌, None, List, ◌∷◌}
+use Rattle.std.specs.Prelude.{◌≡◌, ℕ, ◌≤◌, ◌⊎◌, None, List, ◌∷◌}
+use Rattle.rh_world.specs.World.{In}
+use Rattle.rh_world.specs.Notes.Note.{passed}
 use Rattle.rh_world.specs.Sides.{KeptRead}
 use Rattle.rh_descriptor.specs.declared.shape.Shape.{Shape}
 use Rattle.rh_descriptor.specs.declared.steps.StepKind.{StepKind}
 use Rattle.rh_descriptor.specs.declared.steps.StepKind.TheVariants as kind
 use Rattle.rh_descriptor.specs.View.{View}
-use Rattle.rh_descriptor.specs.Words.{IsPlain}
+use Rattle.rh_descriptor.specs.Words.{IsPlain, ref_of}
 use Rattle.rh_helping.specs.declared.looking.Looking.{Looking}
 use Rattle.rh_helping.specs.declared.looking.Looking.TheVariants as looking
 use Rattle.rh_helping.specs.declared.looking.Looked.{Looked}
 use Rattle.rh_helping.specs.declared.looking.Looked.TheVariants.{On, Sees, Spent}
 use Rattle.rh_helping.specs.Goal.{IsClear, KnowsOwn}
 use Rattle.rh_helping.specs.Settling.{EndsSettling, IsSettling, kind_of_settling}
-use Rattle.rh_helping.specs.Work.{ReleasesLast, Stands, kind_of_work}
+use Rattle.rh_helping.specs.Work.{ReleasesLast, Stands, desc_of, kind_of_work}
 
 abbrev pub kind_of_looking : Looking → StepKind
 kind_of_looking looking.Read = kind.Read
@@ -33,13 +35,13 @@ reads_after v c Spent = v.side.reads
 abbrev pub LooksOn : Shape → View → Looked → Type 0
 LooksOn z v (On l) = IsLooking z v l
 LooksOn z v (Sees word) = IsClear v × IsPlain word
-LooksOn z v Spent = IsClear v × (z.mark_room ≤ v.marks_used)
+LooksOn z v Spent = IsClear v × (z.rooms.marks ≤ v.marks_used)
 
 -- The step ends the work on what stood in the cell.
 abbrev pub EndsLooking : (v next : View) → Looking → Type 0
 EndsLooking v next looking.Read = ⊥
 EndsLooking v next (looking.Settle s) = EndsSettling v next s
-EndsLooking v next (looking.Help w) = ReleasesLast w
+EndsLooking v next (looking.Help w) = ReleasesLast w ⊎ In (passed (ref_of (desc_of w))) next.side.notes
 
 -- Where marks are left, the cell is not read again before that.
 abbrev pub MayLookOn : (v next : View) → Looking → Looked → Type 0

@@ -1,22 +1,36 @@
 -- What is so while a mark that was met in a cell is settled. (own)
 use Rattle.std.specs.Prelude.{◌≡◌, ℕ, Option, Some, None}
-use Rattle.rh_world.specs.World.{In}
+use Rattle.rh_world.specs.World.{In, Ref}
+use Rattle.rh_world.specs.World.Control.{failed}
 use Rattle.rh_world.specs.Notes.{Note}
-use Rattle.rh_world.specs.Notes.Note.{found, desc_is, which_is, may_promote, may_demote, old_is}
+use Rattle.rh_world.specs.Notes.Note.{decided, found, desc_is, which_is, may_promote, may_demote, old_is, passed}
 use Rattle.rh_descriptor.specs.declared.reference.Ref.{Ref as Reference}
 use Rattle.rh_descriptor.specs.declared.reference.Piece.{Piece}
 use Rattle.rh_descriptor.specs.declared.steps.StepKind.{StepKind}
 use Rattle.rh_descriptor.specs.declared.steps.StepKind.TheVariants as kind
 use Rattle.rh_descriptor.specs.View.{MarkWord, View}
 use Rattle.rh_descriptor.specs.View.MarkWord.{desc_word, entry_word}
+use Rattle.rh_descriptor.specs.View.RowWord.{old_word}
 use Rattle.rh_descriptor.specs.Words.{ref_of}
+use Rattle.rh_helping.specs.Goal.{HasReadRow}
 use Rattle.rh_helping.specs.declared.settling.Settling.{Settling}
 use Rattle.rh_helping.specs.declared.settling.Settling.TheVariants as settling
 
--- more is noted, and nothing else is changed
-pub record Grows (v next : View) : Type 0 where
+-- More is noted.
+pub record Keeps (v next : View) : Type 0 where
   pub worker : next.worker ≡ v.worker
   pub next_number : next.next_number ≡ v.next_number
+  pub notes : (n : Note) → In n v.side.notes → In n next.side.notes
+
+-- No descriptor is newly noted that this worker decided as failed: those it noted as it decided them.
+abbrev pub FailsNone : (v next : View) → Type 0
+FailsNone v next = (f : Ref) → In (decided f (failed 0 v.worker)) next.side.notes → In (decided f (failed 0 v.worker)) v.side.notes
+
+-- and nothing else is changed
+pub record Grows (v next : View) : Type 0 where
+  pub keeps : Keeps v next
+  pub open keeps use *
+  pub failures : FailsNone v next
   pub marks_used : next.marks_used ≡ v.marks_used
   pub opened : next.opened ≡ v.opened
   pub written : next.written ≡ v.written
@@ -24,7 +38,6 @@ pub record Grows (v next : View) : Type 0 where
   pub released : next.side.released ≡ v.side.released
   pub unsettled : next.side.unsettled ≡ v.side.unsettled
   pub debts : next.side.debts ≡ v.side.debts
-  pub notes : (n : Note) → In n v.side.notes → In n next.side.notes
 
 abbrev pub kind_of_settling : Settling → StepKind
 kind_of_settling (settling.Desc x c) = kind.Read
@@ -32,6 +45,7 @@ kind_of_settling (settling.Entry x c u) = kind.Read
 kind_of_settling (settling.Serial x c u e) = kind.Read
 kind_of_settling (settling.Control x p) = kind.Read
 kind_of_settling (settling.Old x p) = kind.Read
+kind_of_settling (settling.OldSerial x p old) = kind.Read
 kind_of_settling (settling.Settle x p old) = kind.Settle
 
 -- the mark was found in the piece's cell, and is for this piece
@@ -55,15 +69,18 @@ IsSettling v (settling.Entry x c u) = In (found (ref_of x) c) v.side.notes × Ha
 IsSettling v (settling.Serial x c u e) = In (found (ref_of x) c) v.side.notes × HasRead v x (desc_word u) × HasRead v x (entry_word e)
 IsSettling v (settling.Control x p) = IsFound v x p
 IsSettling v (settling.Old x p) = IsFound v x p × In (may_demote (ref_of x)) v.side.notes
+IsSettling v (settling.OldSerial x p old) = IsFound v x p × In (may_demote (ref_of x)) v.side.notes × HasReadRow v (ref_of p.desc) (old_word p.entry old)
 IsSettling v (settling.Settle x p old) = IsFound v x p × MaySwap v x p old
 
--- The mark is left once it is settled, or where its row has gone on: then nothing is noted of it.
+-- The mark is left once it is settled, or where its row has gone on, and then nothing is noted of it, or that of its
+-- descriptor.
 abbrev pub EndsSettling : (v next : View) → Settling → Type 0
 EndsSettling v next (settling.Desc x c) = ⊥
 EndsSettling v next (settling.Entry x c u) = ⊥
 EndsSettling v next (settling.Serial x c u e) = next.side ≡ v.side
-EndsSettling v next (settling.Control x p) = ⊥
+EndsSettling v next (settling.Control x p) = In (passed (ref_of p.desc)) next.side.notes
 EndsSettling v next (settling.Old x p) = ⊥
+EndsSettling v next (settling.OldSerial x p old) = In (passed (ref_of p.desc)) next.side.notes
 EndsSettling v next (settling.Settle x p old) = Unit {0}
 
 -- what the step leads to: the next one, or none where the mark is left

@@ -1,32 +1,40 @@
 -- What is so at each next step of a worker on a descriptor, and what a step leads to. (own)
 use Rattle.std.specs.Prelude.{◌≡◌, ℕ, ◌+◌, ◌<◌, ◌≤◌, ◌⊎◌, Option, Some, None, Bool, true, [], ◌∷◌}
-use Rattle.rh_tagword.specs.declared.control.Control.{Control}
-use Rattle.rh_tagword.specs.declared.control.Control.TheVariants.{Unused, Undecided, Succeeded, Withdrawn, Failed}
+use Rattle.rh_tagword.specs.declared.control.State.{State}
+use Rattle.rh_tagword.specs.declared.control.State.TheVariants.{Unused, Undecided, Succeeded, Withdrawn, Failed}
 use Rattle.rh_world.specs.World.{Ref, In}
-use Rattle.rh_world.specs.Notes.Note.{target_is, old_is, held, mismatch, decided, found, desc_is, which_is, may_promote, may_demote}
+use Rattle.rh_world.specs.World.Control.{failed, succeeded, withdrawn}
+use Rattle.rh_world.specs.Notes.Note.{held, mismatch, decided, failed_at, found, desc_is, which_is, may_promote, may_demote, passed}
+use Rattle.rh_descriptor.specs.declared.reference.Ref.{Ref as Reference}
 use Rattle.rh_descriptor.specs.declared.shape.Shape.{Shape}
 use Rattle.rh_descriptor.specs.declared.steps.StepKind.{StepKind}
 use Rattle.rh_descriptor.specs.declared.steps.StepKind.TheVariants as kind
-use Rattle.rh_descriptor.specs.Places.{mark_row}
+use Rattle.rh_descriptor.specs.Places.{mark_row, note_row}
 use Rattle.rh_descriptor.specs.View.{OwnDesc, View}
-use Rattle.rh_descriptor.specs.Words.{control_of, desc_number, ref_of}
+use Rattle.rh_descriptor.specs.View.RowWord.{cell_word, length_word, new_word, old_word}
+use Rattle.rh_descriptor.specs.Words.{desc_number, ref_of}
 use Rattle.rh_descriptor.specs.Steps.{HasSerial, IsKnown, row_word}
 use Rattle.rh_helping.specs.declared.goal.Task.{Task}
 use Rattle.rh_helping.specs.declared.goal.Goal.{Goal}
+use Rattle.rh_helping.specs.declared.goal.Owed.{Owed}
 use Rattle.rh_helping.specs.declared.goal.Placed.{Placed}
 use Rattle.rh_helping.specs.declared.work.Work.{Work}
 use Rattle.rh_helping.specs.declared.work.Work.TheVariants as work
 use Rattle.rh_helping.specs.declared.work.Outcome.{Outcome}
 use Rattle.rh_helping.specs.declared.work.Outcome.TheVariants.{On, Over, Closed, Spent}
-use Rattle.rh_helping.specs.Goal.{own_ref, IsNewest, KnowsGoal, KnowsOwn, KnowsTask, OwesNothing, Releases, StandsAt}
+use Rattle.rh_helping.specs.declared.work.Ended.{Ended}
+use Rattle.rh_helping.specs.declared.work.Ended.TheVariants as ended
+use Rattle.rh_helping.specs.Goal.{own_ref, GivesBack, HasGone, HasReadRow, HasReason, IsForeign, IsMet, IsNewest, KnowsGoal, KnowsOwn, KnowsTask, OwesNothing, Releases, debt_of, owed_of}
 use Rattle.rh_helping.specs.Settling.{IsSettling, kind_of_settling}
 
 abbrev pub kind_of_work : Work → StepKind
 kind_of_work (work.Control d) = kind.Read
 kind_of_work (work.Length d k) = kind.Read
+kind_of_work (work.LengthSerial d k n) = kind.Read
 kind_of_work (work.EntryCell t) = kind.Read
 kind_of_work (work.EntryOld t c) = kind.Read
 kind_of_work (work.EntryNew t c o) = kind.Read
+kind_of_work (work.EntrySerial g) = kind.Read
 kind_of_work (work.MarkSerial g) = kind.Write
 kind_of_work (work.MarkDesc g) = kind.Write
 kind_of_work (work.MarkEntry g) = kind.Write
@@ -34,48 +42,70 @@ kind_of_work (work.Place g) = kind.Place
 kind_of_work (work.Settle s g) = kind_of_settling s
 kind_of_work (work.MarkControl p) = kind.Read
 kind_of_work (work.Promote p) = kind.Settle
-kind_of_work (work.Demote p) = kind.Settle
+kind_of_work (work.Demote p k) = kind.Settle
 kind_of_work (work.Recheck g promoted) = kind.Read
+kind_of_work (work.Note t) = kind.Write
 kind_of_work (work.Fail t) = kind.Decide
 kind_of_work (work.Succeed t) = kind.Decide
 kind_of_work (work.Withdraw n) = kind.Decide
+kind_of_work (work.Reason t by) = kind.Read
 kind_of_work (work.Release g) = kind.Release
+kind_of_work (work.GiveBack o) = kind.Release
 
 -- ---- what is so before the step
 
 -- what is owed: of a descriptor that is undecided nothing yet, of a decided one what is to be released
-abbrev pub Owes : View → (d : Ref) → Control → (e size : ℕ) → Type 0
-Owes v d Unused e size = OwesNothing v
-Owes v d Undecided e size = OwesNothing v
-Owes v d Succeeded e size = Releases v d e size
-Owes v d Withdrawn e size = Releases v d e size
-Owes v d (Failed at) e size = Releases v d e size
+abbrev pub OwesAs : View → Task → State → Type 0
+OwesAs v t Unused = OwesNothing v
+OwesAs v t Undecided = OwesNothing v
+OwesAs v t Succeeded = Releases v t
+OwesAs v t Withdrawn = Releases v t
+OwesAs v t (Failed by) = Releases v t
 
-abbrev pub IsOver : Control → Type 0
+abbrev pub Owes : View → Task → Type 0
+Owes v t = OwesAs v t t.state
+
+abbrev pub IsOver : State → Type 0
 IsOver Unused = ⊥
 IsOver Undecided = ⊥
 IsOver Succeeded = Unit {0}
 IsOver Withdrawn = Unit {0}
-IsOver (Failed at) = Unit {0}
+IsOver (Failed by) = Unit {0}
 
 -- a task with an entry left, undecided or decided
 pub record IsAt (v : View) (t : Task) : Type 0 where
   pub task : KnowsTask v t
   pub left : t.entry < t.size
-  pub owes : Owes v (ref_of t.desc) t.control t.entry t.size
+  pub owes : Owes v t
+  pub reason : HasReason v t
 
 -- the same, or all entries of an undecided one are held
 pub record IsNext (v : View) (t : Task) : Type 0 where
   pub task : KnowsTask v t
-  pub left : (t.entry < t.size) ⊎ (t.control ≡ Undecided)
-  pub owes : Owes v (ref_of t.desc) t.control t.entry t.size
+  pub left : (t.entry < t.size) ⊎ (t.state ≡ Undecided)
+  pub owes : Owes v t
+  pub reason : HasReason v t
+
+-- a task that is begun: none of its entries is held or released yet
+pub record Begins (v : View) (t : Task) : Type 0 where
+  pub task : KnowsTask v t
+  pub first : t.entry ≡ 0
+  pub owes : Owes v t
+
+-- who decided that a descriptor failed, if it did
+abbrev pub failed_by : State → Option ℕ
+failed_by Unused = None
+failed_by Undecided = None
+failed_by Succeeded = None
+failed_by Withdrawn = None
+failed_by (Failed by) = Some by
 
 -- a goal for which the next own mark can be placed
 pub record CanTry (z : Shape) (v : View) (g : Goal) : Type 0 where
   pub goal : KnowsGoal v g
-  pub undecided : g.task.control ≡ Undecided
+  pub undecided : g.task.state ≡ Undecided
   pub owes : OwesNothing v
-  pub mark : v.marks_used < z.mark_room
+  pub mark : v.marks_used < z.rooms.marks
 
 -- the mark row, which is of the next own mark, names the goal's descriptor
 pub record NamesDesc (z : Shape) (v : View) (g : Goal) : Type 0 where
@@ -87,9 +117,10 @@ pub record NamesEntry (z : Shape) (v : View) (g : Goal) : Type 0 where
   pub named : NamesDesc z v g
   pub entry : row_word v.written (mark_row z 2) ≡ g.task.entry
 
--- the own mark is placed for the goal, and not settled yet
+-- the own mark is placed for the goal, whose descriptor was undecided then, and not settled yet
 pub record IsPlaced (v : View) (p : Placed) : Type 0 where
   pub goal : KnowsGoal v p.goal
+  pub undecided : p.goal.task.state ≡ Undecided
   pub own : p.mark.worker ≡ v.worker
   pub unsettled : v.side.unsettled ≡ Some p.mark.number
   pub paid : v.side.debts ≡ []
@@ -101,54 +132,117 @@ pub record IsPlaced (v : View) (p : Placed) : Type 0 where
 -- the mark was swapped to its descriptor, or another worker settled it: the cell is owed
 pub record IsSwapped (v : View) (g : Goal) (promoted : Bool) : Type 0 where
   pub goal : KnowsGoal v g
+  pub undecided : g.task.state ≡ Undecided
   pub settled : v.side.unsettled ≡ None
-  pub owes : v.side.debts ≡ record { desc = ref_of g.task.desc; cell = g.cell } ∷ []
+  pub owes : v.side.debts ≡ debt_of (owed_of g) ∷ []
   pub unreleased : v.side.released ≡ []
   pub holds : promoted ≡ true → In (held (ref_of g.task.desc) g.task.entry) v.side.notes
 
+-- the descriptor is decided so, or its row has gone on
+abbrev pub IsOut : View → Ref → Option State → Type 0
+IsOut v d None = HasGone v d
+IsOut v d (Some k) = IsOver k × IsMet v d k 0
+
+-- d is left, as its row has gone on: nothing is owed, or this cell
+abbrev pub IsLeft : View → Ref → Option Owed → Type 0
+IsLeft v d None = OwesNothing v × In (passed d) v.side.notes
+IsLeft v d (Some o) = GivesBack v o
+
+-- an entry of an undecided task did not hold its old value
+pub record Mismatches (v : View) (t : Task) : Type 0 where
+  pub at : IsAt v t
+  pub undecided : t.state ≡ Undecided
+  pub seen : In (mismatch (ref_of t.desc) t.entry 0) v.side.notes
+
 abbrev pub Stands : Shape → View → Work → Type 0
 Stands z v (work.Control d) = OwesNothing v × IsKnown v.side.notes (ref_of d)
-Stands z v (work.Length d k) = OwesNothing v × StandsAt v.side.notes (ref_of d) k 0
-Stands z v (work.EntryCell t) = IsAt v t
-Stands z v (work.EntryOld t c) = IsAt v t × In (target_is (ref_of t.desc) t.entry c) v.side.notes
-Stands z v (work.EntryNew t c o) = IsAt v t × In (target_is (ref_of t.desc) t.entry c) v.side.notes × In (old_is (ref_of t.desc) t.entry o) v.side.notes
+Stands z v (work.Length d k) = OwesNothing v × IsMet v (ref_of d) k 0 × IsForeign v (ref_of d)
+Stands z v (work.LengthSerial d k n) = OwesNothing v × IsMet v (ref_of d) k 0 × IsForeign v (ref_of d) × HasReadRow v (ref_of d) (length_word n)
+Stands z v (work.EntryCell t) = IsAt v t × IsForeign v (ref_of t.desc)
+Stands z v (work.EntryOld t c) = IsAt v t × IsForeign v (ref_of t.desc) × HasReadRow v (ref_of t.desc) (cell_word t.entry c)
+Stands z v (work.EntryNew t c o) = IsAt v t × IsForeign v (ref_of t.desc) × HasReadRow v (ref_of t.desc) (cell_word t.entry c) × HasReadRow v (ref_of t.desc) (old_word t.entry o)
+Stands z v (work.EntrySerial g) = IsAt v g.task × IsForeign v (ref_of g.task.desc) × HasReadRow v (ref_of g.task.desc) (cell_word g.task.entry g.cell)
+    × HasReadRow v (ref_of g.task.desc) (old_word g.task.entry g.old) × HasReadRow v (ref_of g.task.desc) (new_word g.task.entry g.new)
 Stands z v (work.MarkSerial g) = CanTry z v g
 Stands z v (work.MarkDesc g) = CanTry z v g × HasSerial z v
 Stands z v (work.MarkEntry g) = CanTry z v g × NamesDesc z v g
 Stands z v (work.Place g) = CanTry z v g × NamesEntry z v g
 Stands z v (work.Settle s g) = CanTry z v g × NamesEntry z v g × IsSettling v s
-Stands z v (work.MarkControl p) = IsPlaced v p × (p.goal.task.control ≡ Undecided)
-Stands z v (work.Promote p) = IsPlaced v p × (p.goal.task.control ≡ Undecided) × In (may_promote (ref_of p.mark) p.goal.cell) v.side.notes
-Stands z v (work.Demote p) = IsPlaced v p × IsOver p.goal.task.control × In (may_demote (ref_of p.mark)) v.side.notes
-Stands z v (work.Recheck g promoted) = IsSwapped v g promoted × (g.task.control ≡ Undecided)
-Stands z v (work.Fail t) = IsAt v t × (t.control ≡ Undecided) × In (mismatch (ref_of t.desc) t.entry 0) v.side.notes
-Stands z v (work.Succeed t) = KnowsTask v t × (t.entry ≡ t.size) × (t.control ≡ Undecided) × OwesNothing v
-Stands z v (work.Withdraw n) = OwesNothing v × (v.side.current ≡ Some n) × (z.mark_room ≤ v.marks_used)
-Stands z v (work.Release g) = KnowsGoal v g × IsOver g.task.control × Releases v (ref_of g.task.desc) g.task.entry g.task.size
+Stands z v (work.MarkControl p) = IsPlaced v p
+Stands z v (work.Promote p) = IsPlaced v p × In (may_promote (ref_of p.mark) p.goal.cell) v.side.notes
+Stands z v (work.Demote p k) = IsPlaced v p × IsOut v (ref_of p.goal.task.desc) k × In (may_demote (ref_of p.mark)) v.side.notes
+Stands z v (work.Recheck g promoted) = IsSwapped v g promoted
+Stands z v (work.Note t) = Mismatches v t
+Stands z v (work.Fail t) = Mismatches v t × (row_word v.written (note_row z t.desc.worker) ≡ t.entry)
+Stands z v (work.Succeed t) = KnowsTask v t × (t.entry ≡ t.size) × (t.state ≡ Undecided) × OwesNothing v
+Stands z v (work.Withdraw n) = OwesNothing v × (v.side.current ≡ Some n) × (z.rooms.marks ≤ v.marks_used)
+Stands z v (work.Reason t by) = Begins v t × (t.state ≡ Failed by) × (t.desc.worker ≡ v.worker) × (v.side.current ≡ Some t.desc.number)
+Stands z v (work.Release g) = KnowsGoal v g × IsOver g.task.state × Releases v g.task × HasReason v g.task
+Stands z v (work.GiveBack o) = GivesBack v o
 
 -- ---- what it leads to
 
--- this own descriptor, which was open, is decided so and released
-pub record IsClosed (v : View) (desc : OwnDesc) (k : Control) : Type 0 where
+-- d ended so; where it failed, at which entry is known
+abbrev pub HasEnded : View → Ref → Ended → Type 0
+HasEnded v d ended.Succeeded = In (decided d succeeded) v.side.notes
+HasEnded v d ended.Withdrawn = In (decided d withdrawn) v.side.notes
+HasEnded v d (ended.Failed e) = ((by : ℕ) × In (decided d (failed 0 by)) v.side.notes) × In (failed_at d e) v.side.notes
+
+-- by its state, and by what its decider's note says
+abbrev pub ended_as : State → Option ℕ → Ended
+ended_as Unused e = ended.Withdrawn
+ended_as Undecided e = ended.Withdrawn
+ended_as Succeeded e = ended.Succeeded
+ended_as Withdrawn e = ended.Withdrawn
+ended_as (Failed by) None = ended.Withdrawn
+ended_as (Failed by) (Some e) = ended.Failed e
+
+-- this own descriptor, which was open, ended so and is released
+pub record IsClosed (v : View) (desc : OwnDesc) (k : Ended) : Type 0 where
   pub own : KnowsOwn v None
   pub owes : OwesNothing v
   pub newest : IsNewest v.opened desc
-  pub over : IsOver k
-  pub result : In (decided (own_ref v desc.number) (control_of k)) v.side.notes
+  pub result : HasEnded v (own_ref v desc.number) k
 
 abbrev pub Leads : Shape → View → (opens : Option OwnDesc) → Outcome → Type 0
 Leads z v opens (On w) = KnowsOwn v opens × Stands z v w
 Leads z v opens Over = KnowsOwn v None × OwesNothing v × (opens ≡ None)
 Leads z v opens (Closed k) = (d : OwnDesc) × (opens ≡ Some d) × IsClosed v d k
-Leads z v opens Spent = KnowsOwn v None × OwesNothing v × (opens ≡ None) × (z.mark_room ≤ v.marks_used)
+Leads z v opens Spent = KnowsOwn v None × OwesNothing v × (opens ≡ None) × (z.rooms.marks ≤ v.marks_used)
+
+-- the descriptor that the step is about
+abbrev pub desc_of : Work → Reference
+desc_of (work.Control d) = d
+desc_of (work.Length d k) = d
+desc_of (work.LengthSerial d k n) = d
+desc_of (work.EntryCell t) = t.desc
+desc_of (work.EntryOld t c) = t.desc
+desc_of (work.EntryNew t c o) = t.desc
+desc_of (work.EntrySerial g) = g.task.desc
+desc_of (work.MarkSerial g) = g.task.desc
+desc_of (work.MarkDesc g) = g.task.desc
+desc_of (work.MarkEntry g) = g.task.desc
+desc_of (work.Place g) = g.task.desc
+desc_of (work.Settle s g) = g.task.desc
+desc_of (work.MarkControl p) = p.goal.task.desc
+desc_of (work.Promote p) = p.goal.task.desc
+desc_of (work.Demote p k) = p.goal.task.desc
+desc_of (work.Recheck g promoted) = g.task.desc
+desc_of (work.Note t) = t.desc
+desc_of (work.Fail t) = t.desc
+desc_of (work.Succeed t) = t.desc
+desc_of (work.Withdraw n) = record { worker = 0; number = n }
+desc_of (work.Reason t by) = t.desc
+desc_of (work.Release g) = g.task.desc
+desc_of (work.GiveBack o) = o.piece.desc
 
 -- the step releases the last entry of a descriptor
 abbrev pub ReleasesLast : Work → Type 0
 ReleasesLast w = (g : Goal) × (w ≡ work.Release g) × (g.task.entry + 1 ≡ g.task.size)
 
--- Where marks are left, nothing else ends the work.
-abbrev pub MayEnd : Work → Outcome → Type 0
-MayEnd w (On next) = Unit {0}
-MayEnd w Over = ReleasesLast w
-MayEnd w (Closed k) = ReleasesLast w
-MayEnd w Spent = Unit {0}
+-- Where marks are left, nothing else ends the work, but that the descriptor's row has gone on.
+abbrev pub MayEnd : View → Work → Outcome → Type 0
+MayEnd next w (On on) = Unit {0}
+MayEnd next w Over = ReleasesLast w ⊎ In (passed (ref_of (desc_of w))) next.side.notes
+MayEnd next w (Closed k) = ReleasesLast w
+MayEnd next w Spent = Unit {0}

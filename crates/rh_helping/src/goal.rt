@@ -1,15 +1,26 @@
 //! What a worker goes about: a descriptor, its own or another's, and an entry of it.
 
-use rh_descriptor::Ref;
+ghost use Rattle.std.specs.Prelude.{◌≡◌, ◌<◌, ◌+◌, None};
+ghost use Rattle.rh_helping.specs.Goal.{owed_of};
+
+use rh_descriptor::{Piece, Ref};
 use rh_layout::Entry;
-use rh_tagword::Control;
+use rh_tagword::State;
 
 /// The own descriptor that is open. What it is to change is the worker's own copy: on a table that
 /// workers share each look at a row is a load.
 #[derive(Clone, Copy)]
 pub struct OpenDesc<'a> {
-    pub number: usize,
+    pub number: u64,
     pub entries: &'a [Entry],
+}
+
+/// A cell where an own mark stood: its descriptor may stand there by the worker's doing.
+#[derive(Clone, Copy)]
+pub struct Owed {
+    pub piece: Piece,
+    /// The entry's old value.
+    pub old: u64,
 }
 
 /// A descriptor that a worker goes about, and how far it has come.
@@ -20,9 +31,13 @@ pub struct Task {
     pub size: usize,
     /// Undecided while its entries are to be held, else how it was decided, and then its entries are
     /// to be released.
-    pub control: Control,
+    pub state: State,
     /// The entries before this one are held, or released.
     pub entry: usize,
+    /// The cell of one of its entries that the worker still owes. It is paid by the Release there.
+    pub owed: Option<Owed>,
+    /// At which entry it failed, where it is the own open descriptor: its decider tells its owner alone.
+    pub reason: Option<u64>,
 }
 
 /// The next entry of a task.
@@ -41,4 +56,60 @@ pub struct Goal {
 pub struct Placed {
     pub goal: Goal,
     pub mark: Ref,
+}
+
+impl Goal {
+    /// Its cell, as one that the worker owes.
+    pub(crate) fn owed(self) -> Owed
+        ensures { result ≡ owed_of self }
+    {
+        Owed {
+            piece: Piece {
+                desc: self.task.desc,
+                entry: self.task.entry,
+                cell: self.cell,
+            },
+            old: self.old,
+        }
+    }
+}
+
+impl Task {
+    /// A descriptor that stands so, at its first entry, where no cell is owed.
+    pub(crate) fn new(desc: Ref, size: usize, state: State) -> Task
+        ensures { result ≡ record { desc = desc; size = size; state = state; entry = 0; owed = None; reason = None } }
+    {
+        Task {
+            desc,
+            size,
+            state,
+            entry: 0,
+            owed: None,
+            reason: None,
+        }
+    }
+
+    /// The same descriptor, decided so: its entries are to be released from the first one on.
+    pub(crate) fn decided(self, state: State, owed: Option<Owed>) -> Task
+        ensures { result ≡ record { desc = self.desc; size = self.size; state = state; entry = 0; owed = owed; reason = None } }
+    {
+        Task {
+            state,
+            entry: 0,
+            owed,
+            reason: None,
+            ..self
+        }
+    }
+
+    /// The same descriptor, at the entry after this one.
+    pub(crate) fn after(self) -> Task
+        requires { self.entry < self.size }
+        ensures { result ≡ record { desc = self.desc; size = self.size; state = self.state; entry = self.entry + 1; owed = self.owed; reason = self.reason } }
+    {
+        Task {
+            entry: self.entry + 1,
+            ..self
+        }
+    }
 }

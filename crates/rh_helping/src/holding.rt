@@ -9,13 +9,14 @@ ghost use Rattle.rh_helping.specs.Made.{HasMade};
 ghost use Rattle.rh_helping.specs.Goal.{KnowsOwn, opened_by};
 ghost use Rattle.rh_helping.specs.Work.{Stands, Leads, MayEnd};
 
-use crate::goal::{Goal, OpenDesc, Placed, Task};
-use crate::going::{at_entry, ready};
-use crate::reading::{Met, control_of_word, what_stands};
+use crate::goal::{Goal, OpenDesc, Owed, Placed};
+use crate::going::{at_entry, begin, ready};
+use crate::reading::{Met, state_told, what_stands};
 use crate::settling::Settling;
 use crate::work::{Outcome, Work};
 use rh_descriptor::{Ask, Part, Piece, Reading, Ref, Shape, Side, StepKind, desc_word, mark_word};
 use rh_steps::Steps;
+use rh_tagword::State;
 
 /// Takes the mark row for the next mark, before all else that is written there.
 pub(crate) fn write_serial<T: Steps>(
@@ -32,12 +33,12 @@ pub(crate) fn write_serial<T: Steps>(
     ensures made { HasMade T.shows T.made shape.now StepKind.Write table.old side.old.known.view
         table.new side.new.known.view }
     ensures leads { Leads shape.now side.new.known.view (opened_by opens.entry) result }
-    ensures ends { MayEnd (Work.MarkSerial goal) result }
+    ensures ends { MayEnd side.new.known.view (Work.MarkSerial goal) result }
 {
     let part = Part::MarkSerial {
         worker: side.worker,
     };
-    let word = side.marks_used as u64;
+    let word = side.marks_used;
     table.make(shape, side, Ask::Write { part, word });
     Outcome::On(Work::MarkDesc(goal))
 }
@@ -56,7 +57,7 @@ pub(crate) fn write_desc<T: Steps>(
     ensures made { HasMade T.shows T.made shape.now StepKind.Write table.old side.old.known.view
         table.new side.new.known.view }
     ensures leads { Leads shape.now side.new.known.view (opened_by opens.entry) result }
-    ensures ends { MayEnd (Work.MarkDesc goal) result }
+    ensures ends { MayEnd side.new.known.view (Work.MarkDesc goal) result }
 {
     let word = desc_word(shape, goal.task.desc);
     let part = Part::MarkDesc {
@@ -80,7 +81,7 @@ pub(crate) fn write_entry<T: Steps>(
     ensures made { HasMade T.shows T.made shape.now StepKind.Write table.old side.old.known.view
         table.new side.new.known.view }
     ensures leads { Leads shape.now side.new.known.view (opened_by opens.entry) result }
-    ensures ends { MayEnd (Work.MarkEntry goal) result }
+    ensures ends { MayEnd side.new.known.view (Work.MarkEntry goal) result }
 {
     let part = Part::MarkEntry {
         worker: side.worker,
@@ -111,7 +112,7 @@ pub(crate) fn place<T: Steps>(
     ensures made { HasMade T.shows T.made shape.now StepKind.Place table.old side.old.known.view
         table.new side.new.known.view }
     ensures leads { Leads shape.now side.new.known.view (opened_by opens.entry) result }
-    ensures ends { MayEnd (Work.Place goal) result }
+    ensures ends { MayEnd side.new.known.view (Work.Place goal) result }
 {
     let task = goal.task;
     let mark = Ref {
@@ -135,7 +136,7 @@ pub(crate) fn place<T: Steps>(
         return Outcome::On(Work::MarkControl(Placed { goal, mark }));
     }
     match what_stands(found) {
-        Met::Value => Outcome::On(Work::Fail(task)),
+        Met::Value => Outcome::On(Work::Note(task)),
         Met::Mark(mark) => {
             let settling = Settling::Desc {
                 mark,
@@ -145,11 +146,7 @@ pub(crate) fn place<T: Steps>(
         }
         Met::Desc(desc) => {
             if desc == task.desc {
-                let next = Task {
-                    entry: task.entry + 1,
-                    ..task
-                };
-                at_entry(shape, table, side, opens, next)
+                at_entry(shape, table, side, opens, task.after())
             } else {
                 Outcome::On(Work::Control(desc))
             }
@@ -173,7 +170,7 @@ pub(crate) fn settle<T: Steps>(
     ensures made { HasMade T.shows T.made shape.now (kind_of_settling settling) table.old side.old.known.view
         table.new side.new.known.view }
     ensures leads { Leads shape.now side.new.known.view (opened_by opens.entry) result }
-    ensures ends { MayEnd (Work.Settle settling goal) result }
+    ensures ends { MayEnd side.new.known.view (Work.Settle settling goal) result }
 {
     match settling.step(shape, table, side) {
         Some(settling) => Outcome::On(Work::Settle { settling, goal }),
@@ -195,26 +192,27 @@ pub(crate) fn read_control<T: Steps>(
     ensures made { HasMade T.shows T.made shape.now StepKind.Read table.old side.old.known.view
         table.new side.new.known.view }
     ensures leads { Leads shape.now side.new.known.view (opened_by opens.entry) result }
-    ensures ends { MayEnd (Work.MarkControl placed) result }
+    ensures ends { MayEnd side.new.known.view (Work.MarkControl placed) result }
 {
     let reading = Reading::MarkControl {
         mark: placed.mark,
         cell: placed.goal.cell,
         desc: placed.goal.task.desc,
     };
-    let control = control_of_word(table.make(shape, side, Ask::Read(reading)));
-    if control.is_decided() {
-        let task = Task {
-            control,
-            ..placed.goal.task
-        };
-        let goal = Goal {
-            task,
-            ..placed.goal
-        };
-        Outcome::On(Work::Demote(Placed { goal, ..placed }))
-    } else {
-        Outcome::On(Work::Promote(placed))
+    let word = table.make(shape, side, Ask::Read(reading));
+    match state_told(placed.goal.task.desc, word) {
+        Some(state) => {
+            if state.is_decided() {
+                let state = Some(state);
+                Outcome::On(Work::Demote { placed, state })
+            } else {
+                Outcome::On(Work::Promote(placed))
+            }
+        }
+        None => Outcome::On(Work::Demote {
+            placed,
+            state: None,
+        }),
     }
 }
 
@@ -232,7 +230,7 @@ pub(crate) fn promote<T: Steps>(
     ensures made { HasMade T.shows T.made shape.now StepKind.Settle table.old side.old.known.view
         table.new side.new.known.view }
     ensures leads { Leads shape.now side.new.known.view (opened_by opens.entry) result }
-    ensures ends { MayEnd (Work.Promote placed) result }
+    ensures ends { MayEnd side.new.known.view (Work.Promote placed) result }
 {
     let goal = placed.goal;
     let mark = placed.mark;
@@ -260,15 +258,16 @@ pub(crate) fn demote<T: Steps>(
     side: &mut Side,
     opens: Option<OpenDesc<'_>>,
     placed: Placed,
+    state: Option<State>,
 ) -> Outcome
     requires shape { IsShape shape.now }
     requires relies { Relies T.shows T.serves shape.now table.old side.old.known.view }
     requires own { KnowsOwn side.old.known.view (opened_by opens) }
-    requires stands { Stands shape.now side.old.known.view (Work.Demote placed) }
+    requires stands { Stands shape.now side.old.known.view (Work.Demote placed state) }
     ensures made { HasMade T.shows T.made shape.now StepKind.Settle table.old side.old.known.view
         table.new side.new.known.view }
     ensures leads { Leads shape.now side.new.known.view (opened_by opens.entry) result }
-    ensures ends { MayEnd (Work.Demote placed) result }
+    ensures ends { MayEnd side.new.known.view (Work.Demote placed state) result }
 {
     let goal = placed.goal;
     let piece = Piece {
@@ -276,20 +275,24 @@ pub(crate) fn demote<T: Steps>(
         entry: goal.task.entry,
         cell: goal.cell,
     };
+    let old = goal.old;
     table.make(
         shape,
         side,
         Ask::Settle {
             mark: placed.mark,
             piece,
-            old: Some(goal.old),
+            old: Some(old),
         },
     );
-    let task = Task {
-        entry: 0,
-        ..goal.task
-    };
-    at_entry(shape, table, side, opens, task)
+    let owed = Owed { piece, old };
+    match state {
+        Some(state) => {
+            let decided = goal.task.decided(state, Some(owed));
+            begin(shape, table, side, opens, decided)
+        }
+        None => Outcome::On(Work::GiveBack(owed)),
+    }
 }
 
 pub(crate) fn recheck<T: Steps>(
@@ -307,25 +310,30 @@ pub(crate) fn recheck<T: Steps>(
     ensures made { HasMade T.shows T.made shape.now StepKind.Read table.old side.old.known.view
         table.new side.new.known.view }
     ensures leads { Leads shape.now side.new.known.view (opened_by opens.entry) result }
-    ensures ends { MayEnd (Work.Recheck goal promoted) result }
+    ensures ends { MayEnd side.new.known.view (Work.Recheck goal promoted) result }
 {
     let task = goal.task;
-    let reading = Reading::Control(task.desc);
-    let control = control_of_word(table.make(shape, side, Ask::Read(reading)));
-    if control.is_decided() {
-        let next = Task {
-            control,
-            entry: 0,
-            ..task
-        };
-        at_entry(shape, table, side, opens, next)
-    } else if promoted {
-        let next = Task {
-            entry: task.entry + 1,
-            ..task
-        };
-        at_entry(shape, table, side, opens, next)
-    } else {
-        ready(shape, side, opens, goal)
+    let piece = Piece {
+        desc: task.desc,
+        entry: task.entry,
+        cell: goal.cell,
+    };
+    let owed = Owed {
+        piece,
+        old: goal.old,
+    };
+    let word = table.make(shape, side, Ask::Read(Reading::Control(task.desc)));
+    match state_told(task.desc, word) {
+        Some(state) => {
+            if state.is_decided() {
+                let decided = task.decided(state, Some(owed));
+                begin(shape, table, side, opens, decided)
+            } else if promoted {
+                at_entry(shape, table, side, opens, task.after())
+            } else {
+                ready(shape, side, opens, goal)
+            }
+        }
+        None => Outcome::On(Work::GiveBack(owed)),
     }
 }

@@ -14,6 +14,8 @@ use rh_steps::Steps;
 /// The next step with an own descriptor that is to be opened.
 #[derive(Clone, Copy)]
 pub enum Opening {
+    /// Write of its serial number into the own row, before all else that is written there.
+    Serial,
     /// Write of the number of its entries.
     Length,
     /// Write of the cell of this entry.
@@ -67,34 +69,25 @@ impl Opening {
         ensures { step_of result ≡ opening_step side.now.known.view entries.now self }
     {
         let worker = side.worker;
-        let first = side.next_number;
         match self {
+            Opening::Serial => Ask::Write {
+                part: Part::Serial { worker },
+                word: side.next_number,
+            },
             Opening::Length => Ask::Write {
-                part: Part::Length {
-                    worker,
-                    entry: first,
-                },
+                part: Part::Length { worker },
                 word: entries.len() as u64,
             },
             Opening::Cell(at) => Ask::Write {
-                part: Part::EntryCell {
-                    worker,
-                    entry: first + at,
-                },
+                part: Part::EntryCell { worker, entry: at },
                 word: entries[at].cell as u64,
             },
             Opening::Old(at) => Ask::Write {
-                part: Part::EntryOld {
-                    worker,
-                    entry: first + at,
-                },
+                part: Part::EntryOld { worker, entry: at },
                 word: entries[at].old,
             },
             Opening::New(at) => Ask::Write {
-                part: Part::EntryNew {
-                    worker,
-                    entry: first + at,
-                },
+                part: Part::EntryNew { worker, entry: at },
                 word: entries[at].new,
             },
             Opening::Open => Ask::Open {
@@ -108,6 +101,7 @@ impl Opening {
         ensures { result ≡ after_opening (length entries.now) self }
     {
         match self {
+            Opening::Serial => Some(Opening::Length),
             Opening::Length => Some(Opening::Cell(0)),
             Opening::Cell(at) => Some(Opening::Old(at)),
             Opening::Old(at) => Some(Opening::New(at)),

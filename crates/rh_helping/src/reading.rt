@@ -1,17 +1,25 @@
 //! What words say.
 
 ghost use Rattle.std.specs.Prelude.{◌≡◌, option_map};
-ghost use Rattle.rh_descriptor.specs.Words.{cell_in, control_of, desc_in, read_control, ref_of};
-ghost use Rattle.rh_helping.specs.Met.{cell_met};
+ghost use Rattle.rh_descriptor.specs.Words.{cell_in, control_of, desc_in, ref_of};
+ghost use Rattle.rh_rule.specs.Sound.{IsControlWord};
+ghost use Rattle.rh_helping.specs.Met.{cell_met, state_said};
 
 use rh_descriptor::Ref;
-use rh_tagword::{Control, Word, unpack, unpack_control};
+use rh_tagword::{State, Word, unpack, unpack_control};
 
-/// The control of this number. A number that is none is never written.
-pub fn control_of_word(word: u64) -> Control
-    ensures { control_of result ≡ read_control word }
+/// How a descriptor stands by this word, its worker's control; or none where the worker has gone on to
+/// a later one.
+pub fn state_told(desc: Ref, word: u64) -> Option<State>
+    requires { IsControlWord word }
+    ensures { option_map control_of result ≡ state_said desc.number word }
 {
-    unpack_control(word).unwrap_or(Control::Withdrawn)
+    match unpack_control(word) {
+        Some((serial, state)) if serial == desc.number => Some(state),
+        Some(_) => None,
+        // (no other number is written)
+        None => unreachable!(),
+    }
 }
 
 /// What stands in a cell.
@@ -30,11 +38,11 @@ pub fn what_stands(word: u64) -> Met
     match unpack(word) {
         Some(Word::Mark { worker, number }) => Met::Mark(Ref {
             worker: worker as usize,
-            number: number as usize,
+            number,
         }),
         Some(Word::Desc { worker, number }) => Met::Desc(Ref {
             worker: worker as usize,
-            number: number as usize,
+            number,
         }),
         _ => Met::Value,
     }

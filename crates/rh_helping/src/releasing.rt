@@ -1,19 +1,20 @@
 //! Releasing a decided descriptor.
 
-ghost use Rattle.std.specs.Prelude.{◌≡◌, Some, Decides};
+ghost use Rattle.std.specs.Prelude.{◌≡◌, ℕ, Some};
 ghost use Rattle.rh_descriptor.specs.Places.{IsShape};
 ghost use Rattle.rh_steps.specs.Relies.{Relies};
 ghost use Rattle.rh_helping.specs.Made.{HasMade};
-ghost use Rattle.rh_helping.specs.Goal.{KnowsOwn, open_number, opened_by, released_value};
-ghost use Rattle.rh_helping.specs.Work.{Stands, Leads, MayEnd};
-ghost use Rattle.rh_helping.specs.declared.work.Work.TheVariants.{Release};
+ghost use Rattle.rh_helping.specs.Goal.{KnowsOwn, opened_by, owed_after, released_value};
+ghost use Rattle.rh_helping.specs.Work.{IsOver, Stands, Leads, MayEnd, ended_as};
+ghost use Rattle.rh_helping.specs.declared.work.Work.TheVariants.{GiveBack, Release};
+ghost use Rattle.rh_tagword.specs.declared.control.State.TheVariants.{Failed};
 
-use crate::goal::{Goal, OpenDesc, Task};
-use crate::going::{at_entry, resume};
-use crate::work::Outcome;
-use rh_descriptor::{Ask, Piece, Ref, Shape, Side, StepKind};
+use crate::goal::{Goal, OpenDesc, Owed, Task};
+use crate::going::{at_entry, is_open, resume};
+use crate::work::{Ended, Outcome};
+use rh_descriptor::{Ask, Piece, Shape, Side, StepKind};
 use rh_steps::Steps;
-use rh_tagword::Control;
+use rh_tagword::State;
 
 /// Releases an entry. With the last one the own descriptor is closed, if it is that one that was open.
 pub(crate) fn release<T: Steps>(
@@ -30,7 +31,7 @@ pub(crate) fn release<T: Steps>(
     ensures made { HasMade T.shows T.made shape.now StepKind.Release table.old side.old.known.view
         table.new side.new.known.view }
     ensures leads { Leads shape.now side.new.known.view (opened_by opens.entry) result }
-    ensures ends { MayEnd (Release goal) result }
+    ensures ends { MayEnd side.new.known.view (Release goal) result }
 {
     let task = goal.task;
     let own = is_open(side.worker, opens, task.desc);
@@ -45,18 +46,19 @@ pub(crate) fn release<T: Steps>(
         side,
         Ask::Release {
             piece,
-            control: task.control,
+            state: Some(task.state),
             value,
         },
     );
     let next = Task {
         entry: task.entry + 1,
+        owed: owed_after(goal),
         ..task
     };
     if next.entry < next.size {
         at_entry(shape, table, side, opens, next)
     } else if own {
-        Outcome::Closed(task.control)
+        Outcome::Closed(ended(task))
     } else {
         resume(side, opens)
     }
@@ -64,17 +66,74 @@ pub(crate) fn release<T: Steps>(
 
 /// What the cell gets: the new value if the descriptor succeeded, else the old one.
 fn released_value(goal: Goal) -> u64
-    ensures { result ≡ released_value goal.task.control goal.old goal.new }
+    ensures { result ≡ released_value goal.task.state goal.old goal.new }
 {
-    match goal.task.control {
-        Control::Succeeded => goal.new,
+    match goal.task.state {
+        State::Succeeded => goal.new,
         _ => goal.old,
     }
 }
 
-/// Whether the descriptor is the own one that is open.
-fn is_open(worker: usize, opens: Option<OpenDesc<'_>>, desc: Ref) -> bool
-    ensures { Decides result ((desc.worker ≡ worker) × (open_number (opened_by opens.entry) ≡ Some desc.number)) }
+/// The cell that is still owed after the Release of the goal.
+fn owed_after(goal: Goal) -> Option<Owed>
+    ensures { result ≡ owed_after goal.task.owed goal.cell }
 {
-    desc.worker == worker && opens.is_some_and(|open| open.number == desc.number)
+    match goal.task.owed {
+        Some(owed) => {
+            if owed.piece.cell == goal.cell {
+                None
+            } else {
+                Some(owed)
+            }
+        }
+        None => None,
+    }
+}
+
+/// How the own open descriptor ended, which is this task.
+fn ended(task: Task) -> Ended
+    requires over { IsOver task.state }
+    requires reason { (by : ℕ) → task.state ≡ Failed by → (e : ℕ) × (task.reason ≡ Some e) }
+    ensures { result ≡ ended_as task.state task.reason }
+{
+    match task.state {
+        State::Succeeded => Ended::Succeeded,
+        State::Withdrawn => Ended::Withdrawn,
+        State::Failed { .. } => match task.reason {
+            Some(entry) => Ended::Failed { entry },
+            // (its decider's note was read)
+            None => unreachable!(),
+        },
+        State::Unused | State::Undecided => unreachable!(),
+    }
+}
+
+/// Puts the old value of an entry back, should its descriptor, whose row has gone on, stand in its cell,
+/// and leaves it.
+pub(crate) fn give_back<T: Steps>(
+    shape: &Shape,
+    table: &mut T,
+    side: &mut Side,
+    opens: Option<OpenDesc<'_>>,
+    owed: Owed,
+) -> Outcome
+    requires shape { IsShape shape.now }
+    requires relies { Relies T.shows T.serves shape.now table.old side.old.known.view }
+    requires own { KnowsOwn side.old.known.view (opened_by opens) }
+    requires stands { Stands shape.now side.old.known.view (GiveBack owed) }
+    ensures made { HasMade T.shows T.made shape.now StepKind.Release table.old side.old.known.view
+        table.new side.new.known.view }
+    ensures leads { Leads shape.now side.new.known.view (opened_by opens.entry) result }
+    ensures ends { MayEnd side.new.known.view (GiveBack owed) result }
+{
+    table.make(
+        shape,
+        side,
+        Ask::Release {
+            piece: owed.piece,
+            state: None,
+            value: owed.old,
+        },
+    );
+    resume(side, opens)
 }

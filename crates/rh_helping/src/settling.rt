@@ -7,7 +7,7 @@ ghost use Rattle.rh_steps.specs.Relies.{Relies};
 ghost use Rattle.rh_helping.specs.Settling.{Grows, IsSettling, LeadsOn, kind_of_settling};
 ghost use Rattle.rh_helping.specs.Made.{HasMade};
 
-use crate::reading::{control_of_word, named_desc};
+use crate::reading::{named_desc, state_told};
 use rh_descriptor::{Ask, Piece, Reading, Ref, Shape, Side, StepKind};
 use rh_steps::Steps;
 
@@ -43,6 +43,12 @@ pub enum Settling {
         mark: Ref,
         piece: Piece,
     },
+    /// Read of the serial number in the row of its descriptor, after the old value.
+    OldSerial {
+        mark: Ref,
+        piece: Piece,
+        old: u64,
+    },
     /// Settle to the old value, or to the descriptor where none is given.
     Settle {
         mark: Ref,
@@ -62,8 +68,8 @@ impl Settling {
         }
     }
 
-    /// Makes the step, and answers the next one, or none where the mark was settled, or where its row
-    /// has gone on to a later one: then it stands in no cell any more.
+    /// Makes the step, and answers the next one, or none where the mark was settled, or where its row,
+    /// or that of its descriptor, has gone on to a later one: then it is left to its worker.
     pub fn step<T: Steps>(self, shape: &Shape, table: &mut T, side: &mut Side) -> Option<Settling>
         requires shape { IsShape shape.now }
         requires relies { Relies T.shows T.serves shape.now table.old side.old.known.view }
@@ -87,6 +93,9 @@ impl Settling {
             } => read_serial(shape, table, side, mark, cell, named, entry),
             Settling::Control { mark, piece } => read_control(shape, table, side, mark, piece),
             Settling::Old { mark, piece } => read_old(shape, table, side, mark, piece),
+            Settling::OldSerial { mark, piece, old } => {
+                read_old_serial(shape, table, side, mark, piece, old)
+            }
             Settling::Settle { mark, piece, old } => swap(shape, table, side, mark, piece, old),
         }
     }
@@ -154,7 +163,7 @@ fn read_serial<T: Steps>(
     ensures leads { LeadsOn side.old.known.view side.new.known.view (Settling.Serial mark cell named entry) result }
 {
     let serial = table.make(shape, side, Ask::Read(Reading::MarkSerial(mark)));
-    if serial != mark.number as u64 {
+    if serial != mark.number {
         return None;
     }
     match named_desc(named) {
@@ -188,15 +197,20 @@ fn read_control<T: Steps>(
         cell: piece.cell,
         desc: piece.desc,
     };
-    let control = control_of_word(table.make(shape, side, Ask::Read(reading)));
-    if control.is_decided() {
-        Some(Settling::Old { mark, piece })
-    } else {
-        Some(Settling::Settle {
-            mark,
-            piece,
-            old: None,
-        })
+    let word = table.make(shape, side, Ask::Read(reading));
+    match state_told(piece.desc, word) {
+        Some(state) => {
+            if state.is_decided() {
+                Some(Settling::Old { mark, piece })
+            } else {
+                Some(Settling::Settle {
+                    mark,
+                    piece,
+                    old: None,
+                })
+            }
+        }
+        None => None,
     }
 }
 
@@ -220,6 +234,29 @@ fn read_old<T: Steps>(
         entry: piece.entry,
     };
     let old = table.make(shape, side, Ask::Read(reading));
+    Some(Settling::OldSerial { mark, piece, old })
+}
+
+fn read_old_serial<T: Steps>(
+    shape: &Shape,
+    table: &mut T,
+    side: &mut Side,
+    mark: Ref,
+    piece: Piece,
+    old: u64,
+) -> Option<Settling>
+    requires shape { IsShape shape.now }
+    requires relies { Relies T.shows T.serves shape.now table.old side.old.known.view }
+    requires settling { IsSettling side.old.known.view (Settling.OldSerial mark piece old) }
+    ensures made { HasMade T.shows T.made shape.now StepKind.Read table.old side.old.known.view
+        table.new side.new.known.view }
+    ensures grows { Grows side.old.known.view side.new.known.view }
+    ensures leads { LeadsOn side.old.known.view side.new.known.view (Settling.OldSerial mark piece old) result }
+{
+    let serial = table.make(shape, side, Ask::Read(Reading::Serial(piece.desc)));
+    if serial != piece.desc.number {
+        return None;
+    }
     Some(Settling::Settle {
         mark,
         piece,

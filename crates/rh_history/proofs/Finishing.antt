@@ -1,19 +1,20 @@
 -- The acts that a worker has finished, from step to step.
-use Rattle.std.proofs.Common.{◌≡◌, ◌≢◌, ℕ, ◌+◌, ◌<◌, inl, inr, ⊎_elim, refl, sym, ap, ◌∙◌, subst, arith, eq-eqb, ne_eqb, Bool, true, false, cond, not, ◌&&◌, List, [], ◌∷◌, ◌++◌, length, map, filter, reverse, Option, Some, None}
+use Rattle.std.proofs.Common.{◌≡◌, ◌≢◌, ℕ, suc, ◌<◌, inl, inr, ⊎_elim, refl, sym, ap, ◌∙◌, subst, arith, eq-eqb, ne_eqb, Bool, true, false, cond, not, ◌&&◌, List, [], ◌∷◌, ◌++◌, map, filter, reverse, Option, Some, None}
 use mathlib.Core.List.{reverse-cons}
 use Rattle.rh_world.specs.World.{Control, In, IsFalling, Ref}
-use Rattle.rh_world.specs.World.Control.{succeeded}
+use Rattle.rh_world.specs.World.Control.{succeeded, undecided}
 use Rattle.rh_world.specs.Notes.Note.{decided}
 use Rattle.rh_world.specs.Sides.{Side, close_side, is_number, open_side, paid_side, release_side}
 use Rattle.rh_world.specs.Moves.{covers, release_noted}
 use Rattle.rh_world.proofs.Tests.{is_number_yes}
 use Rattle.rh_world.proofs.Updated.{ref_path, some_injective, some_not_none}
 use Rattle.rh_descriptor.specs.declared.shape.Shape.{Shape}
-use Rattle.rh_descriptor.specs.View.{OwnDesc, Raw, View, Written}
-use Rattle.rh_descriptor.specs.Steps.{CanOpen, Step, entries_of, next_entries, noted, own_desc, size_in, with_side}
+use Rattle.rh_descriptor.specs.View.{OwnDesc, Raw, RawRow, View, Written}
+use Rattle.rh_descriptor.specs.Words.{number_of}
+use Rattle.rh_descriptor.specs.Steps.{CanOpen, KnowsValue, Step, entries_of, next_entries, noted, own_desc, size_in, with_side}
 use Rattle.rh_rule.specs.Mirrors.{numbers_of}
 use Rattle.rh_rule.specs.Rest.{is_noted_success}
-use Rattle.rh_rule.proofs.OpensKept.{entries_current, entries_length}
+use Rattle.rh_rule.proofs.OpensKept.{entries_current}
 use Rattle.rh_rule.proofs.Telling.{OneResult, in_noted, noted_no, noted_same, same_filtered}
 use Rattle.rh_acts.specs.Act.{Act}
 use Rattle.rh_history.specs.History.{act_of, is_current, is_finished, own_acts_of, own_ref}
@@ -58,9 +59,9 @@ module _ (v : View) (t : Side) (learns : Learns v.side t) (one : OneResult t.not
       ∙ sym (once_closed v o before)
 
   -- nothing is opened or closed
-  module _ (marks : ℕ) (rows : List Written) (raw : List Raw) where
+  module _ (control marks : ℕ) (written : List Written) (rows : List RawRow) (raw : List Raw) where
     abbrev next : View
-    next = record v { side = t; marks_used = marks; written = rows; raw = raw }
+    next = record v { side = t; control = control; marks_used = marks; written = written; raw_rows = rows; raw = raw }
 
     as_before : t.current ≡ v.side.current → StepFinishes v next
     as_before same = record {
@@ -140,9 +141,9 @@ module _ (v : View) (t : Side) (learns : Learns v.side t) (one : OneResult t.not
       }
 
   -- the next descriptor is opened
-  module _ (o : OwnDesc) (number : ℕ) (is : o.number ≡ v.next_number) (grows : v.next_number < number) (closed : v.side.current ≡ None) (current : t.current ≡ Some v.next_number) where
+  module _ (o : OwnDesc) (control : ℕ) (is : o.number ≡ v.next_number) (closed : v.side.current ≡ None) (current : t.current ≡ Some v.next_number) where
     abbrev opened : View
-    opened = record v { side = t; next_number = number; opened = o ∷ v.opened }
+    opened = record v { side = t; next_number = suc v.next_number; control = control; opened = o ∷ v.opened }
 
     as_opened : StepFinishes v opened
     as_opened = record {
@@ -165,20 +166,27 @@ module _ (v : View) (t : Side) (learns : Learns v.side t) (one : OneResult t.not
 -- ---- the steps
 
 kept_open : (z : Shape) (v : View) (s : Step) (word : ℕ) → KeepsCurrent s → OneResult (noted z v s word).side.notes → Orderly v
-    → StepFinishes v (record v { side = (noted z v s word).side; marks_used = (noted z v s word).marks_used; written = (noted z v s word).written; raw = (noted z v s word).raw })
+    → StepFinishes v (record v {
+      side = (noted z v s word).side;
+      control = (noted z v s word).control;
+      marks_used = (noted z v s word).marks_used;
+      written = (noted z v s word).written;
+      raw_rows = (noted z v s word).raw_rows;
+      raw = (noted z v s word).raw;
+    })
 kept_open z v s word h one tidy =
     let g = steps_grow z v s word h in
-    as_before v (noted z v s word).side g.learns one tidy (noted z v s word).marks_used (noted z v s word).written (noted z v s word).raw g.current
+    let k = noted z v s word in
+    as_before v k.side g.learns one tidy k.control k.marks_used k.written k.raw_rows k.raw g.current
 
 opens_next : (z : Shape) (v : View) (size word : ℕ) → CanOpen z v size → OneResult (noted z v (Step.opens size) word).side.notes → Orderly v
     → StepFinishes v (noted z v (Step.opens size) word)
 opens_next z v size word can one tidy =
-    let some : 0 < length (next_entries v size) = can.entries.some in
     as_opened v (noted z v (Step.opens size) word).side (steps_learn z v (Step.opens size) word) one tidy
-    record { number = v.next_number; entries = next_entries v size } (v.next_number + size) refl (omega (arith, entries_length v.written v.next_number size)) can.closed
+    record { number = v.next_number; entries = next_entries v size } (number_of v.next_number undecided) refl can.closed
     (entries_current (open_side v.side v.next_number) (own_desc v) (entries_of (next_entries v size)) size)
 
-module _ (v : View) (d : Ref) (e c : ℕ) (k : Control) (tidy : Orderly v) (decided_so : In (decided d k) v.side.notes) where
+module _ (v : View) (d : Ref) (e c : ℕ) (tidy : Orderly v) where
   abbrev paid : Side
   paid = paid_side v.side d c
 
@@ -189,17 +197,24 @@ module _ (v : View) (d : Ref) (e c : ℕ) (k : Control) (tidy : Orderly v) (deci
   same t notes reads = record { notes = λ n i. rw notes i; reads = λ r i. rw reads i }
 
   -- where all entries are released the descriptor is closed
-  releases_own : d.worker ≡ v.worker → v.side.current ≡ Some d.number → (all : Bool) → OneResult (cond all (close_side fewer) fewer).notes
-      → StepFinishes v (with_side v (cond all (close_side fewer) fewer))
-  releases_own own current true one =
-      as_closed v (close_side fewer) (same (close_side fewer) refl refl) one tidy v.marks_used v.written v.raw d.number k current
-      (subst (λ (x : Ref). In (decided x k) v.side.notes) (ref_path d (own_ref v d.number) own refl) decided_so) refl
-  releases_own own current false one = as_before v fewer (same fewer refl refl) one tidy v.marks_used v.written v.raw refl
+  releases_own : (k : Control) → In (decided d k) v.side.notes → d.worker ≡ v.worker → v.side.current ≡ Some d.number → (all : Bool)
+      → OneResult (cond all (close_side fewer) fewer).notes → StepFinishes v (with_side v (cond all (close_side fewer) fewer))
+  releases_own k noted_so own current true one =
+      as_closed v (close_side fewer) (same (close_side fewer) refl refl) one tidy v.control v.marks_used v.written v.raw_rows v.raw d.number k current
+      (subst (λ (x : Ref). In (decided x k) v.side.notes) (ref_path d (own_ref v d.number) own refl) noted_so) refl
+  releases_own k noted_so own current false one = as_before v fewer (same fewer refl refl) one tidy v.control v.marks_used v.written v.raw_rows v.raw refl
 
-  releases_entry : (n : ℕ) (own : Bool) → is_number v.side.current v.worker d ≡ own → OneResult (cond own (release_noted paid e n) paid).notes
-      → StepFinishes v (with_side v (cond own (release_noted paid e n) paid))
-  releases_entry n true is one = let at = is_number_yes v.side.current v.worker d is in releases_own at.0 at.1 (covers n (e ∷ v.side.released)) one
-  releases_entry n false is one = as_before v paid (same paid refl refl) one tidy v.marks_used v.written v.raw refl
+  -- the own open one is released only where it is noted how it was decided
+  releases_open : (o : Option Control) (value : ℕ) → KnowsValue v d e o value → d.worker ≡ v.worker → v.side.current ≡ Some d.number → (all : Bool)
+      → OneResult (cond all (close_side fewer) fewer).notes → StepFinishes v (with_side v (cond all (close_side fewer) fewer))
+  releases_open None value knows own current all one = absurd (knows.3 own current)
+  releases_open (Some k) value knows own current all one = releases_own k knows.0 own current all one
+
+  releases_entry : (o : Option Control) (value n : ℕ) (own : Bool) → KnowsValue v d e o value → is_number v.side.current v.worker d ≡ own
+      → OneResult (cond own (release_noted paid e n) paid).notes → StepFinishes v (with_side v (cond own (release_noted paid e n) paid))
+  releases_entry o value n true knows is one =
+      let at = is_number_yes v.side.current v.worker d is in releases_open o value knows at.0 at.1 (covers n (e ∷ v.side.released)) one
+  releases_entry o value n false knows is one = as_before v paid (same paid refl refl) one tidy v.control v.marks_used v.written v.raw_rows v.raw refl
 
 pub steps_finish : StepsFinish
 steps_finish z v (Step.writes p u) word may sound tidy = kept_open z v (Step.writes p u) word tt sound.one_result tidy
@@ -208,5 +223,5 @@ steps_finish z v (Step.reads r) word may sound tidy = kept_open z v (Step.reads 
 steps_finish z v (Step.places d e c old) word may sound tidy = kept_open z v (Step.places d e c old) word tt sound.one_result tidy
 steps_finish z v (Step.settles x c d e old) word may sound tidy = kept_open z v (Step.settles x c d e old) word tt sound.one_result tidy
 steps_finish z v (Step.decides d k) word may sound tidy = kept_open z v (Step.decides d k) word tt sound.one_result tidy
-steps_finish z v (Step.releases d e c k value) word may sound tidy = releases_entry v d e c k tidy may.step.decided (size_in v.opened d.number) (is_number v.side.current v.worker d) refl sound.one_result
+steps_finish z v (Step.releases d e c k value) word may sound tidy = releases_entry v d e c tidy k value (size_in v.opened d.number) (is_number v.side.current v.worker d) may.step.knows_value refl sound.one_result
 steps_finish z v Step.claims word may sound tidy = kept_open z v Step.claims word tt sound.one_result tidy

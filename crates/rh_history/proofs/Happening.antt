@@ -69,7 +69,7 @@ module _ (w : World) (z : Shape) (words : List ℕ) (keep : ℕ → View) (core 
   act_meets : (i : ℕ) → i < w.act_count → Meets (world_act w (w.act i)) (cells_of z (cells_after w i))
   act_meets i l e h =
       let d = w.act i in
-      let row = core.mirrors.rows.descs d (succeeded_opened (w.control d) (told.order.succeeded i l)) in
+      let row = core.mirrors.rows.entries d (succeeded_opened (w.control d) (told.order.succeeded i l)) in
       let it = contains_upto (entry_in w d) (w.size d) e h in
       let inside : w.target d it.0 < cell_count z = row.within it.0 it.1 in
       subst (λ (x : Entry). (x.cell < length (cells_of z (cells_after w i))) × (get_or (cells_of z (cells_after w i)) x.cell 0 ≡ x.old)) (sym it.2) (

@@ -1,27 +1,26 @@
 -- What a worker knows only grows: in each step its notes and its reads stay.
-use Rattle.std.proofs.Common.{◌≡◌, ℕ, zero, suc, inr, refl, sym, ap, ◌∙◌, subst, arith, map, filter, eqb, Bool, true, false, cond, ◌&&◌, List, [], ◌∷◌, Option, Some, None}
+use Rattle.std.proofs.Common.{◌≡◌, ℕ, zero, suc, inr, refl, sym, ap, ◌∙◌, subst, arith, map, filter, eqb, Bool, true, cond, ◌&&◌, List, ◌∷◌}
 use Rattle.std.specs.Prelude.{nat_lt}
 use Rattle.std.specs.List.{Contains}
 use Rattle.std.proofs.lemmas.Bool.Decides.{nat_tests}
-use Rattle.rh_world.specs.World.{Cell, Control, In, Ref, is_ref}
+use Rattle.rh_world.specs.World.{Cell, In, Ref, is_ref}
 use Rattle.rh_world.specs.World.Cell.{desc, mark, plain}
-use Rattle.rh_world.specs.World.Control.{failed, succeeded, undecided, unused, withdrawn}
 use Rattle.rh_world.specs.Notes.{Note}
-use Rattle.rh_world.specs.Notes.Note.{decided, found, held, known, may_demote, may_promote, mismatch, new_is, old_is, size_is, target_is}
+use Rattle.rh_world.specs.Notes.Note.{found, held, known, mismatch}
 use Rattle.rh_world.specs.Sides.{KeptRead, Side, close_side, is_number, note_side, open_side, paid_side, read_side, release_side, settle_side}
-use Rattle.rh_world.specs.Moves.{Entries, cell_noted, control_noted, covers, mark_noted, note_all, note_entries, place_noted, placed_noted, release_noted, settle_noted}
-use Rattle.rh_descriptor.specs.declared.reference.Reading.{Reading}
+use Rattle.rh_world.specs.Moves.{Entries, cell_noted, covers, note_entries, place_noted, placed_noted, release_noted, settle_noted}
 use Rattle.rh_descriptor.specs.declared.reference.Reading.TheVariants as reading
 use Rattle.rh_descriptor.specs.declared.shape.Shape.{Shape}
 use Rattle.rh_descriptor.specs.Places.{cell_count}
 use Rattle.rh_descriptor.specs.View.{View}
-use Rattle.rh_descriptor.specs.Words.{cell_in, mark_number, read_control, ref_of}
-use Rattle.rh_descriptor.specs.Steps.{Step, decided_now, entries_of, is_none, next_entries, noted, own_desc, own_mark, read_noted, row_said, size_in}
+use Rattle.rh_descriptor.specs.Words.{cell_in, mark_number}
+use Rattle.rh_descriptor.specs.Steps.{Step, decided_word, entries_of, is_none, next_entries, noted, own_desc, own_mark, read_noted, size_in}
 use Rattle.rh_rule.proofs.OpensKept.{entries_notes}
 use Rattle.rh_rule.proofs.Said.{plain_said}
 use Rattle.rh_acts.specs.Done.{Kept, kept}
 use Rattle.rh_history.specs.History.{value_of, kept_of}
 use Rattle.rh_history.proofs.Filtered.{from_filtered, in_filtered}
+use Rattle.rh_history.proofs.Noting.{Follows, a_control_word, a_reading, either}
 use Rattle.rh_history.specs.OwnActs.{PlainReadsComeFirst, ReadsAreKept, ReadsStay}
 
 -- t knows what s knows
@@ -34,79 +33,34 @@ pub record Grows (s t : Side) : Type 0 where
   pub learns : Learns s t
   pub current : t.current ≡ s.current
 
--- ---- what is noted
-
-nothing : (s : Side) → Grows s s
-nothing s = record { learns = record { notes = λ n i. i; reads = λ r i. i }; current = refl }
-
-a_note : (s : Side) (n : Note) → Grows s (note_side s n)
-a_note s n = record { learns = record { notes = λ m i. inr i; reads = λ r i. i }; current = refl }
-
-a_cell : (s : Side) (c : ℕ) (k : Cell) (q : Option ℕ) (acts next : ℕ) → Grows s (cell_noted s c k q acts next)
-a_cell s c (plain u) None acts next = record { learns = record { notes = λ n i. i; reads = λ r i. inr i }; current = refl }
-a_cell s c (plain u) (Some p) acts next = nothing s
-a_cell s c (mark x) q acts next = a_note s (found x c)
-a_cell s c (desc d) q acts next = a_note s (known d)
-
-a_control : (s : Side) (d : Ref) (k : Control) → Grows s (control_noted s d k)
-a_control s d unused = nothing s
-a_control s d undecided = record { learns = record { notes = λ n i. inr i; reads = λ r i. i }; current = refl }
-a_control s d succeeded = a_note s (decided d succeeded)
-a_control s d withdrawn = a_note s (decided d withdrawn)
-a_control s d (failed e by) = a_note s (decided d (failed e by))
-
-a_mark : (s : Side) (x : Ref) (c : ℕ) (k : Control) → Grows s (mark_noted s x c k)
-a_mark s x c unused = nothing s
-a_mark s x c undecided = a_note s (may_promote x c)
-a_mark s x c succeeded = a_note s (may_demote x)
-a_mark s x c withdrawn = a_note s (may_demote x)
-a_mark s x c (failed e by) = a_note s (may_demote x)
-
-both : (s t r : Side) → Grows s t → Grows t r → Grows s r
-both s t r g h = record {
-  learns = record { notes = λ n i. h.learns.notes n (g.learns.notes n i); reads = λ k i. h.learns.reads k (g.learns.reads k i) };
-  current = h.current ∙ g.current;
+grows : Follows Grows
+grows = record {
+  same = λ s. record { learns = record { notes = λ n i. i; reads = λ r i. i }; current = refl };
+  further = λ s t r g h. record {
+    learns = record { notes = λ n i. h.learns.notes n (g.learns.notes n i); reads = λ k i. h.learns.reads k (g.learns.reads k i) };
+    current = h.current ∙ g.current;
+  };
+  note = λ s n. record { learns = record { notes = λ m i. inr i; reads = λ r i. i }; current = refl };
+  read = λ s c u acts next. record { learns = record { notes = λ n i. i; reads = λ r i. inr i }; current = refl };
+  forget = λ s d. record { learns = record { notes = λ n i. i; reads = λ r i. i }; current = refl };
 }
 
-all_notes : (s : Side) (ns : List Note) → Grows s (note_all s ns)
-all_notes s [] = nothing s
-all_notes s (n ∷ ns) = both s (note_all s ns) (note_side (note_all s ns) n) (all_notes s ns) (a_note (note_all s ns) n)
-
-either : (P : Side → Type 0) (b : Bool) (t r : Side) → P t → P r → P (cond b t r)
-either P true t r g h = g
-either P false t r g h = h
+-- ---- what is noted
 
 a_place : (s : Side) (x d : Ref) (e c old : ℕ) (k : Cell) → Grows s (place_noted s x d e c old k 0)
 a_place s x d e c old (plain u) = either (Grows s) (eqb u old) (placed_noted s x d e c) (note_side s (mismatch d e 0))
-    record { learns = record { notes = λ n i. inr (inr (inr i)); reads = λ r i. i }; current = refl } (a_note s (mismatch d e 0))
-a_place s x d e c old (mark y) = a_note s (found y c)
-a_place s x d e c old (desc f) = either (Grows s) (is_ref f d) (note_side s (held d e)) (note_side s (known f)) (a_note s (held d e)) (a_note s (known f))
+    record { learns = record { notes = λ n i. inr (inr (inr i)); reads = λ r i. i }; current = refl } (grows.note s (mismatch d e 0))
+a_place s x d e c old (mark y) = grows.note s (found y c)
+a_place s x d e c old (desc f) = either (Grows s) (is_ref f d) (note_side s (held d e)) (note_side s (known f)) (grows.note s (held d e)) (grows.note s (known f))
 
 a_settle : (s : Side) (d : Ref) (e c : ℕ) (promoted : Bool) → Grows s (settle_noted s d e c promoted)
 a_settle s d e c promoted = either (Grows s) promoted (note_side (settle_side s d c) (held d e)) (settle_side s d c)
     record { learns = record { notes = λ n i. inr i; reads = λ r i. i }; current = refl }
     record { learns = record { notes = λ n i. i; reads = λ r i. i }; current = refl }
 
-a_reading : (v : View) (r : Reading) (word : ℕ) → Grows v.side (read_noted v r word)
-a_reading v (reading.Place p) word = nothing v.side
-a_reading v (reading.Cell c) word = a_cell v.side c (cell_in word) v.side.current 0 v.next_number
-a_reading v (reading.Control d) word = a_control v.side (ref_of d) (read_control word)
-a_reading v (reading.MarkControl x c d) word =
-    let k = read_control word in
-    both v.side (control_noted v.side (ref_of d) k) (mark_noted (control_noted v.side (ref_of d) k) (ref_of x) c k)
-    (a_control v.side (ref_of d) k) (a_mark (control_noted v.side (ref_of d) k) (ref_of x) c k)
-a_reading v (reading.Length d) word = a_note v.side (size_is (ref_of d) word)
-a_reading v (reading.EntryCell d e) word = a_note v.side (target_is (ref_of d) e word)
-a_reading v (reading.EntryOld d e) word = a_note v.side (old_is (ref_of d) e word)
-a_reading v (reading.EntryNew d e) word = a_note v.side (new_is (ref_of d) e word)
-a_reading v (reading.MarkSerial x) word = either (Grows v.side) (eqb word x.number) (note_all v.side (row_said v.raw (ref_of x))) v.side
-    (all_notes v.side (row_said v.raw (ref_of x))) (nothing v.side)
-a_reading v (reading.MarkDesc x) word = nothing v.side
-a_reading v (reading.MarkEntry x) word = nothing v.side
-
 a_release : (s : Side) (d : Ref) (e c n : ℕ) (own : Bool) → Learns s (cond own (release_noted (paid_side s d c) e n) (paid_side s d c))
 a_release s d e c n own =
-    let same : Learns s s = (nothing s).learns in
+    let same : Learns s s = (grows.same s).learns in
     let r = release_side (paid_side s d c) e in
     either (Learns s) own (release_noted (paid_side s d c) e n) (paid_side s d c)
     (either (Learns s) (covers n (e ∷ s.released)) (close_side r) r record { notes = same.notes; reads = same.reads } record { notes = same.notes; reads = same.reads })
@@ -130,14 +84,14 @@ KeepsCurrent (Step.releases d e c k value) = ⊥
 KeepsCurrent Step.claims = Unit {0}
 
 pub steps_grow : (z : Shape) (v : View) (s : Step) (word : ℕ) → KeepsCurrent s → Grows v.side (noted z v s word).side
-steps_grow z v (Step.writes p u) word h = nothing v.side
+steps_grow z v (Step.writes p u) word h = grows.same v.side
 steps_grow z v (Step.opens size) word h = absurd h
-steps_grow z v (Step.reads r) word h = a_reading v r word
+steps_grow z v (Step.reads r) word h = a_reading Grows grows v r word
 steps_grow z v (Step.places d e c old) word h = a_place v.side (own_mark v) d e c old (cell_in word)
 steps_grow z v (Step.settles x c d e old) word h =
     let promoted = is_none old && eqb word (mark_number x) in
-    either (Grows v.side) (is_number v.side.unsettled v.worker x) (settle_noted v.side d e c promoted) v.side (a_settle v.side d e c promoted) (nothing v.side)
-steps_grow z v (Step.decides d k) word h = a_control v.side d (decided_now k word)
+    either (Grows v.side) (is_number v.side.unsettled v.worker x) (settle_noted v.side d e c promoted) v.side (a_settle v.side d e c promoted) (grows.same v.side)
+steps_grow z v (Step.decides d k) word h = a_control_word Grows grows v.side d (decided_word d k word)
 steps_grow z v (Step.releases d e c k value) word h = absurd h
 steps_grow z v Step.claims word h = record { learns = record { notes = λ n i. i; reads = λ r i. i }; current = refl }
 

@@ -2,6 +2,7 @@ pub mod Values
 pub mod Filtered
 pub mod Happening
 pub mod Joining
+pub mod Noting
 pub mod Learning
 pub mod Finishing
 pub mod Ordered

@@ -11,7 +11,7 @@ use Rattle.rh_world.proofs.OwnList.{success_yes}
 use Rattle.rh_world.proofs.Updated.{ref_path, some_injective, some_not_none}
 use Rattle.rh_descriptor.specs.declared.shape.Shape.{Shape}
 use Rattle.rh_descriptor.specs.View.{OwnDesc, View}
-use Rattle.rh_descriptor.specs.Words.{without_decider}
+use Rattle.rh_descriptor.specs.Words.{without_entry}
 use Rattle.rh_rule.specs.Core.{Core}
 use Rattle.rh_rule.specs.Mirrors.{numbers_of}
 use Rattle.rh_rule.specs.Rest.{Told, is_noted_success}
@@ -94,7 +94,7 @@ module _ (w : World) (z : Shape) (words : List ℕ) (keep : ℕ → View) (v : �
   noted_right o r i =
       let d : Ref = own_ref k o.number in
       same_bool (succeeds o) (is_noted_success k.side.notes d)
-      (λ e. in_noted k.side.notes d (subst (λ (c : Control). In (decided d c) k.side.notes) (sym (told.results v d r mine i) ∙ ap without_decider (success_yes (w.control d) e)) i))
+      (λ e. in_noted k.side.notes d (subst (λ (c : Control). In (decided d c) k.side.notes) (sym (told.results v d r mine i) ∙ ap without_entry (success_yes (w.control d) e)) i))
       (λ e. sym (told_success (w.control d)) ∙ ap is_success (told.results v d succeeded mine (noted_in k.side.notes d e)))
 
   -- one that is not open is finished where it succeeded

@@ -12,6 +12,7 @@ use Rattle.rh_descriptor.specs.declared.shape.Shape.{Shape}
 use Rattle.rh_descriptor.specs.Steps.{with_side}
 use Rattle.rh_world.specs.Sides.{claim_side}
 use Rattle.rh_helping.proofs.Growing.{clear_grows}
+use Rattle.rh_helping.proofs.Rows.{grows_by}
 use Rattle.rh_steps.specs.Relies.{Knows}
 use Rattle.rh_kcas.specs.Rests.{IsRested}
 use Rattle.rh_kcas.specs.Swaps.{HasNoted}
@@ -60,6 +61,6 @@ acts_on z v next knows n rest = made_same v next n.worker n.notes knows.sound.on
 pub claim_rested : (v next : View) (word : ℕ) → next ≡ with_side v (claim_side v.side word) → IsRested v → IsRested next
 claim_rested v next word is h = subst IsRested (sym is) record {
   clear = clear_grows v (with_side v (claim_side v.side word))
-      record { worker = refl; next_number = refl; marks_used = refl; opened = refl; written = refl; current = refl; released = refl; unsettled = refl; debts = refl; notes = λ n i. i } h.clear;
+      (grows_by v (claim_side v.side word) v.control v.raw_rows v.raw refl refl refl refl (λ n i. i) (λ f i. i)) h.clear;
   over = h.over;
 }

@@ -1,5 +1,6 @@
 -- The views of a seat of several workers: they are cut and joined, and a worker that is fresh rests.
 use Rattle.std.proofs.Common.{◌≡◌, ℕ, zero, suc, ◌+◌, ◌-◌, ◌<◌, ◌≤◌, List, [], ◌∷◌, ◌++◌, length, length-append, length-take-le, take, drop, refl, sym, ap, ◌∙◌, subst, ⊎_elim, arith}
+use Rattle.rh_world.proofs.Updated.{some_not_none}
 use Rattle.rh_descriptor.specs.declared.known.Known.{Known}
 use Rattle.rh_descriptor.specs.declared.shape.Shape.{Shape}
 use Rattle.rh_descriptor.specs.Places.{word_count}
@@ -88,6 +89,7 @@ fresh_sound : (z : Shape) (o : List ℕ) (v : View) → Sound z (round_view o v)
 fresh_sound z o v = record {
   descs_used = omega arith;
   marks_used = omega arith;
+  numbers = λ d own h. absurd (⊎_elim (λ i. i) (λ i. i.1) h);
   descs = λ d h. absurd (⊎_elim (λ i. i) (λ i. i.1) h);
   sizes = λ d n h. absurd h;
   targets = λ d e c h m. absurd h;
@@ -95,9 +97,11 @@ fresh_sound z o v = record {
   news = λ d e u h m. absurd h;
   marks = λ x c h. absurd h;
   marked = λ d e h. absurd h.1;
+  named = λ x d h. absurd h;
   results = λ d k h. absurd h;
+  deciders = λ d by h. absurd h;
   withdrawals = λ d by h. absurd h;
-  rows = λ d by h. absurd (⊎_elim (λ i. i) (λ i. i.1) h);
+  rows = λ d own h is. absurd (⊎_elim (λ i. i) (λ i. i.1) h);
   one_size = λ d m n h i. absurd h;
   one_target = λ d e b c h i. absurd h;
   one_old = λ d e t u h i. absurd h;
@@ -110,7 +114,10 @@ fresh_sound z o v = record {
 fresh_rested : (o : List ℕ) (v : View) → IsRested (round_view o v)
 fresh_rested o v = record {
   clear = record {
-    own = record { current = refl; newest = tt; noted = λ d i. absurd i };
+    own = record {
+      owns = record { current = refl; newest = tt; noted = λ d i. absurd i; last = λ n e. absurd (some_not_none n (sym e)) };
+      row = λ n e. absurd (let i : ⊥ = omega (arith, e) in i);
+    };
     owes = record { settled = refl; paid = refl; unreleased = refl };
   };
   over = λ d i. absurd i;

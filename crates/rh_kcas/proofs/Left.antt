@@ -10,6 +10,7 @@ use Rattle.rh_helping.specs.Opening.{IsOpening, after_opening}
 use Rattle.rh_world.proofs.Tests.{by_cond}
 
 abbrev pub steps_left : (size : ℕ) → Opening → ℕ
+steps_left n opening.Serial = 3 * n + 3
 steps_left n opening.Length = 3 * n + 2
 steps_left n (opening.Cell e) = 3 * (n - e) + 1
 steps_left n (opening.Old e) = 3 * (n - e)
@@ -20,6 +21,7 @@ abbrev IsFewer : (n : ℕ) → Opening → Option Opening → Type 0
 IsFewer n o next = (p : Opening) → next ≡ Some p → steps_left n p < steps_left n o
 
 fewer : (v : View) (es : List Entry) (o : Opening) → IsOpening v es o → IsFewer (length es) o (after_opening (length es) o)
+fewer v es opening.Serial h p is = let q : opening.Length ≡ p = cc in subst (λ (o : Opening). steps_left (length es) o < 3 * length es + 3) q (omega arith)
 fewer v es opening.Length h p is = let q : opening.Cell 0 ≡ p = cc in subst (λ (o : Opening). steps_left (length es) o < 3 * length es + 2) q (omega arith)
 fewer v es (opening.Cell e) h p is = let q : opening.Old e ≡ p = cc in subst (λ (o : Opening). steps_left (length es) o < 3 * (length es - e) + 1) q (omega arith)
 fewer v es (opening.Old e) h p is = let q : opening.New e ≡ p = cc in let less = h.0 in subst (λ (o : Opening). steps_left (length es) o < 3 * (length es - e)) q (omega (arith, less))

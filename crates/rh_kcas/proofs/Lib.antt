@@ -2,6 +2,7 @@ mod Fitting
 mod Noting
 pub mod Peeking
 mod Carried
+mod Helped
 mod Left
 mod Swapped
 pub mod Crews

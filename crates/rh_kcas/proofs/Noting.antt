@@ -1,20 +1,17 @@
 -- What a worker has noted, from step to step.
-use Rattle.std.proofs.Common.{◌≡◌, ℕ, Some, true, refl, ap, ◌∙◌, sym, inl, inr, ⊎_elim, List}
-use Rattle.rh_tagword.specs.declared.control.Control.{Control}
-use Rattle.rh_tagword.specs.declared.control.Control.TheVariants.{Unused, Undecided, Succeeded, Withdrawn, Failed}
-use Rattle.rh_tagword.specs.Control.{is_decided}
-use Rattle.rh_world.specs.World.{In, Ref, Control as Result}
+use Rattle.std.proofs.Common.{◌≡◌, ℕ, Option, Some, None, true, refl, ap, ◌∙◌, sym, inl, inr, ⊎_elim, List}
+use Rattle.rh_tagword.specs.declared.control.State.{State}
+use Rattle.rh_tagword.specs.declared.control.State.TheVariants.{Unused, Undecided, Succeeded, Withdrawn, Failed}
+use Rattle.rh_world.specs.World.{In, Ref}
 use Rattle.rh_world.specs.Notes.{Note}
-use Rattle.rh_world.specs.Notes.Note.{decided}
 use Rattle.rh_descriptor.specs.declared.shape.Shape.{Shape}
 use Rattle.rh_descriptor.specs.declared.steps.StepKind.{StepKind}
 use Rattle.rh_descriptor.specs.View.{OwnDesc, View}
 use Rattle.rh_descriptor.specs.Steps.{IsKnown, Step, noted}
 use Rattle.rh_descriptor.specs.Words.{control_of}
 use Rattle.rh_rule.proofs.SeatsKept.{noted_worker}
-use Rattle.rh_helping.specs.Goal.{StandsAt}
 use Rattle.rh_helping.specs.Made.{HasMade}
-use Rattle.rh_kcas.specs.Swaps.{HasNoted}
+use Rattle.rh_kcas.specs.Swaps.{HasNoted, IsNotedOver, IsTold, is_over}
 
 pub noted_first : (v : View) → HasNoted v v
 noted_first v = record { worker = refl; notes = λ n i. i; opened = refl; reads = refl; claims = refl }
@@ -43,12 +40,14 @@ made_notes z k t v then next m = record {
 pub still_known : (notes more : List Note) → ((n : Note) → In n notes → In n more) → (d : Ref) → IsKnown notes d → IsKnown more d
 still_known notes more sub d k = ⊎_elim (λ i. inl (sub _ i)) (λ i. inr (i.0, sub _ i.1)) k
 
-pub is_decided_so : (notes : List Note) (d : Ref) (k : Control) → StandsAt notes d k 0 → is_decided k ≡ true → (r : Result) × In (decided d r) notes
-is_decided_so notes d Unused h e = absurd h
-is_decided_so notes d Undecided h e = cc
-is_decided_so notes d Succeeded h e = (control_of Succeeded, h)
-is_decided_so notes d Withdrawn h e = (control_of Withdrawn, h)
-is_decided_so notes d (Failed at) h e = (control_of (Failed at), h)
+-- a state that was told, by which the descriptor is over
+pub told_over : (v : View) (d : Ref) (r : Option State) → IsTold v d r → is_over r ≡ true → IsNotedOver v d
+told_over v d None h e = inr h
+told_over v d (Some Unused) h e = absurd h
+told_over v d (Some Undecided) h e = cc
+told_over v d (Some Succeeded) h e = inl (control_of Succeeded, h)
+told_over v d (Some Withdrawn) h e = inl (control_of Withdrawn, h)
+told_over v d (Some (Failed by)) h e = inl (control_of (Failed by), h)
 
 -- the own descriptor that was closed is the one that was open
 pub closed_number : (own desc : OwnDesc) → Some own ≡ Some desc → desc.number ≡ own.number

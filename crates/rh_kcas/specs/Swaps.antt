@@ -1,19 +1,21 @@
 -- What the calls of a worker make of what is kept of it. (own)
-use Rattle.std.specs.Prelude.{◌≡◌, ℕ, ◌+◌, ◌<◌, ◌≤◌, ◌⊎◌, Option, Some, None, List, ◌∷◌, length}
+use Rattle.std.specs.Prelude.{◌≡◌, ℕ, ◌<◌, ◌≤◌, ◌⊎◌, Option, Some, None, Bool, true, List, ◌∷◌}
 use Rattle.rh_layout.specs.declared.entry.Entry.{Entry}
-use Rattle.rh_tagword.specs.declared.control.Control.{Control}
+use Rattle.rh_tagword.specs.Control.{is_decided}
+use Rattle.rh_tagword.specs.declared.control.State.{State}
 use Rattle.rh_world.specs.World.{In, Ref, Control as Result}
-use Rattle.rh_world.specs.World.Control.{failed}
 use Rattle.rh_world.specs.Notes.{Note}
-use Rattle.rh_world.specs.Notes.Note.{decided}
+use Rattle.rh_world.specs.Notes.Note.{decided, over}
 use Rattle.rh_descriptor.specs.declared.shape.Shape.{Shape}
 use Rattle.rh_descriptor.specs.View.{OwnDesc, View}
 use Rattle.rh_descriptor.specs.Steps.{Step, noted}
-use Rattle.rh_descriptor.specs.Words.{IsPlain, control_of}
+use Rattle.rh_descriptor.specs.Words.{IsPlain}
 use Rattle.rh_rule.specs.Rest.{made}
-use Rattle.rh_helping.specs.Goal.{IsClear, KnowsOwn, OwesNothing, own_ref}
+use Rattle.rh_helping.specs.declared.work.Ended.{Ended}
+use Rattle.rh_helping.specs.declared.work.Ended.TheVariants as ended
+use Rattle.rh_helping.specs.Goal.{IsClear, KnowsOwn, OwesNothing, StandsAt, own_ref}
 use Rattle.rh_helping.specs.Opening.{next_desc}
-use Rattle.rh_helping.specs.Work.{IsOver}
+use Rattle.rh_helping.specs.Work.{HasEnded}
 use Rattle.rh_kcas.specs.declared.swapping.Outcome.{Outcome}
 use Rattle.rh_kcas.specs.declared.swapping.Outcome.TheVariants.{Done, Failed, Spent}
 
@@ -37,27 +39,26 @@ pub record HasOpened (v : View) (own : OwnDesc) (next : View) : Type 0 where
   pub knows : KnowsOwn next (Some own)
   pub owes : OwesNothing next
 
--- the own descriptor of this number is decided so and released
-pub record HasCarriedOut (v : View) (number : ℕ) (next : View) (k : Control) : Type 0 where
+-- the own descriptor of this number ended so and is released
+pub record HasCarriedOut (v : View) (number : ℕ) (next : View) (k : Ended) : Type 0 where
   pub noted : HasNoted v next
   pub clear : IsClear next
-  pub over : IsOver k
-  pub result : In (decided (own_ref next number) (control_of k)) next.side.notes
+  pub result : HasEnded next (own_ref next number) k
 
--- it opened a descriptor of these entries, which was decided so
-pub record IsDecidedSo (es : List Entry) (v next : View) (k : Result) : Type 0 where
+-- it opened a descriptor of these entries, which ended so
+pub record EndedSo (es : List Entry) (v next : View) (k : Ended) : Type 0 where
   pub opened : next.opened ≡ next_desc v es ∷ v.opened
-  pub result : In (decided (own_ref next v.next_number) k) next.side.notes
+  pub result : HasEnded next (own_ref next v.next_number) k
 
--- there were too few places for the entries, or no mark is left
-abbrev pub HasNoRoom : Shape → List Entry → (v next : View) → Type 0
-HasNoRoom z es v next = (z.entry_room < v.next_number + length es) ⊎ (z.mark_room ≤ next.marks_used)
+-- no number was left for a descriptor, or none is for a mark
+abbrev pub HasNoRoom : Shape → (v next : View) → Type 0
+HasNoRoom z v next = (z.rooms.descriptors ≤ v.next_number) ⊎ (z.rooms.marks ≤ next.marks_used)
 
 -- What became of a K-CAS: whether the worker's own acts grew by these entries, in one act, or are the same.
 abbrev pub BecameOf : Shape → List Entry → (v next : View) → Outcome → Type 0
-BecameOf z es v next Done = IsDecidedSo es v next Result.succeeded × (made next ≡ next_desc v es ∷ made v)
-BecameOf z es v next (Failed e) = IsDecidedSo es v next (failed e 0) × (made next ≡ made v)
-BecameOf z es v next Spent = HasNoRoom z es v next × (made next ≡ made v)
+BecameOf z es v next Done = EndedSo es v next ended.Succeeded × (made next ≡ next_desc v es ∷ made v)
+BecameOf z es v next (Failed e) = EndedSo es v next (ended.Failed e) × (made next ≡ made v)
+BecameOf z es v next Spent = HasNoRoom z v next × (made next ≡ made v)
 
 pub record Swaps (z : Shape) (es : List Entry) (v next : View) (o : Outcome) : Type 0 where
   pub became : BecameOf z es v next o
@@ -67,14 +68,27 @@ pub record Swaps (z : Shape) (es : List Entry) (v next : View) (o : Outcome) : T
 
 -- ---- the other calls
 
+-- d stands so, or is decided, as its worker has gone on
+abbrev pub IsTold : View → (d : Ref) → Option State → Type 0
+IsTold v d None = In (over d) v.side.notes
+IsTold v d (Some k) = StandsAt v.side.notes d k 0
+
+abbrev pub is_over : Option State → Bool
+is_over None = true
+is_over (Some k) = is_decided k
+
+-- it is noted as decided, so or in some way
+abbrev pub IsNotedOver : View → (d : Ref) → Type 0
+IsNotedOver v d = ((k : Result) × In (decided d k) v.side.notes) ⊎ In (over d) v.side.notes
+
 -- the descriptor is noted as decided, or no mark is left; the own acts are the same
 pub record HasHelped (z : Shape) (d : Ref) (v next : View) : Type 0 where
   pub noted : HasNoted v next
-  pub decided_so : ((k : Result) × In (decided d k) next.side.notes) ⊎ (z.mark_room ≤ next.marks_used)
+  pub decided_so : IsNotedOver next d ⊎ (z.rooms.marks ≤ next.marks_used)
 
 -- Of a cell a plain word is kept as read, before all that was kept; or none, and no mark is left.
 abbrev pub IsSeen : Shape → (c : ℕ) → (v next : View) → Option ℕ → Type 0
-IsSeen z c v next None = (next.side.reads ≡ v.side.reads) × (z.mark_room ≤ next.marks_used)
+IsSeen z c v next None = (next.side.reads ≡ v.side.reads) × (z.rooms.marks ≤ next.marks_used)
 IsSeen z c v next (Some word) = IsPlain word
     × ((number : ℕ) × (next.side.reads ≡ record { cell = c; word = word; acts = 0; next_number = number } ∷ v.side.reads))
 

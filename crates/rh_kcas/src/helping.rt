@@ -4,22 +4,23 @@ ghost use Rattle.std.specs.Prelude.{◌≡◌};
 ghost use Rattle.rh_descriptor.specs.Places.{IsShape};
 ghost use Rattle.rh_descriptor.specs.Steps.{IsKnown};
 ghost use Rattle.rh_descriptor.specs.Words.{ref_of};
-ghost use Rattle.rh_helping.specs.Goal.{IsClear, StandsAt};
+ghost use Rattle.rh_helping.specs.Goal.{IsClear};
 ghost use Rattle.rh_kcas.specs.Rests.{Rests};
-ghost use Rattle.rh_kcas.specs.Swaps.{HasHelped, HasNoted};
+ghost use Rattle.rh_kcas.specs.Swaps.{HasHelped, HasNoted, IsTold, is_over};
 ghost use Rattle.rh_rdcss.specs.Calls.{IsSame, view_of};
 ghost use Rattle.rh_rdcss.specs.Sits.{Sits, Stays};
 ghost use Rattle.rh_rule.specs.Rest.{made};
 ghost use Rattle.rh_steps.specs.Relies.{Trusts};
 
 use rh_descriptor::{Ask, Reading, Ref, Shape, Side};
-use rh_helping::{Outcome as Worked, Work, control_of_word};
+use rh_helping::{Outcome as Worked, Work, state_told};
 use rh_rdcss::{OnTable, Seat, Table};
 use rh_steps::Steps;
-use rh_tagword::Control;
+use rh_tagword::State;
 use std::sync::Wait;
 
-/// Goes about a descriptor until it is decided, or no mark is left. The seat owes nothing for it then.
+/// Goes about a descriptor until it is decided, or no mark is left; one whose worker has gone on was
+/// decided. The seat owes nothing for it then.
 pub fn help<R: Wait>(rt: &R, table: &Table, seat: &mut Seat, desc: Ref)
     requires rests { Rests table.now seat.old }
     requires known { IsKnown (view_of seat.old).side.notes (ref_of desc) }
@@ -52,7 +53,7 @@ fn go_about<R: Wait>(rt: &R, shape: &Shape, here: &mut OnTable, side: &mut Side,
             Worked::Spent => return,
             // (helping goes from one descriptor to the next that it meets: the last one need not be this)
             Worked::Over => {
-                if control(shape, here, side, desc).is_decided() {
+                if is_over(state(shape, here, side, desc)) {
                     return;
                 }
                 work = Work::Control(desc);
@@ -64,8 +65,8 @@ fn go_about<R: Wait>(rt: &R, shape: &Shape, here: &mut OnTable, side: &mut Side,
     unreachable!()
 }
 
-/// How the descriptor stands, by one Read.
-fn control(shape: &Shape, here: &mut OnTable, side: &mut Side, desc: Ref) -> Control
+/// How the descriptor stands, by one Read. None where its worker has gone on to a later one.
+fn state(shape: &Shape, here: &mut OnTable, side: &mut Side, desc: Ref) -> Option<State>
     requires shape { IsShape shape.now }
     requires trusts { Trusts Sits shape.now here.old side.old.known.view }
     requires clear { IsClear side.old.known.view }
@@ -73,8 +74,19 @@ fn control(shape: &Shape, here: &mut OnTable, side: &mut Side, desc: Ref) -> Con
     ensures trusts { Trusts Sits shape.now here.new side.new.known.view }
     ensures clear { IsClear side.new.known.view }
     ensures stays { Stays here.old here.new }
-    ensures stands { StandsAt side.new.known.view.side.notes (ref_of desc) result 0 }
+    ensures told { IsTold side.new.known.view (ref_of desc) result }
     ensures notes { HasNoted side.old.known.view side.new.known.view }
 {
-    control_of_word(here.make(shape, side, Ask::Read(Reading::Control(desc))))
+    let word = here.make(shape, side, Ask::Read(Reading::Control(desc)));
+    state_told(desc, word)
+}
+
+/// A descriptor that stands so is decided: who has gone on from it left it so.
+fn is_over(state: Option<State>) -> bool
+    ensures { result ≡ is_over state }
+{
+    match state {
+        Some(state) => state.is_decided(),
+        None => true,
+    }
 }

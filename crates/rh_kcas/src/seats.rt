@@ -57,6 +57,7 @@ pub(crate) fn fresh_side(worker: usize, seat: &Inner) -> Side
     Side {
         worker,
         next_number: 0,
+        control: 0,
         marks_used: 0,
         known: Known::start::<Head, Inner>(seat),
     }

@@ -12,10 +12,9 @@ ghost use Rattle.rh_rdcss.specs.Sits.{Sits, Stays};
 ghost use Rattle.rh_steps.specs.Relies.{Trusts};
 
 use rh_descriptor::{Ref, Shape, Side};
-use rh_helping::{OpenDesc, Opening, Outcome as Worked, Work};
+use rh_helping::{Ended, OpenDesc, Opening, Outcome as Worked, Work};
 use rh_layout::Entry;
 use rh_rdcss::{OnTable, Seat, Table};
-use rh_tagword::Control;
 use std::sync::Wait;
 
 /// What became of a K-CAS.
@@ -25,7 +24,7 @@ pub enum Outcome {
     Done,
     /// No cell was changed: that of this entry held another value.
     Failed { entry: usize },
-    /// No cell was changed: the worker has too few places for the entries, or no mark is left.
+    /// No cell was changed: no number is left for a descriptor of the worker, or none for a mark.
     Spent,
 }
 
@@ -38,8 +37,8 @@ pub fn kcas<R: Wait>(rt: &R, table: &Table, seat: &mut Seat, entries: &[Entry]) 
     ensures swaps { Swaps table.now.shape entries.now (view_of seat.old) (view_of seat.new) result }
 {
     let shape = &table.shape;
-    if shape.entry_room - seat.side.next_number < entries.len()
-        || shape.mark_room <= seat.side.marks_used
+    if shape.rooms.descriptors <= seat.side.next_number
+        || shape.rooms.marks <= seat.side.marks_used
     {
         return Outcome::Spent;
     }
@@ -51,13 +50,11 @@ pub fn kcas<R: Wait>(rt: &R, table: &Table, seat: &mut Seat, entries: &[Entry]) 
     open(shape, &mut here, &mut seat.side, entries);
     let own = OpenDesc { number, entries };
     match carry_out(rt, shape, &mut here, &mut seat.side, own) {
-        Control::Succeeded => Outcome::Done,
-        Control::Failed { entry } => Outcome::Failed {
+        Ended::Succeeded => Outcome::Done,
+        Ended::Failed { entry } => Outcome::Failed {
             entry: entry as usize,
         },
-        Control::Withdrawn => Outcome::Spent,
-        // (it is decided)
-        Control::Unused | Control::Undecided => unreachable!(),
+        Ended::Withdrawn => Outcome::Spent,
     }
 }
 
@@ -70,21 +67,21 @@ pub fn open(shape: &Shape, here: &mut OnTable, side: &mut Side, entries: &[Entry
     ensures stays { Stays here.old here.new }
     ensures opens { HasOpened side.old.known.view (next_desc side.old.known.view entries.now) side.new.known.view }
 {
-    let mut opening = Opening::Length;
+    let mut opening = Opening::Serial;
     while let Some(next) = opening.step(shape, here, side, entries) {
         opening = next;
     }
 }
 
-/// Goes about the own open descriptor until it is decided and released, and answers how it was
-/// decided: the second part of a K-CAS.
+/// Goes about the own open descriptor until it is decided and released, and answers how it ended: the
+/// second part of a K-CAS.
 pub fn carry_out<R: Wait>(
     rt: &R,
     shape: &Shape,
     here: &mut OnTable,
     side: &mut Side,
     own: OpenDesc<'_>,
-) -> Control
+) -> Ended
     requires shape { IsShape shape.now }
     requires trusts { Trusts Sits shape.now here.old side.old.known.view }
     requires own { KnowsOwn side.old.known.view (opened_by (Some own)) }
@@ -100,7 +97,7 @@ pub fn carry_out<R: Wait>(
     for _ in rt.forever() {
         match work.step(shape, here, side, Some(own)) {
             Worked::On(next) => work = next,
-            Worked::Closed(control) => return control,
+            Worked::Closed(ended) => return ended,
             // (an own descriptor is open)
             Worked::Over | Worked::Spent => unreachable!(),
         }

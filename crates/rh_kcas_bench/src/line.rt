@@ -13,6 +13,7 @@ pub struct Line {
     pub rounds: u32,
     pub timed: bool,
     pub ghost some: { (0 < threads) × (threads ≤ 8) },
+    pub ghost changes: { 0 < entries },
 }
 
 /// What these words ask for, the program's name left out, or none where they are not understood.

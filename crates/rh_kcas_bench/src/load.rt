@@ -1,6 +1,6 @@
 //! What each thread does: swaps that raise each of its cells by one.
 
-ghost use Rattle.std.specs.Prelude.{◌≡◌, ◌≤◌};
+ghost use Rattle.std.specs.Prelude.{◌≡◌, ◌<◌, ◌≤◌};
 ghost use Rattle.rh_kcas.specs.Rests.{Rests};
 ghost use Rattle.rh_rdcss.specs.Calls.{IsSame};
 
@@ -17,8 +17,8 @@ pub const MOST: usize = 8;
 /// The table has so many cells that each thread may have its own: two to the sixth power.
 pub const BITS: u32 = 6;
 
-/// Places for the entries of one round's swaps, and as many marks.
-pub const ROOM: usize = 4_000;
+/// How many entries the swaps that a thread tries in one round have together.
+const ENTRIES: usize = 4_000;
 
 /// The values in the cells stay below this.
 const VALUES: u64 = 1 << 60;
@@ -38,6 +38,7 @@ pub struct Load {
     pub entries: usize,
     /// Whether each thread has cells of its own.
     pub own: bool,
+    pub ghost changes: { 0 < entries },
 }
 
 impl<R: Wait + Clock> Work<R, Told> for Load {
@@ -66,10 +67,10 @@ impl<R: Wait + Clock> Work<R, Told> for Load {
     }
 }
 
-/// Raises so many cells from this one on, time after time, until the places or the marks are used.
-/// Answers how many swaps were carried out.
+/// Raises so many cells from this one on, time after time. Answers how many swaps were carried out.
 fn raise_often<R: Wait>(rt: &R, table: &Table, seat: &mut Seat, first: usize, count: usize) -> u64
     requires rests { Rests table.now seat.old }
+    requires count { 0 < count }
     ensures rests { Rests table.now seat.new }
     ensures same { IsSame seat.old seat.new }
 {
@@ -79,7 +80,7 @@ fn raise_often<R: Wait>(rt: &R, table: &Table, seat: &mut Seat, first: usize, co
     if !see(rt, table, seat, first, &mut entries, count) {
         return done;
     }
-    for tried in 0..ROOM {
+    for tried in 0..ENTRIES / count {
         // (also what the contract of a swap asks for)
         if !are_entries(&table.shape, &entries[..count]) {
             return done;

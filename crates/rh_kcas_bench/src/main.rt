@@ -9,9 +9,9 @@ mod line;
 mod load;
 
 use line::Line;
-use load::{BITS, Load, ROOM, Told};
+use load::{BITS, Load, Told};
 use rh_crew::round;
-use rh_descriptor::Shape;
+use rh_descriptor::{Rooms, Shape};
 use rh_kcas::{Seat, Table, make};
 use std::alloc::{AllocError, Global};
 use std::env;
@@ -26,7 +26,7 @@ const USAGE: &str = "usage: rh_kcas_bench THREADS ENTRIES own|same ROUNDS [timed
   ENTRIES  1 to 8: how many cells each swap changes
   own      each thread changes cells of its own
   same     all threads change the same cells
-  ROUNDS   so often each thread uses 4000 places, a place an entry, and the rows are wiped
+  ROUNDS   so often each thread tries swaps of 4000 entries in all, and the rows are wiped
   timed    tells how long the rounds took";
 
 fn main(rt: HostRuntime) -> ExitCode {
@@ -89,9 +89,8 @@ fn empty_table(alloc: Global, workers: usize) -> Result<(Table, Seat), AllocErro
     let shape = Shape {
         bits: BITS,
         workers,
-        entry_room: ROOM,
-        mark_room: ROOM,
         keys: 0,
+        rooms: Rooms::usual(),
     };
     make(alloc, shape, &[0; 1 << BITS])
 }

@@ -1,11 +1,16 @@
--- A worker whose own descriptor is open, and that owes nothing. (own)
+-- A worker that has nothing open, and one whose own descriptor is open; neither owes anything. (own)
 use Rattle.std.specs.Prelude.{ℕ, Some, List}
 use Rattle.rh_layout.specs.declared.entry.Entry.{Entry}
-use Rattle.rh_helping.specs.Goal.{KnowsOwn, OwesNothing}
+use Rattle.rh_helping.specs.Goal.{IsClear, KnowsOwn, OwesNothing}
 use Rattle.rh_rdcss.specs.Calls.{IsHere, view_of}
 use Rattle.rh_rdcss.specs.declared.seat.Seat.{Seat}
 use Rattle.rh_rdcss.specs.declared.table.Table.{Table}
 use Rattle.rh_steps.specs.Relies.{Knows}
+
+pub record IsFree (t : Table) (s : Seat) : Type 0 where
+  pub here : IsHere t s
+  pub knows : Knows t.shape (view_of s)
+  pub clear : IsClear (view_of s)
 
 pub record IsHalfway (t : Table) (s : Seat) (es : List Entry) (number : ℕ) : Type 0 where
   pub here : IsHere t s

@@ -1,1 +1,3 @@
+pub mod GoneOn
 pub mod Halfway
+pub mod Rooms

@@ -4,7 +4,7 @@ use std::test::*;
 
 #[test]
 fn two_workers_on_one_thread(rt: HostRuntime) -> Result<(), Fail> {
-    let (table, mut first, mut second) = two_workers(&rt, rt.alloc(), 8, &[0; 8])?;
+    let (table, mut first, mut second) = two_workers(&rt, rt.alloc(), rooms(2, 8), &[0; 8])?;
     let done = swap(&rt, &table, &mut first, &[change(1, 0, 4)]);
     assert_eq!(rt; done, Outcome::Done);
     let both = [change(3, 0, 6), change(6, 0, 8)];

@@ -1,22 +1,21 @@
 //! A worker that stops on the way of its own swap: its marks are placed and settled, and only the
 //! decision is left.
 
-ghost use Rattle.std.specs.Prelude.{◌≡◌, ◌≤◌, ◌+◌, IsTrue, IfSome, Some, length};
+ghost use Rattle.std.specs.Prelude.{◌≡◌, ◌<◌, IsTrue, IfSome, Some};
 ghost use Rattle.rh_descriptor.specs.Places.{IsShape};
 ghost use Rattle.rh_descriptor.specs.Steps.{AreEntries};
 ghost use Rattle.rh_helping.specs.Goal.{KnowsOwn, OwesNothing, opened_by};
-ghost use Rattle.rh_kcas.specs.Rests.{Rests};
-ghost use Rattle.rh_kcas_tests.specs.Halfway.{IsHalfway};
+ghost use Rattle.rh_kcas_tests.specs.Halfway.{IsFree, IsHalfway};
 ghost use Rattle.rh_rdcss.specs.Calls.{view_of};
 ghost use Rattle.rh_rdcss.specs.Sits.{Sits, Stays};
 ghost use Rattle.rh_steps.specs.Relies.{Trusts};
 
 use rh_descriptor::{Ref, Shape, Side};
-use rh_helping::{OpenDesc, Outcome as Worked, Work};
+use rh_helping::{Ended, OpenDesc, Outcome as Worked, Work};
 use rh_kcas::{Seat, Table, carry_out, open};
 use rh_layout::Entry;
 use rh_rdcss::{OnTable, status};
-use rh_tagword::Control;
+use rh_tagword::State;
 use std::sync::Wait;
 
 /// More steps than a worker makes alone until only the decision is left.
@@ -24,10 +23,10 @@ const STEPS: usize = 40;
 
 /// Opens a descriptor of the entries, and works at it until it is to be decided. Answers its number,
 /// or none where that takes too many steps.
-pub fn stop_halfway(table: &Table, seat: &mut Seat, entries: &[Entry]) -> Option<usize>
-    requires rests { Rests table.now seat.old }
+pub fn stop_halfway(table: &Table, seat: &mut Seat, entries: &[Entry]) -> Option<u64>
+    requires free { IsFree table.now seat.old }
     requires entries { AreEntries table.now.shape entries.now }
-    requires room { (view_of seat.old).next_number + length entries.now ≤ table.now.shape.entry_room }
+    requires room { (view_of seat.old).next_number < table.now.shape.rooms.descriptors }
     ensures { IfSome result (λ number. IsHalfway table.now seat.new entries.now number) }
 {
     let number = seat.side.next_number;
@@ -76,23 +75,23 @@ pub fn watch(
     table: &Table,
     seat: &mut Seat,
     entries: &[Entry],
-    number: usize,
+    number: u64,
     reads: usize,
-) -> Control
+) -> Option<State>
     requires { IsHalfway table.now seat.old entries.now number }
     ensures { IsHalfway table.now seat.new entries.now number }
 {
-    let mut seen = Control::Undecided;
+    let mut seen = None;
     for made in 0..reads {
         seen = look(table, seat, entries, number);
-        if seen.is_decided() {
+        if seen != Some(State::Undecided) {
             break;
         }
     }
     seen
 }
 
-fn look(table: &Table, seat: &mut Seat, entries: &[Entry], number: usize) -> Control
+fn look(table: &Table, seat: &mut Seat, entries: &[Entry], number: u64) -> Option<State>
     requires { IsHalfway table.now seat.old entries.now number }
     ensures { IsHalfway table.now seat.new entries.now number }
 {
@@ -100,15 +99,16 @@ fn look(table: &Table, seat: &mut Seat, entries: &[Entry], number: usize) -> Con
     status(table, seat, Ref { worker, number })
 }
 
-/// Goes on with the own swap, and answers how it was decided.
+/// Goes on with the own swap, and answers how it ended.
 pub fn go_on<R: Wait>(
     rt: &R,
     table: &Table,
     seat: &mut Seat,
     entries: &[Entry],
-    number: usize,
-) -> Control
+    number: u64,
+) -> Ended
     requires { IsHalfway table.now seat.old entries.now number }
+    ensures { IsFree table.now seat.new }
 {
     let mut here = OnTable {
         table,

@@ -6,11 +6,11 @@ ghost use Rattle.rh_kcas_tests.specs.Halfway.{IsHalfway};
 
 use crate::halfway::{go_on, stop_halfway, watch};
 use crate::tables::*;
-use rh_helping::named_desc;
+use rh_helping::{Ended, named_desc};
 use rh_kcas::{Outcome, Seat, Table, are_entries, change, help};
 use rh_layout::Entry;
 use rh_rdcss::peek_cell;
-use rh_tagword::Control;
+use rh_tagword::State;
 use std::alloc::{AllocError, Global};
 use std::process::Abort;
 use std::sync::Wait;
@@ -27,9 +27,9 @@ const READS: usize = 100_000_000;
 #[derive(Drop)]
 struct Told {
     /// The status that the worker that stopped saw last.
-    seen: Control,
+    seen: Option<State>,
     /// How its swap ended.
-    ended: Control,
+    ended: Ended,
     /// What became of the other worker's own swap, if it tried one.
     own: Option<Outcome>,
     /// The value in the cell at the end.
@@ -42,7 +42,7 @@ fn run<R: Threads + Wait + Abort + Sync>(
     alloc: Global,
     swaps: bool,
 ) -> Result<Told, AllocError> {
-    let (table, first, second) = two_workers(rt, alloc, 8, &[0; 8])?;
+    let (table, first, second) = two_workers(rt, alloc, rooms(1, 8), &[0; 8])?;
     let entries = [change(4, 0, 9)];
     let (first, number) = stopped(rt, &table, first, &entries);
     let ((mut first, seen), (mut second, own)) = both(
@@ -58,13 +58,13 @@ fn run<R: Threads + Wait + Abort + Sync>(
     })
 }
 
-fn stopped<R: Abort>(rt: &R, table: &Table, seat: Seat, entries: &[Entry]) -> (Seat, usize)
+fn stopped<R: Abort>(rt: &R, table: &Table, seat: Seat, entries: &[Entry]) -> (Seat, u64)
     requires { Rests table.now seat }
     ensures { IsHalfway table.now result.0 entries.now result.1 }
 {
     let mut seat = seat;
-    let left = table.shape.entry_room - seat.side.next_number;
-    assert!(rt; are_entries(&table.shape, entries) && entries.len() <= left);
+    assert!(rt; are_entries(&table.shape, entries));
+    assert!(rt; seat.side.next_number < table.shape.rooms.descriptors);
     let number = stop_halfway(table, &mut seat, entries);
     (seat, number.expect(rt, "the worker comes to its decision"))
 }
@@ -75,9 +75,9 @@ fn both<R: Threads + Wait + Abort + Sync>(
     first: Seat,
     second: Seat,
     entries: &[Entry],
-    number: usize,
+    number: u64,
     swaps: bool,
-) -> ((Seat, Control), (Seat, Option<Outcome>))
+) -> ((Seat, Option<State>), (Seat, Option<Outcome>))
     requires first { IsHalfway table.now first entries.now number }
     requires second { Rests table.now second }
     ensures first { IsHalfway table.now result.0.0 entries.now number }
@@ -85,7 +85,7 @@ fn both<R: Threads + Wait + Abort + Sync>(
 {
     join(
         rt,
-        || -> (Seat, Control)
+        || -> (Seat, Option<State>)
             requires { IsHalfway table.now first entries.now number }
             ensures { IsHalfway table.entry.now result.0 entries.entry.now number }
         { watched(table, first, entries, number) },
@@ -96,7 +96,7 @@ fn both<R: Threads + Wait + Abort + Sync>(
     )
 }
 
-fn watched(table: &Table, seat: Seat, entries: &[Entry], number: usize) -> (Seat, Control)
+fn watched(table: &Table, seat: Seat, entries: &[Entry], number: u64) -> (Seat, Option<State>)
     requires { IsHalfway table.now seat entries.now number }
     ensures { IsHalfway table.now result.0 entries.now number }
 {
@@ -139,8 +139,8 @@ fn help_at<R: Wait + Abort>(rt: &R, table: &Table, seat: &mut Seat, cell: usize)
 fn who_swaps_the_cell_helps_first(rt: HostRuntime) -> Result<(), Fail> {
     for _ in 0..RUNS {
         let told = run(&rt, rt.alloc(), true)?;
-        assert_eq!(rt; told.seen, Control::Succeeded);
-        assert_eq!(rt; told.ended, Control::Succeeded);
+        assert_eq!(rt; told.seen, Some(State::Succeeded));
+        assert_eq!(rt; told.ended, Ended::Succeeded);
         assert_eq!(rt; told.own, Some(Outcome::Failed { entry: 0 }));
         assert_eq!(rt; told.left, Some(9));
     }
@@ -151,8 +151,8 @@ fn who_swaps_the_cell_helps_first(rt: HostRuntime) -> Result<(), Fail> {
 fn who_peeks_at_the_cell_helps(rt: HostRuntime) -> Result<(), Fail> {
     for _ in 0..RUNS {
         let told = run(&rt, rt.alloc(), false)?;
-        assert_eq!(rt; told.seen, Control::Succeeded);
-        assert_eq!(rt; told.ended, Control::Succeeded);
+        assert_eq!(rt; told.seen, Some(State::Succeeded));
+        assert_eq!(rt; told.ended, Ended::Succeeded);
         assert_eq!(rt; told.left, Some(9));
     }
     Ok(())

@@ -8,6 +8,8 @@ mod claims;
 #[cfg(test)]
 mod crews;
 #[cfg(test)]
+mod gone_on;
+#[cfg(test)]
 mod halfway;
 #[cfg(test)]
 mod helping;

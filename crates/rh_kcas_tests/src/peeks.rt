@@ -8,7 +8,7 @@ fn a_cell_before_and_after_a_swap(rt: HostRuntime) -> Result<(), Fail> {
     let (table, mut first, mut second) = two_workers(
         &rt,
         rt.alloc(),
-        8,
+        rooms(2, 8),
         &[0, 0, 0, 0, 2, 0, 0, 0],
     )?;
     assert_eq!(rt; peek(&rt, &table, &mut second, 4), 8);

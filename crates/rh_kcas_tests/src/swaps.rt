@@ -2,31 +2,28 @@ use crate::tables::*;
 use rh_kcas::{Outcome, change};
 use std::test::*;
 
-// Four of the eight places are used by the first two swaps, so that five are too many.
+// Also a swap that failed had a descriptor.
 #[test]
-fn two_entries_the_same_again_and_five(rt: HostRuntime) -> Result<(), Fail> {
-    let (table, mut seat) = one_worker(&rt, rt.alloc(), 0, &[0, 0, 0, 0, 2, 0, 0, 0])?;
+fn two_entries_the_same_again_and_a_third(rt: HostRuntime) -> Result<(), Fail> {
+    let cells = [0, 0, 0, 0, 2, 0, 0, 0];
+    let (table, mut seat) = one_worker(&rt, rt.alloc(), rooms(2, 8), 0, &cells)?;
     let both = [change(4, 2, 10), change(5, 0, 2)];
     assert_eq!(rt; swap(&rt, &table, &mut seat, &both), Outcome::Done);
     assert_eq!(rt; value(&rt, &table, &mut seat, 4), Some(10));
     assert_eq!(rt; value(&rt, &table, &mut seat, 5), Some(2));
     let again = swap(&rt, &table, &mut seat, &both);
     assert_eq!(rt; again, Outcome::Failed { entry: 0 });
-    let five = [
-        change(0, 0, 2),
-        change(1, 0, 4),
-        change(2, 0, 6),
-        change(3, 0, 8),
-        change(4, 10, 0),
-    ];
-    assert_eq!(rt; swap(&rt, &table, &mut seat, &five), Outcome::Spent);
+    let third = swap(&rt, &table, &mut seat, &[change(0, 0, 2)]);
+    assert_eq!(rt; third, Outcome::Spent);
     assert_eq!(rt; close_one(table, seat), [0, 0, 0, 0, 10, 2, 0, 0]);
     Ok(())
 }
 
+// Five of the eight marks are used by the first swap, so that the second one, of four entries, is given
+// up on its way.
 #[test]
-fn a_wipe_gives_the_places_back(rt: HostRuntime) -> Result<(), Fail> {
-    let (table, mut seat) = one_worker(&rt, rt.alloc(), 0, &[0; 8])?;
+fn a_swap_for_which_the_marks_do_not_last(rt: HostRuntime) -> Result<(), Fail> {
+    let (table, mut seat) = one_worker(&rt, rt.alloc(), rooms(3, 8), 0, &[0; 8])?;
     let five = [
         change(0, 0, 2),
         change(1, 0, 4),
@@ -42,9 +39,41 @@ fn a_wipe_gives_the_places_back(rt: HostRuntime) -> Result<(), Fail> {
         change(6, 0, 4),
     ];
     assert_eq!(rt; swap(&rt, &table, &mut seat, &four), Outcome::Spent);
-    wipe_one(&table, &mut seat);
     assert_eq!(rt; value(&rt, &table, &mut seat, 0), Some(2));
+    let one = swap(&rt, &table, &mut seat, &[change(4, 0, 2)]);
+    assert_eq!(rt; one, Outcome::Spent);
+    assert_eq!(rt; close_one(table, seat), [2, 4, 6, 8, 0, 0, 0, 10]);
+    Ok(())
+}
+
+#[test]
+fn a_wipe_gives_descriptors_and_marks_back(rt: HostRuntime) -> Result<(), Fail> {
+    let (table, mut seat) = one_worker(&rt, rt.alloc(), rooms(2, 8), 0, &[0; 8])?;
+    let four = [
+        change(0, 0, 2),
+        change(1, 0, 4),
+        change(2, 0, 6),
+        change(3, 0, 8),
+    ];
     assert_eq!(rt; swap(&rt, &table, &mut seat, &four), Outcome::Done);
-    assert_eq!(rt; close_one(table, seat), [0, 0, 6, 8, 0, 2, 4, 10]);
+    let back = [
+        change(0, 2, 0),
+        change(1, 4, 0),
+        change(5, 0, 2),
+        change(6, 0, 4),
+    ];
+    assert_eq!(rt; swap(&rt, &table, &mut seat, &back), Outcome::Done);
+    let five = [
+        change(2, 6, 0),
+        change(3, 8, 0),
+        change(4, 0, 2),
+        change(5, 2, 4),
+        change(7, 0, 6),
+    ];
+    assert_eq!(rt; swap(&rt, &table, &mut seat, &five), Outcome::Spent);
+    wipe_one(&table, &mut seat);
+    assert_eq!(rt; value(&rt, &table, &mut seat, 2), Some(6));
+    assert_eq!(rt; swap(&rt, &table, &mut seat, &five), Outcome::Done);
+    assert_eq!(rt; close_one(table, seat), [0, 0, 0, 0, 2, 4, 4, 6]);
     Ok(())
 }

@@ -3,12 +3,13 @@
 ghost use Rattle.std.specs.Prelude.{◌≡◌, ◌<◌, ◌≤◌, ℕ, [], IfOk, IfSome, IsTrue, length, slice_index};
 ghost use Rattle.rh_descriptor.specs.Places.{IsShape, cell_count};
 ghost use Rattle.rh_kcas.specs.Rests.{Rests};
+ghost use Rattle.rh_kcas_tests.specs.Rooms.{AreRooms};
 ghost use Rattle.rh_rdcss.specs.Calls.{IsHere, IsSame, view_of};
 ghost use Rattle.rh_steps.specs.Relies.{Knows};
 ghost use Rattle.rh_tagword.specs.Word.{IsValue};
 ghost use Rattle.rh_world.specs.World.{In};
 
-use rh_descriptor::Shape;
+use rh_descriptor::{Rooms, Shape};
 use rh_kcas::{
     Outcome, Seat, Table, are_entries, claim, close, join, kcas, make, read, split, wipe,
 };
@@ -20,9 +21,10 @@ use std::process::Abort;
 use std::sync::Wait;
 use std::test::*;
 
-/// So many workers, with so many places for entries and as many marks each.
-pub fn shape(workers: usize, room: usize, keys: u64) -> Shape
-    requires { (workers ≤ 16) × (room ≤ 10000) × (keys ≤ 1000) }
+/// So many workers, with these rooms each.
+pub fn shape(workers: usize, rooms: Rooms, keys: u64) -> Shape
+    requires sizes { (workers ≤ 16) × (keys ≤ 1000) }
+    requires rooms { AreRooms rooms }
     ensures shape { IsShape result }
     ensures workers { result.workers ≡ workers }
     ensures bits { result.bits ≡ 3 }
@@ -31,10 +33,17 @@ pub fn shape(workers: usize, room: usize, keys: u64) -> Shape
     Shape {
         bits: 3,
         workers,
-        entry_room: room,
-        mark_room: room,
         keys,
+        rooms,
     }
+}
+
+/// So many descriptors, and so many marks.
+pub fn rooms(descriptors: u64, marks: u64) -> Rooms
+    requires { (descriptors ≤ 1000000) × (marks ≤ 1000000) }
+    ensures { AreRooms result }
+{
+    Rooms { descriptors, marks }
 }
 
 /// Whether a cell may hold each of these.
@@ -49,14 +58,16 @@ pub fn are_values(cells: &[u64]) -> bool
     true
 }
 
-/// A table of one worker, which holds these values, with eight places and eight marks.
+/// A table of one worker, which holds these values.
 pub fn one_worker<R: Abort>(
     rt: &R,
     alloc: Global,
+    rooms: Rooms,
     keys: u64,
     cells: &[u64; 8],
 ) -> Result<(Table, Seat), AllocError>
-    requires { keys ≤ 1000 }
+    requires keys { keys ≤ 1000 }
+    requires rooms { AreRooms rooms }
     ensures rests { IfOk result (λ r. Rests r.0 r.1) }
     ensures workers { IfOk result (λ r. r.0.shape.workers ≡ 1) }
     ensures bits { IfOk result (λ r. r.0.shape.bits ≡ 3) }
@@ -64,7 +75,7 @@ pub fn one_worker<R: Abort>(
     ensures claims { IfOk result (λ r. (view_of r.1).side.claims ≡ []) }
 {
     assert!(rt; are_values(cells));
-    make(alloc, shape(1, 8, keys), cells)
+    make(alloc, shape(1, rooms, keys), cells)
 }
 
 /// A swap of several cells.
@@ -122,17 +133,17 @@ pub fn wipe_one(table: &Table, seat: &mut Seat)
 pub fn two_workers<R: Abort>(
     rt: &R,
     alloc: Global,
-    room: usize,
+    rooms: Rooms,
     cells: &[u64; 8],
 ) -> Result<(Table, Seat, Seat), AllocError>
-    requires { room ≤ 10000 }
+    requires rooms { AreRooms rooms }
     ensures first { IfOk result (λ r. Rests r.0 r.1 × (r.1.side.worker ≡ 0)) }
     ensures second { IfOk result (λ r. Rests r.0 r.2 × (r.2.side.worker ≡ 1)) }
     ensures workers { IfOk result (λ r. r.0.shape.workers ≡ 2) }
     ensures bits { IfOk result (λ r. r.0.shape.bits ≡ 3) }
 {
     assert!(rt; are_values(cells));
-    let (table, mut first) = make(alloc, shape(2, room, 0), cells)?;
+    let (table, mut first) = make(alloc, shape(2, rooms, 0), cells)?;
     let second = split(&table, &mut first, 1);
     Ok((table, first, second))
 }

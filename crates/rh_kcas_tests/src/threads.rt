@@ -9,7 +9,7 @@ use std::sync::Wait;
 use std::test::*;
 use std::thread::{Threads, join};
 
-// Each worker has places and marks for so many swaps of two cells, and more marks to help the other.
+// Each worker has descriptors and marks for so many swaps of two cells, and more marks to help the other.
 const TRIES: u64 = 100;
 
 /// Moves one from a cell to another, unless the other worker changes one of them meanwhile.
@@ -86,7 +86,7 @@ fn move_both<R: Threads + Wait + Abort + Sync>(
 #[test]
 fn two_threads_keep_the_sum_of_two_cells(rt: HostRuntime) -> Result<(), Fail> {
     let cells = [0, 0, 500, 0, 0, 0, 500, 0];
-    let (table, first, second) = two_workers(&rt, rt.alloc(), 1000, &cells)?;
+    let (table, first, second) = two_workers(&rt, rt.alloc(), rooms(100, 1000), &cells)?;
     let ((first, there), (second, back)) = move_both(&rt, &table, first, second);
     let left = close_two(table, first, second);
     assert!(rt; there > 0 || back > 0);

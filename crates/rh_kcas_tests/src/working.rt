@@ -12,9 +12,6 @@ use rh_layout::MAX_KEY;
 use std::process::Abort;
 use std::sync::Wait;
 
-/// How many swaps a worker tries before the rows are wiped.
-pub const TRIES: usize = 2_000;
-
 /// What workers were told.
 #[derive(Drop)]
 pub struct Told {
@@ -61,16 +58,20 @@ impl Told {
 }
 
 /// A round of random swaps, which go by a seed.
-#[derive(Drop)]
+#[derive(Clone, Copy)]
 pub struct Swaps {
     pub seed: u64,
+    /// How many swaps each worker tries.
+    pub tries: usize,
+    /// A worker reads a cell less often than this before each of them.
+    pub looks: u64,
 }
 
 impl<R: Wait + Abort> Work<R, Told> for Swaps {
     fn work(&self, rt: &R, table: &Table, seat: Seat) -> (Seat, Told) {
         let mut seat = seat;
         let seed = self.seed.wrapping_add(seat.side.worker as u64);
-        let told = try_swaps(rt, table, &mut seat, seed);
+        let told = try_swaps(rt, table, &mut seat, Swaps { seed, ..*self });
         (seat, told)
     }
 
@@ -80,19 +81,20 @@ impl<R: Wait + Abort> Work<R, Told> for Swaps {
 }
 
 /// Tries so many swaps, or fewer where the worker is spent.
-fn try_swaps<R: Wait + Abort>(rt: &R, table: &Table, seat: &mut Seat, seed: u64) -> Told
+fn try_swaps<R: Wait + Abort>(rt: &R, table: &Table, seat: &mut Seat, swaps: Swaps) -> Told
     requires rests { Rests table.now seat.old }
     ensures rests { Rests table.now seat.new }
     ensures same { IsSame seat.old seat.new }
 {
     let mut told = Told::nothing();
     let counter = Counter::of(seat.side.worker);
-    let mut random = Random::new(seed);
+    let mut random = Random::new(swaps.seed);
     let Some(first) = value(rt, table, seat, counter.cell) else {
         return told;
     };
     let mut raised = counter.raised(first);
-    for tried in 0..TRIES {
+    for tried in 0..swaps.tries {
+        look_about(rt, table, seat, random.below(swaps.looks.max(1)));
         let amounts = amounts(&mut random, counter);
         let (outcome, read) = add(rt, table, seat, &amounts, counter.cell);
         told.note(outcome, &amounts);
@@ -106,6 +108,17 @@ fn try_swaps<R: Wait + Abort>(rt: &R, table: &Table, seat: &mut Seat, seed: u64)
         }
     }
     told
+}
+
+/// Reads an account so often, and helps the swaps that are met there.
+fn look_about<R: Wait + Abort>(rt: &R, table: &Table, seat: &mut Seat, looks: u64)
+    requires rests { Rests table.now seat.old }
+    ensures rests { Rests table.now seat.new }
+    ensures same { IsSame seat.old seat.new }
+{
+    for looked in 0..looks {
+        value(rt, table, seat, 0);
+    }
 }
 
 /// Adds the amounts to the cells, all in one act, unless another worker changes one of them

@@ -46,7 +46,7 @@ pub const RUN_AT_LENGTH: &str = "\
 Reads a script, carries out its commands one after another on one table, which is empty at first,
 and writes a report of each to standard output. Every byte of it, and of each snapshot, is the same
 for any number of workers, which change the table at once, each in a thread. With more than one a
-command needs more memory, up to 50 MB for each worker, and the run ends with status 3 where a
+command needs more memory, up to 23 MB for each worker, and the run ends with status 3 where a
 thread cannot be started.";
 
 /// The argument `--workers`.
@@ -99,7 +99,7 @@ what there is, in this order:
   play KIND      the workers insert, remove or ask: KIND is one of these words
   bits B         the table has 2 to the power of B cells, for B from 3 to 18
   held KEY ..    the keys that the table holds at first, or none
-  rooms E M      each worker has room for E entries and M marks in a round; may be left out
+  rooms D M      a worker has D descriptors and M marks in a round; may be left out
   work KEY ..    the keys of a worker, or none: a line for each of 1 to 16 workers, from worker 0 on
   share W KEY .. the keys that W workers share, in place of all lines `work`
 
@@ -108,7 +108,7 @@ Then comes any number of these, in any order:
   until W STEP   turns of worker W until one is such a step: write, open, read, place, settle,
                  decide, release or claim
   rest           a turn of each worker, again and again, until none has a step left
-  round          a new round, in which room is free again; only where no worker has a step left
+  round          a new round, in which rooms are free again; only where no worker has a step left
   show           tell what stands in each cell that is not empty
 
 `turn` and `until` are told with what the last turn was: its step, or `finished` where the worker

@@ -7,7 +7,7 @@ use Rattle.rh_ledger.specs.declared.tally.Kind.{Kind}
 use Rattle.rh_ledger.specs.declared.tally.Kind.TheVariants.{Ask}
 use Rattle.rh_ledger.specs.Phase.{set_after, tally_of}
 use Rattle.rh_acts.specs.Workers.{tally_by}
-use Rattle.rh_descriptor.specs.declared.limits.TheConstants.{MAX_MARKS, MAX_ROOM, MAX_WORKERS}
+use Rattle.rh_descriptor.specs.declared.limits.TheConstants.{MAX_ROOM, MAX_WORKERS}
 use Rattle.rh_descriptor.specs.declared.shape.Rooms.{Rooms}
 use Rattle.rh_descriptor.specs.declared.shape.Shape.{Shape}
 use Rattle.rh_worker.specs.Sights.{HasRoom}
@@ -19,12 +19,12 @@ use Rattle.rh_phase.specs.declared.hand.Hand.{Hand}
 abbrev pub IsWorkers : (workers : ℕ) → Type 0
 IsWorkers workers = (0 < workers) × (workers ≤ MAX_WORKERS)
 
--- the room of a worker does for a key at least
+-- the rooms of a worker do for a key at least: it takes a descriptor, with at most one mark for each cell
 pub record IsRooms (bits : ℕ) (rooms : Rooms) : Type 0 where
-  pub key : 2 ^ bits ≤ rooms.entries
-  pub entries : rooms.entries ≤ MAX_ROOM
-  pub enough : rooms.entries ≤ rooms.marks
-  pub marks : rooms.marks ≤ MAX_MARKS
+  pub some : 1 ≤ rooms.descriptors
+  pub descriptors : rooms.descriptors ≤ MAX_ROOM
+  pub enough : 2 ^ bits ≤ rooms.marks
+  pub marks : rooms.marks ≤ MAX_ROOM
 
 -- it has done nothing yet, and has room for any key, and marks for so many places
 pub record IsNew (z : Shape) (kind : Kind) (places : ℕ) (h : Hand) : Type 0 where

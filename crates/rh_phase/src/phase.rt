@@ -14,7 +14,7 @@ use crate::gate::Gate;
 use crate::hand::Hand;
 use crate::hands::{all_changed, mark_all, new_hands};
 use crate::rounds::rounds;
-use rh_descriptor::{MAX_MARKS, Rooms, Shape};
+use rh_descriptor::{Rooms, Shape};
 use rh_kcas::{close, make};
 use rh_ledger::{Kind, Tally};
 use rh_runner::PhaseFault;
@@ -47,7 +47,7 @@ pub fn change<R: Threads + Wait + Sync, G: Gate + Sync>(
     ensures tally { IfOk result (λ t. t ≡ tally_of kind (keys_of cells.old.items) keys.now) }
     ensures unchanged { OnErr result (cells.new.items ≡ cells.old.items) }
 {
-    let rooms = usual_rooms(bits);
+    let rooms = Rooms::usual();
     change_with(
         rt, alloc, workers, kind, bits, cells, keys, gate, &AllStart, rooms,
     )
@@ -69,7 +69,7 @@ pub fn ask<R: Threads + Wait + Sync, G: Gate + Sync>(
     requires room { set.len (keys_of cells.now) < 2 ^ bits }
     ensures found { IfOk result (λ found. found.items ≡ looked_up (keys_of cells.now) keys.now) }
 {
-    let rooms = usual_rooms(bits);
+    let rooms = Rooms::usual();
     ask_with(
         rt, alloc, workers, bits, cells, keys, gate, &AllStart, rooms,
     )
@@ -188,27 +188,14 @@ fn carry_out<R: Threads + Wait + Sync, G: Gate + Sync, S: Starts + Sync>(
 fn shape_of(bits: u32, workers: usize, rooms: Rooms, keys: &[u64]) -> Shape
     ensures bits { result.bits ≡ bits }
     ensures workers { result.workers ≡ workers }
-    ensures entries { result.entry_room ≡ rooms.entries }
-    ensures marks { result.mark_room ≡ rooms.marks }
+    ensures rooms { result.rooms ≡ rooms }
     ensures keys { result.keys ≡ length keys.now }
 {
     Shape {
         bits,
         workers,
-        entry_room: rooms.entries,
-        mark_room: rooms.marks,
         keys: keys.len() as u64,
-    }
-}
-
-/// Room that does in one round for most lists.
-fn usual_rooms(bits: u32) -> Rooms
-    requires { IsBits bits }
-    ensures { IsRooms bits result }
-{
-    Rooms {
-        entries: (1 << bits) + 1024,
-        marks: MAX_MARKS,
+        rooms,
     }
 }
 

@@ -2,16 +2,25 @@
 
 ghost use Rattle.std.specs.Prelude.{◌≡◌, ◌≢◌, ◌^◌, ◌<◌, IfSome};
 ghost use Rattle.rh_layout.specs.Key.{IsBits};
+ghost use Rattle.rh_phase.specs.Made.{IsRooms, IsWorkers};
 
 use crate::random::Random;
+use rh_descriptor::Rooms;
 use rh_edit::SeqSet;
 use rh_layout::is_layout;
 use rh_ledger::Kind;
-use rh_phase::Threads;
+use rh_phase::{AllStart, OpenGate, ask_with, change_with};
 use rh_runner::{Runner, Single};
 use std::alloc::Global;
 use std::sync::Wait;
-use std::thread;
+use std::thread::Threads;
+
+/// How many workers, and the rooms of each in a round.
+#[derive(Clone, Copy)]
+struct Crew {
+    workers: usize,
+    rooms: Rooms,
+}
 
 /// The keys lie below this one, so that many of them meet.
 const KEYS: u64 = 40;
@@ -23,7 +32,7 @@ const NO_ROOM: &str = "the lists are too long, or the keys too great";
 const DIFFERS: &str = "several workers made something else than one";
 
 /// Makes so many random phases, each by several workers and by one, and compares what comes of them.
-pub fn compare<R: thread::Threads + Wait + Sync + AllocGlobal>(
+pub fn compare<R: Threads + Wait + Sync + AllocGlobal>(
     rt: &R,
     phases: u32,
     seed: u64,
@@ -39,8 +48,24 @@ pub fn compare<R: thread::Threads + Wait + Sync + AllocGlobal>(
     Ok(())
 }
 
+/// The usual rooms, or 1 to 3 descriptors and the fewest marks: then rows are used again and again, and
+/// rounds end for want of room.
+fn rooms(random: &mut Random, bits: u32, size: usize) -> Rooms
+    requires bits { IsBits bits }
+    requires size { size ≡ 2 ^ bits }
+    ensures { IsRooms bits result }
+{
+    match random.below(4) {
+        0 => Rooms::usual(),
+        descriptors => Rooms {
+            descriptors,
+            marks: size as u64,
+        },
+    }
+}
+
 /// A random phase on a table of so many bits, which has so many cells.
-fn one_phase<R: thread::Threads + Wait + Sync>(
+fn one_phase<R: Threads + Wait + Sync>(
     rt: &R,
     alloc: Global,
     random: &mut Random,
@@ -51,7 +76,10 @@ fn one_phase<R: thread::Threads + Wait + Sync>(
     requires size { size ≡ 2 ^ bits }
     requires some { 1 < size }
 {
-    let threads = Threads::new(2 + random.below(15) as usize);
+    let crew = Crew {
+        workers: 2 + random.below(15) as usize,
+        rooms: rooms(random, bits, size),
+    };
     // (so the two lists have room together)
     let half = size as u64 / 2;
     let (few, many) = (random.below(half), random.below(half));
@@ -62,28 +90,29 @@ fn one_phase<R: thread::Threads + Wait + Sync>(
         return Err(NO_MEMORY);
     };
     match random.below(5) {
-        0 | 1 => change(rt, alloc, threads, Kind::Insert, bits, size, &held, &keys),
-        2 | 3 => change(rt, alloc, threads, Kind::Remove, bits, size, &held, &keys),
-        _ => look_up(rt, alloc, threads, bits, size, &held, &keys),
+        0 | 1 => change(rt, alloc, crew, Kind::Insert, bits, size, &held, &keys),
+        2 | 3 => change(rt, alloc, crew, Kind::Remove, bits, size, &held, &keys),
+        _ => look_up(rt, alloc, crew, bits, size, &held, &keys),
     }
 }
 
 /// The keys are inserted or removed by all workers, and by one.
-fn change<R: thread::Threads + Wait + Sync>(
+fn change<R: Threads + Wait + Sync>(
     rt: &R,
     alloc: Global,
-    threads: Threads,
+    crew: Crew,
     kind: Kind,
     bits: u32,
     size: usize,
     held: &[u64],
     keys: &[u64],
 ) -> Result<(), &'static str>
+    requires workers { IsWorkers crew.workers }
+    requires rooms { IsRooms bits crew.rooms }
     requires kind { kind ≢ Kind.Ask }
     requires bits { IsBits bits }
     requires size { size ≡ 2 ^ bits }
 {
-    let mut threads = threads;
     let (Some(one), Some(other)) = (
         set_of(alloc, bits, size, held),
         set_of(alloc, bits, size, held),
@@ -98,7 +127,18 @@ fn change<R: thread::Threads + Wait + Sync>(
     if !is_layout(bits, &cells) || !is_layout(bits, &others) {
         return Err(DIFFERS);
     }
-    let told = threads.change(rt, alloc, kind, bits, &mut cells, keys);
+    let told = change_with(
+        rt,
+        alloc,
+        crew.workers,
+        kind,
+        bits,
+        &mut cells,
+        keys,
+        &OpenGate,
+        &AllStart,
+        crew.rooms,
+    );
     let alone = Single.change(rt, alloc, kind, bits, &mut others, keys);
     if told != alone || cells.as_slice() != others.as_slice() {
         return Err(DIFFERS);
@@ -107,19 +147,20 @@ fn change<R: thread::Threads + Wait + Sync>(
 }
 
 /// The keys are looked up by all workers, and by one.
-fn look_up<R: thread::Threads + Wait + Sync>(
+fn look_up<R: Threads + Wait + Sync>(
     rt: &R,
     alloc: Global,
-    threads: Threads,
+    crew: Crew,
     bits: u32,
     size: usize,
     held: &[u64],
     keys: &[u64],
 ) -> Result<(), &'static str>
+    requires workers { IsWorkers crew.workers }
+    requires rooms { IsRooms bits crew.rooms }
     requires bits { IsBits bits }
     requires size { size ≡ 2 ^ bits }
 {
-    let mut threads = threads;
     let Some(set) = set_of(alloc, bits, size, held) else {
         return Err(NO_MEMORY);
     };
@@ -127,7 +168,17 @@ fn look_up<R: thread::Threads + Wait + Sync>(
         return Err(NO_ROOM);
     }
     let (Ok(told), Ok(alone)) = (
-        threads.ask(rt, alloc, bits, set.cells(), keys),
+        ask_with(
+            rt,
+            alloc,
+            crew.workers,
+            bits,
+            set.cells(),
+            keys,
+            &OpenGate,
+            &AllStart,
+            crew.rooms,
+        ),
         Single.ask(rt, alloc, bits, set.cells(), keys),
     ) else {
         return Err(NO_MEMORY);

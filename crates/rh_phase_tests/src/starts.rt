@@ -7,9 +7,9 @@ use rh_ledger::{Kind, Tally};
 use rh_phase::{AllStart, OpenGate, PhaseFault, Starts, ask_with, change_with};
 use std::test::Fail;
 
-// Room for one key of 3 bits.
+// Room for one key of 3 bits, and no more.
 const ROOMS: Rooms = Rooms {
-    entries: 8,
+    descriptors: 1,
     marks: 8,
 };
 
@@ -81,35 +81,40 @@ fn a_refused_start_ends_the_look_ups(rt: HostRuntime) -> Result<(), Fail> {
 
 #[test]
 fn small_rooms_take_more_rounds(rt: HostRuntime) -> Result<(), Fail> {
-    for workers in [1, 2, 5, 8] {
-        assert!(rt; 0 < workers && workers <= 16);
-        let set = SeqSet::new(rt.alloc(), 3)?;
-        assert!(rt; set.len() == 0);
-        let mut cells = set.into_cells();
-        assert!(rt; is_layout(3, &cells));
-        let keys = [1, 9, 17, 6, 14, 3];
-        let told = change_with(
-            &rt,
-            rt.alloc(),
-            workers,
-            Kind::Insert,
-            3,
-            &mut cells,
-            &keys,
-            &OpenGate,
-            &AllStart,
-            ROOMS,
-        )?;
-        assert_eq!(rt;
-            told,
-            Tally {
-                read: 6,
-                added: 6,
-                removed: 0,
-                found: 0
-            }
-        );
-        assert_eq!(rt; cells.as_slice(), [15, 4, 0, 0, 2, 10, 18, 7].as_slice());
+    for descriptors in 1..4 {
+        for workers in [1, 2, 5, 8] {
+            assert!(rt; 0 < workers && workers <= 16);
+            let set = SeqSet::new(rt.alloc(), 3)?;
+            assert!(rt; set.len() == 0);
+            let mut cells = set.into_cells();
+            assert!(rt; is_layout(3, &cells));
+            let keys = [1, 9, 17, 6, 14, 3];
+            let told = change_with(
+                &rt,
+                rt.alloc(),
+                workers,
+                Kind::Insert,
+                3,
+                &mut cells,
+                &keys,
+                &OpenGate,
+                &AllStart,
+                Rooms {
+                    descriptors,
+                    marks: 8,
+                },
+            )?;
+            assert_eq!(rt;
+                told,
+                Tally {
+                    read: 6,
+                    added: 6,
+                    removed: 0,
+                    found: 0
+                }
+            );
+            assert_eq!(rt; cells.as_slice(), [15, 4, 0, 0, 2, 10, 18, 7].as_slice());
+        }
     }
     Ok(())
 }

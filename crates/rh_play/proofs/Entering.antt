@@ -104,7 +104,7 @@ not_scheduled (lines.Share w v) not_schedule = refl
 not_scheduled (lines.Schedule o) not_schedule = absurd (not_schedule o refl)
 
 -- without rooms the line is read as after them
-pub no_rooms : (line : Line) → ((entries marks : ℕ) → line ≡ lines.Rooms entries marks → ⊥) → follow AfterHeld (saying_as line) ≡ follow AfterRooms (saying_as line)
+pub no_rooms : (line : Line) → ((descriptors marks : ℕ) → line ≡ lines.Rooms descriptors marks → ⊥) → follow AfterHeld (saying_as line) ≡ follow AfterRooms (saying_as line)
 unfolding follow
 no_rooms (lines.Play k) not_rooms = refl
 no_rooms (lines.Bits b) not_rooms = refl
@@ -130,15 +130,15 @@ bits_fit (lines.Work v) bits fit is = absurd cc
 bits_fit (lines.Share w v) bits fit is = absurd cc
 bits_fit (lines.Schedule o) bits fit is = absurd cc
 
-pub rooms_fit : (line : Line) (entries marks : ℕ) → IsTrue (fits (saying_as line)) → line ≡ lines.Rooms entries marks → (1 ≤ entries) × (entries ≤ MAX_ROOM) × (1 ≤ marks) × (marks ≤ MAX_ROOM)
+pub rooms_fit : (line : Line) (descriptors marks : ℕ) → IsTrue (fits (saying_as line)) → line ≡ lines.Rooms descriptors marks → (1 ≤ descriptors) × (descriptors ≤ MAX_ROOM) × (1 ≤ marks) × (marks ≤ MAX_ROOM)
 unfolding fits
-rooms_fit (lines.Rooms e m) entries marks fit is = grind (arith, nat_tests)
-rooms_fit (lines.Play k) entries marks fit is = absurd cc
-rooms_fit (lines.Bits b) entries marks fit is = absurd cc
-rooms_fit (lines.Held v) entries marks fit is = absurd cc
-rooms_fit (lines.Work v) entries marks fit is = absurd cc
-rooms_fit (lines.Share w v) entries marks fit is = absurd cc
-rooms_fit (lines.Schedule o) entries marks fit is = absurd cc
+rooms_fit (lines.Rooms e m) descriptors marks fit is = grind (arith, nat_tests)
+rooms_fit (lines.Play k) descriptors marks fit is = absurd cc
+rooms_fit (lines.Bits b) descriptors marks fit is = absurd cc
+rooms_fit (lines.Held v) descriptors marks fit is = absurd cc
+rooms_fit (lines.Work v) descriptors marks fit is = absurd cc
+rooms_fit (lines.Share w v) descriptors marks fit is = absurd cc
+rooms_fit (lines.Schedule o) descriptors marks fit is = absurd cc
 
 -- ---- what was said, and a line more
 

@@ -139,7 +139,7 @@ is_within least most n = nat_le least n && nat_le n most
 -- the numbers lie in their ranges
 unfoldable pub fits : Saying → Bool
 fits (Bits bits) = is_within MIN_BITS MAX_BITS bits
-fits (Rooms entries marks) = is_within 1 MAX_ROOM entries && is_within 1 MAX_ROOM marks
+fits (Rooms descriptors marks) = is_within 1 MAX_ROOM descriptors && is_within 1 MAX_ROOM marks
 fits (Schedule (Turn worker turns)) = is_within 1 MAX_TURNS turns
 fits _ = true
 
@@ -148,7 +148,7 @@ unfoldable pub follow : Place → Saying → Option Place
 follow AtStart (Play kind) = Some AfterPlay
 follow AfterPlay (Bits bits) = Some AfterBits
 follow AfterBits (Held keys) = Some AfterHeld
-follow AfterHeld (Rooms entries marks) = Some AfterRooms
+follow AfterHeld (Rooms descriptors marks) = Some AfterRooms
 follow AfterHeld (Work keys) = Some AmongWork
 follow AfterHeld (Share workers keys) = Some AmongSchedule
 follow AfterRooms (Work keys) = Some AmongWork

@@ -25,7 +25,7 @@ abbrev pub saying_as : Line → Saying
 saying_as (lines.Play kind) = Play kind
 saying_as (lines.Bits bits) = Bits bits
 saying_as (lines.Held keys) = Held keys.items
-saying_as (lines.Rooms entries marks) = Rooms entries marks
+saying_as (lines.Rooms descriptors marks) = Rooms descriptors marks
 saying_as (lines.Work keys) = Work keys.items
 saying_as (lines.Share workers keys) = Share workers keys.items
 saying_as (lines.Schedule order) = Schedule order
@@ -33,7 +33,7 @@ saying_as (lines.Schedule order) = Schedule order
 -- the line that gives the rooms, if they are given
 abbrev pub rooms_said : Option rooms.Rooms → List Saying
 rooms_said None = []
-rooms_said (Some r) = Rooms r.entries r.marks ∷ []
+rooms_said (Some r) = Rooms r.descriptors r.marks ∷ []
 
 -- the lines that give the keys of the workers
 abbrev pub work_said : works.Work → List Saying

@@ -7,7 +7,7 @@ pub data Saying : Type 0 where
   Play : (kind : Kind) → Saying
   Bits : (bits : ℕ) → Saying
   Held : (keys : List ℕ) → Saying
-  Rooms : (entries marks : ℕ) → Saying
+  Rooms : (descriptors marks : ℕ) → Saying
   Work : (keys : List ℕ) → Saying
   Share : (workers : ℕ) (keys : List ℕ) → Saying
   Schedule : (order : Order) → Saying

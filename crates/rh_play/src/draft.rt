@@ -111,11 +111,11 @@ fn fill(
     ensures { Answers (entered (way_of (Draft.Filled kind bits held)) (saying_as line)) way_of result }
 {
     match line {
-        Line::Rooms { entries, marks } => Ok(Draft::Roomed(Table {
+        Line::Rooms { descriptors, marks } => Ok(Draft::Roomed(Table {
             kind,
             bits,
             held,
-            rooms: Some(Rooms { entries, marks }),
+            rooms: Some(Rooms { descriptors, marks }),
         })),
         other => begin(
             alloc,

@@ -9,7 +9,7 @@ pub const MIN_BITS: u64 = 3;
 /// The most bits of a table.
 pub const MAX_BITS: u64 = 18;
 
-/// The largest room for entries, and for marks.
+/// The largest room for descriptors, and for marks.
 pub const MAX_ROOM: u64 = 100_000;
 
 /// The most turns that a line may ask for.

@@ -22,7 +22,7 @@ pub(crate) enum Line {
     Play(Kind),
     Bits(u64),
     Held(Vec<u64>),
-    Rooms { entries: u64, marks: u64 },
+    Rooms { descriptors: u64, marks: u64 },
     Work(Vec<u64>),
     Share { workers: u64, keys: Vec<u64> },
     Schedule(Order),
@@ -36,7 +36,7 @@ impl Line {
     {
         match self {
             Line::Bits(bits) => MIN_BITS <= *bits && *bits <= MAX_BITS,
-            Line::Rooms { entries, marks } => is_room(*entries) && is_room(*marks),
+            Line::Rooms { descriptors, marks } => is_room(*descriptors) && is_room(*marks),
             Line::Schedule(Order::Turn { turns, .. }) => 1 <= *turns && *turns <= MAX_TURNS,
             _ => true,
         }
@@ -80,8 +80,8 @@ fn said_after(alloc: Global, verb: Verb, rest: &str) -> Result<Line, PlayTextKin
         Verb::Bits => Line::Bits(one_number(rest)?),
         Verb::Held => Line::Held(numbers(alloc, rest)?),
         Verb::Rooms => {
-            let (entries, marks) = two_numbers(rest)?;
-            Line::Rooms { entries, marks }
+            let (descriptors, marks) = two_numbers(rest)?;
+            Line::Rooms { descriptors, marks }
         }
         Verb::Work => Line::Work(numbers(alloc, rest)?),
         Verb::Share => shared(alloc, rest)?,

@@ -14,13 +14,13 @@ pub struct Bits {
     ghost most: { value ≤ MAX_BITS },
 }
 
-/// How many entries and marks each worker has room for in a round.
+/// How many descriptors and marks each worker may number in a round.
 #[derive(Clone, Copy, Debug, PartialEq, Eq)]
 pub struct Rooms {
-    pub entries: u64,
+    pub descriptors: u64,
     pub marks: u64,
-    ghost some_entries: { 1 ≤ entries },
-    ghost most_entries: { entries ≤ MAX_ROOM },
+    ghost some_descriptors: { 1 ≤ descriptors },
+    ghost most_descriptors: { descriptors ≤ MAX_ROOM },
     ghost some_marks: { 1 ≤ marks },
     ghost most_marks: { marks ≤ MAX_ROOM },
 }

@@ -58,21 +58,21 @@ not_begun play given items keys (Err fault) same_cells same_keys held layout mad
 -- ---- the player of a play
 
 pub pieces_made : (play : Play) (cells : List ℕ) (given : List (Vec ℕ Global)) (pieces : Vec (Vec ℕ Global) Global) (rooms : Rooms) (r : Result Game PlayFault)
-    → play.work ≡ Pieces pieces → given ≡ pieces.items → rooms ≡ rooms_in (bits_of play) play.rooms
+    → play.work ≡ Pieces pieces → given ≡ pieces.items → rooms ≡ rooms_in play.rooms
     → Makes (start_fault play.kind (bits_of play) cells (length given) (joined given)) (StartsPieces play.kind (bits_of play) rooms cells given) r
     → Makes (player_fault play cells) (StartsOn cells play play.work) r
 pieces_made play cells given pieces rooms r is same_pieces same_rooms made =
     subst (λ (w : Work). Makes (start_fault play.kind (bits_of play) cells (workers_in w) (keys_in w)) (StartsOn cells play w) r) (sym is)
-    (subst (λ (l : List (Vec ℕ Global)). Makes (start_fault play.kind (bits_of play) cells (length l) (joined l)) (StartsPieces play.kind (bits_of play) (rooms_in (bits_of play) play.rooms) cells l) r) same_pieces
+    (subst (λ (l : List (Vec ℕ Global)). Makes (start_fault play.kind (bits_of play) cells (length l) (joined l)) (StartsPieces play.kind (bits_of play) (rooms_in play.rooms) cells l) r) same_pieces
     (subst (λ (o : Rooms). Makes (start_fault play.kind (bits_of play) cells (length given) (joined given)) (StartsPieces play.kind (bits_of play) o cells given) r) same_rooms made))
 
 pub share_made : (play : Play) (cells : List ℕ) (given : List ℕ) (workers : ℕ) (keys : Vec ℕ Global) (rooms : Rooms) (r : Result Game PlayFault)
-    → play.work ≡ Share workers keys → given ≡ keys.items → rooms ≡ rooms_in (bits_of play) play.rooms
+    → play.work ≡ Share workers keys → given ≡ keys.items → rooms ≡ rooms_in play.rooms
     → Makes (start_fault play.kind (bits_of play) cells workers given) (StartsShared play.kind (bits_of play) workers rooms cells given) r
     → Makes (player_fault play cells) (StartsOn cells play play.work) r
 share_made play cells given workers keys rooms r is same_keys same_rooms made =
     subst (λ (w : Work). Makes (start_fault play.kind (bits_of play) cells (workers_in w) (keys_in w)) (StartsOn cells play w) r) (sym is)
-    (subst (λ (l : List ℕ). Makes (start_fault play.kind (bits_of play) cells workers l) (StartsShared play.kind (bits_of play) workers (rooms_in (bits_of play) play.rooms) cells l) r) same_keys
+    (subst (λ (l : List ℕ). Makes (start_fault play.kind (bits_of play) cells workers l) (StartsShared play.kind (bits_of play) workers (rooms_in play.rooms) cells l) r) same_keys
     (subst (λ (o : Rooms). Makes (start_fault play.kind (bits_of play) cells workers given) (StartsShared play.kind (bits_of play) workers o cells given) r) same_rooms made))
 
 -- what a game has of its play

@@ -41,7 +41,7 @@ last_game play first last text begins follows =
 
 pub is_layout : (play : Play) (g : Game) (cells : List ℕ) → IsLast play g → MadeSoFar g cells → IsLayout (bits_of play) cells
 is_layout play g cells last made =
-    subst (λ (b : ℕ). IsLayout b cells) last.bits (subst (λ (l : List ℕ). IsLayout g.shape.bits l) (sym made.0) (layout_own _ _ _ made.1.stands.layout))
+    subst (λ (b : ℕ). IsLayout b cells) last.bits (layout_own _ _ _ (made.1.stands.layout cells made.0))
 
 same_layout : (cells : List ℕ) (b c : ℕ) (k l : Kind) (S T : Keys) (xs ys : List ℕ) → b ≡ c → k ≡ l → S ≡ T → xs ≡ ys → Layout cells b (set_after k S xs) → Layout cells c (set_after l T ys)
 same_layout cells b c k l S T xs ys p q r s layout =

@@ -2,11 +2,12 @@
 use Rattle.std.specs.Prelude.{◌≡◌, ℕ, ◌^◌, ◌⊎◌, not, nat_lt, if◌then◌else◌, Option, Some, None, List, length}
 use Rattle.std.specs.FinSet as set
 use Rattle.rh_layout.specs.Layout.{Keys, Layout}
+use Rattle.rh_descriptor.specs.Places.{usual_rooms}
 use Rattle.rh_descriptor.specs.declared.shape.Rooms.{Rooms}
 use Rattle.rh_turns.specs.Game.{Game}
 use Rattle.rh_player.specs.declared.fault.PlayFault.{PlayFault}
 use Rattle.rh_player.specs.declared.fault.PlayFault.TheVariants.{BadKey, NoRoom}
-use Rattle.rh_player.specs.Start.{StartsPieces, StartsShared, are_keys, joined, start_fault, usual_rooms}
+use Rattle.rh_player.specs.Start.{StartsPieces, StartsShared, are_keys, joined, start_fault}
 use Rattle.rh_play.specs.declared.play.Play.{Play}
 use Rattle.rh_play.specs.declared.play.Rooms as said
 use Rattle.rh_play.specs.declared.play.Work.TheVariants.{Pieces, Share}
@@ -31,9 +32,9 @@ keys_in (Pieces pieces) = joined pieces.items
 keys_in (Share workers keys) = keys.items
 
 -- the rooms that are said, or the usual ones
-abbrev pub rooms_in : (bits : ℕ) → Option said.Rooms → Rooms
-rooms_in bits None = usual_rooms bits
-rooms_in bits (Some rooms) = record { entries = rooms.entries; marks = rooms.marks }
+abbrev pub rooms_in : Option said.Rooms → Rooms
+rooms_in None = usual_rooms
+rooms_in (Some rooms) = record { descriptors = rooms.descriptors; marks = rooms.marks }
 
 -- ---- why a play does not begin
 
@@ -62,8 +63,8 @@ IsStartFault play fault =
 
 -- each worker has its piece, or all claim their keys; no step is made yet
 abbrev pub StartsOn : (cells : List ℕ) → Play → Work → Game → Type 0
-StartsOn cells play (Pieces pieces) g = StartsPieces play.kind (bits_of play) (rooms_in (bits_of play) play.rooms) cells pieces.items g
-StartsOn cells play (Share workers keys) g = StartsShared play.kind (bits_of play) workers (rooms_in (bits_of play) play.rooms) cells keys.items g
+StartsOn cells play (Pieces pieces) g = StartsPieces play.kind (bits_of play) (rooms_in play.rooms) cells pieces.items g
+StartsOn cells play (Share workers keys) g = StartsShared play.kind (bits_of play) workers (rooms_in play.rooms) cells keys.items g
 
 -- There is no fault, and the table is the layout of the keys held.
 pub record Begins (play : Play) (g : Game) : Type 0 where

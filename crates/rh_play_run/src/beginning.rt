@@ -74,11 +74,11 @@ fn player_on(alloc: Global, cells: &[u64], play: &Play) -> Result<Player, PlayFa
 
 /// The rooms that a play says.
 fn rooms_for(said: rh_play::Rooms) -> Rooms
-    ensures same { result ≡ record { entries = said.entries; marks = said.marks } }
+    ensures same { result ≡ record { descriptors = said.descriptors; marks = said.marks } }
     ensures limits { IsRooms result }
 {
     Rooms {
-        entries: said.entries as usize,
-        marks: said.marks as usize,
+        descriptors: said.descriptors,
+        marks: said.marks,
     }
 }

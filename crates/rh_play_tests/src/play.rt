@@ -10,7 +10,7 @@ fn head_is(play: &Play, (kind, bits, held, rooms): Head) -> bool {
     play.kind == kind
         && play.bits.value == bits
         && play.held.as_slice() == held
-        && play.rooms.map(|r| (r.entries, r.marks)) == rooms
+        && play.rooms.map(|r| (r.descriptors, r.marks)) == rooms
 }
 
 fn pieces_are(work: &Work, wanted: &[&[u64]]) -> bool {

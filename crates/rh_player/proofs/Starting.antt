@@ -96,7 +96,7 @@ module _ (kind : Kind) (bits : ℕ) (cells : List ℕ) (workers : ℕ) (keys : L
     said = table_says bits cells workers (most_added kind keys) none
 
     pub is_shape : (rooms : Rooms) → IsRooms rooms → (shared : ℕ) → shared < 2 ^ 63 → IsShape (shape_for bits workers rooms shared)
-    is_shape rooms limits shared small = record { bits = layout.bits; workers = said.2; entries = limits.0; marks = limits.1; keys = small }
+    is_shape rooms limits shared small = record { bits = layout.bits; workers = said.2; descriptors = limits.0; marks = limits.1; keys = small }
 
     pub has_room : LeavesRoom kind bits (keys_of cells) keys
     has_room = leaves_room kind bits cells keys layout said.0

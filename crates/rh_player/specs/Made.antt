@@ -9,7 +9,7 @@ use Rattle.rh_ledger.specs.declared.tally.Tally.{Tally}
 use Rattle.rh_acts.specs.Act.{changes}
 use Rattle.rh_acts.specs.Workers.{Made, counted, how_many, sum_of_all}
 use Rattle.rh_run.specs.Laws.{StandsSo}
-use Rattle.rh_run.specs.Words.{cells_now}
+use Rattle.rh_run.specs.Words.{AreNow}
 use Rattle.rh_turns.specs.declared.hand.Share.{Share}
 use Rattle.rh_turns.specs.declared.hand.Share.TheVariants.{Piece, Claims}
 use Rattle.rh_turns.specs.Hands.{places}
@@ -31,7 +31,7 @@ pub record SoFar (g : Game) : Type 0 where
 
 -- At each moment: the cells stand for the layout of the first set changed by the acts so far, and each key that is done shows.
 abbrev pub MadeSoFar : Game → (cells : List ℕ) → Type 0
-MadeSoFar g cells = (cells ≡ cells_now g.shape g.words) × SoFar g
+MadeSoFar g cells = AreNow g.shape g.words (keep g) cells × SoFar g
 
 -- ---- the tally
 

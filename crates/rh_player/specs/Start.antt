@@ -1,13 +1,13 @@
 -- Why no player is made, and what one is that was made. (own)
-use Rattle.std.specs.Prelude.{◌≡◌, ℕ, ◌+◌, ◌*◌, ◌^◌, ◌<◌, ◌≤◌, min, Option, Some, None, Bool, if◌then◌else◌, ◌&&◌, not, List, length, nat_le, count_by, slice_index_or, All, Result, Ok, Err, Vec}
+use Rattle.std.specs.Prelude.{◌≡◌, ℕ, ◌+◌, ◌^◌, ◌<◌, ◌≤◌, Option, Some, None, Bool, if◌then◌else◌, ◌&&◌, not, List, length, nat_le, count_by, slice_index_or, All, Result, Ok, Err, Vec}
 use Rattle.std.specs.List.{flat_map, list_all}
 use Rattle.std.specs.Global.{Global}
 use Rattle.rh_layout.specs.Key.{is_full}
 use Rattle.rh_layout.specs.Test.{layout_test}
-use Rattle.rh_layout.specs.declared.limits.TheConstants.{MAX_BITS, MAX_KEY}
+use Rattle.rh_layout.specs.declared.limits.TheConstants.{MAX_KEY}
 use Rattle.rh_ledger.specs.declared.tally.Kind.{Kind}
 use Rattle.rh_ledger.specs.Phase.{most_added}
-use Rattle.rh_descriptor.specs.declared.limits.TheConstants.{MAX_MARKS, MAX_ROOM, MAX_WORKERS}
+use Rattle.rh_descriptor.specs.declared.limits.TheConstants.{MAX_ROOM, MAX_WORKERS}
 use Rattle.rh_descriptor.specs.declared.shape.Rooms.{Rooms}
 use Rattle.rh_descriptor.specs.declared.shape.Shape.{Shape}
 use Rattle.rh_turns.specs.Game.{Game, keys_at}
@@ -44,14 +44,11 @@ Refuses (Some first) fault = fault ≡ first
 -- ---- what one is
 
 abbrev pub IsRooms : Rooms → Type 0
-IsRooms rooms = (rooms.entries ≤ MAX_ROOM) × (rooms.marks ≤ MAX_MARKS)
-
-abbrev pub usual_rooms : (bits : ℕ) → Rooms
-usual_rooms bits = record { entries = 2 ^ min bits MAX_BITS + 1024; marks = MAX_MARKS }
+IsRooms rooms = (rooms.descriptors ≤ MAX_ROOM) × (rooms.marks ≤ MAX_ROOM)
 
 -- with this length of the list that is shared, 0 if none is
 abbrev pub shape_for : (bits workers : ℕ) → Rooms → (shared : ℕ) → Shape
-shape_for bits workers rooms shared = record { bits = bits; workers = workers; entry_room = rooms.entries; mark_room = rooms.marks; keys = shared }
+shape_for bits workers rooms shared = record { bits = bits; workers = workers; keys = shared; rooms = rooms }
 
 -- It does these keys on a table of these cells, and no step is made yet.
 pub record StartsWith (kind : Kind) (z : Shape) (cells keys : List ℕ) (g : Game) : Type 0 where

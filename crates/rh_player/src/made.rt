@@ -32,7 +32,7 @@ impl Player {
             Layout cells.new self.now.shape.bits (set_after self.now.kind (held_first self.now) self.now.keys) }
     {
         for cell in 0..cells.len() {
-            cells[cell] = logical_value(&self.shape, &self.words, cell);
+            cells[cell] = logical_value(&self.shape, &self.words, &self.hands, cell);
         }
     }
 

@@ -5,19 +5,19 @@ ghost use Rattle.rh_layout.specs.Layout.{IsLayout};
 ghost use Rattle.rh_ledger.specs.Phase.{most_added};
 ghost use Rattle.rh_player.specs.Made.{cut};
 ghost use Rattle.rh_player.specs.Start.{IsRooms, Makes, StartsPieces, StartsShared};
-ghost use Rattle.rh_player.specs.Start.{are_keys, joined, shape_for, start_fault, table_fault, usual_rooms};
+ghost use Rattle.rh_player.specs.Start.{are_keys, joined, shape_for, start_fault, table_fault};
+ghost use Rattle.rh_descriptor.specs.Places.{usual_rooms};
 
 use crate::fault::PlayFault;
 use crate::player::Player;
 use crate::set_up::{deal, set_up, share_out};
-use rh_descriptor::{MAX_MARKS, MAX_WORKERS, Rooms, Shape};
-use rh_layout::{MAX_BITS, MAX_KEY, is_layout, key_in};
+use rh_descriptor::{MAX_WORKERS, Rooms, Shape};
+use rh_layout::{MAX_KEY, is_layout, key_in};
 use rh_ledger::Kind;
 use std::alloc::Global;
 
 impl Player {
-    /// A player of workers that each have a piece of the keys, with room for 1024 entries more than
-    /// the table has cells, and as many marks as there are numbers for.
+    /// A player of workers that each have a piece of the keys, with the usual rooms.
     pub fn new(
         alloc: Global,
         bits: u32,
@@ -26,12 +26,12 @@ impl Player {
         pieces: &[Vec<u64>],
     ) -> Result<Player, PlayFault>
         ensures { Makes (start_fault kind bits cells.now (length pieces.now) (joined pieces.now))
-            (StartsPieces kind bits (usual_rooms bits) cells.now pieces.now) result }
+            (StartsPieces kind bits usual_rooms cells.now pieces.now) result }
     {
-        Player::with_rooms(alloc, bits, cells, kind, pieces, usual_rooms(bits))
+        Player::with_rooms(alloc, bits, cells, kind, pieces, Rooms::usual())
     }
 
-    /// A player of workers that each have a piece of the keys, and this room in each round.
+    /// A player of workers that each have a piece of the keys, and these rooms in each round.
     pub fn with_rooms(
         alloc: Global,
         bits: u32,
@@ -53,7 +53,7 @@ impl Player {
         Ok(set_up(alloc, kind, shape, cells, keys, &shares)?)
     }
 
-    /// A player of workers that claim the keys of one list, with the rooms of `new`.
+    /// A player of workers that claim the keys of one list, with the usual rooms.
     pub fn share(
         alloc: Global,
         bits: u32,
@@ -63,12 +63,12 @@ impl Player {
         keys: &[u64],
     ) -> Result<Player, PlayFault>
         ensures { Makes (start_fault kind bits cells.now workers keys.now)
-            (StartsShared kind bits workers (usual_rooms bits) cells.now keys.now) result }
+            (StartsShared kind bits workers usual_rooms cells.now keys.now) result }
     {
-        Player::share_with_rooms(alloc, bits, cells, kind, workers, keys, usual_rooms(bits))
+        Player::share_with_rooms(alloc, bits, cells, kind, workers, keys, Rooms::usual())
     }
 
-    /// A player of workers that claim the keys of one list, and have this room in each round.
+    /// A player of workers that claim the keys of one list, and have these rooms in each round.
     pub fn share_with_rooms(
         alloc: Global,
         bits: u32,
@@ -153,24 +153,13 @@ fn count_keys(pieces: &[Vec<u64>]) -> usize
 
 // ---- what is made
 
-fn usual_rooms(bits: u32) -> Rooms
-    ensures rooms { result ≡ usual_rooms bits }
-    ensures limits { IsRooms result }
-{
-    Rooms {
-        entries: (1 << bits.min(MAX_BITS)) + 1024,
-        marks: MAX_MARKS,
-    }
-}
-
 fn shape_for(bits: u32, workers: usize, rooms: Rooms, keys: u64) -> Shape
     ensures { result ≡ shape_for bits workers rooms keys }
 {
     Shape {
         bits,
         workers,
-        entry_room: rooms.entries,
-        mark_room: rooms.marks,
         keys,
+        rooms,
     }
 }

@@ -34,6 +34,15 @@ raw 5 desc 0 0\nturn 1 100 spent\nraw 4 key 9\n\
 table 3 1\n4 9 0\nend\nread 0 added 0 removed 0 found 0\nunfinished\n",
 );
 
+// The mark of a helper stands in cell 4, for a descriptor whose row is of the next one by now.
+const STALE_HELPER: (&str, &str) = (
+    "play remove\nbits 3\nheld 1\nwork 9 2\nwork 1\nuntil 0 settle\nturn 1 8\nuntil 0 decide\n\
+until 0 open\nuntil 1 place\nshow\n",
+    "until 0 settle settle\nturn 1 8 read\nuntil 0 decide decide\nuntil 0 open open\n\
+until 1 place place\nraw 4 mark 1 0\n\
+table 3 1\n4 1 0\nend\nread 1 added 0 removed 0 found 0\nunfinished\n",
+);
+
 const SLIPPED_KEY: (&str, &str) = (
     "play remove\nbits 3\nheld 8 16 5 21\nwork 5\nwork 16\nturn 0 2\nturn 1 1000\nshow\n\
 turn 0 1\nuntil 0 decide\nrest\n",
@@ -87,9 +96,10 @@ const QUESTIONS: (&str, &str) = (
 table 3 3\n4 1 0\n5 9 1\n6 17 2\nend\nread 2 added 0 removed 0 found 1\nfinished\n",
 );
 
-const PLAYS: [(&str, &str); 10] = [
+const PLAYS: [(&str, &str); 11] = [
     HELPING,
     LATE_PROMOTION,
+    STALE_HELPER,
     SLIPPED_KEY,
     CUT_SHORT,
     ROUNDS,
@@ -189,7 +199,7 @@ fn another_text_writes_nothing(rt: HostRuntime) -> Result<(), Fail> {
 
 // The first worker removes key 9 so many times from a table that does not hold it; the others have no
 // key. The seven keys that are held have home 3, so each time the worker reads the cells from 4 on to
-// the empty cell 2, and its K-CAS names these seven: 7 + 10 * 7 + 4 steps.
+// the empty cell 2, and its K-CAS names these seven: 7 + 11 * 7 + 5 steps.
 fn many_removals(
     alloc: Global,
     count: usize,

@@ -90,10 +90,10 @@ fn a_start_is_refused_by_its_first_fault(rt: HostRuntime) -> Result<(), Fail> {
 }
 
 #[test]
-fn one_worker_adds_a_key_in_sixteen_turns(rt: HostRuntime) -> Result<(), Fail> {
+fn one_worker_adds_a_key_in_seventeen_turns(rt: HostRuntime) -> Result<(), Fail> {
     let mut player = player(&rt, &NO_KEYS, Kind::Insert, &[&[9, 9]])?;
     assert_eq!(rt; player.turn(0), Turn::Did(StepKind::Read));
-    assert_eq!(rt; turns(&mut player, 0, 14), 14);
+    assert_eq!(rt; turns(&mut player, 0, 15), 15);
     assert_eq!(rt; player.tally().read, 0);
     assert_eq!(rt; player.turn(0), Turn::Did(StepKind::Release));
     assert_eq!(rt; player.tally().added, 1);
@@ -139,7 +139,7 @@ fn a_mark_and_a_descriptor_stand_for_the_old_value(rt: HostRuntime) -> Result<()
     assert_eq!(rt; player.bits(), 3);
     assert_eq!(rt; player.raw(4), desc);
     assert_eq!(rt; shown(&player), NO_KEYS);
-    assert_eq!(rt; turns(&mut player, 1, 1000), 43);
+    assert_eq!(rt; turns(&mut player, 1, 1000), 47);
     assert_eq!(rt; shown(&player), TWO_KEYS);
     assert!(rt; !player.all_finished());
     Ok(())
@@ -184,7 +184,7 @@ fn one_of_two_workers_adds_a_key(rt: HostRuntime) -> Result<(), Fail> {
 #[test]
 fn a_round_begins_where_no_step_is_left(rt: HostRuntime) -> Result<(), Fail> {
     let rooms = Rooms {
-        entries: 2,
+        descriptors: 2,
         marks: 2,
     };
     let pieces = pieces(&rt, &[&[1, 2]])?;

@@ -1,4 +1,4 @@
-use rh_descriptor::Shape;
+use rh_descriptor::{Rooms, Shape};
 use rh_ledger::Kind;
 use rh_worker::*;
 use std::test::*;
@@ -6,9 +6,11 @@ use std::test::*;
 const SHAPE: Shape = Shape {
     bits: 3,
     workers: 2,
-    entry_room: 32,
-    mark_room: 64,
     keys: 0,
+    rooms: Rooms {
+        descriptors: 32,
+        marks: 64,
+    },
 };
 
 #[test]

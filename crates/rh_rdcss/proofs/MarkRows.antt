@@ -11,9 +11,9 @@ use Rattle.rh_descriptor.specs.Steps.Step.{places, writes}
 use Rattle.rh_helping.proofs.Knowing.{allowed}
 use Rattle.rh_helping.proofs.Marking.{newest_word, older_word, other_word}
 use Rattle.rh_steps.specs.Relies.{Knows}
-use Rattle.rh_rdcss.specs.Calls.{MayPlace}
+use Rattle.rh_rdcss.specs.Calls.{KnowsPiece}
 
-module _ (z : Shape) (v : View) (p : Piece) (old worker mark word : ℕ) (may : MayPlace z v p old) (left : v.marks_used < z.mark_room) (of_worker : v.worker ≡ worker) (of_mark : v.marks_used ≡ mark) where
+module _ (z : Shape) (v : View) (p : Piece) (old worker mark word : ℕ) (may : KnowsPiece z v p old) (left : v.marks_used < z.rooms.marks) (of_worker : v.worker ≡ worker) (of_mark : v.marks_used ≡ mark) where
   -- what is written, the newest first
   abbrev serial_written : View
   serial_written = record v { written = record { row = mark_row z 0; word = mark } ∷ v.written }

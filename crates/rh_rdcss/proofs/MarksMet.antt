@@ -1,37 +1,31 @@
 -- A mark that was met: its row and its control may be read, and it may be settled by them.
-use Rattle.std.proofs.Common.{◌≡◌, ℕ, Option, Some, None, ◌∙◌, ap, refl, sym, subst, inl, inr}
-use Rattle.rh_world.specs.World.{Control, In, Ref}
+use Rattle.std.proofs.Common.{◌≡◌, ℕ, Option, Some, None, ◌∙◌, ap, refl, sym, subst, inl, inr, Bool, true, false, cond, eqb}
+use Rattle.std.specs.Prelude.{option_map, ◌%◌, ◌^◌}
+use Rattle.rh_tagword.specs.Control.{state_in}
+use Rattle.rh_tagword.specs.declared.control.State.{State}
+use Rattle.rh_tagword.specs.declared.control.State.TheVariants.{Unused, Undecided, Succeeded, Withdrawn, Failed}
+use Rattle.rh_world.specs.World.{Control, In}
 use Rattle.rh_world.specs.World.Control.{failed, succeeded, undecided, unused, withdrawn}
 use Rattle.rh_world.specs.Notes.{Note}
-use Rattle.rh_world.specs.Notes.Note.{desc_is, found, may_demote, which_is}
-use Rattle.rh_world.specs.Sides.{Side}
-use Rattle.rh_world.specs.Moves.{control_noted, mark_noted}
+use Rattle.rh_world.specs.Notes.Note.{found, may_demote}
 use Rattle.rh_descriptor.specs.declared.shape.Shape.{Shape}
 use Rattle.rh_descriptor.specs.declared.reference.Piece.{Piece}
 use Rattle.rh_descriptor.specs.declared.reference.Ref.{Ref as Reference}
 use Rattle.rh_descriptor.specs.declared.reference.Reading.TheVariants as reading
 use Rattle.rh_descriptor.specs.View.{View}
 use Rattle.rh_descriptor.specs.View.MarkWord.{desc_word, entry_word}
-use Rattle.rh_descriptor.specs.Words.{desc_in, read_control, ref_of}
-use Rattle.rh_descriptor.specs.Steps.{Allowed, noted, with_side}
+use Rattle.rh_descriptor.specs.View.RowWord.{old_word}
+use Rattle.rh_descriptor.specs.Words.{control_of, control_said, desc_in, read_control, ref_of, serial_in}
+use Rattle.rh_descriptor.specs.Steps.{Allowed, noted}
 use Rattle.rh_descriptor.specs.Steps.Step.{reads, settles}
-use Rattle.rh_helping.specs.Settling.{HasRead, IsFound}
-use Rattle.rh_helping.proofs.Marks.{may_read_entry, may_read_old, may_read_serial, may_settle, serial_tells}
-use Rattle.rh_helping.proofs.Sides.{more_control, more_mark}
+use Rattle.rh_helping.specs.Goal.{HasReadRow}
+use Rattle.rh_helping.specs.Met.{state_said}
+use Rattle.rh_helping.specs.Settling.{HasRead, IsFound, Keeps}
+use Rattle.rh_helping.proofs.Controls.{MarkedAs, saw_mark_control}
+use Rattle.rh_helping.proofs.Marks.{found_keeps, may_read_entry, may_read_old, may_read_row, may_read_serial, may_settle, serial_tells}
+use Rattle.rh_helping.proofs.Rows.{grows_read, serial_grows, serial_tells as row_tells_so}
 use Rattle.rh_steps.specs.Relies.{Knows}
-use Rattle.rh_rdcss.specs.Calls.{ByControl, Judged, Learned, Named, ReadsOld, ReadsRow}
-
--- ---- what is known is known after more was read
-
-control_keeps : (s : Side) (x d : Ref) (c : ℕ) (k : Control) (n : Note) → In n s.notes → In n (mark_noted (control_noted s d k) x c k).notes
-control_keeps s x d c k n i = (more_mark s (control_noted s d k) x c k (more_control s d k)).notes n i
-
-met_keeps : (v next : View) (x : Reference) (p : Piece) → ((n : Note) → In n v.side.notes → In n next.side.notes) → IsFound v x p → IsFound next x p
-met_keeps v next x p keeps h = record {
-  met = keeps (found (ref_of x) p.cell) h.met;
-  of_desc = keeps (desc_is (ref_of x) (ref_of p.desc)) h.of_desc;
-  of_entry = keeps (which_is (ref_of x) p.entry) h.of_entry;
-}
+use Rattle.rh_rdcss.specs.Calls.{ByControl, ByOld, Judged, Learned, Named, ReadsOld, ReadsRow}
 
 -- ---- the row is read
 
@@ -79,38 +73,91 @@ module _ (z : Shape) (v : View) (x : Reference) (c : ℕ) (here : In (found (ref
 
 -- ---- the control is read, and where it is decided the old value
 
-module _ (z : Shape) (v : View) (x : Reference) (p : Piece) (h : IsFound v x p) where
-  abbrev control_view : Control → View
-  control_view k = with_side v (mark_noted (control_noted v.side (ref_of p.desc) k) (ref_of x) p.cell k)
+-- a control word tells a state, or that it is of a later descriptor
+told : (number word : ℕ) → (r : Option State) × (option_map control_of r ≡ state_said number word)
+told number word = by (eqb (serial_in word) number)
+  where
+    of_state : (o : Option State) → (k : State) × (control_of k ≡ control_said o)
+    of_state None = (Withdrawn, refl)
+    of_state (Some k) = (k, refl)
 
-  met_then : (k : Control) → IsFound (control_view k) x p
-  met_then k = met_keeps v (control_view k) x p (control_keeps v.side (ref_of x) (ref_of p.desc) p.cell k) h
+    by : (b : Bool) → (r : Option State) × (option_map control_of r ≡ cond {A = Option Control} b (Some (read_control word)) None)
+    by true = let q = of_state (state_in (word % 2 ^ 8)) in (Some q.0, ap Some q.1)
+    by false = (None, refl)
 
-  pub then_old : (word : ℕ) (next : View) → Learned z (reads (reading.MarkControl x p.cell p.desc)) v word next → Allowed z next (reads (reading.EntryOld p.desc p.entry))
-  then_old word next l = may_read_old z next l.knows x p (subst (λ (u : View). IsFound u x p) (sym l.view_is) (met_then (read_control word)))
+module _ (z : Shape) (v : View) (x : Reference) (p : Piece) (h : IsFound v x p) (word : ℕ) (next : View) (l : Learned z (reads (reading.MarkControl x p.cell p.desc)) v word next) where
+  its : (r : Option State) × (option_map control_of r ≡ state_said p.desc.number word)
+  its = told p.desc.number word
 
-  -- a decided one: the mark may be settled to the old value that was read
-  demotes : (k : Control) → In (may_demote (ref_of x)) (control_view k).side.notes → (to : Option ℕ) (next : View) → ReadsOld z p (control_view k) to next
-      → Allowed z next (settles (ref_of x) p.cell (ref_of p.desc) p.entry to)
-  demotes k may None next none = absurd none
-  demotes k may (Some u) next l =
-      let keeps : (n : Note) → In n (control_view k).side.notes → In n next.side.notes =
-      λ n i. subst (λ (w : View). In n w.side.notes) (sym l.view_is) (inr i) in
-      may_settle z next l.knows x p (met_keeps (control_view k) next x p keeps (met_then k)) (Some u)
-      (keeps (may_demote (ref_of x)) may, subst (λ (w : View). In (Note.old_is (ref_of p.desc) p.entry u) w.side.notes) (sym l.view_is) (inl refl))
+  control_keeps : Keeps v next
+  control_keeps = (saw_mark_control v (ref_of x) (ref_of p.desc) p.cell _ word l.finds its.0 its.1 next l.view_is).0.keeps
 
-  settles_so : (k : Control) (to : Option ℕ) (next : View) → Knows z (control_view k) → ByControl z p k (control_view k) to next
-      → Allowed z next (settles (ref_of x) p.cell (ref_of p.desc) p.entry to)
-  settles_so unused to next knows by = absurd by
-  settles_so undecided to next knows by =
+  marked : MarkedAs next (ref_of x) p.cell its.0
+  marked = (saw_mark_control v (ref_of x) (ref_of p.desc) p.cell _ word l.finds its.0 its.1 next l.view_is).2
+
+  pub met_then : IsFound next x p
+  met_then = found_keeps v next control_keeps x p h
+
+  pub then_old : Allowed z next (reads (reading.EntryOld p.desc p.entry))
+  then_old = may_read_old z next l.knows x p met_then
+
+  -- the old value is read, and then its row is seen to be of it still
+  module _ (old : ℕ) (middle : View) (m : Learned z (reads (reading.EntryOld p.desc p.entry)) next old middle) where
+    met_middle : IsFound middle x p
+    met_middle = found_keeps next middle (subst (Keeps next) (sym m.view_is) (grows_read next _ _).keeps) x p met_then
+
+    pub then_row : Allowed z middle (reads (reading.Serial p.desc))
+    then_row = may_read_row z middle m.knows x p met_middle
+
+  demotes : In (may_demote (ref_of x)) next.side.notes → (old : ℕ) (last : View) → ReadsOld z p old p.desc.number next last
+      → Allowed z last (settles (ref_of x) p.cell (ref_of p.desc) p.entry (Some old))
+  demotes may old last r =
+      let d = ref_of p.desc in
+      let said : HasReadRow r.middle d (old_word p.entry old) = subst (λ (u : View). HasReadRow u d (old_word p.entry old)) (sym r.of_old.view_is) (inl refl) in
+      let keeps : Keeps next r.middle = subst (Keeps next) (sym r.of_old.view_is) (grows_read next _ _).keeps in
+      let last_keeps : Keeps r.middle last = subst (Keeps r.middle) (sym r.of_serial.view_is) (serial_grows r.middle d p.desc.number).keeps in
+      may_settle z last r.of_serial.knows x p (found_keeps r.middle last last_keeps x p (met_middle old r.middle r.of_old)) (Some old) (
+        last_keeps.notes (may_demote (ref_of x)) (keeps.notes (may_demote (ref_of x)) may),
+        subst (λ (u : View). In (Note.old_is d p.entry old) u.side.notes) (sym r.of_serial.view_is) (row_tells_so r.middle d p.desc.number refl (old_word p.entry old) said),
+      )
+
+  by_old : In (may_demote (ref_of x)) next.side.notes → (to : Option ℕ) (last : View) → ByOld z p next (Some to) last
+      → Allowed z last (settles (ref_of x) p.cell (ref_of p.desc) p.entry to)
+  by_old may None last none = absurd none
+  by_old may (Some old) last r = demotes may old last r
+
+  settles_so : (r : Option State) → MarkedAs next (ref_of x) p.cell r → (to : Option ℕ) (last : View) → ByControl z p (option_map control_of r) next (Some to) last
+      → Allowed z last (settles (ref_of x) p.cell (ref_of p.desc) p.entry to)
+  settles_so None may to last by = absurd (let e = by.0 in cc)
+  settles_so (Some Unused) may to last by = absurd by
+  settles_so (Some Undecided) may to last by =
       subst (λ (u : View). Allowed z u (settles (ref_of x) p.cell (ref_of p.desc) p.entry to)) (sym by.1)
-      (subst (λ (o : Option ℕ). Allowed z (control_view undecided) (settles (ref_of x) p.cell (ref_of p.desc) p.entry o)) (sym by.0)
-      (may_settle z (control_view undecided) knows x p (met_then undecided) None (inl refl)))
-  settles_so succeeded to next knows by = demotes succeeded (inl refl) to next by
-  settles_so withdrawn to next knows by = demotes withdrawn (inl refl) to next by
-  settles_so (failed e who) to next knows by = demotes (failed e who) (inl refl) to next by
+      (subst (λ (o : Option ℕ). Allowed z next (settles (ref_of x) p.cell (ref_of p.desc) p.entry o)) (let e = by.0 in cc)
+      (may_settle z next l.knows x p met_then None may))
+  settles_so (Some Succeeded) may to last by = by_old may to last by
+  settles_so (Some Withdrawn) may to last by = by_old may to last by
+  settles_so (Some (Failed who)) may to last by = by_old may to last by
 
-  pub then_settle : (to : Option ℕ) (next : View) → Judged z x p v to next → Allowed z next (settles (ref_of x) p.cell (ref_of p.desc) p.entry to)
-  then_settle to next j =
-      subst (λ (u : View). Knows z u → ByControl z p (read_control j.word) u to next → Allowed z next (settles (ref_of x) p.cell (ref_of p.desc) p.entry to)) (sym j.control.view_is)
-      (settles_so (read_control j.word) to next) j.control.knows j.by
+  pub settles_next : (to : Option ℕ) (last : View) → ByControl z p (state_said p.desc.number word) next (Some to) last
+      → Allowed z last (settles (ref_of x) p.cell (ref_of p.desc) p.entry to)
+  settles_next to last by = settles_so its.0 marked to last (subst (λ (k : Option Control). ByControl z p k next (Some to) last) (sym its.1) by)
+
+pub then_settle : (z : Shape) (v : View) (x : Reference) (p : Piece) → IsFound v x p → (to : Option ℕ) (last : View) → Judged z x p v (Some to) last
+    → Allowed z last (settles (ref_of x) p.cell (ref_of p.desc) p.entry to)
+then_settle z v x p h to last j = settles_next z v x p h j.word j.between j.control to last j.by
+
+-- what the worker knows after it
+pub settle_knows : (z : Shape) (v : View) (x : Reference) (p : Piece) (to : Option ℕ) (last : View) → Judged z x p v (Some to) last → Knows z last
+settle_knows z v x p to last j = by (state_said p.desc.number j.word) to j.by
+  where
+    old_known : (to : Option ℕ) → ByOld z p j.between (Some to) last → Knows z last
+    old_known None none = absurd none
+    old_known (Some old) r = r.of_serial.knows
+
+    by : (k : Option Control) (to : Option ℕ) → ByControl z p k j.between (Some to) last → Knows z last
+    by None to h = absurd (let e = h.0 in cc)
+    by (Some unused) to h = absurd h
+    by (Some undecided) to h = subst (Knows z) (sym h.1) j.control.knows
+    by (Some succeeded) to h = old_known to h
+    by (Some withdrawn) to h = old_known to h
+    by (Some (failed e who)) to h = old_known to h

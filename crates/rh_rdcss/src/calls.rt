@@ -11,13 +11,13 @@ ghost use Rattle.rh_steps.specs.Relies.{Knows};
 ghost use Rattle.rh_rdcss.specs.Calls.{HasStatus, IsHere, IsSame, Learned, MayPlace, Places, Settles, view_of};
 
 use crate::making::make;
-use crate::placing::place_next;
+use crate::placing::{place_next, read_entry};
 use crate::seat::Seat;
 use crate::settling::{judge, read_row};
 use crate::table::Table;
-use rh_descriptor::{Ask, Piece, Reading, Ref};
-use rh_helping::control_of_word;
-use rh_tagword::Control;
+use rh_descriptor::{Ask, Reading, Ref};
+use rh_helping::state_told;
+use rh_tagword::State;
 
 /// What became of a mark that was to be placed.
 #[derive(Clone, Copy, Debug, PartialEq, Eq)]
@@ -26,6 +26,8 @@ pub enum Placed {
     Mine,
     /// This other word stood there, and the mark is left for another try.
     Found(u64),
+    /// The descriptor's row has gone on to a later one, and no mark was placed.
+    Passed,
     /// No mark was left.
     Spent,
 }
@@ -41,41 +43,49 @@ pub fn peek_cell(table: &Table, seat: &mut Seat, cell: usize) -> u64
     make(table, seat, Ask::Read(Reading::Cell(cell)))
 }
 
-/// Reads how far a descriptor is, by one load.
-pub fn status(table: &Table, seat: &mut Seat, desc: Ref) -> Control
+/// Reads how far a descriptor is, by one load. None where its worker has gone on to a later one.
+pub fn status(table: &Table, seat: &mut Seat, desc: Ref) -> Option<State>
     requires here { IsHere table.now seat.old }
     requires knows { Knows table.now.shape (view_of seat.old) }
     requires desc { IsDesc table.now.shape (ref_of desc) }
     ensures same { IsSame seat.old seat.new }
     ensures read { HasStatus table.now.shape desc (view_of seat.old) result (view_of seat.new) }
 {
-    control_of_word(make(table, seat, Ask::Read(Reading::Control(desc))))
+    let word = make(table, seat, Ask::Read(Reading::Control(desc)));
+    state_told(desc, word)
 }
 
-/// Places the worker's next mark for an entry, from this old value of it: the three words of the mark
-/// row are written, then one compare-and-swap of the cell is made.
-pub fn place(table: &Table, seat: &mut Seat, piece: Piece, old: u64) -> Placed
+/// Places the worker's next mark for an entry of a descriptor. The cell and the old value are read in
+/// the row, and then whether it is still of the descriptor; then the three words of the mark row are
+/// written, and one compare-and-swap of the cell is made.
+pub fn place(table: &Table, seat: &mut Seat, desc: Ref, entry: usize) -> Placed
     requires here { IsHere table.now seat.old }
     requires knows { Knows table.now.shape (view_of seat.old) }
-    requires may { MayPlace table.now.shape (view_of seat.old) piece old }
+    requires may { MayPlace table.now.shape (view_of seat.old) desc entry }
     ensures same { IsSame seat.old seat.new }
-    ensures places { Places table.now.shape piece old (view_of seat.old) result (view_of seat.new) }
+    ensures places { Places table.now.shape desc entry (view_of seat.old) result (view_of seat.new) }
 {
-    if seat.side.marks_used >= table.shape.mark_room {
+    if seat.side.marks_used >= table.shape.rooms.marks {
         return Placed::Spent;
     }
-    let found = place_next(table, seat, piece, old);
-    if found == old {
-        Placed::Mine
-    } else {
-        Placed::Found(found)
+    match read_entry(table, seat, desc, entry) {
+        None => Placed::Passed,
+        Some((piece, old)) => {
+            let found = place_next(table, seat, piece, old);
+            if found == old {
+                Placed::Mine
+            } else {
+                Placed::Found(found)
+            }
+        }
     }
 }
 
 /// Settles a mark that was found in this cell: reads its row, then the control of its descriptor, and
 /// puts the descriptor into the mark's place where that is undecided, else the old value. Answers the
-/// word that stood there; where it is not the mark, another worker settled it. None where the mark's
-/// row has gone on to a later mark of its worker: it was settled before that.
+/// word that stood there; where it is not the mark, another worker settled it. None, and no Settle was
+/// made, where the mark's row or that of its descriptor has gone on: then its worker settles it, if it
+/// has not.
 pub fn settle(table: &Table, seat: &mut Seat, mark: Ref, cell: usize) -> Option<u64>
     requires here { IsHere table.now seat.old }
     requires knows { Knows table.now.shape (view_of seat.old) }
@@ -84,6 +94,6 @@ pub fn settle(table: &Table, seat: &mut Seat, mark: Ref, cell: usize) -> Option<
     ensures settles { Settles table.now.shape mark cell (view_of seat.old) result (view_of seat.new) }
 {
     let piece = read_row(table, seat, mark, cell)?;
-    let old = judge(table, seat, mark, piece);
+    let old = judge(table, seat, mark, piece)?;
     Some(make(table, seat, Ask::Settle { mark, piece, old }))
 }

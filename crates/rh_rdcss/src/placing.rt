@@ -2,12 +2,37 @@
 
 ghost use Rattle.std.specs.Prelude.{◌<◌};
 ghost use Rattle.rh_steps.specs.Relies.{Knows};
-ghost use Rattle.rh_rdcss.specs.Calls.{IsHere, IsSame, MayPlace, Tried, view_of};
+ghost use Rattle.rh_rdcss.specs.Calls.{EntrySays, IsHere, IsSame, KnowsPiece, MayPlace, Tried, view_of};
 
 use crate::making::make;
 use crate::seat::Seat;
 use crate::table::Table;
-use rh_descriptor::{Ask, Part, Piece, desc_word};
+use rh_descriptor::{Ask, Part, Piece, Reading, Ref, desc_word};
+
+/// Reads the cell and the old value of an entry in the row of its descriptor, and then whether the row
+/// is still of it: if not, what was read says nothing of it.
+pub(crate) fn read_entry(
+    table: &Table,
+    seat: &mut Seat,
+    desc: Ref,
+    entry: usize,
+) -> Option<(Piece, u64)>
+    requires here { IsHere table.now seat.old }
+    requires knows { Knows table.now.shape (view_of seat.old) }
+    requires may { MayPlace table.now.shape (view_of seat.old) desc entry }
+    ensures same { IsSame seat.old seat.new }
+    ensures says { EntrySays table.now.shape desc entry result (view_of seat.old) (view_of seat.new) }
+{
+    let reading = Reading::EntryCell { desc, entry };
+    let cell = make(table, seat, Ask::Read(reading)) as usize;
+    let reading = Reading::EntryOld { desc, entry };
+    let old = make(table, seat, Ask::Read(reading));
+    let serial = make(table, seat, Ask::Read(Reading::Serial(desc)));
+    if serial != desc.number {
+        return None;
+    }
+    Some((Piece { desc, entry, cell }, old))
+}
 
 /// Places the next own mark, which is left, and answers the word that stood in the cell. The mark row
 /// is written first, since whoever meets the mark reads it, and before all else the mark's number,
@@ -15,14 +40,14 @@ use rh_descriptor::{Ask, Part, Piece, desc_word};
 pub(crate) fn place_next(table: &Table, seat: &mut Seat, piece: Piece, old: u64) -> u64
     requires here { IsHere table.now seat.old }
     requires knows { Knows table.now.shape (view_of seat.old) }
-    requires may { MayPlace table.now.shape (view_of seat.old) piece old }
-    requires left { seat.old.side.marks_used < table.now.shape.mark_room }
+    requires knows_it { KnowsPiece table.now.shape (view_of seat.old) piece old }
+    requires left { seat.old.side.marks_used < table.now.shape.rooms.marks }
     ensures same { IsSame seat.old seat.new }
     ensures tried { Tried table.now.shape piece old (view_of seat.old) result (view_of seat.new) }
 {
     let worker = seat.side.worker;
     let part = Part::MarkSerial { worker };
-    let word = seat.side.marks_used as u64;
+    let word = seat.side.marks_used;
     make(table, seat, Ask::Write { part, word });
     let part = Part::MarkDesc { worker };
     let word = desc_word(&table.shape, piece.desc);

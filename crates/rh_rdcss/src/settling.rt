@@ -12,7 +12,7 @@ use crate::making::make;
 use crate::seat::Seat;
 use crate::table::Table;
 use rh_descriptor::{Ask, Piece, Reading, Ref};
-use rh_helping::{control_of_word, named_desc};
+use rh_helping::{named_desc, state_told};
 
 /// Reads the row of a mark that was found in this cell, and then whether it is still of this mark: if
 /// not, the mark stands in no cell any more.
@@ -26,7 +26,7 @@ pub(crate) fn read_row(table: &Table, seat: &mut Seat, mark: Ref, cell: usize) -
     let named = make(table, seat, Ask::Read(Reading::MarkDesc(mark)));
     let entry = make(table, seat, Ask::Read(Reading::MarkEntry(mark))) as usize;
     let serial = make(table, seat, Ask::Read(Reading::MarkSerial(mark)));
-    if serial != mark.number as u64 {
+    if serial != mark.number {
         return None;
     }
     let Some(desc) = named_desc(named) else {
@@ -36,9 +36,10 @@ pub(crate) fn read_row(table: &Table, seat: &mut Seat, mark: Ref, cell: usize) -
     Some(Piece { desc, entry, cell })
 }
 
-/// Reads the control of the descriptor that the mark is for, and answers the old value that the mark
-/// is to be settled to, or none where it is to be settled to the descriptor.
-pub(crate) fn judge(table: &Table, seat: &mut Seat, mark: Ref, piece: Piece) -> Option<u64>
+/// Reads the control of the descriptor that the mark is for, and answers what the mark is to be settled
+/// to: the old value, or the descriptor where no value is given. None where the descriptor's row has
+/// gone on.
+pub(crate) fn judge(table: &Table, seat: &mut Seat, mark: Ref, piece: Piece) -> Option<Option<u64>>
     requires here { IsHere table.now seat.old }
     requires knows { Knows table.now.shape (view_of seat.old) }
     requires met { IsFound (view_of seat.old) mark piece }
@@ -47,10 +48,13 @@ pub(crate) fn judge(table: &Table, seat: &mut Seat, mark: Ref, piece: Piece) -> 
 {
     let Piece { desc, entry, cell } = piece;
     let reading = Reading::MarkControl { mark, cell, desc };
-    let control = control_of_word(make(table, seat, Ask::Read(reading)));
-    if !control.is_decided() {
-        return None;
+    let word = make(table, seat, Ask::Read(reading));
+    let state = state_told(desc, word)?;
+    if !state.is_decided() {
+        return Some(None);
     }
     let reading = Reading::EntryOld { desc, entry };
-    Some(make(table, seat, Ask::Read(reading)))
+    let old = make(table, seat, Ask::Read(reading));
+    let serial = make(table, seat, Ask::Read(Reading::Serial(desc)));
+    (serial == desc.number).then_some(Some(old))
 }

@@ -31,7 +31,7 @@ impl Makes for Brand {
     ghost use Rattle.rh_descriptor.specs.Steps.Step.{claims};
     ghost use Rattle.rh_descriptor.specs.View.{new_view};
 
-    ghost shape = { record { bits = 3; workers = 0; entry_room = 0; mark_room = 0; keys = 0 } };
+    ghost shape = { record { bits = 3; workers = 0; keys = 0; rooms = record { descriptors = 0; marks = 0 } } };
 
     ghost view = { new_view [] 0 };
 

@@ -5,44 +5,39 @@ use Rattle.rh_world.specs.World.{Cell, Control, In, IsOpened, IsUsed, Ref, World
 use Rattle.rh_world.specs.World.Cell.{desc, mark, plain}
 use Rattle.rh_world.specs.World.Control.{failed, succeeded, undecided, unused, withdrawn}
 use Rattle.rh_world.specs.Logical.{entry_value}
-use Rattle.rh_world.specs.Notes.{Note}
-use Rattle.rh_world.specs.Notes.Note.{decided, desc_is, found, may_demote, may_promote, new_is, old_is, size_is, target_is, which_is}
+use Rattle.rh_world.specs.Notes.{HoldsIn, Note}
+use Rattle.rh_world.specs.Notes.Note.{decided, desc_is, found, may_demote, may_promote, new_is, old_is, over, passed, size_is, target_is, which_is}
 use Rattle.rh_world.specs.Later.{Steady}
 use Rattle.rh_world.specs.Sides.{Side, close_side, is_number, paid_side, release_side}
 use Rattle.rh_world.specs.Rule.{Rule}
-use Rattle.rh_world.specs.Moves.{IsAllowed, Move, cell_world, covers, is_desc, is_mark, is_plain, release_noted, released_cell, settle_noted, settled_cell, side_after, world_after}
+use Rattle.rh_world.specs.Moves.{IsAllowed, KnowsOver, Move, cell_world, covers, is_desc, is_mark, is_plain, release_noted, released_cell, settle_noted, settled_cell, side_after, world_after}
 use Rattle.rh_world.specs.Moves.Move.{releases, settles}
 use Rattle.rh_world.proofs.StepLaws.{each_step_keeps}
 use Rattle.rh_world.proofs.StepsLater.{steps_later}
-use Rattle.rh_world.proofs.Tests.{by_cond, eqb_yes, is_number_yes}
+use Rattle.rh_world.proofs.Tests.{by_cond, eqb_yes, is_desc_yes, is_number_yes}
 use Rattle.rh_world.proofs.Updated.{ref_path, same_nat, some_injective, updated_at}
 use Rattle.rh_descriptor.specs.declared.shape.Shape.{Shape}
 use Rattle.rh_descriptor.specs.declared.shape.Part.{Part}
 use Rattle.rh_descriptor.specs.declared.shape.Part.TheVariants as part
 use Rattle.rh_descriptor.specs.Places.{IsShape, cell_count}
 use Rattle.rh_descriptor.specs.View.{OwnDesc, View}
-use Rattle.rh_descriptor.specs.Words.{IsPlain, cell_in, desc_number, mark_number, without_decider}
-use Rattle.rh_descriptor.specs.Steps.{CanRelease, CanSettle, IsReleased, MaySettle, Step, is_none, noted, release_view, settle_view, settled_word, size_in, swapped}
+use Rattle.rh_descriptor.specs.Words.{IsPlain, cell_in, desc_number, mark_number, without_entry}
+use Rattle.rh_descriptor.specs.Steps.{CanRelease, CanSettle, IsReleased, KnowsValue, MaySettle, Step, is_none, noted, release_view, settle_view, settled_word, size_in, swapped}
 use Rattle.rh_rule.specs.Erased.{erased}
 use Rattle.rh_rule.specs.Mirrors.{Cells, IsCell, Kept, cell_number, numbers_of, Mirrors}
 use Rattle.rh_rule.specs.Core.{Core}
 use Rattle.rh_rule.proofs.Deciders.{told_value}
 use Rattle.rh_rule.proofs.Erasing.{erased_either, erased_release, erased_settle}
 use Rattle.rh_rule.proofs.Frames.{word_new, word_same}
-use Rattle.rh_rule.proofs.Kept.{Grows, kept_stays, mirrors, over_grows}
-use Rattle.rh_rule.proofs.ReadsKept.{grows_none, known_decided, known_note, true_decided, true_note, work_known}
+use Rattle.rh_rule.proofs.Kept.{Grows, Over, Quiet, kept_stays, mirrors, over_grows, quiet}
+use Rattle.rh_rule.proofs.ReadsKept.{grows_none, quiet_none, known_decided, known_note, true_decided, true_note, work_known}
 use Rattle.rh_rule.proofs.Said.{cell_said_is, desc_test, mark_test}
-use Rattle.rh_rule.proofs.Touched.{controls_same, counter_same, marks_same, others_stay, own_same, placed_same, raw_same, rows_same, set_sized}
+use Rattle.rh_rule.proofs.Touched.{controls_same, counter_same, descs_same, marks_same, others_stay, own_same, placed_same, quiet_same, raw_row_same, raw_same, rows_same, set_sized}
 
 pub is_plain_yes : (k : Cell) (u : ℕ) → is_plain k u ≡ true → k ≡ plain u
 is_plain_yes (plain v) u e = ap plain (eqb_yes v u e)
 is_plain_yes (mark x) u e = absurd (true≢false (sym e))
 is_plain_yes (desc d) u e = absurd (true≢false (sym e))
-
--- what is kept of which descriptors are over
-abbrev pub Over : (who : ℕ) → List OwnDesc → Side → Type 0
-Over who opened s = (o : OwnDesc) → In o opened
-    → (s.current ≡ Some o.number) ⊎ ((r : Control) × In (decided (record { worker = who; number = o.number }) r) s.notes)
 
 module _ (z : Shape) (shape : IsShape z) (words : List ℕ) (keep : ℕ → View) (w : World) (side : ℕ → Side) (rule : Rule w side) (m : Mirrors z words keep w side) (who : ℕ) (mine : who < z.workers) where
   abbrev pub k : View
@@ -85,9 +80,9 @@ module _ (z : Shape) (shape : IsShape z) (words : List ℕ) (keep : ℕ → View
 
   -- the swap took place, and a cell alone changes
   cell_step : (mv : Move) → IsAllowed w side who mv → (c : ℕ) (n : Cell) → c < cell_count z → IsCell z n
-      → ((i : Ref) → n ≢ mark i) → world_after w who mv ≡ cell_world w c n → (x : Side) → x ≡ erased (side_after w t who mv) → Over who k.opened x
+      → ((i : Ref) → n ≢ mark i) → world_after w who mv ≡ cell_world w c n → (x : Side) → x ≡ erased (side_after w t who mv) → Over who k.opened x → Quiet k.side x
       → Core (world_after w who mv) z (set words c (cell_number n)) (updated keep who (record k { side = x }))
-  cell_step mv may c n here is unmarked e x same over =
+  cell_step mv may c n here is unmarked e x same ends calm =
       let v : World = cell_world w c n in
       let l = steady_at mv may v e in
       let p : Part = part.Cell c in
@@ -98,27 +93,29 @@ module _ (z : Shape) (shape : IsShape z) (words : List ℕ) (keep : ℕ → View
             (set_sized z words keep w side m p here (cell_number n) v l)
             (counter_same z words keep w side m p here (cell_number n) v l (λ q. cc) refl)
             (cells_new c n v here is (λ j. refl))
-            (controls_same z words keep w side m p here (cell_number n) v l (λ a b q. cc) (λ d. refl))
-            (rows_same z words keep w side m p here (cell_number n) v l (λ o. o) (λ u. refl) (λ d o. o) (λ y o. o)
-            (marks_same z words keep w side m p here (cell_number n) v l (λ o. o))
+            (controls_same z words keep w side m p here (cell_number n) v l (λ a q. cc) (λ a b q. cc) (λ d. refl) (λ u. refl))
+            (rows_same z words keep w side m p here (cell_number n) v l (λ d o. o) (λ y o. o)
+            (descs_same z words keep w side m p here (cell_number n) v l (λ o. o)) (marks_same z words keep w side m p here (cell_number n) v l (λ o. o))
             (placed_same z words keep w side m p here (cell_number n) v l (λ o. o)
             (λ j i q. ⊎_elim (λ r. absurd (unmarked i (sym r.1 ∙ q))) (λ r. sym r.1 ∙ q) (updated_at w.cell c j n))))
-            (kept_stays z words (set words c (cell_number n)) w v l t (side_after w t who mv) who k x k.raw refl refl (λ i o. o) (own_same z words keep w side m p here (cell_number n) v l who mine (λ o. o))
-            (λ r i. raw_same z words keep w side m p here (cell_number n) v l (λ o. o) r (h.raw r i)) same over h)
+            (kept_stays z words (set words c (cell_number n)) w v l t (side_after w t who mv) who k x k.control k.raw_rows k.raw refl refl (λ i o. o) (own_same z words keep w side m p here (cell_number n) v l who mine (λ o. o))
+            (λ r i. raw_row_same z words keep w side m p here (cell_number n) v l (λ o. o) r (h.raw_rows r i)) (λ r i. raw_same z words keep w side m p here (cell_number n) v l (λ o. o) r (h.raw r i)) same
+            (quiet_same z words keep w side m p here (cell_number n) v l who mine (λ o. o) x calm ends (λ d f q. q)) h)
             (others_stay z words keep w side m p here (cell_number n) v l who (λ u ne. refl) (λ u ne. refl) (λ d ne o. o) (λ u ne o. o)
-            (marks_same z words keep w side m p here (cell_number n) v l (λ o. o)));
+            (descs_same z words keep w side m p here (cell_number n) v l (λ o. o)) (marks_same z words keep w side m p here (cell_number n) v l (λ o. o)) (λ u ne d f q. q));
       }
 
   -- the swap found another word
   pub still_step : (mv : Move) → IsAllowed w side who mv → (c : ℕ) → world_after w who mv ≡ w → (x : Side)
-      → x ≡ erased (side_after w t who mv) → Over who k.opened x
+      → x ≡ erased (side_after w t who mv) → Over who k.opened x → Quiet k.side x
       → Core (world_after w who mv) z (set words c (found_in c)) (updated keep who (record k { side = x }))
-  still_step mv may c e x same over = subst (λ (y : World × List ℕ). Core y.0 z y.1 (updated keep who (record k { side = x }))) (λ i. (sym e i, sym (set-get_or words c 0) i)) record {
+  still_step mv may c e x same ends calm = subst (λ (y : World × List ℕ). Core y.0 z y.1 (updated keep who (record k { side = x }))) (λ i. (sym e i, sym (set-get_or words c 0) i)) record {
     side = updated side who (side_after w t who mv);
     rule = rule_at mv may w e;
     mirrors = mirrors z words words keep w w side m (steady_at mv may w e) who mine (side_after w t who mv) (record k { side = x })
         m.sized m.counter m.cells m.controls m.rows
-        (kept_stays z words words w w (steady_at mv may w e) t (side_after w t who mv) who k x k.raw refl refl (λ i o. o) (λ q i. refl) h.raw same over h)
+        (kept_stays z words words w w (steady_at mv may w e) t (side_after w t who mv) who k x k.control k.raw_rows k.raw refl refl (λ i o. o) (λ q i. refl) h.raw_rows h.raw same
+        (quiet z words words w w (steady_at mv may w e) t who k x h calm ends refl (λ d f q. q)) h)
         (λ u lt ne. m.kept u lt);
   }
 
@@ -149,6 +146,14 @@ module _ (z : Shape) (shape : IsShape z) (words : List ℕ) (keep : ℕ → View
   settle_over x c d e old word = over_grows k.side (settle_view k x c d e old word) who k.opened
       (grows_cond (is_number k.side.unsettled k.worker x) (settle_noted k.side d e c (is_none old && eqb word (mark_number x))) k.side (grows_settle d e c (is_none old && eqb word (mark_number x))) (grows_none k.side)) h.over
 
+  settle_quiet : (x : Ref) (c : ℕ) (d : Ref) (e : ℕ) (old : Option ℕ) (word : ℕ) → Quiet k.side (settle_view k x c d e old word)
+  settle_quiet x c d e old word = by_cond (λ (s : Side). Quiet k.side s) (is_number k.side.unsettled k.worker x)
+      (settle_noted k.side d e c (is_none old && eqb word (mark_number x))) k.side (λ yes. noted (is_none old && eqb word (mark_number x))) (λ not. quiet_none k.side)
+    where
+      noted : (b : Bool) → Quiet k.side (settle_noted k.side d e c b)
+      noted true = record { current = λ n q. q; notes = λ n i. inr i; decided = λ f r i. ⊎_elim (λ q. cc) (λ j. j) i }
+      noted false = record { current = λ n q. q; notes = λ n i. i; decided = λ f r i. i }
+
   settled_word_is : (x : Ref) (old : Option ℕ) → MaySettle k x 0 (w.mark_desc x) (w.mark_entry x) old ⊎ (old ≡ None)
       → settled_word (w.mark_desc x) old ≡ cell_number (settled_cell w x (is_none old))
   settled_word_is x None may = refl
@@ -161,7 +166,7 @@ module _ (z : Shape) (shape : IsShape z) (words : List ℕ) (keep : ℕ → View
 
   settled_is : (x : Ref) (to : Bool) → IsUsed w x → IsCell z (settled_cell w x to)
   settled_is x true u = m.controls.descs (w.mark_desc x) (rule.rows.used x u).0
-  settled_is x false u = let q = rule.rows.used x u in (m.rows.descs (w.mark_desc x) q.0).plain_olds (w.mark_entry x) q.1
+  settled_is x false u = let q = rule.rows.used x u in (m.rows.entries (w.mark_desc x) q.0).plain_olds (w.mark_entry x) q.1
 
   settled_unmarked : (x : Ref) (to : Bool) (i : Ref) → settled_cell w x to ≢ mark i
   settled_unmarked x true i e = cc
@@ -181,14 +186,15 @@ module _ (z : Shape) (shape : IsShape z) (words : List ℕ) (keep : ℕ → View
       let test : eqb (found_in c) (mark_number x) ≡ is_mark (w.cell c) x = ap (λ (n : ℕ). eqb n (mark_number x)) (m.cells.cells c can.cell) ∙ mark_test z shape (w.cell c) x (m.cells.standing c can.cell) can.mark in
       let s : Side = settle_view k x c (w.mark_desc x) (w.mark_entry x) old (found_in c) in
       let same = settle_side_is x c old (found_in c) test in
-      let over = settle_over x c (w.mark_desc x) (w.mark_entry x) old (found_in c) in
+      let ends = settle_over x c (w.mark_desc x) (w.mark_entry x) old (found_in c) in
+      let calm = settle_quiet x c (w.mark_desc x) (w.mark_entry x) old (found_in c) in
       let n : Cell = settled_cell w x (is_none old) in
       let q : ℕ → Type 0 = λ u. Core (world_after w who (settles x c (is_none old))) z (set words c u) (updated keep who (record k { side = s })) in
       subst (λ (b : Bool). q (cond b (settled_word (w.mark_desc x) old) (found_in c))) (sym test)
       (by_cond q (is_mark (w.cell c) x) (settled_word (w.mark_desc x) old) (found_in c)
       (λ yes. subst q (sym (settled_word_is x old (with_word x c old can.may)))
-      (cell_step (settles x c (is_none old)) may c n can.cell (settled_is x (is_none old) used) (settled_unmarked x (is_none old)) (ap (λ (y : Bool). cond y (cell_world w c n) w) yes) s same over))
-      (λ not. still_step (settles x c (is_none old)) may c (ap (λ (y : Bool). cond y (cell_world w c n) w) not) s same over))
+      (cell_step (settles x c (is_none old)) may c n can.cell (settled_is x (is_none old) used) (settled_unmarked x (is_none old)) (ap (λ (y : Bool). cond y (cell_world w c n) w) yes) s same ends calm))
+      (λ not. still_step (settles x c (is_none old)) may c (ap (λ (y : Bool). cond y (cell_world w c n) w) not) s same ends calm))
 
   pub keeps_settle : (x : Ref) (c : ℕ) (d : Ref) (e : ℕ) (old : Option ℕ) → CanSettle z k x c d e old
       → Core (world_after w who (settles x c (is_none old))) z (set words c (swapped (mark_number x) (settled_word d old) (found_in c))) (updated keep who (noted z k (Step.settles x c d e old) (found_in c)))
@@ -240,8 +246,8 @@ module _ (z : Shape) (shape : IsShape z) (words : List ℕ) (keep : ℕ → View
       release_mid d e c o false q = λ i. paid_side (h.side_is i) d c
 
   -- with its last entry the descriptor is closed, and it is noted as decided
-  release_over : (d : Ref) (e c : ℕ) (r : Control) → In (decided d r) k.side.notes → Over who k.opened (release_view k d e c)
-  release_over d e c r dec o i = over_release (is_number k.side.current k.worker d) refl
+  release_over : (d : Ref) (e c : ℕ) → (k.side.current ≡ Some d.number → d.worker ≡ who → (r : Control) × In (decided d r) k.side.notes) → Over who k.opened (release_view k d e c)
+  release_over d e c dec o i = over_release (is_number k.side.current k.worker d) refl
     where
       over_closing : (all : Bool) (s : Side) → s.notes ≡ k.side.notes → s.current ≡ k.side.current → d.worker ≡ who
           → k.side.current ≡ Some d.number
@@ -249,7 +255,8 @@ module _ (z : Shape) (shape : IsShape z) (words : List ℕ) (keep : ℕ → View
       over_closing false s notes current own at_work = ⊎_elim (λ q. inl (current ∙ q)) (λ q. inr (q.0, subst (λ (l : List Note). In (decided (record { worker = who; number = o.number }) q.0) l) (sym notes) q.1)) (h.over o i)
       over_closing true s notes current own at_work = ⊎_elim
           (λ q. let same : d ≡ record { worker = who; number = o.number } = ref_path d record { worker = who; number = o.number } own (some_injective _ _ (sym at_work ∙ q)) in
-          inr (r, subst (λ (l : List Note). In (decided (record { worker = who; number = o.number }) r) l) (sym notes) (subst (λ (x : Ref). In (decided x r) k.side.notes) same dec)))
+          let known = dec at_work own in
+          inr (known.0, subst (λ (l : List Note). In (decided (record { worker = who; number = o.number }) known.0) l) (sym notes) (subst (λ (x : Ref). In (decided x known.0) k.side.notes) same known.1)))
           (λ q. inr (q.0, subst (λ (l : List Note). In (decided (record { worker = who; number = o.number }) q.0) l) (sym notes) q.1)) (h.over o i)
 
       over_release : (own : Bool) → is_number k.side.current k.worker d ≡ own
@@ -261,9 +268,21 @@ module _ (z : Shape) (shape : IsShape z) (words : List ℕ) (keep : ℕ → View
           over_closing (covers (size_in k.opened d.number) (e ∷ k.side.released)) s refl refl (p.0 ∙ h.worker) p.1
       over_release false q = ⊎_elim inl inr (h.over o i)
 
-  released_value : (d : Ref) (e : ℕ) (r : Control) (value : ℕ) → without_decider (w.control d) ≡ r → IsReleased k d e r value
+  release_quiet : (d : Ref) (e c : ℕ) → Quiet k.side (release_view k d e c)
+  release_quiet d e c = by_cond (λ (s : Side). Quiet k.side s) (is_number k.side.current k.worker d) (release_noted (paid_side k.side d c) e (size_in k.opened d.number)) (paid_side k.side d c)
+      (λ yes. by_cond (λ (s : Side). Quiet k.side s) (covers (size_in k.opened d.number) (e ∷ k.side.released)) (close_side (release_side (paid_side k.side d c) e)) (release_side (paid_side k.side d c) e)
+      (λ all. record { current = λ n q. cc; notes = λ n i. i; decided = λ f r i. i }) (λ some. record { current = λ n q. q; notes = λ n i. i; decided = λ f r i. i }))
+      (λ not. record { current = λ n q. q; notes = λ n i. i; decided = λ f r i. i })
+
+  -- of an open own descriptor it is known how it was decided
+  knows_own : (d : Ref) (e : ℕ) (o : Option Control) (value : ℕ) → KnowsValue k d e o value → k.side.current ≡ Some d.number → d.worker ≡ who
+      → (r : Control) × In (decided d r) k.side.notes
+  knows_own d e (Some r) value may at own = (r, may.0)
+  knows_own d e None value may at own = absurd (may.3 (own ∙ sym h.worker) at)
+
+  released_by : (d : Ref) (e : ℕ) (r : Control) (value : ℕ) → without_entry (w.control d) ≡ r → IsReleased k d e r value
       → value ≡ entry_value (w.control d) (w.old d e) (w.new d e)
-  released_value d e r value is may =
+  released_by d e r value is may =
       value_of r may ∙ ap (λ (x : Control). entry_value x (w.old d e) (w.new d e)) (sym is) ∙ told_value (w.control d) (w.old d e) (w.new d e)
     where
       value_of : (r : Control) → IsReleased k d e r value → value ≡ entry_value r (w.old d e) (w.new d e)
@@ -280,31 +299,50 @@ module _ (z : Shape) (shape : IsShape z) (words : List ℕ) (keep : ℕ → View
   plain_value withdrawn a b p q = p
   plain_value (failed e by) a b p q = p
 
-  release_here : (d : Ref) (e : ℕ) (r : Control) (value : ℕ) → CanRelease z k d e (w.target d e) r value
+  -- how the world has it released, and which value its cell gets
+  released_so : (d : Ref) (e : ℕ) (o : Option Control) (value : ℕ) → IsOpened (w.control d) → KnowsValue k d e o value → KnowsOver t d
+  released_so d e (Some r) value opened may = let known = known_decided z shape words keep w side rule m who mine d r may.0 in inl (known.0, known.2)
+  released_so d e None value opened may = inr (known_note z shape words keep w side rule m who mine (over d) tt may.0, known_note z shape words keep w side rule m who mine (passed d) tt may.1)
+
+  released_word : (d : Ref) (e : ℕ) (o : Option Control) (value : ℕ) → e < w.size d → KnowsValue k d e o value → w.cell (w.target d e) ≡ desc d
+      → value ≡ cell_number (released_cell w d e)
+  released_word d e (Some r) value lt may here = released_by d e r value (true_decided z shape words keep w side rule m who mine d r may.0).1 may.1
+  released_word d e None value lt may here =
+      let passes = rule.acts.notes who (passed d) (known_note z shape words keep w side rule m who mine (passed d) tt may.1) refl in
+      let old : w.old d e ≡ value = (true_note z shape words keep w side rule m who mine (old_is d e value) tt refl may.2).1 in
+      sym old ∙ either (w.control d) refl passes
+    where
+      either : (c : Control) → w.control d ≡ c → HoldsIn w (passed d) → w.old d e ≡ entry_value (w.control d) (w.old d e) (w.new d e)
+      either unused q p = ap (λ (c : Control). entry_value c (w.old d e) (w.new d e)) (sym q)
+      either undecided q p = ap (λ (c : Control). entry_value c (w.old d e) (w.new d e)) (sym q)
+      either succeeded q p = absurd (p.1 q (w.target d e) here)
+      either withdrawn q p = ap (λ (c : Control). entry_value c (w.old d e) (w.new d e)) (sym q)
+      either (failed f by) q p = ap (λ (c : Control). entry_value c (w.old d e) (w.new d e)) (sym q)
+
+  release_here : (d : Ref) (e : ℕ) (o : Option Control) (value : ℕ) → CanRelease z k d e (w.target d e) o value
       → Core (world_after w who (releases d e)) z (set words (w.target d e) (swapped (desc_number d) value (found_in (w.target d e))))
       (updated keep who (record k { side = release_view k d e (w.target d e) }))
-  release_here d e r value can =
+  release_here d e o value can =
       let c : ℕ = w.target d e in
       let work = work_known z shape words keep w side rule m who mine d e can.work in
-      let dec = true_decided z shape words keep w side rule m who mine d r can.decided in
-      let known = known_decided z shape words keep w side rule m who mine d r can.decided in
-      let may : IsAllowed w side who (releases d e) = (record { size = can.work.size; known = known_note z shape words keep w side rule m who mine (size_is d can.work.size) tt can.work.known; within = can.work.within }, inl (known.0, known.2)) in
+      let may : IsAllowed w side who (releases d e) = (record { size = can.work.size; known = known_note z shape words keep w side rule m who mine (size_is d can.work.size) tt can.work.known; within = can.work.within }, released_so d e o value work.0 can.knows_value) in
       let test : eqb (found_in c) (desc_number d) ≡ is_desc (w.cell c) d = ap (λ (n : ℕ). eqb n (desc_number d)) (m.cells.cells c can.cell) ∙ desc_test z shape (w.cell c) d (m.cells.standing c can.cell) can.desc in
       let s : Side = release_view k d e c in
       let same = release_side_is d e work.0 in
-      let over = release_over d e c r can.decided in
+      let ends = release_over d e c (knows_own d e o value can.knows_value) in
+      let calm = release_quiet d e c in
       let n : Cell = released_cell w d e in
-      let row = m.rows.descs d work.0 in
+      let row = m.rows.entries d work.0 in
       let is : IsCell z n = plain_value (w.control d) (w.old d e) (w.new d e) (row.plain_olds e work.1) (row.plain_news e work.1) in
       let q : ℕ → Type 0 = λ u. Core (world_after w who (releases d e)) z (set words c u) (updated keep who (record k { side = s })) in
       subst (λ (b : Bool). q (cond b value (found_in c))) (sym test)
       (by_cond q (is_desc (w.cell c) d) value (found_in c)
-      (λ yes. subst q (sym (released_value d e r value dec.1 can.knows_value))
-      (cell_step (releases d e) may c n can.cell is (λ i q. cc) (ap (λ (y : Bool). cond y (cell_world w c n) w) yes) s same over))
-      (λ not. still_step (releases d e) may c (ap (λ (y : Bool). cond y (cell_world w c n) w) not) s same over))
+      (λ yes. subst q (sym (released_word d e o value work.1 can.knows_value (is_desc_yes (w.cell c) d yes)))
+      (cell_step (releases d e) may c n can.cell is (λ i q. cc) (ap (λ (y : Bool). cond y (cell_world w c n) w) yes) s same ends calm))
+      (λ not. still_step (releases d e) may c (ap (λ (y : Bool). cond y (cell_world w c n) w) not) s same ends calm))
 
-  pub keeps_release : (d : Ref) (e c : ℕ) (r : Control) (value : ℕ) → CanRelease z k d e c r value
-      → Core (world_after w who (releases d e)) z (set words c (swapped (desc_number d) value (found_in c))) (updated keep who (noted z k (Step.releases d e c r value) (found_in c)))
-  keeps_release d e c r value can =
+  pub keeps_release : (d : Ref) (e c : ℕ) (o : Option Control) (value : ℕ) → CanRelease z k d e c o value
+      → Core (world_after w who (releases d e)) z (set words c (swapped (desc_number d) value (found_in c))) (updated keep who (noted z k (Step.releases d e c o value) (found_in c)))
+  keeps_release d e c o value can =
       let p : w.target d e ≡ c = (true_note z shape words keep w side rule m who mine (target_is d e c) tt refl can.knows_cell).1 in
-      subst (λ (y : ℕ). CanRelease z k d e y r value → Core (world_after w who (releases d e)) z (set words y (swapped (desc_number d) value (found_in y))) (updated keep who (noted z k (Step.releases d e y r value) (found_in y)))) p (release_here d e r value) can
+      subst (λ (y : ℕ). CanRelease z k d e y o value → Core (world_after w who (releases d e)) z (set words y (swapped (desc_number d) value (found_in y))) (updated keep who (noted z k (Step.releases d e y o value) (found_in y)))) p (release_here d e o value) can

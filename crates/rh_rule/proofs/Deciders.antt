@@ -1,69 +1,121 @@
--- A control without its decider, as its word tells it.
-use Rattle.std.proofs.Common.{◌≡◌, ℕ, refl, sym}
+-- A control without the entry at which it failed, as its word tells it.
+use Rattle.std.proofs.Common.{◌≡◌, ℕ, ◌<◌, ◌∙◌, refl, subst, sym}
+use Rattle.rh_tagword.specs.Control.{IsState}
 use Rattle.rh_world.specs.World.{Control, IsDecided}
 use Rattle.rh_world.specs.World.Control.{failed, succeeded, undecided, unused, withdrawn}
 use Rattle.rh_world.specs.Logical.{entry_value}
 use Rattle.rh_world.specs.Acts.{is_success}
 use Rattle.rh_descriptor.specs.declared.shape.Shape.{Shape}
 use Rattle.rh_descriptor.specs.View.{View}
-use Rattle.rh_descriptor.specs.Words.{decided_by, number_of, without_decider}
+use Rattle.rh_descriptor.specs.Words.{number_of, state_of, with_entry, without_entry}
 use Rattle.rh_descriptor.specs.Steps.{IsResult}
 
-pub told_decided : (k : Control) → IsDecided k → IsDecided (without_decider k)
+pub told_decided : (k : Control) → IsDecided k → IsDecided (without_entry k)
 told_decided unused h = h
 told_decided undecided h = h
 told_decided succeeded h = h
 told_decided withdrawn h = h
 told_decided (failed e by) h = h
 
-pub told_unused : (k : Control) → without_decider k ≡ unused → k ≡ unused
+pub told_unused : (k : Control) → without_entry k ≡ unused → k ≡ unused
 told_unused unused e = refl
 told_unused undecided e = cc
 told_unused succeeded e = cc
 told_unused withdrawn e = cc
 told_unused (failed i by) e = cc
 
-pub told_withdrawn : (k : Control) → without_decider k ≡ withdrawn → k ≡ withdrawn
+pub told_withdrawn : (k : Control) → without_entry k ≡ withdrawn → k ≡ withdrawn
 told_withdrawn unused e = cc
 told_withdrawn undecided e = cc
 told_withdrawn succeeded e = cc
 told_withdrawn withdrawn e = refl
 told_withdrawn (failed i by) e = cc
 
-pub told_succeeded : (k : Control) → without_decider k ≡ succeeded → k ≡ succeeded
+pub told_succeeded : (k : Control) → without_entry k ≡ succeeded → k ≡ succeeded
 told_succeeded unused e = cc
 told_succeeded undecided e = cc
 told_succeeded succeeded e = refl
 told_succeeded withdrawn e = cc
 told_succeeded (failed i by) e = cc
 
-pub told_success : (k : Control) → is_success (without_decider k) ≡ is_success k
+pub told_success : (k : Control) → is_success (without_entry k) ≡ is_success k
 told_success unused = refl
 told_success undecided = refl
 told_success succeeded = refl
 told_success withdrawn = refl
 told_success (failed e by) = refl
 
--- the value that counts does not ask who decided
-pub told_value : (k : Control) (old new : ℕ) → entry_value (without_decider k) old new ≡ entry_value k old new
+-- the value that counts does not ask where it failed
+pub told_value : (k : Control) (old new : ℕ) → entry_value (without_entry k) old new ≡ entry_value k old new
 told_value unused old new = refl
 told_value undecided old new = refl
 told_value succeeded old new = refl
 told_value withdrawn old new = refl
 told_value (failed e by) old new = refl
 
+-- its word is the same
+pub told_number : (n : ℕ) (k : Control) → number_of n (without_entry k) ≡ number_of n k
+told_number n unused = refl
+told_number n undecided = refl
+told_number n succeeded = refl
+told_number n withdrawn = refl
+told_number n (failed e by) = refl
+
+pub told_undecided : (k : Control) → without_entry k ≡ undecided → k ≡ undecided
+told_undecided unused e = cc
+told_undecided undecided e = refl
+told_undecided succeeded e = cc
+told_undecided withdrawn e = cc
+told_undecided (failed i by) e = cc
+
+pub told_failed : (k : Control) (e by : ℕ) → without_entry k ≡ failed e by → (i : ℕ) × (k ≡ failed i by)
+told_failed unused e by q = cc
+told_failed undecided e by q = cc
+told_failed succeeded e by q = cc
+told_failed withdrawn e by q = cc
+told_failed (failed i b) e by q = (i, (let same : b ≡ by = cc in λ t. failed i (same t)))
+
+pub told_twice : (k : Control) → without_entry (without_entry k) ≡ without_entry k
+told_twice unused = refl
+told_twice undecided = refl
+told_twice succeeded = refl
+told_twice withdrawn = refl
+told_twice (failed e by) = refl
+
 -- ---- a control that a worker sets
 
-pub set_number : (who : ℕ) (k : Control) → number_of (decided_by who k) ≡ number_of k
-set_number who unused = refl
-set_number who undecided = refl
-set_number who succeeded = refl
-set_number who withdrawn = refl
-set_number who (failed e by) = refl
+pub set_number : (n e : ℕ) (k : Control) → number_of n (with_entry e k) ≡ number_of n k
+set_number n e unused = refl
+set_number n e undecided = refl
+set_number n e succeeded = refl
+set_number n e withdrawn = refl
+set_number n e (failed i by) = refl
 
-pub set_told : (z : Shape) (v : View) (who : ℕ) (k : Control) → IsResult z v k → without_decider (decided_by who k) ≡ k
-set_told z v who unused h = absurd h
-set_told z v who undecided h = absurd h
-set_told z v who succeeded h = refl
-set_told z v who withdrawn h = refl
-set_told z v who (failed e by) h = λ i. failed e (sym h.0 i)
+pub set_told : (z : Shape) (v : View) (e : ℕ) (k : Control) → IsResult z v k → without_entry (with_entry e k) ≡ k
+set_told z v e unused h = absurd h
+set_told z v e undecided h = absurd h
+set_told z v e succeeded h = refl
+set_told z v e withdrawn h = refl
+set_told z v e (failed i by) h = λ t. failed (sym h.0 t) by
+
+pub set_decided : (z : Shape) (v : View) (e : ℕ) (k : Control) → IsResult z v k → IsDecided (with_entry e k)
+set_decided z v e unused h = absurd h
+set_decided z v e undecided h = absurd h
+set_decided z v e succeeded h = tt
+set_decided z v e withdrawn h = tt
+set_decided z v e (failed i by) h = tt
+
+-- a set control that failed has this entry, and names its worker
+pub set_failed : (z : Shape) (v : View) (e : ℕ) (k : Control) → IsResult z v k → (f by : ℕ) → with_entry e k ≡ failed f by → (e ≡ f) × (by ≡ v.worker)
+set_failed z v e unused h f by q = absurd h
+set_failed z v e undecided h f by q = absurd h
+set_failed z v e succeeded h f by q = cc
+set_failed z v e withdrawn h f by q = cc
+set_failed z v e (failed i b) h f by q = let same : b ≡ by = cc in ((let is : e ≡ f = cc in is), sym same ∙ h.1)
+
+pub set_state : (z : Shape) (v : View) (e : ℕ) (k : Control) → v.worker < 64 → IsResult z v k → IsState (state_of (with_entry e k))
+set_state z v e unused few h = absurd h
+set_state z v e undecided few h = absurd h
+set_state z v e succeeded few h = tt
+set_state z v e withdrawn few h = tt
+set_state z v e (failed i by) few h = subst (λ (n : ℕ). n < 64) (sym h.1) few

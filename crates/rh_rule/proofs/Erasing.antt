@@ -1,4 +1,4 @@
--- Without the numbers of acts and without deciders the notes are the same, and so is what a step notes.
+-- Without the numbers of acts and the entries of failures the notes are the same, and so is what a step notes.
 use Rattle.std.proofs.Common.{◌≡◌, ℕ, zero, suc, eqb, Bool, true, false, cond, List, [], ◌∷◌, map, sym, refl, ap, subst, inl, inr, ⊎_elim, Some, None, Option}
 use Rattle.rh_world.specs.World.{Cell, Control, In, Ref, is_ref}
 use Rattle.rh_world.specs.World.Cell.{desc, mark, plain}
@@ -7,10 +7,10 @@ use Rattle.rh_world.specs.Notes.{Note}
 use Rattle.rh_world.specs.Notes.Note.{decided, desc_is, failed_at, found, held, known, may_demote, may_promote, mismatch, new_is, old_is, over, passed, size_is, target_is, which_is}
 use Rattle.rh_world.specs.Sides.{Side, close_side, note_side, release_side, settle_side}
 use Rattle.rh_world.specs.Moves.{Entries, IsRowNote, cell_noted, control_noted, covers, mark_noted, note_all, note_entries, place_noted, placed_noted, release_noted, settle_noted}
-use Rattle.rh_descriptor.specs.Words.{without_decider}
+use Rattle.rh_descriptor.specs.Words.{without_entry}
 use Rattle.rh_rule.specs.Erased.{erased, erased_note}
 
--- a note that has no number of acts and no decider
+-- a note that has no number of acts and no entry of a failure
 abbrev pub IsWhole : Note → Type 0
 IsWhole (known d) = Unit {0}
 IsWhole (size_is d n) = Unit {0}
@@ -81,13 +81,13 @@ pub in_mismatch : (d : Ref) (e j : ℕ) (s : Side) → In (mismatch d e j) (eras
     → (k : ℕ) × In (mismatch d e k) s.notes
 in_mismatch d e j s i = in_mismatches d e j s.notes i
 
-decided_of : (m : Note) (d : Ref) (k : Control) → decided d k ≡ erased_note m → (j : Control) × (without_decider j ≡ k) × (decided d j ≡ m)
+decided_of : (m : Note) (d : Ref) (k : Control) → decided d k ≡ erased_note m → (j : Control) × (without_entry j ≡ k) × (decided d j ≡ m)
 decided_of (known f) d k q = cc
 decided_of (size_is f n) d k q = cc
 decided_of (target_is f i c) d k q = cc
 decided_of (old_is f i u) d k q = cc
 decided_of (new_is f i u) d k q = cc
-decided_of (decided f j) d k q = (j, (let b : without_decider j ≡ k = cc in b), (let a : d ≡ f = cc in λ t. decided (a t) j))
+decided_of (decided f j) d k q = (j, (let b : without_entry j ≡ k = cc in b), (let a : d ≡ f = cc in λ t. decided (a t) j))
 decided_of (over f) d k q = cc
 decided_of (passed f) d k q = cc
 decided_of (failed_at f i) d k q = cc
@@ -100,12 +100,12 @@ decided_of (held f i) d k q = cc
 decided_of (mismatch f i n) d k q = cc
 
 in_results : (d : Ref) (k : Control) (l : List Note) → In (decided d k) (map erased_note l)
-    → (j : Control) × (without_decider j ≡ k) × In (decided d j) l
+    → (j : Control) × (without_entry j ≡ k) × In (decided d j) l
 in_results d k [] i = absurd i
 in_results d k (m ∷ l) i = ⊎_elim (λ q. let t = decided_of m d k q in (t.0, t.1, inl t.2)) (λ h. let t = in_results d k l h in (t.0, t.1, inr t.2)) i
 
 pub in_decided : (d : Ref) (k : Control) (s : Side) → In (decided d k) (erased s).notes
-    → (j : Control) × (without_decider j ≡ k) × In (decided d j) s.notes
+    → (j : Control) × (without_entry j ≡ k) × In (decided d j) s.notes
 in_decided d k s i = in_results d k s.notes i
 
 -- ---- what is noted
@@ -125,14 +125,14 @@ erased_cell s c (plain u) (Some p) acts next = refl
 erased_cell s c (mark x) q acts next = refl
 erased_cell s c (desc d) q acts next = refl
 
-pub erased_control : (s : Side) (d : Ref) (k : Control) → control_noted (erased s) d (without_decider k) ≡ erased (control_noted s d k)
+pub erased_control : (s : Side) (d : Ref) (k : Control) → control_noted (erased s) d (without_entry k) ≡ erased (control_noted s d k)
 erased_control s d unused = refl
 erased_control s d undecided = refl
 erased_control s d succeeded = refl
 erased_control s d withdrawn = refl
 erased_control s d (failed e by) = refl
 
-pub erased_mark : (s : Side) (x : Ref) (c : ℕ) (k : Control) → mark_noted (erased s) x c (without_decider k) ≡ erased (mark_noted s x c k)
+pub erased_mark : (s : Side) (x : Ref) (c : ℕ) (k : Control) → mark_noted (erased s) x c (without_entry k) ≡ erased (mark_noted s x c k)
 erased_mark s x c unused = refl
 erased_mark s x c undecided = refl
 erased_mark s x c succeeded = refl

@@ -4,7 +4,7 @@ use Rattle.std.proofs.lemmas.Nat.{mul-add-lt}
 use Rattle.rh_descriptor.specs.declared.shape.Shape.{Shape}
 use Rattle.rh_descriptor.specs.declared.shape.Part.{Part}
 use Rattle.rh_descriptor.specs.declared.shape.Part.TheVariants as part
-use Rattle.rh_descriptor.specs.Places.{IsPart, entry_row, mark_row, place_of, row_count, row_place, word_count}
+use Rattle.rh_descriptor.specs.Places.{IsPart, cell_count, entry_row, mark_row, note_row, place_of, row_count, row_place, word_count}
 use Rattle.rh_descriptor.proofs.PlaceLemmas.{entry_inside, same_part}
 use Rattle.rh_rule.specs.Mirrors.{word_at}
 
@@ -12,23 +12,22 @@ module _ (z : Shape) where
   row_within : (worker row : ℕ) → worker < z.workers → row < row_count z → row_place z worker row < word_count z
   row_within worker row mine inside = let h = mul-add-lt worker (row_count z) row z.workers mine inside in omega (arith, h)
 
-  entry_within : (worker entry word : ℕ) → (worker < z.workers) × (entry < z.entry_room) → word < 5
+  entry_within : (worker entry word : ℕ) → (worker < z.workers) × (entry < cell_count z) → word < 3
       → row_place z worker (entry_row entry word) < word_count z
-  entry_within worker entry word here below = row_within worker (entry_row entry word) here.0 (entry_inside z.entry_room entry word here.1 below)
-
-  mark_within : (worker word : ℕ) → worker < z.workers → word < 3 → row_place z worker (mark_row z word) < word_count z
-  mark_within worker word here below = row_within worker (mark_row z word) here (omega (arith, below))
+  entry_within worker entry word here below = row_within worker (entry_row entry word) here.0 (entry_inside (cell_count z) entry word z.workers here.1 below)
 
   pub place_within : (p : Part) → IsPart z p → place_of z p < word_count z
   place_within (part.Cell c) here = omega arith
-  place_within (part.Control worker entry) here = entry_within worker entry 0 here (omega arith)
-  place_within (part.Length worker entry) here = entry_within worker entry 1 here (omega arith)
-  place_within (part.EntryCell worker entry) here = entry_within worker entry 2 here (omega arith)
-  place_within (part.EntryOld worker entry) here = entry_within worker entry 3 here (omega arith)
-  place_within (part.EntryNew worker entry) here = entry_within worker entry 4 here (omega arith)
-  place_within (part.MarkSerial worker) here = mark_within worker 0 here (omega arith)
-  place_within (part.MarkDesc worker) here = mark_within worker 1 here (omega arith)
-  place_within (part.MarkEntry worker) here = mark_within worker 2 here (omega arith)
+  place_within (part.Control worker) here = row_within worker 0 here (omega arith)
+  place_within (part.Serial worker) here = row_within worker 1 here (omega arith)
+  place_within (part.Length worker) here = row_within worker 2 here (omega arith)
+  place_within (part.EntryCell worker entry) here = entry_within worker entry 0 here (omega arith)
+  place_within (part.EntryOld worker entry) here = entry_within worker entry 1 here (omega arith)
+  place_within (part.EntryNew worker entry) here = entry_within worker entry 2 here (omega arith)
+  place_within (part.MarkSerial worker) here = row_within worker (mark_row z 0) here (omega arith)
+  place_within (part.MarkDesc worker) here = row_within worker (mark_row z 1) here (omega arith)
+  place_within (part.MarkEntry worker) here = row_within worker (mark_row z 2) here (omega arith)
+  place_within (part.Note worker owner) here = row_within worker (note_row z owner) here.0 (let h = here.1 in omega (arith, h))
   place_within part.Counter here = omega arith
 
   module _ (words : List ℕ) (p : Part) (n : ℕ) (here : IsPart z p) where

@@ -1,8 +1,9 @@
 -- Places.
 use Rattle.std.proofs.Common.{◌≡◌, ◌≢◌, ℕ, suc, eqb, ◌<◌, ◌⊎◌, Bool, true, false, cond, List, get_or, set, sym, refl, ap, ◌∙◌, subst, inl, inr, ⊎_elim, arith}
-use Rattle.rh_world.specs.World.{Cell, IsOpened, IsUsed, Ref, World, is_ref, updated}
+use Rattle.rh_world.specs.World.{Cell, Control, IsOpened, IsUsed, Ref, World, is_ref, updated}
 use Rattle.rh_world.specs.World.Cell.{desc, mark, plain}
-use Rattle.rh_world.specs.Notes.Note.{found, held, known, mismatch, old_is, size_is, target_is}
+use Rattle.rh_world.specs.Notes.{Note}
+use Rattle.rh_world.specs.Notes.Note.{decided, found, held, known, mismatch, old_is, size_is, target_is}
 use Rattle.rh_world.specs.Later.{Steady}
 use Rattle.rh_world.specs.Sides.{Side, note_side}
 use Rattle.rh_world.specs.Rule.{Rule}
@@ -20,12 +21,12 @@ use Rattle.rh_rule.specs.Erased.{erased}
 use Rattle.rh_rule.specs.Mirrors.{IsCell, Kept, MarkRow, Stands, Mirrors}
 use Rattle.rh_rule.specs.Core.{Core}
 use Rattle.rh_rule.proofs.Frames.{word_same}
-use Rattle.rh_rule.proofs.CellsKept.{Over, cell_found, cells_new, rule_at, steady_at, still_step}
+use Rattle.rh_rule.proofs.CellsKept.{cell_found, cells_new, rule_at, steady_at, still_step}
 use Rattle.rh_rule.proofs.Erasing.{erased_place}
-use Rattle.rh_rule.proofs.Kept.{Grows, desc_row_stays, mark_row_stays, mirrors, numbers_within, over_grows}
+use Rattle.rh_rule.proofs.Kept.{Grows, Over, Quiet, desc_row_stays, entries_stay, mark_row_stays, mirrors, over_grows}
 use Rattle.rh_rule.proofs.ReadsKept.{grows_note, known_note, true_note, work_known}
 use Rattle.rh_rule.proofs.Said.{plain_test}
-use Rattle.rh_rule.proofs.Touched.{controls_same, counter_same, fixed_same, mark_word_same, marks_same, others_stay, own_same, raw_same, set_sized}
+use Rattle.rh_rule.proofs.Touched.{controls_same, counter_same, descs_same, mark_word_same, marks_same, others_stay, own_same, quiet_same, raw_row_same, raw_same, set_sized}
 
 grows_place : (s : Side) (x d : Ref) (e c old : ℕ) (n : Cell) → Grows s (place_noted s x d e c old n 0)
 grows_place s x d e c old (plain u) = either (eqb u old)
@@ -39,6 +40,26 @@ grows_place s x d e c old (desc f) = either (is_ref f d)
     either : (b : Bool) → Grows s (cond b (note_side s (held d e)) (note_side s (known f)))
     either true = grows_note s (held d e)
     either false = grows_note s (known f)
+
+quiet_note : (s : Side) (n : Note) → ((f : Ref) (r : Control) → decided f r ≡ n → ⊥) → Quiet s (note_side s n)
+quiet_note s n other = record { current = λ i q. q; notes = λ m i. inr i; decided = λ f r i. ⊎_elim (λ q. absurd (other f r q)) (λ j. j) i }
+
+quiet_place : (s : Side) (x d : Ref) (e c old : ℕ) (n : Cell) → Quiet s (place_noted s x d e c old n 0)
+quiet_place s x d e c old (plain u) = either (eqb u old)
+  where
+    either : (b : Bool) → Quiet s (cond b (placed_noted s x d e c) (note_side s (mismatch d e 0)))
+    either true = record {
+      current = λ i q. q;
+      notes = λ m i. inr (inr (inr i));
+      decided = λ f r i. ⊎_elim (λ q. cc) (λ j. ⊎_elim (λ q. cc) (λ j. ⊎_elim (λ q. cc) (λ j. j) j) j) i;
+    }
+    either false = quiet_note s (mismatch d e 0) (λ f r q. cc)
+quiet_place s x d e c old (mark y) = quiet_note s (found y c) (λ f r q. cc)
+quiet_place s x d e c old (desc f) = either (is_ref f d)
+  where
+    either : (b : Bool) → Quiet s (cond b (note_side s (held d e)) (note_side s (known f)))
+    either true = quiet_note s (held d e) (λ g r q. cc)
+    either false = quiet_note s (known f) (λ g r q. cc)
 
 module _ (z : Shape) (shape : IsShape z) (words : List ℕ) (keep : ℕ → View) (w : World) (side : ℕ → Side) (rule : Rule w side) (m : Mirrors z words keep w side) (who : ℕ) (mine : who < z.workers) (d : Ref) (e : ℕ) (can : CanPlace z (keep who) d e (w.target d e) (w.old d e)) where
   abbrev k : View
@@ -79,6 +100,9 @@ module _ (z : Shape) (shape : IsShape z) (words : List ℕ) (keep : ℕ → View
   over : Over who k.opened (place_noted k.side (own_mark k) d e c old (cell_in word) 0)
   over = over_grows k.side (place_noted k.side (own_mark k) d e c old (cell_in word) 0) who k.opened (grows_place k.side (own_mark k) d e c old (cell_in word)) h.over
 
+  calm : Quiet k.side (place_noted k.side (own_mark k) d e c old (cell_in word) 0)
+  calm = quiet_place k.side (own_mark k) d e c old (cell_in word)
+
   abbrev v : World
   v = place_world w x d e
 
@@ -100,7 +124,7 @@ module _ (z : Shape) (shape : IsShape z) (words : List ℕ) (keep : ℕ → View
   p = part.Cell c
 
   is_mark : IsMark z x
-  is_mark = (mine, subst (λ (n : ℕ). n < z.mark_room) h.marks_used can.room)
+  is_mark = (mine, subst (λ (n : ℕ). n < z.rooms.marks) h.marks_used can.room)
 
   -- the row of the mark was written before
   stands : Stands z then x
@@ -120,8 +144,9 @@ module _ (z : Shape) (shape : IsShape z) (words : List ℕ) (keep : ℕ → View
       let s : Side = side_after w t who (places d e) in
       let k' : View = record k { side = place_noted k.side (own_mark k) d e c old (cell_in word) 0; marks_used = suc k.marks_used } in
       let n : ℕ = mark_number x in
-      let room : k.marks_used < z.mark_room = can.room in
+      let room : k.marks_used < z.rooms.marks = can.room in
       let used : k.marks_used ≡ w.marks_used who = h.marks_used in
+      let meets = quiet_same z words keep w side m p can.cell n v l who mine (λ o. o) (place_noted k.side (own_mark k) d e c old (cell_in word) 0) calm over (λ f i q. q) in
       subst (λ (y : World). Core y z then (updated keep who k')) (sym same) record {
         side = updated side who s;
         rule = rule_at z shape words keep w side rule m who mine (places d e) may v same;
@@ -129,10 +154,10 @@ module _ (z : Shape) (shape : IsShape z) (words : List ℕ) (keep : ℕ → View
             (set_sized z words keep w side m p can.cell n v l)
             (counter_same z words keep w side m p can.cell n v l (λ q. cc) refl)
             (cells_new z shape words keep w side rule m who mine c (mark x) v can.cell is_mark (λ j. refl))
-            (controls_same z words keep w side m p can.cell n v l (λ a b q. cc) (λ f. refl))
+            (controls_same z words keep w side m p can.cell n v l (λ a q. cc) (λ a b q. cc) (λ f. refl) (λ u. refl))
             record {
-              descs = λ f o. let here = m.controls.descs f o in
-                  desc_row_stays z words then w v l f here o (numbers_within z words keep w side m f.worker here.0) (omega arith) (fixed_same z words keep w side m p can.cell n v l (λ i. i)) (m.rows.descs f o);
+              entries = λ f o. entries_stay z words then w v l f o (m.rows.entries f o);
+              descs = λ f o. desc_row_stays z words then w v l (descs_same z words keep w side m p can.cell n v l (λ o. o)) m.rows f (m.controls.descs f o) o;
               are_marks = λ y u. ⊎_elim (λ (q : y ≡ x). subst (λ (i : Ref). IsMark z i) (sym q) is_mark) (m.rows.are_marks y) (used_or y u);
               marks = λ y u here. ⊎_elim (λ (q : y ≡ x). subst (λ (i : Ref). MarkRow z then v i) (sym q) new_row)
                   (λ (u : IsUsed w y). mark_row_stays z words then w v l (marks_same z words keep w side m p can.cell n v l (λ o. o)) m.rows y u here) (used_or y u);
@@ -150,22 +175,27 @@ module _ (z : Shape) (shape : IsShape z) (words : List ℕ) (keep : ℕ → View
               side_is = side_is;
               opening = h.opening;
               next_number = h.next_number;
-              entry_room = h.entry_room;
+              desc_room = h.desc_room;
+              no_control = meets.no_control;
+              control = meets.control;
+              open_row = meets.open_row;
+              failures = meets.failures;
               marks_used = ap suc used ∙ sym marks_now;
               mark_room = omega arith;
               written = λ q i. own_same z words keep w side m p can.cell n v l who mine (λ o. o) q i ∙ h.written q i;
+              raw_rows = λ r i. raw_row_same z words keep w side m p can.cell n v l (λ o. o) r (h.raw_rows r i);
               raw = λ r i. raw_same z words keep w side m p can.cell n v l (λ o. o) r (h.raw r i);
               opened = λ o i. let r = h.opened o i in record { opened = r.opened; size = r.size; targets = r.targets; olds = r.olds; news = r.news };
               all = h.all;
               falling = h.falling;
               over = over;
             }
-            (others_stay z words keep w side m p can.cell n v l who (λ u ne. refl) (λ u ne. updated_else w.marks_used who u (suc (w.marks_used who)) ne) (λ f ne o. o) (λ u ne o. o) (marks_same z words keep w side m p can.cell n v l (λ o. o)));
+            (others_stay z words keep w side m p can.cell n v l who (λ u ne. refl) (λ u ne. updated_else w.marks_used who u (suc (w.marks_used who)) ne) (λ f ne o. o) (λ u ne o. o) (descs_same z words keep w side m p can.cell n v l (λ o. o)) (marks_same z words keep w side m p can.cell n v l (λ o. o)) (λ u ne f i q. q));
       }
 
   place_here : Core (world_after w who (places d e)) z (set words c (swapped old (mark_number (own_mark k)) word)) (updated keep who (noted z k (Step.places d e c old) word))
   place_here =
-      let plain_old : IsPlain old = (m.rows.descs d work.0).plain_olds e work.1 in
+      let plain_old : IsPlain old = (m.rows.entries d work.0).plain_olds e work.1 in
       let test : eqb word old ≡ is_plain (w.cell c) old = ap (λ (n : ℕ). eqb n old) (m.cells.cells c can.cell) ∙ plain_test z shape (w.cell c) old (m.cells.standing c can.cell) plain_old in
       let s : Side = place_noted k.side (own_mark k) d e c old (cell_in word) 0 in
       let q : Bool → Type 0 = λ b. Core (world_after w who (places d e)) z (set words c (cond b (mark_number (own_mark k)) word)) (updated keep who (record k { side = s; marks_used = cond b (suc k.marks_used) k.marks_used })) in
@@ -174,7 +204,7 @@ module _ (z : Shape) (shape : IsShape z) (words : List ℕ) (keep : ℕ → View
       either : (b : Bool) → is_plain (w.cell c) old ≡ b
           → Core (world_after w who (places d e)) z (set words c (cond b (mark_number (own_mark k)) word)) (updated keep who (record k { side = place_noted k.side (own_mark k) d e c old (cell_in word) 0; marks_used = cond b (suc k.marks_used) k.marks_used }))
       either true same_word = subst (λ (y : Ref). Core (world_after w who (places d e)) z (set words c (mark_number y)) (updated keep who (record k { side = place_noted k.side (own_mark k) d e c old (cell_in word) 0; marks_used = suc k.marks_used }))) (sym own_mark_is) (placed same_word)
-      either false not = still_step z shape words keep w side rule m who mine (places d e) may c (ap (λ (b : Bool). cond b v w) not) (place_noted k.side (own_mark k) d e c old (cell_in word) 0) side_is over
+      either false not = still_step z shape words keep w side rule m who mine (places d e) may c (ap (λ (b : Bool). cond b v w) not) (place_noted k.side (own_mark k) d e c old (cell_in word) 0) side_is over calm
 
 module _ (z : Shape) (shape : IsShape z) (words : List ℕ) (keep : ℕ → View) (w : World) (side : ℕ → Side) (rule : Rule w side) (m : Mirrors z words keep w side) (who : ℕ) (mine : who < z.workers) where
   pub keeps_place : (d : Ref) (e c old : ℕ) → CanPlace z (keep who) d e c old

@@ -1,10 +1,10 @@
 -- A step that changes no word: Reads.
-use Rattle.std.proofs.Common.{◌≡◌, ℕ, eqb, ◌<◌, ◌⊎◌, Bool, true, false, cond, List, [], ◌∷◌, ◌++◌, get_or, sym, refl, ap, ◌∙◌, subst, inl, inr, ⊎_elim, Some, None, Option}
+use Rattle.std.proofs.Common.{zero, suc, ◌≡◌, ◌≢◌, ℕ, eqb, ◌<◌, ◌≤◌, ◌⊎◌, Bool, true, false, true≢false, cond, ◌&&◌, ◌||◌, List, [], ◌∷◌, ◌++◌, get_or, sym, refl, ap, ◌∙◌, subst, inl, inr, ⊎_elim, arith, eq-eqb, ne_eqb, Some, None, Option}
 use Rattle.rh_world.specs.World.{Cell, Control, In, IsDecided, IsOpened, IsUsed, Ref, World, is_ref, updated}
 use Rattle.rh_world.specs.World.Cell.{desc, mark, plain}
 use Rattle.rh_world.specs.World.Control.{failed, succeeded, undecided, unused, withdrawn}
 use Rattle.rh_world.specs.Notes.{HoldsIn, Note, part_of}
-use Rattle.rh_world.specs.Notes.Note.{decided, desc_is, found, known, new_is, old_is, size_is, target_is, which_is}
+use Rattle.rh_world.specs.Notes.Note.{decided, desc_is, failed_at, found, held, known, may_demote, may_promote, mismatch, new_is, old_is, over, passed, size_is, target_is, which_is}
 use Rattle.rh_world.specs.Notes.Part.{of_rows}
 use Rattle.rh_world.specs.Sides.{Side, note_side}
 use Rattle.rh_world.specs.Rule.{Rule}
@@ -12,24 +12,25 @@ use Rattle.rh_world.specs.Moves.{IsRowNote, MayWork, cell_noted, control_noted, 
 use Rattle.rh_world.specs.Moves.Move.{learns, reads_cell, reads_control, reads_mark_control}
 use Rattle.rh_world.proofs.Laters.{steady_same}
 use Rattle.rh_world.proofs.StepLaws.{each_step_keeps}
-use Rattle.rh_world.proofs.Tests.{eqb_yes, is_ref_yes}
-use Rattle.rh_world.proofs.Updated.{updated_at}
+use Rattle.rh_world.proofs.Tests.{eqb_not, eqb_yes, is_ref_yes}
+use Rattle.rh_world.proofs.Updated.{and_false, ref_path, same_nat, same_ref, updated_at}
 use Rattle.rh_descriptor.specs.declared.shape.Shape.{Shape}
 use Rattle.rh_descriptor.specs.declared.shape.Part.TheVariants as part
 use Rattle.rh_descriptor.specs.declared.reference.Reading.{Reading}
 use Rattle.rh_descriptor.specs.declared.reference.Reading.TheVariants as reading
 use Rattle.rh_descriptor.specs.Places.{IsShape}
-use Rattle.rh_descriptor.specs.View.{MarkWord, Raw, View}
+use Rattle.rh_descriptor.specs.View.{MarkWord, Raw, RawRow, RowWord, View}
+use Rattle.rh_descriptor.specs.View.RowWord.{length_word, cell_word, old_word, new_word}
 use Rattle.rh_descriptor.specs.View.MarkWord.{desc_word, entry_word}
-use Rattle.rh_descriptor.specs.Words.{cell_in, desc_in, read_control, ref_of, without_decider}
-use Rattle.rh_descriptor.specs.Steps.{IsDesc, IsKnown, IsNoted, IsRead, KnowsMark, desc_said, mark_said, place_read, read_noted, read_view, row_said}
+use Rattle.rh_descriptor.specs.Words.{cell_in, desc_in, number_of, read_control, ref_of, serial_in, without_entry}
+use Rattle.rh_descriptor.specs.Steps.{IsKnown, IsNoted, IsRead, KnowsMark, WasOpened, control_seen, desc_row_said, desc_said, gone_noted, is_known, is_newest, mark_said, place_read, read_noted, read_view, row_said, rows_said, tells_opened}
 use Rattle.rh_rule.specs.Erased.{erased}
-use Rattle.rh_rule.specs.Mirrors.{IsRaw, IsSaid, Kept, Stands, word_at, Mirrors}
+use Rattle.rh_rule.specs.Mirrors.{DescRow, HasItsRow, IsRaw, IsRawRow, IsRowSaid, IsSaid, Kept, Stands, word_at, Mirrors}
 use Rattle.rh_rule.specs.Core.{Core}
-use Rattle.rh_rule.proofs.Deciders.{told_decided}
+use Rattle.rh_rule.proofs.Deciders.{told_decided, told_failed, told_number}
 use Rattle.rh_rule.proofs.Erasing.{IsWhole, erased_all, erased_cell, erased_control, erased_mark, in_decided, in_whole}
-use Rattle.rh_rule.proofs.Kept.{Grows, kept_stays, mirrors, over_grows}
-use Rattle.rh_rule.proofs.Said.{cell_said_is, control_said_is, desc_said_is}
+use Rattle.rh_rule.proofs.Kept.{Grows, Meets, Quiet, kept_stays, mirrors, over_grows, quiet}
+use Rattle.rh_rule.proofs.Said.{HasState, cell_said_is, control_said_is, desc_said_is, serial_said_is}
 
 -- ---- Sides that grow
 
@@ -62,6 +63,84 @@ grows_mark s x c succeeded = grows_note s (Note.may_demote x)
 grows_mark s x c withdrawn = grows_note s (Note.may_demote x)
 grows_mark s x c (failed e by) = grows_note s (Note.may_demote x)
 
+-- what is noted of a control is how it is decided
+pub in_control : (s : Side) (d : Ref) (c : Control) (f : Ref) (r : Control) → In (decided f r) (control_noted s d c).notes
+    → ((f ≡ d) × (r ≡ c)) ⊎ In (decided f r) s.notes
+in_control s d unused f r i = inr i
+in_control s d undecided f r i = ⊎_elim (λ e. cc) inr i
+in_control s d succeeded f r i = ⊎_elim (λ (e : decided f r ≡ decided d succeeded). inl ((let a : f ≡ d = cc in a), (let b : r ≡ succeeded = cc in b))) inr i
+in_control s d withdrawn f r i = ⊎_elim (λ (e : decided f r ≡ decided d withdrawn). inl ((let a : f ≡ d = cc in a), (let b : r ≡ withdrawn = cc in b))) inr i
+in_control s d (failed n by) f r i = ⊎_elim (λ (e : decided f r ≡ decided d (failed n by)). inl ((let a : f ≡ d = cc in a), (let b : r ≡ failed n by = cc in b))) inr i
+
+in_mark : (s : Side) (x : Ref) (c : ℕ) (k : Control) (f : Ref) (r : Control) → In (decided f r) (mark_noted s x c k).notes → In (decided f r) s.notes
+in_mark s x c unused f r i = i
+in_mark s x c undecided f r i = ⊎_elim (λ e. cc) (λ j. j) i
+in_mark s x c succeeded f r i = ⊎_elim (λ e. cc) (λ j. j) i
+in_mark s x c withdrawn f r i = ⊎_elim (λ e. cc) (λ j. j) i
+in_mark s x c (failed n by) f r i = ⊎_elim (λ e. cc) (λ j. j) i
+
+-- d is known where a note tells that it was opened
+tells_yes : (n : Note) (d : Ref) → tells_opened n d ≡ true → (n ≡ known d) ⊎ ((k : Control) × (n ≡ decided d k))
+tells_yes (known f) d e = inl (ap known (is_ref_yes f d e))
+tells_yes (size_is f i) d e = absurd (true≢false (sym e))
+tells_yes (target_is f i c) d e = absurd (true≢false (sym e))
+tells_yes (old_is f i u) d e = absurd (true≢false (sym e))
+tells_yes (new_is f i u) d e = absurd (true≢false (sym e))
+tells_yes (decided f k) d e = inr (k, ap (λ (x : Ref). decided x k) (is_ref_yes f d e))
+tells_yes (over f) d e = absurd (true≢false (sym e))
+tells_yes (passed f) d e = absurd (true≢false (sym e))
+tells_yes (failed_at f i) d e = absurd (true≢false (sym e))
+tells_yes (desc_is x f) d e = absurd (true≢false (sym e))
+tells_yes (which_is x i) d e = absurd (true≢false (sym e))
+tells_yes (found x c) d e = absurd (true≢false (sym e))
+tells_yes (may_promote x c) d e = absurd (true≢false (sym e))
+tells_yes (may_demote x) d e = absurd (true≢false (sym e))
+tells_yes (held f i) d e = absurd (true≢false (sym e))
+tells_yes (mismatch f i n) d e = absurd (true≢false (sym e))
+
+known_yes : (ns : List Note) (d : Ref) → is_known ns d ≡ true → IsKnown ns d
+known_yes [] d e = absurd (true≢false (sym e))
+known_yes (n ∷ ns) d e = ⊎_elim
+    (λ (q : tells_opened n d ≡ true). ⊎_elim (λ r. inl (inl (sym r))) (λ r. inr (r.0, inl (sym r.1))) (tells_yes n d q))
+    (λ (q : is_known ns d ≡ true). ⊎_elim (λ i. inl (inr i)) (λ i. inr (i.0, inr i.1)) (known_yes ns d q))
+    (or_yes (tells_opened n d) (is_known ns d) e)
+  where
+    or_yes : (a b : Bool) → (a || b) ≡ true → (a ≡ true) ⊎ (b ≡ true)
+    or_yes true b e = inl refl
+    or_yes false b e = inr e
+
+and_true : {a b : Bool} → a ≡ true → b ≡ true → (a && b) ≡ true
+and_true {a} {b} p q = (λ i. p i && q i)
+
+pub unused_or : (k : Control) → (IsOpened k → ⊥) → k ≡ unused
+unused_or unused h = refl
+unused_or undecided h = absurd (h (λ q. cc))
+unused_or succeeded h = absurd (h (λ q. cc))
+unused_or withdrawn h = absurd (h (λ q. cc))
+unused_or (failed e by) h = absurd (h (λ q. cc))
+
+-- ---- Sides that note no control
+
+pub quiet_none : (s : Side) → Quiet s s
+quiet_none s = record { current = λ n e. e; notes = λ n i. i; decided = λ d r i. i }
+
+quiet_cell : (s : Side) (c : ℕ) (k : Cell) (q : Option ℕ) (acts next : ℕ) → Quiet s (cell_noted s c k q acts next)
+quiet_cell s c (plain u) None acts next = record { current = λ n e. e; notes = λ n i. i; decided = λ d r i. i }
+quiet_cell s c (plain u) (Some p) acts next = quiet_none s
+quiet_cell s c (mark x) q acts next = record { current = λ n e. e; notes = λ n i. inr i; decided = λ d r i. ⊎_elim (λ e. cc) (λ j. j) i }
+quiet_cell s c (desc f) q acts next = record { current = λ n e. e; notes = λ n i. inr i; decided = λ d r i. ⊎_elim (λ e. cc) (λ j. j) i }
+
+not_row : (n : Note) → IsRowNote n → (d : Ref) (r : Control) → decided d r ≡ n → ⊥
+not_row n row d r e = subst IsRowNote (sym e) row
+
+quiet_all : (s : Side) (ns : List Note) → ((n : Note) → In n ns → IsRowNote n) → Quiet s (note_all s ns)
+quiet_all s [] h = quiet_none s
+quiet_all s (n ∷ ns) h = let q = quiet_all s ns (λ m i. h m (inr i)) in record {
+  current = q.current;
+  notes = λ m i. inr (q.notes m i);
+  decided = λ d r i. ⊎_elim (λ e. absurd (not_row n (h n (inl refl)) d r e)) (λ j. q.decided d r j) i;
+}
+
 grows_all : (s : Side) (ns : List Note) → Grows s (note_all s ns)
 grows_all s [] = grows_none s
 grows_all s (n ∷ ns) = grows_then s (note_all s ns) (note_all s (n ∷ ns)) (grows_all s ns) (grows_note (note_all s ns) n)
@@ -90,18 +169,18 @@ module _ (z : Shape) (shape : IsShape z) (words : List ℕ) (keep : ℕ → View
   true_note n whole of i = rule.rows.notes who n (known_note n whole i) of
 
   -- of a decision all is kept but who made it
-  pub known_decided : (d : Ref) (r : Control) → In (decided d r) k.side.notes → (j : Control) × (without_decider j ≡ r) × In (decided d j) t.notes
+  pub known_decided : (d : Ref) (r : Control) → In (decided d r) k.side.notes → (j : Control) × (without_entry j ≡ r) × In (decided d j) t.notes
   known_decided d r i = in_decided d r t (subst (λ (s : Side). In (decided d r) s.notes) h.side_is i)
 
-  pub true_decided : (d : Ref) (r : Control) → In (decided d r) k.side.notes → IsDecided r × (without_decider (w.control d) ≡ r)
+  pub true_decided : (d : Ref) (r : Control) → In (decided d r) k.side.notes → IsDecided r × (without_entry (w.control d) ≡ r)
   true_decided d r i =
       let j = known_decided d r i in
       let holds = rule.rows.notes who (decided d j.0) j.2 refl in
-      (subst IsDecided j.1 (told_decided j.0 holds.0), ap without_decider holds.1 ∙ j.1)
+      (subst IsDecided j.1 (told_decided j.0 holds.0), ap without_entry holds.1 ∙ j.1)
 
   pub opened_known : (d : Ref) → IsKnown k.side.notes d → IsOpened (w.control d)
   opened_known d o = ⊎_elim (λ i. true_note (known d) tt refl i)
-      (λ i. let q = true_decided d i.0 i.1 in λ e. subst IsDecided (sym q.1 ∙ ap without_decider e) q.0) o
+      (λ i. let q = true_decided d i.0 i.1 in λ e. subst IsDecided (sym q.1 ∙ ap without_entry e) q.0) o
 
   pub work_known : (d : Ref) (e : ℕ) → MayWork k.side d e → IsOpened (w.control d) × (e < w.size d)
   work_known d e may = let q = true_note (size_is d may.size) tt refl may.known in (q.0, subst (λ (n : ℕ). e < n) (sym q.1) may.within)
@@ -118,35 +197,117 @@ module _ (z : Shape) (shape : IsShape z) (words : List ℕ) (keep : ℕ → View
       let same : (u : ℕ) → side u ≡ updated side who t u = λ u. ⊎_elim (λ p. ap side p.0 ∙ sym p.1) (λ p. sym p.1) (updated_at side who u t) in
       subst (λ (f : ℕ → Side). Rule w f) (λ i u. same u i) rule
 
-  -- the words stay, and a Side grows, or the words that were read in the rows of marks
-  side_keeps : (s x : Side) (rs : List Raw) → Rule w (updated side who s) → x ≡ erased s → Grows k.side x
-      → ((r : Raw) → In r rs → IsRaw z words w r) → Core w z words (updated keep who (record k { side = x; raw = rs }))
-  side_keeps s x rs r is grows raw = record {
+  -- the words stay, and a Side grows, or what was read in rows
+  side_keeps : (s x : Side) (c : ℕ) (rows : List RawRow) (rs : List Raw) → Rule w (updated side who s) → x ≡ erased s → Meets z words w who k x c
+      → ((r : RawRow) → In r rows → IsRawRow z words w r) → ((r : Raw) → In r rs → IsRaw z words w r)
+      → Core w z words (updated keep who (record k { side = x; control = c; raw_rows = rows; raw = rs }))
+  side_keeps s x c rows rs r is meets raw_rows raw = record {
     side = updated side who s;
     rule = r;
-    mirrors = mirrors z words words keep w w side m (steady_same w) who mine s (record k { side = x; raw = rs })
+    mirrors = mirrors z words words keep w w side m (steady_same w) who mine s (record k { side = x; control = c; raw_rows = rows; raw = rs })
         m.sized m.counter m.cells m.controls m.rows
-        (kept_stays z words words w w (steady_same w) t s who k x rs refl refl (λ n o. o) (λ q i. refl) raw is (over_grows k.side x who k.opened grows h.over) h)
+        (kept_stays z words words w w (steady_same w) t s who k x c rows rs refl refl (λ n o. o) (λ q i. refl) raw_rows raw is meets h)
         (λ u lt ne. m.kept u lt);
   }
 
-  pub side_grows : (s x : Side) → Rule w (updated side who s) → x ≡ erased s → Grows k.side x
-      → Core w z words (updated keep who (record k { side = x }))
-  side_grows s x r is grows = side_keeps s x k.raw r is grows h.raw
+  meets_quiet : (x : Side) → Quiet k.side x → Grows k.side x → Meets z words w who k x k.control
+  meets_quiet x q g = quiet z words words w w (steady_same w) t who k x h q (over_grows k.side x who k.opened g h.over) refl (λ d e f. f)
 
-  -- what rows say is learned
+  side_grows : (s x : Side) → Rule w (updated side who s) → x ≡ erased s → Quiet k.side x → Grows k.side x
+      → Core w z words (updated keep who (record k { side = x }))
+  side_grows s x r is q grows = side_keeps s x k.control k.raw_rows k.raw r is (meets_quiet x q grows) h.raw_rows h.raw
+
+  still : Core w z words (updated keep who k)
+  still = side_grows t k.side rule_none h.side_is (quiet_none k.side) (grows_none k.side)
+
+  -- what rows say is learned, where the own control is as it was last seen
+  learn_seen : (ns : List Note) → ((n : Note) → In n ns → IsRowNote n × HoldsIn w n) → (c : ℕ) → c ≡ k.control
+      → Core w z words (updated keep who (record k { side = note_all k.side ns; control = c }))
+  learn_seen ns may c same = side_keeps (note_all t ns) (note_all k.side ns) c k.raw_rows k.raw (each_step_keeps w side who (learns ns) rule may)
+      ((λ i. note_all (h.side_is i) ns) ∙ erased_all t ns (λ n i. (may n i).0))
+      (subst (λ (i : ℕ). Meets z words w who k (note_all k.side ns) i) (sym same) (meets_quiet (note_all k.side ns) (quiet_all k.side ns (λ n i. (may n i).0)) (grows_all k.side ns)))
+      h.raw_rows h.raw
+
   learn_all : (ns : List Note) → ((n : Note) → In n ns → IsRowNote n × HoldsIn w n)
       → Core w z words (updated keep who (record k { side = note_all k.side ns }))
-  learn_all ns may = side_grows (note_all t ns) (note_all k.side ns) (each_step_keeps w side who (learns ns) rule may)
-      ((λ i. note_all (h.side_is i) ns) ∙ erased_all t ns (λ n i. (may n i).0)) (grows_all k.side ns)
+  learn_all ns may = learn_seen ns may k.control refl
 
   learn : (n : Note) → IsRowNote n × HoldsIn w n → Core w z words (updated keep who (record k { side = note_side k.side n }))
   learn n may = learn_all (n ∷ []) (λ o i. ⊎_elim (λ (q : o ≡ n). subst (λ (p : Note). IsRowNote p × HoldsIn w p) (sym q) may) (λ j. absurd j) i)
 
   -- nothing is learned yet
   keep_raw : (r : Raw) → IsRaw z words w r → Core w z words (updated keep who (record k { raw = r ∷ k.raw }))
-  keep_raw r is = side_keeps t k.side (r ∷ k.raw) rule_none h.side_is (grows_none k.side)
+  keep_raw r is = side_keeps t k.side k.control k.raw_rows (r ∷ k.raw) rule_none h.side_is (meets_quiet k.side (quiet_none k.side) (grows_none k.side)) h.raw_rows
       (λ q i. ⊎_elim (λ (e : q ≡ r). subst (λ (x : Raw). IsRaw z words w x) (sym e) is) (h.raw q) i)
+
+  keep_raw_row : (r : RawRow) → IsRawRow z words w r → Core w z words (updated keep who (record k { raw_rows = r ∷ k.raw_rows }))
+  keep_raw_row r is = side_keeps t k.side k.control (r ∷ k.raw_rows) k.raw rule_none h.side_is (meets_quiet k.side (quiet_none k.side) (grows_none k.side))
+      (λ q i. ⊎_elim (λ (e : q ≡ r). subst (λ (x : RawRow). IsRawRow z words w x) (sym e) is) (h.raw_rows q) i) h.raw
+
+  -- ---- what has gone on
+
+  -- a descriptor that is not open is decided, and stands in no cell if it succeeded
+  gone : (d : Ref) → IsOpened (w.control d) → ((side d.worker).current ≡ Some d.number → ⊥) → HoldsIn w (over d) × HoldsIn w (passed d)
+  gone d o closed =
+      let dec = ⊎_elim (λ (q : IsDecided (w.control d)). q) (λ q. absurd (closed q)) (rule.rows.state d o) in
+      (dec, (dec, λ s c e. closed (rule.acts.standing c d e s).owed.current))
+
+  -- one whose row has another number is not open
+  pub row_gone : (d : Ref) → IsOpened (w.control d) → word_at z words (part.Serial d.worker) ≢ d.number → (side d.worker).current ≡ Some d.number → ⊥
+  row_gone d o ne c =
+      let u = (m.controls.descs d o).0 in
+      ne ((m.kept d.worker u).open_row d.number (ap (λ (s : Side). s.current) (m.kept d.worker u).side_is ∙ c))
+
+  -- the newest descriptor of a worker that opened one
+  newest_of : (d : Ref) → IsOpened (w.control d) → (n : ℕ) × (suc n ≡ w.next_number d.worker)
+  newest_of d o = above (w.next_number d.worker) (rule.rows.below d o)
+    where
+      above : (k : ℕ) → d.number < k → (n : ℕ) × (suc n ≡ k)
+      above zero lt = absurd (omega arith)
+      above (suc n) lt = (n, refl)
+
+  -- one with another control is not open, as the open one is the newest
+  pub control_gone : (d : Ref) → IsOpened (w.control d) → (suc d.number ≡ w.next_number d.worker → ⊥) → (side d.worker).current ≡ Some d.number → ⊥
+  control_gone d o older c =
+      let n = newest_of d o in
+      let f : Ref = record { worker = d.worker; number = n.0 } in
+      let u = (m.controls.descs d o).0 in
+      let last : n.0 ≤ d.number = rule.rows.last d f c refl (m.controls.newest f u n.1).0 in
+      let below : d.number < w.next_number d.worker = rule.rows.below d o in
+      let is : suc n.0 ≡ w.next_number d.worker = n.1 in
+      older (omega arith)
+
+  both_gone : (d : Ref) → HoldsIn w (over d) × HoldsIn w (passed d) → (n : Note) → In n (passed d ∷ over d ∷ []) → IsRowNote n × HoldsIn w n
+  both_gone d g n i = ⊎_elim (λ (e : n ≡ passed d). subst (λ (o : Note). IsRowNote o × HoldsIn w o) (sym e) (tt, g.1))
+      (λ j. ⊎_elim (λ (e : n ≡ over d). subst (λ (o : Note). IsRowNote o × HoldsIn w o) (sym e) (tt, g.0)) (λ q. absurd q) j) i
+
+  -- ---- controls
+
+  -- each is the number of one
+  pub state_of_control : (d : Ref) → IsOpened (w.control d) → HasState (w.control d)
+  state_of_control d o = either (w.control d) refl
+    where
+      either : (c : Control) → w.control d ≡ c → HasState c
+      either unused e = tt
+      either undecided e = tt
+      either succeeded e = tt
+      either withdrawn e = tt
+      either (failed f by) e = let few : z.workers ≤ 16 = shape.workers in let lt : by < z.workers = m.controls.deciders d f by e in (let q : by < 64 = omega arith in q)
+
+  -- the control word of a worker that opened one
+  pub newest_word : (d : Ref) → d.worker < z.workers → suc d.number ≡ w.next_number d.worker
+      → (word_at z words (part.Control d.worker) ≡ number_of d.number (w.control d)) × HasState (w.control d)
+  newest_word d u is = let q = m.controls.newest d u is in (q.1, state_of_control d q.0)
+
+  -- with the number of d it tells of d; with another, d is not the newest
+  pub control_word : (d : Ref) → d.worker < z.workers → serial_in (word_at z words (part.Control d.worker)) ≡ d.number → IsOpened (w.control d)
+      → suc d.number ≡ w.next_number d.worker
+  control_word d u is o =
+      let n = newest_of d o in
+      let f : Ref = record { worker = d.worker; number = n.0 } in
+      let q = newest_word f u n.1 in
+      let same : n.0 ≡ d.number = sym (serial_said_is n.0 (w.control f) q.1) ∙ ap serial_in (sym q.0) ∙ is in
+      subst (λ (i : ℕ). suc i ≡ w.next_number d.worker) same n.1
 
   -- while the row of a mark stands, all that was read in it is true
   module _ (x : Ref) (used : IsUsed w x) (stands : Stands z words x) where
@@ -173,45 +334,193 @@ module _ (z : Shape) (shape : IsShape z) (words : List ℕ) (keep : ℕ → View
             ⊎_elim (true_word r.word said n) others (in_append n (mark_said x r.word) (row_said rs x) i)
         either others false e i = others i
 
-  pub reads_desc_control : (d : Ref) → IsDesc z d → (word : ℕ) → word ≡ word_at z words (part.Control d.worker d.number)
-      → read_control word ≡ without_decider (w.control d)
-  reads_desc_control d here word is = ap read_control (is ∙ m.controls.controls d here) ∙ control_said_is (w.control d) (λ e q. m.controls.failures d e q)
+  control_zero : (d : Ref) → w.next_number d.worker ≡ 0 → w.control d ≡ unused
+  control_zero d none = unused_or (w.control d) (λ o. let lt : d.number < w.next_number d.worker = rule.rows.below d o in absurd (omega arith))
+
+  -- a control word with the number of d says how d is, opened or not
+  pub reads_desc_control : (d : Ref) → d.worker < z.workers → serial_in (word_at z words (part.Control d.worker)) ≡ d.number
+      → read_control (word_at z words (part.Control d.worker)) ≡ without_entry (w.control d)
+  reads_desc_control d u is = either (w.next_number d.worker) refl
+    where
+      either : (n : ℕ) → w.next_number d.worker ≡ n → read_control (word_at z words (part.Control d.worker)) ≡ without_entry (w.control d)
+      either zero none = ap read_control (m.controls.unopened d.worker u none) ∙ ap without_entry (sym (control_zero d none))
+      either (suc n) some =
+          let f : Ref = record { worker = d.worker; number = n } in
+          let q = newest_word f u (sym some) in
+          let same : f ≡ d = ref_path f d refl (sym (serial_said_is n (w.control f) q.1) ∙ ap serial_in (sym q.0) ∙ is) in
+          ap read_control q.0 ∙ control_said_is n (w.control f) q.1 ∙ ap (λ (x : Ref). without_entry (w.control x)) same
+
+  -- what the own control word is taken for, once that of d was seen to say r
+  pub meets_seen : (then : List ℕ) (v : World) → word_at z then (part.Serial who) ≡ word_at z words (part.Serial who) → (d : Ref) (now : Control) (x : Side)
+      → ((e : Ref) (r : Control) → In (decided e r) x.notes → ((e ≡ d) × (r ≡ now)) ⊎ In (decided e r) k.side.notes)
+      → ((r : Control) → In (decided d r) k.side.notes → r ≡ now) → Grows k.side x → (seen : ℕ)
+      → (suc d.number ≡ w.next_number d.worker → seen ≡ number_of d.number now)
+      → ((f : Ref) (e : ℕ) → v.control f ≡ failed e who → In (decided f (failed 0 who)) x.notes) → Meets z then v who k x (control_seen k d seen)
+  meets_seen then v serial d now x notes before g seen seen_is fails = record {
+    over = over_grows k.side x who k.opened g h.over;
+    no_control = λ e. ap (λ (b : Bool). cond b seen k.control) (not_newest (λ q. let bad : suc d.number ≡ 0 = q ∙ e in absurd (omega (arith, bad)))) ∙ h.no_control e;
+    control = λ n r next i. ⊎_elim
+        (λ (e : record { worker = who; number = n } ≡ d).
+        let own : d.worker ≡ k.worker = ap (λ (y : Ref). y.worker) (sym e) ∙ sym h.worker in
+        let newest : suc d.number ≡ k.next_number = ap (λ (y : Ref). suc y.number) (sym e) ∙ next in
+        let told : r ≡ now = ⊎_elim (λ q. q.1) (λ j. before r (subst (λ (y : Ref). In (decided y r) k.side.notes) e j)) (notes record { worker = who; number = n } r i) in
+        ap (λ (b : Bool). cond b seen k.control) (and_true (eq-eqb d.worker k.worker own) (eq-eqb (suc d.number) k.next_number newest))
+        ∙ seen_is (newest ∙ h.next_number ∙ ap w.next_number (ap (λ (y : Ref). y.worker) e)) ∙ ap (λ (c : Control). number_of d.number c) (sym told) ∙ ap (λ (y : Ref). number_of y.number r) (sym e))
+        (λ (ne : record { worker = who; number = n } ≢ d).
+        ap (λ (b : Bool). cond b seen k.control) (other_newest n next ne)
+        ∙ h.control n r next (⊎_elim (λ q. absurd (ne q.0)) (λ j. j) (notes record { worker = who; number = n } r i)))
+        (same_ref record { worker = who; number = n } d);
+    open_row = λ n c. serial ∙ h.open_row n (sym g.current ∙ c);
+    failures = fails;
+  }
+    where
+      not_newest : (suc d.number ≡ k.next_number → ⊥) → is_newest k d ≡ false
+      not_newest ne = ap (λ (b : Bool). eqb d.worker k.worker && b) (ne_eqb (suc d.number) k.next_number ne) ∙ and_false (eqb d.worker k.worker)
+
+      other_newest : (n : ℕ) → suc n ≡ k.next_number → record { worker = who; number = n } ≢ d → is_newest k d ≡ false
+      other_newest n next ne = ⊎_elim
+          (λ (own : d.worker ≡ k.worker). not_newest (λ q. ne (ref_path record { worker = who; number = n } d (sym (own ∙ h.worker)) (let a : suc d.number ≡ suc n = q ∙ sym next in omega (arith, a)))))
+          (λ (other : d.worker ≢ k.worker). ap (λ (b : Bool). b && eqb (suc d.number) k.next_number) (ne_eqb d.worker k.worker other))
+          (same_nat d.worker k.worker)
+
+  pub meets_control : (d : Ref) → d.worker < z.workers → serial_in (word_at z words (part.Control d.worker)) ≡ d.number → (x : Side)
+      → ((e : Ref) (r : Control) → In (decided e r) x.notes → ((e ≡ d) × (r ≡ without_entry (w.control d))) ⊎ In (decided e r) k.side.notes)
+      → Grows k.side x → (seen : ℕ) → seen ≡ word_at z words (part.Control d.worker) → Meets z words w who k x (control_seen k d seen)
+  meets_control d u is x notes g seen seen_is = meets_seen words w refl d (without_entry (w.control d)) x notes (λ r j. sym (true_decided d r j).1) g seen
+      (λ next. seen_is ∙ (m.controls.newest d u next).1 ∙ sym (told_number d.number (w.control d)))
+      (λ f e q. g.notes (decided f (failed 0 who)) (h.failures f e q))
+
+  -- where it has another number, d has gone on, and the own one is as it was last seen
+  seen_other : (d : Ref) → d.worker < z.workers → serial_in (word_at z words (part.Control d.worker)) ≢ d.number → (seen : ℕ) → control_seen k d seen ≡ k.control
+  seen_other d u ne seen = ap (λ (b : Bool). cond b seen k.control) (⊎_elim
+      (λ (own : d.worker ≡ k.worker). ap (λ (b : Bool). eqb d.worker k.worker && b) (ne_eqb (suc d.number) k.next_number
+      (λ q.
+      let newest : suc d.number ≡ w.next_number d.worker = q ∙ h.next_number ∙ ap w.next_number (sym (own ∙ h.worker)) in
+      let word = newest_word d u newest in
+      ne (ap serial_in word.0 ∙ serial_said_is d.number (w.control d) word.1))) ∙ and_false (eqb d.worker k.worker))
+      (λ (other : d.worker ≢ k.worker). ap (λ (b : Bool). b && eqb (suc d.number) k.next_number) (ne_eqb d.worker k.worker other))
+      (same_nat d.worker k.worker))
+
+  pub older_gone : (d : Ref) → IsOpened (w.control d) → serial_in (word_at z words (part.Control d.worker)) ≢ d.number → HoldsIn w (over d) × HoldsIn w (passed d)
+  older_gone d o ne = gone d o (control_gone d o (λ q.
+      let word = newest_word d (m.controls.descs d o).0 q in
+      ne (ap serial_in word.0 ∙ serial_said_is d.number (w.control d) word.1)))
+
+  -- the row of d says what it is to say
+  pub desc_row : (d : Ref) → IsOpened (w.control d) → HasItsRow z words d → DescRow z words w d
+  desc_row d o has = m.rows.descs d o has
+
+  -- while the row of d is its own, all that was read in it is true
+  true_row : (d : Ref) → IsOpened (w.control d) → (u : RowWord) → IsRowSaid w d u → IsRowNote (desc_row_said d u) × HoldsIn w (desc_row_said d u)
+  true_row d o (length_word n) s = (tt, (o, sym s))
+  true_row d o (cell_word e n) s = (tt, (o, sym s))
+  true_row d o (old_word e n) s = (tt, (o, sym s))
+  true_row d o (new_word e n) s = (tt, (o, sym s))
+
+  true_rows : (d : Ref) → IsOpened (w.control d) → HasItsRow z words d → (rs : List RawRow) → ((r : RawRow) → In r rs → In r k.raw_rows)
+      → (n : Note) → In n (rows_said rs d) → IsRowNote n × HoldsIn w n
+  true_rows d o has [] sub n i = absurd i
+  true_rows d o has (r ∷ rs) sub n i = either (true_rows d o has rs (λ q j. sub q (inr j)) n) (is_ref r.desc d) refl i
+    where
+      either : (In n (rows_said rs d) → IsRowNote n × HoldsIn w n) → (b : Bool) → is_ref r.desc d ≡ b
+          → In n (cond b (desc_row_said d r.word ∷ rows_said rs d) (rows_said rs d)) → IsRowNote n × HoldsIn w n
+      either others true e i =
+          let same : r.desc ≡ d = is_ref_yes r.desc d e in
+          let raw = h.raw_rows r (sub r (inl refl)) in
+          let said : IsRowSaid w d r.word = subst (λ (y : Ref). HasItsRow z words y → IsRowSaid w y r.word) same raw.said has in
+          ⊎_elim (λ (q : n ≡ desc_row_said d r.word). subst (λ (x : Note). IsRowNote x × HoldsIn w x) (sym q) (true_row d o r.word said)) others i
+      either others false e i = others i
+
+  was_opened : (d : Ref) → WasOpened k.side.notes d → IsOpened (w.control d)
+  was_opened d o = ⊎_elim (opened_known d) (λ i. let is = true_note (desc_is i.0 d) tt refl i.1 in subst (λ (y : Ref). IsOpened (w.control y)) is.1 (rule.rows.used i.0 is.0).0) o
 
   pub keeps_read : (r : Reading) → IsRead z r → IsNoted k r → (word : ℕ) → word ≡ get_or words (place_read z r) 0
       → Core w z words (updated keep who (read_view k r word))
-  keeps_read (reading.Place p) here may word is = side_grows t k.side rule_none h.side_is (grows_none k.side)
+  keeps_read (reading.Place p) here may word is = still
   keeps_read (reading.Cell c) here may word is =
       let said : cell_in word ≡ w.cell c = ap cell_in (is ∙ m.cells.cells c here) ∙ cell_said_is z shape (w.cell c) (m.cells.standing c here) in
       side_grows (side_after w t who (reads_cell c)) (read_noted k (reading.Cell c) word) (each_step_keeps w side who (reads_cell c) rule tt)
       ((λ i. cell_noted (h.side_is i) c (said i) (h.side_is i).current 0 (h.next_number i)) ∙ erased_cell t c (w.cell c) t.current w.act_count (w.next_number who))
-      (grows_cell k.side c (cell_in word) k.side.current 0 k.next_number)
-  keeps_read (reading.Control d) here may word is =
-      let said : read_control word ≡ without_decider (w.control (ref_of d)) = reads_desc_control (ref_of d) here word is in
-      side_grows (side_after w t who (reads_control (ref_of d))) (read_noted k (reading.Control d) word) (each_step_keeps w side who (reads_control (ref_of d)) rule tt)
-      ((λ i. control_noted (h.side_is i) (ref_of d) (said i)) ∙ erased_control t (ref_of d) (w.control (ref_of d)))
-      (grows_control k.side (ref_of d) (read_control word))
-  keeps_read (reading.MarkControl x c d) here may word is =
-      let said : read_control word ≡ without_decider (w.control (ref_of d)) = reads_desc_control (ref_of d) here word is in
-      let same : ref_of d ≡ w.mark_desc (ref_of x) = sym (true_note (desc_is (ref_of x) (ref_of d)) tt refl may.1).1 in
-      let f : Ref = w.mark_desc (ref_of x) in
-      let told : read_control word ≡ without_decider (w.control f) = said ∙ ap (λ (y : Ref). without_decider (w.control y)) same in
-      side_grows (side_after w t who (reads_mark_control (ref_of x) c)) (read_noted k (reading.MarkControl x c d) word)
-      (each_step_keeps w side who (reads_mark_control (ref_of x) c) rule (known_note (found (ref_of x) c) tt may.0))
-      ((λ i. mark_noted (control_noted (h.side_is i) (same i) (told i)) (ref_of x) c (told i))
-      ∙ ap (λ (s : Side). mark_noted s (ref_of x) c (without_decider (w.control f))) (erased_control t f (w.control f)) ∙ erased_mark (control_noted t f (w.control f)) (ref_of x) c (w.control f))
-      (grows_then k.side (control_noted k.side (ref_of d) (read_control word)) (read_noted k (reading.MarkControl x c d) word) (grows_control k.side (ref_of d) (read_control word)) (grows_mark (control_noted k.side (ref_of d) (read_control word)) (ref_of x) c (read_control word)))
+      (quiet_cell k.side c (cell_in word) k.side.current 0 k.next_number) (grows_cell k.side c (cell_in word) k.side.current 0 k.next_number)
+  keeps_read (reading.Control d) here may word is = either (eqb (serial_in word) d.number) refl (is_known k.side.notes (ref_of d)) refl
+    where
+      either : (b : Bool) → eqb (serial_in word) d.number ≡ b → (c : Bool) → is_known k.side.notes (ref_of d) ≡ c
+          → Core w z words (updated keep who (record k {
+            side = cond b (control_noted k.side (ref_of d) (read_control word)) (cond c (gone_noted k.side (ref_of d)) k.side);
+            control = control_seen k (ref_of d) word;
+          }))
+      either true e c q =
+          let serial : serial_in (word_at z words (part.Control d.worker)) ≡ d.number = ap serial_in (sym is) ∙ eqb_yes (serial_in word) d.number e in
+          let told : read_control word ≡ without_entry (w.control (ref_of d)) = ap read_control is ∙ reads_desc_control (ref_of d) here.0 serial in
+          side_keeps (side_after w t who (reads_control (ref_of d))) (control_noted k.side (ref_of d) (read_control word)) (control_seen k (ref_of d) word) k.raw_rows k.raw
+          (each_step_keeps w side who (reads_control (ref_of d)) rule tt)
+          ((λ i. control_noted (h.side_is i) (ref_of d) (told i)) ∙ erased_control t (ref_of d) (w.control (ref_of d)))
+          (meets_control (ref_of d) here.0 serial (control_noted k.side (ref_of d) (read_control word))
+          (λ f r i. ⊎_elim (λ j. inl (j.0, j.1 ∙ told)) inr (in_control k.side (ref_of d) (read_control word) f r i))
+          (grows_control k.side (ref_of d) (read_control word)) word is)
+          h.raw_rows h.raw
+      either false e true q =
+          let o = opened_known (ref_of d) (known_yes k.side.notes (ref_of d) q) in
+          let ne : serial_in (word_at z words (part.Control d.worker)) ≢ d.number = λ r. eqb_not (serial_in word) d.number e (ap serial_in is ∙ r) in
+          learn_seen (passed (ref_of d) ∷ over (ref_of d) ∷ []) (both_gone (ref_of d) (older_gone (ref_of d) o ne)) (control_seen k (ref_of d) word) (seen_other (ref_of d) here.0 ne word)
+      either false e false q =
+          let ne : serial_in (word_at z words (part.Control d.worker)) ≢ d.number = λ r. eqb_not (serial_in word) d.number e (ap serial_in is ∙ r) in
+          learn_seen [] (λ n i. absurd i) (control_seen k (ref_of d) word) (seen_other (ref_of d) here.0 ne word)
+  keeps_read (reading.MarkControl x c d) here may word is = either (eqb (serial_in word) d.number) refl
+    where
+      same : ref_of d ≡ w.mark_desc (ref_of x)
+      same = sym (true_note (desc_is (ref_of x) (ref_of d)) tt refl may.1).1
+
+      used : IsUsed w (ref_of x)
+      used = (true_note (desc_is (ref_of x) (ref_of d)) tt refl may.1).0
+
+      opened : IsOpened (w.control (ref_of d))
+      opened = subst (λ (y : Ref). IsOpened (w.control y)) (sym same) (rule.rows.used (ref_of x) used).0
+
+      either : (b : Bool) → eqb (serial_in word) d.number ≡ b → Core w z words (updated keep who (record k {
+        side = cond b (mark_noted (control_noted k.side (ref_of d) (read_control word)) (ref_of x) c (read_control word)) (note_side (gone_noted k.side (ref_of d)) (may_demote (ref_of x)));
+        control = control_seen k (ref_of d) word;
+      }))
+      either true e =
+          let serial : serial_in (word_at z words (part.Control d.worker)) ≡ d.number = ap serial_in (sym is) ∙ eqb_yes (serial_in word) d.number e in
+          let f : Ref = w.mark_desc (ref_of x) in
+          let told : read_control word ≡ without_entry (w.control (ref_of d)) = ap read_control is ∙ reads_desc_control (ref_of d) here.0 serial in
+          let of_f : read_control word ≡ without_entry (w.control f) = told ∙ ap (λ (y : Ref). without_entry (w.control y)) same in
+          let next : Side = mark_noted (control_noted k.side (ref_of d) (read_control word)) (ref_of x) c (read_control word) in
+          side_keeps (side_after w t who (reads_mark_control (ref_of x) c)) next (control_seen k (ref_of d) word) k.raw_rows k.raw
+          (each_step_keeps w side who (reads_mark_control (ref_of x) c) rule (known_note (found (ref_of x) c) tt may.0))
+          ((λ i. mark_noted (control_noted (h.side_is i) (same i) (of_f i)) (ref_of x) c (of_f i))
+          ∙ ap (λ (s : Side). mark_noted s (ref_of x) c (without_entry (w.control f))) (erased_control t f (w.control f)) ∙ erased_mark (control_noted t f (w.control f)) (ref_of x) c (w.control f))
+          (meets_control (ref_of d) here.0 serial next
+          (λ g r i. ⊎_elim (λ j. inl (j.0, j.1 ∙ told)) inr (in_control k.side (ref_of d) (read_control word) g r (in_mark (control_noted k.side (ref_of d) (read_control word)) (ref_of x) c (read_control word) g r i)))
+          (grows_then k.side (control_noted k.side (ref_of d) (read_control word)) next (grows_control k.side (ref_of d) (read_control word)) (grows_mark (control_noted k.side (ref_of d) (read_control word)) (ref_of x) c (read_control word))) word is)
+          h.raw_rows h.raw
+      either false e =
+          let ne : serial_in (word_at z words (part.Control d.worker)) ≢ d.number = λ r. eqb_not (serial_in word) d.number e (ap serial_in is ∙ r) in
+          let g = older_gone (ref_of d) opened ne in
+          let demotes : HoldsIn w (may_demote (ref_of x)) = (used, subst (λ (y : Ref). IsDecided (w.control y)) same g.0) in
+          learn_seen (may_demote (ref_of x) ∷ passed (ref_of d) ∷ over (ref_of d) ∷ [])
+          (λ n i. ⊎_elim (λ (q : n ≡ may_demote (ref_of x)). subst (λ (o : Note). IsRowNote o × HoldsIn w o) (sym q) (tt, demotes)) (both_gone (ref_of d) g n) i)
+          (control_seen k (ref_of d) word) (seen_other (ref_of d) here.0 ne word)
+  keeps_read (reading.Serial d) here may word is = either (was_opened (ref_of d) may) (eqb word d.number) refl
+    where
+      either : IsOpened (w.control (ref_of d)) → (b : Bool) → eqb word d.number ≡ b
+          → Core w z words (updated keep who (record k { side = cond b (note_all k.side (rows_said k.raw_rows (ref_of d))) (gone_noted k.side (ref_of d)) }))
+      either o true e = learn_all (rows_said k.raw_rows (ref_of d)) (true_rows (ref_of d) o (sym is ∙ eqb_yes word d.number e) k.raw_rows (λ r i. i))
+      either o false e = learn_all (passed (ref_of d) ∷ over (ref_of d) ∷ [])
+          (both_gone (ref_of d) (gone (ref_of d) o (row_gone (ref_of d) o (λ q. eqb_not word d.number e (is ∙ q)))))
   keeps_read (reading.Length d) here may word is =
       let o = opened_known (ref_of d) may in
-      learn (size_is (ref_of d) word) (tt, (o, sym (is ∙ (m.rows.descs (ref_of d) o).length)))
+      keep_raw_row record { desc = ref_of d; word = length_word word } record { opened = o; said = λ has. is ∙ (m.rows.descs (ref_of d) o has).length }
   keeps_read (reading.EntryCell d e) here may word is =
       let o = work_known (ref_of d) e may in
-      learn (target_is (ref_of d) e word) (tt, (o.0, sym (is ∙ (m.rows.descs (ref_of d) o.0).targets e o.1)))
+      keep_raw_row record { desc = ref_of d; word = cell_word e word } record { opened = o.0; said = λ has. is ∙ (m.rows.descs (ref_of d) o.0 has).targets e o.1 }
   keeps_read (reading.EntryOld d e) here may word is =
       let o = ⊎_elim (work_known (ref_of d) e) (mark_known (ref_of d) e) may in
-      learn (old_is (ref_of d) e word) (tt, (o.0, sym (is ∙ (m.rows.descs (ref_of d) o.0).olds e o.1)))
+      keep_raw_row record { desc = ref_of d; word = old_word e word } record { opened = o.0; said = λ has. is ∙ (m.rows.descs (ref_of d) o.0 has).olds e o.1 }
   keeps_read (reading.EntryNew d e) here may word is =
       let o = work_known (ref_of d) e may in
-      learn (new_is (ref_of d) e word) (tt, (o.0, sym (is ∙ (m.rows.descs (ref_of d) o.0).news e o.1)))
+      keep_raw_row record { desc = ref_of d; word = new_word e word } record { opened = o.0; said = λ has. is ∙ (m.rows.descs (ref_of d) o.0 has).news e o.1 }
   keeps_read (reading.MarkSerial x) here may word is =
       let used = (true_note (found (ref_of x) may.0) tt refl may.1).0 in
       either used (eqb word x.number) refl
@@ -219,10 +528,15 @@ module _ (z : Shape) (shape : IsShape z) (words : List ℕ) (keep : ℕ → View
       either : IsUsed w (ref_of x) → (b : Bool) → eqb word x.number ≡ b
           → Core w z words (updated keep who (record k { side = cond b (note_all k.side (row_said k.raw (ref_of x))) k.side }))
       either used true e = learn_all (row_said k.raw (ref_of x)) (true_words (ref_of x) used (sym is ∙ eqb_yes word x.number e) k.raw (λ r i. i))
-      either used false e = side_grows t k.side rule_none h.side_is (grows_none k.side)
+      either used false e = still
   keeps_read (reading.MarkDesc x) here may word is =
       let used = (true_note (found (ref_of x) may.0) tt refl may.1).0 in
       keep_raw record { mark = ref_of x; word = desc_word word } record { used = used; said = λ s. is ∙ (m.rows.marks (ref_of x) used s).desc }
   keeps_read (reading.MarkEntry x) here may word is =
       let used = (true_note (found (ref_of x) may.0) tt refl may.1).0 in
       keep_raw record { mark = ref_of x; word = entry_word word } record { used = used; said = λ s. is ∙ (m.rows.marks (ref_of x) used s).entry }
+  keeps_read (reading.Reason d by) here may word is =
+      let told = true_decided (ref_of d) (failed 0 by) may.1 in
+      let f = told_failed (w.control (ref_of d)) 0 by told.1 in
+      let newest : suc d.number ≡ w.next_number d.worker = may.0.1 ∙ h.next_number ∙ ap w.next_number (sym (may.0.0 ∙ h.worker)) in
+      learn (failed_at (ref_of d) word) (tt, (by, f.1 ∙ ap (λ (e : ℕ). failed e by) (sym (m.controls.reasons (ref_of d) f.0 by f.1 newest) ∙ sym is)))

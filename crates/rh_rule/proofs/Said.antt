@@ -1,12 +1,13 @@
 -- What the words of a table say, and what a swap finds in them.
-use Rattle.std.proofs.Common.{◌≡◌, ◌≢◌, ℕ, eqb, ◌^◌, ◌/◌, ◌<◌, Option, cond, Bool, true, false, if◌then◌else◌, sym, refl, ap, ◌∙◌, ⊎_elim, arith, eq-eqb, ne_eqb, Some}
+use Rattle.std.proofs.Common.{◌≡◌, ◌≢◌, ℕ, eqb, ◌^◌, ◌/◌, Option, cond, Bool, true, false, if◌then◌else◌, sym, refl, ap, ◌∙◌, ⊎_elim, arith, eq-eqb, ne_eqb, Some}
 use Rattle.rh_layout.specs.Key.{is_full, key_in}
 use Rattle.rh_tagword.specs.declared.word.Word.{Word}
 use Rattle.rh_tagword.specs.declared.word.Word.TheVariants as tagged
 use Rattle.rh_tagword.specs.Word.{IsRef, tag_of}
-use Rattle.rh_tagword.specs.declared.limits.TheConstants.{UNDECIDED}
+use Rattle.rh_tagword.specs.Control.{IsState, control_number, state_number}
 use Rattle.rh_tagword.proofs.WordLemmas.{word_in-word_number, word_number_one}
-use Rattle.rh_tagword.proofs.ControlLemmas.{control_in-control_number}
+use Rattle.rh_tagword.proofs.ControlLemmas.{state_in-state_number, state_number_fits}
+use Rattle.std.proofs.lemmas.Nat.{div-mul-add, mod-mul-add}
 use Rattle.rh_world.specs.World.{Cell, Control, Ref, is_ref}
 use Rattle.rh_world.specs.World.Cell.{desc, mark, plain}
 use Rattle.rh_world.specs.World.Control.{failed, succeeded, undecided, unused, withdrawn}
@@ -14,7 +15,7 @@ use Rattle.rh_world.specs.Moves.{is_desc, is_mark, is_plain}
 use Rattle.rh_world.proofs.Updated.{is_ref_not, ref_path, same_ref, updated_ref_here}
 use Rattle.rh_descriptor.specs.declared.shape.Shape.{Shape}
 use Rattle.rh_descriptor.specs.Places.{IsShape}
-use Rattle.rh_descriptor.specs.Words.{IsPlain, cell_in, cell_said, control_said, desc_in, desc_number, mark_number, number_of, read_control, ref_said, tagged_control, without_decider}
+use Rattle.rh_descriptor.specs.Words.{IsPlain, cell_in, cell_said, control_of, control_said, desc_in, desc_number, mark_number, number_of, read_control, ref_said, serial_in, state_of, without_entry}
 use Rattle.rh_descriptor.specs.Steps.{IsDesc, IsMark}
 use Rattle.rh_rule.specs.Mirrors.{IsCell, cell_number}
 
@@ -29,7 +30,7 @@ plain_said n h = rw h (full_or (is_full (n / 4)) n (key_in (n / 4)))
 
 module _ (z : Shape) (shape : IsShape z) where
   is_ref_desc : (d : Ref) → IsDesc z d → IsRef d.worker d.number
-  is_ref_desc d h = let a = shape.workers in let b = shape.entries in let p = h.0 in let q = h.1 in (omega arith, omega arith)
+  is_ref_desc d h = let a = shape.workers in let b = shape.descriptors in let p = h.0 in let q = h.1 in (omega arith, omega arith)
 
   is_ref_mark : (x : Ref) → IsMark z x → IsRef x.worker x.number
   is_ref_mark x h = let a = shape.workers in let b = shape.marks in let p = h.0 in let q = h.1 in (omega arith, omega arith)
@@ -91,16 +92,24 @@ module _ (z : Shape) (shape : IsShape z) where
 
 -- ---- controls
 
--- its word tells it, but for who decided
-abbrev pub HasNumber : Control → Type 0
-HasNumber k = (e : ℕ) → ((by : ℕ) × (k ≡ failed e by)) → e < 2 ^ 20
+abbrev pub HasState : Control → Type 0
+HasState k = IsState (state_of k)
 
-pub control_said_is : (k : Control) → HasNumber k → read_control (number_of k) ≡ without_decider k
-control_said_is unused h = refl
-control_said_is undecided h = refl
-control_said_is succeeded h = refl
-control_said_is withdrawn h = refl
-control_said_is (failed e by) h = ap control_said (control_in-control_number (tagged_control (failed e by)) (h e (by, refl)))
+of_state : (k : Control) → control_of (state_of k) ≡ without_entry k
+of_state unused = refl
+of_state undecided = refl
+of_state succeeded = refl
+of_state withdrawn = refl
+of_state (failed e by) = refl
+
+-- its word tells it, but for the entry at which it failed, and the number of its descriptor
+pub control_said_is : (n : ℕ) (k : Control) → HasState k → read_control (number_of n k) ≡ without_entry k
+control_said_is n k h =
+    ap (λ (i : ℕ). control_said (Rattle.rh_tagword.specs.Control.state_in i)) (mod-mul-add n (2 ^ 8) (state_number (state_of k)) (state_number_fits (state_of k) h))
+    ∙ ap control_said (state_in-state_number (state_of k) h) ∙ of_state k
+
+pub serial_said_is : (n : ℕ) (k : Control) → HasState k → serial_in (number_of n k) ≡ n
+serial_said_is n k h = div-mul-add n (2 ^ 8) (state_number (state_of k)) (state_number_fits (state_of k) h)
 
 abbrev pub is_undecided : Control → Bool
 is_undecided unused = false
@@ -109,9 +118,13 @@ is_undecided succeeded = false
 is_undecided withdrawn = false
 is_undecided (failed e by) = false
 
-pub undecided_test : (k : Control) → eqb (number_of k) UNDECIDED ≡ is_undecided k
-undecided_test unused = refl
-undecided_test undecided = refl
-undecided_test succeeded = refl
-undecided_test withdrawn = refl
-undecided_test (failed e by) = ne_eqb (number_of (failed e by)) UNDECIDED (λ q. omega arith)
+pub undecided_test : (n : ℕ) (k : Control) → HasState k → eqb (number_of n k) (number_of n undecided) ≡ is_undecided k
+undecided_test n unused h = ne_eqb (number_of n unused) (number_of n undecided) (λ q. omega (arith, q))
+undecided_test n undecided h = eq-eqb (number_of n undecided) (number_of n undecided) refl
+undecided_test n succeeded h = ne_eqb (number_of n succeeded) (number_of n undecided) (λ q. omega (arith, q))
+undecided_test n withdrawn h = ne_eqb (number_of n withdrawn) (number_of n undecided) (λ q. omega (arith, q))
+undecided_test n (failed e by) h = ne_eqb (number_of n (failed e by)) (number_of n undecided) (λ q. omega (arith, q))
+
+-- the word of another descriptor is another one
+pub other_number : (n i : ℕ) (k : Control) → HasState k → n ≢ i → eqb (number_of n k) (number_of i undecided) ≡ false
+other_number n i k h ne = ne_eqb (number_of n k) (number_of i undecided) (λ q. ne (sym (serial_said_is n k h) ∙ ap serial_in q ∙ serial_said_is i undecided tt))

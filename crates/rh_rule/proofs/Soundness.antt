@@ -1,11 +1,10 @@
 -- What a worker may rely on follows from the rule.
-use Rattle.std.proofs.Common.{◌≡◌, ℕ, ◌+◌, ◌<◌, ◌≤◌, List, [], ◌∷◌, length, inl, inr, get_or, sym, refl, ap, ◌∙◌, subst, ⊎_elim, arith}
+use Rattle.std.proofs.Common.{zero, suc, ◌≡◌, ◌≢◌, ℕ, ◌+◌, ◌<◌, ◌≤◌, List, [], ◌∷◌, length, inl, inr, get_or, sym, refl, ap, ◌∙◌, subst, ⊎_elim, arith}
 use Rattle.rh_tagword.specs.Word.{tag_of}
-use Rattle.rh_tagword.specs.declared.limits.TheConstants.{UNUSED}
-use Rattle.rh_world.specs.World.{Cell, In, IsOpened, Ref, World}
-use Rattle.rh_world.specs.World.Control.{withdrawn}
-use Rattle.rh_world.proofs.Updated.{ref_path}
-use Rattle.rh_world.specs.Notes.Note.{desc_is, found, known, new_is, old_is, size_is, target_is, which_is}
+use Rattle.rh_world.specs.World.{Cell, In, IsDecided, IsOpened, Ref, World}
+use Rattle.rh_world.specs.World.Control.{failed, undecided, unused, withdrawn}
+use Rattle.rh_world.proofs.Updated.{ref_path, same_nat}
+use Rattle.rh_world.specs.Notes.Note.{decided, desc_is, found, known, new_is, old_is, size_is, target_is, which_is}
 use Rattle.rh_world.specs.Sides.{Side}
 use Rattle.rh_world.specs.Rule.{Rule}
 use Rattle.rh_world.proofs.EndsKept.{claims_share_out}
@@ -17,14 +16,14 @@ use Rattle.rh_descriptor.specs.declared.reference.Reading.TheVariants as reading
 use Rattle.rh_descriptor.specs.Places.{IsShape, cell_count}
 use Rattle.rh_descriptor.specs.View.{OwnDesc, View}
 use Rattle.rh_descriptor.specs.View.MarkWord.{desc_word}
-use Rattle.rh_descriptor.specs.Words.{cell_in, desc_in, read_control, ref_of}
+use Rattle.rh_descriptor.specs.Words.{cell_in, desc_in, read_control, ref_of, serial_in, without_entry}
 use Rattle.rh_descriptor.specs.Steps.{IsDesc, IsKnown, IsNoted, IsRead, IsStep, Step, place, place_read, row_of, row_word}
-use Rattle.rh_rule.specs.Mirrors.{DescRow, IsCell, IsOpenedSo, IsOwn, Kept, Mirrors, numbers_of, word_at}
-use Rattle.rh_rule.specs.Sound.{Finds, OwnRow, Reads, Sound, StepsFind, ViewsAreSound}
-use Rattle.rh_rule.proofs.Deciders.{told_unused, told_withdrawn}
+use Rattle.rh_rule.specs.Mirrors.{DescRow, HasItsRow, IsCell, IsOpenedSo, IsOwn, Kept, Mirrors, numbers_of, word_at}
+use Rattle.rh_rule.specs.Sound.{ControlTells, Finds, IsControlWord, OwnRow, Reads, Sound, StepsFind, ViewsAreSound}
+use Rattle.rh_rule.proofs.Deciders.{told_failed, told_undecided, told_unused, told_withdrawn}
 use Rattle.rh_rule.proofs.OpensKept.{word_is}
-use Rattle.rh_rule.proofs.ReadsKept.{mark_known, opened_known, reads_desc_control, true_decided, true_note, work_known}
-use Rattle.rh_rule.proofs.Said.{cell_said_is, desc_said_is}
+use Rattle.rh_rule.proofs.ReadsKept.{control_word, mark_known, newest_word, opened_known, reads_desc_control, true_decided, true_note, work_known}
+use Rattle.rh_rule.proofs.Said.{cell_said_is, desc_said_is, serial_said_is}
 
 number_in : (os : List OwnDesc) (n : ℕ) → In n (numbers_of os) → (o : OwnDesc) × In o os × (o.number ≡ n)
 number_in [] n h = absurd h
@@ -41,75 +40,74 @@ module _ (z : Shape) (shape : IsShape z) (words : List ℕ) (keep : ℕ → View
   own_word : (q : Part) → IsOwn z v.worker q → word_at z words q ≡ row_word v.written (row_of z q)
   own_word q own = h.written q (subst (λ (u : ℕ). IsOwn z u q) h.worker own)
 
-  row : (d : Ref) → d.worker ≡ v.worker → IsKnown v.side.notes d → OwnRow v d
-  row d own i =
+  next_same : (d : Ref) → d.worker ≡ v.worker → w.next_number d.worker ≡ v.next_number
+  next_same d own = ap w.next_number (own ∙ h.worker) ∙ sym h.next_number
+
+  row : (d : Ref) → d.worker ≡ v.worker → IsKnown v.side.notes d → row_word v.written 1 ≡ d.number → OwnRow v d
+  row d own i serial =
       let opened = opened_known z shape words keep w side rule m who mine d i in
       let of_who : d.worker ≡ who = own ∙ h.worker in
       let same : d ≡ record { worker = who; number = d.number } = ref_path d (record { worker = who; number = d.number }) of_who refl in
       let found = number_in v.opened d.number (h.all d.number (subst (λ (x : Ref). IsOpened (w.control x)) same opened)) in
       let o : OwnDesc = found.0 in
-      let r : DescRow z words w d = m.rows.descs d opened in
+      let has : HasItsRow z words d = own_word (part.Serial d.worker) own ∙ serial in
+      let r : DescRow z words w d = m.rows.descs d opened has in
       let is : IsOpenedSo w d o = subst (λ (x : Ref). IsOpenedSo w x o) (ref_path (record { worker = who; number = o.number }) d (sym of_who) found.2) (h.opened o found.1) in
-      let next : w.next_number d.worker ≡ v.next_number = ap w.next_number of_who ∙ sym h.next_number in
-      let room : d.number + w.size d ≤ w.next_number d.worker = r.room in
-      let some : 0 < w.size d = r.some in
-      let entry_room : v.next_number ≤ z.entry_room = h.entry_room in
-      let inside : (e : ℕ) → e < length o.entries → d.number + e < z.entry_room = λ e lt. (let size : w.size d ≡ length o.entries = is.size in omega arith) in
+      let fits : w.size d ≤ cell_count z = (m.rows.entries d opened).fits in
+      let inside : (e : ℕ) → e < length o.entries → e < cell_count z = λ e lt. (let size : w.size d ≡ length o.entries = is.size in omega (arith, lt, size, fits)) in
       record {
         own = o;
         here = found.1;
         number = found.2;
-        size = sym (own_word (part.Length d.worker d.number) (own, omega arith)) ∙ r.length ∙ is.size;
-        cells = λ e lt. sym (own_word (part.EntryCell d.worker (d.number + e)) (own, inside e lt)) ∙ r.targets e (subst (λ (n : ℕ). e < n) (sym is.size) lt) ∙ is.targets e lt;
-        olds = λ e lt. sym (own_word (part.EntryOld d.worker (d.number + e)) (own, inside e lt)) ∙ r.olds e (subst (λ (n : ℕ). e < n) (sym is.size) lt) ∙ is.olds e lt;
-        news = λ e lt. sym (own_word (part.EntryNew d.worker (d.number + e)) (own, inside e lt)) ∙ r.news e (subst (λ (n : ℕ). e < n) (sym is.size) lt) ∙ is.news e lt;
+        size = sym (own_word (part.Length d.worker) own) ∙ r.length ∙ is.size;
+        cells = λ e lt. sym (own_word (part.EntryCell d.worker e) (own, inside e lt)) ∙ r.targets e (subst (λ (n : ℕ). e < n) (sym is.size) lt) ∙ is.targets e lt;
+        olds = λ e lt. sym (own_word (part.EntryOld d.worker e) (own, inside e lt)) ∙ r.olds e (subst (λ (n : ℕ). e < n) (sym is.size) lt) ∙ is.olds e lt;
+        news = λ e lt. sym (own_word (part.EntryNew d.worker e) (own, inside e lt)) ∙ r.news e (subst (λ (n : ℕ). e < n) (sym is.size) lt) ∙ is.news e lt;
       }
 
   pub sound : Sound z v
   sound = record {
-    descs_used = h.entry_room;
+    descs_used = h.desc_room;
     marks_used = h.mark_room;
+    numbers = λ d own i. subst (λ (n : ℕ). d.number < n) (next_same d own) (rule.rows.below d (opened_known z shape words keep w side rule m who mine d i));
     descs = λ d i. m.controls.descs d (opened_known z shape words keep w side rule m who mine d i);
     sizes = λ d n i.
         let q = true_note z shape words keep w side rule m who mine (size_is d n) tt refl i in
-        let row = m.rows.descs d q.0 in
+        let has = m.rows.entries d q.0 in
         let is : w.size d ≡ n = q.1 in
-        let some : 0 < w.size d = row.some in
-        let room : d.number + w.size d ≤ w.next_number d.worker = row.room in
-        let k = m.kept d.worker (m.controls.descs d q.0).0 in
-        let a : (keep d.worker).next_number ≡ w.next_number d.worker = k.next_number in
-        let b : (keep d.worker).next_number ≤ z.entry_room = k.entry_room in
-        (omega arith, omega arith);
+        (subst (λ (n : ℕ). 0 < n) is has.some, subst (λ (n : ℕ). n ≤ cell_count z) is has.fits);
     targets = λ d e c i may.
         let q = true_note z shape words keep w side rule m who mine (target_is d e c) tt refl i in
         let o = work_known z shape words keep w side rule m who mine d e may in
-        subst (λ (n : ℕ). n < cell_count z) q.1 ((m.rows.descs d o.0).within e o.1);
+        subst (λ (n : ℕ). n < cell_count z) q.1 ((m.rows.entries d o.0).within e o.1);
     olds = λ d e u i may.
         let q = true_note z shape words keep w side rule m who mine (old_is d e u) tt refl i in
         let o = ⊎_elim (work_known z shape words keep w side rule m who mine d e) (mark_known z shape words keep w side rule m who mine d e) may in
-        ap (λ (n : ℕ). tag_of n) (sym q.1) ∙ (m.rows.descs d o.0).plain_olds e o.1;
+        ap (λ (n : ℕ). tag_of n) (sym q.1) ∙ (m.rows.entries d o.0).plain_olds e o.1;
     news = λ d e u i may.
         let q = true_note z shape words keep w side rule m who mine (new_is d e u) tt refl i in
         let o = work_known z shape words keep w side rule m who mine d e may in
-        ap (λ (n : ℕ). tag_of n) (sym q.1) ∙ (m.rows.descs d o.0).plain_news e o.1;
+        ap (λ (n : ℕ). tag_of n) (sym q.1) ∙ (m.rows.entries d o.0).plain_news e o.1;
     marks = λ x c i.
         let q = true_note z shape words keep w side rule m who mine (found x c) tt refl i in
         let o = rule.rows.used x q.0 in
-        (m.rows.are_marks x q.0, subst (λ (n : ℕ). n < cell_count z) q.1 ((m.rows.descs (w.mark_desc x) o.0).within (w.mark_entry x) o.1));
+        (m.rows.are_marks x q.0, subst (λ (n : ℕ). n < cell_count z) q.1 ((m.rows.entries (w.mark_desc x) o.0).within (w.mark_entry x) o.1));
     marked = λ d e i.
         let o = mark_known z shape words keep w side rule m who mine d e i in
-        let at = m.controls.descs d o.0 in
-        let room : d.number + w.size d ≤ w.next_number d.worker = (m.rows.descs d o.0).room in
+        let fits : w.size d ≤ cell_count z = (m.rows.entries d o.0).fits in
         let less : e < w.size d = o.1 in
-        let k = m.kept d.worker at.0 in
-        let a : (keep d.worker).next_number ≡ w.next_number d.worker = k.next_number in
-        let b : (keep d.worker).next_number ≤ z.entry_room = k.entry_room in
-        (at, omega arith);
+        (m.controls.descs d o.0, omega (arith, less, fits));
+    named = λ x d i.
+        let q = true_note z shape words keep w side rule m who mine (desc_is x d) tt refl i in
+        subst (λ (y : Ref). IsDesc z y) q.1 (m.controls.descs (w.mark_desc x) (rule.rows.used x q.0).0);
     results = λ d k i. (true_decided z shape words keep w side rule m who mine d k i).0;
+    deciders = λ d by i.
+        let f = told_failed (w.control d) 0 by (true_decided z shape words keep w side rule m who mine d (failed 0 by) i).1 in
+        m.controls.deciders d f.0 by f.1;
     withdrawals = λ d own i.
         let is : w.control d ≡ withdrawn = told_withdrawn (w.control d) (true_decided z shape words keep w side rule m who mine d withdrawn i).1 in
-        let full : z.mark_room ≤ w.marks_used d.worker = m.controls.withdrawals d is in
-        subst (λ (n : ℕ). z.mark_room ≤ n) (ap w.marks_used (own ∙ h.worker) ∙ sym h.marks_used) full;
+        let full : z.rooms.marks ≤ w.marks_used d.worker = m.controls.withdrawals d is in
+        subst (λ (n : ℕ). z.rooms.marks ≤ n) (ap w.marks_used (own ∙ h.worker) ∙ sym h.marks_used) full;
     rows = row;
     one_size = λ d a b i j. sym (true_note z shape words keep w side rule m who mine (size_is d a) tt refl i).1 ∙ (true_note z shape words keep w side rule m who mine (size_is d b) tt refl j).1;
     one_target = λ d e a b i j. sym (true_note z shape words keep w side rule m who mine (target_is d e a) tt refl i).1 ∙ (true_note z shape words keep w side rule m who mine (target_is d e b) tt refl j).1;
@@ -124,18 +122,56 @@ module _ (z : Shape) (shape : IsShape z) (words : List ℕ) (keep : ℕ → View
   cell_finds : (c : ℕ) → c < cell_count z → IsCell z (cell_in (get_or words c 0))
   cell_finds c lt = subst (λ (k : Cell). IsCell z k) (sym (ap cell_in (m.cells.cells c lt) ∙ cell_said_is z shape (w.cell c) (m.cells.standing c lt))) (m.cells.standing c lt)
 
-  -- the control of an opened descriptor
-  control_finds : (d : Ref) → IsDesc z d → IsOpened (w.control d) → IsOpened (read_control (word_at z words (part.Control d.worker d.number)))
-  control_finds d here o e = o (told_unused (w.control d) (sym (reads_desc_control z shape words keep w side rule m who mine d here (word_at z words (part.Control d.worker d.number)) refl) ∙ e))
+  -- a control word is one
+  control_is : (u : ℕ) → u < z.workers → IsControlWord (word_at z words (part.Control u))
+  control_is u lt = either (w.next_number u) refl
+    where
+      either : (n : ℕ) → w.next_number u ≡ n → IsControlWord (word_at z words (part.Control u))
+      either zero none = record { number = 0; control = unused; state = tt; is = m.controls.unopened u lt none }
+      either (suc n) some =
+          let f : Ref = record { worker = u; number = n } in
+          let q = newest_word z shape words keep w side rule m who mine f lt (sym some) in
+          record { number = n; control = w.control f; state = q.1; is = q.0 }
+
+  -- that of the worker of an opened descriptor tells of it
+  control_finds : (d : Ref) → IsDesc z d → IsOpened (w.control d) → ControlTells v d (word_at z words (part.Control d.worker))
+  control_finds d here o = record {
+    word_is = control_is d.worker here.0;
+    tells = λ serial.
+        let told : read_control (word_at z words (part.Control d.worker)) ≡ without_entry (w.control d) = reads_desc_control z shape words keep w side rule m who mine d here.0 serial in
+        let next : suc d.number ≡ w.next_number d.worker = control_word z shape words keep w side rule m who mine d here.0 serial o in
+        record {
+          opened = λ e. o (told_unused (w.control d) (sym told ∙ e));
+          noted = λ e q.
+              let f = told_failed (w.control d) e v.worker (sym told ∙ q) in
+              subst (λ (u : ℕ). In (decided d (failed 0 u)) v.side.notes) (sym h.worker) (h.failures d f.0 (f.1 ∙ ap (λ (u : ℕ). failed f.0 u) h.worker));
+          older = λ q f same i.
+              let open_still : w.control d ≡ undecided = told_undecided (w.control d) (sym told ∙ q) in
+              let of_f = true_decided z shape words keep w side rule m who mine f (failed 0 v.worker) i in
+              let below : f.number < w.next_number f.worker = rule.rows.below f (opened_known z shape words keep w side rule m who mine f (inr (failed 0 v.worker, i))) in
+              less d f same (below, next) (λ e. subst IsDecided (sym of_f.1 ∙ ap (λ (y : Ref). without_entry (w.control y)) e ∙ ap without_entry open_still) of_f.0);
+          newest = λ own. next ∙ next_same d own;
+        };
+    stays = λ own next.
+        let q = newest_word z shape words keep w side rule m who mine d here.0 (next ∙ sym (next_same d own)) in
+        ap serial_in q.0 ∙ serial_said_is d.number (w.control d) q.1;
+  }
+    where
+      less : (d f : Ref) → f.worker ≡ d.worker → (f.number < w.next_number f.worker) × (suc d.number ≡ w.next_number d.worker) → (f ≡ d → ⊥) → f.number < d.number
+      less d f same q ne =
+          let a : f.number < w.next_number d.worker = subst (λ (u : ℕ). f.number < w.next_number u) same q.0 in
+          let b : suc d.number ≡ w.next_number d.worker = q.1 in
+          ⊎_elim (λ (e : f.number ≡ d.number). absurd (ne (ref_path f d same e))) (λ (other : f.number ≢ d.number). omega (arith, a, b, other)) (same_nat f.number d.number)
 
   reads_find : (r : Reading) → IsRead z r → IsNoted v r → Reads z v r (get_or words (place_read z r) 0)
   reads_find (reading.Place p) here may = λ q own e. ap (λ (n : ℕ). get_or words n 0) e ∙ own_word q own
   reads_find (reading.Cell c) here may = cell_finds c here
-  reads_find (reading.Control d) here may = λ i. control_finds (ref_of d) here (opened_known z shape words keep w side rule m who mine (ref_of d) i)
+  reads_find (reading.Control d) here may = (control_is d.worker here.0, λ i. control_finds (ref_of d) here (opened_known z shape words keep w side rule m who mine (ref_of d) i))
   reads_find (reading.MarkControl x c d) here may =
       let f = true_note z shape words keep w side rule m who mine (found (ref_of x) c) tt refl may.0 in
       let is = true_note z shape words keep w side rule m who mine (desc_is (ref_of x) (ref_of d)) tt refl may.1 in
       control_finds (ref_of d) here (subst (λ (y : Ref). IsOpened (w.control y)) is.1 (rule.rows.used (ref_of x) f.0).0)
+  reads_find (reading.Serial d) here may = tt
   reads_find (reading.Length d) here may = tt
   reads_find (reading.EntryCell d e) here may = tt
   reads_find (reading.EntryOld d e) here may = tt
@@ -146,10 +182,11 @@ module _ (z : Shape) (shape : IsShape z) (words : List ℕ) (keep : ℕ → View
       (d, ap desc_in (r.said stands) ∙ desc_said_is z shape d (m.controls.descs d (rule.rows.used (ref_of x) r.used).0))
   reads_find (reading.MarkDesc x) here may = tt
   reads_find (reading.MarkEntry x) here may = tt
+  reads_find (reading.Reason d by) here may = tt
 
   pub finds : (s : Step) → IsStep z v s → Finds z v s (get_or words (place z v s) 0)
   finds (Step.writes p u) may = tt
-  finds (Step.opens size) may = subst (λ (d : Ref). word_at z words (part.Control d.worker d.number) ≡ UNUSED) (λ i. record { worker = sym h.worker i; number = sym h.next_number i }) (word_is z shape words keep w side rule m who mine size may)
+  finds (Step.opens size) may = subst (λ (u : ℕ). word_at z words (part.Control u) ≡ v.control) (sym h.worker) (word_is z shape words keep w side rule m who mine size may)
   finds (Step.reads r) may = reads_find r may.0 may.1
   finds (Step.places d e c old) may = cell_finds c may.cell
   finds (Step.settles x c d e old) may = cell_finds c may.cell

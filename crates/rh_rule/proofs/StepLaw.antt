@@ -16,7 +16,7 @@ use Rattle.rh_rule.proofs.WritesKept.{keeps_claim, keeps_write}
 
 step_keeps : (w : World) (z : Shape) (words : List ℕ) (keep : ℕ → View) (who : ℕ) (s : Step) → IsShape z → (core : Core w z words keep)
     → who < z.workers → IsStep z (keep who) s
-    → Core (world_then w who (keep who) s) z (set words (place z (keep who) s) (word_after (keep who) s (get_or words (place z (keep who) s) 0)))
+    → Core (world_then z w who (keep who) s) z (set words (place z (keep who) s) (word_after (keep who) s (get_or words (place z (keep who) s) 0)))
     (updated keep who (noted z (keep who) s (get_or words (place z (keep who) s) 0)))
 step_keeps w z words keep who (Step.writes p u) shape core mine may = keeps_write z shape words keep w core.side core.rule core.mirrors who mine p u may
 step_keeps w z words keep who (Step.opens size) shape core mine may = keeps_open z shape words keep w core.side core.rule core.mirrors who mine size may
@@ -32,6 +32,6 @@ step_keeps w z words keep who Step.claims shape core mine may = keeps_claim z sh
 pub each_step_keeps : EachStepKeeps
 each_step_keeps w z words then keep who s word next shape core mine may to =
     let p : ℕ = place z (keep who) s in
-    subst (λ (x : List ℕ × View). Core (world_then w who (keep who) s) z x.0 (updated keep who x.1))
+    subst (λ (x : List ℕ × View). Core (world_then z w who (keep who) s) z x.0 (updated keep who x.1))
     (λ i. (sym (to.words_are ∙ (λ j. set words p (word_after (keep who) s (to.found_is j)))) i, sym (to.view_is ∙ (λ j. noted z (keep who) s (to.found_is j))) i))
     (step_keeps w z words keep who s shape core mine may.step)

@@ -14,7 +14,7 @@ use Rattle.rh_world.proofs.Tests.{both, is_ref_yes}
 use Rattle.rh_world.proofs.Updated.{updated_ref_here}
 use Rattle.rh_descriptor.specs.declared.shape.Shape.{Shape}
 use Rattle.rh_descriptor.specs.View.{OwnDesc, View}
-use Rattle.rh_descriptor.specs.Words.{without_decider}
+use Rattle.rh_descriptor.specs.Words.{without_entry}
 use Rattle.rh_rule.specs.Mirrors.{IsCell, cell_number, numbers_of}
 use Rattle.rh_rule.specs.Core.{Core}
 use Rattle.rh_rule.specs.Rest.{Rests, Tells, Told, is_noted_success, says_success}
@@ -35,7 +35,7 @@ told w z words keep core =
       opened = λ v o lt i. (m.kept v lt).opened o i;
       results = λ v d k lt i.
           let j = in_decided d k (core.side v) (subst (λ (s : Side). In (decided d k) s.notes) (m.kept v lt).side_is i) in
-          ap without_decider (core.rule.rows.notes v (decided d j.0) j.2 refl).1 ∙ j.1;
+          ap without_entry (core.rule.rows.notes v (decided d j.0) j.2 refl).1 ∙ j.1;
       own = λ v lt. let h = m.kept v lt in order.own v _ h.falling h.all;
       workers = λ i lt. (m.controls.descs (w.act i) (succeeded_opened (w.control (w.act i)) (order.succeeded i lt))).0;
     }
@@ -133,7 +133,7 @@ rests w z words keep core rest =
           t.own v lt ∙ filtered (λ n. is_success (w.control (record { worker = v; number = n }))) (λ o. is_noted_success (keep v).side.notes (record { worker = (keep v).worker; number = o.number })) (keep v).opened
           (λ o i.
           let d : Ref = record { worker = v; number = o.number } in
-          sym (told_success (w.control d)) ∙ success_noted (keep v).side.notes d (without_decider (w.control d)) (λ k j. t.results v d k lt j)
+          sym (told_success (w.control d)) ∙ success_noted (keep v).side.notes d (without_entry (w.control d)) (λ k j. t.results v d k lt j)
           (⊎_elim (λ q. let bad : None ≡ Some o.number = sym (rest.rest v lt).closed ∙ q in cc) (λ q. q) (h.over o i))
           ∙ ap (is_noted_success (keep v).side.notes) (λ j. record { worker = sym h.worker j; number = o.number }));
     }

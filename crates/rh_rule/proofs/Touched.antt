@@ -1,55 +1,62 @@
 -- A step that sets the word of one part: what stays of the mirror.
-use Rattle.std.proofs.Common.{zero, suc, ◌≡◌, ◌≢◌, ℕ, ◌<◌, ◌≤◌, arith, List, length, set, sym, ap, ◌∙◌, subst, length-set}
+use Rattle.std.proofs.Common.{zero, suc, ◌≡◌, ◌≢◌, ℕ, ◌<◌, ◌≤◌, arith, List, length, set, refl, sym, ap, ◌∙◌, subst, length-set}
 use Rattle.rh_world.specs.World.{Cell, IsOpened, IsUsed, Ref, World}
 use Rattle.rh_world.specs.World.Cell.{mark}
+use Rattle.rh_world.specs.World.Control.{failed, unused}
 use Rattle.rh_world.specs.Later.{Steady}
 use Rattle.rh_world.specs.Sides.{Side}
 use Rattle.rh_descriptor.specs.declared.shape.Shape.{Shape}
 use Rattle.rh_descriptor.specs.declared.shape.Part.{Part}
 use Rattle.rh_descriptor.specs.declared.shape.Part.TheVariants as part
 use Rattle.rh_descriptor.specs.Places.{IsPart, cell_count, place_of, word_count}
-use Rattle.rh_descriptor.specs.View.{Raw, View}
+use Rattle.rh_descriptor.specs.View.{Raw, RawRow, View}
 use Rattle.rh_descriptor.specs.Words.{number_of}
-use Rattle.rh_rule.specs.Mirrors.{Cells, Controls, IsCell, IsOwn, IsRaw, Kept, RowWords, Stands, cell_number, word_at, Mirrors}
+use Rattle.rh_rule.specs.Mirrors.{Cells, Controls, IsCell, IsOwn, IsRaw, IsRawRow, Kept, RowWords, Stands, cell_number, word_at, Mirrors}
 use Rattle.rh_rule.proofs.Frames.{word_same}
-use Rattle.rh_rule.proofs.Kept.{IsFixed, MarksStay, kept_stays, numbers_within, raw_stays, rows_stay}
+use Rattle.rh_rule.proofs.Kept.{DescsStay, MarksStay, Meets, Over, Quiet, kept_stays, quiet, raw_row_stays, raw_stays, rows_stay}
 
 -- parts of the rows are parts of the table
 pub own_part : (z : Shape) (u : ℕ) (q : Part) → u < z.workers → IsOwn z u q → IsPart z q
 own_part z u (part.Cell c) lt o = absurd o
-own_part z u (part.Control worker n) lt o = absurd o
-own_part z u (part.Length worker n) lt o = (subst (λ (x : ℕ). x < z.workers) (sym o.0) lt, o.1)
+own_part z u (part.Control worker) lt o = absurd o
+own_part z u (part.Serial worker) lt o = subst (λ (x : ℕ). x < z.workers) (sym o) lt
+own_part z u (part.Length worker) lt o = subst (λ (x : ℕ). x < z.workers) (sym o) lt
 own_part z u (part.EntryCell worker n) lt o = (subst (λ (x : ℕ). x < z.workers) (sym o.0) lt, o.1)
 own_part z u (part.EntryOld worker n) lt o = (subst (λ (x : ℕ). x < z.workers) (sym o.0) lt, o.1)
 own_part z u (part.EntryNew worker n) lt o = (subst (λ (x : ℕ). x < z.workers) (sym o.0) lt, o.1)
 own_part z u (part.MarkSerial worker) lt o = subst (λ (x : ℕ). x < z.workers) (sym o) lt
 own_part z u (part.MarkDesc worker) lt o = subst (λ (x : ℕ). x < z.workers) (sym o) lt
 own_part z u (part.MarkEntry worker) lt o = subst (λ (x : ℕ). x < z.workers) (sym o) lt
+own_part z u (part.Note worker owner) lt o = (subst (λ (x : ℕ). x < z.workers) (sym o.0) lt, o.1)
 own_part z u part.Counter lt o = absurd o
 
-pub fixed_part : (z : Shape) (w : World) (q : Part) → IsFixed z w q → IsPart z q
-fixed_part z w (part.Cell c) o = absurd o
-fixed_part z w (part.Control worker n) o = absurd o
-fixed_part z w (part.Length worker n) o = (o.0, o.2)
-fixed_part z w (part.EntryCell worker n) o = (o.0, o.2)
-fixed_part z w (part.EntryOld worker n) o = (o.0, o.2)
-fixed_part z w (part.EntryNew worker n) o = (o.0, o.2)
-fixed_part z w (part.MarkSerial worker) o = absurd o
-fixed_part z w (part.MarkDesc worker) o = absurd o
-fixed_part z w (part.MarkEntry worker) o = absurd o
-fixed_part z w part.Counter o = absurd o
+-- a word of a descriptor row, of a mark row
+abbrev pub IsOfDesc : Part → Type 0
+IsOfDesc (part.Cell c) = ⊥
+IsOfDesc (part.Control worker) = ⊥
+IsOfDesc (part.Serial worker) = Unit {0}
+IsOfDesc (part.Length worker) = Unit {0}
+IsOfDesc (part.EntryCell worker n) = Unit {0}
+IsOfDesc (part.EntryOld worker n) = Unit {0}
+IsOfDesc (part.EntryNew worker n) = Unit {0}
+IsOfDesc (part.MarkSerial worker) = ⊥
+IsOfDesc (part.MarkDesc worker) = ⊥
+IsOfDesc (part.MarkEntry worker) = ⊥
+IsOfDesc (part.Note worker owner) = ⊥
+IsOfDesc part.Counter = ⊥
 
--- a word of a mark row
 abbrev pub IsOfMark : Part → Type 0
 IsOfMark (part.Cell c) = ⊥
-IsOfMark (part.Control worker n) = ⊥
-IsOfMark (part.Length worker n) = ⊥
+IsOfMark (part.Control worker) = ⊥
+IsOfMark (part.Serial worker) = ⊥
+IsOfMark (part.Length worker) = ⊥
 IsOfMark (part.EntryCell worker n) = ⊥
 IsOfMark (part.EntryOld worker n) = ⊥
 IsOfMark (part.EntryNew worker n) = ⊥
 IsOfMark (part.MarkSerial worker) = Unit {0}
 IsOfMark (part.MarkDesc worker) = Unit {0}
 IsOfMark (part.MarkEntry worker) = Unit {0}
+IsOfMark (part.Note worker owner) = ⊥
 IsOfMark part.Counter = ⊥
 
 -- marks that are used up stay so
@@ -68,8 +75,23 @@ module _ (z : Shape) (words : List ℕ) (keep : ℕ → View) (w : World) (side 
       → word_at z then q ≡ word_at z words q
   own_same u lt clear q o = word_same z words p n here q (own_part z u q lt o) (λ e. clear (subst (λ (x : Part). IsOwn z u x) e o))
 
-  pub fixed_same : (IsFixed z w p → ⊥) → (q : Part) → IsFixed z w q → word_at z then q ≡ word_at z words q
-  fixed_same clear q o = word_same z words p n here q (fixed_part z w q o) (λ e. clear (subst (λ (x : Part). IsFixed z w x) e o))
+  desc_word_same : (IsOfDesc p → ⊥) → (q : Part) → IsPart z q → IsOfDesc q → word_at z then q ≡ word_at z words q
+  desc_word_same clear q part of = word_same z words p n here q part (λ e. clear (subst (λ (x : Part). IsOfDesc x) e of))
+
+  pub serial_same : (IsOfDesc p → ⊥) → (u : ℕ) → u < z.workers → word_at z then (part.Serial u) ≡ word_at z words (part.Serial u)
+  serial_same clear u lt = desc_word_same clear (part.Serial u) lt tt
+
+  pub descs_same : (IsOfDesc p → ⊥) → DescsStay z words then w
+  descs_same clear d is o has = record {
+    had = sym (serial_same clear d.worker is.0) ∙ has;
+    length = desc_word_same clear (part.Length d.worker) is.0 tt;
+    cells = λ e lt. desc_word_same clear (part.EntryCell d.worker e) (is.0, lt) tt;
+    olds = λ e lt. desc_word_same clear (part.EntryOld d.worker e) (is.0, lt) tt;
+    news = λ e lt. desc_word_same clear (part.EntryNew d.worker e) (is.0, lt) tt;
+  }
+
+  pub raw_row_same : (IsOfDesc p → ⊥) → (r : RawRow) → IsRawRow z words w r → IsRawRow z then v r
+  raw_row_same clear = raw_row_stays z words then w v l (descs_same clear) m.controls.descs
 
   pub mark_word_same : (IsOfMark p → ⊥) → (q : Part) → IsPart z q → IsOfMark q → word_at z then q ≡ word_at z words q
   mark_word_same clear q part of = word_same z words p n here q part (λ e. clear (subst (λ (x : Part). IsOfMark x) e of))
@@ -101,26 +123,47 @@ module _ (z : Shape) (words : List ℕ) (keep : ℕ → View) (w : World) (side 
     standing = λ c h. subst (λ (k : Cell). IsCell z k) (sym (same c)) (m.cells.standing c h);
   }
 
-  pub controls_same : ((worker number : ℕ) → part.Control worker number ≢ p) → ((d : Ref) → v.control d ≡ w.control d)
-      → Controls z then v
-  controls_same ne same = record {
-    controls = λ d h. word_same z words p n here (part.Control d.worker d.number) h (ne d.worker d.number) ∙ m.controls.controls d h ∙ ap number_of (sym (same d));
+  pub controls_same : ((worker : ℕ) → part.Control worker ≢ p) → ((worker owner : ℕ) → part.Note worker owner ≢ p)
+      → ((d : Ref) → v.control d ≡ w.control d) → ((u : ℕ) → v.next_number u ≡ w.next_number u) → Controls z then v
+  controls_same ne not_note same numbers = record {
+    unopened = λ u lt e. word_same z words p n here (part.Control u) lt (ne u) ∙ m.controls.unopened u lt (sym (numbers u) ∙ e);
+    newest = λ d lt e. let q = m.controls.newest d lt (e ∙ numbers d.worker) in
+        ((λ o. q.0 (sym (same d) ∙ o)), word_same z words p n here (part.Control d.worker) lt (ne d.worker) ∙ q.1 ∙ ap (number_of d.number) (sym (same d)));
     descs = λ d o. m.controls.descs d (λ e. o (same d ∙ e));
-    failures = λ d e q. m.controls.failures d e (q.0, sym (same d) ∙ q.1);
-    withdrawals = λ d q. marks_stay z.mark_room w v l d.worker (m.controls.withdrawals d (sym (same d) ∙ q));
+    withdrawals = λ d q. marks_stay z.rooms.marks w v l d.worker (m.controls.withdrawals d (sym (same d) ∙ q));
+    deciders = λ d e by q. m.controls.deciders d e by (sym (same d) ∙ q);
+    reasons = λ d e by q is.
+        let f : w.control d ≡ failed e by = sym (same d) ∙ q in
+        let owner = (m.controls.descs d (λ u. let bad : failed e by ≡ unused = sym f ∙ u in cc)).0 in
+        word_same z words p n here (part.Note by d.worker) (m.controls.deciders d e by f, owner) (not_note by d.worker) ∙ m.controls.reasons d e by f (is ∙ numbers d.worker);
   }
 
-  pub rows_same : (IsFixed z w p → ⊥) → ((u : ℕ) → v.next_number u ≡ w.next_number u)
-      → ((d : Ref) → IsOpened (v.control d) → IsOpened (w.control d)) → ((x : Ref) → IsUsed v x → IsUsed w x)
-      → MarksStay z words then w → ((j : ℕ) (x : Ref) → j < cell_count z → v.cell j ≡ mark x → Stands z then x) → RowWords z then v
-  rows_same clear numbers back fewer marks placed = rows_stay z words then w v l m.controls (numbers_within z words keep w side m) numbers back fewer (fixed_same clear) marks placed m.rows
+  pub rows_same : ((d : Ref) → IsOpened (v.control d) → IsOpened (w.control d)) → ((x : Ref) → IsUsed v x → IsUsed w x)
+      → DescsStay z words then w → MarksStay z words then w → ((j : ℕ) (x : Ref) → j < cell_count z → v.cell j ≡ mark x → Stands z then x) → RowWords z then v
+  rows_same back fewer descs marks placed = rows_stay z words then w v l m.controls.descs back fewer descs marks placed m.rows
 
   -- what is kept of the other workers
   pub others_stay : (who : ℕ) → ((u : ℕ) → u ≢ who → v.next_number u ≡ w.next_number u)
       → ((u : ℕ) → u ≢ who → v.marks_used u ≡ w.marks_used u)
       → ((d : Ref) → d.worker ≢ who → IsOpened (v.control d) → IsOpened (w.control d))
-      → ((u : ℕ) → u ≢ who → IsOwn z u p → ⊥) → MarksStay z words then w
+      → ((u : ℕ) → u ≢ who → IsOwn z u p → ⊥) → DescsStay z words then w → MarksStay z words then w
+      → ((u : ℕ) → u ≢ who → (d : Ref) (e : ℕ) → v.control d ≡ failed e u → w.control d ≡ failed e u)
       → (u : ℕ) → u < z.workers → u ≢ who → Kept z then v (side u) u (keep u)
-  others_stay who numbers marks back clear stay u lt ne =
+  others_stay who numbers marks back clear descs stay fails u lt ne =
       let h = m.kept u lt in
-      kept_stays z words then w v l (side u) (side u) u (keep u) (keep u).side (keep u).raw (numbers u ne) (marks u ne) (λ i o. back record { worker = u; number = i } ne o) (own_same u lt (clear u ne)) (λ r i. raw_stays z words then w v l stay m.rows r (h.raw r i)) h.side_is h.over h
+      let same = own_same u lt (clear u ne) in
+      kept_stays z words then w v l (side u) (side u) u (keep u) (keep u).side (keep u).control (keep u).raw_rows (keep u).raw (numbers u ne) (marks u ne)
+      (λ i o. back record { worker = u; number = i } ne o) same
+      (λ r i. raw_row_stays z words then w v l descs m.controls.descs r (h.raw_rows r i)) (λ r i. raw_stays z words then w v l stay m.rows r (h.raw r i)) h.side_is
+      record {
+        over = h.over;
+        no_control = h.no_control;
+        control = h.control;
+        open_row = λ i c. same (part.Serial u) refl ∙ h.open_row i c;
+        failures = λ d e f. h.failures d e (fails u ne d e f);
+      } h
+
+  -- of a worker that notes no control
+  pub quiet_same : (u : ℕ) → u < z.workers → (IsOfDesc p → ⊥) → (x : Side) → Quiet (keep u).side x → Over u (keep u).opened x
+      → ((d : Ref) (e : ℕ) → v.control d ≡ failed e u → w.control d ≡ failed e u) → Meets z then v u (keep u) x (keep u).control
+  quiet_same u lt clear x q over fails = quiet z words then w v l (side u) u (keep u) x (m.kept u lt) q over (serial_same clear u lt) fails

@@ -9,11 +9,11 @@ use Rattle.rh_world.specs.Claims.{ends_found}
 use Rattle.rh_world.specs.Ends.{AllAtRest, opening_world}
 use Rattle.rh_world.proofs.ClaimsKept.{claims_stay}
 use Rattle.rh_world.proofs.EndsKept.{opening_meets, rest_is_settled}
-use Rattle.rh_world.proofs.Updated.{failed_opened, same_nat}
+use Rattle.rh_world.proofs.Updated.{same_nat}
 use Rattle.rh_descriptor.specs.declared.shape.Shape.{Shape}
 use Rattle.rh_descriptor.specs.declared.shape.Part.{Part}
 use Rattle.rh_descriptor.specs.declared.shape.Part.TheVariants as part
-use Rattle.rh_descriptor.specs.Places.{cell_count, entry_row, place_of, row_count, word_count}
+use Rattle.rh_descriptor.specs.Places.{cell_count, place_of, row_count, word_count}
 use Rattle.rh_descriptor.specs.View.{View, Wiping, new_view, round_view}
 use Rattle.rh_descriptor.specs.Words.{IsPlain}
 use Rattle.rh_descriptor.specs.Steps.{row_of}
@@ -35,21 +35,22 @@ row_number z p v lt own =
   where
     below : (p : Part) → IsOwn z v p → row_of z p < row_count z
     below (part.Cell c) o = absurd o
-    below (part.Control worker n) o = absurd o
-    below (part.Length worker n) o = entry_inside z.entry_room n 1 o.1 (omega arith)
-    below (part.EntryCell worker n) o = entry_inside z.entry_room n 2 o.1 (omega arith)
-    below (part.EntryOld worker n) o = entry_inside z.entry_room n 3 o.1 (omega arith)
-    below (part.EntryNew worker n) o = entry_inside z.entry_room n 4 o.1 (omega arith)
+    below (part.Control worker) o = absurd o
+    below (part.Serial worker) o = omega arith
+    below (part.Length worker) o = omega arith
+    below (part.EntryCell worker n) o = entry_inside (cell_count z) n 0 z.workers o.1 (omega arith)
+    below (part.EntryOld worker n) o = entry_inside (cell_count z) n 1 z.workers o.1 (omega arith)
+    below (part.EntryNew worker n) o = entry_inside (cell_count z) n 2 z.workers o.1 (omega arith)
     below (part.MarkSerial worker) o = omega arith
     below (part.MarkDesc worker) o = omega arith
     below (part.MarkEntry worker) o = omega arith
+    below (part.Note worker owner) o = (let lt : owner < z.workers = o.1 in omega arith)
     below part.Counter o = absurd o
 
-control_number : (z : Shape) (worker n : ℕ) → worker < z.workers → n < z.entry_room
-    → (i : ℕ) × (i < row_total z) × (place_of z (part.Control worker n) ≡ cell_count z + i)
-control_number z worker n lt room =
-    let h = mul-add-lt worker (row_count z) (entry_row n 0) z.workers lt (entry_inside z.entry_room n 0 room (omega arith)) in
-    (worker * row_count z + entry_row n 0, omega (arith, h), refl)
+control_number : (z : Shape) (worker : ℕ) → worker < z.workers → (i : ℕ) × (i < row_total z) × (place_of z (part.Control worker) ≡ cell_count z + i)
+control_number z worker lt =
+    let h = mul-add-lt worker (row_count z) 0 z.workers lt (omega arith) in
+    (worker * row_count z + 0, omega (arith, h), refl)
 
 -- it meets the rule, with these cells as its opening cells
 pub fresh : (z : Shape) (words opening : List ℕ) (keep before : ℕ → View) → length words ≡ word_count z
@@ -74,13 +75,16 @@ fresh z words opening keep before sized cells plain_cells zeros s workers is =
           counter = refl;
           cells = record { cells = cells; standing = λ c h. ap (λ (n : ℕ). tag_of n) (sym (cells c h)) ∙ plain_cells c h };
           controls = record {
-            controls = λ d h. let i = control_number z d.worker d.number h.0 h.1 in ap (λ (n : ℕ). get_or words n 0) i.2 ∙ zeros i.0 i.1;
+            unopened = λ u lt e. let i = control_number z u lt in ap (λ (n : ℕ). get_or words n 0) i.2 ∙ zeros i.0 i.1;
+            newest = λ d lt e. absurd (let bad : suc d.number ≡ 0 = e in omega (arith, bad));
             descs = λ d o. absurd (o refl);
-            failures = λ d e q. absurd (failed_opened w d e q refl);
             withdrawals = λ d q. cc;
+            deciders = λ d e by q. cc;
+            reasons = λ d e by q is. cc;
           };
           rows = record {
-            descs = λ d o. absurd (o refl);
+            entries = λ d o. absurd (o refl);
+            descs = λ d o has. absurd (o refl);
             are_marks = λ x u. absurd (omega arith);
             marks = λ x u here. absurd (omega arith);
             placed = λ c x lt q. cc;
@@ -91,10 +95,15 @@ fresh z words opening keep before sized cells plain_cells zeros s workers is =
             side_is = ap (λ (l : List ℕ). record new_side { claims = l }) (s.kept v lt);
             opening = λ c h. refl;
             next_number = refl;
-            entry_room = omega arith;
+            desc_room = omega arith;
+            no_control = λ e. refl;
+            control = λ n r is i. absurd i;
+            open_row = λ n c. cc;
+            failures = λ d e f. cc;
             marks_used = refl;
             mark_room = omega arith;
             written = λ p o. let i = row_number z p v lt o in ap (λ (n : ℕ). get_or words n 0) i.2 ∙ zeros i.0 i.1;
+            raw_rows = λ r i. absurd i;
             raw = λ r i. absurd i;
             opened = λ o i. absurd i;
             all = λ n o. absurd (o refl);

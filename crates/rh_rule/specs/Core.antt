@@ -9,8 +9,7 @@ use Rattle.rh_descriptor.specs.Places.{IsShape}
 use Rattle.rh_descriptor.specs.View.{View}
 use Rattle.rh_world.specs.Moves.{world_after}
 use Rattle.rh_world.specs.Moves.Move.{opens, places, settles, decides, releases, claims}
-use Rattle.rh_descriptor.specs.Words.{decided_by}
-use Rattle.rh_descriptor.specs.Steps.{Step, Allowed, StepsTo, entries_of, is_none, next_entries}
+use Rattle.rh_descriptor.specs.Steps.{Step, Allowed, StepsTo, decided_so, entries_of, is_none, next_entries}
 use Rattle.rh_rule.specs.Mirrors.{Mirrors}
 
 -- the table is ruled by this world
@@ -24,18 +23,18 @@ abbrev pub Ruled : Shape → List ℕ → (ℕ → View) → Type 0
 Ruled z words keep = (w : World) × Core w z words keep
 
 -- the world after a step of a worker, of whom this is kept: a Write changes words of rows that are no part of the world
-abbrev pub world_then : World → (who : ℕ) → View → Step → World
-world_then w who v (Step.writes p u) = w
-world_then w who v (Step.opens size) = world_after w who (opens (entries_of (next_entries v size)))
-world_then w who v (Step.reads r) = w
-world_then w who v (Step.places d e c old) = world_after w who (places d e)
-world_then w who v (Step.settles x c d e old) = world_after w who (settles x c (is_none old))
-world_then w who v (Step.decides d k) = world_after w who (decides d (decided_by who k))
-world_then w who v (Step.releases d e c k value) = world_after w who (releases d e)
-world_then w who v Step.claims = world_after w who claims
+abbrev pub world_then : Shape → World → (who : ℕ) → View → Step → World
+world_then z w who v (Step.writes p u) = w
+world_then z w who v (Step.opens size) = world_after w who (opens (entries_of (next_entries v size)))
+world_then z w who v (Step.reads r) = w
+world_then z w who v (Step.places d e c old) = world_after w who (places d e)
+world_then z w who v (Step.settles x c d e old) = world_after w who (settles x c (is_none old))
+world_then z w who v (Step.decides d k) = world_after w who (decides d (decided_so z v d k))
+world_then z w who v (Step.releases d e c k value) = world_after w who (releases d e)
+world_then z w who v Step.claims = world_after w who claims
 
 -- Each allowed step of a worker of the table keeps the rule, and takes the world to the next one.
 abbrev pub EachStepKeeps : Type 0
 EachStepKeeps = (w : World) (z : Shape) (words then : List ℕ) (keep : ℕ → View) (who : ℕ) (s : Step) (word : ℕ) (next : View)
     → IsShape z → Core w z words keep → who < z.workers → Allowed z (keep who) s → StepsTo z s words (keep who) word then next
-    → Core (world_then w who (keep who) s) z then (updated keep who next)
+    → Core (world_then z w who (keep who) s) z then (updated keep who next)

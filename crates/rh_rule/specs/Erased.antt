@@ -1,10 +1,10 @@
--- A Side without the numbers of acts and without those who decided that a descriptor failed, which no word tells: they
--- are 0.
+-- A Side without the numbers of acts, and without the entries at which descriptors failed, which no control tells: they are
+-- 0.
 use Rattle.std.specs.Prelude.{map}
 use Rattle.rh_world.specs.Notes.{Note}
 use Rattle.rh_world.specs.Notes.Note.{known, size_is, target_is, old_is, new_is, decided, over, passed, failed_at, desc_is, which_is, found, may_promote, may_demote, held, mismatch}
 use Rattle.rh_world.specs.Sides.{KeptRead, Side}
-use Rattle.rh_descriptor.specs.Words.{without_decider}
+use Rattle.rh_descriptor.specs.Words.{without_entry}
 
 abbrev pub erased_note : Note → Note
 erased_note (known d) = known d
@@ -12,7 +12,7 @@ erased_note (size_is d n) = size_is d n
 erased_note (target_is d e c) = target_is d e c
 erased_note (old_is d e u) = old_is d e u
 erased_note (new_is d e u) = new_is d e u
-erased_note (decided d k) = decided d (without_decider k)
+erased_note (decided d k) = decided d (without_entry k)
 erased_note (over d) = over d
 erased_note (passed d) = passed d
 erased_note (failed_at d e) = failed_at d e

@@ -1,17 +1,17 @@
 -- How the words of a table, and what is kept of its workers, mirror a world. Only here does a part of the world have a
 -- place. (own)
-use Rattle.std.specs.Prelude.{◌≡◌, ℕ, ◌+◌, ◌<◌, ◌≤◌, ◌^◌, ◌⊎◌, Some, None, List, map, length, slice_index}
-use Rattle.rh_tagword.specs.declared.limits.TheConstants.{ENTRY_BITS}
-use Rattle.rh_world.specs.World.{Ref, Cell, Control, World, IsOpened, HasFailed, IsUsed, IsFalling, In}
+use Rattle.std.specs.Prelude.{suc, ◌≡◌, ℕ, ◌<◌, ◌≤◌, ◌⊎◌, Some, None, List, map, length, slice_index}
+use Rattle.rh_world.specs.World.{Ref, Cell, Control, World, IsOpened, IsUsed, IsFalling, In}
 use Rattle.rh_world.specs.World.Cell.{plain, mark, desc}
-use Rattle.rh_world.specs.World.Control.{withdrawn}
+use Rattle.rh_world.specs.World.Control.{failed, withdrawn}
 use Rattle.rh_world.specs.Notes.Note.{decided}
 use Rattle.rh_world.specs.Sides.{Side, new_side}
 use Rattle.rh_descriptor.specs.declared.shape.Shape.{Shape}
 use Rattle.rh_descriptor.specs.declared.shape.Part.{Part}
 use Rattle.rh_descriptor.specs.declared.shape.Part.TheVariants as part
 use Rattle.rh_descriptor.specs.Places.{cell_count, place_of, word_count}
-use Rattle.rh_descriptor.specs.View.{MarkWord, OwnDesc, Raw, View}
+use Rattle.rh_descriptor.specs.View.{MarkWord, OwnDesc, Raw, RawRow, RowWord, View}
+use Rattle.rh_descriptor.specs.View.RowWord.{length_word, cell_word, old_word, new_word}
 use Rattle.rh_descriptor.specs.View.MarkWord.{desc_word, entry_word}
 use Rattle.rh_descriptor.specs.Words.{IsPlain, mark_number, desc_number, number_of}
 use Rattle.rh_descriptor.specs.Steps.{IsDesc, IsMark, row_of, row_word, entry_of}
@@ -35,24 +35,44 @@ pub record Cells (z : Shape) (words : List ℕ) (w : World) : Type 0 where
   pub cells : (c : ℕ) → c < cell_count z → slice_index words c ≡ cell_number (w.cell c)
   pub standing : (c : ℕ) → c < cell_count z → IsCell z (w.cell c)
 
+-- The control word of a worker is that of its newest descriptor, and 0 before the first.
 pub record Controls (z : Shape) (words : List ℕ) (w : World) : Type 0 where
-  pub controls : (d : Ref) → IsDesc z d → word_at z words (part.Control d.worker d.number) ≡ number_of (w.control d)
+  pub unopened : (v : ℕ) → v < z.workers → w.next_number v ≡ 0 → word_at z words (part.Control v) ≡ 0
+  pub newest : (d : Ref) → d.worker < z.workers → suc d.number ≡ w.next_number d.worker
+      → IsOpened (w.control d) × (word_at z words (part.Control d.worker) ≡ number_of d.number (w.control d))
   pub descs : (d : Ref) → IsOpened (w.control d) → IsDesc z d
-  pub failures : (d : Ref) (e : ℕ) → HasFailed w d e → e < 2 ^ ENTRY_BITS
   -- a descriptor is withdrawn only where no mark of its worker is left
-  pub withdrawals : (d : Ref) → w.control d ≡ withdrawn → z.mark_room ≤ w.marks_used d.worker
+  pub withdrawals : (d : Ref) → w.control d ≡ withdrawn → z.rooms.marks ≤ w.marks_used d.worker
+  -- who decided that a descriptor failed tells its owner at which entry, until the owner opens the next one
+  pub deciders : (d : Ref) (e by : ℕ) → w.control d ≡ failed e by → by < z.workers
+  pub reasons : (d : Ref) (e by : ℕ) → w.control d ≡ failed e by → suc d.number ≡ w.next_number d.worker
+      → word_at z words (part.Note by d.worker) ≡ e
 
--- the row of an opened descriptor: its entries stand there, they are entries, and they have places of their own
-pub record DescRow (z : Shape) (words : List ℕ) (w : World) (d : Ref) : Type 0 where
-  pub length : word_at z words (part.Length d.worker d.number) ≡ w.size d
-  pub targets : (e : ℕ) → e < w.size d → word_at z words (part.EntryCell d.worker (d.number + e)) ≡ w.target d e
-  pub olds : (e : ℕ) → e < w.size d → word_at z words (part.EntryOld d.worker (d.number + e)) ≡ w.old d e
-  pub news : (e : ℕ) → e < w.size d → word_at z words (part.EntryNew d.worker (d.number + e)) ≡ w.new d e
+-- the entries of an opened descriptor
+pub record HasEntries (z : Shape) (w : World) (d : Ref) : Type 0 where
   pub within : (e : ℕ) → e < w.size d → w.target d e < cell_count z
   pub plain_olds : (e : ℕ) → e < w.size d → IsPlain (w.old d e)
   pub plain_news : (e : ℕ) → e < w.size d → IsPlain (w.new d e)
   pub some : 0 < w.size d
-  pub room : d.number + w.size d ≤ w.next_number d.worker
+  pub fits : w.size d ≤ cell_count z
+
+-- the descriptor row of its worker is of d
+abbrev pub HasItsRow : Shape → List ℕ → Ref → Type 0
+HasItsRow z words d = word_at z words (part.Serial d.worker) ≡ d.number
+
+-- what a word of the row of d says of d
+abbrev pub IsRowSaid : World → Ref → RowWord → Type 0
+IsRowSaid w d (length_word u) = u ≡ w.size d
+IsRowSaid w d (cell_word e u) = u ≡ w.target d e
+IsRowSaid w d (old_word e u) = u ≡ w.old d e
+IsRowSaid w d (new_word e u) = u ≡ w.new d e
+
+-- the row of an opened descriptor
+pub record DescRow (z : Shape) (words : List ℕ) (w : World) (d : Ref) : Type 0 where
+  pub length : word_at z words (part.Length d.worker) ≡ w.size d
+  pub targets : (e : ℕ) → e < w.size d → word_at z words (part.EntryCell d.worker e) ≡ w.target d e
+  pub olds : (e : ℕ) → e < w.size d → word_at z words (part.EntryOld d.worker e) ≡ w.old d e
+  pub news : (e : ℕ) → e < w.size d → word_at z words (part.EntryNew d.worker e) ≡ w.new d e
 
 -- the mark row of its worker is of x
 abbrev pub Stands : Shape → List ℕ → Ref → Type 0
@@ -68,10 +88,11 @@ pub record MarkRow (z : Shape) (words : List ℕ) (w : World) (x : Ref) : Type 0
   pub desc : IsSaid w x (desc_word (word_at z words (part.MarkDesc x.worker)))
   pub entry : IsSaid w x (entry_word (word_at z words (part.MarkEntry x.worker)))
 
--- A mark has its worker's mark row until the number of the next one is written there, and that is not done while it stands
--- in a cell.
+-- A descriptor has its worker's row until the number of the next one is written there; of one whose row has gone on nothing
+-- is said of words. So it is of marks, and the row of a mark does not go on while it stands in a cell.
 pub record RowWords (z : Shape) (words : List ℕ) (w : World) : Type 0 where
-  pub descs : (d : Ref) → IsOpened (w.control d) → DescRow z words w d
+  pub entries : (d : Ref) → IsOpened (w.control d) → HasEntries z w d
+  pub descs : (d : Ref) → IsOpened (w.control d) → HasItsRow z words d → DescRow z words w d
   pub are_marks : (x : Ref) → IsUsed w x → IsMark z x
   pub marks : (x : Ref) → IsUsed w x → Stands z words x → MarkRow z words w x
   pub placed : (c : ℕ) (x : Ref) → c < cell_count z → w.cell c ≡ mark x → Stands z words x
@@ -79,14 +100,16 @@ pub record RowWords (z : Shape) (words : List ℕ) (w : World) : Type 0 where
 -- a part of the rows of worker v that v alone writes
 abbrev pub IsOwn : Shape → (v : ℕ) → Part → Type 0
 IsOwn z v (part.Cell c) = ⊥
-IsOwn z v (part.Control worker entry) = ⊥
-IsOwn z v (part.Length worker entry) = (worker ≡ v) × (entry < z.entry_room)
-IsOwn z v (part.EntryCell worker entry) = (worker ≡ v) × (entry < z.entry_room)
-IsOwn z v (part.EntryOld worker entry) = (worker ≡ v) × (entry < z.entry_room)
-IsOwn z v (part.EntryNew worker entry) = (worker ≡ v) × (entry < z.entry_room)
+IsOwn z v (part.Control worker) = ⊥
+IsOwn z v (part.Serial worker) = worker ≡ v
+IsOwn z v (part.Length worker) = worker ≡ v
+IsOwn z v (part.EntryCell worker entry) = (worker ≡ v) × (entry < cell_count z)
+IsOwn z v (part.EntryOld worker entry) = (worker ≡ v) × (entry < cell_count z)
+IsOwn z v (part.EntryNew worker entry) = (worker ≡ v) × (entry < cell_count z)
 IsOwn z v (part.MarkSerial worker) = worker ≡ v
 IsOwn z v (part.MarkDesc worker) = worker ≡ v
 IsOwn z v (part.MarkEntry worker) = worker ≡ v
+IsOwn z v (part.Note worker owner) = (worker ≡ v) × (owner < z.workers)
 IsOwn z v part.Counter = ⊥
 
 -- a descriptor that is kept as opened has these entries in the world
@@ -105,6 +128,11 @@ pub record IsRaw (z : Shape) (words : List ℕ) (w : World) (r : Raw) : Type 0 w
   pub used : IsUsed w r.mark
   pub said : Stands z words r.mark → IsSaid w r.mark r.word
 
+-- so it is of descriptors
+pub record IsRawRow (z : Shape) (words : List ℕ) (w : World) (r : RawRow) : Type 0 where
+  pub opened : IsOpened (w.control r.desc)
+  pub said : HasItsRow z words r.desc → IsRowSaid w r.desc r.word
+
 -- what is kept of worker v
 pub record Kept (z : Shape) (words : List ℕ) (w : World) (side : Side) (v : ℕ) (k : View) : Type 0 where
   pub worker : k.worker ≡ v
@@ -112,10 +140,19 @@ pub record Kept (z : Shape) (words : List ℕ) (w : World) (side : Side) (v : �
   pub side_is : k.side ≡ erased side
   pub opening : (c : ℕ) → c < cell_count z → slice_index k.opening c ≡ w.logical 0 c
   pub next_number : k.next_number ≡ w.next_number v
-  pub entry_room : k.next_number ≤ z.entry_room
+  pub desc_room : k.next_number ≤ z.rooms.descriptors
+  -- the own control word, once its newest descriptor is noted as decided
+  pub no_control : k.next_number ≡ 0 → k.control ≡ 0
+  pub control : (n : ℕ) (r : Control) → suc n ≡ k.next_number → In (decided (record { worker = v; number = n }) r) k.side.notes
+      → k.control ≡ number_of n r
+  -- its open descriptor has its row
+  pub open_row : (n : ℕ) → k.side.current ≡ Some n → HasItsRow z words (record { worker = v; number = n })
+  -- each descriptor that it decided as failed is noted so
+  pub failures : (d : Ref) (e : ℕ) → w.control d ≡ failed e v → In (decided d (failed 0 v)) k.side.notes
   pub marks_used : k.marks_used ≡ w.marks_used v
-  pub mark_room : k.marks_used ≤ z.mark_room
+  pub mark_room : k.marks_used ≤ z.rooms.marks
   pub written : (p : Part) → IsOwn z v p → word_at z words p ≡ row_word k.written (row_of z p)
+  pub raw_rows : (r : RawRow) → In r k.raw_rows → IsRawRow z words w r
   pub raw : (r : Raw) → In r k.raw → IsRaw z words w r
   -- its opened descriptors, each of which is open or noted as decided
   pub opened : (o : OwnDesc) → In o k.opened → IsOpenedSo w (record { worker = v; number = o.number }) o

@@ -9,7 +9,7 @@ use Rattle.rh_world.specs.Laws.{Foretold, OneOrder, SharedOut}
 use Rattle.rh_descriptor.specs.declared.shape.Shape.{Shape}
 use Rattle.rh_descriptor.specs.Places.{cell_count}
 use Rattle.rh_descriptor.specs.View.{OwnDesc, View}
-use Rattle.rh_descriptor.specs.Words.{IsPlain, without_decider}
+use Rattle.rh_descriptor.specs.Words.{IsPlain, without_entry}
 use Rattle.rh_rule.specs.Erased.{erased}
 use Rattle.rh_rule.specs.Mirrors.{IsOpenedSo, numbers_of}
 use Rattle.rh_rule.specs.Core.{Core}
@@ -25,7 +25,7 @@ pub record Told (w : World) (z : Shape) (keep : ℕ → View) (side : ℕ → Si
   pub opening : (v c : ℕ) → v < z.workers → c < cell_count z → cells_after w 0 c ≡ slice_index (keep v).opening c
   pub opened : (v : ℕ) (o : OwnDesc) → v < z.workers → In o (keep v).opened
       → IsOpenedSo w (record { worker = v; number = o.number }) o
-  pub results : (v : ℕ) (d : Ref) (k : Control) → v < z.workers → In (decided d k) (keep v).side.notes → without_decider (w.control d) ≡ k
+  pub results : (v : ℕ) (d : Ref) (k : Control) → v < z.workers → In (decided d k) (keep v).side.notes → without_entry (w.control d) ≡ k
   -- a worker's own acts, newest first, are those of its opened descriptors that succeeded
   pub own : (v : ℕ) → v < z.workers → own_acts w v w.act_count ≡ successes_of w v (numbers_of (keep v).opened)
   -- and each act is of a worker of the table

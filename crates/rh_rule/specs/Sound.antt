@@ -1,9 +1,9 @@
 -- What a worker may rely on: what the words say that it finds, and that what it noted fits the table and does not
 -- contradict itself. (own)
-use Rattle.std.specs.Prelude.{◌≡◌, ℕ, ◌+◌, ◌<◌, ◌≤◌, ◌⊎◌, Some, List, length, slice_index}
-use Rattle.rh_tagword.specs.declared.limits.TheConstants.{UNUSED}
+use Rattle.std.specs.Prelude.{suc, ◌≡◌, ℕ, ◌+◌, ◌<◌, ◌≤◌, ◌⊎◌, Some, List, length, slice_index}
+use Rattle.rh_tagword.specs.Control.{IsState}
 use Rattle.rh_world.specs.World.{Ref, Control, World, IsOpened, IsDecided, In}
-use Rattle.rh_world.specs.World.Control.{withdrawn}
+use Rattle.rh_world.specs.World.Control.{failed, undecided, withdrawn}
 use Rattle.rh_world.specs.Notes.Note.{size_is, target_is, old_is, new_is, decided, desc_is, which_is, found}
 use Rattle.rh_world.specs.Moves.{MayWork}
 use Rattle.rh_descriptor.specs.declared.shape.Shape.{Shape}
@@ -13,39 +13,42 @@ use Rattle.rh_descriptor.specs.declared.reference.Reading.TheVariants as reading
 use Rattle.rh_descriptor.specs.Places.{IsShape, cell_count, entry_row, place_of}
 use Rattle.rh_descriptor.specs.View.{OwnDesc, View}
 use Rattle.rh_descriptor.specs.View.MarkWord.{desc_word}
-use Rattle.rh_descriptor.specs.Words.{IsPlain, cell_in, desc_in, read_control, ref_of}
+use Rattle.rh_descriptor.specs.Words.{IsPlain, cell_in, desc_in, number_of, read_control, ref_of, serial_in, state_of}
 use Rattle.rh_descriptor.specs.Steps.{Allowed, IsDesc, IsKnown, IsMark, KnowsMark, Step, entry_of, place, row_of, row_word}
 use Rattle.rh_rule.specs.Mirrors.{IsCell, IsOwn}
 use Rattle.rh_rule.specs.Core.{Core}
 
--- the rows of an own descriptor say the entries that are kept of it, by what the worker wrote there
+-- the own row says the entries that are kept of the descriptor that it is of, by what the worker wrote there
 pub record OwnRow (v : View) (d : Ref) : Type 0 where
   pub own : OwnDesc
   pub here : In own v.opened
   pub number : own.number ≡ d.number
-  pub size : row_word v.written (entry_row d.number 1) ≡ length own.entries
-  pub cells : (e : ℕ) → e < length own.entries → row_word v.written (entry_row (d.number + e) 2) ≡ (entry_of own.entries e).cell
-  pub olds : (e : ℕ) → e < length own.entries → row_word v.written (entry_row (d.number + e) 3) ≡ (entry_of own.entries e).old
-  pub news : (e : ℕ) → e < length own.entries → row_word v.written (entry_row (d.number + e) 4) ≡ (entry_of own.entries e).new
+  pub size : row_word v.written 2 ≡ length own.entries
+  pub cells : (e : ℕ) → e < length own.entries → row_word v.written (entry_row e 0) ≡ (entry_of own.entries e).cell
+  pub olds : (e : ℕ) → e < length own.entries → row_word v.written (entry_row e 1) ≡ (entry_of own.entries e).old
+  pub news : (e : ℕ) → e < length own.entries → row_word v.written (entry_row e 2) ≡ (entry_of own.entries e).new
 
 -- what is noted of a worker's view
 pub record Sound (z : Shape) (v : View) : Type 0 where
   -- its own numbers lie within the room
-  pub descs_used : v.next_number ≤ z.entry_room
-  pub marks_used : v.marks_used ≤ z.mark_room
+  pub descs_used : v.next_number ≤ z.rooms.descriptors
+  pub marks_used : v.marks_used ≤ z.rooms.marks
+  pub numbers : (d : Ref) → d.worker ≡ v.worker → IsKnown v.side.notes d → d.number < v.next_number
   -- descriptors and marks that it met are of the table, and so are their entries
   pub descs : (d : Ref) → IsKnown v.side.notes d → IsDesc z d
-  pub sizes : (d : Ref) (n : ℕ) → In (size_is d n) v.side.notes → (0 < n) × (d.number + n ≤ z.entry_room)
+  pub sizes : (d : Ref) (n : ℕ) → In (size_is d n) v.side.notes → (0 < n) × (n ≤ cell_count z)
   pub targets : (d : Ref) (e c : ℕ) → In (target_is d e c) v.side.notes → MayWork v.side d e → c < cell_count z
   pub olds : (d : Ref) (e u : ℕ) → In (old_is d e u) v.side.notes → MayWork v.side d e ⊎ KnowsMark v.side.notes d e → IsPlain u
   pub news : (d : Ref) (e u : ℕ) → In (new_is d e u) v.side.notes → MayWork v.side d e → IsPlain u
   pub marks : (x : Ref) (c : ℕ) → In (found x c) v.side.notes → IsMark z x × (c < cell_count z)
-  pub marked : (d : Ref) (e : ℕ) → KnowsMark v.side.notes d e → IsDesc z d × (d.number + e < z.entry_room)
+  pub marked : (d : Ref) (e : ℕ) → KnowsMark v.side.notes d e → IsDesc z d × (e < cell_count z)
+  pub named : (x d : Ref) → In (desc_is x d) v.side.notes → IsDesc z d
   pub results : (d : Ref) (k : Control) → In (decided d k) v.side.notes → IsDecided k
+  pub deciders : (d : Ref) (by : ℕ) → In (decided d (failed 0 by)) v.side.notes → by < z.workers
   -- a descriptor of its own was withdrawn only where no mark is left
-  pub withdrawals : (d : Ref) → d.worker ≡ v.worker → In (decided d withdrawn) v.side.notes → z.mark_room ≤ v.marks_used
-  -- what it wrote of its own descriptors is what is kept of them
-  pub rows : (d : Ref) → d.worker ≡ v.worker → IsKnown v.side.notes d → OwnRow v d
+  pub withdrawals : (d : Ref) → d.worker ≡ v.worker → In (decided d withdrawn) v.side.notes → z.rooms.marks ≤ v.marks_used
+  -- what it wrote of the own descriptor that has the row is what is kept of it
+  pub rows : (d : Ref) → d.worker ≡ v.worker → IsKnown v.side.notes d → row_word v.written 1 ≡ d.number → OwnRow v d
   -- it noted no two answers to one question
   pub one_size : (d : Ref) (m n : ℕ) → In (size_is d m) v.side.notes → In (size_is d n) v.side.notes → m ≡ n
   pub one_target : (d : Ref) (e b c : ℕ) → In (target_is d e b) v.side.notes → In (target_is d e c) v.side.notes → b ≡ c
@@ -55,12 +58,34 @@ pub record Sound (z : Shape) (v : View) : Type 0 where
   pub one_desc : (x d f : Ref) → In (desc_is x d) v.side.notes → In (desc_is x f) v.side.notes → d ≡ f
   pub one_entry : (x : Ref) (e f : ℕ) → In (which_is x e) v.side.notes → In (which_is x f) v.side.notes → e ≡ f
 
+-- a control word: it has a serial number and a state
+pub record IsControlWord (word : ℕ) : Type 0 where
+  pub number : ℕ
+  pub control : Control
+  pub state : IsState (state_of control)
+  pub is : word ≡ number_of number control
+
+-- The control word has the number of d, which was opened. Where this worker decided that d failed, it noted so; while d is
+-- undecided, all descriptors of its owner that this worker decided as failed are older; and an own d is the newest.
+pub record Tells (v : View) (d : Ref) (word : ℕ) : Type 0 where
+  pub opened : IsOpened (read_control word)
+  pub noted : (e : ℕ) → read_control word ≡ failed e v.worker → In (decided d (failed 0 v.worker)) v.side.notes
+  pub older : read_control word ≡ undecided → (f : Ref) → f.worker ≡ d.worker → In (decided f (failed 0 v.worker)) v.side.notes → f.number < d.number
+  pub newest : d.worker ≡ v.worker → suc d.number ≡ v.next_number
+
+-- And it has the number of an own d that is the newest.
+pub record ControlTells (v : View) (d : Ref) (word : ℕ) : Type 0 where
+  pub word_is : IsControlWord word
+  pub tells : serial_in word ≡ d.number → Tells v d word
+  pub stays : d.worker ≡ v.worker → suc d.number ≡ v.next_number → serial_in word ≡ d.number
+
 -- what a word says that is read
 abbrev pub Reads : Shape → View → Reading → (word : ℕ) → Type 0
 Reads z v (reading.Place p) word = (q : Part) → IsOwn z v.worker q → p ≡ place_of z q → word ≡ row_word v.written (row_of z q)
 Reads z v (reading.Cell c) word = IsCell z (cell_in word)
-Reads z v (reading.Control d) word = IsKnown v.side.notes (ref_of d) → IsOpened (read_control word)
-Reads z v (reading.MarkControl x c d) word = IsOpened (read_control word)
+Reads z v (reading.Control d) word = IsControlWord word × (IsKnown v.side.notes (ref_of d) → ControlTells v (ref_of d) word)
+Reads z v (reading.MarkControl x c d) word = ControlTells v (ref_of d) word
+Reads z v (reading.Serial d) word = Unit {0}
 Reads z v (reading.Length d) word = Unit {0}
 Reads z v (reading.EntryCell d e) word = Unit {0}
 Reads z v (reading.EntryOld d e) word = Unit {0}
@@ -68,15 +93,16 @@ Reads z v (reading.EntryNew d e) word = Unit {0}
 Reads z v (reading.MarkSerial x) word = (u : ℕ) → word ≡ x.number → In (record { mark = ref_of x; word = desc_word u }) v.raw → (d : Ref) × (desc_in u ≡ Some d)
 Reads z v (reading.MarkDesc x) word = Unit {0}
 Reads z v (reading.MarkEntry x) word = Unit {0}
+Reads z v (reading.Reason d by) word = Unit {0}
 
 -- what a step of a worker finds, of whom this was kept before
 abbrev pub Finds : Shape → View → Step → (word : ℕ) → Type 0
 Finds z v (Step.writes p u) word = Unit {0}
-Finds z v (Step.opens size) word = word ≡ UNUSED
+Finds z v (Step.opens size) word = word ≡ v.control
 Finds z v (Step.reads r) word = Reads z v r word
 Finds z v (Step.places d e c old) word = IsCell z (cell_in word)
 Finds z v (Step.settles x c d e old) word = IsCell z (cell_in word)
-Finds z v (Step.decides d k) word = IsOpened (read_control word)
+Finds z v (Step.decides d k) word = ControlTells v d word
 Finds z v (Step.releases d e c k value) word = IsCell z (cell_in word)
 Finds z v Step.claims word = word ≤ z.keys + z.workers
 

@@ -8,7 +8,7 @@ use Rattle.rh_ledger.specs.declared.tally.Tally.{Tally}
 use Rattle.rh_ledger.specs.Tally.{sum_of}
 use Rattle.rh_ledger.specs.Phase.{set_after}
 use Rattle.rh_descriptor.specs.declared.shape.Shape.{Shape}
-use Rattle.rh_descriptor.specs.Places.{cell_count}
+use Rattle.rh_descriptor.specs.Places.{IsShape, cell_count}
 use Rattle.rh_descriptor.specs.View.{View}
 use Rattle.rh_rule.specs.Rest.{AllRest}
 use Rattle.rh_acts.specs.Act.{Act, apply_acts}
@@ -20,8 +20,8 @@ use Rattle.rh_history.specs.Laws.{EndedSo}
 use Rattle.rh_history.proofs.Resting.{at_rest}
 use Rattle.rh_run.specs.Laws.{EndsSo, RunEnds}
 use Rattle.rh_run.specs.Run.{Running}
-use Rattle.rh_run.specs.Words.{cells_held}
-use Rattle.rh_run.proofs.Standing.{all_made, both, lead, meet, was, workers}
+use Rattle.rh_run.specs.Words.{AreNow, cells_held}
+use Rattle.rh_run.proofs.Standing.{all_made, are_now, both, lead, meet, was, workers}
 
 -- a list for each of the first n workers
 abbrev pub lists_of : {X : Type 0} → (f : ℕ → List X) (n : ℕ) → List (List X)
@@ -60,6 +60,10 @@ module _ (kind : Kind) (z : Shape) (opening words : List ℕ) (keep : ℕ → Vi
   cells_are =
       sym (fill_by_all (λ c. value_of (slice_index words c)) (logical_cells run.world z) (cell_count z) 0 ended.size (λ c inside. sym (ended.cells c inside)))
       ∙ lead kind z opening words keep keys done told run
+
+  -- what the cells hold is what they stand for
+  pub held_now : IsShape z → AreNow z words keep (cells_held z words)
+  held_now shape = subst (AreNow z words keep) (sym cells_are) (are_now kind z opening words keep keys done told run shape)
 
   module _ (S : Keys) (pieces : List (List ℕ)) (layout : Layout opening z.bits S) (size : length pieces ≡ z.workers) (all_done : (v : ℕ) → v < z.workers → done v ≡ piece pieces v) where
     abbrev n : ℕ

@@ -1,5 +1,6 @@
 pub mod Growing
 pub mod Stepping
+pub mod Knowing
 pub mod Saying
 pub mod Showing
 pub mod Standing
@@ -8,3 +9,4 @@ pub mod Ending
 pub mod Turning
 pub mod Sharing
 pub mod Alike
+mod Leaving

@@ -1,5 +1,5 @@
 -- What the cells of a run stand for: the acts of all its rounds are a phase over their own keys.
-use Rattle.std.proofs.Common.{◌≡◌, ℕ, ◌<◌, ◌≤◌, inl, ⊎_elim, refl, sym, ap, ◌∙◌, subst, arith, Bool, List, [], ◌∷◌, ◌++◌, get_or, map, reverse}
+use Rattle.std.proofs.Common.{◌≡◌, ℕ, ◌<◌, ◌≤◌, inl, ⊎_elim, refl, sym, ap, ◌∙◌, subst, arith, Bool, List, [], ◌∷◌, ◌++◌, ◌||◌, get_or, map, reverse}
 use Rattle.std.specs.List.{Contains}
 use Rattle.std.specs.FinSet as set
 use Rattle.std.proofs.lemmas.List.{append_assoc, map-append}
@@ -9,15 +9,10 @@ use Rattle.rh_layout.specs.Layout.{Keys, Layout}
 use Rattle.rh_ledger.specs.declared.tally.Kind.{Kind}
 use Rattle.rh_ledger.specs.declared.tally.Kind.TheVariants.{Insert, Remove, Ask}
 use Rattle.rh_ledger.specs.Phase.{set_after}
-use Rattle.rh_world.specs.World.{IsOpened}
 use Rattle.rh_world.specs.Acts.{cells_after, is_success}
-use Rattle.rh_rule.specs.Mirrors.{word_at}
-use Rattle.rh_rule.specs.Rest.{Told}
-use Rattle.rh_rule.proofs.Deciders.{told_success}
-use Rattle.rh_rule.proofs.Telling.{same_filtered, tells}
+use Rattle.rh_rule.specs.Rest.{is_noted_success}
+use Rattle.rh_rule.proofs.Telling.{same_filtered}
 use Rattle.rh_descriptor.specs.declared.shape.Shape.{Shape}
-use Rattle.rh_descriptor.specs.declared.shape.Part.TheVariants as part
-use Rattle.rh_descriptor.specs.Words.{read_control}
 use Rattle.rh_descriptor.specs.Places.{IsShape, cell_count}
 use Rattle.rh_descriptor.specs.View.{OwnDesc, View}
 use Rattle.rh_acts.specs.Act.{Act, AllMeet, apply_acts, changes}
@@ -29,7 +24,7 @@ use Rattle.rh_acts.proofs.FoldLemmas.{all_kept, all_there, len_part, there_cases
 use Rattle.rh_acts.proofs.InOrder.{acts_are_a_phase}
 use Rattle.rh_acts.proofs.OwnLemmas.{own_among}
 use Rattle.rh_acts.proofs.Told.{does_told}
-use Rattle.rh_history.specs.History.{act_of, cells_of, history, kept_of, logical_cells, own_acts_of, own_ref, value_of}
+use Rattle.rh_history.specs.History.{act_of, history, kept_of, logical_cells, own_acts_of, own_ref, value_of}
 use Rattle.rh_history.specs.Laws.{HappenedSo, OwnSo}
 use Rattle.rh_history.specs.Rounds.{JoinedSo}
 use Rattle.rh_history.proofs.Happening.{happened}
@@ -38,13 +33,17 @@ use Rattle.rh_history.proofs.Succeeding.{own_so_far}
 use Rattle.rh_history.proofs.Values.{cells_length, get_cells}
 use Rattle.rh_run.specs.Laws.{ActsSoFar, DidSo, RunMoment, StandsSo}
 use Rattle.rh_run.specs.Run.{DoesOneOf, Running}
-use Rattle.rh_run.specs.Words.{logical_word, succeeded_now}
-use Rattle.rh_run.proofs.Saying.{control_is, words_say}
+use Rattle.rh_run.specs.Known.{KnowsHeld}
+use Rattle.rh_run.specs.Words.{AreNow, has_succeeded, succeeded_now}
+use Rattle.rh_run.proofs.Saying.{own_told, words_say, words_tell}
 use Rattle.rh_run.proofs.Showing.{finished_among, key_shows}
 
--- cells that stand for the same words
-pub same_cells : (z : Shape) (f g : ℕ → ℕ) → ((c : ℕ) → c < cell_count z → f c ≡ g c) → cells_of z f ≡ cells_of z g
-same_cells z f g same = fill_by_all (λ c. value_of (g c)) (cells_of z f) (cell_count z) 0 (cells_length z f) (λ c inside. get_cells z f c inside ∙ ap (λ u. value_of u) (same c inside))
+-- the values for which the cells stand are one list
+pub one_now : (z : Shape) (words : List ℕ) (keep : ℕ → View) (these those : List ℕ) → AreNow z words keep these → AreNow z words keep those → these ≡ those
+one_now z words keep these those is are =
+    let value : (c : ℕ) → c < cell_count z → get_or these c 0 ≡ get_or those c 0 =
+    λ c inside. let word = is.stands c inside in is.values c word.0 inside word.1 ∙ sym (are.values c word.0 inside word.1) in
+    fill_by_all (λ c. get_or those c 0) these (cell_count z) 0 is.size value ∙ sym (fill_by_all (λ c. get_or those c 0) those (cell_count z) 0 are.size (λ c inside. refl))
 
 -- ---- acts and their keys
 
@@ -131,28 +130,35 @@ module _ (kind : Kind) (z : Shape) (opening words : List ℕ) (keep : ℕ → Vi
   abbrev own_now : (v : ℕ) → v < z.workers → OwnSo run.world v (keep v)
   own_now v mine = own_so_far run.world z words keep v run.core mine
 
-  succeeded : IsShape z → (v : ℕ) → v < z.workers → own v now ≡ succeeded_now z words (keep v)
-  succeeded shape v mine =
+  own_succeeded : IsShape z → (v : ℕ) → v < z.workers → own v now ≡ succeeded_now z words (keep v)
+  own_succeeded shape v mine =
       let k = keep v in
-      let w = run.world in
       (own_now v mine).succeeded
       ∙ ap (λ (os : List OwnDesc). reverse (map (λ (o : OwnDesc). act_of o.entries) os))
-      (same_filtered (λ (o : OwnDesc). is_success (w.control (own_ref k o.number))) (λ (o : OwnDesc). is_success (read_control (word_at z words (part.Control k.worker o.number)))) k.opened
-      (λ o i.
-      let its = core_kept.opened v o mine i in
-      let opened : IsOpened (w.control (own_ref k o.number)) = subst (λ (u : ℕ). IsOpened (w.control record { worker = u; number = o.number })) (sym (run.core.mirrors.kept v mine).worker) its.opened in
-      sym (told_success (w.control (own_ref k o.number))) ∙ ap is_success (sym (control_is w z words keep shape run.core 0 (own_ref k o.number) opened))))
-    where
-      core_kept : Told run.world z keep run.core.side
-      core_kept = tells run.world z words keep run.core
+      (same_filtered (λ (o : OwnDesc). is_success (run.world.control (own_ref k o.number)))
+      (λ (o : OwnDesc). has_succeeded z words (own_ref k o.number) || is_noted_success k.side.notes (own_ref k o.number)) k.opened
+      (λ o i. own_told run.world z words keep shape run.core v mine o i))
+
+  knows : (v : ℕ) → v < z.workers → KnowsHeld (keep v).side v
+  knows v mine = subst (KnowsHeld (keep v).side) (run.core.mirrors.kept v mine).worker (run.doing v mine).knows
+
+  -- the cells stand for these values, and for no others
+  pub are_now : IsShape z → AreNow z words keep (apply_acts (acts_of all_made) opening)
+  are_now shape = subst (AreNow z words keep) lead record {
+    size = cells_length z (cells_after run.world run.world.act_count);
+    stands = words_tell run.world z words keep shape run.core knows;
+    values = λ c word inside is.
+        get_cells z (cells_after run.world run.world.act_count) c inside
+        ∙ ap (λ u. value_of u) (sym (words_say run.world z words keep shape run.core c word inside is));
+  }
 
   acts_so_far : IsShape z → ActsSoFar z opening words keep run.before now
   acts_so_far shape = record {
     workers = workers;
     meet = meet;
     begun = λ v c mine inside. ap (λ (cells : List ℕ). get_or cells c 0) (sym run.cells) ∙ so.opening v c mine inside;
-    succeeded = succeeded shape;
-    cells = same_cells z (logical_word z words) (cells_after run.world run.world.act_count) (words_say run.world z words keep shape run.core) ∙ lead;
+    succeeded = own_succeeded shape;
+    cells = are_now shape;
   }
 
   did : (v : ℕ) → v < z.workers → DidSo kind z opening all_made v (keep v) (done v) (told v)
@@ -188,7 +194,7 @@ module _ (kind : Kind) (z : Shape) (opening words : List ℕ) (keep : ℕ → Vi
           so_far = ks.so_far;
           each = ks.done;
           among = λ k h. let it = ks.among k h in (it.0.worker, workers it.0 it.1, it.2);
-          layout = subst (λ (cells : List ℕ). Layout cells z.bits (set_after kind S ks.so_far)) (sym acts.cells) phase.0;
+          layout = λ cells now_so. subst (λ (values : List ℕ). Layout values z.bits (set_after kind S ks.so_far)) (one_now z words keep (apply_acts (acts_of all_made) opening) cells acts.cells now_so) phase.0;
           shows = λ v k mine h.
               let reads = run.reads v ++ kept_of z (keep v) in
               let one = done_key kind z.bits reads (done v) (own v run.before ++ own_acts_of (keep v)) (told v) (run.doing v mine).so_far k h in

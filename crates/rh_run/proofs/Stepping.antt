@@ -28,11 +28,13 @@ use Rattle.rh_history.proofs.Learning.{reads_stay}
 use Rattle.rh_run.specs.Advance.{Advances, Fails, GoesOn, Opens, Succeeds}
 use Rattle.rh_run.specs.Laws.{RunClaims, RunGathers, RunSteps, WorkerClaims, WorkerSteps}
 use Rattle.rh_run.specs.Run.{Doing, DoesOneOf, Running, also_done, also_told}
+use Rattle.rh_run.specs.Known.{KnowsHeld}
 use Rattle.rh_run.proofs.Growing.{more_behind}
+use Rattle.rh_run.proofs.Knowing.{knows_next}
 
 -- ---- what becomes of one worker
 
-module _ (kind : Kind) (z : Shape) (keys : List ℕ) (acts : List Act) (earlier : List Kept) (v next : View) (done : List ℕ) (told : List Bool) (is : Doing z kind v keys acts earlier done told) (finishes : StepFinishes v next) (stay : (r : Kept) → Contains (kept_of z v) r → Contains (kept_of z next) r) where
+module _ (kind : Kind) (z : Shape) (keys : List ℕ) (acts : List Act) (earlier : List Kept) (v next : View) (done : List ℕ) (told : List Bool) (is : Doing z kind v keys acts earlier done told) (finishes : StepFinishes v next) (knows : KnowsHeld next.side next.worker) (stay : (r : Kept) → Contains (kept_of z v) r → Contains (kept_of z next) r) where
   -- by what it read now it has done what it had done
   read_more : IsDone kind z.bits (earlier ++ kept_of z next) done (acts ++ own_acts_of v) told
   read_more = more_read kind z.bits (earlier ++ kept_of z v) (earlier ++ kept_of z next) done (acts ++ own_acts_of v) told (more_behind earlier (kept_of z v) (kept_of z next) stay) is.so_far
@@ -53,6 +55,7 @@ module _ (kind : Kind) (z : Shape) (keys : List ℕ) (acts : List Act) (earlier 
     orderly = finishes.orderly;
     so_far = acts_stay (finishes.stays (still on));
     opened = same_opened on.opened;
+    knows = knows;
   }
 
   module _ (k : ℕ) (mine : Contains keys k) where
@@ -64,11 +67,13 @@ module _ (kind : Kind) (z : Shape) (keys : List ℕ) (acts : List Act) (earlier 
           opened = λ o i. ⊎_elim
               (λ (e : o ≡ new.own). (k, mine, (new.changes, subst (λ (x : OwnDesc). Does kind z.bits k new.changes (act_of x.entries)) (sym e) new.does)))
               (λ j. is.opened o j) (subst (In o) new.opened i);
+          knows = knows;
         })
         (λ (old : Fails v next). record {
           orderly = finishes.orderly;
           so_far = acts_stay (finishes.fails old.own old.control old.closes old.before old.in_vain);
           opened = same_opened old.opened;
+          knows = knows;
         })) a
 
     -- one key more, by these own acts
@@ -87,6 +92,7 @@ module _ (kind : Kind) (z : Shape) (keys : List ℕ) (acts : List Act) (earlier 
               (key_more kind z.bits (kept_of z next) (earlier ++ kept_of z next) k [] so (Contains-append_right earlier (kept_of z next)) (inr (refl, on.1)))
               (append-nil (acts ++ own_acts_of next));
           opened = same_opened on.0.opened;
+          knows = knows;
         })
         (λ (old : Succeeds z kind k v next so).
         let act : Act = act_of old.own.entries in
@@ -95,6 +101,7 @@ module _ (kind : Kind) (z : Shape) (keys : List ℕ) (acts : List Act) (earlier 
           so_far = one_done so (acts ++ own_acts_of v) (act ∷ []) read_more (inl (act, refl, old.does))
               (append_assoc acts (own_acts_of v) (act ∷ []) ∙ ap (λ (xs : List Act). acts ++ xs) (sym (finishes.succeeds old.own old.closes old.before)));
           opened = same_opened old.opened;
+          knows = knows;
         }) a
 
     pub advances : (answer : Option Bool) → Advances z kind k v next answer → Doing z kind next keys acts earlier (also_done done k answer) (also_told told answer)
@@ -107,14 +114,17 @@ module _ (kind : Kind) (z : Shape) (v next : View) (keys : List ℕ) (acts : Lis
   finishes_so : StepFinishes v next
   finishes_so = subst (StepFinishes v) (sym steps) (steps_finish z v s word allowed (subst (Sound z) steps sound) is.orderly)
 
+  knows_so : KnowsHeld next.side next.worker
+  knows_so = subst (λ (x : View). KnowsHeld x.side x.worker) (sym steps) (knows_next z v s word allowed (subst (Sound z) steps sound) is.knows)
+
   stay_kept : (r : Kept) → Contains (kept_of z v) r → Contains (kept_of z next) r
   stay_kept r h = subst (λ (x : View). Contains (kept_of z x) r) (sym steps) ((reads_stay z v s word).1 r h)
 
   at_key : (k : ℕ) (answer : Option Bool) → Contains keys k → Advances z kind k v next answer → Doing z kind next keys acts earlier (also_done done k answer) (also_told told answer)
-  at_key k answer mine a = advances kind z keys acts earlier v next done told is finishes_so stay_kept k mine answer a
+  at_key k answer mine a = advances kind z keys acts earlier v next done told is finishes_so knows_so stay_kept k mine answer a
 
   at_none : GoesOn v next → Doing z kind next keys acts earlier done told
-  at_none on = goes_on kind z keys acts earlier v next done told is finishes_so stay_kept on
+  at_none on = goes_on kind z keys acts earlier v next done told is finishes_so knows_so stay_kept on
 
 pub worker_steps : WorkerSteps
 worker_steps kind z v next keys acts earlier done told s word k answer allowed steps sound mine a is =
@@ -166,7 +176,7 @@ same_updated f k = λ i j. go j (eqb j k) refl i
 
 module _ (kind : Kind) (z : Shape) (opening words then : List ℕ) (keep : ℕ → View) (keys done : ℕ → List ℕ) (told : ℕ → List Bool) (who : ℕ) (s : Step) (word : ℕ) (next : View) (shape : IsShape z) (lt : who < z.workers) (allowed : Allowed z (keep who) s) (steps : StepsTo z s words (keep who) word then next) (run : Running kind z opening words keep keys done told) where
   abbrev later : World
-  later = world_then run.world who (keep who) s
+  later = world_then z run.world who (keep who) s
 
   abbrev kept_then : ℕ → View
   kept_then = updated keep who next

@@ -32,12 +32,18 @@ use Rattle.rh_run.specs.Laws.{RunRounds, RunStarts, WorkerStarts, WorkerTurns}
 use Rattle.rh_run.specs.Run.{Doing, Running}
 use Rattle.rh_run.specs.Words.{IsWiped}
 use Rattle.rh_run.proofs.Ending.{ended, own_is}
+use Rattle.rh_run.proofs.Knowing.{nothing_held}
 use Rattle.rh_run.proofs.Standing.{all_made, each_does, lead, meet, was, workers}
 
 -- ---- the start
 
 pub worker_starts : WorkerStarts
-worker_starts kind z cells worker keys = record { orderly = ((rounds_begin z cells).0 worker).orderly; so_far = (refl, refl); opened = λ o i. absurd i }
+worker_starts kind z cells worker keys = record {
+  orderly = ((rounds_begin z cells).0 worker).orderly;
+  so_far = (refl, refl);
+  opened = λ o i. absurd i;
+  knows = nothing_held new_side worker refl refl;
+}
 
 plain_word : (value : ℕ) → IsPlain (plain_number value)
 plain_word value = omega arith
@@ -91,6 +97,7 @@ worker_turns kind z cells v keys acts reads done told is =
       so_far = subst (λ (ks : List Kept). IsDone kind z.bits ks done (made ++ []) told) (sym (append-nil known))
           (subst (λ (as' : List Act). IsDone kind z.bits known done as' told) (sym (append-nil made)) is.so_far);
       opened = λ o i. absurd i;
+      knows = nothing_held (record new_side { claims = v.side.claims }) v.worker refl refl;
     }
 
 module _ (kind : Kind) (z : Shape) (opening words then cells : List ℕ) (keep : ℕ → View) (keys done : ℕ → List ℕ) (told : ℕ → List Bool) (shape : IsShape z) (some_one : 0 < z.workers) (rest : AllRest z keep) (same : (c : ℕ) → c < cell_count z → get_or words c 0 ≡ get_or cells c 0) (wiped : IsWiped z words then) (run : Running kind z opening words keep keys done told) where

@@ -8,11 +8,12 @@ use Rattle.rh_ledger.specs.declared.tally.Kind.TheVariants.{Insert, Remove, Ask}
 use Rattle.rh_ledger.specs.Phase.{set_after, tally_of, looked_up}
 use Rattle.rh_tagword.specs.Word.{plain_number}
 use Rattle.rh_world.specs.World.{World, updated}
+use Rattle.rh_world.specs.World.Control.{succeeded, undecided}
 use Rattle.rh_world.specs.Acts.{cells_after}
 use Rattle.rh_descriptor.specs.declared.shape.Shape.{Shape}
 use Rattle.rh_descriptor.specs.Places.{IsShape, cell_count}
 use Rattle.rh_descriptor.specs.View.{View, new_view, round_view}
-use Rattle.rh_descriptor.specs.Words.{cell_in}
+use Rattle.rh_descriptor.specs.Words.{cell_in, number_of}
 use Rattle.rh_descriptor.specs.Steps.{Allowed, Step, StepsTo, noted}
 use Rattle.rh_rule.specs.Core.{Core}
 use Rattle.rh_rule.specs.Rest.{AllRest}
@@ -23,8 +24,9 @@ use Rattle.rh_acts.specs.Done.{IsDone, Kept, WereTrue}
 use Rattle.rh_acts.specs.Workers.{AreOf, LeavesRoom, Made, acts_of, counted, joined, own, piece, sum_of_all}
 use Rattle.rh_history.specs.History.{history, kept_of, own_acts_of, value_of}
 use Rattle.rh_run.specs.Advance.{Advances}
+use Rattle.rh_run.specs.Known.{KnowsHeld}
 use Rattle.rh_run.specs.Run.{Doing, Running, also_done, also_told}
-use Rattle.rh_run.specs.Words.{IsWiped, LeadsInside, cells_held, cells_now, logical_word, succeeded_now}
+use Rattle.rh_run.specs.Words.{AreNow, IsLogicalWord, IsWiped, LeadsInside, cells_held, succeeded_now}
 use Rattle.rh_run.specs.Claimed.{FoundEnd, claimed}
 
 -- ---- how one worker goes on, by its own steps alone
@@ -107,15 +109,38 @@ RunsAlike = (kind : Kind) (z : Shape) (opening words : List ℕ) (keep next : �
 
 -- ---- at each moment
 
--- The words alone tell what the cells stand for,
+-- By the words and the notes a cell stands for no more than one word, which is what the acts left there,
 abbrev pub LogicalWords : Type 0
-LogicalWords = (w : World) (z : Shape) (words : List ℕ) (keep : ℕ → View) (c : ℕ) → IsShape z → Core w z words keep → c < cell_count z
-    → logical_word z words c ≡ cells_after w w.act_count c
+LogicalWords = (w : World) (z : Shape) (words : List ℕ) (keep : ℕ → View) (c word : ℕ) → IsShape z → Core w z words keep → c < cell_count z
+    → IsLogicalWord z words keep c word → word ≡ cells_after w w.act_count c
 
--- and those that they lead to are words of the table.
+-- and for one it does, where each worker knows what it holds.
+abbrev pub WordsStand : Type 0
+WordsStand = (w : World) (z : Shape) (words : List ℕ) (keep : ℕ → View) (c : ℕ) → IsShape z → Core w z words keep → c < cell_count z
+    → ((v : ℕ) → v < z.workers → KnowsHeld (keep v).side v) → (word : ℕ) × IsLogicalWord z words keep c word
+
+-- What stands in a cell leads to rows that the table has, or to a worker that holds it.
 abbrev pub WordsLeadInside : Type 0
 WordsLeadInside = (w : World) (z : Shape) (words : List ℕ) (keep : ℕ → View) (c : ℕ) → IsShape z → Core w z words keep → c < cell_count z
-    → LeadsInside z words (cell_in (slice_index words c))
+    → LeadsInside z words keep c (cell_in (slice_index words c))
+
+-- The step finds a descriptor undecided, and decides that it succeeded.
+abbrev pub IsSuccess : Step → (word : ℕ) → Type 0
+IsSuccess (Step.writes p u) word = ⊥
+IsSuccess (Step.opens size) word = ⊥
+IsSuccess (Step.reads r) word = ⊥
+IsSuccess (Step.places d e c old) word = ⊥
+IsSuccess (Step.settles x c d e old) word = ⊥
+IsSuccess (Step.decides d k) word = (word ≡ number_of d.number undecided) × (k ≡ succeeded)
+IsSuccess (Step.releases d e c k value) word = ⊥
+IsSuccess Step.claims word = ⊥
+
+-- No other step changes what a cell stands for. So a stale helper changes no cell, whatever it still does for a descriptor that
+-- is decided or whose row has gone on: its control word is another one.
+abbrev pub OnlySuccessChanges : Type 0
+OnlySuccessChanges = (w : World) (z : Shape) (words then : List ℕ) (keep : ℕ → View) (who : ℕ) (s : Step) (word : ℕ) (next : View)
+    → IsShape z → Core w z words keep → who < z.workers → Allowed z (keep who) s → StepsTo z s words (keep who) word then next → (IsSuccess s word → ⊥)
+    → (c was is : ℕ) → c < cell_count z → IsLogicalWord z words keep c was → IsLogicalWord z then (updated keep who next) c is → is ≡ was
 
 -- the set shows that the key is done
 abbrev pub Shows : Kind → Keys → (k : ℕ) → Type 0
@@ -124,14 +149,14 @@ Shows Remove S k = contains S k ≡ false
 Shows Ask S k = Unit {0}
 
 -- The acts so far: those of the earlier rounds, and those of this one. The former led to the cells with which this round began.
--- The latter are the descriptors whose control stands Succeeded, each once, and those of one worker in the order in which it
--- opened them. All together they lead to what the cells stand for.
+-- The latter are the descriptors that succeeded, as control words and notes tell, each once, and those of one worker in the
+-- order in which it opened them. All together they lead to what the cells stand for.
 pub record ActsSoFar (z : Shape) (opening words : List ℕ) (keep : ℕ → View) (before now : List Made) : Type 0 where
   pub workers : AreOf z.workers (before ++ now)
   pub meet : AllMeet (acts_of (before ++ now)) opening
   pub begun : (v c : ℕ) → v < z.workers → c < cell_count z → slice_index (apply_acts (acts_of before) opening) c ≡ value_of (slice_index (keep v).opening c)
   pub succeeded : (v : ℕ) → v < z.workers → own v now ≡ succeeded_now z words (keep v)
-  pub cells : cells_now z words ≡ apply_acts (acts_of (before ++ now)) opening
+  pub cells : AreNow z words keep (apply_acts (acts_of (before ++ now)) opening)
 
 -- A worker has done these keys, one by one: by what it read, and by its acts in their order, of which the last may be left, as
 -- it has its descriptor open.
@@ -154,7 +179,7 @@ pub record StandsSo (kind : Kind) (z : Shape) (opening words : List ℕ) (keep :
   pub so_far : List ℕ
   pub each : IsDone kind z.bits [] so_far (acts_of (before ++ now)) (map changes (acts_of (before ++ now)))
   pub among : (k : ℕ) → Contains so_far k → (v : ℕ) × (v < z.workers) × Contains (keys v) k
-  pub layout : Layout (cells_now z words) z.bits (set_after kind S so_far)
+  pub layout : (cells : List ℕ) → AreNow z words keep cells → Layout cells z.bits (set_after kind S so_far)
   pub shows : (v k : ℕ) → v < z.workers → Contains (done v) k → Shows kind (set_after kind S so_far) k
 
 abbrev pub RunMoment : Type 0

@@ -12,6 +12,7 @@ use Rattle.rh_acts.specs.Done.{Does, IsDone, Kept, WereTrue}
 use Rattle.rh_acts.specs.Workers.{Made, AreOf, acts_of, own}
 use Rattle.rh_history.specs.History.{act_of, kept_of, opening_cells, own_acts_of}
 use Rattle.rh_history.specs.OwnActs.{Orderly}
+use Rattle.rh_run.specs.Known.{KnowsHeld}
 
 -- ---- the keys that are done, and what was told of each
 
@@ -31,11 +32,12 @@ abbrev pub DoesOneOf : Kind → (b : ℕ) (keys : List ℕ) → Act → Type 0
 DoesOneOf kind b keys act = (k : ℕ) × Contains keys k × ((changes : Bool) × Does kind b k changes act)
 
 -- Of a worker with these keys, who made these acts and reads in earlier rounds: what it has done by now, key by key. Each
--- descriptor that it opened does one of its keys, whether it succeeds or not.
+-- descriptor that it opened does one of its keys, whether it succeeds or not; and it knows what it holds.
 pub record Doing (z : Shape) (kind : Kind) (v : View) (keys : List ℕ) (acts : List Act) (reads : List Kept) (done : List ℕ) (told : List Bool) : Type 0 where
   pub orderly : Orderly v
   pub so_far : IsDone kind z.bits (reads ++ kept_of z v) done (acts ++ own_acts_of v) told
   pub opened : (o : OwnDesc) → In o v.opened → DoesOneOf kind z.bits keys (act_of o.entries)
+  pub knows : KnowsHeld v.side v.worker
 
 -- A run from these opening cells, where each worker has these keys, has done these, and was told this of them. The table is
 -- ruled by a world, which goes on from where the acts of the earlier rounds led.

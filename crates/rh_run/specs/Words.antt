@@ -1,75 +1,108 @@
--- What the words of a table tell: what its cells stand for and what they hold, which descriptors are acts, and that its rows
--- were wiped. (own)
-use Rattle.std.specs.Prelude.{ℕ, zero, suc, ◌+◌, ◌≡◌, ◌<◌, ◌≤◌, ◌==◌, cond, Option, Some, None, List, filter, length, map, reverse, slice_index}
-use Rattle.rh_world.specs.World.{Cell, Ref}
+-- What the words of a table tell, with what its workers noted: what its cells stand for and what they hold, which descriptors
+-- are acts, and that its rows were wiped. (own)
+use Rattle.std.specs.Prelude.{ℕ, zero, suc, ◌+◌, ◌≡◌, ◌<◌, ◌≤◌, ◌⊎◌, ◌==◌, ◌||◌, Bool, cond, Some, List, filter, length, map, reverse, slice_index}
+use Rattle.rh_world.specs.World.{Cell, In, Ref}
 use Rattle.rh_world.specs.World.Cell.{plain, mark, desc}
-use Rattle.rh_world.specs.Acts.{is_success}
-use Rattle.rh_world.specs.Logical.{entry_value}
+use Rattle.rh_world.specs.World.Control.{succeeded}
+use Rattle.rh_world.specs.Notes.Note.{desc_is, found}
+use Rattle.rh_world.specs.Sides.{Side}
 use Rattle.rh_descriptor.specs.declared.shape.Shape.{Shape}
 use Rattle.rh_descriptor.specs.declared.shape.Part.TheVariants as part
 use Rattle.rh_descriptor.specs.Places.{cell_count}
 use Rattle.rh_descriptor.specs.View.{View}
-use Rattle.rh_descriptor.specs.Words.{cell_in, desc_in, read_control}
+use Rattle.rh_descriptor.specs.Words.{cell_in, number_of}
 use Rattle.rh_descriptor.specs.Steps.{IsDesc, IsMark}
-use Rattle.rh_rule.specs.Mirrors.{word_at}
+use Rattle.rh_rule.specs.Mirrors.{HasItsRow, word_at}
+use Rattle.rh_rule.specs.Rest.{is_noted_success}
 use Rattle.rh_rule.specs.Wipes.{row_total}
 use Rattle.rh_acts.specs.Act.{Act}
-use Rattle.rh_history.specs.History.{act_of, cells_of}
+use Rattle.rh_history.specs.History.{act_of, cells_of, own_ref, value_of}
+use Rattle.rh_run.specs.Known.{NotesOld}
 
 -- ---- what a cell stands for
 
--- the old value of an entry, which the row of a mark says: 0 where it names no descriptor
-abbrev pub marked_value : Shape → (words : List ℕ) → Option Ref → (e : ℕ) → ℕ
-marked_value z words None e = 0
-marked_value z words (Some d) e = word_at z words (part.EntryOld d.worker (d.number + e))
+-- whether the control word of its worker says that the descriptor succeeded
+abbrev pub has_succeeded : Shape → (words : List ℕ) → Ref → Bool
+has_succeeded z words d = word_at z words (part.Control d.worker) == number_of d.number succeeded
 
--- of an entry's two values the one that counts
+-- of an entry's two values in the row of d the one that counts
 abbrev pub value_in : Shape → (words : List ℕ) → Ref → (e : ℕ) → ℕ
 value_in z words d e =
-    entry_value (read_control (word_at z words (part.Control d.worker d.number)))
-    (word_at z words (part.EntryOld d.worker (d.number + e))) (word_at z words (part.EntryNew d.worker (d.number + e)))
+    cond (has_succeeded z words d) (word_at z words (part.EntryNew d.worker e)) (word_at z words (part.EntryOld d.worker e))
 
--- the value of the entry for cell c among the first n entries of d: 0 where none is for it
+-- the value of the entry for cell c among the first n entries in the row: 0 where none is for it
 abbrev pub entry_for : Shape → (words : List ℕ) → Ref → (c n : ℕ) → ℕ
 entry_for z words d c zero = 0
-entry_for z words d c (suc n) =
-    cond (word_at z words (part.EntryCell d.worker (d.number + n)) == c) (value_in z words d n) (entry_for z words d c n)
+entry_for z words d c (suc n) = cond (word_at z words (part.EntryCell d.worker n) == c) (value_in z words d n) (entry_for z words d c n)
 
--- a plain word for itself, a mark for the old value of its entry, and a descriptor for the value of its entry for the cell
-abbrev pub stands_for : Shape → (words : List ℕ) → (c : ℕ) → Cell → ℕ
-stands_for z words c (plain u) = u
-stands_for z words c (mark x) =
-    marked_value z words (desc_in (word_at z words (part.MarkDesc x.worker))) (word_at z words (part.MarkEntry x.worker))
-stands_for z words c (desc d) = entry_for z words d c (word_at z words (part.Length d.worker d.number))
+-- the old value of the entry that mark x is for, as its worker noted it
+pub record MarkStandsFor (keep : ℕ → View) (c : ℕ) (x : Ref) (word : ℕ) : Type 0 where
+  pub desc : Ref
+  pub names : In (desc_is x desc) (keep x.worker).side.notes
+  pub old : NotesOld (keep x.worker).side desc c word
 
-abbrev pub logical_word : Shape → (words : List ℕ) → (c : ℕ) → ℕ
-logical_word z words c = stands_for z words c (cell_in (slice_index words c))
+-- the value of the entry of d for the cell, where d has its row
+pub record RowStandsFor (z : Shape) (words : List ℕ) (c : ℕ) (d : Ref) (word : ℕ) : Type 0 where
+  pub row : HasItsRow z words d
+  pub value : entry_for z words d c (word_at z words (part.Length d.worker)) ≡ word
 
--- the mark row of its worker, which is of a mark while it stands in a cell, names a descriptor of the table, and an entry
--- that has a place
-pub record MarkLeads (z : Shape) (words : List ℕ) (x : Ref) : Type 0 where
+-- Where its row has gone on, the old value, as a worker noted it: a descriptor that succeeded stands in no cell then.
+pub record GoneStandsFor (z : Shape) (words : List ℕ) (keep : ℕ → View) (c : ℕ) (d : Ref) (word : ℕ) : Type 0 where
+  pub gone : HasItsRow z words d → ⊥
+  pub worker : ℕ
+  pub within : worker < z.workers
+  pub old : NotesOld (keep worker).side d c word
+
+-- what a cell with this stands for: a plain word for itself, a mark for the old value of its entry, and a descriptor for the
+-- value of its entry for the cell
+abbrev pub StandsFor : Shape → (words : List ℕ) → (keep : ℕ → View) → (c : ℕ) → Cell → (word : ℕ) → Type 0
+StandsFor z words keep c (plain u) word = u ≡ word
+StandsFor z words keep c (mark x) word = MarkStandsFor keep c x word
+StandsFor z words keep c (desc d) word = RowStandsFor z words c d word ⊎ GoneStandsFor z words keep c d word
+
+-- cell c stands for this word
+abbrev pub IsLogicalWord : Shape → (words : List ℕ) → (keep : ℕ → View) → (c word : ℕ) → Type 0
+IsLogicalWord z words keep c word = StandsFor z words keep c (cell_in (slice_index words c)) word
+
+-- each cell of the table stands for a word, and these are the values of the words
+pub record AreNow (z : Shape) (words : List ℕ) (keep : ℕ → View) (cells : List ℕ) : Type 0 where
+  pub size : length cells ≡ cell_count z
+  pub stands : (c : ℕ) → c < cell_count z → (word : ℕ) × IsLogicalWord z words keep c word
+  pub values : (c word : ℕ) → c < cell_count z → IsLogicalWord z words keep c word → slice_index cells c ≡ value_of word
+
+-- ---- where the words lead
+
+-- mark x is unsettled, and whatever was noted of it is of this descriptor and of this cell
+pub record MarkIsFor (s : Side) (x d : Ref) (c : ℕ) : Type 0 where
+  pub unsettled : s.unsettled ≡ Some x.number
+  pub desc : (f : Ref) → In (desc_is x f) s.notes → f ≡ d
+  pub cell : (b : ℕ) → In (found x b) s.notes → b ≡ c
+
+-- a worker holds d in cell c: it owes d there, or its unsettled mark is for it
+abbrev pub Holds : Side → (who : ℕ) → (d : Ref) → (c : ℕ) → Type 0
+Holds s who d c = In (record { desc = d; cell = c }) s.debts ⊎ ((n : ℕ) × MarkIsFor s (record { worker = who; number = n }) d c)
+
+-- a mark is one of the table, and its worker has not settled it
+pub record MarkLeads (z : Shape) (keep : ℕ → View) (c : ℕ) (x : Ref) : Type 0 where
   pub is_mark : IsMark z x
   pub desc : Ref
-  pub names : desc_in (word_at z words (part.MarkDesc x.worker)) ≡ Some desc
-  pub is_desc : IsDesc z desc
-  pub entry : desc.number + word_at z words (part.MarkEntry x.worker) < z.entry_room
+  pub is_for : MarkIsFor (keep x.worker).side x desc c
 
--- a descriptor is one of the table, and its entries have places
-pub record DescLeads (z : Shape) (words : List ℕ) (d : Ref) : Type 0 where
+-- A descriptor is one of the table. Its row, where it has it, says entries that have places; else a worker of the table holds it.
+pub record DescLeads (z : Shape) (words : List ℕ) (keep : ℕ → View) (c : ℕ) (d : Ref) : Type 0 where
   pub is_desc : IsDesc z d
-  pub entries : d.number + word_at z words (part.Length d.worker d.number) ≤ z.entry_room
+  pub entries : HasItsRow z words d → word_at z words (part.Length d.worker) ≤ cell_count z
+  pub held : (HasItsRow z words d → ⊥) → (v : ℕ) × (v < z.workers) × Holds (keep v).side v d c
 
--- What stands in the cell is a plain word, or leads to rows that the table has.
-abbrev pub LeadsInside : Shape → (words : List ℕ) → Cell → Type 0
-LeadsInside z words (plain u) = Unit {0}
-LeadsInside z words (mark x) = MarkLeads z words x
-LeadsInside z words (desc d) = DescLeads z words d
+-- What stands in cell c is a plain word, or leads to a row that the table has or to a worker that holds it.
+abbrev pub LeadsInside : Shape → (words : List ℕ) → (keep : ℕ → View) → (c : ℕ) → Cell → Type 0
+LeadsInside z words keep c (plain u) = Unit {0}
+LeadsInside z words keep c (mark x) = MarkLeads z keep c x
+LeadsInside z words keep c (desc d) = DescLeads z words keep c d
 
--- what the cells of the table stand for, as values
-abbrev pub cells_now : Shape → (words : List ℕ) → List ℕ
-cells_now z words = cells_of z (logical_word z words)
+-- ---- what the cells hold
 
--- what they hold, as values
+-- the values of their words
 abbrev pub cells_held : Shape → (words : List ℕ) → List ℕ
 cells_held z words = cells_of z (slice_index words)
 
@@ -84,7 +117,8 @@ pub record IsWiped (z : Shape) (words then : List ℕ) : Type 0 where
 
 -- ---- acts
 
--- of the descriptors that a worker opened in this round, those whose control stands Succeeded, as acts, the oldest first
+-- of the descriptors that a worker opened in this round those that succeeded, as acts, the oldest first: the control word says
+-- so of the newest, and the worker noted it of those before
 abbrev pub succeeded_now : Shape → (words : List ℕ) → View → List Act
 succeeded_now z words v =
-    reverse (map (λ o. act_of o.entries) (filter (λ o. is_success (read_control (word_at z words (part.Control v.worker o.number)))) v.opened))
+    reverse (map (λ o. act_of o.entries) (filter (λ o. has_succeeded z words (own_ref v o.number) || is_noted_success v.side.notes (own_ref v o.number)) v.opened))

@@ -2,7 +2,8 @@
 
 ghost use Rattle.rh_run.specs.Laws.{WorkerStarts, WorkerSteps, WorkerClaims, WorkerTurns};
 ghost use Rattle.rh_run.specs.Laws.{RunStarts, RunGathers, RunSteps, RunClaims, RunRounds, RunsAlike};
-ghost use Rattle.rh_run.specs.Laws.{LogicalWords, WordsLeadInside, RunMoment, RunAnswers, RunEnds, RunSharedEnds};
+ghost use Rattle.rh_run.specs.Laws.{LogicalWords, WordsStand, WordsLeadInside, OnlySuccessChanges};
+ghost use Rattle.rh_run.specs.Laws.{RunMoment, RunAnswers, RunEnds, RunSharedEnds};
 
 /// What a worker has done of its keys grows by its own steps alone, and stays in a further round.
 pub fn worker_goes_on()
@@ -24,13 +25,21 @@ pub fn run_goes_on()
 {}
 
 /// At each moment the cells stand for the layout of the set after the keys of the acts so far, which
-/// are those of the descriptors that succeeded, and by which each worker has done its keys; the words
-/// alone tell what the cells stand for; and what was asked for is answered from the first set.
+/// are those of the descriptors that succeeded, and by which each worker has done its keys; the words,
+/// and what the workers noted of rows that have gone on, tell what the cells stand for; and what was
+/// asked for is answered from the first set.
 pub fn run_stands()
     ensures words { LogicalWords }
+    ensures stand { WordsStand }
     ensures inside { WordsLeadInside }
     ensures moment { RunMoment }
     ensures answers { RunAnswers }
+{}
+
+/// What a cell stands for is changed by no step but a Decide that lets a descriptor succeed: a stale
+/// helper changes no cell.
+pub fn only_success_changes()
+    ensures { OnlySuccessChanges }
 {}
 
 /// Where all keys are done and all workers are at rest, the cells and the tally are those of one worker

@@ -28,6 +28,6 @@ workers_may_rely w z words keep who shape core mine = record {
     finds = λ s may. steps_find w z words keep who s shape core mine may;
     then = λ s word later next may to.
         subst (λ (v : View). Trusts Shows z later v) (updated_here keep who who next refl)
-        (trusts (world_then w who (keep who) s) z later (updated keep who next) who shape (each_step_keeps w z words later keep who s word next shape core mine may to) mine);
+        (trusts (world_then z w who (keep who) s) z later (updated keep who next) who shape (each_step_keeps w z words later keep who s word next shape core mine may to) mine);
   };
 }

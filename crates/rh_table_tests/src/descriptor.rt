@@ -1,34 +1,39 @@
 use rh_descriptor::*;
-use rh_tagword::Control;
+use rh_tagword::State;
 use std::test::*;
 
-// Two workers with eight places for entries and a mark row each: 43 words of rows a worker.
+// Two workers: 32 words of rows each, of which 24 are for entries.
 const SHAPE: Shape = Shape {
     bits: 3,
     workers: 2,
-    entry_room: 8,
-    mark_room: 8,
     keys: 0,
+    rooms: Rooms {
+        descriptors: 2,
+        marks: 8,
+    },
 };
 
 #[test]
 fn each_part_has_its_place(rt: HostRuntime) -> Result<(), Fail> {
     assert_eq!(rt; SHAPE.cells(), 8);
-    assert_eq!(rt; SHAPE.words(), 95);
+    assert_eq!(rt; SHAPE.words(), 73);
     assert_eq!(rt; SHAPE.place(Part::Cell(7)), 7);
-    for (worker, entry, first) in [(0, 0, 8), (0, 7, 43), (1, 0, 51), (1, 7, 86)] {
-        assert_eq!(rt; SHAPE.place(Part::Control { worker, entry }), first);
-        assert_eq!(rt; SHAPE.place(Part::Length { worker, entry }), first + 1);
-        assert_eq!(rt; SHAPE.place(Part::EntryCell { worker, entry }), first + 2);
-        assert_eq!(rt; SHAPE.place(Part::EntryOld { worker, entry }), first + 3);
-        assert_eq!(rt; SHAPE.place(Part::EntryNew { worker, entry }), first + 4);
+    for (worker, first) in [(0, 8), (1, 40)] {
+        assert_eq!(rt; SHAPE.place(Part::Control { worker }), first);
+        assert_eq!(rt; SHAPE.place(Part::Serial { worker }), first + 1);
+        assert_eq!(rt; SHAPE.place(Part::Length { worker }), first + 2);
+        assert_eq!(rt; SHAPE.place(Part::MarkSerial { worker }), first + 27);
+        assert_eq!(rt; SHAPE.place(Part::MarkDesc { worker }), first + 28);
+        assert_eq!(rt; SHAPE.place(Part::MarkEntry { worker }), first + 29);
+        assert_eq!(rt; SHAPE.place(Part::Note { worker, owner: 0 }), first + 30);
+        assert_eq!(rt; SHAPE.place(Part::Note { worker, owner: 1 }), first + 31);
     }
-    for (worker, first) in [(0, 48), (1, 91)] {
-        assert_eq!(rt; SHAPE.place(Part::MarkSerial { worker }), first);
-        assert_eq!(rt; SHAPE.place(Part::MarkDesc { worker }), first + 1);
-        assert_eq!(rt; SHAPE.place(Part::MarkEntry { worker }), first + 2);
+    for (worker, entry, first) in [(0, 0, 11), (0, 7, 32), (1, 0, 43), (1, 7, 64)] {
+        assert_eq!(rt; SHAPE.place(Part::EntryCell { worker, entry }), first);
+        assert_eq!(rt; SHAPE.place(Part::EntryOld { worker, entry }), first + 1);
+        assert_eq!(rt; SHAPE.place(Part::EntryNew { worker, entry }), first + 2);
     }
-    assert_eq!(rt; SHAPE.place(Part::Counter), 94);
+    assert_eq!(rt; SHAPE.place(Part::Counter), 72);
     Ok(())
 }
 
@@ -38,26 +43,35 @@ fn the_words_can_be_counted(rt: HostRuntime) -> Result<(), Fail> {
     let shape = Shape {
         bits: 18,
         workers: MAX_WORKERS,
-        entry_room: MAX_ROOM,
-        mark_room: MAX_MARKS,
         keys: 1_000_000,
+        rooms: Rooms::usual(),
     };
-    assert_eq!(rt; shape.words(), 84_148_273);
+    assert_eq!(rt; shape.words(), 12_845_409);
     Ok(())
 }
 
 #[test]
+fn the_usual_rooms_are_the_greatest(rt: HostRuntime) {
+    let rooms = Rooms {
+        descriptors: 72_057_594_037_927_935,
+        marks: 72_057_594_037_927_935,
+    };
+    assert_eq!(rt; Rooms::usual(), rooms);
+    assert_eq!(rt; MAX_ROOM, 72_057_594_037_927_935);
+}
+
+#[test]
 fn a_claim_takes_the_next_place(rt: HostRuntime) -> Result<(), Fail> {
-    let mut words = [0u64; 95];
+    let mut words = [0u64; 73];
     let mut side = Side::new(1, &[0; 8]);
     assert_eq!(rt; make_step(&SHAPE, &mut words, &mut side, Ask::Claim), 0);
-    assert_eq!(rt; words[94], 1);
+    assert_eq!(rt; words[72], 1);
     Ok(())
 }
 
 #[test]
 fn a_word_of_an_own_row_is_written_and_read(rt: HostRuntime) -> Result<(), Fail> {
-    let mut words = [0u64; 95];
+    let mut words = [0u64; 73];
     let mut side = Side::new(1, &[0; 8]);
     let part = Part::EntryOld {
         worker: 1,
@@ -65,8 +79,8 @@ fn a_word_of_an_own_row_is_written_and_read(rt: HostRuntime) -> Result<(), Fail>
     };
     let write = Ask::Write { part, word: 40 };
     assert_eq!(rt; make_step(&SHAPE, &mut words, &mut side, write), 0);
-    assert_eq!(rt; words[89], 40);
-    let read = Ask::Read(Reading::Place(89));
+    assert_eq!(rt; words[65], 40);
+    let read = Ask::Read(Reading::Place(65));
     assert_eq!(rt; make_step(&SHAPE, &mut words, &mut side, read), 40);
     Ok(())
 }
@@ -74,11 +88,16 @@ fn a_word_of_an_own_row_is_written_and_read(rt: HostRuntime) -> Result<(), Fail>
 // Cell 4 goes from empty to key 1, by one worker alone.
 #[test]
 fn one_worker_changes_one_cell(rt: HostRuntime) -> Result<(), Fail> {
-    let mut words = [0u64; 95];
+    let mut words = [0u64; 73];
     let mut side = Side::new(0, &[0; 8]);
     let (worker, entry) = (0, 0);
     let write = Ask::Write {
-        part: Part::Length { worker, entry },
+        part: Part::Serial { worker },
+        word: 0,
+    };
+    make_step(&SHAPE, &mut words, &mut side, write);
+    let write = Ask::Write {
+        part: Part::Length { worker },
         word: 1,
     };
     make_step(&SHAPE, &mut words, &mut side, write);
@@ -142,12 +161,12 @@ fn one_worker_changes_one_cell(rt: HostRuntime) -> Result<(), Fail> {
     };
     assert_eq!(rt; make_step(&SHAPE, &mut words, &mut side, settle), 1);
     assert_eq!(rt; words[4], 2);
-    let control = Control::Succeeded;
-    let decide = Ask::Decide { desc, control };
+    let state = State::Succeeded;
+    let decide = Ask::Decide { desc, state };
     assert_eq!(rt; make_step(&SHAPE, &mut words, &mut side, decide), 1);
     let release = Ask::Release {
         piece,
-        control,
+        state: Some(state),
         value: 8,
     };
     assert_eq!(rt; make_step(&SHAPE, &mut words, &mut side, release), 2);

@@ -69,23 +69,55 @@ fn plain_words_say_what_a_cell_holds(rt: HostRuntime) {
 }
 
 // Controls with their numbers and whether they are decided.
-const CONTROLS: [(Control, u64, bool); 7] = [
-    (Control::Unused, 0, false),
-    (Control::Undecided, 1, false),
-    (Control::Succeeded, 2, true),
-    (Control::Withdrawn, 3, true),
-    (Control::Failed { entry: 0 }, 4, true),
-    (Control::Failed { entry: 3 }, 7, true),
-    (Control::Failed { entry: 1048575 }, 1048579, true),
+const CONTROLS: [(u64, State, u64, bool); 7] = [
+    (0, State::Unused, 0, false),
+    (0, State::Undecided, 1, false),
+    (0, State::Succeeded, 2, true),
+    (0, State::Withdrawn, 3, true),
+    (1, State::Failed { decider: 0 }, 320, true),
+    (5, State::Failed { decider: 3 }, 1347, true),
+    (
+        72057594037927935,
+        State::Failed { decider: 63 },
+        18446744073709551487,
+        true,
+    ),
 ];
 
 #[test]
 fn controls_have_their_numbers(rt: HostRuntime) {
-    for (control, number, decided) in CONTROLS {
-        assert_eq!(rt; pack_control(control), number, "of {control:?}");
-        assert_eq!(rt; unpack_control(number), Some(control), "of {number}");
-        assert_eq!(rt; control.is_decided(), decided, "of {control:?}");
+    for (serial, state, number, decided) in CONTROLS {
+        assert_eq!(rt;
+            pack_control(serial, state),
+            number,
+            "of {serial} {state:?}"
+        );
+        assert_eq!(rt;
+            unpack_control(number),
+            Some((serial, state)),
+            "of {number}"
+        );
+        assert_eq!(rt; state.is_decided(), decided, "of {state:?}");
     }
-    assert_eq!(rt; unpack_control(1048580), None);
+    assert_eq!(rt; unpack_control(4), None);
     assert_eq!(rt; unpack_control(u64::MAX), None);
+}
+
+// Whether the lowest byte of a control may be this.
+fn is_state(byte: u64) -> bool {
+    byte < 4 || (64 <= byte && byte < 128)
+}
+
+// Serial numbers, and 256 times each.
+#[test]
+fn the_lowest_byte_tells_whether_it_is_a_control(rt: HostRuntime) {
+    for (serial, first) in [(0, 0), (5, 1280), (72057594037927935, 18446744073709551360)] {
+        assert!(rt;
+            (0..256u64).all(|byte| {
+                unpack_control(first | byte).map(|control| control.0)
+                    == is_state(byte).then_some(serial)
+            }),
+            "of {serial}"
+        );
+    }
 }

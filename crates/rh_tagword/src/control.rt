@@ -1,13 +1,15 @@
 //! Controls of descriptors, and their numbers.
 
-ghost use Rattle.std.specs.Prelude.{◌≡◌, ◌≤◌, ◌+◌, ◌^◌, ◌↔◌, IsNone, IfSome};
-ghost use Rattle.rh_tagword.specs.Control.{IsControl, control_number, control_in, is_decided};
+ghost use Rattle.std.specs.Prelude.{◌≡◌, ◌<◌, ◌≤◌, ◌+◌, ◌%◌, ◌^◌, ◌⊎◌, ◌↔◌, IsNone, IfSome};
+ghost use Rattle.rh_tagword.specs.Control.{IsControl, IsState, control_number, control_in, is_decided, state_number};
 
-use crate::limits::{ENTRY_BITS, FAILED, SUCCEEDED, UNDECIDED, UNUSED, WITHDRAWN};
+use crate::limits::{FAILED, STATE_BITS, SUCCEEDED, UNDECIDED, UNUSED, WITHDRAWN, WORKER_BITS};
+
+const STATE_MASK: u64 = (1 << STATE_BITS) - 1;
 
 /// How far a swap of several cells has come (Harris, Fraser, Pratt 2002).
 #[derive(Clone, Copy, Debug, PartialEq, Eq)]
-pub enum Control {
+pub enum State {
     /// No swap was begun.
     Unused,
     /// The swap was begun, and may still go either way.
@@ -16,51 +18,66 @@ pub enum Control {
     Succeeded,
     /// Its worker gave it up, and nothing was changed.
     Withdrawn,
-    /// Nothing was changed, as the cell of this entry held another value. Entries count from 0.
-    Failed { entry: u64 },
+    /// Nothing was changed, as a cell held another value. At which entry, this worker tells in its note
+    /// to the swap's own worker.
+    Failed { decider: u64 },
 }
 
-impl Control {
+impl State {
     /// Whether the swap is over. It stays as it is from then on.
     pub fn is_decided(self) -> bool
         ensures { result ≡ is_decided self }
     {
         match self {
-            Control::Unused | Control::Undecided => false,
-            Control::Succeeded | Control::Withdrawn | Control::Failed { .. } => true,
+            State::Unused | State::Undecided => false,
+            State::Succeeded | State::Withdrawn | State::Failed { .. } => true,
         }
     }
 }
 
-/// The number of a control.
-pub fn pack_control(control: Control) -> u64
-    requires { IsControl control }
-    ensures number { result ≡ control_number control }
-    ensures back { control_in result ≡ Some control }
+/// The number of a control: the serial number of the descriptor that has the row, and its state.
+pub fn pack_control(serial: u64, state: State) -> u64
+    requires { IsControl serial state }
+    ensures number { result ≡ control_number serial state }
+    ensures back { control_in result ≡ Some (serial, state) }
 {
-    match control {
-        Control::Unused => UNUSED,
-        Control::Undecided => UNDECIDED,
-        Control::Succeeded => SUCCEEDED,
-        Control::Withdrawn => WITHDRAWN,
-        Control::Failed { entry } => FAILED + entry,
-    }
+    (serial << STATE_BITS) | state_number(state)
 }
 
-/// The control of a number, or `None` where it is no control.
-pub fn unpack_control(number: u64) -> Option<Control>
+/// The serial number and the state of a control, or `None` where the number is no control.
+pub fn unpack_control(number: u64) -> Option<(u64, State)>
     ensures control { result ≡ control_in number }
-    ensures none { IsNone result ↔ (FAILED + 2 ^ ENTRY_BITS ≤ number) }
-    ensures back { IfSome result (λ k. IsControl k × (control_number k ≡ number)) }
+    ensures none { IsNone result ↔ (((WITHDRAWN < number % 2 ^ STATE_BITS) × (number % 2 ^ STATE_BITS < FAILED))
+        ⊎ (FAILED + 2 ^ WORKER_BITS ≤ number % 2 ^ STATE_BITS)) }
+    ensures back { IfSome result (λ k. IsControl k.0 k.1 × (control_number k.0 k.1 ≡ number)) }
 {
-    match number {
-        UNUSED => Some(Control::Unused),
-        UNDECIDED => Some(Control::Undecided),
-        SUCCEEDED => Some(Control::Succeeded),
-        WITHDRAWN => Some(Control::Withdrawn),
-        _ => {
-            let entry = number - FAILED;
-            (entry < 1 << ENTRY_BITS).then_some(Control::Failed { entry })
+    let serial = number >> STATE_BITS;
+    let state = match number & STATE_MASK {
+        UNUSED => State::Unused,
+        UNDECIDED => State::Undecided,
+        SUCCEEDED => State::Succeeded,
+        WITHDRAWN => State::Withdrawn,
+        failed => {
+            if failed < FAILED || failed >= FAILED + (1 << WORKER_BITS) {
+                return None;
+            }
+            State::Failed {
+                decider: failed - FAILED,
+            }
         }
+    };
+    Some((serial, state))
+}
+
+fn state_number(state: State) -> u64
+    requires { IsState state }
+    ensures { result ≡ state_number state }
+{
+    match state {
+        State::Unused => UNUSED,
+        State::Undecided => UNDECIDED,
+        State::Succeeded => SUCCEEDED,
+        State::Withdrawn => WITHDRAWN,
+        State::Failed { decider } => FAILED + decider,
     }
 }

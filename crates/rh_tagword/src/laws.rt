@@ -4,9 +4,9 @@ ghost use Rattle.std.specs.Prelude.{◌≡◌, ℕ, ◌^◌, ◌<◌};
 ghost use Rattle.rh_tagword.specs.Word.{IsWord, word_in, word_number};
 ghost use Rattle.rh_tagword.specs.Control.{IsControl, control_in, control_number};
 ghost use Rattle.rh_tagword.specs.declared.word.Word.{Word};
-ghost use Rattle.rh_tagword.specs.declared.control.Control.{Control};
+ghost use Rattle.rh_tagword.specs.declared.control.State.{State};
 
-use crate::control::Control;
+use crate::control::State;
 use crate::word::Word;
 
 /// The number of a word is a `u64`. It is the only one that is read as this word, and no other word
@@ -21,12 +21,12 @@ pub fn one_word(word: Word)
 }
 
 /// The same of controls.
-pub fn one_control(control: Control)
-    requires { IsControl control }
-    ensures fits { control_number control < 2 ^ 64 }
-    ensures read { (n : ℕ) → control_in n ≡ Some control → n ≡ control_number control }
-    ensures one { (k : Control) → IsControl k →
-        control_number k ≡ control_number control → k ≡ control }
+pub fn one_control(serial: u64, state: State)
+    requires { IsControl serial state }
+    ensures fits { control_number serial state < 2 ^ 64 }
+    ensures read { (n : ℕ) → control_in n ≡ Some (serial, state) → n ≡ control_number serial state }
+    ensures one { (i : ℕ) (k : State) → IsControl i k →
+        control_number i k ≡ control_number serial state → (i ≡ serial) × (k ≡ state) }
 {
-    let _ = control;
+    let _ = (serial, state);
 }

@@ -7,7 +7,7 @@ mod laws;
 mod limits;
 mod word;
 
-pub use control::{Control, pack_control, unpack_control};
+pub use control::{State, pack_control, unpack_control};
 pub use laws::{one_control, one_word};
-pub use limits::{ENTRY_BITS, NUMBER_BITS, WORKER_BITS};
+pub use limits::{NUMBER_BITS, STATE_BITS, WORKER_BITS};
 pub use word::{Word, pack, plain_value, plain_word, unpack};

@@ -19,20 +19,20 @@ pub const WORKER_BITS: u32 = 6;
 /// How many bits of a word say which of a worker's marks or descriptors is meant.
 pub const NUMBER_BITS: u32 = 56;
 
-/// How many bits the entry takes at which a descriptor failed.
-pub const ENTRY_BITS: u32 = 20;
+/// How many of the lowest bits of a control say its state. Those above are its serial number.
+pub const STATE_BITS: u32 = 8;
 
-/// The number of `Control::Unused`.
+/// The number of `State::Unused`.
 pub const UNUSED: u64 = 0;
 
-/// The number of `Control::Undecided`.
+/// The number of `State::Undecided`.
 pub const UNDECIDED: u64 = 1;
 
-/// The number of `Control::Succeeded`.
+/// The number of `State::Succeeded`.
 pub const SUCCEEDED: u64 = 2;
 
-/// The number of `Control::Withdrawn`.
+/// The number of `State::Withdrawn`.
 pub const WITHDRAWN: u64 = 3;
 
-/// The number of `Control::Failed` at entry 0. Those of the other entries follow it.
-pub const FAILED: u64 = 4;
+/// The number of `State::Failed` as worker 0 decided it. Those of the other workers follow it.
+pub const FAILED: u64 = 64;

@@ -10,21 +10,15 @@ use Rattle.rh_layout.specs.Layout.{Keys, Layout, keys_of}
 use Rattle.rh_ledger.specs.declared.tally.Kind.{Kind}
 use Rattle.rh_ledger.specs.declared.tally.Kind.TheVariants.{Ask}
 use Rattle.rh_ledger.specs.Phase.{looked_up, set_after, tally_of}
-use Rattle.rh_world.specs.World.{World}
 use Rattle.rh_descriptor.specs.declared.shape.Shape.{Shape}
-use Rattle.rh_descriptor.specs.Places.{IsShape}
 use Rattle.rh_descriptor.specs.View.{View, new_view}
-use Rattle.rh_rule.specs.Core.{Core}
 use Rattle.rh_rule.specs.Rest.{AllRest}
-use Rattle.rh_rule.proofs.Telling.{rests}
 use Rattle.rh_acts.specs.Workers.{LeavesRoom, counted, joined, piece, sum_of_all, tally_by}
 use Rattle.rh_run.specs.Claimed.{FoundEnd, claimed}
 use Rattle.rh_run.specs.Laws.{EndsSo}
-use Rattle.rh_run.specs.Words.{cells_held, cells_now, logical_word}
-use Rattle.rh_run.proofs.Ending.{run_ends, same_sums}
-use Rattle.rh_run.proofs.Saying.{logical_words}
+use Rattle.rh_run.specs.Words.{cells_held}
+use Rattle.rh_run.proofs.Ending.{held_now, run_ends, same_sums}
 use Rattle.rh_run.proofs.Sharing.{claims_at, claims_size, run_shared_ends, shared_out}
-use Rattle.rh_run.proofs.Standing.{same_cells}
 use Rattle.rh_turns.specs.declared.hand.Hand.{Hand}
 use Rattle.rh_turns.specs.declared.hand.Share.{Share}
 use Rattle.rh_turns.specs.declared.hand.Share.TheVariants.{Piece, Claims}
@@ -35,14 +29,6 @@ use Rattle.rh_turns.proofs.AtHands.{at_hand_is}
 use Rattle.rh_turns.proofs.Apart.{IsPiece, end_of, first_of, piece_at, up_to}
 use Rattle.rh_turns.proofs.Playing.{hand_of, in_hands, plays_stopped, some_hand}
 use Rattle.rh_turns.proofs.Telling.{plays_tells, told_size}
-
--- ---- where all are at rest
-
--- a cell stands for what it holds
-now_held : (w : World) (z : Shape) (words : List ℕ) (keep : ℕ → View) → IsShape z → Core w z words keep → AllRest z keep → cells_now z words ≡ cells_held z words
-now_held w z words keep shape core rest =
-    let at_rest = rests w z words keep core rest in
-    same_cells z (logical_word z words) (slice_index words) (λ c inside. logical_words w z words keep c shape core inside ∙ sym (at_rest.cells c inside))
 
 -- ---- the pieces together
 
@@ -190,7 +176,7 @@ module _ (g : Game) (plays : Plays g) (finished : AllFinished g) where
 
     ends_pieces : EndsWith g
     ends_pieces = record {
-      now = now_held plays.running.world z g.words (keep g) plays.shape plays.running.core rest;
+      now = held_now g.kind z g.opening g.words (keep g) (keys_at g) (done_at g) plays.told plays.running rest plays.shape;
       layout = subst (λ (l : List ℕ). Layout (cells_held z g.words) z.bits (set_after g.kind S l)) joined_is by_pieces.layout;
       tally = tally_is by_pieces ∙ ap (tally_of g.kind S) joined_is;
       answers = answers_pieces;
@@ -236,7 +222,7 @@ module _ (g : Game) (plays : Plays g) (finished : AllFinished g) where
 
     ends_claims : EndsWith g
     ends_claims = record {
-      now = now_held plays.running.world z g.words (keep g) plays.shape plays.running.core rest;
+      now = held_now g.kind z g.opening g.words (keep g) (keys_at g) (done_at g) plays.told plays.running rest plays.shape;
       layout = by_claims.layout;
       tally = tally_is by_claims;
       answers = answers_claims;

@@ -35,7 +35,7 @@ use Rattle.rh_turns.specs.declared.hand.Hand.{Hand}
 use Rattle.rh_turns.specs.declared.hand.Share.{Share}
 use Rattle.rh_turns.specs.declared.hand.Share.TheVariants.{Piece, Claims}
 use Rattle.rh_turns.specs.Hands.{HasClaimed, HasNext, IsFinished, IsHand, IsIdle, IsShare, IsSpent, keys_for, keys_in, place_of, places, view_of}
-use Rattle.rh_turns.specs.Readable.{IsReadable}
+use Rattle.rh_turns.specs.Readable.{AreWorkers, IsReadable}
 use Rattle.rh_turns.specs.Game.{AllStopped, Game, Plays, keep, keys_at, done_at}
 use Rattle.rh_turns.proofs.AtHands.{at_hand_is, first_of_all}
 
@@ -127,9 +127,9 @@ module _ (w : World) (z : Shape) (words : List ℕ) (keep : ℕ → View) (core 
   stands_plain c v (plain u) e is so = subst IsPlain so is
   stands_plain c v (mark x) e is so =
       let opened = core.rule.rows.used x (core.rule.rows.marks c x e).used in
-      subst IsPlain so ((core.mirrors.rows.descs (w.mark_desc x) opened.0).plain_olds (w.mark_entry x) opened.1)
+      subst IsPlain so ((core.mirrors.rows.entries (w.mark_desc x) opened.0).plain_olds (w.mark_entry x) opened.1)
   stands_plain c v (desc d) e is so =
-      let row = core.mirrors.rows.descs d (core.rule.rows.descs c d e).opened in
+      let row = core.mirrors.rows.entries d (core.rule.rows.descs c d e).opened in
       subst IsPlain so.value (plain_value (w.control d) (w.old d so.entry) (w.new d so.entry) (row.plain_olds so.entry so.within) (row.plain_news so.entry so.within))
 
   pub cells_plain : (c : ℕ) → c < cell_count z → IsPlain (cells_after w w.act_count c)
@@ -165,6 +165,14 @@ module _ (g : Game) (plays : Plays g) where
   pub plays_sized : length g.words ≡ word_count z
   plays_sized = plays.running.core.mirrors.sized
 
+  pub plays_workers : AreWorkers g.hands
+  plays_workers = record {
+    each = λ v d l. (z, (plays.hands v d l).worker);
+    numbered = λ v d l.
+        let mine : v < z.workers = omega (arith, l, plays.workers) in
+        ap (λ (x : View). x.worker) (sym (kept_at v mine d)) ∙ (plays.running.core.mirrors.kept v mine).worker;
+  }
+
   -- each worker may take a turn
   pub plays_relies : (v : ℕ) → v < z.workers → (d : Hand) → Relies Shows Serves z g.words (view_of (get_or g.hands v d))
   plays_relies v mine d = subst (Relies Shows Serves z g.words) (kept_at v mine d) (workers_may_rely plays.running.world z g.words (keep g) v plays.shape plays.running.core mine)
@@ -184,13 +192,13 @@ module _ (g : Game) (plays : Plays g) where
         (clear_rests (view_of h) (stopped_clear z h (hand_of v mine some_hand).worker (stopped v some_hand (in_hands v mine))));
   }
 
-  -- the words tell what each cell stands for
-  pub plays_readable : (c : ℕ) → c < cell_count z → IsReadable z g.words c
+  -- the words and what the workers hold tell what each cell stands for
+  pub plays_readable : (c : ℕ) → c < cell_count z → IsReadable z g.words (keep g) c
   plays_readable c inside =
       let run = plays.running in
       record {
         reads = words_lead_inside run.world z g.words (keep g) c plays.shape run.core inside;
-        value = subst IsPlain (sym (logical_words run.world z g.words (keep g) c plays.shape run.core inside)) (cells_plain run.world z g.words (keep g) run.core c inside);
+        value = λ word stands. subst IsPlain (sym (logical_words run.world z g.words (keep g) c word plays.shape run.core inside stands)) (cells_plain run.world z g.words (keep g) run.core c inside);
       }
 
   pub keys_among : (v k : ℕ) → v < z.workers → Contains (keys_at g v) k → Contains g.keys k

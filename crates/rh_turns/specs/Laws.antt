@@ -17,7 +17,7 @@ use Rattle.rh_steps.specs.Relies.{Relies, Serves, Shows}
 use Rattle.rh_worker.specs.Worker.{IsBusy, IsWorker}
 use Rattle.rh_history.specs.History.{history}
 use Rattle.rh_run.specs.Laws.{StandsSo}
-use Rattle.rh_run.specs.Words.{IsWiped, cells_held, cells_now}
+use Rattle.rh_run.specs.Words.{AreNow, IsWiped, cells_held}
 use Rattle.rh_turns.specs.declared.hand.Hand.{Hand}
 use Rattle.rh_turns.specs.declared.hand.Share.TheVariants.{Claims}
 use Rattle.rh_turns.specs.declared.turning.Turn.{Turn}
@@ -117,14 +117,14 @@ pub record TellsSo (g : Game) (told : ℕ → List Bool) : Type 0 where
 -- At each moment the words tell what the cells stand for: the layout of the set after the keys of the acts so far, in their
 -- order. By these acts each worker has done its keys, and was told of each; and each key that is done shows in the set.
 abbrev pub MadeSoFar : Type 0
-MadeSoFar = (g : Game) → (plays : Plays g) → ((c : ℕ) → c < cell_count g.shape → IsReadable g.shape g.words c)
+MadeSoFar = (g : Game) → (plays : Plays g) → ((c : ℕ) → c < cell_count g.shape → IsReadable g.shape g.words (keep g) c)
     × StandsSo g.kind g.shape g.opening g.words (keep g) (keys_at g) (done_at g) plays.told (keys_of g.opening)
     plays.running.before (history plays.running.world)
     × TellsSo g plays.told
 
 -- Where all keys are done, the cells, the tally and the answers are those of one worker that does the whole list.
 pub record EndsWith (g : Game) : Type 0 where
-  pub now : cells_now g.shape g.words ≡ cells_held g.shape g.words
+  pub now : AreNow g.shape g.words (keep g) (cells_held g.shape g.words)
   pub layout : Layout (cells_held g.shape g.words) g.shape.bits (set_after g.kind (keys_of g.opening) g.keys)
   pub tally : sum_of_all (λ v. tally_by g.kind (length (places_at g v)) (changed_at g v)) g.shape.workers ≡ tally_of g.kind (keys_of g.opening) g.keys
   pub answers : g.kind ≡ Ask → (p : ℕ) → p < length g.keys → slice_index_or g.answers p None ≡ Some (slice_index_or (looked_up (keys_of g.opening) g.keys) p false)

@@ -1,4 +1,4 @@
-pub mod Readable
 pub mod Hands
 pub mod Game
+pub mod Readable
 pub mod Laws

@@ -1,103 +1,124 @@
 //! What a cell stands for.
 
-ghost use Rattle.std.specs.Prelude.{◌≡◌, ℕ, ◌+◌, ◌<◌, length};
+ghost use Rattle.std.specs.Prelude.{◌≡◌, ◌<◌, ◌≤◌, ℕ, Some, length};
 ghost use Rattle.rh_descriptor.specs.Places.{IsShape, cell_count, word_count};
 ghost use Rattle.rh_descriptor.specs.Words.{ref_of};
 ghost use Rattle.rh_descriptor.specs.Steps.{IsDesc};
-ghost use Rattle.rh_history.specs.History.{value_of};
-ghost use Rattle.rh_turns.specs.Readable.{IsReadable};
-ghost use Rattle.rh_run.specs.Words.{DescLeads, MarkLeads, entry_for, logical_word, stands_for, value_in};
-ghost use Rattle.rh_world.specs.World.Cell.{desc as is_desc, mark as is_mark};
+ghost use Rattle.rh_rule.specs.Mirrors.{word_at};
+ghost use Rattle.rh_run.specs.Words.{DescLeads, IsLogicalWord, MarkIsFor, MarkStandsFor, StandsFor, entry_for};
+ghost use Rattle.rh_turns.specs.Readable.{AreWorkers, HasHolder, HasNoted, IsReadable, IsValueOf, views_of};
+ghost use Rattle.rh_descriptor.specs.declared.shape.Part.TheVariants as part;
+ghost use Rattle.rh_world.specs.World.Cell.{desc as is_desc};
+ghost use Rattle.rh_world.specs.World.{Ref as Reference};
 
+use crate::hand::Hand;
 use rh_descriptor::{Part, Ref, Shape};
-use rh_helping::{Met, named_desc, what_stands};
-use rh_tagword::{Control, plain_value, unpack_control};
+use rh_helping::{Met, what_stands};
+use rh_tagword::{State, pack_control, plain_value};
 
 /// What the cell stands for, as a value: what it holds itself, the old value of a mark's entry, or the
-/// value of a descriptor's entry that counts (Harris, Fraser and Pratt 2002).
-pub fn logical_value(shape: &Shape, words: &[u64], cell: usize) -> u64
+/// value of a descriptor's entry that counts (Harris, Fraser and Pratt 2002). Where the descriptor's row
+/// has gone on it is the old value, known to the worker by whose doing it stands there.
+pub fn logical_value(shape: &Shape, words: &[u64], hands: &[Hand], cell: usize) -> u64
     requires shape { IsShape shape.now }
     requires sized { length words.now ≡ word_count shape.now }
+    requires workers { AreWorkers hands.now }
+    requires count { length hands.now ≡ shape.now.workers }
     requires cell { cell < cell_count shape.now }
-    requires readable { IsReadable shape.now words.now cell }
-    ensures { result ≡ value_of (logical_word shape.now words.now cell) }
+    requires readable { IsReadable shape.now words.now (views_of hands.now) cell }
+    ensures { IsValueOf shape.now words.now (views_of hands.now) cell result }
 {
-    plain_value(logical_word(shape, words, cell)).unwrap_or(0)
+    plain_value(logical_word(shape, words, hands, cell)).unwrap_or(0)
 }
 
-fn logical_word(shape: &Shape, words: &[u64], cell: usize) -> u64
+fn logical_word(shape: &Shape, words: &[u64], hands: &[Hand], cell: usize) -> u64
     requires shape { IsShape shape.now }
     requires sized { length words.now ≡ word_count shape.now }
+    requires workers { AreWorkers hands.now }
+    requires count { length hands.now ≡ shape.now.workers }
     requires cell { cell < cell_count shape.now }
-    requires readable { IsReadable shape.now words.now cell }
-    ensures { result ≡ logical_word shape.now words.now cell }
+    requires readable { IsReadable shape.now words.now (views_of hands.now) cell }
+    ensures { IsLogicalWord shape.now words.now (views_of hands.now) cell result }
 {
     let word = words[cell];
     match what_stands(word) {
         Met::Value => word,
-        Met::Mark(mark) => marked_word(shape, words, mark),
-        Met::Desc(desc) => described_word(shape, words, desc, cell),
+        Met::Mark(mark) => marked_word(hands, mark),
+        Met::Desc(desc) => described_word(shape, words, hands, desc, cell),
     }
 }
 
-/// The old value of the entry that a mark is for. While it stands in a cell, its worker's mark row is of
-/// it.
-fn marked_word(shape: &Shape, words: &[u64], mark: Ref) -> u64
-    requires shape { IsShape shape.now }
-    requires sized { length words.now ≡ word_count shape.now }
-    requires reads { MarkLeads shape.now words.now (ref_of mark) }
-    ensures { (c : ℕ) → result ≡ stands_for shape.now words.now c (is_mark (ref_of mark)) }
+/// The old value of the entry that a mark is for, which its worker has not settled yet.
+fn marked_word(hands: &[Hand], mark: Ref) -> u64
+    requires workers { AreWorkers hands.now }
+    requires within { mark.worker < length hands.now }
+    requires unsettled { (views_of hands.now mark.worker).side.unsettled ≡ Some mark.number }
+    ensures { (c : ℕ) → (d : Reference) → MarkIsFor (views_of hands.now mark.worker).side (ref_of mark) d c →
+        MarkStandsFor (views_of hands.now) c (ref_of mark) result }
 {
-    let worker = mark.worker;
-    let entry = words[shape.place(Part::MarkEntry { worker })] as usize;
-    match named_desc(words[shape.place(Part::MarkDesc { worker })]) {
-        Some(desc) => {
-            words[shape.place(Part::EntryOld {
-                worker: desc.worker,
-                entry: desc.number + entry,
-            })]
-        }
-        None => 0,
+    match hands[mark.worker].worker.held() {
+        Some(owed) => owed.old,
+        None => unreachable!(),
     }
 }
 
 /// The value of the entry of a descriptor that is for this cell.
-fn described_word(shape: &Shape, words: &[u64], desc: Ref, cell: usize) -> u64
+fn described_word(shape: &Shape, words: &[u64], hands: &[Hand], desc: Ref, cell: usize) -> u64
     requires shape { IsShape shape.now }
     requires sized { length words.now ≡ word_count shape.now }
-    requires reads { DescLeads shape.now words.now (ref_of desc) }
-    ensures { result ≡ stands_for shape.now words.now cell (is_desc (ref_of desc)) }
+    requires workers { AreWorkers hands.now }
+    requires count { length hands.now ≡ shape.now.workers }
+    requires leads { DescLeads shape.now words.now (views_of hands.now) cell (ref_of desc) }
+    ensures { StandsFor shape.now words.now (views_of hands.now) cell (is_desc (ref_of desc)) result }
 {
     let worker = desc.worker;
-    let size = words[shape.place(Part::Length {
-        worker,
-        entry: desc.number,
-    })] as usize;
+    if words[shape.place(Part::Serial { worker })] == desc.number {
+        word_in_row(shape, words, desc, cell)
+    } else {
+        word_held(hands, desc, cell)
+    }
+}
+
+/// By its row: of the entry's two values the new one if it succeeded.
+fn word_in_row(shape: &Shape, words: &[u64], desc: Ref, cell: usize) -> u64
+    requires shape { IsShape shape.now }
+    requires sized { length words.now ≡ word_count shape.now }
+    requires desc { IsDesc shape.now (ref_of desc) }
+    requires entries { word_at shape.now words.now (part.Length desc.worker) ≤ cell_count shape.now }
+    ensures { entry_for shape.now words.now (ref_of desc) cell
+        (word_at shape.now words.now (part.Length desc.worker)) ≡ result }
+{
+    let worker = desc.worker;
+    let size = words[shape.place(Part::Length { worker })] as usize;
+    let control = words[shape.place(Part::Control { worker })];
+    let succeeded = control == pack_control(desc.number, State::Succeeded);
     let mut value = 0;
-    for number in 0..size {
-        let entry = desc.number + number;
+    for entry in 0..size {
         if words[shape.place(Part::EntryCell { worker, entry })] == cell as u64 {
-            value = counting_word(shape, words, desc, entry);
+            let counts = if succeeded {
+                Part::EntryNew { worker, entry }
+            } else {
+                Part::EntryOld { worker, entry }
+            };
+            value = words[shape.place(counts)];
         }
     }
     value
 }
 
-/// Of an entry's two values the one that counts: the new one if the descriptor succeeded.
-fn counting_word(shape: &Shape, words: &[u64], desc: Ref, entry: usize) -> u64
-    requires shape { IsShape shape.now }
-    requires sized { length words.now ≡ word_count shape.now }
-    requires desc { IsDesc shape.now (ref_of desc) }
-    requires entry { entry < shape.now.entry_room }
-    ensures { (e : ℕ) → entry ≡ desc.number + e → result ≡ value_in shape.now words.now (ref_of desc) e }
+/// As the worker knows it that holds it in this cell: a descriptor that succeeded is held by none once
+/// its row has gone on.
+fn word_held(hands: &[Hand], desc: Ref, cell: usize) -> u64
+    requires workers { AreWorkers hands.now }
+    requires held { HasHolder (length hands.now) (views_of hands.now) (ref_of desc) cell }
+    ensures { HasNoted (length hands.now) (views_of hands.now) (ref_of desc) cell result }
 {
-    let worker = desc.worker;
-    let control = words[shape.place(Part::Control {
-        worker,
-        entry: desc.number,
-    })];
-    match unpack_control(control) {
-        Some(Control::Succeeded) => words[shape.place(Part::EntryNew { worker, entry })],
-        _ => words[shape.place(Part::EntryOld { worker, entry })],
+    for hand in hands {
+        if let Some(owed) = hand.worker.held() {
+            if owed.piece.desc == desc && owed.piece.cell == cell {
+                return owed.old;
+            }
+        }
     }
+    unreachable!()
 }

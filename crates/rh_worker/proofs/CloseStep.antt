@@ -1,27 +1,26 @@
 -- The step that closes an own descriptor is a Release, which notes nothing.
 use Rattle.std.proofs.Common.{◌≡◌, ℕ, ◌≤◌, Bool, false, Some, None, List, [], ◌∷◌, refl, sym, ap, ◌∙◌, subst, inl}
-use Rattle.rh_world.specs.World.{In, Ref}
+use Rattle.rh_world.specs.World.{Control, In, Ref}
 use Rattle.rh_world.specs.Notes.{Note}
 use Rattle.rh_world.specs.Sides.{Side, is_number, open_side}
 use Rattle.rh_world.proofs.Tests.{by_cond}
 use Rattle.rh_world.specs.Notes.Note.{decided}
 use Rattle.rh_world.specs.Acts.{is_success}
-use Rattle.rh_tagword.specs.declared.control.Control.{Control}
-use Rattle.rh_tagword.specs.declared.control.Control.TheVariants.{Succeeded, Withdrawn}
 use Rattle.rh_ledger.specs.declared.tally.Kind.{Kind}
 use Rattle.rh_acts.specs.Done.{Does}
 use Rattle.rh_history.specs.History.{act_of}
 use Rattle.rh_history.specs.OwnActs.{Closes}
 use Rattle.rh_history.proofs.Learning.{steps_grow}
 use Rattle.rh_descriptor.specs.declared.steps.StepKind.{StepKind}
-use Rattle.rh_descriptor.specs.Words.{control_of}
 use Rattle.rh_helping.specs.declared.work.Outcome.TheVariants.{Closed}
+use Rattle.rh_helping.specs.declared.work.Ended.{Ended}
+use Rattle.rh_helping.specs.declared.work.Ended.TheVariants as ended
 use Rattle.rh_helping.specs.Goal.{IsNewest, KnowsOwn, own_ref}
 use Rattle.rh_helping.specs.Made.{HasMade}
-use Rattle.rh_helping.specs.Work.{Leads}
+use Rattle.rh_helping.specs.Work.{HasEnded, Leads}
 use Rattle.rh_worker.specs.Worker.{GivesUp}
 use Rattle.rh_rule.specs.Sound.{Sound}
-use Rattle.rh_world.specs.World.Control.{withdrawn}
+use Rattle.rh_world.specs.World.Control.{failed, succeeded, withdrawn}
 use Rattle.rh_run.specs.Advance.{Fails, Succeeds}
 use Rattle.rh_layout.specs.declared.entry.Entry.{Entry}
 use Rattle.rh_descriptor.specs.declared.shape.Shape.{Shape}
@@ -59,7 +58,7 @@ module _ (z : Shape) (v : View) (word n : ℕ) (opened : v.side.current ≡ Some
 
 module _ {T : Type 0} {shows : Shape → T → View → Type 0} {does : Shape → Step → T → View → ℕ → T → View → Type 0} (z : Shape) (kp : StepKind) (t : T) (v : View) (then : T) (next : View) (made : HasMade shows does z kp t v then next)
     (kind : Kind) (key : ℕ) (changes : Bool) (own : OwnDesc) (knows : KnowsOwn v (Some own)) (done : Does kind z.bits key changes (act_of own.entries))
-    (k : Control) (leads : Leads z next (Some own) (Closed k)) where
+    (end : Ended) (leads : Leads z next (Some own) (Closed end)) where
   same_number : leads.0.number ≡ own.number
   same_number = let e : Some own ≡ Some leads.0 = leads.1 in let d : own ≡ leads.0 = cc in ap (λ (x : OwnDesc). x.number) (sym d)
 
@@ -74,39 +73,47 @@ module _ {T : Type 0} {shows : Shape → T → View → Type 0} {does : Shape �
     closed = leads.2.own.current;
   }
 
-  before : In (decided (own_ref v own.number) (control_of k)) v.side.notes
-  before =
+  before : (k : Control) → In (decided (own_ref next leads.0.number) k) next.side.notes → In (decided (own_ref v own.number) k) v.side.notes
+  before k noted_so =
       let is = made.view_is in
       let closed : (noted z v made.step made.word).side.current ≡ None = sym (ap (λ (n : View). n.side.current) is) ∙ leads.2.own.current in
       let same : next.worker ≡ v.worker = ap (λ (n : View). n.worker) is ∙ noted_worker z v made.step made.word in
-      let here : In (decided (own_ref next leads.0.number) (control_of k)) (noted z v made.step made.word).side.notes = subst (λ (n : View). In (decided (own_ref next leads.0.number) (control_of k)) n.side.notes) is leads.2.result in
-      subst (λ (n : ℕ). In (decided (own_ref v n) (control_of k)) v.side.notes) same_number
-      (subst (λ (w : ℕ). In (decided (record { worker = w; number = leads.0.number }) (control_of k)) v.side.notes) same
+      let here : In (decided (own_ref next leads.0.number) k) (noted z v made.step made.word).side.notes = subst (λ (n : View). In (decided (own_ref next leads.0.number) k) n.side.notes) is noted_so in
+      subst (λ (n : ℕ). In (decided (own_ref v n) k) v.side.notes) same_number
+      (subst (λ (w : ℕ). In (decided (record { worker = w; number = leads.0.number }) k) v.side.notes) same
       (noted_before z v made.word own.number knows.current made.step closed _ here))
 
-  pub swap_succeeds : k ≡ Succeeded → Succeeds z kind key v next changes
-  swap_succeeds is = record {
-    own = own;
-    closes = closes;
-    opened = made.opened;
-    before = subst (λ (r : Control). In (decided (own_ref v own.number) (control_of r)) v.side.notes) is before;
-    does = done;
-  }
+  ended_so : (e : Ended) → end ≡ e → HasEnded next (own_ref next leads.0.number) e
+  ended_so e is = subst (HasEnded next (own_ref next leads.0.number)) is leads.2.result
 
-  pub swap_fails : is_success (control_of k) ≡ false → Fails v next
-  swap_fails in_vain = record { own = own; control = control_of k; closes = closes; opened = made.opened; before = before; in_vain = in_vain }
+  pub swap_succeeds : end ≡ ended.Succeeded → Succeeds z kind key v next changes
+  swap_succeeds is = record { own = own; closes = closes; opened = made.opened; before = before succeeded (ended_so ended.Succeeded is); does = done }
+
+  in_vain : (k : Control) → In (decided (own_ref next leads.0.number) k) next.side.notes → is_success k ≡ false → Fails v next
+  in_vain k noted_so vain = record { own = own; control = k; closes = closes; opened = made.opened; before = before k noted_so; in_vain = vain }
+
+  pub swap_withdraws : end ≡ ended.Withdrawn → Fails v next
+  swap_withdraws is = in_vain withdrawn (ended_so ended.Withdrawn is) refl
+
+  pub swap_fails : (e : ℕ) → end ≡ ended.Failed e → Fails v next
+  swap_fails e is = let h = (ended_so (ended.Failed e) is).0 in in_vain (failed 0 h.0) h.1 refl
 
   -- it was withdrawn: no mark is left
-  pub swap_spends : k ≡ Withdrawn → z.mark_room ≤ next.marks_used
-  swap_spends is = made.trusts.knows.sound.withdrawals (own_ref next leads.0.number) refl
-      (subst (λ (r : Control). In (decided (own_ref next leads.0.number) (control_of r)) next.side.notes) is leads.2.result)
+  pub swap_spends : end ≡ ended.Withdrawn → z.rooms.marks ≤ next.marks_used
+  swap_spends is = made.trusts.knows.sound.withdrawals (own_ref next leads.0.number) refl (ended_so ended.Withdrawn is)
 
   -- one that was withdrawn is closed as withdrawn
-  pub swap_gives_up : Sound z v → GivesUp v next → control_of k ≡ withdrawn
-  swap_gives_up sound gives =
+  given_up : Sound z v → GivesUp v next → (k : Control) → In (decided (own_ref next leads.0.number) k) next.side.notes → k ≡ withdrawn
+  given_up sound gives k noted_so =
       let numbers : Some own.number ≡ Some gives.own.number = sym knows.current ∙ gives.closes.current in
       let same : gives.own.number ≡ own.number = let n : own.number ≡ gives.own.number = cc in sym n in
-      sound.one_result (own_ref v own.number) (control_of k) withdrawn before (subst (λ (n : ℕ). In (decided (own_ref v n) withdrawn) v.side.notes) same gives.before)
+      sound.one_result (own_ref v own.number) k withdrawn (before k noted_so) (subst (λ (n : ℕ). In (decided (own_ref v n) withdrawn) v.side.notes) same gives.before)
+
+  pub success_stays : Sound z v → GivesUp v next → end ≡ ended.Succeeded → ⊥
+  success_stays sound gives is = let e : succeeded ≡ withdrawn = given_up sound gives succeeded (ended_so ended.Succeeded is) in cc
+
+  pub failure_stays : Sound z v → GivesUp v next → (e : ℕ) → end ≡ ended.Failed e → ⊥
+  failure_stays sound gives e is = let h = (ended_so (ended.Failed e) is).0 in let f : failed 0 h.0 ≡ withdrawn = given_up sound gives (failed 0 h.0) h.1 in cc
 
 -- what is still open is not given up
 pub still_open : (v next : View) (number : ℕ) → next.side.current ≡ Some number → GivesUp v next → ⊥

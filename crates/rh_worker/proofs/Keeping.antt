@@ -25,7 +25,17 @@ use Rattle.rh_worker.specs.declared.sights.Sights.{Sights}
 
 pub claim_clear : (v next : View) (word : ℕ) → next ≡ with_side v (claim_side v.side word) → IsClear v → IsClear next
 claim_clear v next word is = clear_grows v next (subst (Grows v) (sym is)
-    record { worker = refl; next_number = refl; marks_used = refl; opened = refl; written = refl; current = refl; released = refl; unsettled = refl; debts = refl; notes = λ n i. i })
+    record {
+      keeps = record { worker = refl; next_number = refl; notes = λ n i. i };
+      failures = λ d i. i;
+      marks_used = refl;
+      opened = refl;
+      written = refl;
+      current = refl;
+      released = refl;
+      unsettled = refl;
+      debts = refl;
+    })
 
 pub stepped_makes : {T : Type 0} {shows : Shape → T → View → Type 0} {does : Shape → Step → T → View → ℕ → T → View → Type 0} (z : Shape) (k : StepKind) (descs : List OwnDesc) (reads : List KeptRead) (t : T) (v : View) (then : T) (next : View)
     → HasStepped shows does z k descs reads t v then next → Makes shows does z k t v then next

@@ -71,12 +71,12 @@ module _ (z : Shape) (v : View) (kind : Kind) (k : ℕ) (s : Sights) (p : Plan) 
   pub may_open : MayOpen z v es
   may_open =
       let some = planned_is.plan.some in
-      let room = planned_is.room in
       record {
-        clear = planned_is.clear;
+        owns = planned_is.owns;
+        owes = planned_is.owes;
         entries = are_entries z es (omega (arith, size)) (rising_of kind z.bits k p.changes (act_of es) (subst (λ (l : List Entry). Does kind z.bits k p.changes (act_of l)) (sym same) planned_is.plan.act))
             (subst (AreFit z.bits) (sym same) planned_is.plan.fit);
-        room = omega (arith, size);
+        room = planned_is.room;
       }
 
   module _ (next : View) where
@@ -84,7 +84,7 @@ module _ (z : Shape) (v : View) (kind : Kind) (k : ℕ) (s : Sights) (p : Plan) 
     opening_goes o on =
         let room = planned_is.room in
         let number = on.2 in
-        (record { clear = on.0.clear; plan = planned_is.plan; room = omega (arith, number) }, subst (λ (l : List Entry). IsOpening next l o) same on.1)
+        (record { owns = on.0.owns; owes = on.0.owes; plan = planned_is.plan; room = omega (arith, number) }, subst (λ (l : List Entry). IsOpening next l o) same on.1)
 
     module _ (worker number : ℕ) (by : next.worker ≡ worker) (of : v.next_number ≡ number) (on : OpensOn z es v next None) where
       pub opened_stays : Stays z next kind k s (place.Swap (work.Control (record { worker = worker; number = number })) number p)
@@ -97,7 +97,7 @@ module _ (z : Shape) (v : View) (kind : Kind) (k : ℕ) (s : Sights) (p : Plan) 
       own = next_desc v es;
       changes = p.changes;
       opened = opened;
-      closed = planned_is.clear.own.current;
+      closed = planned_is.owns.current;
       current = on.0.current;
       does = subst (λ (l : List Entry). Does kind z.bits k p.changes (act_of l)) (sym same) planned_is.plan.act;
     }

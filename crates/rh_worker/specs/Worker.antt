@@ -1,5 +1,5 @@
 -- What is so of a worker between two of its steps. (own)
-use Rattle.std.specs.Prelude.{◌≡◌, ℕ, ◌+◌, ◌<◌, ◌≤◌, ◌⊎◌, Option, Some, None, Bool, List, length, take, slice_index}
+use Rattle.std.specs.Prelude.{◌≡◌, ℕ, ◌<◌, ◌≤◌, ◌⊎◌, Option, Some, None, Bool, List, length, take, slice_index}
 use Rattle.std.specs.List.{Contains}
 use Rattle.rh_layout.specs.Round.{place_after}
 use Rattle.rh_layout.specs.Key.{IsKey}
@@ -15,7 +15,7 @@ use Rattle.rh_descriptor.specs.declared.steps.StepKind.{StepKind}
 use Rattle.rh_descriptor.specs.declared.steps.StepKind.TheVariants as kind
 use Rattle.rh_descriptor.specs.Places.{cell_count}
 use Rattle.rh_descriptor.specs.View.{OwnDesc, View}
-use Rattle.rh_helping.specs.Goal.{IsClear, KnowsOwn, own_ref}
+use Rattle.rh_helping.specs.Goal.{IsClear, KnowsOwn, Owns, OwesNothing, own_ref}
 use Rattle.rh_helping.specs.Looking.{IsLooking, kind_of_looking}
 use Rattle.rh_helping.specs.Opening.{IsOpening, kind_of_opening}
 use Rattle.rh_helping.specs.Work.{Stands, kind_of_work}
@@ -57,12 +57,13 @@ pub record HasSeen (z : Shape) (v : View) (k : ℕ) (s : Sights) (n : ℕ) : Typ
   pub within : n < cell_count z
   pub were_read : WereRead z v k (take n s.seen.items)
 
--- ---- an own descriptor that is to be opened
+-- ---- an own descriptor that is to be opened: its row may be of it by now
 
 pub record IsPlanned (z : Shape) (v : View) (kind : Kind) (k : ℕ) (s : Sights) (p : Plan) : Type 0 where
-  pub clear : IsClear v
+  pub owns : Owns v None
+  pub owes : OwesNothing v
   pub plan : IsPlan kind z.bits k s.entries.items p
-  pub room : v.next_number + p.entries ≤ z.entry_room
+  pub room : v.next_number < z.rooms.descriptors
 
 -- its entries
 abbrev pub planned : Sights → Plan → List Entry
@@ -80,9 +81,9 @@ pub record GivesUp (v next : View) : Type 0 where
   pub closes : Closes v next own
   pub before : In (decided (own_ref v own.number) withdrawn) v.side.notes
 
--- why no step is left: the marks are used up, or the places for entries may not do for a key
+-- why no step is left: no mark is left in this round, or no number for a descriptor
 abbrev pub HasNoRoom : Shape → View → Type 0
-HasNoRoom z v = (z.mark_room ≤ v.marks_used) ⊎ (z.entry_room < v.next_number + cell_count z)
+HasNoRoom z v = (z.rooms.marks ≤ v.marks_used) ⊎ (z.rooms.descriptors ≤ v.next_number)
 
 -- ---- at each place
 

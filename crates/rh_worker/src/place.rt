@@ -25,21 +25,11 @@ pub enum Place {
     /// None before the next round, which begins the key again.
     Spent,
     /// Looking at the next cell, where so many were seen from the key's home on.
-    Scan {
-        looking: Looking,
-        seen: usize,
-    },
+    Scan { looking: Looking, seen: usize },
     /// Opening of the own descriptor.
-    Open {
-        opening: Opening,
-        plan: Plan,
-    },
+    Open { opening: Opening, plan: Plan },
     /// Work on the own descriptor that was opened with this number, and on those that it leads to.
-    Swap {
-        work: Work,
-        number: usize,
-        plan: Plan,
-    },
+    Swap { work: Work, number: u64, plan: Plan },
 }
 
 impl Place {

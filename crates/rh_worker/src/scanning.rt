@@ -113,7 +113,7 @@ fn decide(worker: &mut Worker, shape: &Shape, count: usize) -> Option<bool>
     }
 }
 
-/// The first step of an own descriptor, if there is room for it.
+/// The first step of an own descriptor, if there is a number left for it and a mark for its work.
 fn planned(shape: &Shape, side: &Side, plan: Plan) -> Place
     requires { Sound shape.now side.now.known.view }
     ensures stays { (kind : Kind) → (k : ℕ) → (s : Sights) → HasRoom shape.now.bits s →
@@ -122,10 +122,9 @@ fn planned(shape: &Shape, side: &Side, plan: Plan) -> Place
     ensures ends { EndsAt None result }
     ensures unseen { seen_at result ≡ 0 }
 {
-    let places = shape.entry_room - side.next_number;
-    if plan.entries <= places && side.marks_used < shape.mark_room {
+    if side.next_number < shape.rooms.descriptors && side.marks_used < shape.rooms.marks {
         Place::Open {
-            opening: Opening::Length,
+            opening: Opening::Serial,
             plan,
         }
     } else {

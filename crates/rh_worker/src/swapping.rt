@@ -15,9 +15,8 @@ ghost use Rattle.rh_helping.specs.Work.{kind_of_work};
 use crate::place::{Place, Plan};
 use crate::worker::Worker;
 use rh_descriptor::{Ref, Shape};
-use rh_helping::{OpenDesc, Opening, Outcome, Work};
+use rh_helping::{Ended, OpenDesc, Opening, Outcome, Work};
 use rh_steps::Steps;
-use rh_tagword::Control;
 
 /// Opens the own descriptor step by step.
 pub(crate) fn open<T: Steps>(
@@ -65,7 +64,7 @@ pub(crate) fn swap<T: Steps>(
     shape: &Shape,
     table: &mut T,
     work: Work,
-    number: usize,
+    number: u64,
     plan: Plan,
 ) -> Option<bool>
     requires shape { IsShape shape.now }
@@ -93,19 +92,18 @@ pub(crate) fn swap<T: Steps>(
             worker.place = Place::Swap { work, number, plan };
             None
         }
-        Outcome::Closed(Control::Succeeded) => {
+        Outcome::Closed(Ended::Succeeded) => {
             worker.place = Place::Idle;
             Some(plan.changes)
         }
-        Outcome::Closed(Control::Withdrawn) => {
+        Outcome::Closed(Ended::Withdrawn) => {
             worker.place = Place::Spent;
             None
         }
-        Outcome::Closed(Control::Failed { .. }) => {
+        Outcome::Closed(Ended::Failed { .. }) => {
             worker.place = Place::reading(0);
             None
         }
-        Outcome::Closed(Control::Unused | Control::Undecided) => unreachable!(),
         Outcome::Over | Outcome::Spent => unreachable!(),
     }
 }

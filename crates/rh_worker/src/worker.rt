@@ -14,12 +14,14 @@ ghost use Rattle.rh_worker.specs.Worker.{EndsAt, GivesUp, IsBusy, IsWorker};
 ghost use Rattle.rh_worker.specs.Reading.{ReadsAnew, TellsAnew};
 ghost use Rattle.rh_acts.specs.Done.{Kept};
 ghost use Rattle.rh_history.specs.History.{kept_of};
+ghost use Rattle.rh_helping.specs.Held.{IsHeld};
 ghost use Rattle.rh_worker.specs.declared.place.Place.TheVariants as place;
 
 use crate::place::Place;
 use crate::sights::Sights;
 use crate::{scanning, swapping};
 use rh_descriptor::{Ask, Shape, Side, StepKind};
+use rh_helping::Owed;
 use rh_ledger::Kind;
 use rh_steps::Steps;
 use std::alloc::{AllocError, Global};
@@ -84,6 +86,18 @@ impl Worker {
         ensures { IsTrue result ↔ (self.now.place ≡ place.Spent) }
     {
         matches!(self.place, Place::Spent)
+    }
+
+    /// The cell where an own mark stands that is not settled yet, or where its descriptor may stand by
+    /// the worker's doing.
+    pub fn held(&self) -> Option<Owed>
+        ensures { (z : Shape) → IsWorker z self.now → IsHeld self.now.side.known.view result }
+    {
+        match &self.place {
+            Place::Scan { looking, .. } => looking.held(),
+            Place::Swap { work, .. } => work.held(),
+            Place::Idle | Place::Spent | Place::Open { .. } => None,
+        }
     }
 
     /// Begins a key.

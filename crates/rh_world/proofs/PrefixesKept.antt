@@ -1,5 +1,5 @@
 -- The prefixes are kept.
-use Rattle.std.proofs.Common.{◌≡◌, ◌≢◌, ℕ, ◌+◌, ◌<◌, ◌≤◌, ◌⊎◌, sym, refl, ap, ◌∙◌, subst, inl, inr, ⊎_elim, arith, Some, None}
+use Rattle.std.proofs.Common.{suc, ◌≡◌, ◌≢◌, ℕ, ◌<◌, ◌≤◌, ◌⊎◌, sym, refl, ap, ◌∙◌, subst, inl, inr, ⊎_elim, arith, Some, None}
 use Rattle.rh_world.specs.World.{Cell, HasFailed, In, IsOpened, Ref, World, updated}
 use Rattle.rh_world.specs.World.Cell.{plain}
 use Rattle.rh_world.specs.World.Control.{failed, undecided, unused}
@@ -126,8 +126,8 @@ prefixes_open w side d p rows acts can pre =
     let b : f.number < w.next_number d.worker = subst (λ (u : ℕ). f.number < w.next_number u) q (rows.below f h) in omega arith in
     let stop : (f g : Ref) → IsOpened (w.control f) → w.control g ≡ undecided → g.worker ≡ f.worker → f.number ≤ g.number = λ f g o u q. rows.last g f (at_work w side g rows u) (sym q) o in
     let more : (u : ℕ) → w.next_number u ≤ v.next_number u = λ u. ⊎_elim
-    (λ (q : (u ≡ d.worker) × (updated w.next_number d.worker (d.number + p.size) u ≡ d.number + p.size)). let r : updated w.next_number d.worker (d.number + p.size) u ≡ d.number + p.size = q.1 in let t : w.next_number u ≡ w.next_number d.worker = ap w.next_number q.0 in omega arith)
-    (λ (q : (u ≢ d.worker) × (updated w.next_number d.worker (d.number + p.size) u ≡ w.next_number u)). let r : updated w.next_number d.worker (d.number + p.size) u ≡ w.next_number u = q.1 in omega arith) (updated_at w.next_number d.worker u (d.number + p.size)) in
+    (λ (q : (u ≡ d.worker) × (updated w.next_number d.worker (suc d.number) u ≡ suc d.number)). let r : updated w.next_number d.worker (suc d.number) u ≡ suc d.number = q.1 in let t : w.next_number u ≡ w.next_number d.worker = ap w.next_number q.0 in omega arith)
+    (λ (q : (u ≢ d.worker) × (updated w.next_number d.worker (suc d.number) u ≡ w.next_number u)). let r : updated w.next_number d.worker (suc d.number) u ≡ w.next_number u = q.1 in omega arith) (updated_at w.next_number d.worker u (suc d.number)) in
     let parts_d : IsPrefix v d.worker d.number w.act_count = prefix_stays w v l d.worker d.number w.act_count
     (λ f u q. let h = lower f (λ r. let t : undecided ≡ unused = sym u ∙ r in cc) q in let c : None ≡ Some f.number = sym can.closed ∙ (ap (λ (x : ℕ). (side x).current) (sym q) ∙ at_work w side f rows u) in absurd (some_not_none f.number (sym c)))
     (subst (λ (n : ℕ). IsPrefix w d.worker n w.act_count) (sym can.next) (all_before w side d.worker rows acts)) in

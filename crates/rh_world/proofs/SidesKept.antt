@@ -1,5 +1,5 @@
 -- What a worker notes keeps rows, owing and notes; Place and Open.
-use Rattle.std.proofs.Common.{◌≡◌, ◌≢◌, ℕ, suc, eqb, ◌+◌, ◌<◌, ◌⊎◌, Bool, true, false, cond, ◌&&◌, List, [], ◌∷◌, sym, refl, ap, ◌∙◌, subst, inl, inr, ⊎_elim, arith, ne_eqb, Some, filter, not}
+use Rattle.std.proofs.Common.{◌≡◌, ◌≢◌, ℕ, suc, eqb, ◌<◌, ◌⊎◌, Bool, true, false, cond, ◌&&◌, List, [], ◌∷◌, sym, refl, ap, ◌∙◌, subst, inl, inr, ⊎_elim, arith, ne_eqb, Some, filter, not}
 use Rattle.rh_world.specs.World.{In, IsDecided, IsOpened, IsUsed, Ref, World, is_ref, updated}
 use Rattle.rh_world.specs.World.Cell.{desc, mark}
 use Rattle.rh_world.specs.World.Control.{undecided, unused}
@@ -333,10 +333,10 @@ rows_open w side d p rows can =
       descriptors = record {
         below = λ f h. ⊎_elim
             (λ (q : f ≡ d). subst (λ (x : Ref). x.number < v.next_number x.worker) (sym q)
-            (let r : updated w.next_number d.worker (d.number + p.size) d.worker ≡ d.number + p.size = updated_here w.next_number d.worker d.worker (d.number + p.size) refl in let t = can.nonempty in omega arith))
+            (let r : updated w.next_number d.worker (suc d.number) d.worker ≡ suc d.number = updated_here w.next_number d.worker d.worker (suc d.number) refl in let t = can.nonempty in omega arith))
             (λ (o : IsOpened (w.control f)). ⊎_elim
-            (λ (q : (f.worker ≡ d.worker) × (updated w.next_number d.worker (d.number + p.size) f.worker ≡ d.number + p.size)). let r = lower f o q.0 in let t : updated w.next_number d.worker (d.number + p.size) f.worker ≡ d.number + p.size = q.1 in omega arith)
-            (λ q. subst (λ (n : ℕ). f.number < n) (sym q.1) (rows.below f o)) (updated_at w.next_number d.worker f.worker (d.number + p.size)))
+            (λ (q : (f.worker ≡ d.worker) × (updated w.next_number d.worker (suc d.number) f.worker ≡ suc d.number)). let r = lower f o q.0 in let t : updated w.next_number d.worker (suc d.number) f.worker ≡ suc d.number = q.1 in omega arith)
+            (λ q. subst (λ (n : ℕ). f.number < n) (sym q.1) (rows.below f o)) (updated_at w.next_number d.worker f.worker (suc d.number)))
             (opened_or f h);
         rising = λ f i j h a b. ⊎_elim
             (λ (q : f ≡ d).

@@ -15,10 +15,10 @@ abbrev pub first : Ref
 first = record { worker = 0; number = 0 }
 
 abbrev pub second : Ref
-second = record { worker = 0; number = 2 }
+second = record { worker = 0; number = 1 }
 
 abbrev pub third : Ref
-third = record { worker = 0; number = 3 }
+third = record { worker = 0; number = 2 }
 
 abbrev pub entries_of_first : Entries
 entries_of_first = record { size = 2; target = λ e. e; old = λ e. 5; new = λ e. 7 + e }

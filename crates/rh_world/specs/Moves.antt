@@ -2,7 +2,7 @@
 -- are those of Harris, Fraser and Pratt 2002; that each helper leaves marks of its own, and Claims, are this project's.
 -- What a step of the table asks for that stands in no place here, as the range of cells and the room for marks, is
 -- asked where the words are.
-use Rattle.std.specs.Prelude.{zero, suc, ◌≡◌, ◌⊎◌, ℕ, ◌+◌, ◌<◌, ◌==◌, ◌&&◌, Option, Some, None, Bool, true, false, cond, List, [], ◌∷◌}
+use Rattle.std.specs.Prelude.{zero, suc, ◌≡◌, ◌⊎◌, ℕ, ◌<◌, ◌==◌, ◌&&◌, Option, Some, None, Bool, true, false, cond, List, [], ◌∷◌}
 use Rattle.rh_world.specs.World.{Ref, Cell, Control, World, In, is_ref, updated, updated_ref}
 use Rattle.rh_world.specs.World.Cell.{plain, mark, desc}
 use Rattle.rh_world.specs.World.Control.{unused, undecided, succeeded, withdrawn, failed}
@@ -129,7 +129,7 @@ open_world w d p = record w {
   old = updated_ref w.old d p.old;
   new = updated_ref w.new d p.new;
   acts_before = updated_ref w.acts_before d w.act_count;
-  next_number = updated w.next_number d.worker (d.number + p.size);
+  next_number = updated w.next_number d.worker (suc d.number);
 }
 
 -- mark x is placed for entry e of d

@@ -1,4 +1,4 @@
-use Rattle.std.proofs.Common.{ℕ, sym, subst, arith}
+use Rattle.std.proofs.Common.{sym, subst, arith}
 use Rattle.std.proofs.lemmas.List.{get_or-replicate}
 use Rattle.rh_tagword.specs.Word.{IsValue}
 use Rattle.rh_kcas_bench.proofs.empty_table.Goals as goal

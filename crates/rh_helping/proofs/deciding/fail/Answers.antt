@@ -1,33 +1,11 @@
-use Rattle.std.proofs.Common.{sym, subst}
-use Rattle.rh_tagword.specs.declared.control.Control.TheVariants.{Failed}
-use Rattle.rh_descriptor.specs.View.{View}
-use Rattle.rh_descriptor.specs.Words.{control_of, ref_of}
-use Rattle.rh_descriptor.specs.Steps.{decided_now}
-use Rattle.rh_helping.specs.Goal.{KnowsOwn, opened_by}
-use Rattle.rh_helping.proofs.Decisions.{decided_next, may_fail, undecided_owes}
-use Rattle.rh_helping.proofs.Made.{made_then}
-use Rattle.rh_helping.proofs.Starting.{read_own}
+use Rattle.rh_helping.proofs.Decisions.{fail_control, may_fail, undecided_owes}
 use Rattle.rh_helping.proofs.deciding.fail.Goals as goal
 
-pub make-found-requires-clause-allowed : goal.make-found-requires-clause-allowed
-make-found-requires-clause-allowed g c = may_fail _ _ c.requires.relies.now.knows c.requires.shape c.args.task c.requires.stands.0 c.requires.stands.1 c.requires.stands.2
+pub decide-requires-clause-allowed : goal.decide-requires-clause-allowed
+decide-requires-clause-allowed g c = may_fail _ _ c.requires.relies.now.knows c.args.task c.requires.stands.0 c.requires.stands.1 _ c.args.side.now.same_worker
 
-pub at_entry-requires-clause-trusts : goal.at_entry-requires-clause-trusts
-at_entry-requires-clause-trusts g c = c.make-found.ensures.trusts
+pub decide-requires-clause-owes : goal.decide-requires-clause-owes
+decide-requires-clause-owes g c = undecided_owes _ _ c.requires.stands.0.at c.requires.stands.0.undecided
 
-pub at_entry-requires-clause-own : goal.at_entry-requires-clause-own
-at_entry-requires-clause-own g c = subst (λ (n : View). KnowsOwn n (opened_by c.args.opens)) (sym c.make-found.ensures.view_is)
-    (read_own c.args.side.now.known.view (opened_by c.args.opens) (ref_of c.args.task.desc) (decided_now (control_of (Failed c.args.task.entry)) c.make-found.result) c.requires.own)
-
-pub at_entry-requires-clause-next : goal.at_entry-requires-clause-next
-at_entry-requires-clause-next g c =
-    let may = may_fail _ _ c.requires.relies.now.knows c.requires.shape c.args.task c.requires.stands.0 c.requires.stands.1 c.requires.stands.2 in
-    let found = c.make-found.ensures.finds in
-    let trusts = c.make-found.ensures.trusts.knows in
-    decided_next c.args.shape.now c.args.side.now.known.view _ c.args.task.desc (Failed c.args.task.entry) c.now.result c.make-found.result c.make-found.ensures.view_is tt c.now.ensures found _ trusts c.requires.stands.0.task.size (undecided_owes _ _ c.requires.stands.0 c.requires.stands.1)
-
-pub returns-clause-made : goal.returns-clause-made
-returns-clause-made g c = made_then _ _ _ _ _ _ _ _ c.at_entry.ensures.same tt (may_fail _ _ c.requires.relies.now.knows c.requires.shape c.args.task c.requires.stands.0 c.requires.stands.1 c.requires.stands.2) c.make-found.ensures
-
-pub returns-clause-ends : goal.returns-clause-ends
-returns-clause-ends g c = c.at_entry.ensures.ends _
+pub decide-requires-clause-state : goal.decide-requires-clause-state
+decide-requires-clause-state g c = fail_control _ _ c.requires.shape c.requires.relies.now.knows c.args.task c.requires.stands.0.at.task _ c.args.side.now.same_worker

@@ -1,4 +1,5 @@
 use Rattle.std.proofs.Common.{◌∙◌, refl, sym, subst, arith}
+use Rattle.std.proofs.Math.Pow.{pow_mono}
 use Rattle.rh_descriptor.specs.Words.{ref_of}
 use Rattle.rh_helping.specs.declared.goal.Task.{Task}
 use Rattle.rh_helping.specs.Goal.{KnowsGoal}
@@ -8,15 +9,15 @@ use Rattle.rh_helping.proofs.going.own_goal.Goals as goal
 
 pub offset_bounds-entries-task : goal.offset_bounds-entries-task
 offset_bounds-entries-task g c =
-    let room = (entry_here _ _ c.requires.trusts.knows c.args.task c.requires.task c.requires.entry).1 in
-    omega (arith, room, c.requires.shape.entries)
+    let room = entry_here _ _ c.requires.trusts.knows c.args.task c.requires.task c.requires.entry in
+    omega (arith, room, pow_mono {j = 18} c.requires.shape.bits.1)
 
 pub bounds-entries-task : goal.bounds-entries-task
 bounds-entries-task g c = open_inside _ _ c.requires.trusts.knows _ c.requires.own c.args.task.desc.number c.in-Some.entries.now c.in-Some.ensures
     (ref_of c.args.task.desc) (c.requires.worker ∙ sym c.args.side.now.same_worker) refl c.args.task.size c.args.task.entry c.requires.task.size c.requires.entry
 
 pub row_goal-requires-clause-entry : goal.row_goal-requires-clause-entry
-row_goal-requires-clause-entry g c = (entry_here _ _ c.requires.trusts.knows c.args.task c.requires.task c.requires.entry).1
+row_goal-requires-clause-entry g c = entry_here _ _ c.requires.trusts.knows c.args.task c.requires.task c.requires.entry
 
 pub returns-in-Some-clause-goal : goal.returns-in-Some-clause-goal
 returns-in-Some-clause-goal g c = open_goal_known _ _ c.requires.trusts.knows _ c.requires.own c.args.task.desc.number c.in-Some.entries.now c.in-Some.ensures

@@ -5,13 +5,10 @@ use Rattle.rh_descriptor.specs.Words.{ref_of}
 use Rattle.rh_helping.proofs.OwnRows.{open_size, own_size}
 use Rattle.rh_helping.proofs.going.own_size.Goals as goal
 
-pub own_word-requires-clause-own : goal.own_word-requires-clause-own
-own_word-requires-clause-own g c = (c.requires.worker ∙ sym c.args.side.now.same_worker, (c.requires.trusts.knows.sound.descs (ref_of c.args.desc) c.requires.known).1)
-
 pub returns-in-Some-clause-size : goal.returns-in-Some-clause-size
 returns-in-Some-clause-size g c = open_size _ _ c.requires.trusts.knows _ c.requires.own c.args.desc.number c.in-Some.entries.now c.in-Some.ensures
     (ref_of c.args.desc) (c.requires.worker ∙ sym c.args.side.now.same_worker) refl
 
 pub returns-in-None-clause-size : goal.returns-in-None-clause-size
 returns-in-None-clause-size g c = subst (λ (n : ℕ). In (size_is (ref_of c.args.desc) n) c.args.side.now.known.view.side.notes) (sym c.own_word.ensures.word)
-    (own_size _ _ c.requires.trusts.knows _ c.requires.own (ref_of c.args.desc) (c.requires.worker ∙ sym c.args.side.now.same_worker) c.requires.known)
+    (own_size _ _ c.requires.trusts.knows _ c.requires.own (ref_of c.args.desc) (c.requires.worker ∙ sym c.args.side.now.same_worker) (c.requires.last ∙ sym c.args.side.now.same_number) c.requires.known)

@@ -1,6 +1,6 @@
-use Rattle.std.proofs.Common.{inl, inr, sym}
+use Rattle.std.proofs.Common.{inl, inr, sym, ◌∙◌}
 use Rattle.rh_rdcss.proofs.Lending.{stays_first, stays_on}
-use Rattle.rh_kcas.proofs.Noting.{is_decided_so, made_notes, noted_first, noted_on, still_known}
+use Rattle.rh_kcas.proofs.Noting.{told_over, made_notes, noted_first, noted_on, still_known}
 use Rattle.rh_kcas.proofs.helping.go_about.Goals as goal
 
 pub loop-init : goal.loop-init
@@ -31,17 +31,17 @@ returns-in-Spent-clause-helps g c = record {
   decided_so = inr c.in-Spent.ensures.leads.3;
 }
 
-pub returns-then-is_decided-clause-helps : goal.returns-then-is_decided-clause-helps
-returns-then-is_decided-clause-helps g c = record {
-  noted = noted_on _ _ _ (noted_on _ _ _ c.loop.invariant.noted (made_notes _ _ _ _ _ _ c.in-Over.ensures.made)) c.control.ensures.notes;
-  decided_so = inl (is_decided_so _ _ c.control.result c.control.ensures.stands (sym c.if-is_decided.ensures));
+pub returns-then-is_over-clause-helps : goal.returns-then-is_over-clause-helps
+returns-then-is_over-clause-helps g c = record {
+  noted = noted_on _ _ _ (noted_on _ _ _ c.loop.invariant.noted (made_notes _ _ _ _ _ _ c.in-Over.ensures.made)) c.state.ensures.notes;
+  decided_so = inl (told_over c.state.new.side.known.view _ c.state.result c.state.ensures.told (sym c.is_over.ensures ∙ c.if-is_over.true));
 }
 
 pub loop-preserved : goal.loop-preserved
 loop-preserved g c =
     let h = c.loop.invariant in
     let m = c.in-Over.ensures.made in
-    let k = c.control.ensures in
+    let k = c.state.ensures in
     let known = still_known _ _ k.notes.notes _ (still_known _ _ m.notes _ h.known) in record {
       trusts = k.trusts;
       own = k.clear.own;
@@ -50,3 +50,6 @@ loop-preserved g c =
       stays = stays_on _ _ _ (stays_on _ _ _ h.stays m.steps) k.stays;
       noted = noted_on _ _ _ (noted_on _ _ _ h.noted (made_notes _ _ _ _ _ _ m)) k.notes;
     }
+
+pub state-requires-clause-known : goal.state-requires-clause-known
+state-requires-clause-known g c = still_known _ _ c.in-Over.ensures.made.notes _ c.loop.invariant.known

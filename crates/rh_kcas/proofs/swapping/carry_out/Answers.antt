@@ -1,9 +1,8 @@
 use Rattle.std.proofs.Common.{ℕ, inl, subst}
 use Rattle.rh_world.specs.World.{In}
 use Rattle.rh_world.specs.Notes.Note.{known}
-use Rattle.rh_descriptor.specs.Words.{control_of}
-use Rattle.rh_world.specs.Notes.Note.{decided}
 use Rattle.rh_helping.specs.Goal.{own_ref}
+use Rattle.rh_helping.specs.Work.{HasEnded}
 use Rattle.rh_helping.proofs.Owing.{open_all_noted}
 use Rattle.rh_rdcss.proofs.Lending.{stays_first, stays_on}
 use Rattle.rh_kcas.proofs.Noting.{closed_number, made_notes, noted_first, noted_on}
@@ -37,6 +36,5 @@ returns-in-Closed-clause-carries g c =
     let l = e.leads.2 in record {
       noted = noted_on _ _ _ c.loop.invariant.noted (made_notes _ _ _ _ _ _ e.made);
       clear = record { own = l.own; owes = l.owes };
-      over = l.over;
-      result = subst (λ (n : ℕ). In (decided (own_ref c.step.new.side.known.view n) (control_of c.in-Closed.control)) c.step.new.side.known.view.side.notes) (closed_number _ e.leads.0 e.leads.1) l.result;
+      result = subst (λ (n : ℕ). HasEnded c.step.new.side.known.view (own_ref c.step.new.side.known.view n) c.in-Closed.ended) (closed_number _ e.leads.0 e.leads.1) l.result;
     }

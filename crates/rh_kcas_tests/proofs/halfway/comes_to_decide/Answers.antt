@@ -2,7 +2,7 @@ use Rattle.std.proofs.Common.{ℕ, inl, subst}
 use Rattle.rh_world.specs.World.{In}
 use Rattle.rh_world.specs.Notes.Note.{known}
 use Rattle.rh_helping.proofs.Owing.{open_all_noted}
-use Rattle.rh_rdcss.proofs.Lending.{stays_first, stays_on}
+use Rattle.rh_rdcss.proofs.Lending.{stays_first}
 use Rattle.rh_kcas_tests.proofs.halfway.comes_to_decide.Goals as goal
 
 pub loop-made-init : goal.loop-made-init

@@ -7,8 +7,8 @@ use Rattle.rh_play.proofs.draft.fill.Goals as goal
 
 pub invariant_of-result : goal.invariant_of-result
 invariant_of-result c =
-    let fit = rooms_fit c.args.line c.in-Rooms.entries c.in-Rooms.marks c.requires c.in-Rooms.is in
-    record { some_entries = fit.0; most_entries = fit.1; some_marks = fit.2; most_marks = fit.3 }
+    let fit = rooms_fit c.args.line c.in-Rooms.descriptors c.in-Rooms.marks c.requires c.in-Rooms.is in
+    record { some_descriptors = fit.0; most_descriptors = fit.1; some_marks = fit.2; most_marks = fit.3 }
 
 pub returns-in-Rooms : goal.returns-in-Rooms
 unfolding follow

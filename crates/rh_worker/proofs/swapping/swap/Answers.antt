@@ -1,11 +1,8 @@
 use Rattle.std.proofs.Common.{ap, inl, inr, subst, sym, take}
 use Rattle.rh_worker.specs.Reading.{HasRead, seen_at}
 use Rattle.rh_worker.specs.declared.place.Place.{Place}
-use Rattle.rh_tagword.specs.declared.control.Control.{Control}
-use Rattle.rh_world.specs.Acts.{is_success}
-use Rattle.rh_descriptor.specs.Words.{control_of}
 use Rattle.rh_worker.proofs.Anew.{kept_alike, none_read}
-use Rattle.rh_worker.proofs.CloseStep.{does_same, opens_same, still_open, swap_fails, swap_gives_up, swap_spends, swap_succeeds}
+use Rattle.rh_worker.proofs.CloseStep.{does_same, failure_stays, opens_same, still_open, success_stays, swap_fails, swap_spends, swap_succeeds, swap_withdraws}
 use Rattle.rh_worker.proofs.swapping.swap.Goals as goal
 
 pub step-requires-clause-own : goal.step-requires-clause-own
@@ -31,7 +28,7 @@ returns-in-Closed-Withdrawn-clause-advances g c =
     let h = c.requires.worker.stays in
     let same = ap (take c.args.plan.entries) c.deref.ensures.value in
     let a = c.in-Closed-Withdrawn in
-    inr (inr (swap_fails c.args.shape.now _ _ w.side.known.view _ _ a.ensures.made w.kind w.key c.args.plan.changes _ (opens_same _ c.args.number _ _ same h.0) (does_same w.kind c.args.shape.now.bits w.key c.args.plan.changes _ _ same h.2.act) a.field-0 a.ensures.leads (ap (λ (r : Control). is_success (control_of r)) a.field-0-is)))
+    inr (inr (swap_withdraws c.args.shape.now _ _ w.side.known.view _ _ a.ensures.made w.kind w.key c.args.plan.changes _ (opens_same _ c.args.number _ _ same h.0) (does_same w.kind c.args.shape.now.bits w.key c.args.plan.changes _ _ same h.2.act) a.field-0 a.ensures.leads a.field-0-is))
 
 pub returns-in-Closed-Withdrawn-clause-worker : goal.returns-in-Closed-Withdrawn-clause-worker
 returns-in-Closed-Withdrawn-clause-worker g c =
@@ -49,7 +46,7 @@ returns-in-Closed-Failed-clause-advances g c =
     let h = c.requires.worker.stays in
     let same = ap (take c.args.plan.entries) c.deref.ensures.value in
     let a = c.in-Closed-Failed in
-    inr (inr (swap_fails c.args.shape.now _ _ w.side.known.view _ _ a.ensures.made w.kind w.key c.args.plan.changes _ (opens_same _ c.args.number _ _ same h.0) (does_same w.kind c.args.shape.now.bits w.key c.args.plan.changes _ _ same h.2.act) a.field-0 a.ensures.leads (ap (λ (r : Control). is_success (control_of r)) a.field-0-is)))
+    inr (inr (swap_fails c.args.shape.now _ _ w.side.known.view _ _ a.ensures.made w.kind w.key c.args.plan.changes _ (opens_same _ c.args.number _ _ same h.0) (does_same w.kind c.args.shape.now.bits w.key c.args.plan.changes _ _ same h.2.act) a.field-0 a.ensures.leads _ a.field-0-is))
 
 pub returns-in-On-clause-gives_up : goal.returns-in-On-clause-gives_up
 returns-in-On-clause-gives_up g c gives =
@@ -61,9 +58,7 @@ returns-in-Closed-Succeeded-clause-gives_up g c gives =
     let h = c.requires.worker.stays in
     let same = ap (take c.args.plan.entries) c.deref.ensures.value in
     let a = c.in-Closed-Succeeded in
-    let e = swap_gives_up c.args.shape.now _ _ w.side.known.view _ _ a.ensures.made w.kind w.key c.args.plan.changes _ (opens_same _ c.args.number _ _ same h.0) (does_same w.kind c.args.shape.now.bits w.key c.args.plan.changes _ _ same h.2.act) a.field-0 a.ensures.leads c.requires.relies.now.knows.sound gives in
-    let is = ap control_of a.field-0-is in
-    absurd (cc)
+    absurd (success_stays c.args.shape.now _ _ w.side.known.view _ _ a.ensures.made w.kind w.key c.args.plan.changes _ (opens_same _ c.args.number _ _ same h.0) (does_same w.kind c.args.shape.now.bits w.key c.args.plan.changes _ _ same h.2.act) a.field-0 a.ensures.leads c.requires.relies.now.knows.sound gives a.field-0-is)
 
 pub returns-in-Closed-Failed-clause-gives_up : goal.returns-in-Closed-Failed-clause-gives_up
 returns-in-Closed-Failed-clause-gives_up g c gives =
@@ -71,9 +66,7 @@ returns-in-Closed-Failed-clause-gives_up g c gives =
     let h = c.requires.worker.stays in
     let same = ap (take c.args.plan.entries) c.deref.ensures.value in
     let a = c.in-Closed-Failed in
-    let e = swap_gives_up c.args.shape.now _ _ w.side.known.view _ _ a.ensures.made w.kind w.key c.args.plan.changes _ (opens_same _ c.args.number _ _ same h.0) (does_same w.kind c.args.shape.now.bits w.key c.args.plan.changes _ _ same h.2.act) a.field-0 a.ensures.leads c.requires.relies.now.knows.sound gives in
-    let is = ap control_of a.field-0-is in
-    absurd (cc)
+    absurd (failure_stays c.args.shape.now _ _ w.side.known.view _ _ a.ensures.made w.kind w.key c.args.plan.changes _ (opens_same _ c.args.number _ _ same h.0) (does_same w.kind c.args.shape.now.bits w.key c.args.plan.changes _ _ same h.2.act) a.field-0 a.ensures.leads c.requires.relies.now.knows.sound gives _ a.field-0-is)
 
 pub returns-in-On-clause-anew : goal.returns-in-On-clause-anew
 returns-in-On-clause-anew g c before h =

@@ -7,16 +7,16 @@ pub returns-in-Cell : goal.returns-in-Cell
 returns-in-Cell c =
     let v = c.args.side.now.known.view in
     let h = subst (IsOpening v c.args.entries.now) c.in-Cell.is c.requires.opening in
-    asks_cell v c.args.entries.now c.in-Cell.at _ _ c.args.side.now.same_worker c.args.side.now.same_number h.0 ∙ ap (opening_step v c.args.entries.now) (sym c.in-Cell.is)
+    asks_cell v c.args.entries.now c.in-Cell.at _ c.args.side.now.same_worker h.0 ∙ ap (opening_step v c.args.entries.now) (sym c.in-Cell.is)
 
 pub returns-in-Old : goal.returns-in-Old
 returns-in-Old c =
     let v = c.args.side.now.known.view in
     let h = subst (IsOpening v c.args.entries.now) c.in-Old.is c.requires.opening in
-    asks_old v c.args.entries.now c.in-Old.at _ _ c.args.side.now.same_worker c.args.side.now.same_number h.0 ∙ ap (opening_step v c.args.entries.now) (sym c.in-Old.is)
+    asks_old v c.args.entries.now c.in-Old.at _ c.args.side.now.same_worker h.0 ∙ ap (opening_step v c.args.entries.now) (sym c.in-Old.is)
 
 pub returns-in-New : goal.returns-in-New
 returns-in-New c =
     let v = c.args.side.now.known.view in
     let h = subst (IsOpening v c.args.entries.now) c.in-New.is c.requires.opening in
-    asks_new v c.args.entries.now c.in-New.at _ _ c.args.side.now.same_worker c.args.side.now.same_number h.0 ∙ ap (opening_step v c.args.entries.now) (sym c.in-New.is)
+    asks_new v c.args.entries.now c.in-New.at _ c.args.side.now.same_worker h.0 ∙ ap (opening_step v c.args.entries.now) (sym c.in-New.is)

@@ -1,0 +1,8 @@
+-- Rooms that a table may give its workers. (own)
+use Rattle.std.specs.Prelude.{◌≤◌}
+use Rattle.rh_descriptor.specs.declared.limits.TheConstants.{MAX_ROOM}
+use Rattle.rh_descriptor.specs.declared.shape.Rooms.{Rooms}
+
+pub record AreRooms (rooms : Rooms) : Type 0 where
+  pub descriptors : rooms.descriptors ≤ MAX_ROOM
+  pub marks : rooms.marks ≤ MAX_ROOM

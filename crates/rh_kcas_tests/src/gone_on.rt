@@ -1,0 +1,137 @@
+//! A descriptor that another worker meets, and whose own worker then goes on to its next one.
+
+ghost use Rattle.std.specs.Prelude.{IfSome, None};
+ghost use Rattle.rh_descriptor.specs.Places.{IsShape};
+ghost use Rattle.rh_descriptor.specs.Steps.{IsKnown};
+ghost use Rattle.rh_descriptor.specs.Words.{ref_of};
+ghost use Rattle.rh_helping.specs.Goal.{IsClear};
+ghost use Rattle.rh_kcas.specs.Rests.{Rests};
+ghost use Rattle.rh_kcas.specs.Swaps.{HasNoted};
+ghost use Rattle.rh_kcas_tests.specs.GoneOn.{HasMet, IsEntered};
+ghost use Rattle.rh_rdcss.specs.Calls.{IsHere, view_of};
+ghost use Rattle.rh_rdcss.specs.Sits.{Sits, Stays};
+ghost use Rattle.rh_steps.specs.Relies.{Knows, Trusts};
+
+use crate::halfway::{go_on, stop_halfway};
+use crate::tables::*;
+use rh_descriptor::{Ref, Shape, Side};
+use rh_helping::{Ended, Outcome as Worked, Task, Work, named_desc};
+use rh_kcas::{Seat, Table, are_entries, change, help};
+use rh_rdcss::{OnTable, Placed, peek_cell, place, status};
+use rh_tagword::{State, plain_value};
+use std::process::Abort;
+use std::sync::Wait;
+use std::test::*;
+
+/// More steps than a worker makes until it knows how many entries a descriptor has.
+const STEPS: usize = 10;
+
+/// Meets the descriptor that stands in the cell, and learns how many entries it has.
+fn meet<R: Abort>(rt: &R, table: &Table, seat: &mut Seat, cell: usize) -> Ref
+    requires { Rests table.now seat.old }
+    ensures { HasMet table.now seat.new result }
+{
+    assert!(rt; cell < table.shape.cells());
+    let word = peek_cell(table, seat, cell);
+    let desc = named_desc(word).expect(rt, "a descriptor stands in the cell");
+    let mut here = OnTable {
+        table,
+        seat: &mut seat.inner,
+    };
+    let task = comes_to_entry(&table.shape, &mut here, &mut seat.side, desc);
+    task.expect(rt, "the descriptor is undecided").desc
+}
+
+fn comes_to_entry(shape: &Shape, here: &mut OnTable, side: &mut Side, desc: Ref) -> Option<Task>
+    requires shape { IsShape shape.now }
+    requires trusts { Trusts Sits shape.now here.old side.old.known.view }
+    requires clear { IsClear side.old.known.view }
+    requires known { IsKnown side.old.known.view.side.notes (ref_of desc) }
+    ensures trusts { Trusts Sits shape.now here.new side.new.known.view }
+    ensures stays { Stays here.old here.new }
+    ensures noted { HasNoted side.old.known.view side.new.known.view }
+    ensures entered { IfSome result (IsEntered side.new.known.view) }
+{
+    let mut work = Work::Control(desc);
+    for made in 0..STEPS {
+        let Worked::On(next) = work.step(shape, here, side, None) else {
+            return None;
+        };
+        if let Work::EntryCell(task) = next {
+            return match task.state {
+                State::Undecided => Some(task),
+                _ => None,
+            };
+        }
+        work = next;
+    }
+    None
+}
+
+/// Reads how far a descriptor is.
+fn state(table: &Table, seat: &mut Seat, desc: Ref) -> Option<State>
+    requires { HasMet table.now seat.old desc }
+    ensures { HasMet table.now seat.new desc }
+{
+    status(table, seat, desc)
+}
+
+fn helped<R: Wait>(rt: &R, table: &Table, seat: &mut Seat, desc: Ref)
+    requires { HasMet table.now seat.old desc }
+    ensures { HasMet table.now seat.new desc }
+{
+    help(rt, table, seat, desc);
+}
+
+/// Tries to place a mark for its first entry.
+fn placed(table: &Table, seat: &mut Seat, desc: Ref) -> Placed
+    requires { HasMet table.now seat.old desc }
+{
+    place(table, seat, desc, 0)
+}
+
+/// The words of the cells.
+fn words<R: Abort>(rt: &R, table: &Table, seat: &mut Seat) -> [u64; 8]
+    requires here { IsHere table.now seat.old }
+    requires knows { Knows table.now.shape (view_of seat.old) }
+    ensures here { IsHere table.now seat.new }
+    ensures knows { Knows table.now.shape (view_of seat.new) }
+{
+    let mut words = [0; 8];
+    for cell in 0..8 {
+        words[cell] = peek(rt, table, seat, cell);
+    }
+    words
+}
+
+// The first worker's row is of its next descriptor, which stands undecided in cell 5.
+#[test]
+fn who_is_late_leaves_a_descriptor_that_has_gone_on(rt: HostRuntime) -> Result<(), Fail> {
+    let (table, mut first, mut second) = two_workers(&rt, rt.alloc(), rooms(2, 8), &[0; 8])?;
+    let entries = [change(4, 0, 9)];
+    assert!(rt; are_entries(&table.shape, &entries));
+    assert!(rt; first.side.next_number < table.shape.rooms.descriptors);
+    let number = stop_halfway(&table, &mut first, &entries);
+    let number = number.expect(&rt, "the worker comes to its decision");
+    let desc = meet(&rt, &table, &mut second, 4);
+    assert_eq!(rt; desc, Ref { worker: 0, number });
+    assert_eq!(rt; state(&table, &mut second, desc), Some(State::Undecided));
+    let ended = go_on(&rt, &table, &mut first, &entries, number);
+    assert_eq!(rt; ended, Ended::Succeeded);
+    assert_eq!(rt; state(&table, &mut second, desc), Some(State::Succeeded));
+
+    let later = [change(5, 0, 3)];
+    assert!(rt; are_entries(&table.shape, &later));
+    assert!(rt; first.side.next_number < table.shape.rooms.descriptors);
+    let next = stop_halfway(&table, &mut first, &later);
+    next.expect(&rt, "the worker comes to its decision");
+    let before = words(&rt, &table, &mut first);
+    assert_eq!(rt; plain_value(before[4]), Some(9));
+    assert!(rt; named_desc(before[5]).is_some());
+    assert_eq!(rt; state(&table, &mut second, desc), None);
+    helped(&rt, &table, &mut second, desc);
+    assert_eq!(rt; words(&rt, &table, &mut first), before);
+    assert_eq!(rt; placed(&table, &mut second, desc), Placed::Passed);
+    assert_eq!(rt; words(&rt, &table, &mut first), before);
+    Ok(())
+}
