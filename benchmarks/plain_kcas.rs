@@ -82,6 +82,8 @@ struct EntryRow {
 }
 
 /// A worker's rows: one for all its descriptors, and one for all its marks.
+// (No two workers have words in one cache line.)
+#[repr(align(128))]
 #[derive(Default)]
 struct Rows {
     control: AtomicU64,
