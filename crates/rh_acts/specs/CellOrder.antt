@@ -1,4 +1,4 @@
--- The entries of a front in the order of their cells, where the front may go round the end of the table. (own)
+-- The entries of a front in the order of their cells, where the front may go round the end of the table.
 use Rattle.std.specs.Prelude.{ℕ, ◌-◌, ◌+◌, ◌<◌, ◌≡◌, List, length, slice_index, nat_lt, if◌then◌else◌}
 use Rattle.std.specs.List.{slice_index_or}
 use Rattle.rh_layout.specs.Round.{place_after}

@@ -1,4 +1,4 @@
--- What a scan from a key's home on leads to. (own)
+-- What a scan from a key's home on leads to.
 use Rattle.std.specs.Prelude.{ℕ, ◌^◌, ◌<◌, ◌≤◌, ◌⊎◌, List, length, slice_index, take}
 use Rattle.rh_layout.specs.Round.{place_after}
 use Rattle.rh_layout.specs.Order.{home_of}

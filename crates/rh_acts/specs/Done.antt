@@ -1,4 +1,4 @@
--- How a worker does the keys of its list, by acts of its own and by words that it read, and what it is told of each. (own)
+-- How a worker does the keys of its list, by acts of its own and by words that it read, and what it is told of each.
 use Rattle.std.specs.Prelude.{ℕ, ◌^◌, ◌<◌, ◌≤◌, ◌≡◌, ◌⊎◌, List, [], ◌∷◌, ◌++◌, length, slice_index, Bool, true, false}
 use Rattle.std.specs.List.{Contains}
 use Rattle.rh_layout.specs.Round.{place_after}

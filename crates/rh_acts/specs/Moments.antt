@@ -1,4 +1,4 @@
--- What a list of acts of a phase has made of a layout, finished or not. (own)
+-- What a list of acts of a phase has made of a layout, finished or not.
 use Rattle.std.specs.Prelude.{ℕ, ◌+◌, ◌≡◌, ◌⊎◌, List, length, count_by, IsTrue, false}
 use Rattle.std.specs.List.{Contains}
 use Rattle.std.specs.FinSet as set

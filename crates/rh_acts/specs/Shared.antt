@@ -1,4 +1,4 @@
--- A list that the workers share out by its places, and keys that are done in several rounds. (own)
+-- A list that the workers share out by its places, and keys that are done in several rounds.
 use Rattle.std.specs.Prelude.{◌≡◌, ◌≢◌, ℕ, ◌<◌, List, ◌++◌, length, slice_index, map}
 use Rattle.std.specs.List.{Contains, AllPairs}
 use Rattle.rh_acts.specs.Workers.{piece}

@@ -1,4 +1,4 @@
--- The acts of several workers in one list, and what the workers count. (own)
+-- The acts of several workers in one list, and what the workers count.
 use Rattle.std.specs.Prelude.{ℕ, ◌^◌, ◌<◌, ◌==◌, zero, suc, List, [], ◌∷◌, ◌++◌, length, map, filter, count_by, Bool}
 use Rattle.std.specs.List.{Contains, slice_index_or}
 use Rattle.std.specs.FinSet as set

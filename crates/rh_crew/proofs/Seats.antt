@@ -23,15 +23,5 @@ alone_rests t s at fresh one =
     (subst (λ (vs : List Known). IsFresh (head_of vs)) (sym views)
     (subst (InView IsFresh) views fresh 0 (known (view_of s)) refl))
 
-pub rests_quiet : (t : Table) (s : Seat) → Rests t s → InView IsQuiet (views_of s)
-rests_quiet t s h = subst (InView IsQuiet) (sym (alone_views s h.here.alone)) quiet
-  where
-    quiet : InView IsQuiet (known (view_of s) ∷ [])
-    quiet zero k at = subst (λ (x : Known). IsQuiet x.view) (some-injective _ _ at) record {
-      still = h.knows.still;
-      rest = record { closed = h.rested.clear.own.current; settled = h.rested.clear.owes.settled; paid = h.rested.clear.owes.paid };
-    }
-    quiet (suc r) k at = absurd (some-ne-none k (sym at))
-
 pub both_quiet : (vs us : List Known) → InView IsQuiet vs → InView IsQuiet us → InView IsQuiet (vs ++ us)
 both_quiet vs us h g r k at = ⊎_elim (λ left. h r k left) (λ right. g right.0 k right.2) (at_append vs us r k at)

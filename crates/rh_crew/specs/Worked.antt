@@ -1,4 +1,4 @@
--- Workers that have worked, and are at rest. (own)
+-- Workers that have worked, and are at rest.
 use Rattle.std.specs.Prelude.{◌≡◌}
 use Rattle.rh_rule.specs.Seats.{InView}
 use Rattle.rh_kcas.specs.Crews.{IsAt, IsQuiet, views_of}

@@ -14,7 +14,7 @@ use Rattle.rh_descriptor.specs.declared.shape.Part.{Part}
 use Rattle.rh_descriptor.specs.declared.shape.Part.TheVariants as part
 use Rattle.rh_descriptor.specs.declared.reference.Reading.{Reading}
 use Rattle.rh_descriptor.specs.declared.reference.Reading.TheVariants as reading
-use Rattle.rh_descriptor.specs.Places.{cell_count, word_count, entry_row, mark_row, note_row, place_of}
+use Rattle.rh_descriptor.specs.Parts.{cell_count, word_count, entry_row, mark_row, note_row, index_of}
 use Rattle.rh_descriptor.specs.View.{MarkWord, OwnDesc, Raw, RawRow, RowWord, Written, View}
 use Rattle.rh_descriptor.specs.View.RowWord.{length_word, cell_word, old_word, new_word}
 use Rattle.rh_descriptor.specs.View.MarkWord.{desc_word, entry_word}
@@ -34,7 +34,7 @@ pub data Step : Type 0 where
   -- Release of an entry of a descriptor that is decided so, or whose row has gone on: its cell, and the value that it puts
   -- there
   releases : Ref → (e c : ℕ) → Option Control → (value : ℕ) → Step
-  -- Claim of the next place of the list of keys
+  -- Claim of the next index of the list of keys
   claims : Step
 
 -- ---- what a worker knows of its own rows
@@ -142,7 +142,7 @@ IsKnown notes d = In (known d) notes ⊎ ((k : Control) × In (decided d k) note
 
 -- the table has the word that is read
 abbrev pub IsRead : Shape → Reading → Type 0
-IsRead z (reading.Place p) = p < word_count z
+IsRead z (reading.Word p) = p < word_count z
 IsRead z (reading.Cell c) = c < cell_count z
 IsRead z (reading.Control d) = IsDesc z (ref_of d)
 IsRead z (reading.MarkControl x c d) = IsDesc z (ref_of d)
@@ -172,7 +172,7 @@ IsNewest v d = (d.worker ≡ v.worker) × (suc d.number ≡ v.next_number)
 -- was found, and then only once its row is seen to be still of it; that a mark may be settled, only where its control is
 -- read after it was found; a note to the worker, only of its newest descriptor, which that other one decided.
 abbrev pub IsNoted : View → Reading → Type 0
-IsNoted v (reading.Place p) = Unit {0}
+IsNoted v (reading.Word p) = Unit {0}
 IsNoted v (reading.Cell c) = Unit {0}
 IsNoted v (reading.Control d) = Unit {0}
 IsNoted v (reading.MarkControl x c d) = In (found (ref_of x) c) v.side.notes × In (desc_is (ref_of x) (ref_of d)) v.side.notes
@@ -278,30 +278,30 @@ pub record Allowed (z : Shape) (v : View) (s : Step) : Type 0 where
 
 -- ---- the word that it touches
 
-abbrev pub place_read : Shape → Reading → ℕ
-place_read z (reading.Place p) = p
-place_read z (reading.Cell c) = c
-place_read z (reading.Control d) = place_of z (part.Control d.worker)
-place_read z (reading.MarkControl x c d) = place_of z (part.Control d.worker)
-place_read z (reading.Serial d) = place_of z (part.Serial d.worker)
-place_read z (reading.Length d) = place_of z (part.Length d.worker)
-place_read z (reading.EntryCell d e) = place_of z (part.EntryCell d.worker e)
-place_read z (reading.EntryOld d e) = place_of z (part.EntryOld d.worker e)
-place_read z (reading.EntryNew d e) = place_of z (part.EntryNew d.worker e)
-place_read z (reading.MarkSerial x) = place_of z (part.MarkSerial x.worker)
-place_read z (reading.MarkDesc x) = place_of z (part.MarkDesc x.worker)
-place_read z (reading.MarkEntry x) = place_of z (part.MarkEntry x.worker)
-place_read z (reading.Reason d by) = place_of z (part.Note by d.worker)
+abbrev pub index_read : Shape → Reading → ℕ
+index_read z (reading.Word p) = p
+index_read z (reading.Cell c) = c
+index_read z (reading.Control d) = index_of z (part.Control d.worker)
+index_read z (reading.MarkControl x c d) = index_of z (part.Control d.worker)
+index_read z (reading.Serial d) = index_of z (part.Serial d.worker)
+index_read z (reading.Length d) = index_of z (part.Length d.worker)
+index_read z (reading.EntryCell d e) = index_of z (part.EntryCell d.worker e)
+index_read z (reading.EntryOld d e) = index_of z (part.EntryOld d.worker e)
+index_read z (reading.EntryNew d e) = index_of z (part.EntryNew d.worker e)
+index_read z (reading.MarkSerial x) = index_of z (part.MarkSerial x.worker)
+index_read z (reading.MarkDesc x) = index_of z (part.MarkDesc x.worker)
+index_read z (reading.MarkEntry x) = index_of z (part.MarkEntry x.worker)
+index_read z (reading.Reason d by) = index_of z (part.Note by d.worker)
 
-abbrev pub place : Shape → View → Step → ℕ
-place z v (writes p u) = place_of z p
-place z v (opens size) = place_of z (part.Control v.worker)
-place z v (reads r) = place_read z r
-place z v (places d e c old) = c
-place z v (settles x c d e old) = c
-place z v (decides d k) = place_of z (part.Control d.worker)
-place z v (releases d e c k value) = c
-place z v claims = place_of z part.Counter
+abbrev pub index : Shape → View → Step → ℕ
+index z v (writes p u) = index_of z p
+index z v (opens size) = index_of z (part.Control v.worker)
+index z v (reads r) = index_read z r
+index z v (places d e c old) = c
+index z v (settles x c d e old) = c
+index z v (decides d k) = index_of z (part.Control d.worker)
+index z v (releases d e c k value) = c
+index z v claims = index_of z part.Counter
 
 -- ---- what becomes of the word
 
@@ -408,7 +408,7 @@ abbrev pub serial_read : View → Ref → (word : ℕ) → Side
 serial_read v d word = cond (word == d.number) (note_all v.side (rows_said v.raw_rows d)) (gone_noted v.side d)
 
 abbrev pub read_noted : View → Reading → (word : ℕ) → Side
-read_noted v (reading.Place p) word = v.side
+read_noted v (reading.Word p) word = v.side
 read_noted v (reading.Cell c) word = cell_noted v.side c (cell_in word) v.side.current 0 v.next_number
 read_noted v (reading.Control d) word = control_read v.side (ref_of d) word
 read_noted v (reading.MarkControl x c d) word = mark_control_read v.side (ref_of x) c (ref_of d) word
@@ -424,7 +424,7 @@ read_noted v (reading.Reason d by) word = note_side v.side (failed_at (ref_of d)
 
 -- the words that were read in rows, and whose numbers are not seen yet
 abbrev pub read_raw : List Raw → Reading → (word : ℕ) → List Raw
-read_raw raw (reading.Place p) word = raw
+read_raw raw (reading.Word p) word = raw
 read_raw raw (reading.Cell c) word = raw
 read_raw raw (reading.Control d) word = raw
 read_raw raw (reading.MarkControl x c d) word = raw
@@ -439,7 +439,7 @@ read_raw raw (reading.MarkEntry x) word = record { mark = ref_of x; word = entry
 read_raw raw (reading.Reason d by) word = raw
 
 abbrev pub read_rows : List RawRow → Reading → (word : ℕ) → List RawRow
-read_rows rows (reading.Place p) word = rows
+read_rows rows (reading.Word p) word = rows
 read_rows rows (reading.Cell c) word = rows
 read_rows rows (reading.Control d) word = rows
 read_rows rows (reading.MarkControl x c d) word = rows
@@ -461,7 +461,7 @@ abbrev pub control_seen : View → Ref → (word : ℕ) → ℕ
 control_seen v d word = cond (is_newest v d) word v.control
 
 abbrev pub read_own : View → Reading → (word : ℕ) → ℕ
-read_own v (reading.Place p) word = v.control
+read_own v (reading.Word p) word = v.control
 read_own v (reading.Cell c) word = v.control
 read_own v (reading.Control d) word = control_seen v (ref_of d) word
 read_own v (reading.MarkControl x c d) word = control_seen v (ref_of d) word
@@ -531,6 +531,6 @@ noted z v claims word = with_side v (claim_side v.side word)
 
 -- The step takes the words and what is kept of its worker to the next ones, and finds this word.
 pub record StepsTo (z : Shape) (s : Step) (words : List ℕ) (v : View) (word : ℕ) (then : List ℕ) (next : View) : Type 0 where
-  pub found_is : word ≡ slice_index words (place z v s)
-  pub words_are : then ≡ slice_set words (place z v s) (word_after v s word)
+  pub found_is : word ≡ slice_index words (index z v s)
+  pub words_are : then ≡ slice_set words (index z v s) (word_after v s word)
   pub view_is : next ≡ noted z v s word

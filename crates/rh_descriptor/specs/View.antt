@@ -1,4 +1,4 @@
--- What a worker's seat keeps of it: what it has done and knows, its own rows, and how far a wipe is. (own)
+-- What a worker's seat keeps of it: what it has done and knows, its own rows, and how far a wipe is.
 use Rattle.std.specs.Prelude.{ℕ, Option, None, List, []}
 use Rattle.rh_world.specs.World.{Ref}
 use Rattle.rh_world.specs.Sides.{Side, new_side}
@@ -54,6 +54,10 @@ pub record View : Type 0 where
   pub raw_rows : List RawRow
   pub raw : List Raw
   pub wiping : Option Wiping
+
+-- its descriptor of this number
+abbrev pub own_ref : View → (number : ℕ) → Ref
+own_ref v number = record { worker = v.worker; number = number }
 
 -- what is kept of a worker when a table is made with these cells, which are given as words
 abbrev pub new_view : (cells : List ℕ) → (worker : ℕ) → View

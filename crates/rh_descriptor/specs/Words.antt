@@ -1,4 +1,4 @@
--- What the words of a table say: the cells and the controls of the world, by the one numbering of words. (own)
+-- What the words of a table say: the cells and the controls of the world, by the one numbering of words.
 use Rattle.std.specs.Prelude.{ℕ, ◌≡◌, ◌/◌, ◌%◌, ◌^◌, Option, Some, None}
 use Rattle.rh_tagword.specs.Word.{tag_of, word_number, word_in}
 use Rattle.rh_tagword.specs.Control.{control_number, state_in}

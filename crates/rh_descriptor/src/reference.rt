@@ -1,8 +1,8 @@
 //! References to marks and descriptors.
 
 ghost use Rattle.std.specs.Prelude.{◌≡◌, ◌<◌};
-ghost use Rattle.rh_descriptor.specs.Places.{IsShape, word_count};
-ghost use Rattle.rh_descriptor.specs.Steps.{IsRead, place_read};
+ghost use Rattle.rh_descriptor.specs.Parts.{IsShape, word_count};
+ghost use Rattle.rh_descriptor.specs.Steps.{IsRead, index_read};
 
 use crate::shape::{Part, Shape};
 
@@ -27,7 +27,7 @@ pub struct Piece {
 #[derive(Clone, Copy)]
 pub enum Reading {
     /// Any word of the table, of which nothing is noted.
-    Place(usize),
+    Word(usize),
     /// The word of a cell.
     Cell(usize),
     /// The control of a descriptor.
@@ -57,48 +57,48 @@ pub enum Reading {
 impl Reading {
     // The word of the table that is read.
     #[inline(always)]
-    pub(crate) fn place(self, shape: &Shape) -> usize
+    pub(crate) fn index(self, shape: &Shape) -> usize
         requires shape { IsShape shape.now }
         requires reading { IsRead shape.now self }
-        ensures value { result ≡ place_read shape.now self }
+        ensures value { result ≡ index_read shape.now self }
         ensures within { result < word_count shape.now }
     {
         match self {
-            Reading::Place(place) => place,
-            Reading::Cell(cell) => shape.place(Part::Cell(cell)),
-            Reading::Control(desc) | Reading::MarkControl { desc, .. } => shape.place(
+            Reading::Word(index) => index,
+            Reading::Cell(cell) => shape.index(Part::Cell(cell)),
+            Reading::Control(desc) | Reading::MarkControl { desc, .. } => shape.index(
                 Part::Control {
                     worker: desc.worker,
                 },
             ),
-            Reading::Serial(desc) => shape.place(Part::Serial {
+            Reading::Serial(desc) => shape.index(Part::Serial {
                 worker: desc.worker,
             }),
-            Reading::Length(desc) => shape.place(Part::Length {
+            Reading::Length(desc) => shape.index(Part::Length {
                 worker: desc.worker,
             }),
-            Reading::EntryCell { desc, entry } => shape.place(Part::EntryCell {
-                worker: desc.worker,
-                entry,
-            }),
-            Reading::EntryOld { desc, entry } => shape.place(Part::EntryOld {
+            Reading::EntryCell { desc, entry } => shape.index(Part::EntryCell {
                 worker: desc.worker,
                 entry,
             }),
-            Reading::EntryNew { desc, entry } => shape.place(Part::EntryNew {
+            Reading::EntryOld { desc, entry } => shape.index(Part::EntryOld {
                 worker: desc.worker,
                 entry,
             }),
-            Reading::MarkSerial(mark) => shape.place(Part::MarkSerial {
+            Reading::EntryNew { desc, entry } => shape.index(Part::EntryNew {
+                worker: desc.worker,
+                entry,
+            }),
+            Reading::MarkSerial(mark) => shape.index(Part::MarkSerial {
                 worker: mark.worker,
             }),
-            Reading::MarkDesc(mark) => shape.place(Part::MarkDesc {
+            Reading::MarkDesc(mark) => shape.index(Part::MarkDesc {
                 worker: mark.worker,
             }),
-            Reading::MarkEntry(mark) => shape.place(Part::MarkEntry {
+            Reading::MarkEntry(mark) => shape.index(Part::MarkEntry {
                 worker: mark.worker,
             }),
-            Reading::Reason { desc, decider } => shape.place(Part::Note {
+            Reading::Reason { desc, decider } => shape.index(Part::Note {
                 worker: decider,
                 owner: desc.worker,
             }),

@@ -13,7 +13,7 @@ pub struct Rooms {
 }
 
 impl Rooms {
-    ghost use Rattle.rh_descriptor.specs.Places.{usual_rooms};
+    ghost use Rattle.rh_descriptor.specs.Parts.{usual_rooms};
 
     /// The usual rooms, which are the greatest: as many as a word has numbers for.
     pub fn usual() -> Rooms
@@ -67,8 +67,8 @@ pub enum Part {
 
 impl Shape {
     ghost use Rattle.rh_descriptor.specs.declared.limits.TheConstants.{HEAD_WORDS, MARK_WORDS, WORDS_PER_ENTRY};
-    ghost use Rattle.rh_descriptor.specs.Places.{IsPart, IsShape, cell_count, entry_words, place_of};
-    ghost use Rattle.rh_descriptor.specs.Places.{entry_row, row_count, row_place, word_count};
+    ghost use Rattle.rh_descriptor.specs.Parts.{IsPart, IsShape, cell_count, entry_words, index_of};
+    ghost use Rattle.rh_descriptor.specs.Parts.{entry_row, row_count, row_index, word_count};
 
     /// How many cells there are.
     pub fn cells(&self) -> usize
@@ -104,10 +104,10 @@ impl Shape {
 
     /// The word of a part.
     #[inline(always)]
-    pub fn place(&self, part: Part) -> usize
+    pub fn index(&self, part: Part) -> usize
         requires shape { IsShape self.now }
         requires part { IsPart self.now part }
-        ensures value { result ≡ place_of self.now part }
+        ensures value { result ≡ index_of self.now part }
         ensures within { result < word_count self.now }
     {
         match part {
@@ -132,14 +132,14 @@ impl Shape {
         }
     }
 
-    #[tactic(auto, using(crate::proofs::PlaceLemmas::entry_inside))]
+    #[tactic(auto, using(crate::proofs::IndexLemmas::entry_inside))]
     #[inline(always)]
     fn entry_word(&self, worker: usize, entry: usize, word: usize) -> usize
         requires shape { IsShape self.now }
         requires worker { worker < self.now.workers }
         requires entry { entry < cell_count self.now }
         requires word { word < WORDS_PER_ENTRY }
-        ensures value { result ≡ row_place self.now worker (entry_row entry word) }
+        ensures value { result ≡ row_index self.now worker (entry_row entry word) }
         ensures within { result < word_count self.now }
     {
         self.row_word(worker, HEAD_WORDS + (WORDS_PER_ENTRY * entry + word))
@@ -150,7 +150,7 @@ impl Shape {
         requires shape { IsShape self.now }
         requires worker { worker < self.now.workers }
         requires row { row < row_count self.now }
-        ensures value { result ≡ row_place self.now worker row }
+        ensures value { result ≡ row_index self.now worker row }
         ensures within { result < word_count self.now }
     {
         self.cells() + (worker * self.rows() + row)

@@ -2,7 +2,7 @@
 
 ghost use Rattle.std.specs.Prelude.{◌≡◌};
 ghost use Rattle.rh_descriptor.specs.Asks.{step_of};
-ghost use Rattle.rh_descriptor.specs.Places.{IsShape};
+ghost use Rattle.rh_descriptor.specs.Parts.{IsShape};
 ghost use Rattle.rh_descriptor.specs.Steps.{Allowed, control_seen, noted};
 ghost use Rattle.rh_descriptor.specs.View.{new_view, round_view};
 ghost use Rattle.rh_descriptor.specs.Words.{ref_of};

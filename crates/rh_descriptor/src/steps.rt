@@ -2,8 +2,8 @@
 
 ghost use Rattle.std.specs.Prelude.{◌≡◌, ◌<◌, ℕ, length};
 ghost use Rattle.rh_descriptor.specs.Asks.{changed, step_of};
-ghost use Rattle.rh_descriptor.specs.Places.{IsShape, word_count};
-ghost use Rattle.rh_descriptor.specs.Steps.{Allowed, StepsTo, place, word_after};
+ghost use Rattle.rh_descriptor.specs.Parts.{IsShape, word_count};
+ghost use Rattle.rh_descriptor.specs.Steps.{Allowed, StepsTo, index, word_after};
 
 use crate::reference::{Piece, Reading, Ref};
 use crate::shape::{Part, Shape};
@@ -32,7 +32,7 @@ pub enum Ask {
         part: Part,
         word: u64,
     },
-    /// Open of the next own descriptor, which has so many entries, in place of the last one.
+    /// Open of the next own descriptor, which has so many entries, inplace of the last one.
     Open {
         entries: usize,
     },
@@ -77,25 +77,25 @@ pub enum Effect {
 impl Ask {
     /// The word that the step touches.
     #[inline(always)]
-    pub fn place(&self, shape: &Shape, side: &Side) -> usize
+    pub fn index(&self, shape: &Shape, side: &Side) -> usize
         requires shape { IsShape shape.now }
         requires allowed { Allowed shape.now side.now.known.view (step_of self.now) }
-        ensures value { result ≡ place shape.now side.now.known.view (step_of self.now) }
+        ensures value { result ≡ index shape.now side.now.known.view (step_of self.now) }
         ensures within { result < word_count shape.now }
     {
         match *self {
-            Ask::Write { part, .. } => shape.place(part),
-            Ask::Open { .. } => shape.place(Part::Control {
+            Ask::Write { part, .. } => shape.index(part),
+            Ask::Open { .. } => shape.index(Part::Control {
                 worker: side.worker,
             }),
-            Ask::Read(reading) => reading.place(shape),
+            Ask::Read(reading) => reading.index(shape),
             Ask::Place { piece, .. } | Ask::Settle { piece, .. } | Ask::Release { piece, .. } => {
-                shape.place(Part::Cell(piece.cell))
+                shape.index(Part::Cell(piece.cell))
             }
-            Ask::Decide { desc, .. } => shape.place(Part::Control {
+            Ask::Decide { desc, .. } => shape.index(Part::Control {
                 worker: desc.worker,
             }),
-            Ask::Claim => shape.place(Part::Counter),
+            Ask::Claim => shape.index(Part::Counter),
         }
     }
 
@@ -151,9 +151,9 @@ pub fn make_step(shape: &Shape, words: &mut [u64], side: &mut Side, ask: Ask) ->
     ensures { StepsTo shape.now (step_of ask) words.old side.old.known.view
         result words.new side.new.known.view }
 {
-    let place = ask.place(shape, side);
-    let word = words[place];
-    words[place] = ask.effect(shape, side).on(word);
+    let index = ask.index(shape, side);
+    let word = words[index];
+    words[index] = ask.effect(shape, side).on(word);
     side.note(shape, ask, word);
     word
 }

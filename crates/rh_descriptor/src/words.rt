@@ -2,7 +2,7 @@
 
 ghost use Rattle.std.specs.Prelude.{◌≡◌};
 ghost use Rattle.rh_tagword.specs.Control.{IsControl};
-ghost use Rattle.rh_descriptor.specs.Places.{IsShape};
+ghost use Rattle.rh_descriptor.specs.Parts.{IsShape};
 ghost use Rattle.rh_descriptor.specs.Steps.{IsDesc, IsMark, decided_word};
 ghost use Rattle.rh_descriptor.specs.Words.{control_of, desc_number, mark_number, ref_of};
 

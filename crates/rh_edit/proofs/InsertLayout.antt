@@ -15,14 +15,14 @@ use Rattle.rh_layout.proofs.SetLemmas.{same_keys, put_cases, put_it, put_kept}
 use Rattle.rh_layout.proofs.CountLemmas.{two_from_len}
 use Rattle.rh_layout.proofs.KeySetLemmas.{holds_from_contains, contains_from_holds}
 use Rattle.rh_layout.proofs.LayoutLemmas.{at, low_of, low_in, home_in-cell_of, ahead_from_beaten, beaten_from_ahead, layout_ordered, layout_from_ordered, with_same_keys}
-use Rattle.rh_probe.specs.Look.{IsPlaceFor}
+use Rattle.rh_probe.specs.Look.{IsProbeLength}
 use Rattle.rh_probe.proofs.LookLemmas.{spot_is, fresh_from_place}
 use Rattle.rh_edit.specs.Put.{IsPushed}
 use Rattle.rh_edit.proofs.InsertLemmas.{GoesAt, stepwise-put}
 use Rattle.rh_edit.proofs.HeldAfter.{held_after, put_held, still_held}
 
 -- The key stands where the search for it ends: the set has it.
-pub held_at_place : (b : ℕ) (cells : List ℕ) (k i : ℕ) (S : Keys) → Layout cells b S → IsPlaceFor b cells k i → at cells (place_after (2 ^ b) (home_of b k) i) ≡ cell_of k → IsTrue (contains S k)
+pub held_at_place : (b : ℕ) (cells : List ℕ) (k i : ℕ) (S : Keys) → Layout cells b S → IsProbeLength b cells k i → at cells (place_after (2 ^ b) (home_of b k) i) ≡ cell_of k → IsTrue (contains S k)
 held_at_place b cells k i S layout place is =
     layout.no_other (place_after (2 ^ b) (home_of b k) i) k (omega (arith, layout.size, place_below (2 ^ b) (home_of b k) i (omega (arith, place.in_table))), is)
 
@@ -30,7 +30,7 @@ held_at_place b cells k i S layout place is =
 pub put_again : (S : Keys) (k : ℕ) → IsTrue (contains S k) → S ≡ set.insert S k
 put_again S k has = same_keys S (set.insert S k) (λ q h. put_kept S k q h) (λ q h. elim (put_cases S k q h) [ inl e ↦ rw e has | inr h ↦ h ])
 
-module _ (b : ℕ) (old new : List ℕ) (k i j : ℕ) (S : Keys) (key : IsKey k) (layout : Layout old b S) (place : IsPlaceFor b old k i) (other : at old (place_after (2 ^ b) (home_of b k) i) ≡ cell_of k → ⊥) (pushed : IsPushed (2 ^ b) (home_of b k) i j (cell_of k) (at old) (at new)) (two : HasTwoFree old) where
+module _ (b : ℕ) (old new : List ℕ) (k i j : ℕ) (S : Keys) (key : IsKey k) (layout : Layout old b S) (place : IsProbeLength b old k i) (other : at old (place_after (2 ^ b) (home_of b k) i) ≡ cell_of k → ⊥) (pushed : IsPushed (2 ^ b) (home_of b k) i j (cell_of k) (at old) (at new)) (two : HasTwoFree old) where
   abbrev n : ℕ
   n = 2 ^ b
 
@@ -136,7 +136,7 @@ module _ (b : ℕ) (old new : List ℕ) (k i j : ℕ) (S : Keys) (key : IsKey k)
     insert_new = (fresh_from_place b old k i S layout place other, with_same_keys new b (set.insert S k) made keys_after)
 
 -- A free cell lies at the place for k or after it.
-pub free_past_place : (b : ℕ) (cells : List ℕ) (k i : ℕ) → length cells ≡ 2 ^ b → IsPlaceFor b cells k i → (free : HasFree cells) → i ≤ steps_round (2 ^ b) (home_of b k) free.0
+pub free_past_place : (b : ℕ) (cells : List ℕ) (k i : ℕ) → length cells ≡ 2 ^ b → IsProbeLength b cells k i → (free : HasFree cells) → i ≤ steps_round (2 ^ b) (home_of b k) free.0
 free_past_place b cells k i size place free =
     elim (cases_lt (steps_round (2 ^ b) (home_of b k) free.0) i) [
       | inr from ↦ from
@@ -145,11 +145,11 @@ free_past_place b cells k i size place free =
 
 -- ---- the same in the words of the code, where `first` is the home and n the number of cells
 
-pub found_code : (b k first i cell value : ℕ) (cells : List ℕ) → IsLayout b cells → first ≡ home_of b k → IsPlaceFor b cells k i → value ≡ cell_of k → cell ≡ place_after (length cells) first i → at cells cell ≡ value → IsTrue (contains (keys_of cells) k)
+pub found_code : (b k first i cell value : ℕ) (cells : List ℕ) → IsLayout b cells → first ≡ home_of b k → IsProbeLength b cells k i → value ≡ cell_of k → cell ≡ place_after (length cells) first i → at cells cell ≡ value → IsTrue (contains (keys_of cells) k)
 found_code b k first i cell value cells layout start place is_value is_cell same =
     held_at_place b cells k i (keys_of cells) layout place (ap (at cells) (sym (spot_is b (length cells) k first i cell layout.size start is_cell)) ∙ same ∙ is_value)
 
-pub insert_code : (b k first i cell value : ℕ) (old new : List ℕ) → IsKey k → IsLayout b old → set.len (keys_of old) + 1 < 2 ^ b → first ≡ home_of b k → IsPlaceFor b old k i → value ≡ cell_of k → cell ≡ place_after (length old) first i → (at old cell ≡ value → ⊥) → (j : ℕ) → IsPushed (length old) first i j value (at old) (at new) → length new ≡ length old → (contains (keys_of old) k ≡ false) × Layout new b (set.insert (keys_of old) k)
+pub insert_code : (b k first i cell value : ℕ) (old new : List ℕ) → IsKey k → IsLayout b old → set.len (keys_of old) + 1 < 2 ^ b → first ≡ home_of b k → IsProbeLength b old k i → value ≡ cell_of k → cell ≡ place_after (length old) first i → (at old cell ≡ value → ⊥) → (j : ℕ) → IsPushed (length old) first i j value (at old) (at new) → length new ≡ length old → (contains (keys_of old) k ≡ false) × Layout new b (set.insert (keys_of old) k)
 insert_code b k first i cell value old new key layout room start place is_value is_cell other j pushed same_size =
     let spot = spot_is b (length old) k first i cell layout.size start is_cell in
     let pushed_home : IsPushed (2 ^ b) (home_of b k) i j (cell_of k) (at old) (at new) = rw (layout.size, start, is_value) at pushed in

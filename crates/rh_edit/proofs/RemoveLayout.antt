@@ -13,7 +13,7 @@ use Rattle.rh_layout.proofs.OrderLemmas.{ordered_from_stepwise}
 use Rattle.rh_layout.proofs.SetLemmas.{same_keys, out_cases, out_kept}
 use Rattle.rh_layout.proofs.KeySetLemmas.{holds_from_contains, contains_from_holds}
 use Rattle.rh_layout.proofs.LayoutLemmas.{at, low_of, low_in, home_in-cell_of, layout_ordered, layout_from_ordered, with_same_keys}
-use Rattle.rh_probe.specs.Look.{IsPlaceFor}
+use Rattle.rh_probe.specs.Look.{IsProbeLength}
 use Rattle.rh_probe.proofs.LookLemmas.{spot_is, fresh_from_place}
 use Rattle.rh_edit.specs.Pull.{IsPulled}
 use Rattle.rh_edit.proofs.RemoveLemmas.{LeavesFrom, stepwise-taken}
@@ -24,7 +24,7 @@ pub out_again : (S : Keys) (k : ℕ) → contains S k ≡ false → S ≡ set.re
 out_again S k none = same_keys S (set.remove S k) (λ q has. out_kept S k q (λ e. let there = rw e at has in (cc)) has) (λ q has. (out_cases S k q has).1)
 
 -- A free cell lies after the place where k stands.
-pub free_past_key : (b : ℕ) (cells : List ℕ) (k i : ℕ) (S : Keys) → Layout cells b S → IsPlaceFor b cells k i → at cells (place_after (2 ^ b) (home_of b k) i) ≡ cell_of k → (free : HasFree cells) → i < steps_round (2 ^ b) (home_of b k) free.0
+pub free_past_key : (b : ℕ) (cells : List ℕ) (k i : ℕ) (S : Keys) → Layout cells b S → IsProbeLength b cells k i → at cells (place_after (2 ^ b) (home_of b k) i) ≡ cell_of k → (free : HasFree cells) → i < steps_round (2 ^ b) (home_of b k) free.0
 free_past_key b cells k i S layout place is free =
     let c_in : free.0 < 2 ^ b = omega (arith, free.1, layout.size) in
     elim (cases_order (steps_round (2 ^ b) (home_of b k) free.0) i) [
@@ -110,16 +110,16 @@ module _ (b : ℕ) (old new : List ℕ) (k i j : ℕ) (S : Keys) (layout : Layou
 
 -- ---- the same in the words of the code
 
-pub absent_code : (b k first i cell value : ℕ) (cells : List ℕ) → IsLayout b cells → first ≡ home_of b k → IsPlaceFor b cells k i → value ≡ cell_of k → cell ≡ place_after (length cells) first i → (at cells cell ≡ value → ⊥) → contains (keys_of cells) k ≡ false
+pub absent_code : (b k first i cell value : ℕ) (cells : List ℕ) → IsLayout b cells → first ≡ home_of b k → IsProbeLength b cells k i → value ≡ cell_of k → cell ≡ place_after (length cells) first i → (at cells cell ≡ value → ⊥) → contains (keys_of cells) k ≡ false
 absent_code b k first i cell value cells layout start place is_value is_cell other =
     fresh_from_place b cells k i (keys_of cells) layout place (λ e. other (ap (at cells) (spot_is b (length cells) k first i cell layout.size start is_cell) ∙ e ∙ sym is_value))
 
-pub free_code : (b k first i cell value : ℕ) (cells : List ℕ) → IsLayout b cells → first ≡ home_of b k → IsPlaceFor b cells k i → value ≡ cell_of k → cell ≡ place_after (length cells) first i → at cells cell ≡ value → (free : HasFree cells) → i < steps_round (length cells) first free.0
+pub free_code : (b k first i cell value : ℕ) (cells : List ℕ) → IsLayout b cells → first ≡ home_of b k → IsProbeLength b cells k i → value ≡ cell_of k → cell ≡ place_after (length cells) first i → at cells cell ≡ value → (free : HasFree cells) → i < steps_round (length cells) first free.0
 free_code b k first i cell value cells layout start place is_value is_cell same free =
     let past = free_past_key b cells k i (keys_of cells) layout place (ap (at cells) (sym (spot_is b (length cells) k first i cell layout.size start is_cell)) ∙ same ∙ is_value) free in
     rw (layout.size, start) past
 
-pub remove_code : (b k first i cell value : ℕ) (old new : List ℕ) → IsLayout b old → first ≡ home_of b k → IsPlaceFor b old k i → value ≡ cell_of k → cell ≡ place_after (length old) first i → at old cell ≡ value → (j : ℕ) → IsPulled (length old) (home_in b) first i j (at old) (at new) → length new ≡ length old → IsTrue (contains (keys_of old) k) × Layout new b (set.remove (keys_of old) k)
+pub remove_code : (b k first i cell value : ℕ) (old new : List ℕ) → IsLayout b old → first ≡ home_of b k → IsProbeLength b old k i → value ≡ cell_of k → cell ≡ place_after (length old) first i → at old cell ≡ value → (j : ℕ) → IsPulled (length old) (home_in b) first i j (at old) (at new) → length new ≡ length old → IsTrue (contains (keys_of old) k) × Layout new b (set.remove (keys_of old) k)
 remove_code b k first i cell value old new layout start place is_value is_cell same j pulled same_size =
     let spot = spot_is b (length old) k first i cell layout.size start is_cell in
     let pulled_home : IsPulled (2 ^ b) (home_in b) (home_of b k) i j (at old) (at new) = rw (layout.size, start) at pulled in

@@ -8,7 +8,7 @@ ghost use Rattle.rh_layout.specs.Layout.{IsLayout, keys_of};
 ghost use Rattle.rh_edit.specs.Put.{HasFreeFrom, IsPushed};
 
 use rh_layout::{cell_of, home};
-use rh_probe::{cell_after, next_cell, place_for};
+use rh_probe::{cell_after, next_cell, probe_length};
 
 /// Adds the key to the table, and answers whether it was not there.
 pub fn insert(bits: u32, cells: &mut [u64], key: u64) -> bool
@@ -20,7 +20,7 @@ pub fn insert(bits: u32, cells: &mut [u64], key: u64) -> bool
     ensures changed { result ≡ not (set.contains (keys_of cells.old) key) }
 {
     let first = home(bits, key);
-    let at = place_for(bits, cells, key);
+    let at = probe_length(bits, cells, key);
     let value = cell_of(key);
     let cell = cell_after(cells.len(), first, at);
     if cells[cell] == value {

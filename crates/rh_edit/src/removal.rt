@@ -10,7 +10,7 @@ ghost use Rattle.rh_edit.specs.Put.{HasFreeFrom};
 ghost use Rattle.rh_edit.specs.Pull.{IsPulled};
 
 use rh_layout::{cell_of, home};
-use rh_probe::{cell_after, is_movable, next_cell, place_for};
+use rh_probe::{cell_after, is_movable, next_cell, probe_length};
 
 /// Takes the key out of the table, and answers whether it was there.
 pub fn remove(bits: u32, cells: &mut [u64], key: u64) -> bool
@@ -22,7 +22,7 @@ pub fn remove(bits: u32, cells: &mut [u64], key: u64) -> bool
     ensures changed { result ≡ set.contains (keys_of cells.old) key }
 {
     let first = home(bits, key);
-    let at = place_for(bits, cells, key);
+    let at = probe_length(bits, cells, key);
     let cell = cell_after(cells.len(), first, at);
     if cells[cell] != cell_of(key) {
         return false;

@@ -1,4 +1,4 @@
--- The text of a dump (this project's own), as a function of the bits and the cells of a table.
+-- The text of a dump, as a function of the bits and the cells of a table.
 use Rattle.std.specs.Prelude.{ℕ, ◌+◌, if◌then◌else◌, List, [], ◌∷◌, ◌++◌, codes, decimal, count_by}
 use Rattle.rh_layout.specs.Key.{is_full, key_in}
 use Rattle.rh_layout.specs.Order.{dist_of}

@@ -1,4 +1,4 @@
--- The grammar of key files (this project's own): which bytes are a key file, and of which keys.
+-- The grammar of key files: which bytes are a key file, and of which keys.
 use Rattle.std.specs.Prelude.{◌≡◌, ℕ, ◌≤◌, List, ◌++◌, length, codes, All}
 use Rattle.std.specs.List.{flat_map}
 use Rattle.std.specs.Int.{w64, to_be_bytes}

@@ -81,13 +81,6 @@ opened_over Succeeded o ne = tt
 opened_over Withdrawn o ne = tt
 opened_over (Failed by) o ne = tt
 
-pub stands_opened : (l : List Note) (d : Ref) (k : State) (e : ℕ) → StandsAt l d k e → k ≢ Undecided → IsOver k
-stands_opened l d Unused e h ne = h
-stands_opened l d Undecided e h ne = ne refl
-stands_opened l d Succeeded e h ne = tt
-stands_opened l d Withdrawn e h ne = tt
-stands_opened l d (Failed by) e h ne = tt
-
 pub stands_undecided : (l : List Note) (d : Ref) (k : State) (e : ℕ) → StandsAt l d k e → is_decided k ≡ false → k ≡ Undecided
 stands_undecided l d Unused e h no_ = absurd h
 stands_undecided l d Undecided e h no_ = refl

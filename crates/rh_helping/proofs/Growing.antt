@@ -6,13 +6,13 @@ use Rattle.rh_world.specs.World.{In, Ref}
 use Rattle.rh_world.specs.World.Control.{failed}
 use Rattle.rh_world.specs.Notes.{Note}
 use Rattle.rh_world.specs.Notes.Note.{decided, failed_at, held, known, new_is, old_is, over, passed, size_is, target_is}
-use Rattle.rh_descriptor.specs.View.{OwnDesc, View, Written}
+use Rattle.rh_descriptor.specs.View.{OwnDesc, View, Written, own_ref}
 use Rattle.rh_descriptor.specs.Words.{control_of, ref_of}
 use Rattle.rh_descriptor.specs.Steps.{IsKnown, entry_of, row_word}
 use Rattle.rh_helping.specs.declared.goal.Task.{Task}
 use Rattle.rh_helping.specs.declared.goal.Goal.{Goal}
 use Rattle.rh_helping.specs.declared.goal.Owed.{Owed}
-use Rattle.rh_helping.specs.Goal.{HasGone, HasReason, HasReleased, IsAllNoted, IsClear, IsForeign, IsMet, IsOpenOf, KnowsGoal, KnowsOwn, KnowsTask, OwesNothing, OwesOne, Owns, Releases, StandsAt, open_number, own_ref}
+use Rattle.rh_helping.specs.Goal.{HasGone, HasReason, HasReleased, IsAllNoted, IsClear, IsForeign, IsMet, IsOpenOf, KnowsGoal, KnowsOwn, KnowsTask, OwesNothing, OwesOne, Owns, Releases, StandsAt, open_number}
 use Rattle.rh_helping.specs.Settling.{FailsNone, Grows, Keeps}
 use Rattle.rh_helping.specs.Work.{IsAt, IsOver, Owes, OwesAs}
 
@@ -168,9 +168,6 @@ module _ (v next : View) (g : Grows v next) where
 
   pub task_grows : (t : Task) → KnowsTask v t → KnowsTask next t
   task_grows = task_sub v next g.keeps g.failures
-
-  pub goal_grows : (t : Goal) → KnowsGoal v t → KnowsGoal next t
-  goal_grows = goal_sub v next g.keeps g.failures
 
   pub met_grows : (d : Ref) (k : State) (e : ℕ) → IsMet v d k e → IsMet next d k e
   met_grows = met_sub v next g.keeps g.failures

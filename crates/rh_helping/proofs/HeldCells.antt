@@ -5,7 +5,7 @@ use Rattle.rh_tagword.specs.declared.control.State.TheVariants.{Unused, Undecide
 use Rattle.rh_world.specs.World.{Ref, In}
 use Rattle.rh_world.specs.Notes.Note.{desc_is, found, old_is, size_is, target_is}
 use Rattle.rh_descriptor.specs.declared.shape.Shape.{Shape}
-use Rattle.rh_descriptor.specs.View.{View}
+use Rattle.rh_descriptor.specs.View.{View, own_ref}
 use Rattle.rh_descriptor.specs.Words.{ref_of}
 use Rattle.rh_helping.specs.declared.goal.Goal.{Goal}
 use Rattle.rh_helping.specs.declared.goal.Owed.{Owed}
@@ -15,7 +15,7 @@ use Rattle.rh_helping.specs.declared.looking.Looking.{Looking}
 use Rattle.rh_helping.specs.declared.looking.Looking.TheVariants as looking
 use Rattle.rh_helping.specs.declared.work.Work.{Work}
 use Rattle.rh_helping.specs.declared.work.Work.TheVariants as work
-use Rattle.rh_helping.specs.Goal.{KnowsGoal, KnowsTask, OwesNothing, OwesOne, StandsAt, owed_of, own_ref}
+use Rattle.rh_helping.specs.Goal.{KnowsGoal, KnowsTask, OwesNothing, OwesOne, StandsAt, owed_of}
 use Rattle.rh_helping.specs.Held.{IsHeld, KnowsOld, held_by, held_in}
 use Rattle.rh_helping.specs.Looking.{IsLooking}
 use Rattle.rh_helping.specs.Work.{IsPlaced, IsSwapped, OwesAs, Stands}

@@ -10,7 +10,7 @@ use Rattle.rh_descriptor.specs.declared.reference.Reading.TheVariants as reading
 use Rattle.rh_descriptor.specs.declared.reference.Ref.{Ref as Reference}
 use Rattle.rh_descriptor.specs.View.{View}
 use Rattle.rh_descriptor.specs.Words.{cell_in, ref_of}
-use Rattle.rh_descriptor.specs.Places.{cell_count}
+use Rattle.rh_descriptor.specs.Parts.{cell_count}
 use Rattle.rh_descriptor.specs.Steps.{Allowed, Step, noted, with_side}
 use Rattle.rh_rule.specs.Mirrors.{IsCell}
 use Rattle.rh_steps.specs.Relies.{Knows}

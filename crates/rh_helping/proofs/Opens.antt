@@ -12,7 +12,7 @@ use Rattle.rh_world.proofs.Updated.{same_nat, some_injective}
 use Rattle.rh_descriptor.specs.declared.shape.Shape.{Shape}
 use Rattle.rh_descriptor.specs.declared.shape.Part.TheVariants as part
 use Rattle.rh_descriptor.specs.declared.steps.StepKind.{StepKind}
-use Rattle.rh_descriptor.specs.Places.{cell_count, entry_row}
+use Rattle.rh_descriptor.specs.Parts.{cell_count, entry_row}
 use Rattle.rh_descriptor.specs.View.{OwnDesc, View, Written}
 use Rattle.rh_descriptor.specs.Steps.{Allowed, AreEntries, CanOpen, HasRow, IsStep, Step, entries_at, entries_of, entry_of, next_entries, noted, open_noted, own_desc, row_word}
 use Rattle.rh_rule.proofs.OpensKept.{entries_current, entries_length, entries_notes, fits_cells}

@@ -7,12 +7,12 @@ use Rattle.rh_world.specs.Notes.Note.{old_is, over, passed, size_is, target_is}
 use Rattle.rh_world.specs.Moves.{MayWork}
 use Rattle.rh_world.specs.Sides.{Debt}
 use Rattle.rh_world.proofs.Updated.{ref_path, same_nat, some_injective, some_not_none}
-use Rattle.rh_descriptor.specs.View.{OwnDesc, View}
+use Rattle.rh_descriptor.specs.View.{OwnDesc, View, own_ref}
 use Rattle.rh_descriptor.specs.Words.{ref_of}
 use Rattle.rh_helping.specs.declared.goal.Goal.{Goal}
 use Rattle.rh_helping.specs.declared.goal.Owed.{Owed}
 use Rattle.rh_helping.specs.declared.goal.Task.{Task}
-use Rattle.rh_helping.specs.Goal.{HasGone, HasReleased, IsAllNoted, IsForeign, IsNewest, KnowsOwn, OwesNothing, OwesOne, Releases, StandsAt, debt_of, open_number, owed_of, own_ref}
+use Rattle.rh_helping.specs.Goal.{HasGone, HasReleased, IsAllNoted, IsForeign, IsNewest, KnowsOwn, OwesNothing, OwesOne, Releases, StandsAt, debt_of, open_number, owed_of}
 use Rattle.rh_helping.specs.Settling.{Grows}
 use Rattle.rh_helping.specs.Work.{IsAt, IsLeft, IsOver, OwesAs}
 use Rattle.rh_helping.proofs.Growing.{known_sub, nothing_grows, stands_known}
@@ -60,13 +60,6 @@ owes_over v t Undecided o h = absurd o
 owes_over v t Succeeded o h = h
 owes_over v t Withdrawn o h = h
 owes_over v t (Failed by) o h = h
-
-pub over_owes : (v : View) (t : Task) (k : State) → IsOver k → OwesAs v t k → Releases v t
-over_owes v t Unused o h = absurd o
-over_owes v t Undecided o h = absurd o
-over_owes v t Succeeded o h = h
-over_owes v t Withdrawn o h = h
-over_owes v t (Failed by) o h = h
 
 -- who owes nothing has nothing to forget
 pub forget_nothing : (f : Debt → Bool) (debts : List Debt) → debts ≡ [] → filter f debts ≡ debts

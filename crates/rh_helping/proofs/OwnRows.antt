@@ -5,13 +5,13 @@ use Rattle.rh_world.specs.World.{In, Ref}
 use Rattle.rh_world.specs.Notes.Note.{new_is, old_is, size_is, target_is}
 use Rattle.rh_world.proofs.Updated.{ref_path}
 use Rattle.rh_descriptor.specs.declared.shape.Shape.{Shape}
-use Rattle.rh_descriptor.specs.View.{OwnDesc, View}
+use Rattle.rh_descriptor.specs.View.{OwnDesc, View, own_ref}
 use Rattle.rh_descriptor.specs.Words.{ref_of}
 use Rattle.rh_descriptor.specs.Steps.{IsKnown, entry_of, row_word}
 use Rattle.rh_rule.specs.Sound.{OwnRow}
-use Rattle.rh_descriptor.specs.Places.{entry_row}
+use Rattle.rh_descriptor.specs.Parts.{entry_row}
 use Rattle.rh_helping.specs.declared.goal.Task.{Task}
-use Rattle.rh_helping.specs.Goal.{IsAllNoted, KnowsGoal, KnowsOwn, KnowsTask, own_ref}
+use Rattle.rh_helping.specs.Goal.{IsAllNoted, KnowsGoal, KnowsOwn, KnowsTask}
 use Rattle.rh_steps.specs.Relies.{Knows}
 use Rattle.rh_helping.proofs.Knowing.{task_known}
 use Rattle.rh_helping.proofs.Owing.{open_all_noted}

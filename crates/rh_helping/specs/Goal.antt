@@ -1,4 +1,4 @@
--- What a worker knows of the descriptor that it goes about, and of the entry. (own)
+-- What a worker knows of the descriptor that it goes about, and of the entry.
 use Rattle.std.specs.Prelude.{zero, suc, ◌≡◌, ℕ, ◌<◌, ◌≤◌, ◌==◌, ◌⊎◌, cond, Option, Some, None, List, [], ◌∷◌, length}
 use Rattle.rh_tagword.specs.declared.control.State.{State}
 use Rattle.rh_tagword.specs.declared.control.State.TheVariants.{Unused, Undecided, Succeeded, Withdrawn, Failed}
@@ -9,16 +9,13 @@ use Rattle.rh_world.specs.Notes.Note.{known, size_is, target_is, old_is, new_is,
 use Rattle.rh_world.specs.Sides.{Debt}
 use Rattle.rh_world.specs.Moves.{MayWork}
 use Rattle.rh_descriptor.specs.declared.reference.Piece.{Piece}
-use Rattle.rh_descriptor.specs.View.{OwnDesc, RowWord, View}
+use Rattle.rh_descriptor.specs.View.{OwnDesc, RowWord, View, own_ref}
 use Rattle.rh_descriptor.specs.Words.{control_of, ref_of}
 use Rattle.rh_descriptor.specs.Steps.{IsKnown, entry_of, row_word}
 use Rattle.rh_helping.specs.declared.goal.Task.{Task}
 use Rattle.rh_helping.specs.declared.goal.Goal.{Goal}
 use Rattle.rh_helping.specs.declared.goal.Owed.{Owed}
 use Rattle.rh_helping.specs.declared.goal.OpenDesc.{OpenDesc}
-
-abbrev pub own_ref : View → (number : ℕ) → Ref
-own_ref v n = record { worker = v.worker; number = n }
 
 -- ---- what it knows of its own descriptors
 

@@ -1,11 +1,11 @@
--- The cell that a worker holds between two of its steps: where its unsettled mark stands, or the one that it owes. (own)
+-- The cell that a worker holds between two of its steps: where its unsettled mark stands, or the one that it owes.
 use Rattle.std.specs.Prelude.{◌≡◌, ℕ, ◌⊎◌, Option, Some, None, [], ◌∷◌}
 use Rattle.rh_world.specs.World.{In}
 use Rattle.rh_world.specs.Notes.Note.{desc_is, found, old_is, target_is}
 use Rattle.rh_world.specs.Moves.{MayWork}
-use Rattle.rh_descriptor.specs.View.{View}
+use Rattle.rh_descriptor.specs.View.{View, own_ref}
 use Rattle.rh_descriptor.specs.Words.{ref_of}
-use Rattle.rh_helping.specs.Goal.{debt_of, owed_of, own_ref}
+use Rattle.rh_helping.specs.Goal.{debt_of, owed_of}
 use Rattle.rh_helping.specs.declared.goal.Owed.{Owed}
 use Rattle.rh_helping.specs.declared.looking.Looking.{Looking}
 use Rattle.rh_helping.specs.declared.looking.Looking.TheVariants as looking

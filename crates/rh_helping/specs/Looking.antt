@@ -1,4 +1,4 @@
--- What is so while a cell is read until it holds a value. (own)
+-- What is so while a cell is read until it holds a value.
 use Rattle.std.specs.Prelude.{◌≡◌, ℕ, ◌≤◌, ◌⊎◌, None, List, ◌∷◌}
 use Rattle.rh_world.specs.World.{In}
 use Rattle.rh_world.specs.Notes.Note.{passed}

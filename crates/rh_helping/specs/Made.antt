@@ -1,4 +1,4 @@
--- What a step that was made leaves of a worker's descriptors, reads and claims. (own)
+-- What a step that was made leaves of a worker's descriptors, reads and claims.
 use Rattle.std.specs.Prelude.{◌≡◌, ℕ, List}
 use Rattle.rh_world.specs.World.{In}
 use Rattle.rh_world.specs.Notes.{Note}

@@ -1,4 +1,4 @@
--- What stands in a cell, and what a control tells of a descriptor. (own)
+-- What stands in a cell, and what a control tells of a descriptor.
 use Rattle.std.specs.Prelude.{ℕ, ◌==◌, cond, Option, Some, None}
 use Rattle.rh_world.specs.World.{Cell, Control}
 use Rattle.rh_world.specs.World.Cell.{plain, mark, desc}

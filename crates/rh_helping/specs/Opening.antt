@@ -1,11 +1,11 @@
--- What is so while the row of an own descriptor is written, and what its Open leads to. (own)
+-- What is so while the row of an own descriptor is written, and what its Open leads to.
 use Rattle.std.specs.Prelude.{suc, ◌≡◌, ℕ, ◌<◌, Option, Some, None, List, ◌∷◌, length, cond, nat_lt}
 use Rattle.rh_layout.specs.declared.entry.Entry.{Entry}
 use Rattle.rh_descriptor.specs.declared.shape.Shape.{Shape}
 use Rattle.rh_descriptor.specs.declared.shape.Part.TheVariants as part
 use Rattle.rh_descriptor.specs.declared.steps.StepKind.{StepKind}
 use Rattle.rh_descriptor.specs.declared.steps.StepKind.TheVariants as kind
-use Rattle.rh_descriptor.specs.Places.{entry_row}
+use Rattle.rh_descriptor.specs.Parts.{entry_row}
 use Rattle.rh_descriptor.specs.View.{OwnDesc, View}
 use Rattle.rh_descriptor.specs.Steps.{AreEntries, HasRow, Step, entry_of, row_word}
 use Rattle.rh_helping.specs.declared.opening.Opening.{Opening}

@@ -1,4 +1,4 @@
--- What is so while a mark that was met in a cell is settled. (own)
+-- What is so while a mark that was met in a cell is settled.
 use Rattle.std.specs.Prelude.{◌≡◌, ℕ, Option, Some, None}
 use Rattle.rh_world.specs.World.{In, Ref}
 use Rattle.rh_world.specs.World.Control.{failed}

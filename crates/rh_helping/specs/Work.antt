@@ -1,4 +1,4 @@
--- What is so at each next step of a worker on a descriptor, and what a step leads to. (own)
+-- What is so at each next step of a worker on a descriptor, and what a step leads to.
 use Rattle.std.specs.Prelude.{◌≡◌, ℕ, ◌+◌, ◌<◌, ◌≤◌, ◌⊎◌, Option, Some, None, Bool, true, [], ◌∷◌}
 use Rattle.rh_tagword.specs.declared.control.State.{State}
 use Rattle.rh_tagword.specs.declared.control.State.TheVariants.{Unused, Undecided, Succeeded, Withdrawn, Failed}
@@ -9,8 +9,8 @@ use Rattle.rh_descriptor.specs.declared.reference.Ref.{Ref as Reference}
 use Rattle.rh_descriptor.specs.declared.shape.Shape.{Shape}
 use Rattle.rh_descriptor.specs.declared.steps.StepKind.{StepKind}
 use Rattle.rh_descriptor.specs.declared.steps.StepKind.TheVariants as kind
-use Rattle.rh_descriptor.specs.Places.{mark_row, note_row}
-use Rattle.rh_descriptor.specs.View.{OwnDesc, View}
+use Rattle.rh_descriptor.specs.Parts.{mark_row, note_row}
+use Rattle.rh_descriptor.specs.View.{OwnDesc, View, own_ref}
 use Rattle.rh_descriptor.specs.View.RowWord.{cell_word, length_word, new_word, old_word}
 use Rattle.rh_descriptor.specs.Words.{desc_number, ref_of}
 use Rattle.rh_descriptor.specs.Steps.{HasSerial, IsKnown, row_word}
@@ -24,7 +24,7 @@ use Rattle.rh_helping.specs.declared.work.Outcome.{Outcome}
 use Rattle.rh_helping.specs.declared.work.Outcome.TheVariants.{On, Over, Closed, Spent}
 use Rattle.rh_helping.specs.declared.work.Ended.{Ended}
 use Rattle.rh_helping.specs.declared.work.Ended.TheVariants as ended
-use Rattle.rh_helping.specs.Goal.{own_ref, GivesBack, HasGone, HasReadRow, HasReason, IsForeign, IsMet, IsNewest, KnowsGoal, KnowsOwn, KnowsTask, OwesNothing, Releases, debt_of, owed_of}
+use Rattle.rh_helping.specs.Goal.{GivesBack, HasGone, HasReadRow, HasReason, IsForeign, IsMet, IsNewest, KnowsGoal, KnowsOwn, KnowsTask, OwesNothing, Releases, debt_of, owed_of}
 use Rattle.rh_helping.specs.Settling.{IsSettling, kind_of_settling}
 
 abbrev pub kind_of_work : Work → StepKind

@@ -3,7 +3,7 @@
 
 ghost use Rattle.std.specs.Prelude.{◌≡◌};
 ghost use Rattle.rh_tagword.specs.Control.{IsControl};
-ghost use Rattle.rh_descriptor.specs.Places.{IsShape};
+ghost use Rattle.rh_descriptor.specs.Parts.{IsShape};
 ghost use Rattle.rh_descriptor.specs.Steps.{Allowed, Step};
 ghost use Rattle.rh_descriptor.specs.Words.{control_of, ref_of};
 ghost use Rattle.rh_steps.specs.Relies.{Relies};

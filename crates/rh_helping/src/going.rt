@@ -1,7 +1,7 @@
 //! Which step is next.
 
 ghost use Rattle.std.specs.Prelude.{◌≡◌, ◌<◌, ◌+◌, ◌⊎◌, suc, Some, IfSome, Decides};
-ghost use Rattle.rh_descriptor.specs.Places.{IsShape, cell_count, entry_row};
+ghost use Rattle.rh_descriptor.specs.Parts.{IsShape, cell_count, entry_row};
 ghost use Rattle.rh_descriptor.specs.Words.{ref_of};
 ghost use Rattle.rh_descriptor.specs.declared.shape.Shape.{Shape};
 ghost use Rattle.rh_helping.specs.Goal.{HasReason, IsMet, KnowsGoal, KnowsOwn, KnowsTask, OwesNothing, open_number, opened_by};

@@ -2,7 +2,7 @@
 //! Pratt 2002).
 
 ghost use Rattle.std.specs.Prelude.{◌≡◌};
-ghost use Rattle.rh_descriptor.specs.Places.{IsShape};
+ghost use Rattle.rh_descriptor.specs.Parts.{IsShape};
 ghost use Rattle.rh_steps.specs.Relies.{Relies};
 ghost use Rattle.rh_helping.specs.Settling.{kind_of_settling};
 ghost use Rattle.rh_helping.specs.Made.{HasMade};

@@ -2,7 +2,7 @@
 //! helped to its end.
 
 ghost use Rattle.std.specs.Prelude.{◌≡◌, ◌<◌};
-ghost use Rattle.rh_descriptor.specs.Places.{IsShape, cell_count};
+ghost use Rattle.rh_descriptor.specs.Parts.{IsShape, cell_count};
 ghost use Rattle.rh_helping.specs.Goal.{IsClear};
 ghost use Rattle.rh_helping.specs.Looking.{IsLooking, LooksOn, MayLookOn, kind_of_looking, reads_after};
 ghost use Rattle.rh_helping.specs.Made.{HasStepped};

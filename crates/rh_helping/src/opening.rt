@@ -2,7 +2,7 @@
 
 ghost use Rattle.std.specs.Prelude.{◌≡◌, ◌<◌, length};
 ghost use Rattle.rh_descriptor.specs.Asks.{step_of};
-ghost use Rattle.rh_descriptor.specs.Places.{IsShape};
+ghost use Rattle.rh_descriptor.specs.Parts.{IsShape};
 ghost use Rattle.rh_helping.specs.Made.{HasStepped};
 ghost use Rattle.rh_helping.specs.Opening.{IsOpening, MayOpen, OpensOn, after_opening, kind_of_opening, opened_after, opening_step};
 ghost use Rattle.rh_steps.specs.Relies.{Relies};

@@ -1,7 +1,7 @@
 //! Settling a mark that was met in a cell, as RDCSS is helped (Harris, Fraser and Pratt 2002).
 
 ghost use Rattle.std.specs.Prelude.{◌≡◌, None};
-ghost use Rattle.rh_descriptor.specs.Places.{IsShape};
+ghost use Rattle.rh_descriptor.specs.Parts.{IsShape};
 ghost use Rattle.rh_helping.specs.Goal.{OwesNothing};
 ghost use Rattle.rh_steps.specs.Relies.{Relies};
 ghost use Rattle.rh_helping.specs.Settling.{Grows, IsSettling, LeadsOn, kind_of_settling};

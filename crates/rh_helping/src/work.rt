@@ -1,7 +1,7 @@
 //! The work of one worker on descriptors, step by step.
 
 ghost use Rattle.std.specs.Prelude.{◌≡◌};
-ghost use Rattle.rh_descriptor.specs.Places.{IsShape};
+ghost use Rattle.rh_descriptor.specs.Parts.{IsShape};
 ghost use Rattle.rh_steps.specs.Relies.{Relies};
 ghost use Rattle.rh_helping.specs.Made.{HasMade};
 ghost use Rattle.rh_helping.specs.Goal.{KnowsOwn, opened_by};

@@ -9,7 +9,7 @@ use Rattle.rh_world.specs.Moves.{covers, release_noted}
 use Rattle.rh_world.proofs.Tests.{is_number_yes}
 use Rattle.rh_world.proofs.Updated.{ref_path, some_injective, some_not_none}
 use Rattle.rh_descriptor.specs.declared.shape.Shape.{Shape}
-use Rattle.rh_descriptor.specs.View.{OwnDesc, Raw, RawRow, View, Written}
+use Rattle.rh_descriptor.specs.View.{OwnDesc, Raw, RawRow, View, Written, own_ref}
 use Rattle.rh_descriptor.specs.Words.{number_of}
 use Rattle.rh_descriptor.specs.Steps.{CanOpen, KnowsValue, Step, entries_of, next_entries, noted, own_desc, size_in, with_side}
 use Rattle.rh_rule.specs.Mirrors.{numbers_of}
@@ -17,7 +17,7 @@ use Rattle.rh_rule.specs.Rest.{is_noted_success}
 use Rattle.rh_rule.proofs.OpensKept.{entries_current}
 use Rattle.rh_rule.proofs.Telling.{OneResult, in_noted, noted_no, noted_same, same_filtered}
 use Rattle.rh_acts.specs.Act.{Act}
-use Rattle.rh_history.specs.History.{act_of, is_current, is_finished, own_acts_of, own_ref}
+use Rattle.rh_history.specs.History.{act_of, is_current, is_finished, own_acts_of}
 use Rattle.rh_history.specs.OwnActs.{Orderly, StepFinishes, StepsFinish}
 use Rattle.rh_history.proofs.Learning.{KeepsCurrent, Learns, steps_grow, steps_learn}
 

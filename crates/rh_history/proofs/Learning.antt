@@ -11,7 +11,7 @@ use Rattle.rh_world.specs.Sides.{KeptRead, Side, close_side, is_number, note_sid
 use Rattle.rh_world.specs.Moves.{Entries, cell_noted, covers, note_entries, place_noted, placed_noted, release_noted, settle_noted}
 use Rattle.rh_descriptor.specs.declared.reference.Reading.TheVariants as reading
 use Rattle.rh_descriptor.specs.declared.shape.Shape.{Shape}
-use Rattle.rh_descriptor.specs.Places.{cell_count}
+use Rattle.rh_descriptor.specs.Parts.{cell_count}
 use Rattle.rh_descriptor.specs.View.{View}
 use Rattle.rh_descriptor.specs.Words.{cell_in, mark_number}
 use Rattle.rh_descriptor.specs.Steps.{Step, decided_word, entries_of, is_none, next_entries, noted, own_desc, own_mark, read_noted, size_in}

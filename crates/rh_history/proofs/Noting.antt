@@ -73,7 +73,7 @@ module _ (R : Side → Side → Type 0) (is : Follows R) where
       (all_notes v.side (rows_said v.raw_rows d)) (gone v.side d)
 
   pub a_reading : (v : View) (r : Reading) (word : ℕ) → R v.side (read_noted v r word)
-  a_reading v (reading.Place p) word = is.same v.side
+  a_reading v (reading.Word p) word = is.same v.side
   a_reading v (reading.Cell c) word = a_cell v.side c (cell_in word) v.side.current 0 v.next_number
   a_reading v (reading.Control d) word = a_control_word v.side (ref_of d) word
   a_reading v (reading.MarkControl x c d) word = a_mark_word v.side (ref_of x) c (ref_of d) word

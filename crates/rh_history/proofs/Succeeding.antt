@@ -10,7 +10,7 @@ use Rattle.rh_world.specs.Acts.{is_success, own_acts}
 use Rattle.rh_world.proofs.OwnList.{success_yes}
 use Rattle.rh_world.proofs.Updated.{ref_path, some_injective, some_not_none}
 use Rattle.rh_descriptor.specs.declared.shape.Shape.{Shape}
-use Rattle.rh_descriptor.specs.View.{OwnDesc, View}
+use Rattle.rh_descriptor.specs.View.{OwnDesc, View, own_ref}
 use Rattle.rh_descriptor.specs.Words.{without_entry}
 use Rattle.rh_rule.specs.Core.{Core}
 use Rattle.rh_rule.specs.Mirrors.{numbers_of}
@@ -20,7 +20,7 @@ use Rattle.rh_rule.proofs.Telling.{in_noted, noted_in, same_bool, same_filtered,
 use Rattle.rh_acts.specs.Act.{Act}
 use Rattle.rh_acts.specs.Workers.{own}
 use Rattle.rh_acts.proofs.ListLemmas.{one_more_own}
-use Rattle.rh_history.specs.History.{act_of, history, history_up_to, is_finished, made_by, own_acts_of, own_ref, succeeded_acts, world_act}
+use Rattle.rh_history.specs.History.{act_of, history, history_up_to, is_finished, made_by, own_acts_of, succeeded_acts, world_act}
 use Rattle.rh_history.specs.Laws.{OwnSoFar}
 use Rattle.rh_history.specs.OwnActs.{Orderly}
 use Rattle.rh_history.proofs.Finishing.{in_numbers, none_open, once_closed, open_no, while_open}

@@ -1,5 +1,5 @@
 -- The acts of a world, and what is kept of its workers, as acts on what cells hold. A plain word stands for what its cell
--- holds; here only the latter is spoken of. (own)
+-- holds; here only the latter is spoken of.
 use Rattle.std.specs.Prelude.{ℕ, ◌/◌, ◌^◌, ◌==◌, ◌&&◌, Option, Some, None, Bool, false, not, nat_lt, List, map, filter, reverse}
 use Rattle.std.specs.List.{range_with_len}
 use Rattle.rh_tagword.specs.declared.limits.TheConstants.{TAG_BITS}
@@ -7,8 +7,8 @@ use Rattle.rh_world.specs.World.{Ref, World}
 use Rattle.rh_world.specs.Acts.{cells_after, is_success}
 use Rattle.rh_layout.specs.declared.entry.Entry.{Entry}
 use Rattle.rh_descriptor.specs.declared.shape.Shape.{Shape}
-use Rattle.rh_descriptor.specs.Places.{cell_count}
-use Rattle.rh_descriptor.specs.View.{OwnDesc, View}
+use Rattle.rh_descriptor.specs.Parts.{cell_count}
+use Rattle.rh_descriptor.specs.View.{OwnDesc, View, own_ref}
 use Rattle.rh_rule.specs.Rest.{is_noted_success}
 use Rattle.rh_acts.specs.Act.{Act, entry}
 use Rattle.rh_acts.specs.Done.{Kept, kept}
@@ -57,9 +57,6 @@ logical_cells w z = cells_of z (cells_after w w.act_count)
 -- what the cells of the table held that it read
 abbrev pub kept_of : Shape → View → List Kept
 kept_of z v = map (λ r. kept r.cell (value_of r.word)) (filter (λ r. nat_lt r.cell (cell_count z)) v.side.reads)
-
-abbrev pub own_ref : View → (number : ℕ) → Ref
-own_ref v number = record { worker = v.worker; number = number }
 
 abbrev pub is_current : Option ℕ → (number : ℕ) → Bool
 is_current None number = false

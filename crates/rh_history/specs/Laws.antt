@@ -4,7 +4,7 @@ use Rattle.std.specs.List.{Contains}
 use Rattle.rh_tagword.specs.Word.{plain_number}
 use Rattle.rh_world.specs.World.{World, In}
 use Rattle.rh_descriptor.specs.declared.shape.Shape.{Shape}
-use Rattle.rh_descriptor.specs.Places.{cell_count}
+use Rattle.rh_descriptor.specs.Parts.{cell_count}
 use Rattle.rh_descriptor.specs.View.{OwnDesc, View}
 use Rattle.rh_descriptor.specs.Words.{IsPlain}
 use Rattle.rh_rule.specs.Core.{Core}

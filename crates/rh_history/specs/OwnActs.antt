@@ -1,5 +1,5 @@
 -- What a worker's steps make of the acts that it has finished, and of the reads that were kept. Here its own steps matter
--- alone: what is kept of a worker changes in no other. (own)
+-- alone: what is kept of a worker changes in no other.
 use Rattle.std.specs.Prelude.{ℕ, ◌≡◌, ◌<◌, ◌⊎◌, Some, None, List, [], ◌∷◌, ◌++◌, false}
 use Rattle.std.specs.List.{Contains}
 use Rattle.rh_world.specs.World.{Control, World, In, IsFalling}
@@ -9,8 +9,8 @@ use Rattle.rh_world.specs.Sides.{KeptRead}
 use Rattle.rh_world.specs.Acts.{is_success}
 use Rattle.rh_descriptor.specs.declared.reference.Reading.TheVariants as reading
 use Rattle.rh_descriptor.specs.declared.shape.Shape.{Shape}
-use Rattle.rh_descriptor.specs.Places.{cell_count}
-use Rattle.rh_descriptor.specs.View.{OwnDesc, View}
+use Rattle.rh_descriptor.specs.Parts.{cell_count}
+use Rattle.rh_descriptor.specs.View.{OwnDesc, View, own_ref}
 use Rattle.rh_descriptor.specs.Words.{IsPlain}
 use Rattle.rh_descriptor.specs.Steps.{Allowed, Step, noted}
 use Rattle.rh_descriptor.specs.Steps.Step.{reads}
@@ -18,7 +18,7 @@ use Rattle.rh_rule.specs.Mirrors.{numbers_of}
 use Rattle.rh_rule.specs.Core.{Core}
 use Rattle.rh_rule.specs.Sound.{Sound}
 use Rattle.rh_acts.specs.Done.{Kept, kept}
-use Rattle.rh_history.specs.History.{value_of, act_of, kept_of, own_acts_of, own_ref}
+use Rattle.rh_history.specs.History.{value_of, act_of, kept_of, own_acts_of}
 
 -- What is kept of a worker's descriptors is in order: their numbers fall, and lie below the next one. The open one is the
 -- newest, and each other one is noted as decided.

@@ -4,10 +4,10 @@ use Rattle.rh_world.specs.World.{Control, In, Ref}
 use Rattle.rh_world.specs.Notes.{Note}
 use Rattle.rh_world.specs.Notes.Note.{decided}
 use Rattle.rh_world.specs.Acts.{is_success}
-use Rattle.rh_descriptor.specs.View.{OwnDesc, View}
+use Rattle.rh_descriptor.specs.View.{OwnDesc, View, own_ref}
 use Rattle.rh_rule.specs.Rest.{is_noted_success, made}
 use Rattle.rh_rule.proofs.Telling.{OneResult, noted_same, same_filtered, success_noted}
-use Rattle.rh_helping.specs.Goal.{IsClear, own_ref}
+use Rattle.rh_helping.specs.Goal.{IsClear}
 use Rattle.rh_descriptor.specs.declared.shape.Shape.{Shape}
 use Rattle.rh_descriptor.specs.Steps.{with_side}
 use Rattle.rh_world.specs.Sides.{claim_side}

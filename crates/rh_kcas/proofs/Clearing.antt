@@ -6,7 +6,7 @@ use lib.ListN.{get_elem?}
 use Rattle.atomic_table.specs.Table.{Allows, Me}
 use Rattle.rh_descriptor.specs.declared.known.Known.{Known}
 use Rattle.rh_descriptor.specs.declared.shape.Shape.{Shape}
-use Rattle.rh_descriptor.specs.Places.{IsShape, cell_count}
+use Rattle.rh_descriptor.specs.Parts.{IsShape, cell_count}
 use Rattle.rh_descriptor.specs.View.{View, round_view}
 use Rattle.rh_rule.specs.Seats.{AreMade, Begun, Holds, InView, IsWiping, NoSlot, Spans, WipeSteps, all_views, known}
 use Rattle.rh_rule.specs.Wipes.{row_total, wiping_view}
@@ -61,8 +61,8 @@ module _ (z : Shape) (slots id : ℕ) (me : Me NoSlot (List Known)) (shape : IsS
 
   pub may_clear : (cells : List ℕ) (n i : ℕ) → n < row_total z → i ≡ cell_count z + n → InView (IsWiping cells n) vs
       → Allows {S = NoSlot} (Holds z) slots id me i (λ word. 0) (λ word m. m ≡ (all_views (with_cleared (n + 1)) vs, []))
-  may_clear cells n i inside place wiping =
-      subst (λ (j : ℕ). Allows {S = NoSlot} (Holds z) slots id me j (λ word. 0) (λ word m. m ≡ (all_views (with_cleared (n + 1)) vs, []))) (sym place)
+  may_clear cells n i inside index wiping =
+      subst (λ (j : ℕ). Allows {S = NoSlot} (Holds z) slots id me j (λ word. 0) (λ word m. m ≡ (all_views (with_cleared (n + 1)) vs, []))) (sym index)
       (of_me (cell_count z + n) (λ word. 0) (λ m. m ≡ (all_views (with_cleared (n + 1)) vs, []))
       (weaker z slots id (cell_count z + n) (vs, []) (λ word. 0) (λ m. m ≡ (all_views (wiping_view cells (n + 1)) vs, [])) (λ m. m ≡ (all_views (with_cleared (n + 1)) vs, []))
       (λ m is. is ∙ (λ j. (all_same (wiping_view cells (n + 1)) (with_cleared (n + 1)) vs (λ r s e. clears cells s.view (wiping r s e)) j, [])))

@@ -3,7 +3,7 @@ use Rattle.std.proofs.Common.{◌≡◌, ℕ, zero, suc, ◌+◌, ◌-◌, ◌<�
 use Rattle.rh_world.proofs.Updated.{some_not_none}
 use Rattle.rh_descriptor.specs.declared.known.Known.{Known}
 use Rattle.rh_descriptor.specs.declared.shape.Shape.{Shape}
-use Rattle.rh_descriptor.specs.Places.{word_count}
+use Rattle.rh_descriptor.specs.Parts.{word_count}
 use Rattle.rh_descriptor.specs.View.{View, round_view}
 use Rattle.rh_rule.specs.Seats.{InView, Spans, known}
 use Rattle.rh_rule.specs.Sound.{Sound}

@@ -3,7 +3,7 @@ use Rattle.std.proofs.Common.{◌≡◌, ◌≢◌, ℕ, zero, suc, ◌-◌, ◌
 use Rattle.rh_layout.specs.declared.entry.Entry.{Entry}
 use Rattle.rh_world.proofs.Updated.{same_nat}
 use Rattle.rh_descriptor.specs.declared.shape.Shape.{Shape}
-use Rattle.rh_descriptor.specs.Places.{cell_count}
+use Rattle.rh_descriptor.specs.Parts.{cell_count}
 use Rattle.rh_descriptor.specs.Steps.{AreEntries, entry_of, no_entry}
 use Rattle.rh_descriptor.specs.Words.{IsPlain}
 use Rattle.rh_kcas.specs.Fits.{Fits, IsBehind}
@@ -61,13 +61,4 @@ are_entries z es more fit = record {
   cells = λ e l. (fit e l).cell;
   olds = λ e l. (fit e l).old;
   news = λ e l. (fit e l).new;
-}
-
--- and each of those of a descriptor fits
-pub fit_of : (z : Shape) (es : List Entry) → AreEntries z es → (e : ℕ) → e < length es → Fits z es e
-fit_of z es h e l = record {
-  cell = h.cells e l;
-  old = h.olds e l;
-  new = h.news e l;
-  behind = λ before is. h.rising before e (omega (arith, is)) l;
 }

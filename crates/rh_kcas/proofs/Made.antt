@@ -9,7 +9,7 @@ use Rattle.rh_world.proofs.Updated.{same_nat}
 use Rattle.rh_tagword.specs.Word.{IsValue, is_plain, plain_number, tag_of}
 use Rattle.rh_descriptor.specs.declared.known.Known.{Known}
 use Rattle.rh_descriptor.specs.declared.shape.Shape.{Shape}
-use Rattle.rh_descriptor.specs.Places.{IsShape, cell_count, word_count}
+use Rattle.rh_descriptor.specs.Parts.{IsShape, cell_count, word_count}
 use Rattle.rh_descriptor.specs.View.{View, new_view}
 use Rattle.rh_descriptor.specs.Words.{IsPlain}
 use Rattle.rh_rule.specs.Rest.{AllRest}

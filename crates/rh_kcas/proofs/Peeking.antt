@@ -18,16 +18,6 @@ use Rattle.rh_rdcss.specs.Calls.{Learned}
 use Rattle.rh_kcas.specs.Rests.{IsRested}
 use Rattle.rh_kcas.proofs.Carried.{over_same}
 
-none_not_some : (d : Ref) → None ≡ Some d → ⊥
-none_not_some d is = cc
-
-said_desc : (o : Option Word) (n : ℕ) (d : Ref) → ref_said o ≡ Some d → cell_said o n ≡ desc d
-said_desc None n d is = absurd (none_not_some d is)
-said_desc (Some Empty) n d is = absurd (none_not_some d is)
-said_desc (Some (Key k)) n d is = absurd (none_not_some d is)
-said_desc (Some (Mark worker number)) n d is = absurd (none_not_some d is)
-said_desc (Some (Desc worker number)) n d is = let same : record { worker = worker; number = number } ≡ d = cc in ap desc same
-
 module _ (z : Shape) (v next : View) (c word : ℕ) (learned : Learned z (reads (reading.Cell c)) v word next) where
   grows : Grows v next
   grows = subst (Grows v) (sym learned.view_is) (cell_grows v c (cell_in word) v.side.current)
@@ -37,8 +27,3 @@ module _ (z : Shape) (v next : View) (c word : ℕ) (learned : Learned z (reads 
     clear = clear_grows v next grows rest.clear;
     over = over_same v next grows.worker grows.notes learned.knows.sound.one_result rest grows.opened;
   }
-
-  pub peek_known : (d : Ref) → desc_in word ≡ Some d → IsKnown next.side.notes d
-  peek_known d is =
-      let met : next ≡ noted_cell v c (desc d) v.side.current = learned.view_is ∙ ap (λ (k : Cell). noted_cell v c k v.side.current) (said_desc (word_in word) word d is) in
-      subst (λ (u : View). IsKnown u.side.notes d) (sym met) (inl (inl refl))

@@ -10,9 +10,8 @@ use Rattle.rh_world.specs.Notes.{Note}
 use Rattle.rh_world.specs.Notes.Note.{decided}
 use Rattle.rh_world.specs.Acts.{is_success}
 use Rattle.rh_descriptor.specs.declared.shape.Shape.{Shape}
-use Rattle.rh_descriptor.specs.View.{View}
+use Rattle.rh_descriptor.specs.View.{View, own_ref}
 use Rattle.rh_rule.specs.Rest.{made}
-use Rattle.rh_helping.specs.Goal.{own_ref}
 use Rattle.rh_helping.specs.Opening.{next_desc}
 use Rattle.rh_steps.specs.Relies.{Knows}
 use Rattle.rh_kcas.specs.Rests.{IsRested}

@@ -1,4 +1,4 @@
--- Seats of several workers. (own)
+-- Seats of several workers.
 use Rattle.std.specs.Prelude.{◌≡◌, ℕ, ◌+◌, ◌≤◌, None, List, [], ◌∷◌, ◌++◌, take, drop}
 use Rattle.rh_world.specs.Sides.{AtRest}
 use Rattle.rh_descriptor.specs.declared.known.Known.{Known}

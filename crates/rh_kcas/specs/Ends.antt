@@ -1,4 +1,4 @@
--- What a wipe and the close of a table leave, where all workers are at rest. (own)
+-- What a wipe and the close of a table leave, where all workers are at rest.
 use Rattle.std.specs.Prelude.{◌≡◌, ℕ, Option, Some, None, List, [], map}
 use Rattle.rh_tagword.specs.Word.{plain_number}
 use Rattle.rh_descriptor.specs.declared.known.Known.{Known}

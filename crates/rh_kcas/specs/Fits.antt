@@ -1,8 +1,8 @@
--- One entry of those that a descriptor may have. (own)
+-- One entry of those that a descriptor may have.
 use Rattle.std.specs.Prelude.{ℕ, suc, ◌<◌, ◌≡◌, List}
 use Rattle.rh_layout.specs.declared.entry.Entry.{Entry}
 use Rattle.rh_descriptor.specs.declared.shape.Shape.{Shape}
-use Rattle.rh_descriptor.specs.Places.{cell_count}
+use Rattle.rh_descriptor.specs.Parts.{cell_count}
 use Rattle.rh_descriptor.specs.Steps.{entry_of}
 use Rattle.rh_descriptor.specs.Words.{IsPlain}
 

@@ -1,8 +1,8 @@
--- A seat of one worker that rests at its table. (own)
+-- A seat of one worker that rests at its table.
 use Rattle.rh_world.specs.World.{Control, In}
 use Rattle.rh_world.specs.Notes.Note.{decided}
-use Rattle.rh_descriptor.specs.View.{OwnDesc, View}
-use Rattle.rh_helping.specs.Goal.{IsClear, own_ref}
+use Rattle.rh_descriptor.specs.View.{OwnDesc, View, own_ref}
+use Rattle.rh_helping.specs.Goal.{IsClear}
 use Rattle.rh_rdcss.specs.Calls.{IsHere, view_of}
 use Rattle.rh_rdcss.specs.declared.seat.Seat.{Seat}
 use Rattle.rh_rdcss.specs.declared.table.Table.{Table}

@@ -1,4 +1,4 @@
--- What the calls of a worker make of what is kept of it. (own)
+-- What the calls of a worker make of what is kept of it.
 use Rattle.std.specs.Prelude.{◌≡◌, ℕ, ◌<◌, ◌≤◌, ◌⊎◌, Option, Some, None, Bool, true, List, ◌∷◌}
 use Rattle.rh_layout.specs.declared.entry.Entry.{Entry}
 use Rattle.rh_tagword.specs.Control.{is_decided}
@@ -7,13 +7,13 @@ use Rattle.rh_world.specs.World.{In, Ref, Control as Result}
 use Rattle.rh_world.specs.Notes.{Note}
 use Rattle.rh_world.specs.Notes.Note.{decided, over}
 use Rattle.rh_descriptor.specs.declared.shape.Shape.{Shape}
-use Rattle.rh_descriptor.specs.View.{OwnDesc, View}
+use Rattle.rh_descriptor.specs.View.{OwnDesc, View, own_ref}
 use Rattle.rh_descriptor.specs.Steps.{Step, noted}
 use Rattle.rh_descriptor.specs.Words.{IsPlain}
 use Rattle.rh_rule.specs.Rest.{made}
 use Rattle.rh_helping.specs.declared.work.Ended.{Ended}
 use Rattle.rh_helping.specs.declared.work.Ended.TheVariants as ended
-use Rattle.rh_helping.specs.Goal.{IsClear, KnowsOwn, OwesNothing, StandsAt, own_ref}
+use Rattle.rh_helping.specs.Goal.{IsClear, KnowsOwn, OwesNothing, StandsAt}
 use Rattle.rh_helping.specs.Opening.{next_desc}
 use Rattle.rh_helping.specs.Work.{HasEnded}
 use Rattle.rh_kcas.specs.declared.swapping.Outcome.{Outcome}
@@ -99,12 +99,12 @@ pub record HasRead (z : Shape) (c : ℕ) (v next : View) (seen : Option ℕ) : T
   pub opened : next.opened ≡ v.opened
   pub claims : next.side.claims ≡ v.side.claims
 
--- One Claim was made; it found a place of the list, or its end.
-abbrev pub IsClaimed : Shape → (place : ℕ) → Option ℕ → Type 0
+-- One Claim was made; it found a position of the list, or its end.
+abbrev pub IsClaimed : Shape → (position : ℕ) → Option ℕ → Type 0
 IsClaimed z n None = z.keys ≤ n
 IsClaimed z n (Some p) = (n < z.keys) × (p ≡ n)
 
 pub record Claims (z : Shape) (v next : View) (claimed : Option ℕ) : Type 0 where
-  pub place : ℕ
-  pub view_is : next ≡ noted z v Step.claims place
-  pub is : IsClaimed z place claimed
+  pub position : ℕ
+  pub view_is : next ≡ noted z v Step.claims position
+  pub is : IsClaimed z position claimed

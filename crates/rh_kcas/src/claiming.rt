@@ -10,7 +10,7 @@ use rh_descriptor::Ask;
 use rh_rdcss::{OnTable, Seat, Table};
 use rh_steps::Steps;
 
-/// The next place of the list, or none at its end.
+/// The next position of the list, or none at its end.
 pub fn claim(table: &Table, seat: &mut Seat) -> Option<u64>
     requires rests { Rests table.now seat.old }
     requires keys { (n : ℕ) → In n (view_of seat.old).side.claims → n < table.now.shape.keys }
@@ -22,9 +22,9 @@ pub fn claim(table: &Table, seat: &mut Seat) -> Option<u64>
         table,
         seat: &mut seat.inner,
     };
-    let place = here.make(&table.shape, &mut seat.side, Ask::Claim);
-    if place < table.shape.keys {
-        Some(place)
+    let position = here.make(&table.shape, &mut seat.side, Ask::Claim);
+    if position < table.shape.keys {
+        Some(position)
     } else {
         None
     }

@@ -1,7 +1,7 @@
 //! How a table is made, and what it leaves.
 
 ghost use Rattle.std.specs.Prelude.{◌≡◌, ◌<◌, IfOk, ℕ, length, map, slice_index};
-ghost use Rattle.rh_descriptor.specs.Places.{IsShape, cell_count};
+ghost use Rattle.rh_descriptor.specs.Parts.{IsShape, cell_count};
 ghost use Rattle.rh_kcas.specs.Crews.{HasAll, IsFresh, IsQuiet, views_of};
 ghost use Rattle.rh_kcas.specs.Ends.{Leaves};
 ghost use Rattle.rh_kcas.specs.Rests.{Rests};

@@ -1,7 +1,7 @@
 //! Entries of values, and whether a descriptor may have them.
 
 ghost use Rattle.std.specs.Prelude.{◌≡◌, ◌<◌, ◌↔◌, IsTrue, length};
-ghost use Rattle.rh_descriptor.specs.Places.{IsShape};
+ghost use Rattle.rh_descriptor.specs.Parts.{IsShape};
 ghost use Rattle.rh_descriptor.specs.Steps.{AreEntries};
 ghost use Rattle.rh_descriptor.specs.Words.{IsPlain};
 ghost use Rattle.rh_kcas.specs.Fits.{Fits, IsBehind};

@@ -1,7 +1,7 @@
 //! Reading a cell.
 
 ghost use Rattle.std.specs.Prelude.{◌≡◌, ◌<◌};
-ghost use Rattle.rh_descriptor.specs.Places.{IsShape, cell_count};
+ghost use Rattle.rh_descriptor.specs.Parts.{IsShape, cell_count};
 ghost use Rattle.rh_helping.specs.Goal.{IsClear};
 ghost use Rattle.rh_kcas.specs.Rests.{Rests};
 ghost use Rattle.rh_kcas.specs.Swaps.{HasRead};

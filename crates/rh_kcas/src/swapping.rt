@@ -1,7 +1,7 @@
 //! An own K-CAS: its descriptor is opened, and carried out.
 
 ghost use Rattle.std.specs.Prelude.{◌≡◌, Some};
-ghost use Rattle.rh_descriptor.specs.Places.{IsShape};
+ghost use Rattle.rh_descriptor.specs.Parts.{IsShape};
 ghost use Rattle.rh_descriptor.specs.Steps.{AreEntries};
 ghost use Rattle.rh_helping.specs.Goal.{KnowsOwn, OwesNothing, opened_by};
 ghost use Rattle.rh_helping.specs.Opening.{MayOpen, next_desc};

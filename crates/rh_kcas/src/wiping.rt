@@ -2,7 +2,7 @@
 
 ghost use Rattle.std.specs.Prelude.{◌≡◌, ◌+◌, ◌<◌, [], ℕ, List};
 ghost use Rattle.atomic_table.specs.Table.{Allows};
-ghost use Rattle.rh_descriptor.specs.Places.{word_count};
+ghost use Rattle.rh_descriptor.specs.Parts.{word_count};
 ghost use Rattle.rh_kcas.specs.Crews.{HasAll, IsFresh, IsQuiet, views_of};
 ghost use Rattle.rh_kcas.specs.Ends.{IsWiped, renewed, with_cleared};
 ghost use Rattle.rh_kcas.specs.Rests.{Rests};

@@ -1,4 +1,4 @@
--- A worker that has met another one's descriptor, and knows that it has an entry. (own)
+-- A worker that has met another one's descriptor, and knows that it has an entry.
 use Rattle.std.specs.Prelude.{◌≡◌}
 use Rattle.rh_tagword.specs.declared.control.State.TheVariants.{Undecided}
 use Rattle.rh_descriptor.specs.declared.reference.Ref.{Ref}

@@ -1,4 +1,4 @@
--- A worker that has nothing open, and one whose own descriptor is open; neither owes anything. (own)
+-- A worker that has nothing open, and one whose own descriptor is open; neither owes anything.
 use Rattle.std.specs.Prelude.{ℕ, Some, List}
 use Rattle.rh_layout.specs.declared.entry.Entry.{Entry}
 use Rattle.rh_helping.specs.Goal.{IsClear, KnowsOwn, OwesNothing}

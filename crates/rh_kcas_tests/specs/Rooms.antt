@@ -1,4 +1,4 @@
--- Rooms that a table may give its workers. (own)
+-- Rooms that a table may give its workers.
 use Rattle.std.specs.Prelude.{◌≤◌}
 use Rattle.rh_descriptor.specs.declared.limits.TheConstants.{MAX_ROOM}
 use Rattle.rh_descriptor.specs.declared.shape.Rooms.{Rooms}

@@ -1,7 +1,7 @@
 //! A descriptor that another worker meets, and whose own worker then goes on to its next one.
 
 ghost use Rattle.std.specs.Prelude.{IfSome, None};
-ghost use Rattle.rh_descriptor.specs.Places.{IsShape};
+ghost use Rattle.rh_descriptor.specs.Parts.{IsShape};
 ghost use Rattle.rh_descriptor.specs.Steps.{IsKnown};
 ghost use Rattle.rh_descriptor.specs.Words.{ref_of};
 ghost use Rattle.rh_helping.specs.Goal.{IsClear};

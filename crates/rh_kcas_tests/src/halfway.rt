@@ -2,7 +2,7 @@
 //! decision is left.
 
 ghost use Rattle.std.specs.Prelude.{◌≡◌, ◌<◌, IsTrue, IfSome, Some};
-ghost use Rattle.rh_descriptor.specs.Places.{IsShape};
+ghost use Rattle.rh_descriptor.specs.Parts.{IsShape};
 ghost use Rattle.rh_descriptor.specs.Steps.{AreEntries};
 ghost use Rattle.rh_helping.specs.Goal.{KnowsOwn, OwesNothing, opened_by};
 ghost use Rattle.rh_kcas_tests.specs.Halfway.{IsFree, IsHalfway};

@@ -1,7 +1,7 @@
 //! Tables of 8 cells, and the calls on them as the tests make them.
 
 ghost use Rattle.std.specs.Prelude.{◌≡◌, ◌<◌, ◌≤◌, ℕ, [], IfOk, IfSome, IsTrue, length, slice_index};
-ghost use Rattle.rh_descriptor.specs.Places.{IsShape, cell_count};
+ghost use Rattle.rh_descriptor.specs.Parts.{IsShape, cell_count};
 ghost use Rattle.rh_kcas.specs.Rests.{Rests};
 ghost use Rattle.rh_kcas_tests.specs.Rooms.{AreRooms};
 ghost use Rattle.rh_rdcss.specs.Calls.{IsHere, IsSame, view_of};

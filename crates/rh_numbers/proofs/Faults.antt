@@ -7,11 +7,11 @@ use Rattle.rh_layout.specs.declared.limits.TheConstants.{MAX_KEY}
 use Rattle.rh_files.specs.declared.parts.TheConstants.{MAX_KEYS}
 use Rattle.rh_numbers.specs.declared.fault.TextFault.{TextFault}
 use Rattle.rh_numbers.specs.declared.fault.TextFault.TheVariants.{NotAKey, OutOfRange, TooMany}
-use Rattle.rh_numbers.specs.declared.place.Place.{Place}
-use Rattle.rh_numbers.specs.declared.place.Place.TheVariants.{Start, Blank, Comment, Number, After, Return, Other}
+use Rattle.rh_numbers.specs.declared.line_so_far.LineSoFar.{LineSoFar}
+use Rattle.rh_numbers.specs.declared.line_so_far.LineSoFar.TheVariants.{Start, Blank, Comment, Number, After, Return, Other}
 use Rattle.rh_numbers.specs.Grammar.{AreWholeLines, ComesTo, EndsLine, Says, blank, comment, none, number, one_more}
 use Rattle.rh_numbers.specs.Reading.{◌>>=◌, keys_from, text_keys, with_key, with_line}
-use Rattle.rh_numbers.proofs.Places.{Means, capped, means_after, no_spaces}
+use Rattle.rh_numbers.proofs.SoFar.{Means, capped, means_after, no_spaces}
 use Rattle.rh_numbers.proofs.Meaning.{says_number}
 use Rattle.rh_numbers.proofs.Spelling.{All-parts, after, at_end, at_feed, front_few, line_said, number_at, walk}
 
@@ -29,9 +29,9 @@ past_lines keys at front numbers count rest (one_more line said text others befo
     ∙ past_lines (keys ++ said) (at + 1) text others before rest lines (subst (λ l. length l ≤ MAX_KEYS) (sym (append_assoc keys said others)) few) fits.1
     ∙ ap (λ k. keys_from k (at + 1 + before) Start rest) (append_assoc keys said others) ∙ ap (λ n. keys_from (keys ++ (said ++ others)) n Start rest) next_at
 
-line_stops : (keys : List ℕ) (at : ℕ) (place : Place) (rest : List ℕ) (e : TextFault) → EndsLine rest → with_line keys at place ≡ Err e → keys_from keys at place rest ≡ Err e
-line_stops keys at place rest e (inl end) h = ap (keys_from keys at place) end ∙ at_end keys at place ∙ h
-line_stops keys at place rest e (inr feed) h = ap (keys_from keys at place) feed.1 ∙ at_feed keys at place feed.0 ∙ ap (λ r. r >>= (λ later. keys_from later (at + 1) Start feed.0)) h
+line_stops : (keys : List ℕ) (at : ℕ) (so_far : LineSoFar) (rest : List ℕ) (e : TextFault) → EndsLine rest → with_line keys at so_far ≡ Err e → keys_from keys at so_far rest ≡ Err e
+line_stops keys at so_far rest e (inl end) h = ap (keys_from keys at so_far) end ∙ at_end keys at so_far ∙ h
+line_stops keys at so_far rest e (inr feed) h = ap (keys_from keys at so_far) feed.1 ∙ at_feed keys at so_far feed.0 ∙ ap (λ r. r >>= (λ later. keys_from later (at + 1) Start feed.0)) h
 
 text_stops : (text keys : List ℕ) (at : ℕ) (line : List ℕ) (e : TextFault) → ComesTo text keys at line → with_line keys at (after Start line) ≡ Err e → text_keys text ≡ Err e
 text_stops text keys at line e to h =
@@ -40,7 +40,7 @@ text_stops text keys at line e to h =
     ∙ line_stops keys at (after Start line) to.rest e to.ends h
 
 -- a line that says nothing the grammar knows
-no_key : (keys : List ℕ) (at : ℕ) (place : Place) (line : List ℕ) → Means place line → ((numbers : List ℕ) → Says line numbers → ⊥) → with_line keys at place ≡ Err (NotAKey at)
+no_key : (keys : List ℕ) (at : ℕ) (so_far : LineSoFar) (line : List ℕ) → Means so_far line → ((numbers : List ℕ) → Says line numbers → ⊥) → with_line keys at so_far ≡ Err (NotAKey at)
 no_key keys at Start line told not = absurd (not [] (subst (λ l. Says l []) (sym told) (blank [] [] tt (inl refl))))
 no_key keys at Blank line told not = absurd (not [] (subst (λ l. Says l []) (append-nil line) (blank line [] told (inl refl))))
 no_key keys at Comment line told not = absurd (not [] (subst (λ l. Says l []) (sym told.1) (comment told.0)))

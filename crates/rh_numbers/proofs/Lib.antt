@@ -1,6 +1,6 @@
 pub mod Lines
 pub mod Parts
-pub mod Places
+pub mod SoFar
 pub mod Meaning
 pub mod Spelling
 pub mod Faults

@@ -8,11 +8,11 @@ use Rattle.rh_layout.specs.Key.{IsKey}
 use Rattle.rh_layout.specs.declared.limits.TheConstants.{MAX_KEY}
 use Rattle.rh_files.specs.declared.parts.TheConstants.{MAX_KEYS}
 use Rattle.rh_numbers.specs.declared.fault.TextFault.{TextFault}
-use Rattle.rh_numbers.specs.declared.place.Place.{Place}
-use Rattle.rh_numbers.specs.declared.place.Place.TheVariants.{Start, Blank, Comment, Number, After, Return, Other}
+use Rattle.rh_numbers.specs.declared.line_so_far.LineSoFar.{LineSoFar}
+use Rattle.rh_numbers.specs.declared.line_so_far.LineSoFar.TheVariants.{Start, Blank, Comment, Number, After, Return, Other}
 use Rattle.rh_numbers.specs.Grammar.{AreLines, IsKeyText, IsOneLine, IsReturn, Says, blank, comment, last, more, number}
 use Rattle.rh_numbers.specs.Reading.{◌>>=◌, IsReadFrom, Reads, keys_from, next, text_keys, with_key, with_line}
-use Rattle.rh_numbers.proofs.Places.{Means, Numeral, capped, means_next, no_spaces}
+use Rattle.rh_numbers.proofs.SoFar.{Means, Numeral, capped, means_next, no_spaces}
 
 -- what a line or a text gave: these keys, after those before
 record Gave (Spells : List ℕ → Type 0) (keys all : List ℕ) : Type 0 where
@@ -64,7 +64,7 @@ a_number keys at n line all says h =
     let t = taken keys at n all h in
     record { given = n ∷ []; spells = says t.0; whole = t.2; fit = All-cons IsKey n [] t.0 (All-nil IsKey); few = λ few. subst (λ l. length l ≤ MAX_KEYS) (sym t.2) (omega (arith, length-append keys (n ∷ []), t.1)) }
 
-ended : (keys : List ℕ) (at : ℕ) (place : Place) (line all : List ℕ) → Means place line → with_line keys at place ≡ Ok all → Gave (Says line) keys all
+ended : (keys : List ℕ) (at : ℕ) (so_far : LineSoFar) (line all : List ℕ) → Means so_far line → with_line keys at so_far ≡ Ok all → Gave (Says line) keys all
 ended keys at Start line all told h = nothing line keys all (subst (λ l. Says l []) (sym told) (blank [] [] tt (inl refl))) h
 ended keys at Blank line all told h = nothing line keys all (subst (λ l. Says l []) (append-nil line) (blank line [] told (inl refl))) h
 ended keys at Comment line all told h = nothing line keys all (subst (λ l. Says l []) (sym told.1) (comment told.0)) h
@@ -82,18 +82,18 @@ one_line_push : (line : List ℕ) (b : ℕ) → IsOneLine line → b ≢ 10 → 
 one_line_push [] b one not = (not, tt)
 one_line_push (x ∷ line) b one not = (one.0, one_line_push line b one.1 not)
 
--- the lines from this place on, with what stands before it in its line
-lines_read : (keys : List ℕ) (at : ℕ) (place : Place) (line bytes all : List ℕ) → IsOneLine line → Means place line → keys_from keys at place bytes ≡ Ok all
+-- the lines from here on, with what stands before in the first one
+lines_read : (keys : List ℕ) (at : ℕ) (so_far : LineSoFar) (line bytes all : List ℕ) → IsOneLine line → Means so_far line → keys_from keys at so_far bytes ≡ Ok all
     → Gave (AreLines (line ++ bytes)) keys all
 unfolding keys_from
-lines_read keys at place line [] all one told h =
-    let g = ended keys at place line all told h in
+lines_read keys at so_far line [] all one told h =
+    let g = ended keys at so_far line all told h in
     record { given = g.given; spells = subst (λ l. AreLines l g.given) (sym (append-nil line)) (last line g.given one g.spells); whole = g.whole; fit = g.fit; few = g.few }
-lines_read keys at place line (b ∷ bytes) all one told h =
+lines_read keys at so_far line (b ∷ bytes) all one told h =
     elim (cases_Bool (nat_eq b 10)) [
       | inl t ↦
-          let s = then_ok (with_line keys at place) (λ later. keys_from later (at + 1) Start bytes) all (rw t at h) in
-          let g = ended keys at place line s.0 told s.1 in
+          let s = then_ok (with_line keys at so_far) (λ later. keys_from later (at + 1) Start bytes) all (rw t at h) in
+          let g = ended keys at so_far line s.0 told s.1 in
           let k = lines_read s.0 (at + 1) Start [] bytes all tt refl s.2 in
           record {
             given = g.given ++ k.given;
@@ -103,7 +103,7 @@ lines_read keys at place line (b ∷ bytes) all one told h =
             few = λ few. k.few (g.few few);
           }
       | inr f ↦
-          let k = lines_read keys at (next place b) (line ++ (b ∷ [])) bytes all (one_line_push line b one (eqb-false b 10 f)) (means_next place line b told) (rw f at h) in
+          let k = lines_read keys at (next so_far b) (line ++ (b ∷ [])) bytes all (one_line_push line b one (eqb-false b 10 f)) (means_next so_far line b told) (rw f at h) in
           record { given = k.given; spells = subst (λ l. AreLines l k.given) (append_assoc line (b ∷ []) bytes) k.spells; whole = k.whole; fit = k.fit; few = k.few }
     ]
 

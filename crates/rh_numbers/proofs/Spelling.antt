@@ -12,16 +12,16 @@ use Rattle.rh_layout.specs.Key.{IsKey}
 use Rattle.rh_layout.specs.declared.limits.TheConstants.{MAX_KEY}
 use Rattle.rh_files.specs.declared.parts.TheConstants.{MAX_KEYS}
 use Rattle.rh_numbers.specs.declared.fault.TextFault.{TextFault}
-use Rattle.rh_numbers.specs.declared.place.Place.{Place}
-use Rattle.rh_numbers.specs.declared.place.Place.TheVariants.{Start, Blank, Comment, Number, After}
+use Rattle.rh_numbers.specs.declared.line_so_far.LineSoFar.{LineSoFar}
+use Rattle.rh_numbers.specs.declared.line_so_far.LineSoFar.TheVariants.{Start, Blank, Comment, Number, After}
 use Rattle.rh_numbers.specs.Grammar.{AreLines, AreSpaces, IsKeyText, IsOneLine, IsReturn, Says, blank, comment, last, more, number}
 use Rattle.rh_numbers.specs.Reading.{◌>>=◌, first, keys_from, next, text_keys, with_key, with_line}
 use Rattle.rh_numbers.specs.Writing.{text_of}
-use Rattle.rh_numbers.proofs.Places.{capped, grown_capped}
+use Rattle.rh_numbers.proofs.SoFar.{capped, grown_capped}
 
--- the place after these bytes
-abbrev pub after : Place → List ℕ → Place
-after place line = fold next place line
+-- what a line has said after these bytes
+abbrev pub after : LineSoFar → List ℕ → LineSoFar
+after so_far line = fold next so_far line
 
 -- ---- the parts of a line
 
@@ -29,26 +29,26 @@ after_comment : (line : List ℕ) → after Comment line ≡ Comment
 after_comment [] = refl
 after_comment (b ∷ line) = after_comment line
 
-next_space : (place : Place) (b : ℕ) → b ≡ 32 → next place b ≡ next place 32
-next_space place b is = ap (next place) is
+next_space : (so_far : LineSoFar) (b : ℕ) → b ≡ 32 → next so_far b ≡ next so_far 32
+next_space so_far b is = ap (next so_far) is
 
--- what holds of a place after spaces
-after_blank : (P : Place → Type 0) (spaces : List ℕ) → AreSpaces spaces → P Blank → P (after Blank spaces)
+-- what holds after spaces
+after_blank : (P : LineSoFar → Type 0) (spaces : List ℕ) → AreSpaces spaces → P Blank → P (after Blank spaces)
 after_blank P [] are later = later
 after_blank P (b ∷ spaces) are later =
     subst (λ p. P (after p spaces)) (sym (next_space Blank b are.0)) (after_blank P spaces are.1 later)
 
-after_start : (P : Place → Type 0) (spaces : List ℕ) → AreSpaces spaces → P Start → P Blank → P (after Start spaces)
+after_start : (P : LineSoFar → Type 0) (spaces : List ℕ) → AreSpaces spaces → P Start → P Blank → P (after Start spaces)
 after_start P [] are now later = now
 after_start P (b ∷ spaces) are now later =
     subst (λ p. P (after p spaces)) (sym (next_space Start b are.0)) (after_blank P spaces are.1 later)
 
-after_after : (P : Place → Type 0) (n : ℕ) (spaces : List ℕ) → AreSpaces spaces → P (After n) → P (after (After n) spaces)
+after_after : (P : LineSoFar → Type 0) (n : ℕ) (spaces : List ℕ) → AreSpaces spaces → P (After n) → P (after (After n) spaces)
 after_after P n [] are now = now
 after_after P n (b ∷ spaces) are now =
     subst (λ p. P (after p spaces)) (sym (next_space (After n) b are.0)) (after_after P n spaces are.1 now)
 
-after_number : (P : Place → Type 0) (n : ℕ) (spaces : List ℕ) → AreSpaces spaces → P (Number n) → P (After n) → P (after (Number n) spaces)
+after_number : (P : LineSoFar → Type 0) (n : ℕ) (spaces : List ℕ) → AreSpaces spaces → P (Number n) → P (After n) → P (after (Number n) spaces)
 after_number P n [] are now later = now
 after_number P n (b ∷ spaces) are now later =
     subst (λ p. P (after p spaces)) (sym (next_space (Number n) b are.0)) (after_after P n spaces are.1 later)
@@ -71,9 +71,9 @@ after_digits v (b ∷ digits) all =
     ap (λ p. after p digits) (next_number v b all.0) ∙ after_digits (v * 10 + digit_value b) digits all.1
 
 -- the digits of a number, after spaces or not
-after_numeral : (place : Place) (digits : List ℕ) → IsNumeral 10 digits → ((b : ℕ) → digit_value b < 10 → next place b ≡ first b) → after place digits ≡ Number (capped (digits_value 10 digits))
-after_numeral place [] is begins = absurd (omega (arith, is.0))
-after_numeral place (b ∷ digits) is begins =
+after_numeral : (so_far : LineSoFar) (digits : List ℕ) → IsNumeral 10 digits → ((b : ℕ) → digit_value b < 10 → next so_far b ≡ first b) → after so_far digits ≡ Number (capped (digits_value 10 digits))
+after_numeral so_far [] is begins = absurd (omega (arith, is.0))
+after_numeral so_far (b ∷ digits) is begins =
     ap (λ p. after p digits) (begins b is.1.0 ∙ next_first b is.1.0) ∙ after_digits (0 * 10 + digit_value b) digits is.1.1
 
 -- ---- a line
@@ -119,18 +119,18 @@ line_said keys at line numbers (number before digits spaces return are is ends_s
 
 -- ---- a text
 
-pub walk : (keys : List ℕ) (at : ℕ) (place : Place) (line rest : List ℕ) → IsOneLine line → keys_from keys at place (line ++ rest) ≡ keys_from keys at (after place line) rest
+pub walk : (keys : List ℕ) (at : ℕ) (so_far : LineSoFar) (line rest : List ℕ) → IsOneLine line → keys_from keys at so_far (line ++ rest) ≡ keys_from keys at (after so_far line) rest
 unfolding keys_from
-walk keys at place [] rest one = refl
-walk keys at place (b ∷ line) rest one = rw (ne_eqb b 10 one.0) (walk keys at (next place b) line rest one.1)
+walk keys at so_far [] rest one = refl
+walk keys at so_far (b ∷ line) rest one = rw (ne_eqb b 10 one.0) (walk keys at (next so_far b) line rest one.1)
 
-pub at_feed : (keys : List ℕ) (at : ℕ) (place : Place) (rest : List ℕ) → keys_from keys at place (10 ∷ rest) ≡ (with_line keys at place >>= (λ later. keys_from later (at + 1) Start rest))
+pub at_feed : (keys : List ℕ) (at : ℕ) (so_far : LineSoFar) (rest : List ℕ) → keys_from keys at so_far (10 ∷ rest) ≡ (with_line keys at so_far >>= (λ later. keys_from later (at + 1) Start rest))
 unfolding keys_from
-at_feed keys at place rest = refl
+at_feed keys at so_far rest = refl
 
-pub at_end : (keys : List ℕ) (at : ℕ) (place : Place) → keys_from keys at place [] ≡ with_line keys at place
+pub at_end : (keys : List ℕ) (at : ℕ) (so_far : LineSoFar) → keys_from keys at so_far [] ≡ with_line keys at so_far
 unfolding keys_from
-at_end keys at place = refl
+at_end keys at so_far = refl
 
 pub front_few : (keys some others : List ℕ) → length (keys ++ (some ++ others)) ≤ MAX_KEYS → length (keys ++ some) ≤ MAX_KEYS
 front_few keys some others few =

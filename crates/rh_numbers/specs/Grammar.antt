@@ -1,4 +1,4 @@
--- The grammar of texts of numbers (this project's own): which bytes are one, and of which numbers.
+-- The grammar of texts of numbers: which bytes are one, and of which numbers.
 use Rattle.std.specs.Prelude.{◌≡◌, ◌≢◌, ◌⊎◌, ◌≤◌, ◌+◌, ℕ, suc, List, [], ◌∷◌, ◌++◌, length, All, codes}
 use Rattle.std.specs.Str.Parse.{IsNumeral, digits_value}
 use Rattle.rh_layout.specs.Key.{IsKey}

@@ -6,8 +6,8 @@ use Rattle.rh_files.specs.declared.parts.TheConstants.{MAX_KEYS}
 use Rattle.rh_numbers.specs.declared.fault.TextFault.{TextFault}
 use Rattle.rh_numbers.specs.declared.fault.TextFault.TheVariants as faults
 use Rattle.rh_numbers.specs.declared.fault.TextFault.TheVariants.{NotAKey, OutOfRange, TooMany, TooLong}
-use Rattle.rh_numbers.specs.declared.place.Place.{Place}
-use Rattle.rh_numbers.specs.declared.place.Place.TheVariants.{Start, Blank, Comment, Number, After, Return, Other}
+use Rattle.rh_numbers.specs.declared.line_so_far.LineSoFar.{LineSoFar}
+use Rattle.rh_numbers.specs.declared.line_so_far.LineSoFar.TheVariants.{Start, Blank, Comment, Number, After, Return, Other}
 use Rattle.rh_numbers.specs.declared.limits.TheConstants.{MAX_BYTES}
 use Rattle.rh_numbers.specs.Grammar.{IsKeyText}
 
@@ -18,15 +18,15 @@ abbrev pub grown : ℕ → ℕ → ℕ
 grown n b = min (n * 10 + (b - 48)) (MAX_KEY + 1)
 
 -- after a byte that is no digit, where the line has said this so far
-abbrev pub past : (blank : Place) → Option ℕ → ℕ → Place
+abbrev pub past : (blank : LineSoFar) → Option ℕ → ℕ → LineSoFar
 past blank said b = if b == 32 then blank else if b == 13 then Return said else Other
 
 -- after a byte with only spaces before it
-abbrev pub first : ℕ → Place
+abbrev pub first : ℕ → LineSoFar
 first b = if is_ascii_digit b then Number (grown 0 b) else past Blank None b
 
--- the place in a line after its next byte
-abbrev pub next : Place → ℕ → Place
+-- what a line has said after its next byte
+abbrev pub next : LineSoFar → ℕ → LineSoFar
 next Start b = if b == 35 then Comment else first b
 next Blank b = first b
 next Comment b = Comment
@@ -43,7 +43,7 @@ with_key keys line n =
     else Ok (keys ++ n ∷ [])
 
 -- the keys, and what this line said, which ends here
-abbrev pub with_line : (keys : List ℕ) (line : ℕ) → Place → Result (List ℕ) TextFault
+abbrev pub with_line : (keys : List ℕ) (line : ℕ) → LineSoFar → Result (List ℕ) TextFault
 with_line keys line (Number n) = with_key keys line n
 with_line keys line (After n) = with_key keys line n
 with_line keys line (Return (Some n)) = with_key keys line n
@@ -58,12 +58,12 @@ abbrev pub ◌>>=◌ : {A B : Type 0} → Result A TextFault → (A → Result B
 (Ok x) >>= f = f x
 (Err e) >>= f = Err e
 
--- what there is to read after these keys, from this place in this line on
-unfoldable pub keys_from : (keys : List ℕ) (line : ℕ) → Place → List ℕ → Result (List ℕ) TextFault
-keys_from keys line place [] = with_line keys line place
-keys_from keys line place (b ∷ bytes) =
-    if b == 10 then with_line keys line place >>= (λ more. keys_from more (line + 1) Start bytes)
-    else keys_from keys line (next place b) bytes
+-- what there is to read after these keys, where this line has said so much so far
+unfoldable pub keys_from : (keys : List ℕ) (line : ℕ) → LineSoFar → List ℕ → Result (List ℕ) TextFault
+keys_from keys line so_far [] = with_line keys line so_far
+keys_from keys line so_far (b ∷ bytes) =
+    if b == 10 then with_line keys line so_far >>= (λ more. keys_from more (line + 1) Start bytes)
+    else keys_from keys line (next so_far b) bytes
 
 -- What was to be read stops at this fault. Want of memory says nothing of it, and the bytes alone give no other.
 abbrev pub Stops : TextFault → Result (List ℕ) TextFault → Type 0

@@ -4,7 +4,7 @@
 mod fault;
 mod laws;
 mod limits;
-mod place;
+mod line_so_far;
 mod reading;
 mod text;
 mod writing;

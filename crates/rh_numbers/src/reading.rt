@@ -7,7 +7,7 @@ ghost use Rattle.rh_files.specs.declared.parts.TheConstants.{MAX_KEYS};
 ghost use Rattle.rh_numbers.specs.Reading.{Stops, keys_from, with_key, with_line};
 
 use crate::fault::TextFault;
-use crate::place::Place;
+use crate::line_so_far::LineSoFar;
 use rh_files::MAX_KEYS;
 use rh_layout::MAX_KEY;
 use std::alloc::Global;
@@ -18,8 +18,8 @@ pub(crate) struct Reading {
     pub(crate) keys: Vec<u64>,
     /// The number of the line, from 1 on.
     pub(crate) line: u64,
-    /// The place in it.
-    pub(crate) place: Place,
+    /// What the line has said so far.
+    pub(crate) so_far: LineSoFar,
     ghost in_range: { All IsKey keys.items },
     ghost few: { length keys.items ≤ MAX_KEYS },
 }
@@ -28,12 +28,12 @@ impl Reading {
     pub(crate) fn new(alloc: Global) -> Reading
         ensures keys { result.keys.items ≡ [] }
         ensures line { result.line ≡ 1 }
-        ensures place { result.place ≡ Place.Start }
+        ensures so_far { result.so_far ≡ LineSoFar.Start }
     {
         Reading {
             keys: Vec::new(alloc),
             line: 1,
-            place: Place::Start,
+            so_far: LineSoFar::Start,
         }
     }
 
@@ -43,10 +43,10 @@ impl Reading {
         ensures line { OnOk result (self.new.line ≤ self.old.line + length bytes.now) }
         ensures read { MatchResult result
             (λ _. (rest : List ℕ) →
-            keys_from self.old.keys.items self.old.line self.old.place (bytes.now ++ rest)
-            ≡ keys_from self.new.keys.items self.new.line self.new.place rest)
+            keys_from self.old.keys.items self.old.line self.old.so_far (bytes.now ++ rest)
+            ≡ keys_from self.new.keys.items self.new.line self.new.so_far rest)
             (λ fault. (rest : List ℕ) → Stops fault
-            (keys_from self.old.keys.items self.old.line self.old.place (bytes.now ++ rest))) }
+            (keys_from self.old.keys.items self.old.line self.old.so_far (bytes.now ++ rest))) }
     {
         for b in bytes {
             self.step(*b)?;
@@ -59,8 +59,8 @@ impl Reading {
         ensures in_range { IfOk result (λ keys. All IsKey keys.items) }
         ensures few { IfOk result (λ keys. length keys.items ≤ MAX_KEYS) }
         ensures keys { MatchResult result
-            (λ keys. with_line self.keys.items self.line self.place ≡ Ok keys.items)
-            (λ fault. Stops fault (with_line self.keys.items self.line self.place)) }
+            (λ keys. with_line self.keys.items self.line self.so_far ≡ Ok keys.items)
+            (λ fault. Stops fault (with_line self.keys.items self.line self.so_far)) }
     {
         self.end_line()?;
         Ok(self.keys)
@@ -72,17 +72,17 @@ impl Reading {
         ensures line { OnOk result (self.new.line ≤ self.old.line + 1) }
         ensures read { MatchResult result
             (λ _. (rest : List ℕ) →
-            keys_from self.old.keys.items self.old.line self.old.place (b ∷ rest)
-            ≡ keys_from self.new.keys.items self.new.line self.new.place rest)
+            keys_from self.old.keys.items self.old.line self.old.so_far (b ∷ rest)
+            ≡ keys_from self.new.keys.items self.new.line self.new.so_far rest)
             (λ fault. (rest : List ℕ) → Stops fault
-            (keys_from self.old.keys.items self.old.line self.old.place (b ∷ rest))) }
+            (keys_from self.old.keys.items self.old.line self.old.so_far (b ∷ rest))) }
     {
         if b == b'\n' {
             self.end_line()?;
             self.line += 1;
-            self.place = Place::Start;
+            self.so_far = LineSoFar::Start;
         } else {
-            self.place = self.place.next(b);
+            self.so_far = self.so_far.next(b);
         }
         Ok(())
     }
@@ -91,15 +91,15 @@ impl Reading {
     fn end_line(&mut self) -> Result<(), TextFault>
         ensures line { OnOk result (self.new.line ≡ self.old.line) }
         ensures keys { MatchResult result
-            (λ _. with_line self.old.keys.items self.old.line self.old.place
+            (λ _. with_line self.old.keys.items self.old.line self.old.so_far
             ≡ Ok self.new.keys.items)
             (λ fault. Stops fault
-            (with_line self.old.keys.items self.old.line self.old.place)) }
+            (with_line self.old.keys.items self.old.line self.old.so_far)) }
     {
-        match self.place {
-            Place::Start | Place::Blank | Place::Comment | Place::Return(None) => Ok(()),
-            Place::Number(n) | Place::After(n) | Place::Return(Some(n)) => self.take(n),
-            Place::Other => Err(TextFault::NotAKey { line: self.line }),
+        match self.so_far {
+            LineSoFar::Start | LineSoFar::Blank | LineSoFar::Comment | LineSoFar::Return(None) => Ok(()),
+            LineSoFar::Number(n) | LineSoFar::After(n) | LineSoFar::Return(Some(n)) => self.take(n),
+            LineSoFar::Other => Err(TextFault::NotAKey { line: self.line }),
         }
     }
 

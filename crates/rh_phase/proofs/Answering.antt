@@ -10,13 +10,13 @@ use Rattle.rh_phase.specs.Made.{HasMade}
 use Rattle.rh_phase.specs.Rounds.{is_marked}
 use Rattle.rh_phase.specs.declared.hand.Hand.{Hand}
 
-pub are_answered : (bits places : ℕ) (S : Keys) (keys values : List ℕ) (hs : List Hand) (old new : List Bool) → HasMade bits Ask places S keys values hs → places ≡ length keys → old ≡ replicate places false
+pub are_answered : (bits positions : ℕ) (S : Keys) (keys values : List ℕ) (hs : List Hand) (old new : List Bool) → HasMade bits Ask positions S keys values hs → positions ≡ length keys → old ≡ replicate positions false
     → length new ≡ length old → ((p : ℕ) → p < length old → slice_index_or new p false ≡ (slice_index_or old p false || is_marked hs p)) → new ≡ looked_up S keys
-are_answered bits places S keys values hs old new made all old_is long marked = ext_get_or false new (looked_up S keys) (new_long ∙ all ∙ sym (length-map keys (contains S))) (λ p inside.
-    let within : p < places = omega (arith, inside, new_long) in
-    let of_old : slice_index_or old p false ≡ false = ap (λ (l : List Bool). slice_index_or l p false) old_is ∙ get_or-replicate places p false false within in
+are_answered bits positions S keys values hs old new made all old_is long marked = ext_get_or false new (looked_up S keys) (new_long ∙ all ∙ sym (length-map keys (contains S))) (λ p inside.
+    let within : p < positions = omega (arith, inside, new_long) in
+    let of_old : slice_index_or old p false ≡ false = ap (λ (l : List Bool). slice_index_or l p false) old_is ∙ get_or-replicate positions p false false within in
     marked p (omega (arith, inside, long)) ∙ ap (λ (b : Bool). b || is_marked hs p) of_old ∙ made.found refl p (omega (arith, within, all)) within
     ∙ sym (get_or-map (contains S) keys p 0 false (omega (arith, within, all))))
   where
-    new_long : length new ≡ places
-    new_long = long ∙ ap length old_is ∙ length-replicate places false
+    new_long : length new ≡ positions
+    new_long = long ∙ ap length old_is ∙ length-replicate positions false

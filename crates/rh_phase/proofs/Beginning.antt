@@ -19,7 +19,7 @@ use Rattle.rh_acts.specs.Workers.{LeavesRoom}
 use Rattle.rh_acts.proofs.ActLemmas.{contains_none}
 use Rattle.rh_acts.proofs.FoldLemmas.{added_len, removed_len}
 use Rattle.rh_descriptor.specs.declared.known.Known.{Known}
-use Rattle.rh_descriptor.specs.Places.{cell_count}
+use Rattle.rh_descriptor.specs.Parts.{cell_count}
 use Rattle.rh_descriptor.specs.View.{new_view}
 use Rattle.rh_rule.specs.Seats.{InView, first_view, known}
 use Rattle.rh_rule.proofs.SeatsKept.{new_at, there}
@@ -29,7 +29,7 @@ use Rattle.rh_rule.specs.Wipes.{row_total}
 use Rattle.rh_run.specs.Run.{Doing, Running}
 use Rattle.rh_run.proofs.Turning.{run_starts}
 use Rattle.rh_kcas.specs.Crews.{HasAll, IsFresh, views_of}
-use Rattle.rh_worker.specs.declared.place.Place.{Place}
+use Rattle.rh_worker.specs.declared.stage.Stage.{Stage}
 use Rattle.rh_phase.specs.Crew.{CanWork}
 use Rattle.rh_phase.specs.Hands.{Stands, answer, left_over}
 use Rattle.rh_phase.specs.Made.{AreNew, IsNew}
@@ -70,12 +70,12 @@ few_changed Ask b S keys small room changes = absurd (changes refl)
 
 -- ---- the start
 
-module _ (t : Table) (kind : Kind) (places : ℕ) (cells keys : List ℕ) (c : Crew) (all : HasAll t c.seat) (fresh : InView IsFresh (views_of c.seat)) (views : views_of c.seat ≡ first_view t.shape (map plain_number cells)) (new : AreNew t.shape kind places c.hands) (list : t.shape.keys ≡ length keys) (keys_are : All IsKey keys) where
+module _ (t : Table) (kind : Kind) (positions : ℕ) (cells keys : List ℕ) (c : Crew) (all : HasAll t c.seat) (fresh : InView IsFresh (views_of c.seat)) (views : views_of c.seat ≡ first_view t.shape (map plain_number cells)) (new : AreNew t.shape kind positions c.hands) (list : t.shape.keys ≡ length keys) (keys_are : All IsKey keys) where
   view_is : (r : ℕ) (s : Known) → get_elem? (views_of c.seat) r ≡ some s → s ≡ known (new_view (map plain_number cells) r)
   view_is r s e = new_at (map plain_number cells) 0 t.shape.workers r s (subst (λ (l : List Known). get_elem? l r ≡ some s) views e) ∙ (λ i. known (new_view (map plain_number cells) (zero-add r i)))
 
-  new_hand : (r : ℕ) (h : Hand) → get_elem? c.hands r ≡ some h → IsNew t.shape kind places h
-  new_hand r h at = subst (IsNew t.shape kind places) (at_or c.hands r h h at) (new.each r h (there c.hands r h at))
+  new_hand : (r : ℕ) (h : Hand) → get_elem? c.hands r ≡ some h → IsNew t.shape kind positions h
+  new_hand r h at = subst (IsNew t.shape kind positions) (at_or c.hands r h h at) (new.each r h (there c.hands r h at))
 
   pub can_begin : CanWork t keys c
   can_begin = record {
@@ -99,7 +99,7 @@ module _ (t : Table) (kind : Kind) (places : ℕ) (cells keys : List ℕ) (c : C
     fresh = fresh;
   }
 
-  pub comes_first : length cells ≡ cell_count t.shape → Comes t.shape kind places cells keys (views_of c.seat) c.hands
+  pub comes_first : length cells ≡ cell_count t.shape → Comes t.shape kind positions cells keys (views_of c.seat) c.hands
   comes_first long = record {
     words = map plain_number cells ++ replicate (row_total t.shape + 1) 0;
     keep = new_view (map plain_number cells);
@@ -109,22 +109,22 @@ module _ (t : Table) (kind : Kind) (places : ℕ) (cells keys : List ℕ) (c : C
     stands = λ r s h e f.
         let n = new_hand r h f in
         let less : r < t.shape.workers = let l = there c.hands r h f in let w = new.long in omega (arith, l, w) in
-        subst (λ (k : Known). Stands t.shape keys (past_of places run k.view.worker) h k.view) (sym (view_is r s e)) (record {
+        subst (λ (k : Known). Stands t.shape keys (past_of positions run k.view.worker) h k.view) (sym (view_is r s e)) (record {
           kind_is = n.kind_is;
           answers = [];
-          doing = subst (λ (k : Kind). Doing t.shape k (new_view (map plain_number cells) r) keys (past_of places run r).acts (past_of places run r).reads [] []) (sym n.kind_is) (run.doing r less);
+          doing = subst (λ (k : Kind). Doing t.shape k (new_view (map plain_number cells) r) keys (past_of positions run r).acts (past_of positions run r).reads [] []) (sym n.kind_is) (run.doing r less);
           answered = record {
-            claimed_are = ap (λ (p : Place). left_over p h.place) (sym n.idle);
+            claimed_are = ap (λ (p : Stage). left_over p h.position) (sym n.idle);
             counts = n.unchanged;
             marks = λ p inside. ((λ is. absurd (true≢false (sym is ∙ unmarked h n p inside))), (λ has. absurd (contains_none (answer p true) has)));
           };
           opening = refl;
-          long = ap length n.unmarked ∙ length-replicate places false;
+          long = ap length n.unmarked ∙ length-replicate positions false;
         });
   }
     where
       run : Running kind t.shape cells (map plain_number cells ++ replicate (row_total t.shape + 1) 0) (new_view (map plain_number cells)) (λ v. keys) (λ v. []) (λ v. [])
       run = run_starts kind t.shape cells (λ v. keys) t.fits long
 
-      unmarked : (h : Hand) → IsNew t.shape kind places h → (p : ℕ) → p < length h.found.items → slice_index_or h.found.items p false ≡ false
-      unmarked h n p inside = ap (λ (l : List Bool). slice_index_or l p false) n.unmarked ∙ get_or-replicate places p false false (let e : length h.found.items ≡ places = ap length n.unmarked ∙ length-replicate places false in omega (arith, inside, e))
+      unmarked : (h : Hand) → IsNew t.shape kind positions h → (p : ℕ) → p < length h.found.items → slice_index_or h.found.items p false ≡ false
+      unmarked h n p inside = ap (λ (l : List Bool). slice_index_or l p false) n.unmarked ∙ get_or-replicate positions p false false (let e : length h.found.items ≡ positions = ap length n.unmarked ∙ length-replicate positions false in omega (arith, inside, e))

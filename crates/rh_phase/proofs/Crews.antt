@@ -157,7 +157,3 @@ module _ (t : Table) (keys : List ℕ) (c : Crew) (one : c.seat.count ≡ 1) (ca
           subst (λ (g : Hand). P s.view g) is_next (subst (λ (k : Known). P k.view next) q.1 p)
 
 -- ---- results
-
-pub if_ok : {T E : Type 0} {P Q : T → Type 0} (r : Result T E) → ((x : T) → P x → Q x) → IfOk r P → IfOk r Q
-if_ok (Ok x) f p = f x p
-if_ok (Err e) f p = tt

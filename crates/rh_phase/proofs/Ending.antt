@@ -17,7 +17,7 @@ use Rattle.rh_acts.specs.Shared.{IsSharedOut}
 use Rattle.rh_acts.specs.Workers.{LeavesRoom, how_many, tally_by}
 use Rattle.rh_descriptor.specs.declared.known.Known.{Known}
 use Rattle.rh_descriptor.specs.declared.shape.Shape.{Shape}
-use Rattle.rh_descriptor.specs.Places.{cell_count}
+use Rattle.rh_descriptor.specs.Parts.{cell_count}
 use Rattle.rh_history.specs.History.{value_of}
 use Rattle.rh_rule.specs.Seats.{AreMade, Spans}
 use Rattle.rh_rule.proofs.SeatsKept.{item_at, there}
@@ -27,8 +27,8 @@ use Rattle.rh_run.specs.Words.{cells_held}
 use Rattle.rh_run.proofs.Answering.{run_answers}
 use Rattle.rh_run.proofs.Sharing.{claims_at, claims_size, run_shared_ends, shared_out}
 use Rattle.rh_kcas.specs.Ends.{Leaves}
-use Rattle.rh_worker.specs.declared.place.Place.{Place}
-use Rattle.rh_phase.specs.Hands.{Answer, InPairs, IsFinished, IsHand, answer, keys_done, left_over, places_of, told_of}
+use Rattle.rh_worker.specs.declared.stage.Stage.{Stage}
+use Rattle.rh_phase.specs.Hands.{Answer, InPairs, IsFinished, IsHand, answer, keys_done, left_over, positions_of, told_of}
 use Rattle.rh_phase.specs.Made.{HasMade}
 use Rattle.rh_phase.specs.Rounds.{Comes, all_changed, is_marked}
 use Rattle.rh_phase.specs.declared.hand.Hand.{Hand}
@@ -43,15 +43,15 @@ at_or (x ∷ xs) (suc i) a d e = at_or xs i a d e
 value_back : (value : ℕ) → value_of (plain_number value) ≡ value
 value_back value = omega arith
 
-module _ (z : Shape) (kind : Kind) (places : ℕ) (opening keys : List ℕ) (vs : List Known) (hs : List Hand) (values : List ℕ) (some_one : 0 < z.workers) (spans : Spans vs 0 z.workers) (long : length hs ≡ z.workers) (comes : Comes z kind places opening keys vs hs) (leaves : Leaves z vs values) (list : z.keys ≡ length keys) (finished : All IsFinished hs) (hands : InPairs (λ v h. IsHand z keys h v) vs hs) (layout : Layout opening z.bits (keys_of opening)) (room : LeavesRoom kind z.bits (keys_of opening) keys) where
+module _ (z : Shape) (kind : Kind) (positions : ℕ) (opening keys : List ℕ) (vs : List Known) (hs : List Hand) (values : List ℕ) (some_one : 0 < z.workers) (spans : Spans vs 0 z.workers) (long : length hs ≡ z.workers) (comes : Comes z kind positions opening keys vs hs) (leaves : Leaves z vs values) (list : z.keys ≡ length keys) (finished : All IsFinished hs) (hands : InPairs (λ v h. IsHand z keys h v) vs hs) (layout : Layout opening z.bits (keys_of opening)) (room : LeavesRoom kind z.bits (keys_of opening) keys) where
   abbrev m : AreMade z vs
   m = leaves.made
 
   abbrev S : Keys
   S = keys_of opening
 
-  ga : Gathered z kind places opening keys m.words m.keep hs
-  ga = gathered z kind places opening keys vs hs some_one spans long comes m
+  ga : Gathered z kind positions opening keys m.words m.keep hs
+  ga = gathered z kind positions opening keys vs hs some_one spans long comes m
 
   abbrev done : ℕ → List ℕ
   done v = keys_done keys (ga.answers v)
@@ -68,13 +68,13 @@ module _ (z : Shape) (kind : Kind) (places : ℕ) (opening keys : List ℕ) (vs 
       let by = ga.each v less in
       subst (FoundEnd z) (sym (m.of_view v s.0 s.1)) ((hands v s.0 by.hand s.1 by.at).claims.ended (is_finished v by.hand by.at).ended)
 
-  claimed_are : (v : ℕ) → v < z.workers → claimed z (m.keep v) ≡ places_of (ga.answers v)
+  claimed_are : (v : ℕ) → v < z.workers → claimed z (m.keep v) ≡ positions_of (ga.answers v)
   claimed_are v less =
       let by = ga.each v less in
-      by.answered.claimed_are ∙ ap (λ (p : Place). places_of (ga.answers v) ++ left_over p by.hand.place) (is_finished v by.hand by.at).idle ∙ append-nil (places_of (ga.answers v))
+      by.answered.claimed_are ∙ ap (λ (p : Stage). positions_of (ga.answers v) ++ left_over p by.hand.position) (is_finished v by.hand by.at).idle ∙ append-nil (positions_of (ga.answers v))
 
   all_done : (v : ℕ) → v < z.workers → done v ≡ map (slice_index keys) (claimed z (m.keep v))
-  all_done v less = sym (ap (map (slice_index keys)) (claimed_are v less) ∙ map-map (slice_index keys) (λ (a : Answer). a.place) (ga.answers v))
+  all_done v less = sym (ap (map (slice_index keys)) (claimed_are v less) ∙ map-map (slice_index keys) (λ (a : Answer). a.position) (ga.answers v))
 
   ends : EndsSo kind z m.words told S keys
   ends = run_shared_ends kind z opening m.words m.keep (λ v. keys) done told S keys ga.run m.rest layout some_one (sym list) found_end all_done room
@@ -111,11 +111,11 @@ module _ (z : Shape) (kind : Kind) (places : ℕ) (opening keys : List ℕ) (vs 
   -- ---- the answers
 
   module _ (asks : kind ≡ Ask) where
-    told_so : (v : ℕ) → v < z.workers → (a : Answer) → Contains (ga.answers v) a → a.told ≡ contains S (slice_index keys a.place)
-    told_so v less a has = alike_at (λ (x : Answer). x.told) (λ (x : Answer). contains S (slice_index keys x.place)) (ga.answers v) a
-        (run_answers kind z opening m.words m.keep (λ u. keys) done told S ga.run layout asks v less ∙ map-map (contains S) (λ (x : Answer). slice_index keys x.place) (ga.answers v)) has
+    told_so : (v : ℕ) → v < z.workers → (a : Answer) → Contains (ga.answers v) a → a.told ≡ contains S (slice_index keys a.position)
+    told_so v less a has = alike_at (λ (x : Answer). x.told) (λ (x : Answer). contains S (slice_index keys x.position)) (ga.answers v) a
+        (run_answers kind z opening m.words m.keep (λ u. keys) done told S ga.run layout asks v less ∙ map-map (contains S) (λ (x : Answer). slice_index keys x.position) (ga.answers v)) has
 
-    pub found_made : (p : ℕ) → p < length keys → p < places → is_marked hs p ≡ contains S (slice_index keys p)
+    pub found_made : (p : ℕ) → p < length keys → p < positions → is_marked hs p ≡ contains S (slice_index keys p)
     found_made p inside within = same_truth (is_marked hs p) (contains S (slice_index keys p)) there_is back
       where
         there_is : is_marked hs p ≡ true → contains S (slice_index keys p) ≡ true
@@ -133,14 +133,14 @@ module _ (z : Shape) (kind : Kind) (places : ℕ) (opening keys : List ℕ) (vs 
             let one = shared.all p (omega (arith, inside, list)) in
             let size = claims_size m.w z m.words m.keep m.core in
             let less : one.0 < z.workers = let l = one.1 in omega (arith, l, size) in
-            let here : Contains (places_of (ga.answers one.0)) p = subst (λ (l : List ℕ). Contains l p) (claims_at m.w z m.words m.keep m.core one.0 less ∙ claimed_are one.0 less) one.2 in
-            let a = of_mapped (λ (x : Answer). x.place) (ga.answers one.0) p here in
+            let here : Contains (positions_of (ga.answers one.0)) p = subst (λ (l : List ℕ). Contains l p) (claims_at m.w z m.words m.keep m.core one.0 less ∙ claimed_are one.0 less) one.2 in
+            let a = of_mapped (λ (x : Answer). x.position) (ga.answers one.0) p here in
             let so : a.0.told ≡ true = told_so one.0 less a.0 a.1 ∙ ap (λ (q : ℕ). contains S (slice_index keys q)) a.2 ∙ is in
             let it : Contains (ga.answers one.0) (answer p true) = subst (Contains (ga.answers one.0)) (λ i. answer (a.2 i) (so i)) a.1 in
             let by = ga.each one.0 less in
             by_one hs p one.0 by.hand by.at ((by.answered.marks p (let l = by.long in omega (arith, within, l))).1 it)
 
-  pub has_made : (kind ≢ Ask → count_in kind (tally_of kind S keys) < 2 ^ 64) → HasMade z.bits kind places S keys values hs
+  pub has_made : (kind ≢ Ask → count_in kind (tally_of kind S keys) < 2 ^ 64) → HasMade z.bits kind positions S keys values hs
   has_made few = record {
     layout = subst (λ (cells : List ℕ). Layout cells z.bits (set_after kind S keys)) cells_are ends.layout;
     few = λ changes. subst (λ (n : ℕ). n < 2 ^ 64) (sym (changed_all (few changes))) (few changes);

@@ -7,7 +7,7 @@ use Rattle.rh_world.specs.World.{updated}
 use Rattle.rh_world.proofs.Updated.{same_nat, updated_else, updated_here}
 use Rattle.rh_descriptor.specs.declared.known.Known.{Known}
 use Rattle.rh_descriptor.specs.declared.shape.Shape.{Shape}
-use Rattle.rh_descriptor.specs.Places.{IsShape}
+use Rattle.rh_descriptor.specs.Parts.{IsShape}
 use Rattle.rh_descriptor.specs.View.{View, round_view}
 use Rattle.rh_rule.specs.Seats.{AreMade, Spans, all_views, known}
 use Rattle.rh_rule.proofs.SeatsKept.{item_at, of_map, there}
@@ -35,22 +35,22 @@ choose P other (suc n) each =
     )
 
 -- what the worker of this number answered, and its hand
-pub record AnsweredBy (z : Shape) (kind : Kind) (places : ℕ) (keep : ℕ → View) (hs : List Hand) (v : ℕ) (answers : List Answer) : Type 0 where
+pub record AnsweredBy (z : Shape) (kind : Kind) (positions : ℕ) (keep : ℕ → View) (hs : List Hand) (v : ℕ) (answers : List Answer) : Type 0 where
   pub hand : Hand
   pub at : get_elem? hs v ≡ some hand
   pub kind_is : hand.worker.kind ≡ kind
-  pub long : length hand.found.items ≡ places
+  pub long : length hand.found.items ≡ positions
   pub answered : Answered z hand (keep v) answers
 
 -- the run at the end of a round
-pub record Gathered (z : Shape) (kind : Kind) (places : ℕ) (opening keys words : List ℕ) (keep : ℕ → View) (hs : List Hand) : Type 0 where
+pub record Gathered (z : Shape) (kind : Kind) (positions : ℕ) (opening keys words : List ℕ) (keep : ℕ → View) (hs : List Hand) : Type 0 where
   pub answers : ℕ → List Answer
   pub run : Running kind z opening words keep (λ v. keys) (λ v. keys_done keys (answers v)) (λ v. told_of (answers v))
-  pub each : (v : ℕ) → v < z.workers → AnsweredBy z kind places keep hs v (answers v)
+  pub each : (v : ℕ) → v < z.workers → AnsweredBy z kind positions keep hs v (answers v)
 
-module _ (z : Shape) (kind : Kind) (places : ℕ) (opening keys : List ℕ) (vs : List Known) (hs : List Hand) (some_one : 0 < z.workers) (spans : Spans vs 0 z.workers) (long : length hs ≡ z.workers) (comes : Comes z kind places opening keys vs hs) (m : AreMade z vs) where
+module _ (z : Shape) (kind : Kind) (positions : ℕ) (opening keys : List ℕ) (vs : List Known) (hs : List Hand) (some_one : 0 < z.workers) (spans : Spans vs 0 z.workers) (long : length hs ≡ z.workers) (comes : Comes z kind positions opening keys vs hs) (m : AreMade z vs) where
   abbrev past : ℕ → Past
-  past = past_of places comes.run
+  past = past_of positions comes.run
 
   -- what stands for a worker, by its number
   record StandsAt (v : ℕ) (answers : List Answer) : Type 0 where
@@ -76,7 +76,7 @@ module _ (z : Shape) (kind : Kind) (places : ℕ) (opening keys : List ℕ) (vs 
       subst (λ (l : List Answer). Doing z kind (m.keep v) keys (own v comes.run.before) (comes.run.reads v) (keys_done keys l) (told_of l)) is.same
       (subst (λ (k : Kind). Doing z k (m.keep v) keys (own v comes.run.before) (comes.run.reads v) (keys_done keys is.stands.answers) (told_of is.stands.answers)) is.stands.kind_is is.stands.doing)
 
-  pub gathered : Gathered z kind places opening keys m.words m.keep hs
+  pub gathered : Gathered z kind positions opening keys m.words m.keep hs
   gathered = record {
     answers = chosen.0;
     run = run_gathers kind z opening comes.words m.words comes.keep m.keep (λ v. keys) comes.done (λ v. keys_done keys (chosen.0 v)) comes.told (λ v. told_of (chosen.0 v)) comes.run m.w 0 m.core some_one
@@ -91,7 +91,7 @@ module _ (z : Shape) (kind : Kind) (places : ℕ) (opening keys : List ℕ) (vs 
   }
 
   -- the next round begins where they are
-  pub comes_on : IsShape z → (us : List Known) → us ≡ all_views (round_view m.cells) vs → Comes z kind places opening keys us hs
+  pub comes_on : IsShape z → (us : List Known) → us ≡ all_views (round_view m.cells) vs → Comes z kind positions opening keys us hs
   comes_on shape us is = record {
     words = then;
     keep = λ v. round_view m.cells (m.keep v);
@@ -105,10 +105,10 @@ module _ (z : Shape) (kind : Kind) (places : ℕ) (opening keys : List ℕ) (vs 
         let same : by.hand ≡ h = some-injective by.hand h (sym by.at ∙ f) in
         let whose : old.0.view.worker ≡ r = spans.each r old.0 old.1 ∙ zero-add r in
         let view : m.keep r ≡ old.0.view = m.of_view r old.0 old.1 in
-        subst (λ (k : Known). Stands z keys (past_of places run k.view.worker) h k.view) (sym old.2)
-        (subst (λ (x : View). Stands z keys (past_of places run x.worker) h (round_view m.cells x)) view
-        (subst (λ (w : ℕ). Stands z keys (past_of places run w) h (round_view m.cells (m.keep r))) (sym (ap (λ (x : View). x.worker) view ∙ whose))
-        (subst (λ (g : Hand). Stands z keys (past_of places run r) g (round_view m.cells (m.keep r))) same (record {
+        subst (λ (k : Known). Stands z keys (past_of positions run k.view.worker) h k.view) (sym old.2)
+        (subst (λ (x : View). Stands z keys (past_of positions run x.worker) h (round_view m.cells x)) view
+        (subst (λ (w : ℕ). Stands z keys (past_of positions run w) h (round_view m.cells (m.keep r))) (sym (ap (λ (x : View). x.worker) view ∙ whose))
+        (subst (λ (g : Hand). Stands z keys (past_of positions run r) g (round_view m.cells (m.keep r))) same (record {
           kind_is = by.kind_is;
           answers = gathered.answers r;
           doing = subst (λ (k : Kind). Doing z k (round_view m.cells (m.keep r)) keys (own r run.before) (run.reads r) (keys_done keys (gathered.answers r)) (told_of (gathered.answers r))) (sym by.kind_is) (run.doing r less);

@@ -16,12 +16,12 @@ use Rattle.rh_worker.specs.Laws.{AfterStep}
 use Rattle.rh_worker.specs.Makes.{Makes}
 use Rattle.rh_worker.specs.Reading.{IsToldAnew, TellsAnew}
 use Rattle.rh_worker.specs.Worker.{EndsAt, IsBusy}
-use Rattle.rh_worker.specs.declared.place.Place.{Place}
-use Rattle.rh_worker.specs.declared.place.Place.TheVariants as at
+use Rattle.rh_worker.specs.declared.stage.Stage.{Stage}
+use Rattle.rh_worker.specs.declared.stage.Stage.TheVariants as at
 use Rattle.rh_worker.proofs.KeyLaws.{keys_are_done}
 use Rattle.rh_phase.specs.Keys.{DoneSo, Furthers}
 
-pub busy_on : (p : Place) → EndsAt None p → (p ≡ at.Spent → ⊥) → IsBusy p
+pub busy_on : (p : Stage) → EndsAt None p → (p ≡ at.Spent → ⊥) → IsBusy p
 busy_on at.Idle e s = e refl
 busy_on at.Spent e s = s refl
 busy_on (at.Scan l n) e s = tt

@@ -31,8 +31,8 @@ module _ (t : Table) (keys : List ℕ) (c then : Crew) (all : HasAll t c.seat) (
   pub worked_all : HasAll t then.seat
   worked_all = record { own = worked.crew.here.own; first = worked.first ∙ all.first; count = worked.count ∙ all.count }
 
-  pub worked_comes : (kind : Kind) (places : ℕ) (opening : List ℕ) → Comes t.shape kind places opening keys (views_of c.seat) c.hands → Comes t.shape kind places opening keys (views_of then.seat) then.hands
-  worked_comes kind places opening was = record { words = was.words; keep = was.keep; done = was.done; told = was.told; run = was.run; stands = worked.stands (past_of places was.run) was.stands }
+  pub worked_comes : (kind : Kind) (positions : ℕ) (opening : List ℕ) → Comes t.shape kind positions opening keys (views_of c.seat) c.hands → Comes t.shape kind positions opening keys (views_of then.seat) then.hands
+  worked_comes kind positions opening was = record { words = was.words; keep = was.keep; done = was.done; told = was.told; run = was.run; stands = worked.stands (past_of positions was.run) was.stands }
 
   -- ---- and their table was wiped
 
@@ -56,6 +56,6 @@ module _ (t : Table) (keys : List ℕ) (c then : Crew) (all : HasAll t c.seat) (
       fresh = fresh;
     }
 
-    pub wiped_comes : (kind : Kind) (places : ℕ) (opening : List ℕ) → Comes t.shape kind places opening keys (views_of c.seat) c.hands → Comes t.shape kind places opening keys (views_of seat) then.hands
-    wiped_comes kind places opening was = comes_on t.shape kind places opening keys (views_of then.seat) then.hands (all_some t then.seat worked_all) (all_spans t then.seat worked_all) (worked.crew.long ∙ worked_all.count)
-        (worked_comes kind places opening was) wiped.made t.fits (views_of seat) wiped.views
+    pub wiped_comes : (kind : Kind) (positions : ℕ) (opening : List ℕ) → Comes t.shape kind positions opening keys (views_of c.seat) c.hands → Comes t.shape kind positions opening keys (views_of seat) then.hands
+    wiped_comes kind positions opening was = comes_on t.shape kind positions opening keys (views_of then.seat) then.hands (all_some t then.seat worked_all) (all_spans t then.seat worked_all) (worked.crew.long ∙ worked_all.count)
+        (worked_comes kind positions opening was) wiped.made t.fits (views_of seat) wiped.views

@@ -1,4 +1,4 @@
--- Workers of a phase with their seat, who fork in halves and join again. (own)
+-- Workers of a phase with their seat, who fork in halves and join again.
 use Rattle.std.specs.Prelude.{◌≡◌, ℕ, false, List, All, Bool, length, take, drop}
 use Rattle.rh_layout.specs.Key.{IsKey}
 use Rattle.rh_kcas.specs.Crews.{IsAt, IsCut, IsFresh, IsQuiet, views_of}

@@ -1,4 +1,4 @@
--- What the workers of a phase have done of a list that they share. (own)
+-- What the workers of a phase have done of a list that they share.
 use Rattle.std.specs.Prelude.{◌≡◌, ℕ, ◌-◌, ◌^◌, ◌<◌, ◌⊎◌, ◌↔◌, Bool, true, false, min, List, [], ◌∷◌, ◌++◌, length, map, slice_index, slice_index_or}
 use Rattle.std.specs.List.{Contains}
 use mathlib.Core.Option.{some}
@@ -15,19 +15,19 @@ use Rattle.rh_descriptor.specs.View.{View}
 use Rattle.rh_run.specs.Claimed.{FoundEnd, claimed}
 use Rattle.rh_run.specs.Run.{Doing}
 use Rattle.rh_worker.specs.Sights.{HasRoom}
-use Rattle.rh_worker.specs.declared.place.Place.{Place}
-use Rattle.rh_worker.specs.declared.place.Place.TheVariants as place
+use Rattle.rh_worker.specs.declared.stage.Stage.{Stage}
+use Rattle.rh_worker.specs.declared.stage.Stage.TheVariants as stage
 use Rattle.rh_phase.specs.declared.hand.Hand.{Hand}
 
 -- ---- a hand
 
 -- it is at a key that is not done
 abbrev pub IsAtKey : Hand → Type 0
-IsAtKey h = h.worker.place ≡ place.Idle → ⊥
+IsAtKey h = h.worker.stage ≡ stage.Idle → ⊥
 
 -- it is at no key, or is to begin its key again
 abbrev pub HasStopped : Hand → Type 0
-HasStopped h = (h.worker.place ≡ place.Idle) ⊎ (h.worker.place ≡ place.Spent)
+HasStopped h = (h.worker.stage ≡ stage.Idle) ⊎ (h.worker.stage ≡ stage.Spent)
 
 -- no Claim of it found the end, or one did, as it says
 pub record HasClaimed (z : Shape) (h : Hand) (v : View) : Type 0 where
@@ -38,54 +38,54 @@ pub record HasClaimed (z : Shape) (h : Hand) (v : View) : Type 0 where
 pub record IsHand (z : Shape) (keys : List ℕ) (h : Hand) (v : View) : Type 0 where
   pub key : IsKey h.worker.key
   pub room : HasRoom z.bits h.worker.sights
-  pub within : IsAtKey h → h.place < length keys
-  pub at : IsAtKey h → slice_index keys h.place ≡ h.worker.key
+  pub within : IsAtKey h → h.position < length keys
+  pub at : IsAtKey h → slice_index keys h.position ≡ h.worker.key
   pub claims : HasClaimed z h v
 
 -- all keys that it claimed are done, and no key is left to claim
 pub record IsFinished (h : Hand) : Type 0 where
-  pub idle : h.worker.place ≡ place.Idle
+  pub idle : h.worker.stage ≡ stage.Idle
   pub ended : h.ended ≡ true
 
 -- ---- what it did
 
--- what was told of the key at a place of the list
+-- what was told of the key at a position of the list
 pub record Answer : Type 0 where
-  pub place : ℕ
+  pub position : ℕ
   pub told : Bool
 
-abbrev pub answer : (place : ℕ) (told : Bool) → Answer
-answer p so = record { place = p; told = so }
+abbrev pub answer : (position : ℕ) (told : Bool) → Answer
+answer p so = record { position = p; told = so }
 
-abbrev pub places_of : List Answer → List ℕ
-places_of answers = map (λ a. a.place) answers
+abbrev pub positions_of : List Answer → List ℕ
+positions_of answers = map (λ a. a.position) answers
 
 abbrev pub told_of : List Answer → List Bool
 told_of answers = map (λ a. a.told) answers
 
 abbrev pub keys_done : (keys : List ℕ) → List Answer → List ℕ
-keys_done keys answers = map (λ a. slice_index keys a.place) answers
+keys_done keys answers = map (λ a. slice_index keys a.position) answers
 
--- the place of the key that it is at
-abbrev pub left_over : Place → (place : ℕ) → List ℕ
-left_over place.Idle p = []
-left_over place.Spent p = p ∷ []
-left_over (place.Scan l n) p = p ∷ []
-left_over (place.Open o q) p = p ∷ []
-left_over (place.Swap w n q) p = p ∷ []
+-- the position of the key that it is at
+abbrev pub left_over : Stage → (position : ℕ) → List ℕ
+left_over stage.Idle p = []
+left_over stage.Spent p = p ∷ []
+left_over (stage.Scan l n) p = p ∷ []
+left_over (stage.Open o q) p = p ∷ []
+left_over (stage.Swap w n q) p = p ∷ []
 
--- The places that it claimed are those of its answers, in their order, and then that of the key that it is at. It counts the
--- answers that are true, up to the greatest number, and has marked their places.
+-- The positions that it claimed are those of its answers, in their order, and then that of the key that it is at. It counts the
+-- answers that are true, up to the greatest number, and has marked their positions.
 pub record Answered (z : Shape) (h : Hand) (v : View) (answers : List Answer) : Type 0 where
-  pub claimed_are : claimed z v ≡ places_of answers ++ left_over h.worker.place h.place
+  pub claimed_are : claimed z v ≡ positions_of answers ++ left_over h.worker.stage h.position
   pub counts : h.changed ≡ min (how_many (told_of answers)) (2 ^ 64 - 1)
   pub marks : (p : ℕ) → p < length h.found.items → (slice_index_or h.found.items p false ≡ true) ↔ Contains answers (answer p true)
 
--- the kind of the phase, how many places may be marked, and of the rounds before this one: the cells at their end, and what the
+-- the kind of the phase, how many positions may be marked, and of the rounds before this one: the cells at their end, and what the
 -- worker did and read in them
 pub record Past : Type 0 where
   pub kind : Kind
-  pub places : ℕ
+  pub positions : ℕ
   pub opening : List ℕ
   pub acts : List Act
   pub reads : List Kept
@@ -97,7 +97,7 @@ pub record Stands (z : Shape) (keys : List ℕ) (past : Past) (h : Hand) (v : Vi
   pub doing : Doing z h.worker.kind v keys past.acts past.reads (keys_done keys answers) (told_of answers)
   pub answered : Answered z h v answers
   pub opening : v.opening ≡ past.opening
-  pub long : length h.found.items ≡ past.places
+  pub long : length h.found.items ≡ past.positions
 
 -- ---- all hands of a seat, whose view has the worker of each
 

@@ -1,4 +1,4 @@
--- How a worker does one key. (own)
+-- How a worker does one key.
 use Rattle.std.specs.Prelude.{◌≡◌, ℕ, ◌⊎◌, Option, Bool, List, [], ◌∷◌, ◌++◌}
 use Rattle.std.specs.List.{Contains}
 use Rattle.rh_ledger.specs.declared.tally.Kind.{Kind}

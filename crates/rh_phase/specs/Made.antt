@@ -1,4 +1,4 @@
--- What a phase makes of the cells. (own)
+-- What a phase makes of the cells.
 use Rattle.std.specs.Prelude.{◌≡◌, ◌≢◌, ℕ, ◌^◌, ◌<◌, ◌≤◌, false, All, List, length, replicate, slice_index}
 use Rattle.std.specs.FinSet.{contains}
 use Rattle.rh_layout.specs.Key.{IsKey}
@@ -11,7 +11,7 @@ use Rattle.rh_descriptor.specs.declared.limits.TheConstants.{MAX_ROOM, MAX_WORKE
 use Rattle.rh_descriptor.specs.declared.shape.Rooms.{Rooms}
 use Rattle.rh_descriptor.specs.declared.shape.Shape.{Shape}
 use Rattle.rh_worker.specs.Sights.{HasRoom}
-use Rattle.rh_worker.specs.declared.place.Place.TheVariants as place
+use Rattle.rh_worker.specs.declared.stage.Stage.TheVariants as stage
 use Rattle.rh_phase.specs.Rounds.{all_changed, is_marked}
 use Rattle.rh_phase.specs.declared.hand.Hand.{Hand}
 
@@ -26,25 +26,25 @@ pub record IsRooms (bits : ℕ) (rooms : Rooms) : Type 0 where
   pub enough : 2 ^ bits ≤ rooms.marks
   pub marks : rooms.marks ≤ MAX_ROOM
 
--- it has done nothing yet, and has room for any key, and marks for so many places
-pub record IsNew (z : Shape) (kind : Kind) (places : ℕ) (h : Hand) : Type 0 where
-  pub idle : h.worker.place ≡ place.Idle
+-- it has done nothing yet, and has room for any key, and marks for so many positions
+pub record IsNew (z : Shape) (kind : Kind) (positions : ℕ) (h : Hand) : Type 0 where
+  pub idle : h.worker.stage ≡ stage.Idle
   pub kind_is : h.worker.kind ≡ kind
   pub key : IsKey h.worker.key
   pub room : HasRoom z.bits h.worker.sights
   pub to_claim : h.ended ≡ false
   pub unchanged : h.changed ≡ 0
-  pub unmarked : h.found.items ≡ replicate places false
+  pub unmarked : h.found.items ≡ replicate positions false
 
 -- a hand for each worker
-pub record AreNew (z : Shape) (kind : Kind) (places : ℕ) (hs : List Hand) : Type 0 where
+pub record AreNew (z : Shape) (kind : Kind) (positions : ℕ) (hs : List Hand) : Type 0 where
   pub long : length hs ≡ z.workers
-  pub each : All (IsNew z kind places) hs
+  pub each : All (IsNew z kind positions) hs
 
 -- Of cells that hold these keys the phase made the layout of the set that is meant. The hands have counted what came of it, and
--- marked the places whose keys were found.
-pub record HasMade (bits : ℕ) (kind : Kind) (places : ℕ) (S : Keys) (keys values : List ℕ) (hs : List Hand) : Type 0 where
+-- marked the positions whose keys were found.
+pub record HasMade (bits : ℕ) (kind : Kind) (positions : ℕ) (S : Keys) (keys values : List ℕ) (hs : List Hand) : Type 0 where
   pub layout : Layout values bits (set_after kind S keys)
   pub few : kind ≢ Ask → all_changed hs < 2 ^ 64
   pub tally : kind ≢ Ask → tally_by kind (length keys) (all_changed hs) ≡ tally_of kind S keys
-  pub found : kind ≡ Ask → (p : ℕ) → p < length keys → p < places → is_marked hs p ≡ contains S (slice_index keys p)
+  pub found : kind ≡ Ask → (p : ℕ) → p < length keys → p < positions → is_marked hs p ≡ contains S (slice_index keys p)

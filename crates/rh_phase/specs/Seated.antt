@@ -1,11 +1,11 @@
--- A worker of a phase in its seat. (own)
+-- A worker of a phase in its seat.
 use Rattle.std.specs.Prelude.{◌≡◌, Bool}
 use Rattle.rh_descriptor.specs.View.{View}
 use Rattle.rh_rdcss.specs.Sits.{Sits}
 use Rattle.rh_rdcss.specs.declared.on_table.OnTable.{OnTable}
 use Rattle.rh_steps.specs.Relies.{Trusts}
 use Rattle.rh_worker.specs.Worker.{IsWorker}
-use Rattle.rh_worker.specs.declared.place.Place.TheVariants as place
+use Rattle.rh_worker.specs.declared.stage.Stage.TheVariants as stage
 use Rattle.rh_worker.specs.declared.worker.Worker.{Worker}
 use Rattle.rh_phase.specs.Keys.{DoneSo}
 
@@ -13,6 +13,6 @@ use Rattle.rh_phase.specs.Keys.{DoneSo}
 pub record HasDone (here : OnTable) (w : Worker) (told : Bool) : Type 0 where
   pub trusts : Trusts Sits here.table.now.shape here w.side.known.view
   pub worker : IsWorker here.table.now.shape w
-  pub idle : w.place ≡ place.Idle
+  pub idle : w.stage ≡ stage.Idle
   pub before : View
   pub so : DoneSo here.table.now.shape w.kind w.key before w.side.known.view told

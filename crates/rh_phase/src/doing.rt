@@ -2,7 +2,7 @@
 
 ghost use Rattle.std.specs.Prelude.{◌≡◌, All, IfNone, IfSome, IsTrue, false, length};
 ghost use Rattle.rh_layout.specs.Key.{IsKey};
-ghost use Rattle.rh_descriptor.specs.Places.{IsShape};
+ghost use Rattle.rh_descriptor.specs.Parts.{IsShape};
 ghost use Rattle.rh_history.specs.History.{kept_of, own_acts_of};
 ghost use Rattle.rh_history.specs.OwnActs.{Orderly};
 ghost use Rattle.rh_helping.specs.Goal.{IsClear};
@@ -12,13 +12,13 @@ ghost use Rattle.rh_rdcss.specs.Sits.{Sits, Stays};
 ghost use Rattle.rh_steps.specs.Relies.{Trusts};
 ghost use Rattle.rh_worker.specs.Reading.{ReadsAnew};
 ghost use Rattle.rh_worker.specs.Worker.{HasNoRoom, IsBusy, IsWorker};
-ghost use Rattle.rh_worker.specs.declared.place.Place.TheVariants as place;
+ghost use Rattle.rh_worker.specs.declared.stage.Stage.TheVariants as stage;
 
 use crate::gate::Gate;
 use crate::hand::Hand;
 use rh_descriptor::Shape;
 use rh_rdcss::OnTable;
-use rh_worker::{Place, Worker};
+use rh_worker::{Stage, Worker};
 use std::sync::Wait;
 
 /// Does the key that was begun, and answers whether it was added, removed or found; none where the
@@ -32,7 +32,7 @@ pub fn do_key<R: Wait>(
     requires shape { IsShape shape.now }
     requires trusts { Trusts Sits shape.now here.old worker.old.side.known.view }
     requires worker { IsWorker shape.now worker.old }
-    requires busy { IsBusy worker.old.place }
+    requires busy { IsBusy worker.old.stage }
     requires anew { ReadsAnew shape.now (kept_of shape.now worker.old.side.known.view) worker.old }
     requires orderly { Orderly worker.old.side.known.view }
     ensures trusts { Trusts Sits shape.now here.new worker.new.side.known.view }
@@ -46,10 +46,10 @@ pub fn do_key<R: Wait>(
     ensures opening { worker.new.side.known.view.opening ≡ worker.old.side.known.view.opening }
     ensures furthers { Furthers shape.now worker.old.kind worker.old.key
         worker.old.side.known.view worker.new.side.known.view result }
-    ensures done { IfSome result (λ told. (worker.new.place ≡ place.Idle)
+    ensures done { IfSome result (λ told. (worker.new.stage ≡ stage.Idle)
         × DoneSo shape.now worker.old.kind worker.old.key
         worker.old.side.known.view worker.new.side.known.view told) }
-    ensures spent { IfNone result ((worker.new.place ≡ place.Spent)
+    ensures spent { IfNone result ((worker.new.stage ≡ stage.Spent)
         × HasNoRoom shape.now worker.new.side.known.view
         × (own_acts_of worker.new.side.known.view ≡ own_acts_of worker.old.side.known.view)) }
 {
@@ -130,15 +130,15 @@ fn next_key<G: Gate>(
     ensures same_worker { hand.new.worker.side.known.view.worker ≡ hand.old.worker.side.known.view.worker }
     ensures orderly { Orderly hand.new.worker.side.known.view }
     ensures hand { IsHand shape.now keys.now hand.new hand.new.worker.side.known.view }
-    ensures begun { IsTrue result → IsBusy hand.new.worker.place
+    ensures begun { IsTrue result → IsBusy hand.new.worker.stage
         × ReadsAnew shape.now (kept_of shape.now hand.new.worker.side.known.view) hand.new.worker }
-    ensures ended { result ≡ false → hand.new.worker.place ≡ place.Idle }
+    ensures ended { result ≡ false → hand.new.worker.stage ≡ stage.Idle }
     ensures stands { (past : Past) →
         Stands shape.now keys.now past hand.old hand.old.worker.side.known.view →
         Stands shape.now keys.now past hand.new hand.new.worker.side.known.view }
 {
     if hand.worker.is_spent() {
-        hand.worker.place = Place::Idle;
+        hand.worker.stage = Stage::Idle;
         let key = hand.worker.key;
         hand.worker.begin(key);
         return true;
@@ -146,13 +146,13 @@ fn next_key<G: Gate>(
     if hand.ended {
         return false;
     }
-    let place = hand.worker.claim(shape, here);
-    if keys.len() as u64 <= place {
+    let position = hand.worker.claim(shape, here);
+    if keys.len() as u64 <= position {
         hand.ended = true;
         return false;
     }
-    hand.place = place as usize;
+    hand.position = position as usize;
     gate.before(hand.worker.side.worker, hand.done);
-    hand.worker.begin(keys[hand.place]);
+    hand.worker.begin(keys[hand.position]);
     true
 }

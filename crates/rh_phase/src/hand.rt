@@ -7,8 +7,8 @@ use rh_worker::Worker;
 #[derive(Drop)]
 pub(crate) struct Hand {
     pub worker: Worker,
-    /// The place in the list of the key that it claimed last.
-    pub place: usize,
+    /// The position in the list of the key that it claimed last.
+    pub position: usize,
     /// Whether it found the end of the list.
     pub ended: bool,
     /// How many keys it has done, up to the greatest number.
@@ -16,7 +16,7 @@ pub(crate) struct Hand {
     /// Of how many of these it was told that they were added, removed or found, up to the greatest
     /// number.
     pub changed: u64,
-    /// Which places have a key that it was told so of. It is empty where no one asks for them.
+    /// Which positions have a key that it was told so of. It is empty where no one asks for them.
     pub found: Vec<bool>,
 }
 
@@ -34,17 +34,17 @@ impl Hand {
     /// Counts the key as done.
     pub(crate) fn count(&mut self, told: bool)
         ensures worker { self.new.worker ≡ self.old.worker }
-        ensures place { self.new.place ≡ self.old.place }
+        ensures position { self.new.position ≡ self.old.position }
         ensures ended { self.new.ended ≡ self.old.ended }
         ensures changed { self.new.changed ≡
             cond told (min (self.old.changed + 1) (2 ^ 64 - 1)) self.old.changed }
         ensures found { self.new.found.items ≡
-            cond told (set self.old.found.items self.old.place true) self.old.found.items }
+            cond told (set self.old.found.items self.old.position true) self.old.found.items }
     {
         self.done = self.done.saturating_add(1);
         if told {
             self.changed = self.changed.saturating_add(1);
-            if let Some(found) = self.found.get_mut(self.place) {
+            if let Some(found) = self.found.get_mut(self.position) {
                 *found = true;
             }
         }

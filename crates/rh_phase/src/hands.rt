@@ -1,7 +1,7 @@
 //! The hands of all workers: as a phase begins, and what they say at its end.
 
 ghost use Rattle.std.specs.Prelude.{◌≡◌, ℕ, ◌-◌, ◌^◌, ◌<◌, ◌||◌, false, min, IfOk, length, slice_index_or};
-ghost use Rattle.rh_descriptor.specs.Places.{IsShape};
+ghost use Rattle.rh_descriptor.specs.Parts.{IsShape};
 ghost use Rattle.rh_phase.specs.Made.{AreNew, IsNew};
 ghost use Rattle.rh_phase.specs.Rounds.{all_changed, is_marked};
 
@@ -12,19 +12,19 @@ use rh_worker::Worker;
 use std::alloc::{AllocError, Global};
 use std::collections::LinkedList;
 
-/// A hand for each worker of the table, which marks so many places.
+/// A hand for each worker of the table, which marks so many positions.
 pub(crate) fn new_hands(
     alloc: Global,
     shape: &Shape,
     kind: Kind,
-    places: usize,
+    positions: usize,
 ) -> Result<LinkedList<Hand>, AllocError>
     requires { IsShape shape.now }
-    ensures { IfOk result (AreNew shape.now kind places) }
+    ensures { IfOk result (AreNew shape.now kind positions) }
 {
     let mut hands = LinkedList::new(alloc);
     for worker in 0..shape.workers {
-        let hand = new_hand(alloc, shape, kind, places, worker)?;
+        let hand = new_hand(alloc, shape, kind, positions, worker)?;
         hands.push_back(hand)?;
     }
     Ok(hands)
@@ -34,19 +34,19 @@ fn new_hand(
     alloc: Global,
     shape: &Shape,
     kind: Kind,
-    places: usize,
+    positions: usize,
     worker: usize,
 ) -> Result<Hand, AllocError>
     requires { IsShape shape.now }
-    ensures { IfOk result (IsNew shape.now kind places) }
+    ensures { IfOk result (IsNew shape.now kind positions) }
 {
     Ok(Hand {
         worker: Worker::new(alloc, shape, kind, worker, &[])?,
-        place: 0,
+        position: 0,
         ended: false,
         done: 0,
         changed: 0,
-        found: vec![in alloc; false; places]?,
+        found: vec![in alloc; false; positions]?,
     })
 }
 
@@ -63,7 +63,7 @@ pub(crate) fn all_changed(hands: LinkedList<Hand>) -> u64
     changed
 }
 
-/// Marks each place that one of the hands has marked.
+/// Marks each position that one of the hands has marked.
 pub(crate) fn mark_all(hands: LinkedList<Hand>, found: &mut [bool])
     ensures long { length found.new ≡ length found.old }
     ensures marked { (p : ℕ) → p < length found.old →
@@ -81,9 +81,9 @@ fn mark(marks: &[bool], found: &mut [bool])
         slice_index_or found.new p false ≡ (slice_index_or found.old p false || slice_index_or marks.now p false) }
 {
     let both = marks.len().min(found.len());
-    for place in 0..both {
-        if marks[place] {
-            found[place] = true;
+    for position in 0..both {
+        if marks[position] {
+            found[position] = true;
         }
     }
 }

@@ -6,7 +6,7 @@ ghost use Rattle.rh_layout.specs.Key.{IsBits, IsKey};
 ghost use Rattle.rh_layout.specs.Layout.{IsLayout, keys_of};
 ghost use Rattle.rh_ledger.specs.Phase.{looked_up, most_added, set_after, tally_of};
 ghost use Rattle.rh_acts.specs.Workers.{tally_by};
-ghost use Rattle.rh_descriptor.specs.Places.{IsShape};
+ghost use Rattle.rh_descriptor.specs.Parts.{IsShape};
 ghost use Rattle.rh_phase.specs.Made.{HasMade, IsRooms, IsWorkers};
 
 use crate::crew::{AllStart, Crew, Starts};
@@ -127,8 +127,8 @@ pub fn ask_with<R: Threads + Wait + Sync, G: Gate + Sync, S: Starts + Sync>(
     ensures found { IfOk result (λ found. found.items ≡ looked_up (keys_of cells.now) keys.now) }
 {
     let shape = shape_of(bits, workers, rooms, keys);
-    let places = keys.len();
-    let Ok(mut found) = vec![in alloc; false; places] else {
+    let positions = keys.len();
+    let Ok(mut found) = vec![in alloc; false; positions] else {
         return Err(PhaseFault::Memory);
     };
     // (the cells at the end are the same)
@@ -142,7 +142,7 @@ pub fn ask_with<R: Threads + Wait + Sync, G: Gate + Sync, S: Starts + Sync>(
         Kind::Ask,
         then.as_mut_slice(),
         keys,
-        places,
+        positions,
         gate,
         starts,
     )?;
@@ -150,7 +150,7 @@ pub fn ask_with<R: Threads + Wait + Sync, G: Gate + Sync, S: Starts + Sync>(
     Ok(found)
 }
 
-/// A phase by all workers of a table of this shape. The hands mark so many places of the list.
+/// A phase by all workers of a table of this shape. The hands mark so many positions of the list.
 fn carry_out<R: Threads + Wait + Sync, G: Gate + Sync, S: Starts + Sync>(
     rt: &R,
     alloc: Global,
@@ -158,7 +158,7 @@ fn carry_out<R: Threads + Wait + Sync, G: Gate + Sync, S: Starts + Sync>(
     kind: Kind,
     cells: &mut [u64],
     keys: &[u64],
-    places: usize,
+    positions: usize,
     gate: &G,
     starts: &S,
 ) -> Result<LinkedList<Hand>, PhaseFault>
@@ -168,10 +168,10 @@ fn carry_out<R: Threads + Wait + Sync, G: Gate + Sync, S: Starts + Sync>(
     requires keys { All IsKey keys.now }
     requires layout { IsLayout shape.bits cells.old }
     requires room { set.len (keys_of cells.old) + most_added kind keys.now < 2 ^ shape.bits }
-    ensures made { IfOk result (HasMade shape.bits kind places (keys_of cells.old) keys.now cells.new) }
+    ensures made { IfOk result (HasMade shape.bits kind positions (keys_of cells.old) keys.now cells.new) }
     ensures unchanged { OnErr result (cells.new ≡ cells.old) }
 {
-    let Ok(hands) = new_hands(alloc, &shape, kind, places) else {
+    let Ok(hands) = new_hands(alloc, &shape, kind, positions) else {
         return Err(PhaseFault::Memory);
     };
     let Ok((table, seat)) = make(alloc, shape, cells) else {

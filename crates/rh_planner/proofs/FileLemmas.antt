@@ -20,8 +20,8 @@ use Rattle.rh_snapshot.proofs.Grammar.{file_given, second_file}
 use Rattle.rh_script.specs.Names.{is_given}
 use Rattle.rh_shelf.specs.Shelf.{Files, InDoubt, Puts, with_file}
 use Rattle.rh_planner.specs.declared.key_lists.KeyList.{KeyList}
-use Rattle.rh_planner.specs.declared.key_lists.Place.{Place}
-use Rattle.rh_planner.specs.declared.key_lists.Place.TheVariants.{Path, Memory}
+use Rattle.rh_planner.specs.declared.key_lists.Source.{Source}
+use Rattle.rh_planner.specs.declared.key_lists.Source.TheVariants.{Path, Memory}
 use Rattle.rh_planner.specs.Commands.{IsSnapshotOf}
 use Rattle.rh_planner.specs.Found.{keys_found, table_found}
 use Rattle.rh_planner.specs.Files.{Bytes, File, FileMap, HasFiles, HasOthers, IsFile, Sealed, with_snapshot}
@@ -92,15 +92,6 @@ put_files files now path bytes table is has other =
 
 -- ---- a path in doubt
 
-pub all_others : (path : List ℕ) (files : FileMap) (now : Option Files) → HasFiles files now → HasOthers path files now
-all_others path files None has = absurd has
-all_others path files (Some now) has = λ other away. has other
-
-pub doubt_others : (path : List ℕ) (files : FileMap) (old new : Option Files) → HasFiles files old → InDoubt old new path → HasOthers path files new
-doubt_others path files None new has doubt = absurd has
-doubt_others path files (Some old) new has doubt =
-    subst (HasOthers path files) (sym doubt.1) (λ other away. subst (IsFile (files other)) (sym (doubt.2 other away)) (has other))
-
 -- ---- lists at other paths
 
 elsewhere : (path other : List ℕ) → bytes_eq other path ≡ false → bytes_eq path other ≡ false
@@ -109,7 +100,7 @@ elsewhere path other away =
     true≢false (sym ((bytes_eq-Decides other path).1 (sym ((bytes_eq-Decides path other).0 is))) ∙ away))
 
 module _ (now : Files) (path bytes : List ℕ) where
-  still_stands : (list : KeyList) (place : Place) (keys : List ℕ) → list.place ≡ place → is_given path (path_of place) ≡ false → Stands (Some now) list keys → Stands (Some (with_file now path bytes)) list keys
+  still_stands : (list : KeyList) (source : Source) (keys : List ℕ) → list.source ≡ source → is_given path (path_of source) ≡ false → Stands (Some now) list keys → Stands (Some (with_file now path bytes)) list keys
   unfolding is_given
   still_stands list (Path p) keys at apart stands =
       let away = elsewhere path p.now (or_parts (bytes_eq p.now path) false apart).0 in
@@ -124,8 +115,8 @@ module _ (now : Files) (path bytes : List ℕ) where
   stand_apart [] (n ∷ named) apart stand = absurd stand
   stand_apart (l ∷ lists) [] apart stand = absurd stand
   stand_apart (l ∷ lists) (n ∷ named) apart stand =
-      let both = or_parts _ _ (sym (list_any-append (λ other. bytes_eq other path) (path_of l.place) (paths_of lists)) ∙ apart) in
-      (still_stands l l.place n.1 refl both.0 stand.0, stand_apart lists named both.1 stand.1)
+      let both = or_parts _ _ (sym (list_any-append (λ other. bytes_eq other path) (path_of l.source) (paths_of lists)) ∙ apart) in
+      (still_stands l l.source n.1 refl both.0 stand.0, stand_apart lists named both.1 stand.1)
 
 -- ---- a snapshot put on a shelf whose files are known
 

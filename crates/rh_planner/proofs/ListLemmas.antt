@@ -79,6 +79,6 @@ spelled_in_memory keys saved old new none written in_range few same =
 
 -- ---- the paths of lists
 
-pub paths_more : (lists new : List KeyList) (list : KeyList) → new ≡ lists ++ list ∷ [] → paths_of new ≡ paths_of lists ++ path_of list.place
+pub paths_more : (lists new : List KeyList) (list : KeyList) → new ≡ lists ++ list ∷ [] → paths_of new ≡ paths_of lists ++ path_of list.source
 paths_more lists new list is =
-    ap paths_of is ∙ flat_map-append (λ (l : KeyList). path_of l.place) lists (list ∷ []) ∙ ap (λ paths. paths_of lists ++ paths) (append-nil (path_of list.place))
+    ap paths_of is ∙ flat_map-append (λ (l : KeyList). path_of l.source) lists (list ∷ []) ∙ ap (λ paths. paths_of lists ++ paths) (append-nil (path_of list.source))

@@ -22,7 +22,7 @@ use Rattle.rh_planner.specs.declared.fault.RunFault.{RunFault}
 use Rattle.rh_planner.specs.declared.key_lists.KeyList.{KeyList}
 use Rattle.rh_planner.specs.Files.{HasFiles, given_files}
 use Rattle.rh_planner.specs.KeyLists.{paths_of}
-use Rattle.rh_planner.specs.Meaning.{◌>>=◌, World, Outcome, at_line, keys_in, meaning, outcome_of, size_for, start, table_in}
+use Rattle.rh_planner.specs.Meaning.{◌>>=◌, ScriptState, Outcome, at_line, keys_in, meaning, outcome_of, size_for, start, table_in}
 use Rattle.rh_files.specs.Counting.{Rose}
 use Rattle.rh_planner.specs.Outside.{IsOutside}
 use Rattle.rh_planner.specs.Ends.{Done, EndsBy, LeavesFiles, SaysAll, Stopped}
@@ -33,7 +33,7 @@ use Rattle.rh_planner.proofs.ListLemmas.{place_inside}
 
 -- ---- what a step does to the names
 
-abbrev as_ok : World × Account → Outcome
+abbrev as_ok : ScriptState × Account → Outcome
 as_ok done = Ok done
 
 abbrev lists_of : Outcome → Named
@@ -44,14 +44,14 @@ then_ok : {A B E : Type 0} (r : Result A E) (f : A → Result B E) (y : B) → (
 then_ok (Ok x) f y h = (x, refl, h)
 then_ok (Err e) f y h = absurd cc
 
-same_names : (w v : World) (done : World × Account) (account : Account) → as_ok (v, account) ≡ Ok done → v.lists ≡ w.lists → names_of done.0.lists ≡ names_of w.lists ++ []
+same_names : (w v : ScriptState) (done : ScriptState × Account) (account : Account) → as_ok (v, account) ≡ Ok done → v.lists ≡ w.lists → names_of done.0.lists ≡ names_of w.lists ++ []
 same_names w v done account is same = ap (λ (o : Outcome). names_of (lists_of o)) (sym is) ∙ ap names_of same ∙ sym (append-nil (names_of w.lists))
 
 names_push : (named : Named) (name keys : List ℕ) → names_of (named ++ (name, keys) ∷ []) ≡ names_of named ++ name ∷ []
 names_push [] name keys = refl
 names_push (n ∷ named) name keys = ap (λ l. n.0 ∷ l) (names_push named name keys)
 
-names_after : (w : World) (said : Instruction) (done : World × Account) → outcome_of w said ≡ Ok done → names_of done.0.lists ≡ names_of w.lists ++ given_by said
+names_after : (w : ScriptState) (said : Instruction) (done : ScriptState × Account) → outcome_of w said ≡ Ok done → names_of done.0.lists ≡ names_of w.lists ++ given_by said
 unfolding outcome_of
 names_after w (Use name path) done is =
     let s = then_ok (keys_in (w.files path)) _ done is in
@@ -70,27 +70,27 @@ names_after w (Restore path) done is = let s = then_ok (table_in (w.files path))
 -- ---- one step more
 
 abbrev Course : Type 0
-Course = Result (World × List Account) RunFault
+Course = Result (ScriptState × List Account) RunFault
 
-abbrev reached_in : World × List Account → Course → World × List Account
+abbrev reached_in : ScriptState × List Account → Course → ScriptState × List Account
 reached_in d (Ok x) = x
 reached_in d (Err e) = d
 
-meaning_more : (w : World) (before : List Numbered) (step : Numbered) (v : World) (accounts : List Account) (done : World × Account) → meaning w before ≡ Ok (v, accounts) → outcome_of v step.instruction ≡ Ok done → meaning w (before ++ step ∷ []) ≡ Ok (done.0, accounts ++ done.1 ∷ [])
+meaning_more : (w : ScriptState) (before : List Numbered) (step : Numbered) (v : ScriptState) (accounts : List Account) (done : ScriptState × Account) → meaning w before ≡ Ok (v, accounts) → outcome_of v step.instruction ≡ Ok done → meaning w (before ++ step ∷ []) ≡ Ok (done.0, accounts ++ done.1 ∷ [])
 unfolding meaning
 meaning_more w [] step v accounts done means is =
     let here : (w, []) ≡ (v, accounts) = ap (reached_in (w, [])) means in
-    let there : outcome_of w step.instruction ≡ Ok done = ap (λ (x : World × List Account). outcome_of x.0 step.instruction) here ∙ is in
-    ap (λ o. at_line step.line o >>= (λ d. Ok (d.0, d.1 ∷ []))) there ∙ ap (λ (x : World × List Account). Ok (done.0, x.1 ++ done.1 ∷ [])) here
+    let there : outcome_of w step.instruction ≡ Ok done = ap (λ (x : ScriptState × List Account). outcome_of x.0 step.instruction) here ∙ is in
+    ap (λ o. at_line step.line o >>= (λ d. Ok (d.0, d.1 ∷ []))) there ∙ ap (λ (x : ScriptState × List Account). Ok (done.0, x.1 ++ done.1 ∷ [])) here
 meaning_more w (s ∷ before) step v accounts done means is =
     let first = then_ok (at_line s.line (outcome_of w s.instruction)) _ (v, accounts) means in
     let rest = then_ok (meaning first.0.0 before) _ (v, accounts) first.2 in
     let here : (rest.0.0, first.0.1 ∷ rest.0.1) ≡ (v, accounts) = ap (reached_in (v, accounts)) rest.2 in
-    let there : outcome_of rest.0.0 step.instruction ≡ Ok done = ap (λ (x : World × List Account). outcome_of x.0 step.instruction) here ∙ is in
+    let there : outcome_of rest.0.0 step.instruction ≡ Ok done = ap (λ (x : ScriptState × List Account). outcome_of x.0 step.instruction) here ∙ is in
     let more = meaning_more first.0.0 before step rest.0.0 rest.0.1 done rest.1 there in
     ap (λ r. r >>= (λ d. meaning d.0 (before ++ step ∷ []) >>= (λ others. Ok (others.0, d.1 ∷ others.1)))) first.1
     ∙ ap (λ (r : Course). r >>= (λ others. Ok (others.0, first.0.1 ∷ others.1))) more
-    ∙ ap (λ (x : World × List Account). Ok (done.0, x.1 ++ done.1 ∷ [])) here
+    ∙ ap (λ (x : ScriptState × List Account). Ok (done.0, x.1 ++ done.1 ∷ [])) here
 
 says_more : (accounts : List Account) (text : List ℕ) (account : Account) (more : List ℕ) → SaysAll accounts text → Says account more → SaysAll (accounts ++ account ∷ []) (text ++ more)
 says_more [] text account more says new = (more, [], new, refl, ap (λ l. l ++ more) says ∙ sym (append-nil more))
@@ -127,7 +127,7 @@ planned_long given (s ∷ steps) = ap suc (planned_long (given ++ given_by s.ins
 -- ---- the loop over the plan
 
 module _ (files : Files) (before : List Numbered) (step : Numbered) (set after : Held) (lists lists' : List KeyList) (was now : Option Files) (old middle new : Option (List ℕ)) (so_far : Reached files was before set lists old middle) where
-  abbrev world : World
+  abbrev world : ScriptState
   world = world_of set so_far.done.named so_far.done.made
 
   reached_more : (did : StepDone (outcome_of world step.instruction) now after lists' middle new) → paths_of lists' ≡ paths_of lists ++ file_of step.instruction → Reached files now (before ++ step ∷ []) after lists' old new
@@ -167,7 +167,7 @@ reached_start files now set lists old known keys bits none = record {
 
 -- ---- a step of a plan
 
--- the step that the plan has at this place is the script's, and has its number
+-- the step that the plan has at this position is the script's, and has its number
 pub record StepAt (steps : List Numbered) (i : ℕ) (step : PlannedStep) : Type 0 where
   pub numbered : Numbered
   pub parts : steps ≡ take i steps ++ numbered ∷ drop (i + 1) steps
@@ -249,7 +249,7 @@ more_lists steps i step said n m more is so_far grown =
     omega (arith, both, same, now, so_far, grown)
 
 module _ (files : Files) (steps : List Numbered) (i : ℕ) (step : PlannedStep) (set : Held) (lists : List KeyList) (was : Option Files) (old middle : Option (List ℕ)) (here : StepAt steps i step) (so_far : Reached files was (take i steps) set lists old middle) where
-  abbrev world_here : World
+  abbrev world_here : ScriptState
   world_here = world_of set so_far.done.named so_far.done.made
 
   pub its_number : number_after (names_of so_far.done.named) (task_as step.task).0 ≡ (task_as step.task).1

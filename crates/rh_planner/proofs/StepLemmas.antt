@@ -16,7 +16,7 @@ use Rattle.rh_report.specs.Account.{Account, Says}
 use Rattle.rh_report.specs.Account as accounts
 use Rattle.rh_planner.specs.declared.fault.Cause.{Cause}
 use Rattle.rh_planner.specs.declared.fault.Cause.TheVariants.{Write}
-use Rattle.rh_planner.specs.Meaning.{◌>>=◌, World, Outcome, adds, drops, keeps, flips, keys_in, restores, snapshots, table_in, uses}
+use Rattle.rh_planner.specs.Meaning.{◌>>=◌, ScriptState, Outcome, adds, drops, keeps, flips, keys_in, restores, snapshots, table_in, uses}
 use Rattle.rh_planner.specs.Commands.{Added, Dropped, Kept, Flipped}
 use Rattle.rh_planner.specs.Ends.{EndsBy, RefusedBy, TellsFront}
 use Rattle.rh_planner.specs.Steps.{Named, world_of}
@@ -45,8 +45,8 @@ module _ (outside : Cause → Type 0) (old : Option (List ℕ)) (cause : Cause) 
   none_refused found y outcome is (inl said) = let none : Ok y ≡ Err cause = sym is ∙ said in absurd cc
   none_refused found y outcome is (inr out) = inl (Appends-nil old, inr out)
 
-pub not_told : (outcome : Outcome) (old new : Option (List ℕ)) (after : World) (account : Account) (text : List ℕ) → outcome ≡ Ok (after, account) → Says account text → AppendsFront old new text
-    → (Write ≡ Write) × (done : World × Account) × (outcome ≡ Ok done) × TellsFront done.1 old new
+pub not_told : (outcome : Outcome) (old new : Option (List ℕ)) (after : ScriptState) (account : Account) (text : List ℕ) → outcome ≡ Ok (after, account) → Says account text → AppendsFront old new text
+    → (Write ≡ Write) × (done : ScriptState × Account) × (outcome ≡ Ok done) × TellsFront done.1 old new
 not_told outcome old new after account text is says front = (refl, (after, account), is, (text, says, front))
 
 -- ---- what the commands make

@@ -15,7 +15,7 @@ use Rattle.rh_planner.specs.declared.fault.Cause.TheVariants as causes
 use Rattle.rh_planner.specs.declared.key_lists.KeyList.{KeyList}
 use Rattle.rh_planner.specs.Files.{Bytes, File, FileMap, HasFiles, Sealed}
 use Rattle.rh_planner.specs.KeyLists.{Stands}
-use Rattle.rh_planner.specs.Meaning.{◌>>=◌, World, Outcome, keys_in, keys_or_cause, list_of, outcome_of, size_for, size_or_cause, table_in, table_or_cause}
+use Rattle.rh_planner.specs.Meaning.{◌>>=◌, ScriptState, Outcome, keys_in, keys_or_cause, list_of, outcome_of, size_for, size_or_cause, table_in, table_or_cause}
 use Rattle.rh_planner.specs.Outside.{IsOutside}
 use Rattle.rh_planner.specs.Ends.{EndsBy, LeavesFiles, LeavesOthers}
 use Rattle.rh_planner.specs.Steps.{ListsStand, Named, PlainEnds, StateEnds, StepEnds, names_of, world_of}
@@ -40,7 +40,7 @@ bound_files : {A : Type 0} (r : Result A Cause) (f : A → Outcome) (files : Fil
 bound_files (Ok x) f files same = same x
 bound_files (Err cause) f files same = refl
 
-files_stay : (w : World) (said : Instruction) → IsPlain said → files_in w.files (outcome_of w said) ≡ w.files
+files_stay : (w : ScriptState) (said : Instruction) → IsPlain said → files_in w.files (outcome_of w said) ≡ w.files
 unfolding outcome_of
 files_stay w (Use name path) plain = bound_files (keys_in (w.files path)) _ w.files (λ _. refl)
 files_stay w (Add name) plain = bound_files (size_for _ _) _ w.files (λ _. refl)
@@ -81,7 +81,7 @@ size_told : (size : Option ℕ) → size_or_cause size ≡ Err causes.Write → 
 size_told (Some bits) h = absurd cc
 size_told None h = absurd cc
 
-never_write : (w : World) (said : Instruction) → outcome_of w said ≡ Err causes.Write → ⊥
+never_write : (w : ScriptState) (said : Instruction) → outcome_of w said ≡ Err causes.Write → ⊥
 unfolding outcome_of
 never_write w (Use name path) h = bound_told (keys_in (w.files path)) _ (keys_told (w.files path)) (λ x g. absurd cc) h
 never_write w (Add name) h = bound_told (size_for _ _) _ (size_told _) (λ x g. absurd cc) h
@@ -122,8 +122,8 @@ others_left Dump files now plain has = has
 others_left (Snapshot path) files now plain has = absurd plain
 others_left (Restore path) files now plain has = has
 
-module _ (w : World) (said : Instruction) (now : Option Files) (plain : IsPlain said) (has : HasFiles w.files now) where
-  made_none : (done : World × Account) → outcome_of w said ≡ Ok done → HasFiles done.0.files now
+module _ (w : ScriptState) (said : Instruction) (now : Option Files) (plain : IsPlain said) (has : HasFiles w.files now) where
+  made_none : (done : ScriptState × Account) → outcome_of w said ≡ Ok done → HasFiles done.0.files now
   made_none done is = subst (λ files. HasFiles files now) (sym (files_stay w said plain) ∙ ap (files_in w.files) is) has
 
   module _ (failed refused : Type 0) (old new : Option (List ℕ)) where
@@ -140,13 +140,13 @@ module _ (w : World) (said : Instruction) (now : Option Files) (plain : IsPlain 
     plain_state set lists (Ok x) step = record { named = step.0; files = w.files; account = step.1; is = step.2; stand = step.3; has = has; told = step.4 }
     plain_state set lists (Err cause) step = (step, left_by cause step)
 
-pub plain_now : (w : World) (said : Instruction) → IsPlain said → (before now : Option Files) (set : Held) (lists : List KeyList) (failed refused : Type 0) (old new : Option (List ℕ)) (r : Result (Unit {0}) Cause) → now ≡ before → HasFiles w.files before → PlainEnds (outcome_of w said) (IsOutside said failed refused) w.files before set lists old new r
+pub plain_now : (w : ScriptState) (said : Instruction) → IsPlain said → (before now : Option Files) (set : Held) (lists : List KeyList) (failed refused : Type 0) (old new : Option (List ℕ)) (r : Result (Unit {0}) Cause) → now ≡ before → HasFiles w.files before → PlainEnds (outcome_of w said) (IsOutside said failed refused) w.files before set lists old new r
     → StateEnds (outcome_of w said) said failed refused w.files now set lists old new r
 plain_now w said plain before now set lists failed refused old new r same has step =
     subst (λ files. StateEnds (outcome_of w said) said failed refused w.files files set lists old new r) (sym same) (plain_state w said before plain has failed refused old new set lists r step)
 
 -- a step that did not use the shelf, whose files are known
-pub still_now : (w : World) (said : Instruction) → IsPlain said → (now : Option Files) (named : Named) (set : Held) (lists lists' : List KeyList) (failed refused : Type 0) (old new : Option (List ℕ)) (r : Result (Unit {0}) Cause) → HasFiles w.files now → ListsStand now lists named
+pub still_now : (w : ScriptState) (said : Instruction) → IsPlain said → (now : Option Files) (named : Named) (set : Held) (lists lists' : List KeyList) (failed refused : Type 0) (old new : Option (List ℕ)) (r : Result (Unit {0}) Cause) → HasFiles w.files now → ListsStand now lists named
     → ((known : Files) → ListsStand (Some known) lists named → PlainEnds (outcome_of w said) (IsOutside said failed refused) w.files (Some known) set lists' old new r) → StateEnds (outcome_of w said) said failed refused w.files now set lists' old new r
 still_now w said plain None named set lists lists' failed refused old new r has stand step = absurd has
 still_now w said plain (Some known) named set lists lists' failed refused old new r has stand step =
@@ -154,5 +154,5 @@ still_now w said plain (Some known) named set lists lists' failed refused old ne
 
 -- the list that a task names
 pub list_at : (lists : List KeyList) (named : Named) (now : Option Files) (name : List ℕ) (i : ℕ) (list : KeyList) → ListsStand now lists named → place_of name (names_of named) ≡ Some i → list ≡ slice_index_or lists i list → Stands now list (list_of name named)
-list_at lists named now name i list stand place is =
-    subst (λ l. Stands now l (list_of name named)) (sym is) (stands_at now lists named name i list stand place)
+list_at lists named now name i list stand source is =
+    subst (λ l. Stands now l (list_of name named)) (sym is) (stands_at now lists named name i list stand source)

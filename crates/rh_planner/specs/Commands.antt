@@ -36,7 +36,7 @@ pub record Kept (keys : List ℕ) (old new : Held) (found : ℕ) : Type 0 where
   pub held : new.keys ≡ set_after Insert set.empty (chosen true old.keys keys)
   pub counted : found ≡ length (chosen true old.keys keys)
 
--- how many keys a table is to hold while the list is flipped, its places counted
+-- how many keys a table is to hold while the list is flipped, its positions counted
 abbrev pub flipped_most : Keys → List ℕ → ℕ
 flipped_most S keys = set.len (set_after Remove S keys) + length (chosen false S keys)
 

@@ -11,7 +11,7 @@ use Rattle.rh_planner.specs.declared.fault.Cause.TheVariants.{Missing, Changed, 
 use Rattle.rh_planner.specs.declared.fault.RunFault.{RunFault}
 use Rattle.rh_planner.specs.declared.report.Report.{Report}
 use Rattle.rh_planner.specs.Files.{FileMap, HasFiles, HasOthers}
-use Rattle.rh_planner.specs.Meaning.{World, Outcome, start, meaning, outcome_of}
+use Rattle.rh_planner.specs.Meaning.{ScriptState, Outcome, start, meaning, outcome_of}
 use Rattle.rh_planner.specs.Outside.{IsOutside}
 
 -- the text says these accounts, one after the other
@@ -23,7 +23,7 @@ SaysAll (account ∷ accounts) text = (first : List ℕ) × (rest : List ℕ) ×
 abbrev pub RefusedBy : {Y : Type 0} → Result Y Cause → (outside : Cause → Type 0) → Cause → Type 0
 RefusedBy said outside cause = (said ≡ Err cause) ⊎ outside cause
 
--- A list that was chosen from before is read again: `Changed` comes also where it is not one of which as many places
+-- A list that was chosen from before is read again: `Changed` comes also where it is not one of which as many positions
 -- are chosen.
 abbrev pub RefusedAgain : Result (List ℕ) Cause → (chosen : List ℕ → List ℕ) → (many : ℕ) → (outside : Cause → Type 0) → Cause → Type 0
 RefusedAgain said chosen many outside cause =
@@ -60,7 +60,7 @@ TellsFront account old new = (text : List ℕ) × Says account text × AppendsFr
 -- A command was refused and told nothing; or its account could not be written whole.
 abbrev pub EndsBy : Outcome → (outside : Cause → Type 0) → Option (List ℕ) → Option (List ℕ) → Cause → Type 0
 EndsBy outcome outside old new cause =
-    (Appends old new [] × RefusedBy outcome outside cause) ⊎ ((cause ≡ Write) × (done : World × Account) × (outcome ≡ Ok done) × TellsFront done.1 old new)
+    (Appends old new [] × RefusedBy outcome outside cause) ⊎ ((cause ≡ Write) × (done : ScriptState × Account) × (outcome ≡ Ok done) × TellsFront done.1 old new)
 
 -- What a command that was refused leaves of the files: those that it found, but for the path of a snapshot.
 abbrev pub LeavesOthers : Instruction → FileMap → (now : Option Files) → Type 0
@@ -69,13 +69,13 @@ LeavesOthers _ files now = HasFiles files now
 
 -- And where its account could not be written, those that it made.
 abbrev pub LeavesFiles : Outcome → Instruction → FileMap → (now : Option Files) → Cause → Type 0
-LeavesFiles outcome said files now Write = (done : World × Account) × (outcome ≡ Ok done) × HasFiles done.0.files now
+LeavesFiles outcome said files now Write = (done : ScriptState × Account) × (outcome ≡ Ok done) × HasFiles done.0.files now
 LeavesFiles outcome said files now _ = LeavesOthers said files now
 
 -- All steps were carried out: the text is what they have to report, the shelf has the files that they made, and the
 -- report counts them and tells the table.
 pub record Done (files : Files) (now : Option Files) (steps : List Numbered) (old new : Option (List ℕ)) (report : Report) : Type 0 where
-  pub world : World
+  pub world : ScriptState
   pub accounts : List Account
   pub text : List ℕ
   pub means : meaning (start files) steps ≡ Ok (world, accounts)
@@ -92,7 +92,7 @@ pub record Stopped (files : Files) (now : Option Files) (failed refused : Type 0
   pub after : List Numbered
   pub parts : steps ≡ before ++ step ∷ after
   pub line : fault.line ≡ step.line
-  pub world : World
+  pub world : ScriptState
   pub accounts : List Account
   pub text : List ℕ
   pub means : meaning (start files) before ≡ Ok (world, accounts)

@@ -1,4 +1,4 @@
--- What a script means (this project's own): what its commands make, one after the other, of a set, the bits of its
+-- What a script means: what its commands make, one after the other, of a set, the bits of its
 -- table, the lists that have a name and the files, and what each has to report. It ends at the first command that is
 -- refused.
 use Rattle.std.specs.Prelude.{ℕ, ◌+◌, true, false, List, [], ◌∷◌, ◌++◌, length, Option, Some, None, Result, Ok, Err, unwrap_or}
@@ -32,14 +32,14 @@ use Rattle.rh_planner.specs.Files.{File, FileMap, Bytes, Sealed, given_files, wi
 
 -- what there is between two commands: the keys that are held, the bits of their table, the lists by their names in the
 -- order in which they were given, and the files
-pub record World : Type 0 where
+pub record ScriptState : Type 0 where
   pub held : Keys
   pub bits : ℕ
   pub lists : List (List ℕ × List ℕ)
   pub files : FileMap
 
 -- before the first command
-abbrev pub start : Files → World
+abbrev pub start : Files → ScriptState
 start files = record { held = set.empty; bits = MIN_BITS; lists = []; files = given_files files }
 
 -- the list of this name; a script names no other
@@ -55,7 +55,7 @@ abbrev pub ◌>>=◌ : {A B E : Type 0} → Result A E → (A → Result B E) �
 (Err e) >>= f = Err e
 
 abbrev pub Outcome : Type 0
-Outcome = Result (World × Account) Cause
+Outcome = Result (ScriptState × Account) Cause
 
 abbrev pub keys_or_cause : Result (List ℕ) KeyFault → Result (List ℕ) Cause
 keys_or_cause (Ok keys) = Ok keys
@@ -86,31 +86,31 @@ abbrev pub size_for : (bits n : ℕ) → Result ℕ Cause
 size_for bits n = size_or_cause (capacity bits n)
 
 -- the list has a name from now on
-abbrev pub named : World → (name keys : List ℕ) → World
+abbrev pub named : ScriptState → (name keys : List ℕ) → ScriptState
 named w name keys = record w { lists = w.lists ++ (name, keys) ∷ [] }
 
-abbrev pub uses : World → (name path : List ℕ) → Outcome
+abbrev pub uses : ScriptState → (name path : List ℕ) → Outcome
 uses w name path = keys_in (w.files path) >>= (λ keys. Ok (named w name keys, Used name (length keys)))
 
 -- the keys of the list are held too
-abbrev pub adds : World → (name keys : List ℕ) → Outcome
+abbrev pub adds : ScriptState → (name keys : List ℕ) → Outcome
 adds w name keys =
     let held = set_after Insert w.held keys in
     size_for w.bits (set.len w.held + length keys)
     >>= (λ bits. Ok (record w { held = held; bits = bits }, Added name (length keys) (tally_of Insert w.held keys).added (set.len held) bits))
 
 -- the keys of the list are held no more
-abbrev pub drops : World → (name keys : List ℕ) → Outcome
+abbrev pub drops : ScriptState → (name keys : List ℕ) → Outcome
 drops w name keys =
     let held = set_after Remove w.held keys in
     Ok (record w { held = held }, Dropped name (length keys) (tally_of Remove w.held keys).removed (set.len held) w.bits)
 
 -- the keys of the list are looked up
-abbrev pub asks : World → (name keys : List ℕ) → Outcome
+abbrev pub asks : ScriptState → (name keys : List ℕ) → Outcome
 asks w name keys = Ok (w, Asked name (looked_up w.held keys))
 
 -- of the keys that are held, those of the list are kept
-abbrev pub keeps : World → (name keys : List ℕ) → Outcome
+abbrev pub keeps : ScriptState → (name keys : List ℕ) → Outcome
 keeps w name keys =
     let found = chosen true w.held keys in
     let held = set_after Insert set.empty found in
@@ -118,7 +118,7 @@ keeps w name keys =
     >>= (λ bits. Ok (record w { held = held; bits = bits }, Kept name (length keys) (length found) (set.len held) bits))
 
 -- the keys of the list that are held are dropped, and the others are added
-abbrev pub flips : World → (name keys : List ℕ) → Outcome
+abbrev pub flips : ScriptState → (name keys : List ℕ) → Outcome
 flips w name keys =
     let others = chosen false w.held keys in
     let left = set_after Remove w.held keys in
@@ -127,29 +127,29 @@ flips w name keys =
     >>= (λ bits. Ok (record w { held = held; bits = bits }, Flipped name (length keys) (tally_of Remove w.held keys).removed (tally_of Insert left others).added (set.len held) bits))
 
 -- the keys that are held become a list, in rising order
-abbrev pub saves : World → (name : List ℕ) → Outcome
+abbrev pub saves : ScriptState → (name : List ℕ) → Outcome
 saves w name = Ok (named w name (rising_keys w.held), Saved name (set.len w.held))
 
-abbrev pub clears : World → Outcome
+abbrev pub clears : ScriptState → Outcome
 clears w = Ok (record w { held = set.empty; bits = MIN_BITS }, Cleared)
 
-abbrev pub dumps : World → Outcome
+abbrev pub dumps : ScriptState → Outcome
 dumps w = Ok (w, Dumped w.held w.bits)
 
-abbrev pub table_of : World → Held
+abbrev pub table_of : ScriptState → Held
 table_of w = record { bits = w.bits; keys = w.held }
 
 -- the path has a snapshot of the table from now on
-abbrev pub snapshots : World → (path : List ℕ) → Outcome
+abbrev pub snapshots : ScriptState → (path : List ℕ) → Outcome
 snapshots w path = Ok (record w { files = with_snapshot w.files path (table_of w) }, accounts.Sealed path (set.len w.held) w.bits)
 
 -- the table is that of the snapshot
-abbrev pub restores : World → (path : List ℕ) → Outcome
+abbrev pub restores : ScriptState → (path : List ℕ) → Outcome
 restores w path =
     table_in (w.files path)
     >>= (λ table. Ok (record w { held = table.keys; bits = table.bits }, Restored path (set.len table.keys) table.bits))
 
-unfoldable pub outcome_of : World → Instruction → Outcome
+unfoldable pub outcome_of : ScriptState → Instruction → Outcome
 outcome_of w (instructions.Use name path) = uses w name path
 outcome_of w (instructions.Add name) = adds w name (list_of name w.lists)
 outcome_of w (instructions.Drop name) = drops w name (list_of name w.lists)
@@ -164,12 +164,12 @@ outcome_of w (instructions.Restore path) = restores w path
 
 -- ---- the steps of a script
 
-abbrev pub at_line : ℕ → Outcome → Result (World × Account) RunFault
+abbrev pub at_line : ℕ → Outcome → Result (ScriptState × Account) RunFault
 at_line line (Ok done) = Ok done
 at_line line (Err cause) = Err (record { line = line; cause = cause })
 
 -- what the steps make, and their accounts; or the first refusal
-unfoldable pub meaning : World → List Numbered → Result (World × List Account) RunFault
+unfoldable pub meaning : ScriptState → List Numbered → Result (ScriptState × List Account) RunFault
 meaning w [] = Ok (w, [])
 meaning w (step ∷ steps) =
     at_line step.line (outcome_of w step.instruction) >>= (λ done. meaning done.0 steps >>= (λ rest. Ok (rest.0, done.1 ∷ rest.1)))

@@ -11,7 +11,7 @@ use Rattle.rh_planner.specs.declared.fault.Cause.{Cause}
 use Rattle.rh_planner.specs.declared.key_lists.KeyList.{KeyList}
 use Rattle.rh_planner.specs.KeyLists.{Stands, paths_of}
 use Rattle.rh_planner.specs.Files.{FileMap, HasFiles}
-use Rattle.rh_planner.specs.Meaning.{World, Outcome}
+use Rattle.rh_planner.specs.Meaning.{ScriptState, Outcome}
 use Rattle.rh_planner.specs.Outside.{IsOutside}
 use Rattle.rh_planner.specs.Ends.{EndsBy, LeavesFiles, Tells}
 
@@ -20,7 +20,7 @@ abbrev pub Named : Type 0
 Named = List (List ℕ × List ℕ)
 
 -- the world of a set, some named lists and the files
-abbrev pub world_of : Held → Named → FileMap → World
+abbrev pub world_of : Held → Named → FileMap → ScriptState
 world_of set lists files = record { held = set.keys; bits = set.bits; lists = lists; files = files }
 
 -- each list has its keys
@@ -33,7 +33,7 @@ abbrev pub names_of : Named → List (List ℕ)
 names_of lists = map (λ named. named.0) lists
 
 -- A step made this world of that which it found, and told its account; or it was refused, or could not be told.
-abbrev pub StepEnds : Outcome → (outside : Cause → Type 0) → World → Option (List ℕ) → Option (List ℕ) → Result (Unit {0}) Cause → Type 0
+abbrev pub StepEnds : Outcome → (outside : Cause → Type 0) → ScriptState → Option (List ℕ) → Option (List ℕ) → Result (Unit {0}) Cause → Type 0
 StepEnds outcome outside after old new r =
     MatchResult r (λ _. (account : Account) × (outcome ≡ Ok (after, account)) × Tells account old new) (EndsBy outcome outside old new)
 

@@ -19,7 +19,7 @@ ghost use Rattle.rh_planner.specs.Commands.{size_to_add, size_to_flip, size_to_k
 ghost use Rattle.rh_planner.specs.Outside.{ListFails, PhaseFails};
 
 use crate::fault::Cause;
-use crate::key_lists::{KeyList, Place};
+use crate::key_lists::{KeyList, Source};
 use crate::opening::{fetched, keys_again, open_list};
 use crate::size::{copied, grown};
 use rh_edit::SeqSet;
@@ -65,7 +65,7 @@ pub(crate) fn add<T: Threads + Wait + Sync, S: Shelf, N: Runner>(
     ensures added { IfOk result (λ told. (keys : List ℕ) × Gave (S.files shelf.old) list.now keys
         × Added keys set.old set.new told) }
     ensures refused { (files : Files) → S.files shelf.old ≡ Some files → IfErr result
-        (RefusedBy (size_to_add set.old list.now.count (bytes_at files list.now.place))
+        (RefusedBy (size_to_add set.old list.now.count (bytes_at files list.now.source))
         (PhaseFails (Rose (S.failures shelf.old) (S.failures shelf.new))
         (Rose (N.refused_starts runner.old) (N.refused_starts runner.new)))) }
     ensures unchanged { OnErr result (set.new ≡ set.old) }
@@ -96,7 +96,7 @@ pub(crate) fn drop_keys<T: Threads + Wait + Sync, S: Shelf, N: Runner>(
     ensures dropped { IfOk result (λ told. (keys : List ℕ) × Gave (S.files shelf.old) list.now keys
         × Dropped keys set.old set.new told) }
     ensures refused { (files : Files) → S.files shelf.old ≡ Some files → IfErr result
-        (RefusedBy (keys_again list.now.count (bytes_at files list.now.place))
+        (RefusedBy (keys_again list.now.count (bytes_at files list.now.source))
         (PhaseFails (Rose (S.failures shelf.old) (S.failures shelf.new))
         (Rose (N.refused_starts runner.old) (N.refused_starts runner.new)))) }
     ensures unchanged { OnErr result (set.new ≡ set.old) }
@@ -127,7 +127,7 @@ pub(crate) fn ask<T: Threads + Wait + Sync, S: Shelf, N: Runner>(
     ensures asked { IfOk result (λ answers. (keys : List ℕ) × Gave (S.files shelf.old) list.now keys
         × (answers.items ≡ looked_up set.now.keys keys)) }
     ensures refused { (files : Files) → S.files shelf.old ≡ Some files → IfErr result
-        (RefusedBy (keys_again list.now.count (bytes_at files list.now.place))
+        (RefusedBy (keys_again list.now.count (bytes_at files list.now.source))
         (PhaseFails (Rose (S.failures shelf.old) (S.failures shelf.new))
         (Rose (N.refused_starts runner.old) (N.refused_starts runner.new)))) }
     ensures shelf { KeepsShelf (S.files shelf.old) (S.files shelf.new) (S.failures shelf.old)
@@ -142,7 +142,7 @@ pub(crate) fn ask<T: Threads + Wait + Sync, S: Shelf, N: Runner>(
 }
 
 /// Keeps of the set the keys of the list alone, in a table of the least size for them, and answers
-/// how many places of the list they have. The list is read twice.
+/// how many positions of the list they have. The list is read twice.
 pub(crate) fn keep<T: Threads + Wait + Sync, S: Shelf, N: Runner>(
     rt: &T,
     alloc: Global,
@@ -154,7 +154,7 @@ pub(crate) fn keep<T: Threads + Wait + Sync, S: Shelf, N: Runner>(
     ensures kept { IfOk result (λ found. (keys : List ℕ) × Gave (S.files shelf.old) list.now keys
         × Kept keys set.old set.new found) }
     ensures refused { (files : Files) → S.files shelf.old ≡ Some files → IfErr result
-        (RefusedBy (size_to_keep set.old list.now.count (bytes_at files list.now.place))
+        (RefusedBy (size_to_keep set.old list.now.count (bytes_at files list.now.source))
         (PhaseFails (Rose (S.failures shelf.old) (S.failures shelf.new))
         (Rose (N.refused_starts runner.old) (N.refused_starts runner.new)))) }
     ensures unchanged { OnErr result (set.new ≡ set.old) }
@@ -174,7 +174,7 @@ pub(crate) fn keep<T: Threads + Wait + Sync, S: Shelf, N: Runner>(
     Ok(found)
 }
 
-/// How many places of the list have a key of the set.
+/// How many positions of the list have a key of the set.
 fn count_found<T: Threads + Wait + Sync, S: Shelf, N: Runner>(
     rt: &T,
     alloc: Global,
@@ -186,7 +186,7 @@ fn count_found<T: Threads + Wait + Sync, S: Shelf, N: Runner>(
     ensures found { IfOk result (λ found. (keys : List ℕ) × Gave (S.files shelf.old) list.now keys
         × (found ≡ length (chosen true set.now.keys keys))) }
     ensures refused { (files : Files) → S.files shelf.old ≡ Some files → IfErr result
-        (RefusedBy (keys_again list.now.count (bytes_at files list.now.place))
+        (RefusedBy (keys_again list.now.count (bytes_at files list.now.source))
         (PhaseFails (Rose (S.failures shelf.old) (S.failures shelf.new))
         (Rose (N.refused_starts runner.old) (N.refused_starts runner.new)))) }
     ensures shelf { KeepsShelf (S.files shelf.old) (S.files shelf.new) (S.failures shelf.old)
@@ -202,7 +202,7 @@ fn count_found<T: Threads + Wait + Sync, S: Shelf, N: Runner>(
 }
 
 /// Inserts into the cells those keys of the list that the set holds, or where `wanted` is false,
-/// those that it does not hold. `many` is how many places an earlier reading chose.
+/// those that it does not hold. `many` is how many positions an earlier reading chose.
 fn insert_listed<T: Threads + Wait + Sync, S: Shelf, N: Runner>(
     rt: &T,
     alloc: Global,
@@ -223,7 +223,7 @@ fn insert_listed<T: Threads + Wait + Sync, S: Shelf, N: Runner>(
         × (length (chosen wanted set.now.keys keys) ≡ many)
         × Ran Insert bits (chosen wanted set.now.keys keys) cells.old.items cells.new.items told) }
     ensures refused { (files : Files) → S.files shelf.old ≡ Some files → IfErr result
-        (RefusedAgain (keys_again list.now.count (bytes_at files list.now.place))
+        (RefusedAgain (keys_again list.now.count (bytes_at files list.now.source))
         (chosen wanted set.now.keys) many
         (PhaseFails (Rose (S.failures shelf.old) (S.failures shelf.new))
         (Rose (N.refused_starts runner.old) (N.refused_starts runner.new)))) }
@@ -263,7 +263,7 @@ pub(crate) fn flip<T: Threads + Wait + Sync, S: Shelf, N: Runner>(
         × Gave (S.files shelf.old) list.now first × Gave (S.files shelf.old) list.now second
         × Flipped first second set.old set.new told) }
     ensures refused { (files : Files) → S.files shelf.old ≡ Some files → IfErr result
-        (RefusedBy (size_to_flip set.old list.now.count (bytes_at files list.now.place))
+        (RefusedBy (size_to_flip set.old list.now.count (bytes_at files list.now.source))
         (PhaseFails (Rose (S.failures shelf.old) (S.failures shelf.new))
         (Rose (N.refused_starts runner.old) (N.refused_starts runner.new)))) }
     ensures unchanged { OnErr result (set.new ≡ set.old) }
@@ -282,7 +282,7 @@ pub(crate) fn flip<T: Threads + Wait + Sync, S: Shelf, N: Runner>(
     Ok((removed, added))
 }
 
-/// A copy of the set without the keys of the list, what was counted, and how many places of the
+/// A copy of the set without the keys of the list, what was counted, and how many positions of the
 /// list have a key that the set does not hold.
 fn without_listed<T: Threads + Wait + Sync, S: Shelf, N: Runner>(
     rt: &T,
@@ -295,7 +295,7 @@ fn without_listed<T: Threads + Wait + Sync, S: Shelf, N: Runner>(
     ensures dropped { IfOk result (λ r. (keys : List ℕ) × Gave (S.files shelf.old) list.now keys
         × Dropped keys set.now r.0 r.1 × (r.2 ≡ length (chosen false set.now.keys keys))) }
     ensures refused { (files : Files) → S.files shelf.old ≡ Some files → IfErr result
-        (RefusedBy (keys_again list.now.count (bytes_at files list.now.place))
+        (RefusedBy (keys_again list.now.count (bytes_at files list.now.source))
         (PhaseFails (Rose (S.failures shelf.old) (S.failures shelf.new))
         (Rose (N.refused_starts runner.old) (N.refused_starts runner.new)))) }
     ensures shelf { KeepsShelf (S.files shelf.old) (S.files shelf.new) (S.failures shelf.old)
@@ -319,7 +319,7 @@ pub(crate) fn saved<'a>(alloc: Global, set: &SeqSet) -> Result<KeyList<'a>, Caus
     ensures saved { (files : Files) →
         IfOk result (λ list. Stands (Some files) list (rising_keys set.now.keys)) }
     ensures count { IfOk result (λ list. list.count ≡ finset.len set.now.keys) }
-    ensures no_path { IfOk result (λ list. path_of list.place ≡ []) }
+    ensures no_path { IfOk result (λ list. path_of list.source ≡ []) }
     ensures memory { IfErr result (λ cause. cause ≡ Cause.Memory) }
 {
     let keys = set.sorted_keys(alloc)?;
@@ -328,7 +328,7 @@ pub(crate) fn saved<'a>(alloc: Global, set: &SeqSet) -> Result<KeyList<'a>, Caus
         return Err(Cause::Memory);
     };
     Ok(KeyList {
-        place: Place::Memory(file.into_inner()),
+        source: Source::Memory(file.into_inner()),
         count: keys.len() as u64,
     })
 }

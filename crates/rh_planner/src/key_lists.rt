@@ -5,13 +5,13 @@ use std::io::{self, Read};
 /// A list that has a name: a key file, and its number of keys.
 #[derive(Debug, Drop)]
 pub(crate) struct KeyList<'a> {
-    pub(crate) place: Place<'a>,
+    pub(crate) source: Source<'a>,
     pub(crate) count: u64,
 }
 
 /// Where the key file of a list stands. It is read anew each time.
 #[derive(Debug, Drop)]
-pub(crate) enum Place<'a> {
+pub(crate) enum Source<'a> {
     Path(&'a str),
     Memory(Vec<u8>),
 }

@@ -11,7 +11,7 @@ ghost use Rattle.rh_planner.specs.KeyLists.{Opens, bytes_at, bytes_left};
 ghost use Rattle.rh_planner.specs.Outside.{ListFails};
 
 use crate::fault::Cause;
-use crate::key_lists::{KeyList, ListReader, Place};
+use crate::key_lists::{KeyList, ListReader, Source};
 use rh_files::{Counted, KeyStream, open_keys};
 use rh_shelf::{Shelf, ShelfFault};
 use std::alloc::Global;
@@ -44,19 +44,19 @@ pub(crate) fn open_list<'a, S: Shelf>(
     shelf: &mut S,
     list: &'a KeyList<'_>,
 ) -> Result<Counted<ListReader<'a, S::Reader>>, Cause>
-    ensures opened { IfOk result (λ r. Opens (S.files shelf.old) list.now.place
+    ensures opened { IfOk result (λ r. Opens (S.files shelf.old) list.now.source
         (bytes_left S.Reader.remaining (inner_of r))) }
     ensures refused { (files : Files) → S.files shelf.old ≡ Some files → IfErr result
-        (RefusedBy (header_count (bytes_at files list.now.place))
+        (RefusedBy (header_count (bytes_at files list.now.source))
         (ListFails (Rose (S.failures shelf.old) (S.failures shelf.new)))) }
     ensures shelf { KeepsShelf (S.files shelf.old) (S.files shelf.new) (S.failures shelf.old)
         (S.failures shelf.new) result }
     ensures no_thread { IfErr result (λ cause. cause ≡ Cause.NoThread → ⊥) }
     ensures no_write { IfErr result (λ cause. cause ≡ Cause.Write → ⊥) }
 {
-    Ok(Counted::new(match &list.place {
-        Place::Path(path) => ListReader::File(fetched(alloc, shelf, path)?),
-        Place::Memory(bytes) => ListReader::Memory(bytes),
+    Ok(Counted::new(match &list.source {
+        Source::Path(path) => ListReader::File(fetched(alloc, shelf, path)?),
+        Source::Memory(bytes) => ListReader::Memory(bytes),
     }))
 }
 

@@ -19,7 +19,7 @@ ghost use Rattle.rh_planner.specs.Steps.{ListsStand, Named, PlainEnds, StateEnds
 
 use crate::commands::{add, ask, drop_keys, flip, keep, saved, use_file};
 use crate::fault::Cause;
-use crate::key_lists::{KeyList, Place};
+use crate::key_lists::{KeyList, Source};
 use crate::snapshots::{put_snapshot, restored};
 use rh_edit::SeqSet;
 use rh_files::{Counted, write_dump};
@@ -224,8 +224,8 @@ pub(crate) fn use_step<'a, S: Shelf, W: Write>(
     ensures written { OnOk result (failures_of writer.new ≡ failures_of writer.old) }
 {
     let count = use_file(alloc, shelf, path)?;
-    let place = Place::Path(path);
-    lists.push(KeyList { place, count })?;
+    let source = Source::Path(path);
+    lists.push(KeyList { source, count })?;
     write_used(writer, name, count)?;
     Ok(())
 }

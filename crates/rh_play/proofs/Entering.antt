@@ -182,7 +182,3 @@ unfolding follow
 one_more_order play line order schedule fit is more =
     goes (AmongSchedule, said_of play) line (Schedule order) AmongSchedule _ fit (ap saying_as is) refl
     (mapped_more Schedule (before_orders play) play.schedule.items schedule.items order more)
-
-pub all_given : (table : Table) (pieces : Vec (Vec ℕ Global) Global) (schedule : Vec Order Global) (play : plays.Play) → schedule.items ≡ [] → play ≡ with_work table (work.Pieces pieces) schedule → table_said table ++ map piece_said pieces.items ≡ said_of play
-all_given table pieces schedule play none made =
-    sym (ap said_of made ∙ ap (λ all. (table_said table ++ map piece_said pieces.items) ++ map Schedule all) none ∙ append-nil (table_said table ++ map piece_said pieces.items))

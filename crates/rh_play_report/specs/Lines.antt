@@ -1,4 +1,4 @@
--- The lines that a play prints (this project's own). Numbers are decimal without leading zeros.
+-- The lines that a play prints. Numbers are decimal without leading zeros.
 use Rattle.std.specs.Prelude.{ℕ, Bool, true, false, List, [], ◌++◌, codes, decimal}
 use Rattle.rh_ledger.specs.declared.tally.Tally.{Tally}
 use Rattle.rh_play.specs.declared.schedule.Step.{Step}

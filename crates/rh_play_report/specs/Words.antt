@@ -1,4 +1,4 @@
--- The words for what came of a turn, of a rest, and for the kinds of step (this project's own).
+-- The words for what came of a turn, of a rest, and for the kinds of step.
 use Rattle.std.specs.Prelude.{ℕ, List, codes}
 use Rattle.rh_descriptor.specs.declared.steps.StepKind.{StepKind}
 use Rattle.rh_descriptor.specs.declared.steps.StepKind.TheVariants as kinds

@@ -1,8 +1,8 @@
--- The game with which a play begins, and why there is none. (own)
+-- The game with which a play begins, and why there is none.
 use Rattle.std.specs.Prelude.{◌≡◌, ℕ, ◌^◌, ◌⊎◌, not, nat_lt, if◌then◌else◌, Option, Some, None, List, length}
 use Rattle.std.specs.FinSet as set
 use Rattle.rh_layout.specs.Layout.{Keys, Layout}
-use Rattle.rh_descriptor.specs.Places.{usual_rooms}
+use Rattle.rh_descriptor.specs.Parts.{usual_rooms}
 use Rattle.rh_descriptor.specs.declared.shape.Rooms.{Rooms}
 use Rattle.rh_turns.specs.Game.{Game}
 use Rattle.rh_player.specs.declared.fault.PlayFault.{PlayFault}

@@ -1,4 +1,4 @@
--- The text that a play prints, and what comes of a run. (own)
+-- The text that a play prints, and what comes of a run.
 use Rattle.std.specs.Prelude.{◌≡◌, ◌≢◌, ℕ, Bool, true, false, List, ◌++◌, Option, Some, None, Result, Ok, Err}
 use Rattle.std.specs.Io.KnownBytes.{Appends}
 use Rattle.rh_layout.specs.Layout.{Layout}

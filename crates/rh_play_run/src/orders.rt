@@ -1,7 +1,7 @@
 //! The orders of a schedule.
 
 ghost use Rattle.std.specs.Prelude.{◌≡◌, ◌++◌, List, OnOk, ℕ};
-ghost use Rattle.rh_descriptor.specs.Places.{cell_count};
+ghost use Rattle.rh_descriptor.specs.Parts.{cell_count};
 ghost use Rattle.rh_play_run.specs.Schedule.{Does, HasSize, Rounds, shown};
 
 use crate::resting::rest;

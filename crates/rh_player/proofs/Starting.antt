@@ -14,7 +14,7 @@ use Rattle.rh_ledger.specs.declared.tally.Kind.{Kind}
 use Rattle.rh_ledger.specs.Phase.{most_added}
 use Rattle.rh_descriptor.specs.declared.limits.TheConstants.{MAX_WORKERS}
 use Rattle.rh_descriptor.specs.declared.shape.Rooms.{Rooms}
-use Rattle.rh_descriptor.specs.Places.{IsShape}
+use Rattle.rh_descriptor.specs.Parts.{IsShape}
 use Rattle.rh_acts.specs.Workers.{LeavesRoom}
 use Rattle.rh_turns.specs.declared.hand.Hand.{Hand}
 use Rattle.rh_turns.specs.declared.hand.Share.{Share}
@@ -100,9 +100,6 @@ module _ (kind : Kind) (bits : ℕ) (cells : List ℕ) (workers : ℕ) (keys : L
 
     pub has_room : LeavesRoom kind bits (keys_of cells) keys
     has_room = leaves_room kind bits cells keys layout said.0
-
-    pub some_workers : 0 < workers
-    some_workers = omega (arith, said.1)
 
 -- ---- the pieces of the workers
 

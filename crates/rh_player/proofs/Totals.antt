@@ -16,13 +16,13 @@ use Rattle.rh_run.proofs.Sharing.{claims_few}
 use Rattle.rh_turns.specs.declared.hand.Hand.{Hand}
 use Rattle.rh_turns.specs.declared.hand.Share.{Share}
 use Rattle.rh_turns.specs.declared.hand.Share.TheVariants.{Piece, Claims}
-use Rattle.rh_turns.specs.Hands.{IsClaiming, IsShare, places, view_of}
-use Rattle.rh_turns.specs.Game.{AllFinished, ArePieces, Game, Plays, changed_at, done_at, keep, places_at}
+use Rattle.rh_turns.specs.Hands.{IsClaiming, IsShare, positions, view_of}
+use Rattle.rh_turns.specs.Game.{AllFinished, ArePieces, Game, Plays, changed_at, done_at, keep, positions_at}
 use Rattle.rh_turns.proofs.Apart.{end_of, first_of, piece_within}
 use Rattle.rh_turns.proofs.AtHands.{at_hand_is}
 use Rattle.rh_turns.proofs.Ended.{plays_ends}
 use Rattle.rh_turns.proofs.Playing.{done_claimed, in_hands, kept_at, plays_moment, some_hand}
-use Rattle.rh_turns.proofs.Telling.{places_counted, told_size}
+use Rattle.rh_turns.proofs.Telling.{positions_counted, told_size}
 use Rattle.rh_player.proofs.Showing.{so_far}
 use Rattle.rh_player.specs.Made.{TalliesSo, changed_count, cut, done_count, held_first, total}
 
@@ -112,11 +112,11 @@ joined_total f first (suc n) =
 -- ---- at each moment
 
 module _ (g : Game) (plays : Plays g) where
-  counts_done : (v : ℕ) (d : Hand) → v < length g.hands → (get_or g.hands v d).done ≡ length (places g.shape (get_or g.hands v d))
-  counts_done v d inside = let h : Hand = get_or g.hands v d in sym (places_counted g.shape g.keys h h.share (plays.hands v d inside).share)
+  counts_done : (v : ℕ) (d : Hand) → v < length g.hands → (get_or g.hands v d).done ≡ length (positions g.shape (get_or g.hands v d))
+  counts_done v d inside = let h : Hand = get_or g.hands v d in sym (positions_counted g.shape g.keys h h.share (plays.hands v d inside).share)
 
   pub done_is : total (map (λ h. h.done) g.hands) ≡ done_count g
-  done_is = total_same (λ h. h.done) (λ h. length (places g.shape h)) g.hands counts_done
+  done_is = total_same (λ h. h.done) (λ h. length (positions g.shape h)) g.hands counts_done
 
   -- ---- no more keys are done than the list has
 
@@ -125,10 +125,10 @@ module _ (g : Game) (plays : Plays g) where
 
   few_pieces : ArePieces 0 g.hands (length g.keys) → done_count g ≤ length g.keys
   few_pieces are =
-      let all = pieces_hold (λ h. length (places g.shape h)) 0 g.hands (length g.keys) are (λ v d inside.
+      let all = pieces_hold (λ h. length (positions g.shape h)) 0 g.hands (length g.keys) are (λ v d inside.
       let r = piece_within 0 g.hands (length g.keys) are v d inside in
       let done : r.0 + (get_or g.hands v d).done ≤ r.1 = (done_few v d (Piece r.0 r.1) inside r.2).0 in
-      let count : (get_or g.hands v d).done ≡ length (places g.shape (get_or g.hands v d)) = counts_done v d inside in
+      let count : (get_or g.hands v d).done ≡ length (positions g.shape (get_or g.hands v d)) = counts_done v d inside in
       let first : first_of (get_or g.hands v d).share ≡ r.0 = ap first_of r.2 in
       let end : end_of (get_or g.hands v d).share ≡ r.1 = ap end_of r.2 in
       omega (arith, done, count, first, end)) in
@@ -140,14 +140,14 @@ module _ (g : Game) (plays : Plays g) where
       let run = plays.running in
       let d : Hand = some_hand g plays in
       let some : 0 < length g.hands = in_hands g plays 0 plays.some in
-      let each : (v : ℕ) (d : Hand) → v < length g.hands → length (places z (get_or g.hands v d)) ≤ length (claimed z (keep g (0 + v))) = λ v d inside.
+      let each : (v : ℕ) (d : Hand) → v < length g.hands → length (positions z (get_or g.hands v d)) ≤ length (claimed z (keep g (0 + v))) = λ v d inside.
       let c = are v d inside in
       let most = done_claimed z (get_or g.hands v d) c.0 c.1 (done_few v d (Claims c.0 c.1) inside c.2).1 in
-      let count : (get_or g.hands v d).done ≡ length (places z (get_or g.hands v d)) = counts_done v d inside in
+      let count : (get_or g.hands v d).done ≡ length (positions z (get_or g.hands v d)) = counts_done v d inside in
       let kept : length (claimed z (keep g v)) ≡ length (claimed z (view_of (get_or g.hands v d))) = ap (λ (x : View). length (claimed z x)) (kept_at g plays v (omega (arith, inside, plays.workers)) d) in
       let same : v ≡ 0 + v = omega arith in
-      subst (λ (n : ℕ). length (places z (get_or g.hands v d)) ≤ length (claimed z (keep g n))) same (omega (arith, most, count, kept)) in
-      let few = few_by (λ h. length (places z h)) (λ v. length (claimed z (keep g v))) g.hands 0 each in
+      subst (λ (n : ℕ). length (positions z (get_or g.hands v d)) ≤ length (claimed z (keep g n))) same (omega (arith, most, count, kept)) in
+      let few = few_by (λ h. length (positions z h)) (λ v. length (claimed z (keep g v))) g.hands 0 each in
       let joined_is : length (joined (map (λ v. claimed z (keep g v)) (range_with_len 0 (length g.hands)))) ≡ total (map (λ v. length (claimed z (keep g v))) (range_with_len 0 (length g.hands))) =
       joined_total (λ v. claimed z (keep g v)) 0 (length g.hands) in
       let all : length (joined (map (λ v. claimed z (keep g v)) (range_with_len 0 (length g.hands)))) ≤ z.keys =
@@ -173,14 +173,14 @@ module _ (g : Game) (plays : Plays g) where
   counts_exactly short = (small (done_count g) (omega (arith, short, done_within)), small (changed_count g) (omega (arith, short, done_within, some_changed)))
 
   -- the counts are the sum of those of the workers
-  sums : (done changed : ℕ → ℕ) → ((v : ℕ) → v < length g.hands → (done v ≡ length (places_at g v)) × (changed v ≡ changed_at g v))
+  sums : (done changed : ℕ → ℕ) → ((v : ℕ) → v < length g.hands → (done v ≡ length (positions_at g v)) × (changed v ≡ changed_at g v))
       → tally_by g.kind (done_count g) (changed_count g) ≡ sum_of_all (λ v. tally_by g.kind (done v) (changed v)) g.shape.workers
   sums done changed are =
       let d : Hand = some_hand g plays in
       let all : g.hands ≡ take (length g.hands) g.hands = sym (take_all (length g.hands) g.hands (omega arith)) in
-      (λ i. tally_by g.kind (total (map (λ h. length (places g.shape h)) (all i))) (total (map (λ h. h.changed) (all i))))
-      ∙ sym (sum_is g.kind (λ h. length (places g.shape h)) (λ h. h.changed) done changed g.hands d
-      (λ v inside. ((are v inside).0 ∙ ap length (at_hand_is (places g.shape) [] g.hands v d inside), (are v inside).1 ∙ at_hand_is (λ h. h.changed) 0 g.hands v d inside))
+      (λ i. tally_by g.kind (total (map (λ h. length (positions g.shape h)) (all i))) (total (map (λ h. h.changed) (all i))))
+      ∙ sym (sum_is g.kind (λ h. length (positions g.shape h)) (λ h. h.changed) done changed g.hands d
+      (λ v inside. ((are v inside).0 ∙ ap length (at_hand_is (positions g.shape) [] g.hands v d inside), (are v inside).1 ∙ at_hand_is (λ h. h.changed) 0 g.hands v d inside))
       (length g.hands) (omega arith))
       ∙ ap (sum_of_all (λ v. tally_by g.kind (done v) (changed v))) plays.workers
 
@@ -197,4 +197,4 @@ module _ (g : Game) (plays : Plays g) where
   -- ---- at the end
 
   pub tally_ends : AllFinished g → tally_by g.kind (done_count g) (changed_count g) ≡ tally_of g.kind (held_first g) g.keys
-  tally_ends finished = sums (λ v. length (places_at g v)) (changed_at g) (λ v inside. (refl, refl)) ∙ (plays_ends g plays finished).tally
+  tally_ends finished = sums (λ v. length (positions_at g v)) (changed_at g) (λ v inside. (refl, refl)) ∙ (plays_ends g plays finished).tally

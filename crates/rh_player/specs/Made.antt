@@ -1,4 +1,4 @@
--- What a player shows of what its workers have made. (own)
+-- What a player shows of what its workers have made.
 use Rattle.std.specs.Prelude.{◌≡◌, ◌≢◌, ℕ, ◌+◌, ◌-◌, ◌^◌, ◌<◌, Option, Some, None, Bool, true, false, if◌then◌else◌, List, [], ◌∷◌, length, map, min, ltb, slice_index_or, count_by}
 use Rattle.std.specs.FinSet.{contains}
 use Rattle.rh_layout.specs.Layout.{Keys, keys_of}
@@ -12,7 +12,7 @@ use Rattle.rh_run.specs.Laws.{StandsSo}
 use Rattle.rh_run.specs.Words.{AreNow}
 use Rattle.rh_turns.specs.declared.hand.Share.{Share}
 use Rattle.rh_turns.specs.declared.hand.Share.TheVariants.{Piece, Claims}
-use Rattle.rh_turns.specs.Hands.{places}
+use Rattle.rh_turns.specs.Hands.{positions}
 use Rattle.rh_turns.specs.Game.{AllFinished, Game, at_hand, done_at, keep, keys_at}
 use Rattle.rh_turns.specs.Laws.{TellsSo}
 
@@ -48,7 +48,7 @@ total (n ∷ ns) = n + total ns
 
 -- how many keys are done, by all workers, and of how many of them it was told that they were added, removed or found
 abbrev pub done_count : Game → ℕ
-done_count g = total (map (λ h. length (places g.shape h)) g.hands)
+done_count g = total (map (λ h. length (positions g.shape h)) g.hands)
 
 abbrev pub changed_count : Game → ℕ
 changed_count g = total (map (λ h. h.changed) g.hands)
@@ -64,17 +64,17 @@ is_asked Insert = false
 is_asked Remove = false
 is_asked Ask = true
 
--- of the key at this place of the list of all keys
-abbrev pub told_at : Game → (place : ℕ) → Option Bool
-told_at g place = if is_asked g.kind then slice_index_or g.answers place None else None
+-- of the key at this position of the list of all keys
+abbrev pub told_at : Game → (position : ℕ) → Option Bool
+told_at g position = if is_asked g.kind then slice_index_or g.answers position None else None
 
--- of the key at this place of a worker's own keys
-abbrev pub told_in : Game → Share → (place : ℕ) → Option Bool
-told_in g (Piece first end) place = if ltb (first + place) end then told_at g (first + place) else None
-told_in g (Claims last ended) place = None
+-- of the key at this position of a worker's own keys
+abbrev pub told_in : Game → Share → (position : ℕ) → Option Bool
+told_in g (Piece first end) position = if ltb (first + position) end then told_at g (first + position) else None
+told_in g (Claims last ended) position = None
 
-abbrev pub told_of : Game → (worker place : ℕ) → Option Bool
-told_of g worker place = at_hand (λ h. told_in g h.share place) None g.hands worker
+abbrev pub told_of : Game → (worker position : ℕ) → Option Bool
+told_of g worker position = at_hand (λ h. told_in g h.share position) None g.hands worker
 
 abbrev pub is_claimed : Share → Bool
 is_claimed (Piece first end) = false
@@ -90,5 +90,5 @@ IsAnswer S k IsDone None = IsDone → ⊥
 IsAnswer S k IsDone (Some told) = IsDone × (told ≡ contains S k)
 
 -- that of one worker which does the whole list
-abbrev pub AnswersAll : Game → (keys : List ℕ) → (place : ℕ) → Option Bool → Type 0
-AnswersAll g keys place told = AllFinished g → g.kind ≡ Ask → place < length keys → told ≡ Some (slice_index_or (looked_up (held_first g) keys) place false)
+abbrev pub AnswersAll : Game → (keys : List ℕ) → (position : ℕ) → Option Bool → Type 0
+AnswersAll g keys position told = AllFinished g → g.kind ≡ Ask → position < length keys → told ≡ Some (slice_index_or (looked_up (held_first g) keys) position false)

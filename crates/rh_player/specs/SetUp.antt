@@ -1,4 +1,4 @@
--- How the keys of a new player are dealt, and its workers made. (own)
+-- How the keys of a new player are dealt, and its workers made.
 use Rattle.std.specs.Prelude.{◌≡◌, ℕ, ◌<◌, ◌≤◌, ◌⊎◌, false, List, [], ◌∷◌, length, map, slice_index_or, All, Vec}
 use Rattle.std.specs.Global.{Global}
 use Rattle.rh_ledger.specs.declared.tally.Kind.{Kind}
@@ -10,7 +10,7 @@ use Rattle.rh_turns.specs.declared.hand.Share.{Share}
 use Rattle.rh_turns.specs.declared.hand.Share.TheVariants.{Piece, Claims}
 use Rattle.rh_turns.specs.Hands.{IsIdle, keys_in, view_of}
 
--- the pieces follow one another, from this place to the end of the list
+-- the pieces follow one another, from this position to the end of the list
 abbrev pub AreParts : (from : ℕ) → List Share → (count : ℕ) → Type 0
 AreParts from [] count = from ≡ count
 AreParts from (s ∷ ss) count = (end : ℕ) × (s ≡ Piece from end) × (from ≤ end) × AreParts end ss count
@@ -27,7 +27,7 @@ ClaimsAll s = s ≡ Claims 0 false
 abbrev pub shares_of : List Hand → List Share
 shares_of hands = map (λ h. h.share) hands
 
--- The shares are parts of a list of this length; or all will claim its places.
+-- The shares are parts of a list of this length; or all will claim its positions.
 abbrev pub AreShares : Shape → List Share → (count : ℕ) → Type 0
 AreShares z shares count = AreParts 0 shares count ⊎ ((z.keys ≡ count) × All ClaimsAll shares)
 

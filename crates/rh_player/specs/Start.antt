@@ -1,4 +1,4 @@
--- Why no player is made, and what one is that was made. (own)
+-- Why no player is made, and what one is that was made.
 use Rattle.std.specs.Prelude.{◌≡◌, ℕ, ◌+◌, ◌^◌, ◌<◌, ◌≤◌, Option, Some, None, Bool, if◌then◌else◌, ◌&&◌, not, List, length, nat_le, count_by, slice_index_or, All, Result, Ok, Err, Vec}
 use Rattle.std.specs.List.{flat_map, list_all}
 use Rattle.std.specs.Global.{Global}

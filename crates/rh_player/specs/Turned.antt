@@ -1,8 +1,8 @@
--- What a turn of a worker, and a further round, make of a game. (own)
+-- What a turn of a worker, and a further round, make of a game.
 use Rattle.std.specs.Prelude.{◌≡◌, ℕ, ◌<◌, ◌≤◌, ◌⊎◌, List, length, take, slice_index_or}
 use Rattle.rh_descriptor.specs.declared.shape.Shape.{Shape}
 use Rattle.rh_descriptor.specs.declared.steps.StepKind.{StepKind}
-use Rattle.rh_descriptor.specs.Places.{cell_count}
+use Rattle.rh_descriptor.specs.Parts.{cell_count}
 use Rattle.rh_run.specs.Words.{IsWiped}
 use Rattle.rh_worker.specs.Worker.{HasNoRoom}
 use Rattle.rh_turns.specs.declared.hand.Hand.{Hand}

@@ -4,7 +4,7 @@ ghost use Rattle.std.specs.Prelude.{◌≡◌, ◌<◌, None, Some, false, lengt
 ghost use Rattle.rh_layout.specs.Layout.{Layout};
 ghost use Rattle.rh_ledger.specs.Phase.{set_after, tally_of as tally_after};
 ghost use Rattle.rh_ledger.specs.declared.tally.Kind.TheVariants.{Ask};
-ghost use Rattle.rh_descriptor.specs.Places.{cell_count};
+ghost use Rattle.rh_descriptor.specs.Parts.{cell_count};
 ghost use Rattle.rh_tagword.specs.Word.{word_in};
 ghost use Rattle.rh_acts.specs.Workers.{tally_by};
 ghost use Rattle.rh_turns.specs.Game.{AllFinished, IsDoneAt, done_at, keys_at};
@@ -65,49 +65,49 @@ impl Player {
         tally_by(self.kind, done, changed)
     }
 
-    /// Where keys are asked for: what was told of the key at this place of a worker's piece, if it was.
-    pub fn answer(&self, worker: usize, place: usize) -> Option<bool>
-        ensures told { result ≡ told_of self.now worker place }
+    /// Where keys are asked for: what was told of the key at this position of a worker's piece, if it was.
+    pub fn answer(&self, worker: usize, position: usize) -> Option<bool>
+        ensures told { result ≡ told_of self.now worker position }
         ensures asked { self.now.kind ≡ Ask → is_shared self.now ≡ false → worker < length self.now.hands →
-            IsAnswer (held_first self.now) (slice_index (keys_at self.now worker) place)
-            (place < length (done_at self.now worker)) result }
+            IsAnswer (held_first self.now) (slice_index (keys_at self.now worker) position)
+            (position < length (done_at self.now worker)) result }
         ensures finished { is_shared self.now ≡ false → worker < length self.now.hands →
-            AnswersAll self.now (keys_at self.now worker) place result }
+            AnswersAll self.now (keys_at self.now worker) position result }
     {
         if worker >= self.hands.len() {
             return None;
         }
         match self.hands[worker].share {
             Share::Piece { first, end } => {
-                if place >= end - first {
+                if position >= end - first {
                     return None;
                 }
-                self.told(first + place)
+                self.told(first + position)
             }
             Share::Claims { .. } => None,
         }
     }
 
-    /// Where the keys of a shared list are asked for: what was told of the key at this place of the
+    /// Where the keys of a shared list are asked for: what was told of the key at this position of the
     /// list, if it was.
-    pub fn answer_at(&self, place: usize) -> Option<bool>
-        ensures told { is_shared self.now ≡ true → result ≡ told_at self.now place }
+    pub fn answer_at(&self, position: usize) -> Option<bool>
+        ensures told { is_shared self.now ≡ true → result ≡ told_at self.now position }
         ensures none { is_shared self.now ≡ false → result ≡ None }
         ensures asked { self.now.kind ≡ Ask → is_shared self.now ≡ true →
-            IsAnswer (held_first self.now) (slice_index self.now.keys place) (IsDoneAt self.now place) result }
-        ensures finished { is_shared self.now ≡ true → AnswersAll self.now self.now.keys place result }
+            IsAnswer (held_first self.now) (slice_index self.now.keys position) (IsDoneAt self.now position) result }
+        ensures finished { is_shared self.now ≡ true → AnswersAll self.now self.now.keys position result }
     {
         match self.hands[0].share {
-            Share::Claims { .. } => self.told(place),
+            Share::Claims { .. } => self.told(position),
             Share::Piece { .. } => None,
         }
     }
 
-    fn told(&self, place: usize) -> Option<bool>
-        ensures told { result ≡ told_at self.now place }
+    fn told(&self, position: usize) -> Option<bool>
+        ensures told { result ≡ told_at self.now position }
     {
-        if self.kind == Kind::Ask && place < self.answers.len() {
-            return self.answers[place];
+        if self.kind == Kind::Ask && position < self.answers.len() {
+            return self.answers[position];
         }
         None
     }

@@ -4,7 +4,7 @@ ghost use Rattle.std.specs.Prelude.{◌≡◌, ◌<◌, All, IfOk, length, map};
 ghost use Rattle.rh_layout.specs.Key.{IsKey};
 ghost use Rattle.rh_layout.specs.Layout.{IsLayout, keys_of};
 ghost use Rattle.rh_tagword.specs.Word.{plain_number};
-ghost use Rattle.rh_descriptor.specs.Places.{IsShape};
+ghost use Rattle.rh_descriptor.specs.Parts.{IsShape};
 ghost use Rattle.rh_acts.specs.Workers.{LeavesRoom};
 ghost use Rattle.rh_player.specs.SetUp.{AreDealt, AreNew, AreParts, AreShares, ClaimsAll, shares_of};
 ghost use Rattle.rh_player.specs.Start.{StartsWith, joined};

@@ -6,7 +6,7 @@ ghost use Rattle.rh_ledger.specs.Phase.{most_added};
 ghost use Rattle.rh_player.specs.Made.{cut};
 ghost use Rattle.rh_player.specs.Start.{IsRooms, Makes, StartsPieces, StartsShared};
 ghost use Rattle.rh_player.specs.Start.{are_keys, joined, shape_for, start_fault, table_fault};
-ghost use Rattle.rh_descriptor.specs.Places.{usual_rooms};
+ghost use Rattle.rh_descriptor.specs.Parts.{usual_rooms};
 
 use crate::fault::PlayFault;
 use crate::player::Player;

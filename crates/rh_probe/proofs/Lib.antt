@@ -1,2 +1,2 @@
 pub mod LookLemmas
-pub mod PlaceLemmas
+pub mod ProbeLemmas

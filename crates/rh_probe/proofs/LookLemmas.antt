@@ -11,7 +11,7 @@ use Rattle.rh_layout.proofs.RoundLemmas.{place_below, place_after-steps, steps-p
 use Rattle.rh_layout.proofs.HeldLemmas.{not_held}
 use Rattle.rh_layout.proofs.LayoutLemmas.{at, low_of, low_in, home_in-cell_of, ahead_from_beaten, beaten_from_ahead, layout_ordered}
 use Rattle.rh_layout.proofs.SetLemmas.{not_true}
-use Rattle.rh_probe.specs.Look.{IsPassedAt, AllPassed, Finds, IsPlaceFor}
+use Rattle.rh_probe.specs.Look.{IsPassedAt, AllPassed, Finds, IsProbeLength}
 use Rattle.rh_probe.specs.Segment.{IsFront}
 use Rattle.rh_probe.specs.declared.answer.Look.TheVariants.{Here, Goes}
 
@@ -21,7 +21,7 @@ unfolding place_after
 passed_here b k seen i j first e fits is beats = (j, is, rw (one_shl b 64 (omega arith), e) at beats)
 
 -- A key that does not stand in its place stands nowhere.
-pub fresh_from_place : (b : ℕ) (cells : List ℕ) (k i : ℕ) (S : Keys) → Layout cells b S → IsPlaceFor b cells k i → (at cells (place_after (2 ^ b) (home_of b k) i) ≡ cell_of k → ⊥) → contains S k ≡ false
+pub fresh_from_place : (b : ℕ) (cells : List ℕ) (k i : ℕ) (S : Keys) → Layout cells b S → IsProbeLength b cells k i → (at cells (place_after (2 ^ b) (home_of b k) i) ≡ cell_of k → ⊥) → contains S k ≡ false
 fresh_from_place b cells k i S layout place other =
     let n = 2 ^ b in
     let h = home_of b k in
@@ -47,7 +47,7 @@ module _ (b : ℕ) (cells seen : List ℕ) (k i : ℕ) (fits : IsBits b) (size :
   pub shown : (c : ℕ) → c < 2 ^ b → dist_of b c k < length seen → at seen (dist_of b c k) ≡ at cells c
   shown c c_in inside = front.shows (dist_of b c k) inside ∙ ap (at cells) (place_after-steps (2 ^ b) (home_of b k) c (low_of b fits k) c_in)
 
-  pub place_from_passed : i < length seen → AllPassed b k seen i → (IsPassedAt b k seen i → ⊥) → IsPlaceFor b cells k i
+  pub place_from_passed : i < length seen → AllPassed b k seen i → (IsPassedAt b k seen i → ⊥) → IsProbeLength b cells k i
   place_from_passed inside passed decides = record {
     in_table = omega (arith, front.room);
     passed = λ c c_in less.

@@ -22,7 +22,7 @@ Finds b k seen (Goes i) = (i < length seen) × AllPassed b k seen i × (slice_in
 Finds b k seen More = AllPassed b k seen (length seen)
 
 -- the same of a whole table: the first cell that does not hold a key that beats k is i steps after the home of k
-pub record IsPlaceFor (b : ℕ) (cells : List ℕ) (k i : ℕ) : Type 0 where
+pub record IsProbeLength (b : ℕ) (cells : List ℕ) (k i : ℕ) : Type 0 where
   pub in_table : i < 2 ^ b
   pub passed : (c : ℕ) → c < 2 ^ b → dist_of b c k < i → IsBeatenAt cells b c k
   pub decides : IsBeatenAt cells b (place_after (2 ^ b) (home_of b k) i) k → ⊥

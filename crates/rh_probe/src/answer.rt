@@ -4,10 +4,10 @@
 /// them.
 #[derive(Clone, Copy, Debug, PartialEq, Eq)]
 pub enum Look {
-    /// The key stands at this place.
+    /// The key stands at this offset.
     Here(usize),
     /// The key is not held, and this is where it goes.
     Goes(usize),
-    /// No place decides: more cells have to be seen.
+    /// No offset decides: more cells have to be seen.
     More,
 }

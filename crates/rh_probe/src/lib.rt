@@ -3,10 +3,10 @@
 
 mod answer;
 mod laws;
-mod place;
+mod probing;
 mod scan;
 
 pub use answer::Look;
 pub use laws::look_tells;
-pub use place::{cell_after, find, next_cell, place_for};
+pub use probing::{cell_after, find, next_cell, probe_length};
 pub use scan::{free_after, is_movable, look, stop_after};

@@ -9,7 +9,7 @@ ghost use Rattle.rh_probe.specs.Segment.{IsAway, IsFirstFree, IsFirstStop};
 use crate::answer::Look;
 use rh_layout::{beats, home, key_in};
 
-/// What the first place that decides tells of the key: the one that holds it, or that is empty or
+/// What the first offset that decides tells of the key: the one that holds it, or that is empty or
 /// holds a key that does not beat it there (Celis 1986). `seen` is what consecutive cells hold,
 /// from the key's home on.
 #[tactic(auto, unfolding(rh_layout::specs::Round::place_after), using(std::proofs::lemmas::Nat::one_shl))]
@@ -34,7 +34,7 @@ pub fn look(bits: u32, key: u64, seen: &[u64]) -> Look
     Look::More
 }
 
-/// The first place from `i` on that is empty.
+/// The first offset from `i` on that is empty.
 pub fn free_after(seen: &[u64], i: usize) -> Option<usize>
     ensures { MatchOption result
         ((p : ℕ) → i ≤ p → p < length seen.now → 0 < slice_index seen.now p)
@@ -43,8 +43,8 @@ pub fn free_after(seen: &[u64], i: usize) -> Option<usize>
     (i..seen.len()).find(|j| seen[*j] == 0)
 }
 
-/// The first place after `i` that is empty or holds a key at its home. What stands between can move
-/// back by one. `cell` is the cell of the first place of `seen`.
+/// The first offset after `i` that is empty or holds a key at its home. What stands between can move
+/// back by one. `cell` is the cell of the first offset of `seen`.
 #[tactic(auto, unfolding(rh_layout::specs::Round::place_after), using(std::proofs::lemmas::Nat::one_shl))]
 pub fn stop_after(bits: u32, cell: usize, seen: &[u64], i: usize) -> Option<usize>
     requires bits { IsBits bits }

@@ -5,7 +5,7 @@ use Rattle.rh_descriptor.specs.declared.shape.Shape.{Shape}
 use Rattle.rh_descriptor.specs.declared.reference.Piece.{Piece}
 use Rattle.rh_descriptor.specs.declared.reference.Ref.{Ref as Reference}
 use Rattle.rh_descriptor.specs.declared.reference.Reading.TheVariants as reading
-use Rattle.rh_descriptor.specs.Places.{cell_count}
+use Rattle.rh_descriptor.specs.Parts.{cell_count}
 use Rattle.rh_descriptor.specs.View.{View}
 use Rattle.rh_descriptor.specs.View.RowWord.{cell_word, old_word}
 use Rattle.rh_descriptor.specs.Words.{ref_of}

@@ -1,7 +1,7 @@
--- A worker's seat at a table that threads share. (own)
+-- A worker's seat at a table that threads share.
 use Rattle.std.specs.Prelude.{◌≡◌, ℕ, ◌<◌, [], ◌∷◌}
-use Rattle.rh_descriptor.specs.Places.{word_count}
-use Rattle.rh_descriptor.specs.Steps.{Allowed, Step, place, word_after}
+use Rattle.rh_descriptor.specs.Parts.{word_count}
+use Rattle.rh_descriptor.specs.Steps.{Allowed, Step, index, word_after}
 use Rattle.rh_descriptor.specs.declared.shape.Shape.{Shape}
 use Rattle.rh_descriptor.specs.View.{View}
 use Rattle.rh_rule.specs.Seats.{known}
@@ -24,6 +24,6 @@ pub record Stays (t then : OnTable) : Type 0 where
 pub record Ready (t : OnTable) (z : Shape) (v : View) (s : Step) (at : ℕ) (f : ℕ → ℕ) : Type 0 where
   pub sits : Sits z t v
   pub allowed : Allowed z v s
-  pub place : at ≡ place z v s
+  pub index : at ≡ index z v s
   pub within : at < word_count z
   pub effect : (n : ℕ) → f n ≡ word_after v s n

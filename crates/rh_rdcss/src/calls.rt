@@ -3,7 +3,7 @@
 ghost use Rattle.std.specs.Prelude.{◌<◌};
 ghost use Rattle.rh_world.specs.World.{In};
 ghost use Rattle.rh_world.specs.Notes.Note.{found};
-ghost use Rattle.rh_descriptor.specs.Places.{cell_count};
+ghost use Rattle.rh_descriptor.specs.Parts.{cell_count};
 ghost use Rattle.rh_descriptor.specs.Steps.{IsDesc};
 ghost use Rattle.rh_descriptor.specs.Steps.Step.{reads};
 ghost use Rattle.rh_descriptor.specs.Words.{ref_of};

@@ -26,7 +26,7 @@ impl<'a> Steps for OnTable<'a> {
 
     #[inline(always)]
     fn make(&mut self, shape: &Shape, side: &mut Side, ask: Ask) -> u64 {
-        let at = ask.place(shape, side);
+        let at = ask.index(shape, side);
         let word = match ask.effect(shape, side) {
             Effect::Keep => load::<Brand>(self, side, ask, at),
             Effect::Put(new) => exchange::<Brand>(self, side, ask, at, new),
@@ -38,7 +38,7 @@ impl<'a> Steps for OnTable<'a> {
     }
 
     fn own_word(&mut self, shape: &Shape, side: &Side, part: Part) -> u64 {
-        let at = shape.place(part);
-        load::<Brand>(self, side, Ask::Read(Reading::Place(at)), at)
+        let at = shape.index(part);
+        load::<Brand>(self, side, Ask::Read(Reading::Word(at)), at)
     }
 }

@@ -1,4 +1,4 @@
--- What each command of a script has to report, and the texts that say it (this project's own).
+-- What each command of a script has to report, and the texts that say it.
 use Rattle.std.specs.Prelude.{◌≡◌, ℕ, ◌<◌, ◌^◌, Bool, List}
 use Rattle.std.specs.FinSet as set
 use Rattle.rh_layout.specs.Layout.{Keys, Layout}

@@ -1,4 +1,4 @@
--- The texts of reports (this project's own). Numbers are decimal without leading zeros.
+-- The texts of reports. Numbers are decimal without leading zeros.
 use Rattle.std.specs.Prelude.{ℕ, ◌+◌, ◌==◌, Bool, true, false, if◌then◌else◌, List, [], ◌∷◌, ◌++◌, length, codes, decimal, count_by}
 use Rattle.rh_report.specs.declared.answers.TheConstants.{ANSWERS_PER_LINE}
 

@@ -19,7 +19,7 @@ use Rattle.rh_world.proofs.Updated.{ref_path, same_nat, some_injective, updated_
 use Rattle.rh_descriptor.specs.declared.shape.Shape.{Shape}
 use Rattle.rh_descriptor.specs.declared.shape.Part.{Part}
 use Rattle.rh_descriptor.specs.declared.shape.Part.TheVariants as part
-use Rattle.rh_descriptor.specs.Places.{IsShape, cell_count}
+use Rattle.rh_descriptor.specs.Parts.{IsShape, cell_count}
 use Rattle.rh_descriptor.specs.View.{OwnDesc, View}
 use Rattle.rh_descriptor.specs.Words.{IsPlain, cell_in, desc_number, mark_number, without_entry}
 use Rattle.rh_descriptor.specs.Steps.{CanRelease, CanSettle, IsReleased, KnowsValue, MaySettle, Step, is_none, noted, release_view, settle_view, settled_word, size_in, swapped}
@@ -33,11 +33,6 @@ use Rattle.rh_rule.proofs.Kept.{Grows, Over, Quiet, kept_stays, mirrors, over_gr
 use Rattle.rh_rule.proofs.ReadsKept.{grows_none, quiet_none, known_decided, known_note, true_decided, true_note, work_known}
 use Rattle.rh_rule.proofs.Said.{cell_said_is, desc_test, mark_test}
 use Rattle.rh_rule.proofs.Touched.{controls_same, counter_same, descs_same, marks_same, others_stay, own_same, placed_same, quiet_same, raw_row_same, raw_same, rows_same, set_sized}
-
-pub is_plain_yes : (k : Cell) (u : ℕ) → is_plain k u ≡ true → k ≡ plain u
-is_plain_yes (plain v) u e = ap plain (eqb_yes v u e)
-is_plain_yes (mark x) u e = absurd (true≢false (sym e))
-is_plain_yes (desc d) u e = absurd (true≢false (sym e))
 
 module _ (z : Shape) (shape : IsShape z) (words : List ℕ) (keep : ℕ → View) (w : World) (side : ℕ → Side) (rule : Rule w side) (m : Mirrors z words keep w side) (who : ℕ) (mine : who < z.workers) where
   abbrev pub k : View
@@ -128,9 +123,6 @@ module _ (z : Shape) (shape : IsShape z) (words : List ℕ) (keep : ℕ → View
   grows_settle : (d : Ref) (e c : ℕ) (b : Bool) → Grows k.side (settle_noted k.side d e c b)
   grows_settle d e c true = record { current = refl; notes = λ n i. inr i }
   grows_settle d e c false = record { current = refl; notes = λ n i. i }
-
-  to_desc : Option ℕ → Bool
-  to_desc o = is_none o
 
   settle_side_is : (x : Ref) (c : ℕ) (old : Option ℕ) (word : ℕ) → eqb word (mark_number x) ≡ is_mark (w.cell c) x
       → settle_view k x c (w.mark_desc x) (w.mark_entry x) old word ≡ erased (side_after w t who (settles x c (is_none old)))
@@ -227,9 +219,6 @@ module _ (z : Shape) (shape : IsShape z) (words : List ℕ) (keep : ℕ → View
       let f = size_found d.number k.opened (h.all d.number (subst (λ (x : Ref). IsOpened (w.control x)) (sym same) o)) in
       let is : record { worker = who; number = f.0.number } ≡ d = ref_path record { worker = who; number = f.0.number } d (sym own) f.2 in
       f.3 ∙ sym (h.opened f.0 f.1).size ∙ ap w.size is
-
-  paid_release : (s : Side) (d : Ref) (e c n : ℕ) → Side
-  paid_release s d e c n = release_noted (paid_side s d c) e n
 
   release_side_is : (d : Ref) (e : ℕ) → IsOpened (w.control d)
       → release_view k d e (w.target d e) ≡ erased (side_after w t who (releases d e))

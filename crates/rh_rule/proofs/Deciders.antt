@@ -75,13 +75,6 @@ told_failed succeeded e by q = cc
 told_failed withdrawn e by q = cc
 told_failed (failed i b) e by q = (i, (let same : b ≡ by = cc in λ t. failed i (same t)))
 
-pub told_twice : (k : Control) → without_entry (without_entry k) ≡ without_entry k
-told_twice unused = refl
-told_twice undecided = refl
-told_twice succeeded = refl
-told_twice withdrawn = refl
-told_twice (failed e by) = refl
-
 -- ---- a control that a worker sets
 
 pub set_number : (n e : ℕ) (k : Control) → number_of n (with_entry e k) ≡ number_of n k
@@ -90,13 +83,6 @@ set_number n e undecided = refl
 set_number n e succeeded = refl
 set_number n e withdrawn = refl
 set_number n e (failed i by) = refl
-
-pub set_told : (z : Shape) (v : View) (e : ℕ) (k : Control) → IsResult z v k → without_entry (with_entry e k) ≡ k
-set_told z v e unused h = absurd h
-set_told z v e undecided h = absurd h
-set_told z v e succeeded h = refl
-set_told z v e withdrawn h = refl
-set_told z v e (failed i by) h = λ t. failed (sym h.0 t) by
 
 pub set_decided : (z : Shape) (v : View) (e : ℕ) (k : Control) → IsResult z v k → IsDecided (with_entry e k)
 set_decided z v e unused h = absurd h

@@ -15,7 +15,7 @@ use Rattle.rh_descriptor.specs.declared.shape.Shape.{Shape}
 use Rattle.rh_descriptor.specs.declared.shape.Part.{Part}
 use Rattle.rh_descriptor.specs.declared.shape.Part.TheVariants as part
 use Rattle.rh_descriptor.specs.declared.reference.Reading.TheVariants as reading
-use Rattle.rh_descriptor.specs.Places.{IsShape, note_row, place_of}
+use Rattle.rh_descriptor.specs.Parts.{IsShape, note_row, index_of}
 use Rattle.rh_descriptor.specs.View.{View}
 use Rattle.rh_descriptor.specs.Words.{number_of, read_control, serial_in, with_entry, without_entry}
 use Rattle.rh_descriptor.specs.Steps.{CanDecide, IsResult, Step, control_read, control_seen, decided_so, noted, row_word, swapped}
@@ -126,7 +126,7 @@ module _ (z : Shape) (shape : IsShape z) (words : List ℕ) (keep : ℕ → View
 
   -- the world and the words as a swap leaves them that found this word, and what is noted
   abbrev After : (left : ℕ) → Type 0
-  After left = Core (world_after w who (decides d set_to)) z (set words (place_of z p) left)
+  After left = Core (world_after w who (decides d set_to)) z (set words (index_of z p) left)
       (updated keep who (record k { side = control_read k.side d left; control = control_seen k d left }))
 
   -- the swap found another word: so d is decided, and this is a Read
@@ -144,7 +144,7 @@ module _ (z : Shape) (shape : IsShape z) (words : List ℕ) (keep : ℕ → View
   decides_late late =
       let same : world_after w who (decides d set_to) ≡ w = decided_before w d (w.control d) set_to (closed late) in
       subst (λ (y : World × List ℕ). Core y.0 z y.1 (updated keep who (record k { side = control_read k.side d word; control = control_seen k d word })))
-      (λ i. (sym same i, sym (set-get_or words (place_of z p) 0) i))
+      (λ i. (sym same i, sym (set-get_or words (index_of z p) 0) i))
       (keeps_read z shape words keep w side rule m who mine (reading.Control record { worker = d.worker; number = d.number }) can.desc tt word refl)
 
   -- the swap took place: d was undecided, and the newest of its worker
@@ -170,7 +170,7 @@ module _ (z : Shape) (shape : IsShape z) (words : List ℕ) (keep : ℕ → View
     l = steady_at z shape words keep w side rule m who mine (decides d set_to) may v same
 
     abbrev then : List ℕ
-    then = set words (place_of z p) num
+    then = set words (index_of z p) num
 
     abbrev s : Side
     s = side_after w t who (decides d set_to)

@@ -14,7 +14,7 @@ use Rattle.rh_layout.specs.declared.entry.Entry.{Entry}
 use Rattle.rh_descriptor.specs.declared.shape.Shape.{Shape}
 use Rattle.rh_descriptor.specs.declared.shape.Part.{Part}
 use Rattle.rh_descriptor.specs.declared.shape.Part.TheVariants as part
-use Rattle.rh_descriptor.specs.Places.{IsShape, cell_count, entry_row, place_of}
+use Rattle.rh_descriptor.specs.Parts.{IsShape, cell_count, entry_row, index_of}
 use Rattle.rh_descriptor.specs.View.{OwnDesc, View, Written}
 use Rattle.rh_descriptor.specs.Words.{IsPlain, number_of, without_entry}
 use Rattle.rh_descriptor.specs.Steps.{AreEntries, CanOpen, IsDesc, Step, entries_at, entries_of, entry_of, next_entries, noted, open_noted, own_desc, row_of, row_word, swapped}
@@ -30,18 +30,18 @@ use Rattle.rh_rule.proofs.Kept.{desc_row_stays, entries_stay, mark_row_stays, mi
 use Rattle.rh_rule.proofs.Touched.{cells_same, counter_same, descs_same, marks_same, others_stay, own_same, placed_same, raw_row_same, raw_same, set_sized}
 
 -- the entries that the rows say
-pub entries_length : (rows : List Written) (place n : ℕ) → length (entries_at rows place n) ≡ n
-entries_length rows place zero = refl
-entries_length rows place (suc n) = ap suc (entries_length rows (suc place) n)
+pub entries_length : (rows : List Written) (index n : ℕ) → length (entries_at rows index n) ≡ n
+entries_length rows index zero = refl
+entries_length rows index (suc n) = ap suc (entries_length rows (suc index) n)
 
 abbrev entry_said : List Written → (entry : ℕ) → Entry
 entry_said rows e = record { cell = row_word rows (entry_row e 0); old = row_word rows (entry_row e 1); new = row_word rows (entry_row e 2) }
 
-entries_said : (rows : List Written) (place n e : ℕ) → e < n
-    → entry_of (entries_at rows place n) e ≡ entry_said rows (place + e)
-entries_said rows place zero e h = absurd (omega arith)
-entries_said rows place (suc n) zero h = ap (entry_said rows) (let q : place ≡ place + 0 = omega arith in q)
-entries_said rows place (suc n) (suc e) h = entries_said rows (suc place) n e (omega arith) ∙ ap (entry_said rows) (let q : suc place + e ≡ place + suc e = omega arith in q)
+entries_said : (rows : List Written) (index n e : ℕ) → e < n
+    → entry_of (entries_at rows index n) e ≡ entry_said rows (index + e)
+entries_said rows index zero e h = absurd (omega arith)
+entries_said rows index (suc n) zero h = ap (entry_said rows) (let q : index ≡ index + 0 = omega arith in q)
+entries_said rows index (suc n) (suc e) h = entries_said rows (suc index) n e (omega arith) ∙ ap (entry_said rows) (let q : suc index + e ≡ index + suc e = omega arith in q)
 
 -- the notes grow, and the last descriptor is open
 pub entries_current : (s : Side) (d : Ref) (p : Entries) (n : ℕ) → (note_entries s d p n).current ≡ s.current
@@ -146,7 +146,7 @@ module _ (z : Shape) (shape : IsShape z) (words : List ℕ) (keep : ℕ → View
   side_is = (λ i. note_entries (open_side (h.side_is i) (h.next_number i)) (desc_is i) es_of (sym long i)) ∙ erased_entries (open_side t (w.next_number who)) d es_of (length es)
 
   abbrev then : List ℕ
-  then = set words (place_of z p) (number_of (w.next_number who) undecided)
+  then = set words (index_of z p) (number_of (w.next_number who) undecided)
 
   size_is : v.size d ≡ size
   size_is = updated_ref_here w.size d d es_of.size refl ∙ long
@@ -312,10 +312,10 @@ module _ (z : Shape) (shape : IsShape z) (words : List ℕ) (keep : ℕ → View
       other_word : (u : ℕ) → u ≢ who → u < z.workers → word_at z then (part.Control u) ≡ word_at z words (part.Control u)
       other_word u ne lt = word_same z words p (number_of (w.next_number who) undecided) mine (part.Control u) lt (λ e. ne (let q : u ≡ who = cc in q))
 
-  abbrev pub place : ℕ
-  place = place_of z (part.Control k.worker)
+  abbrev pub index : ℕ
+  index = index_of z (part.Control k.worker)
 
-  opens_to : Core v z (set words (place_of z p) (number_of (w.next_number who) undecided)) (updated keep who k')
+  opens_to : Core v z (set words (index_of z p) (number_of (w.next_number who) undecided)) (updated keep who k')
   opens_to = record {
     side = updated side who s;
     rule = rule_at z shape words keep w side rule m who mine (opens es_of) may v refl;
@@ -339,7 +339,7 @@ module _ (z : Shape) (shape : IsShape z) (words : List ℕ) (keep : ℕ → View
         (λ u ne f e q. ⊎_elim (λ r. let bad : undecided ≡ failed e u = sym r.1 ∙ q in cc) (λ r. sym r.1 ∙ q) (updated_ref_at w.control d f undecided)));
   }
 
-  pub keeps_open : Core v z (set words place (swapped k.control (number_of k.next_number undecided) (get_or words place 0))) (updated keep who (noted z k (Step.opens size) (get_or words place 0)))
-  keeps_open = subst (λ (n : ℕ). (let a : ℕ = place_of z (part.Control n) in Core v z (set words a (swapped k.control (number_of k.next_number undecided) (get_or words a 0))) (updated keep who k'))) (sym h.worker)
-      (subst (λ (n : Bool). Core v z (set words (place_of z p) (cond n (number_of k.next_number undecided) word)) (updated keep who k')) (sym (eq-eqb word k.control word_is))
-      (subst (λ (n : ℕ). Core v z (set words (place_of z p) (number_of n undecided)) (updated keep who k')) (sym h.next_number) opens_to))
+  pub keeps_open : Core v z (set words index (swapped k.control (number_of k.next_number undecided) (get_or words index 0))) (updated keep who (noted z k (Step.opens size) (get_or words index 0)))
+  keeps_open = subst (λ (n : ℕ). (let a : ℕ = index_of z (part.Control n) in Core v z (set words a (swapped k.control (number_of k.next_number undecided) (get_or words a 0))) (updated keep who k'))) (sym h.worker)
+      (subst (λ (n : Bool). Core v z (set words (index_of z p) (cond n (number_of k.next_number undecided) word)) (updated keep who k')) (sym (eq-eqb word k.control word_is))
+      (subst (λ (n : ℕ). Core v z (set words (index_of z p) (number_of n undecided)) (updated keep who k')) (sym h.next_number) opens_to))

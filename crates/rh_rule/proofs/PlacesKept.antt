@@ -13,7 +13,7 @@ use Rattle.rh_world.proofs.Updated.{ref_path, same_nat, updated_at, updated_else
 use Rattle.rh_descriptor.specs.declared.shape.Shape.{Shape}
 use Rattle.rh_descriptor.specs.declared.shape.Part.{Part}
 use Rattle.rh_descriptor.specs.declared.shape.Part.TheVariants as part
-use Rattle.rh_descriptor.specs.Places.{IsShape}
+use Rattle.rh_descriptor.specs.Parts.{IsShape}
 use Rattle.rh_descriptor.specs.View.{View}
 use Rattle.rh_descriptor.specs.Words.{IsPlain, cell_in, desc_number, mark_number}
 use Rattle.rh_descriptor.specs.Steps.{CanPlace, IsMark, Step, noted, own_mark, swapped}
@@ -44,8 +44,8 @@ grows_place s x d e c old (desc f) = either (is_ref f d)
 quiet_note : (s : Side) (n : Note) → ((f : Ref) (r : Control) → decided f r ≡ n → ⊥) → Quiet s (note_side s n)
 quiet_note s n other = record { current = λ i q. q; notes = λ m i. inr i; decided = λ f r i. ⊎_elim (λ q. absurd (other f r q)) (λ j. j) i }
 
-quiet_place : (s : Side) (x d : Ref) (e c old : ℕ) (n : Cell) → Quiet s (place_noted s x d e c old n 0)
-quiet_place s x d e c old (plain u) = either (eqb u old)
+quiet_index : (s : Side) (x d : Ref) (e c old : ℕ) (n : Cell) → Quiet s (place_noted s x d e c old n 0)
+quiet_index s x d e c old (plain u) = either (eqb u old)
   where
     either : (b : Bool) → Quiet s (cond b (placed_noted s x d e c) (note_side s (mismatch d e 0)))
     either true = record {
@@ -54,8 +54,8 @@ quiet_place s x d e c old (plain u) = either (eqb u old)
       decided = λ f r i. ⊎_elim (λ q. cc) (λ j. ⊎_elim (λ q. cc) (λ j. ⊎_elim (λ q. cc) (λ j. j) j) j) i;
     }
     either false = quiet_note s (mismatch d e 0) (λ f r q. cc)
-quiet_place s x d e c old (mark y) = quiet_note s (found y c) (λ f r q. cc)
-quiet_place s x d e c old (desc f) = either (is_ref f d)
+quiet_index s x d e c old (mark y) = quiet_note s (found y c) (λ f r q. cc)
+quiet_index s x d e c old (desc f) = either (is_ref f d)
   where
     either : (b : Bool) → Quiet s (cond b (note_side s (held d e)) (note_side s (known f)))
     either true = quiet_note s (held d e) (λ g r q. cc)
@@ -101,7 +101,7 @@ module _ (z : Shape) (shape : IsShape z) (words : List ℕ) (keep : ℕ → View
   over = over_grows k.side (place_noted k.side (own_mark k) d e c old (cell_in word) 0) who k.opened (grows_place k.side (own_mark k) d e c old (cell_in word)) h.over
 
   calm : Quiet k.side (place_noted k.side (own_mark k) d e c old (cell_in word) 0)
-  calm = quiet_place k.side (own_mark k) d e c old (cell_in word)
+  calm = quiet_index k.side (own_mark k) d e c old (cell_in word)
 
   abbrev v : World
   v = place_world w x d e

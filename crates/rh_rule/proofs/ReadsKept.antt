@@ -18,12 +18,12 @@ use Rattle.rh_descriptor.specs.declared.shape.Shape.{Shape}
 use Rattle.rh_descriptor.specs.declared.shape.Part.TheVariants as part
 use Rattle.rh_descriptor.specs.declared.reference.Reading.{Reading}
 use Rattle.rh_descriptor.specs.declared.reference.Reading.TheVariants as reading
-use Rattle.rh_descriptor.specs.Places.{IsShape}
+use Rattle.rh_descriptor.specs.Parts.{IsShape}
 use Rattle.rh_descriptor.specs.View.{MarkWord, Raw, RawRow, RowWord, View}
 use Rattle.rh_descriptor.specs.View.RowWord.{length_word, cell_word, old_word, new_word}
 use Rattle.rh_descriptor.specs.View.MarkWord.{desc_word, entry_word}
 use Rattle.rh_descriptor.specs.Words.{cell_in, desc_in, number_of, read_control, ref_of, serial_in, without_entry}
-use Rattle.rh_descriptor.specs.Steps.{IsKnown, IsNoted, IsRead, KnowsMark, WasOpened, control_seen, desc_row_said, desc_said, gone_noted, is_known, is_newest, mark_said, place_read, read_noted, read_view, row_said, rows_said, tells_opened}
+use Rattle.rh_descriptor.specs.Steps.{IsKnown, IsNoted, IsRead, KnowsMark, WasOpened, control_seen, desc_row_said, desc_said, gone_noted, is_known, is_newest, mark_said, index_read, read_noted, read_view, row_said, rows_said, tells_opened}
 use Rattle.rh_rule.specs.Erased.{erased}
 use Rattle.rh_rule.specs.Mirrors.{DescRow, HasItsRow, IsRaw, IsRawRow, IsRowSaid, IsSaid, Kept, Stands, word_at, Mirrors}
 use Rattle.rh_rule.specs.Core.{Core}
@@ -406,10 +406,6 @@ module _ (z : Shape) (shape : IsShape z) (words : List ℕ) (keep : ℕ → View
       let word = newest_word d (m.controls.descs d o).0 q in
       ne (ap serial_in word.0 ∙ serial_said_is d.number (w.control d) word.1)))
 
-  -- the row of d says what it is to say
-  pub desc_row : (d : Ref) → IsOpened (w.control d) → HasItsRow z words d → DescRow z words w d
-  desc_row d o has = m.rows.descs d o has
-
   -- while the row of d is its own, all that was read in it is true
   true_row : (d : Ref) → IsOpened (w.control d) → (u : RowWord) → IsRowSaid w d u → IsRowNote (desc_row_said d u) × HoldsIn w (desc_row_said d u)
   true_row d o (length_word n) s = (tt, (o, sym s))
@@ -434,9 +430,9 @@ module _ (z : Shape) (shape : IsShape z) (words : List ℕ) (keep : ℕ → View
   was_opened : (d : Ref) → WasOpened k.side.notes d → IsOpened (w.control d)
   was_opened d o = ⊎_elim (opened_known d) (λ i. let is = true_note (desc_is i.0 d) tt refl i.1 in subst (λ (y : Ref). IsOpened (w.control y)) is.1 (rule.rows.used i.0 is.0).0) o
 
-  pub keeps_read : (r : Reading) → IsRead z r → IsNoted k r → (word : ℕ) → word ≡ get_or words (place_read z r) 0
+  pub keeps_read : (r : Reading) → IsRead z r → IsNoted k r → (word : ℕ) → word ≡ get_or words (index_read z r) 0
       → Core w z words (updated keep who (read_view k r word))
-  keeps_read (reading.Place p) here may word is = still
+  keeps_read (reading.Word p) here may word is = still
   keeps_read (reading.Cell c) here may word is =
       let said : cell_in word ≡ w.cell c = ap cell_in (is ∙ m.cells.cells c here) ∙ cell_said_is z shape (w.cell c) (m.cells.standing c here) in
       side_grows (side_after w t who (reads_cell c)) (read_noted k (reading.Cell c) word) (each_step_keeps w side who (reads_cell c) rule tt)

@@ -14,7 +14,7 @@ use Rattle.rh_world.specs.World.Control.{failed, succeeded, undecided, unused, w
 use Rattle.rh_world.specs.Moves.{is_desc, is_mark, is_plain}
 use Rattle.rh_world.proofs.Updated.{is_ref_not, ref_path, same_ref, updated_ref_here}
 use Rattle.rh_descriptor.specs.declared.shape.Shape.{Shape}
-use Rattle.rh_descriptor.specs.Places.{IsShape}
+use Rattle.rh_descriptor.specs.Parts.{IsShape}
 use Rattle.rh_descriptor.specs.Words.{IsPlain, cell_in, cell_said, control_of, control_said, desc_in, desc_number, mark_number, number_of, read_control, ref_said, serial_in, state_of, without_entry}
 use Rattle.rh_descriptor.specs.Steps.{IsDesc, IsMark}
 use Rattle.rh_rule.specs.Mirrors.{IsCell, cell_number}
@@ -124,7 +124,3 @@ undecided_test n undecided h = eq-eqb (number_of n undecided) (number_of n undec
 undecided_test n succeeded h = ne_eqb (number_of n succeeded) (number_of n undecided) (λ q. omega (arith, q))
 undecided_test n withdrawn h = ne_eqb (number_of n withdrawn) (number_of n undecided) (λ q. omega (arith, q))
 undecided_test n (failed e by) h = ne_eqb (number_of n (failed e by)) (number_of n undecided) (λ q. omega (arith, q))
-
--- the word of another descriptor is another one
-pub other_number : (n i : ℕ) (k : Control) → HasState k → n ≢ i → eqb (number_of n k) (number_of i undecided) ≡ false
-other_number n i k h ne = ne_eqb (number_of n k) (number_of i undecided) (λ q. ne (sym (serial_said_is n k h) ∙ ap serial_in q ∙ serial_said_is i undecided tt))

@@ -13,11 +13,11 @@ use Rattle.rh_descriptor.specs.declared.shape.Part.{Part}
 use Rattle.rh_descriptor.specs.declared.shape.Part.TheVariants as part
 use Rattle.rh_descriptor.specs.declared.reference.Reading.{Reading}
 use Rattle.rh_descriptor.specs.declared.reference.Reading.TheVariants as reading
-use Rattle.rh_descriptor.specs.Places.{IsShape, cell_count}
+use Rattle.rh_descriptor.specs.Parts.{IsShape, cell_count}
 use Rattle.rh_descriptor.specs.View.{OwnDesc, View}
 use Rattle.rh_descriptor.specs.View.MarkWord.{desc_word}
 use Rattle.rh_descriptor.specs.Words.{cell_in, desc_in, read_control, ref_of, serial_in, without_entry}
-use Rattle.rh_descriptor.specs.Steps.{IsDesc, IsKnown, IsNoted, IsRead, IsStep, Step, place, place_read, row_of, row_word}
+use Rattle.rh_descriptor.specs.Steps.{IsDesc, IsKnown, IsNoted, IsRead, IsStep, Step, index, index_read, row_of, row_word}
 use Rattle.rh_rule.specs.Mirrors.{DescRow, HasItsRow, IsCell, IsOpenedSo, IsOwn, Kept, Mirrors, numbers_of, word_at}
 use Rattle.rh_rule.specs.Sound.{ControlTells, Finds, IsControlWord, OwnRow, Reads, Sound, StepsFind, ViewsAreSound}
 use Rattle.rh_rule.proofs.Deciders.{told_failed, told_undecided, told_unused, told_withdrawn}
@@ -163,8 +163,8 @@ module _ (z : Shape) (shape : IsShape z) (words : List ℕ) (keep : ℕ → View
           let b : suc d.number ≡ w.next_number d.worker = q.1 in
           ⊎_elim (λ (e : f.number ≡ d.number). absurd (ne (ref_path f d same e))) (λ (other : f.number ≢ d.number). omega (arith, a, b, other)) (same_nat f.number d.number)
 
-  reads_find : (r : Reading) → IsRead z r → IsNoted v r → Reads z v r (get_or words (place_read z r) 0)
-  reads_find (reading.Place p) here may = λ q own e. ap (λ (n : ℕ). get_or words n 0) e ∙ own_word q own
+  reads_find : (r : Reading) → IsRead z r → IsNoted v r → Reads z v r (get_or words (index_read z r) 0)
+  reads_find (reading.Word p) here may = λ q own e. ap (λ (n : ℕ). get_or words n 0) e ∙ own_word q own
   reads_find (reading.Cell c) here may = cell_finds c here
   reads_find (reading.Control d) here may = (control_is d.worker here.0, λ i. control_finds (ref_of d) here (opened_known z shape words keep w side rule m who mine (ref_of d) i))
   reads_find (reading.MarkControl x c d) here may =
@@ -184,7 +184,7 @@ module _ (z : Shape) (shape : IsShape z) (words : List ℕ) (keep : ℕ → View
   reads_find (reading.MarkEntry x) here may = tt
   reads_find (reading.Reason d by) here may = tt
 
-  pub finds : (s : Step) → IsStep z v s → Finds z v s (get_or words (place z v s) 0)
+  pub finds : (s : Step) → IsStep z v s → Finds z v s (get_or words (index z v s) 0)
   finds (Step.writes p u) may = tt
   finds (Step.opens size) may = subst (λ (u : ℕ). word_at z words (part.Control u) ≡ v.control) (sym h.worker) (word_is z shape words keep w side rule m who mine size may)
   finds (Step.reads r) may = reads_find r may.0 may.1

@@ -8,7 +8,7 @@ use Rattle.rh_world.specs.Sides.{Side}
 use Rattle.rh_descriptor.specs.declared.shape.Shape.{Shape}
 use Rattle.rh_descriptor.specs.declared.shape.Part.{Part}
 use Rattle.rh_descriptor.specs.declared.shape.Part.TheVariants as part
-use Rattle.rh_descriptor.specs.Places.{IsPart, cell_count, place_of, word_count}
+use Rattle.rh_descriptor.specs.Parts.{IsPart, cell_count, index_of, word_count}
 use Rattle.rh_descriptor.specs.View.{Raw, RawRow, View}
 use Rattle.rh_descriptor.specs.Words.{number_of}
 use Rattle.rh_rule.specs.Mirrors.{Cells, Controls, IsCell, IsOwn, IsRaw, IsRawRow, Kept, RowWords, Stands, cell_number, word_at, Mirrors}
@@ -66,10 +66,10 @@ marks_stay (suc last) w v l u h = (let used : last < v.marks_used u = l.marks re
 
 module _ (z : Shape) (words : List ℕ) (keep : ℕ → View) (w : World) (side : ℕ → Side) (m : Mirrors z words keep w side) (p : Part) (here : IsPart z p) (n : ℕ) (v : World) (l : Steady w v) where
   abbrev pub then : List ℕ
-  then = set words (place_of z p) n
+  then = set words (index_of z p) n
 
   pub set_sized : length then ≡ word_count z
-  set_sized = length-set words (place_of z p) n ∙ m.sized
+  set_sized = length-set words (index_of z p) n ∙ m.sized
 
   pub own_same : (u : ℕ) → u < z.workers → (IsOwn z u p → ⊥) → (q : Part) → IsOwn z u q
       → word_at z then q ≡ word_at z words q

@@ -13,25 +13,25 @@ use Rattle.rh_world.proofs.Updated.{same_nat}
 use Rattle.rh_descriptor.specs.declared.shape.Shape.{Shape}
 use Rattle.rh_descriptor.specs.declared.shape.Part.{Part}
 use Rattle.rh_descriptor.specs.declared.shape.Part.TheVariants as part
-use Rattle.rh_descriptor.specs.Places.{cell_count, place_of, row_count, word_count}
+use Rattle.rh_descriptor.specs.Parts.{cell_count, index_of, row_count, word_count}
 use Rattle.rh_descriptor.specs.View.{View, Wiping, new_view, round_view}
 use Rattle.rh_descriptor.specs.Words.{IsPlain}
 use Rattle.rh_descriptor.specs.Steps.{row_of}
-use Rattle.rh_descriptor.proofs.PlaceLemmas.{entry_inside}
+use Rattle.rh_descriptor.proofs.IndexLemmas.{entry_inside}
 use Rattle.rh_rule.specs.Mirrors.{IsCell, IsOwn, Kept, cell_number, word_at}
 use Rattle.rh_rule.specs.Core.{Core, Ruled}
 use Rattle.rh_rule.specs.Rest.{AllRest}
 use Rattle.rh_rule.specs.Wipes.{AreWiping, Rules, ShareOut, TableStarts, WipeBegins, WipeEnds, WipeStores, Wiped, row_total, wiping_view}
-use Rattle.rh_rule.proofs.WritesKept.{own_place}
+use Rattle.rh_rule.proofs.WritesKept.{own_index}
 
 -- ---- a table whose row words are 0
 
 -- a row word lies behind the cells, and before the counter
-row_number : (z : Shape) (p : Part) (v : ℕ) → v < z.workers → IsOwn z v p → (i : ℕ) × (i < row_total z) × (place_of z p ≡ cell_count z + i)
+row_number : (z : Shape) (p : Part) (v : ℕ) → v < z.workers → IsOwn z v p → (i : ℕ) × (i < row_total z) × (index_of z p ≡ cell_count z + i)
 row_number z p v lt own =
     let row : row_of z p < row_count z = below p own in
     let h = mul-add-lt v (row_count z) (row_of z p) z.workers lt row in
-    (v * row_count z + row_of z p, omega (arith, h), own_place z v p own)
+    (v * row_count z + row_of z p, omega (arith, h), own_index z v p own)
   where
     below : (p : Part) → IsOwn z v p → row_of z p < row_count z
     below (part.Cell c) o = absurd o
@@ -47,7 +47,7 @@ row_number z p v lt own =
     below (part.Note worker owner) o = (let lt : owner < z.workers = o.1 in omega arith)
     below part.Counter o = absurd o
 
-control_number : (z : Shape) (worker : ℕ) → worker < z.workers → (i : ℕ) × (i < row_total z) × (place_of z (part.Control worker) ≡ cell_count z + i)
+control_number : (z : Shape) (worker : ℕ) → worker < z.workers → (i : ℕ) × (i < row_total z) × (index_of z (part.Control worker) ≡ cell_count z + i)
 control_number z worker lt =
     let h = mul-add-lt worker (row_count z) 0 z.workers lt (omega arith) in
     (worker * row_count z + 0, omega (arith, h), refl)
@@ -198,7 +198,7 @@ module _ (z : Shape) (words cells : List ℕ) (keep : ℕ → View) (some_one : 
             (λ (e : i ≡ n). ap (λ (x : ℕ). get_or (set words p 0) (cell_count z + x) 0) e ∙ get_or-set_same words p 0 0 on)
             (λ (ne : i ≢ n). let less : i < n = omega arith in get_or-set_other words p (cell_count z + i) 0 0 (λ e. ne (let q : i ≡ n = omega arith in q)) ∙ w.zeros i (subst (λ (x : ℕ). i < x) (sym t.2) less))
             (same_nat i n);
-        shared = shared_same (set words p 0) (λ v. wiping_view cells (n + 1) (keep v)) (get_or-set_other words p (place_of z part.Counter) 0 0 (λ e. omega arith)) (λ v lt. refl) w.shared;
+        shared = shared_same (set words p 0) (λ v. wiping_view cells (n + 1) (keep v)) (get_or-set_other words p (index_of z part.Counter) 0 0 (λ e. omega arith)) (λ v lt. refl) w.shared;
       }
 
   ends_so : AreWiping z keep cells (row_total z) → Rules z words keep → Ruled z words (λ v. round_view cells (keep v))

@@ -16,10 +16,10 @@ use Rattle.rh_world.proofs.Updated.{same_nat}
 use Rattle.rh_descriptor.specs.declared.shape.Shape.{Shape}
 use Rattle.rh_descriptor.specs.declared.shape.Part.{Part}
 use Rattle.rh_descriptor.specs.declared.shape.Part.TheVariants as part
-use Rattle.rh_descriptor.specs.Places.{IsPart, IsShape, cell_count, place_of, row_place}
+use Rattle.rh_descriptor.specs.Parts.{IsPart, IsShape, cell_count, index_of, row_index}
 use Rattle.rh_descriptor.specs.View.{View}
 use Rattle.rh_descriptor.specs.Steps.{CanClaim, IsFree, Step, noted, row_of, row_word, word_after}
-use Rattle.rh_descriptor.proofs.PlaceLemmas.{same_part}
+use Rattle.rh_descriptor.proofs.IndexLemmas.{same_part}
 use Rattle.rh_rule.specs.Mirrors.{Controls, HasItsRow, IsOwn, Kept, Stands, word_at, Mirrors}
 use Rattle.rh_rule.specs.Core.{Core}
 use Rattle.rh_rule.proofs.Erasing.{in_mismatch}
@@ -29,19 +29,19 @@ use Rattle.rh_rule.proofs.ReadsKept.{rule_none}
 use Rattle.rh_rule.proofs.Touched.{IsOfDesc, IsOfMark, cells_same, controls_same, counter_same, descs_same, marks_same, others_stay, own_part, own_same, placed_same, quiet_same, raw_row_same, raw_same, rows_same, serial_same, set_sized}
 
 -- a part of a worker's rows stands at its row
-pub own_place : (z : Shape) (u : ℕ) (q : Part) → IsOwn z u q → place_of z q ≡ row_place z u (row_of z q)
-own_place z u (part.Cell c) o = absurd o
-own_place z u (part.Control worker) o = absurd o
-own_place z u (part.Serial worker) o = ap (λ (x : ℕ). row_place z x (row_of z (part.Serial worker))) o
-own_place z u (part.Length worker) o = ap (λ (x : ℕ). row_place z x (row_of z (part.Length worker))) o
-own_place z u (part.EntryCell worker n) o = ap (λ (x : ℕ). row_place z x (row_of z (part.EntryCell worker n))) o.0
-own_place z u (part.EntryOld worker n) o = ap (λ (x : ℕ). row_place z x (row_of z (part.EntryOld worker n))) o.0
-own_place z u (part.EntryNew worker n) o = ap (λ (x : ℕ). row_place z x (row_of z (part.EntryNew worker n))) o.0
-own_place z u (part.MarkSerial worker) o = ap (λ (x : ℕ). row_place z x (row_of z (part.MarkSerial worker))) o
-own_place z u (part.MarkDesc worker) o = ap (λ (x : ℕ). row_place z x (row_of z (part.MarkDesc worker))) o
-own_place z u (part.MarkEntry worker) o = ap (λ (x : ℕ). row_place z x (row_of z (part.MarkEntry worker))) o
-own_place z u (part.Note worker owner) o = ap (λ (x : ℕ). row_place z x (row_of z (part.Note worker owner))) o.0
-own_place z u part.Counter o = absurd o
+pub own_index : (z : Shape) (u : ℕ) (q : Part) → IsOwn z u q → index_of z q ≡ row_index z u (row_of z q)
+own_index z u (part.Cell c) o = absurd o
+own_index z u (part.Control worker) o = absurd o
+own_index z u (part.Serial worker) o = ap (λ (x : ℕ). row_index z x (row_of z (part.Serial worker))) o
+own_index z u (part.Length worker) o = ap (λ (x : ℕ). row_index z x (row_of z (part.Length worker))) o
+own_index z u (part.EntryCell worker n) o = ap (λ (x : ℕ). row_index z x (row_of z (part.EntryCell worker n))) o.0
+own_index z u (part.EntryOld worker n) o = ap (λ (x : ℕ). row_index z x (row_of z (part.EntryOld worker n))) o.0
+own_index z u (part.EntryNew worker n) o = ap (λ (x : ℕ). row_index z x (row_of z (part.EntryNew worker n))) o.0
+own_index z u (part.MarkSerial worker) o = ap (λ (x : ℕ). row_index z x (row_of z (part.MarkSerial worker))) o
+own_index z u (part.MarkDesc worker) o = ap (λ (x : ℕ). row_index z x (row_of z (part.MarkDesc worker))) o
+own_index z u (part.MarkEntry worker) o = ap (λ (x : ℕ). row_index z x (row_of z (part.MarkEntry worker))) o
+own_index z u (part.Note worker owner) o = ap (λ (x : ℕ). row_index z x (row_of z (part.Note worker owner))) o.0
+own_index z u part.Counter o = absurd o
 
 one_owner : (z : Shape) (u v : ℕ) (q : Part) → IsOwn z u q → IsOwn z v q → u ≡ v
 one_owner z u v (part.Cell c) o i = absurd o
@@ -140,7 +140,7 @@ module _ (z : Shape) (shape : IsShape z) (words : List ℕ) (keep : ℕ → View
 
   module _ (p : Part) (u : ℕ) (free : IsFree z own p u) where
     abbrev then : List ℕ
-    then = set words (place_of z p) u
+    then = set words (index_of z p) u
 
     mine_p : IsOwn z who p
     mine_p = subst (λ (x : ℕ). IsOwn z x p) old.worker (free_own z own p u free)
@@ -273,17 +273,17 @@ module _ (z : Shape) (shape : IsShape z) (words : List ℕ) (keep : ℕ → View
     row : (q : Part) → IsOwn z who q → word_at z then q ≡ cond (eqb (row_of z q) (row_of z p)) u (row_word own.written (row_of z q))
     row q o = ⊎_elim
         (λ (e : row_of z q ≡ row_of z p).
-        let same : q ≡ p = same_part z q p (own_part z who q mine o) here (own_place z who q o ∙ ap (λ (r : ℕ). row_place z who r) e ∙ sym (own_place z who p mine_p)) in
+        let same : q ≡ p = same_part z q p (own_part z who q mine o) here (own_index z who q o ∙ ap (λ (r : ℕ). row_index z who r) e ∙ sym (own_index z who p mine_p)) in
         ap (λ (x : Part). word_at z then x) same ∙ word_new z words p u here m.sized ∙ sym (ap (λ (b : Bool). cond b u (row_word own.written (row_of z q))) (eq-eqb (row_of z q) (row_of z p) e)))
         (λ (ne : row_of z q ≢ row_of z p).
         word_same z words p u here q (own_part z who q mine o) (λ e. ne (ap (λ (x : Part). row_of z x) e)) ∙ old.written q o ∙ sym (ap (λ (b : Bool). cond b u (row_word own.written (row_of z q))) (ne_eqb (row_of z q) (row_of z p) ne)))
         (same_nat (row_of z q) (row_of z p))
 
-    pub keeps_write : Core w z then (updated keep who (noted z own (Step.writes p u) (get_or words (place_of z p) 0)))
+    pub keeps_write : Core w z then (updated keep who (noted z own (Step.writes p u) (get_or words (index_of z p) 0)))
     keeps_write = record {
       side = updated side who (side who);
       rule = rule_none z shape words keep w side rule m who mine;
-      mirrors = mirrors z words then keep w w side m l who mine (side who) (noted z own (Step.writes p u) (get_or words (place_of z p) 0))
+      mirrors = mirrors z words then keep w w side m l who mine (side who) (noted z own (Step.writes p u) (get_or words (index_of z p) 0))
           (set_sized z words keep w side m p here u w l)
           (counter_same z words keep w side m p here u w l (λ e. subst (λ (x : Part). IsOwn z who x) (sym e) mine_p) refl)
           (cells_same z words keep w side m p here u w l (λ c e. subst (λ (x : Part). IsOwn z who x) (sym e) mine_p) (λ c. refl))
@@ -314,7 +314,7 @@ module _ (z : Shape) (shape : IsShape z) (words : List ℕ) (keep : ℕ → View
     }
 
   pub keeps_claim : CanClaim z own
-      → Core (claim_world w) z (set words (place_of z part.Counter) (word_after own Step.claims (word_at z words part.Counter))) (updated keep who (noted z own Step.claims (word_at z words part.Counter)))
+      → Core (claim_world w) z (set words (index_of z part.Counter) (word_after own Step.claims (word_at z words part.Counter))) (updated keep who (noted z own Step.claims (word_at z words part.Counter)))
   keeps_claim can =
       let found : ℕ = word_at z words part.Counter in
       let v : World = claim_world w in
@@ -335,14 +335,14 @@ module _ (z : Shape) (shape : IsShape z) (words : List ℕ) (keep : ℕ → View
           closed = ap (λ (x : Side). x.current) (sym old.side_is) ∙ can.closed;
           keys = λ i h. subst (λ (x : ℕ). i < x) (sym m.keys) (can.keys i (subst (λ (x : Side). In i x.claims) (sym old.side_is) h));
         };
-        mirrors = mirrors z words (set words (place_of z part.Counter) n) keep w v side m l who mine s (noted z own Step.claims found)
+        mirrors = mirrors z words (set words (index_of z part.Counter) n) keep w v side m l who mine s (noted z own Step.claims found)
             (set_sized z words keep w side m part.Counter tt n v l)
             (word_new z words part.Counter n tt m.sized ∙ after)
             (cells_same z words keep w side m part.Counter tt n v l (λ c e. cc) (λ c. refl))
             (controls_same z words keep w side m part.Counter tt n v l (λ a e. cc) (λ a b e. cc) (λ d. refl) (λ x. refl))
             (rows_same z words keep w side m part.Counter tt n v l (λ d o. o) (λ x o. o)
             (descs_same z words keep w side m part.Counter tt n v l (λ o. o)) (marks_same z words keep w side m part.Counter tt n v l (λ o. o)) (placed_same z words keep w side m part.Counter tt n v l (λ o. o) (λ j x q. q)))
-            (kept_stays z words (set words (place_of z part.Counter) n) w v l (side who) s who own (claim_side own.side found) own.control own.raw_rows own.raw refl refl (λ i o. o)
+            (kept_stays z words (set words (index_of z part.Counter) n) w v l (side who) s who own (claim_side own.side found) own.control own.raw_rows own.raw refl refl (λ i o. o)
             (own_same z words keep w side m part.Counter tt n v l who mine (λ o. o))
             (λ r i. raw_row_same z words keep w side m part.Counter tt n v l (λ o. o) r (old.raw_rows r i)) (λ r i. raw_same z words keep w side m part.Counter tt n v l (λ o. o) r (old.raw r i)) (λ i. claim_side (old.side_is i) (is i))
             (quiet_same z words keep w side m part.Counter tt n v l who mine (λ o. o) (claim_side own.side found) record { current = λ i e. e; notes = λ i j. j; decided = λ d r i. i } old.over (λ d e f. f)) old)

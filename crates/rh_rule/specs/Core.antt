@@ -5,7 +5,7 @@ use Rattle.rh_world.specs.World.{World, updated}
 use Rattle.rh_world.specs.Sides.{Side}
 use Rattle.rh_world.specs.Rule.{Rule}
 use Rattle.rh_descriptor.specs.declared.shape.Shape.{Shape}
-use Rattle.rh_descriptor.specs.Places.{IsShape}
+use Rattle.rh_descriptor.specs.Parts.{IsShape}
 use Rattle.rh_descriptor.specs.View.{View}
 use Rattle.rh_world.specs.Moves.{world_after}
 use Rattle.rh_world.specs.Moves.Move.{opens, places, settles, decides, releases, claims}

@@ -1,5 +1,5 @@
 -- How the words of a table, and what is kept of its workers, mirror a world. Only here does a part of the world have a
--- place. (own)
+-- place.
 use Rattle.std.specs.Prelude.{suc, ◌≡◌, ℕ, ◌<◌, ◌≤◌, ◌⊎◌, Some, None, List, map, length, slice_index}
 use Rattle.rh_world.specs.World.{Ref, Cell, Control, World, IsOpened, IsUsed, IsFalling, In}
 use Rattle.rh_world.specs.World.Cell.{plain, mark, desc}
@@ -9,7 +9,7 @@ use Rattle.rh_world.specs.Sides.{Side, new_side}
 use Rattle.rh_descriptor.specs.declared.shape.Shape.{Shape}
 use Rattle.rh_descriptor.specs.declared.shape.Part.{Part}
 use Rattle.rh_descriptor.specs.declared.shape.Part.TheVariants as part
-use Rattle.rh_descriptor.specs.Places.{cell_count, place_of, word_count}
+use Rattle.rh_descriptor.specs.Parts.{cell_count, index_of, word_count}
 use Rattle.rh_descriptor.specs.View.{MarkWord, OwnDesc, Raw, RawRow, RowWord, View}
 use Rattle.rh_descriptor.specs.View.RowWord.{length_word, cell_word, old_word, new_word}
 use Rattle.rh_descriptor.specs.View.MarkWord.{desc_word, entry_word}
@@ -18,7 +18,7 @@ use Rattle.rh_descriptor.specs.Steps.{IsDesc, IsMark, row_of, row_word, entry_of
 use Rattle.rh_rule.specs.Erased.{erased}
 
 abbrev pub word_at : Shape → List ℕ → Part → ℕ
-word_at z words p = slice_index words (place_of z p)
+word_at z words p = slice_index words (index_of z p)
 
 -- the word of what a cell holds
 abbrev pub cell_number : Cell → ℕ

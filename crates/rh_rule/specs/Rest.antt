@@ -7,7 +7,7 @@ use Rattle.rh_world.specs.Sides.{Side, AtRest}
 use Rattle.rh_world.specs.Acts.{cells_after, is_success, own_acts, successes_of}
 use Rattle.rh_world.specs.Laws.{Foretold, OneOrder, SharedOut}
 use Rattle.rh_descriptor.specs.declared.shape.Shape.{Shape}
-use Rattle.rh_descriptor.specs.Places.{cell_count}
+use Rattle.rh_descriptor.specs.Parts.{cell_count}
 use Rattle.rh_descriptor.specs.View.{OwnDesc, View}
 use Rattle.rh_descriptor.specs.Words.{IsPlain, without_entry}
 use Rattle.rh_rule.specs.Erased.{erased}

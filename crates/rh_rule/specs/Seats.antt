@@ -1,5 +1,5 @@
 -- The rule of a table as its seats have it: each seat's view is the list of what is kept of its workers. A step leaves
--- where each worker sits; that a view is cut in two, or two are joined, changes this alone. (own)
+-- where each worker sits; that a view is cut in two, or two are joined, changes this alone.
 use Rattle.std.specs.Prelude.{◌≡◌, ℕ, zero, suc, ◌+◌, ◌<◌, List, [], ◌∷◌, ◌++◌, length, map, replicate, take, drop, slice_index, Some, None}
 use mathlib.Core.Option.{some}
 use lib.ListN.{get_elem?}
@@ -8,10 +8,10 @@ use Rattle.rh_world.specs.World.{World}
 use Rattle.rh_world.specs.Sides.{AtRest}
 use Rattle.rh_descriptor.specs.declared.known.Known.{Known}
 use Rattle.rh_descriptor.specs.declared.shape.Shape.{Shape}
-use Rattle.rh_descriptor.specs.Places.{IsShape, cell_count}
+use Rattle.rh_descriptor.specs.Parts.{IsShape, cell_count}
 use Rattle.rh_descriptor.specs.View.{View, new_view, round_view}
 use Rattle.rh_descriptor.specs.Words.{IsPlain}
-use Rattle.rh_descriptor.specs.Steps.{Step, Allowed, noted, place, word_after}
+use Rattle.rh_descriptor.specs.Steps.{Step, Allowed, noted, index, word_after}
 use Rattle.rh_rule.specs.Core.{Core, Ruled}
 use Rattle.rh_rule.specs.Rest.{AllRest, Rested}
 use Rattle.rh_rule.specs.Sound.{Finds, Sound}
@@ -80,7 +80,7 @@ pub record StepTells (z : Shape) (v : View) (s : Step) (word : ℕ) (me : Me NoS
 -- what it may rely on.
 abbrev pub StepsAreAllowed : Type 0
 StepsAreAllowed = (z : Shape) (slots id : ℕ) (v : View) (s : Step) → IsShape z → Allowed z v s
-    → Allows {S = NoSlot} (Holds z) slots id (known v ∷ [], []) (place z v s) (word_after v s) (StepTells z v s)
+    → Allows {S = NoSlot} (Holds z) slots id (known v ∷ [], []) (index z v s) (word_after v s) (StepTells z v s)
 
 -- A view may be cut in two at any place, and two views may be joined.
 abbrev pub ViewsSplit : Type 0

@@ -1,5 +1,5 @@
 -- What a worker may rely on: what the words say that it finds, and that what it noted fits the table and does not
--- contradict itself. (own)
+-- contradict itself.
 use Rattle.std.specs.Prelude.{suc, ◌≡◌, ℕ, ◌+◌, ◌<◌, ◌≤◌, ◌⊎◌, Some, List, length, slice_index}
 use Rattle.rh_tagword.specs.Control.{IsState}
 use Rattle.rh_world.specs.World.{Ref, Control, World, IsOpened, IsDecided, In}
@@ -10,11 +10,11 @@ use Rattle.rh_descriptor.specs.declared.shape.Shape.{Shape}
 use Rattle.rh_descriptor.specs.declared.shape.Part.{Part}
 use Rattle.rh_descriptor.specs.declared.reference.Reading.{Reading}
 use Rattle.rh_descriptor.specs.declared.reference.Reading.TheVariants as reading
-use Rattle.rh_descriptor.specs.Places.{IsShape, cell_count, entry_row, place_of}
+use Rattle.rh_descriptor.specs.Parts.{IsShape, cell_count, entry_row, index_of}
 use Rattle.rh_descriptor.specs.View.{OwnDesc, View}
 use Rattle.rh_descriptor.specs.View.MarkWord.{desc_word}
 use Rattle.rh_descriptor.specs.Words.{IsPlain, cell_in, desc_in, number_of, read_control, ref_of, serial_in, state_of}
-use Rattle.rh_descriptor.specs.Steps.{Allowed, IsDesc, IsKnown, IsMark, KnowsMark, Step, entry_of, place, row_of, row_word}
+use Rattle.rh_descriptor.specs.Steps.{Allowed, IsDesc, IsKnown, IsMark, KnowsMark, Step, entry_of, index, row_of, row_word}
 use Rattle.rh_rule.specs.Mirrors.{IsCell, IsOwn}
 use Rattle.rh_rule.specs.Core.{Core}
 
@@ -81,7 +81,7 @@ pub record ControlTells (v : View) (d : Ref) (word : ℕ) : Type 0 where
 
 -- what a word says that is read
 abbrev pub Reads : Shape → View → Reading → (word : ℕ) → Type 0
-Reads z v (reading.Place p) word = (q : Part) → IsOwn z v.worker q → p ≡ place_of z q → word ≡ row_word v.written (row_of z q)
+Reads z v (reading.Word p) word = (q : Part) → IsOwn z v.worker q → p ≡ index_of z q → word ≡ row_word v.written (row_of z q)
 Reads z v (reading.Cell c) word = IsCell z (cell_in word)
 Reads z v (reading.Control d) word = IsControlWord word × (IsKnown v.side.notes (ref_of d) → ControlTells v (ref_of d) word)
 Reads z v (reading.MarkControl x c d) word = ControlTells v (ref_of d) word
@@ -113,4 +113,4 @@ ViewsAreSound = (w : World) (z : Shape) (words : List ℕ) (keep : ℕ → View)
 
 abbrev pub StepsFind : Type 0
 StepsFind = (w : World) (z : Shape) (words : List ℕ) (keep : ℕ → View) (v : ℕ) (s : Step) → IsShape z → Core w z words keep
-    → v < z.workers → Allowed z (keep v) s → Finds z (keep v) s (slice_index words (place z (keep v) s))
+    → v < z.workers → Allowed z (keep v) s → Finds z (keep v) s (slice_index words (index z (keep v) s))

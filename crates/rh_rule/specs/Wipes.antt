@@ -1,6 +1,5 @@
 -- The start of a table, and a wipe, by which a new round begins: it sets all row words to 0, one by one. From its begin to
 -- its end the rule says only that the cells are plain and are those of its begin, and that so many row words are cleared.
--- (own)
 use Rattle.std.specs.Prelude.{◌≡◌, ℕ, ◌+◌, ◌*◌, ◌<◌, ◌≤◌, ◌⊎◌, Some, List, [], ◌++◌, length, replicate, slice_index, slice_set}
 use Rattle.rh_world.specs.World.{World}
 use Rattle.rh_world.specs.Sides.{new_side}
@@ -8,7 +7,7 @@ use Rattle.rh_world.specs.Claims.{Claims}
 use Rattle.rh_world.specs.Ends.{opening_world}
 use Rattle.rh_descriptor.specs.declared.shape.Shape.{Shape}
 use Rattle.rh_descriptor.specs.declared.shape.Part.TheVariants as part
-use Rattle.rh_descriptor.specs.Places.{IsShape, cell_count, row_count, word_count}
+use Rattle.rh_descriptor.specs.Parts.{IsShape, cell_count, row_count, word_count}
 use Rattle.rh_descriptor.specs.View.{View, new_view, round_view}
 use Rattle.rh_descriptor.specs.Words.{IsPlain}
 use Rattle.rh_rule.specs.Mirrors.{word_at}

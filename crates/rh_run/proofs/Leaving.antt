@@ -9,10 +9,10 @@ use Rattle.rh_world.proofs.Tests.{eqb_yes}
 use Rattle.std.specs.Prelude.{slice_index}
 use Rattle.rh_descriptor.specs.declared.shape.Shape.{Shape}
 use Rattle.rh_descriptor.specs.declared.shape.Part.TheVariants as part
-use Rattle.rh_descriptor.specs.Places.{IsShape, note_row}
+use Rattle.rh_descriptor.specs.Parts.{IsShape, note_row}
 use Rattle.rh_descriptor.specs.View.{View}
 use Rattle.rh_descriptor.specs.Words.{number_of, with_entry}
-use Rattle.rh_descriptor.specs.Steps.{CanDecide, IsStep, Step, decided_so, is_none, place, row_word}
+use Rattle.rh_descriptor.specs.Steps.{CanDecide, IsStep, Step, decided_so, is_none, index, row_word}
 use Rattle.rh_rule.specs.Core.{Core, world_then}
 use Rattle.rh_rule.specs.Mirrors.{word_at}
 use Rattle.rh_rule.proofs.DecidesKept.{closed, decided_before}
@@ -61,7 +61,7 @@ module _ (w : World) (z : Shape) (words : List ℕ) (keep : ℕ → View) (who :
           (no_success (row_word (keep who).written (note_row z d.worker)) k (λ is. none (found ∙ eqb_yes (word_at z words (part.Control d.worker)) (number_of d.number undecided) e, is)))
       either false e = ap left (decided_before w d (w.control d) (decided_so z (keep who) d k) (closed z shape words keep w core.side core.rule core.mirrors who mine d k can e))
 
-  step_leaves : (s : Step) (word : ℕ) → word ≡ slice_index words (place z (keep who) s) → IsStep z (keep who) s → (IsSuccess s word → ⊥) → left (world_then z w who (keep who) s) ≡ left w
+  step_leaves : (s : Step) (word : ℕ) → word ≡ slice_index words (index z (keep who) s) → IsStep z (keep who) s → (IsSuccess s word → ⊥) → left (world_then z w who (keep who) s) ≡ left w
   step_leaves (Step.writes p u) word found may none = refl
   step_leaves (Step.opens size) word found may none = refl
   step_leaves (Step.reads r) word found may none = refl

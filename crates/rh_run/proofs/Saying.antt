@@ -16,8 +16,8 @@ use Rattle.rh_world.proofs.OwnList.{success_yes}
 use Rattle.rh_world.proofs.Updated.{same_nat}
 use Rattle.rh_descriptor.specs.declared.shape.Shape.{Shape}
 use Rattle.rh_descriptor.specs.declared.shape.Part.TheVariants as part
-use Rattle.rh_descriptor.specs.Places.{IsShape, cell_count}
-use Rattle.rh_descriptor.specs.View.{OwnDesc, View}
+use Rattle.rh_descriptor.specs.Parts.{IsShape, cell_count}
+use Rattle.rh_descriptor.specs.View.{OwnDesc, View, own_ref}
 use Rattle.rh_descriptor.specs.Words.{cell_in, number_of, read_control, serial_in, without_entry}
 use Rattle.rh_rule.specs.Mirrors.{DescRow, HasItsRow, IsCell, Mirrors, word_at}
 use Rattle.rh_rule.specs.Core.{Core}
@@ -26,7 +26,6 @@ use Rattle.rh_rule.proofs.Deciders.{told_succeeded}
 use Rattle.rh_rule.proofs.ReadsKept.{control_gone, newest_word, reads_desc_control, row_gone, true_note, work_known}
 use Rattle.rh_rule.proofs.Said.{cell_said_is, control_said_is, serial_said_is}
 use Rattle.rh_rule.proofs.Telling.{in_noted, noted_in, same_bool, tells}
-use Rattle.rh_history.specs.History.{own_ref}
 use Rattle.rh_run.specs.Known.{KnowsHeld, NotesOld}
 use Rattle.rh_run.specs.Laws.{LogicalWords, WordsLeadInside, WordsStand}
 use Rattle.rh_run.specs.Words.{GoneStandsFor, Holds, IsLogicalWord, LeadsInside, MarkIsFor, MarkStandsFor, RowStandsFor, StandsFor, entry_for, has_succeeded, value_in}

@@ -15,7 +15,7 @@ use Rattle.rh_world.specs.World.{In, Ref, World}
 use Rattle.rh_world.specs.World.Control.{succeeded}
 use Rattle.rh_world.proofs.Tests.{both}
 use Rattle.rh_descriptor.specs.declared.shape.Shape.{Shape}
-use Rattle.rh_descriptor.specs.View.{OwnDesc, View}
+use Rattle.rh_descriptor.specs.View.{OwnDesc, View, own_ref}
 use Rattle.rh_rule.specs.Core.{Core}
 use Rattle.rh_rule.specs.Rest.{is_noted_success}
 use Rattle.rh_rule.proofs.Deciders.{told_succeeded}
@@ -27,7 +27,7 @@ use Rattle.rh_acts.specs.Workers.{LeavesRoom, acts_of}
 use Rattle.rh_acts.proofs.ActLemmas.{contains_cases, contains_head, contains_none, contains_tail, contains_take}
 use Rattle.rh_acts.proofs.DoneLemmas.{does_insert, does_removal}
 use Rattle.rh_acts.proofs.Chain.{insertions_grow, removals_shrink}
-use Rattle.rh_history.specs.History.{act_of, history, is_current, is_finished, own_acts_of, own_ref, world_act}
+use Rattle.rh_history.specs.History.{act_of, history, is_current, is_finished, own_acts_of, world_act}
 use Rattle.rh_history.proofs.Filtered.{from_filtered}
 use Rattle.rh_history.proofs.Happening.{opened_act}
 use Rattle.rh_history.proofs.Values.{act_at, acts_length}

@@ -13,8 +13,8 @@ use Rattle.rh_world.specs.Acts.{cells_after, is_success}
 use Rattle.rh_rule.specs.Rest.{is_noted_success}
 use Rattle.rh_rule.proofs.Telling.{same_filtered}
 use Rattle.rh_descriptor.specs.declared.shape.Shape.{Shape}
-use Rattle.rh_descriptor.specs.Places.{IsShape, cell_count}
-use Rattle.rh_descriptor.specs.View.{OwnDesc, View}
+use Rattle.rh_descriptor.specs.Parts.{IsShape, cell_count}
+use Rattle.rh_descriptor.specs.View.{OwnDesc, View, own_ref}
 use Rattle.rh_acts.specs.Act.{Act, AllMeet, apply_acts, changes}
 use Rattle.rh_acts.specs.Done.{Does, IsDone, WereTrue}
 use Rattle.rh_acts.specs.Workers.{AreOf, LeavesRoom, Made, acts_of, own}
@@ -24,7 +24,7 @@ use Rattle.rh_acts.proofs.FoldLemmas.{all_kept, all_there, len_part, there_cases
 use Rattle.rh_acts.proofs.InOrder.{acts_are_a_phase}
 use Rattle.rh_acts.proofs.OwnLemmas.{own_among}
 use Rattle.rh_acts.proofs.Told.{does_told}
-use Rattle.rh_history.specs.History.{act_of, history, kept_of, logical_cells, own_acts_of, own_ref, value_of}
+use Rattle.rh_history.specs.History.{act_of, history, kept_of, logical_cells, own_acts_of, value_of}
 use Rattle.rh_history.specs.Laws.{HappenedSo, OwnSo}
 use Rattle.rh_history.specs.Rounds.{JoinedSo}
 use Rattle.rh_history.proofs.Happening.{happened}

@@ -11,7 +11,7 @@ use Rattle.rh_world.specs.Claims.{Claims}
 use Rattle.rh_world.specs.Ends.{opening_world}
 use Rattle.rh_world.specs.Sides.{new_side}
 use Rattle.rh_descriptor.specs.declared.shape.Shape.{Shape}
-use Rattle.rh_descriptor.specs.Places.{IsShape, cell_count}
+use Rattle.rh_descriptor.specs.Parts.{IsShape, cell_count}
 use Rattle.rh_descriptor.specs.View.{View, new_view, round_view}
 use Rattle.rh_descriptor.specs.Words.{IsPlain}
 use Rattle.rh_rule.specs.Core.{Core, Ruled}

@@ -1,4 +1,4 @@
--- What a step of a worker makes of the key that it is at. (own)
+-- What a step of a worker makes of the key that it is at.
 use Rattle.std.specs.Prelude.{◌≡◌, ℕ, ◌⊎◌, Option, Some, None, Bool, false, ◌∷◌}
 use Rattle.rh_ledger.specs.declared.tally.Kind.{Kind}
 use Rattle.rh_world.specs.World.{Control, In}
@@ -7,8 +7,8 @@ use Rattle.rh_world.specs.Notes.Note.{decided}
 use Rattle.rh_world.specs.Acts.{is_success}
 use Rattle.rh_acts.specs.Done.{Does, IsTold}
 use Rattle.rh_descriptor.specs.declared.shape.Shape.{Shape}
-use Rattle.rh_descriptor.specs.View.{OwnDesc, View}
-use Rattle.rh_history.specs.History.{act_of, kept_of, own_ref}
+use Rattle.rh_descriptor.specs.View.{OwnDesc, View, own_ref}
+use Rattle.rh_history.specs.History.{act_of, kept_of}
 use Rattle.rh_history.specs.OwnActs.{Closes}
 
 -- no own descriptor was opened or closed

@@ -1,4 +1,4 @@
--- The places of a shared list that the workers claimed. (own)
+-- The places of a shared list that the workers claimed.
 use Rattle.std.specs.Prelude.{ℕ, ◌≤◌, nat_lt, List, map, filter, reverse}
 use Rattle.std.specs.List.{range_with_len}
 use Rattle.rh_world.specs.World.{In}

@@ -1,4 +1,4 @@
--- What a worker knows of the cells that it holds: that of its unsettled mark, and those that it owes. (own)
+-- What a worker knows of the cells that it holds: that of its unsettled mark, and those that it owes.
 use Rattle.std.specs.Prelude.{ℕ, ◌≡◌, Some}
 use Rattle.rh_world.specs.World.{In, Ref}
 use Rattle.rh_world.specs.Notes.Note.{target_is, old_is, desc_is, found}

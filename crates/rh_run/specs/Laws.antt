@@ -11,7 +11,7 @@ use Rattle.rh_world.specs.World.{World, updated}
 use Rattle.rh_world.specs.World.Control.{succeeded, undecided}
 use Rattle.rh_world.specs.Acts.{cells_after}
 use Rattle.rh_descriptor.specs.declared.shape.Shape.{Shape}
-use Rattle.rh_descriptor.specs.Places.{IsShape, cell_count}
+use Rattle.rh_descriptor.specs.Parts.{IsShape, cell_count}
 use Rattle.rh_descriptor.specs.View.{View, new_view, round_view}
 use Rattle.rh_descriptor.specs.Words.{cell_in, number_of}
 use Rattle.rh_descriptor.specs.Steps.{Allowed, Step, StepsTo, noted}

@@ -1,5 +1,5 @@
 -- How far the workers of a table have come with their keys: what each has done, by its own acts and by what it read, over
--- all rounds so far. (own)
+-- all rounds so far.
 use Rattle.std.specs.Prelude.{◌≡◌, ℕ, ◌<◌, Option, Some, None, Bool, List, [], ◌∷◌, ◌++◌}
 use Rattle.std.specs.List.{Contains}
 use Rattle.rh_ledger.specs.declared.tally.Kind.{Kind}

@@ -1,5 +1,5 @@
 -- What the words of a table tell, with what its workers noted: what its cells stand for and what they hold, which descriptors
--- are acts, and that its rows were wiped. (own)
+-- are acts, and that its rows were wiped.
 use Rattle.std.specs.Prelude.{ℕ, zero, suc, ◌+◌, ◌≡◌, ◌<◌, ◌≤◌, ◌⊎◌, ◌==◌, ◌||◌, Bool, cond, Some, List, filter, length, map, reverse, slice_index}
 use Rattle.rh_world.specs.World.{Cell, In, Ref}
 use Rattle.rh_world.specs.World.Cell.{plain, mark, desc}
@@ -8,15 +8,15 @@ use Rattle.rh_world.specs.Notes.Note.{desc_is, found}
 use Rattle.rh_world.specs.Sides.{Side}
 use Rattle.rh_descriptor.specs.declared.shape.Shape.{Shape}
 use Rattle.rh_descriptor.specs.declared.shape.Part.TheVariants as part
-use Rattle.rh_descriptor.specs.Places.{cell_count}
-use Rattle.rh_descriptor.specs.View.{View}
+use Rattle.rh_descriptor.specs.Parts.{cell_count}
+use Rattle.rh_descriptor.specs.View.{View, own_ref}
 use Rattle.rh_descriptor.specs.Words.{cell_in, number_of}
 use Rattle.rh_descriptor.specs.Steps.{IsDesc, IsMark}
 use Rattle.rh_rule.specs.Mirrors.{HasItsRow, word_at}
 use Rattle.rh_rule.specs.Rest.{is_noted_success}
 use Rattle.rh_rule.specs.Wipes.{row_total}
 use Rattle.rh_acts.specs.Act.{Act}
-use Rattle.rh_history.specs.History.{act_of, cells_of, own_ref, value_of}
+use Rattle.rh_history.specs.History.{act_of, cells_of, value_of}
 use Rattle.rh_run.specs.Known.{NotesOld}
 
 -- ---- what a cell stands for

@@ -76,9 +76,3 @@ module _ (S T : Keys) (keys : List ℕ) (i n : ℕ) (r : Bool) (inside : i < len
       ∙ ap (removed_of (i + 1)) same
 
 -- ---- the look-ups after one more key
-
-pub look_ups_go_on : (S : Keys) (keys : List ℕ) (i : ℕ) (found : List Bool) (r : Bool) → i < length keys → found ≡ looked_up S (take i keys) → r ≡ contains S (get_or keys i 0) → found ++ r ∷ [] ≡ looked_up S (take (i + 1) keys)
-look_ups_go_on S keys i found r inside so_far told =
-    ap (λ (f : List Bool). f ++ r ∷ []) so_far
-    ∙ ap (λ b. looked_up S (take i keys) ++ b ∷ []) told
-    ∙ sym (ap (map (contains S)) (take_more keys i 0 inside) ∙ map-append (contains S) (take i keys) (get_or keys i 0 ∷ []))

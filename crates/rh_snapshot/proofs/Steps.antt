@@ -17,12 +17,6 @@ Buffer a b buf r = Reads a b (bytes_at (length buf)) (always buf) r
 pub so_many : (a b : Option (List ℕ)) (n : ℕ) (buf : List ℕ) (r : Result (Unit {0}) SnapFault) → length buf ≡ n → Buffer a b buf r → Reads a b (bytes_at n) (always buf) r
 so_many a b n buf r len h = subst (λ k. Reads a b (bytes_at k) (always buf) r) len h
 
--- a buffer of a known length that is handed out itself
-pub handed_out : (a b : Option (List ℕ)) (n : ℕ) (buf : List ℕ) → length buf ≡ n → Buffer a b buf (Ok tt) → Reads a b (bytes_at n) (λ (s : List ℕ). s) (Ok buf)
-handed_out None b n buf len h = tt
-handed_out (Some x) None n buf len h = absurd h
-handed_out (Some x) (Some y) n buf len h = ap (λ k. bytes_at k x) (sym len) ∙ h
-
 pub version_fails : (a b : Option (List ℕ)) (buf : List ℕ) (e : SnapFault) → length buf ≡ 4 → Buffer a b buf (Err e) → Reads a b version_at (λ (v : Version). v) (Err e)
 unfolding version_at
 version_fails a b buf e len h = Reads-fails a b b (bytes_at 4) named (always {X = Unit {0}} buf) (λ (v : Version). v) e (so_many a b 4 buf (Err e) len h)

@@ -1,4 +1,4 @@
--- The grammar of snapshots (this project's own): which bytes are a snapshot, and of which table.
+-- The grammar of snapshots: which bytes are a snapshot, and of which table.
 use Rattle.std.specs.Prelude.{◌≡◌, ℕ, ◌≤◌, ◌<◌, ◌^◌, if◌then◌else◌, List, ◌∷◌, ◌++◌, map, codes, count_by}
 use Rattle.std.specs.List.{flat_map, filter}
 use Rattle.std.specs.FinSet as set

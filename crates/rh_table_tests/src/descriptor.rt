@@ -17,23 +17,23 @@ const SHAPE: Shape = Shape {
 fn each_part_has_its_place(rt: HostRuntime) -> Result<(), Fail> {
     assert_eq!(rt; SHAPE.cells(), 8);
     assert_eq!(rt; SHAPE.words(), 73);
-    assert_eq!(rt; SHAPE.place(Part::Cell(7)), 7);
+    assert_eq!(rt; SHAPE.index(Part::Cell(7)), 7);
     for (worker, first) in [(0, 8), (1, 40)] {
-        assert_eq!(rt; SHAPE.place(Part::Control { worker }), first);
-        assert_eq!(rt; SHAPE.place(Part::Serial { worker }), first + 1);
-        assert_eq!(rt; SHAPE.place(Part::Length { worker }), first + 2);
-        assert_eq!(rt; SHAPE.place(Part::MarkSerial { worker }), first + 27);
-        assert_eq!(rt; SHAPE.place(Part::MarkDesc { worker }), first + 28);
-        assert_eq!(rt; SHAPE.place(Part::MarkEntry { worker }), first + 29);
-        assert_eq!(rt; SHAPE.place(Part::Note { worker, owner: 0 }), first + 30);
-        assert_eq!(rt; SHAPE.place(Part::Note { worker, owner: 1 }), first + 31);
+        assert_eq!(rt; SHAPE.index(Part::Control { worker }), first);
+        assert_eq!(rt; SHAPE.index(Part::Serial { worker }), first + 1);
+        assert_eq!(rt; SHAPE.index(Part::Length { worker }), first + 2);
+        assert_eq!(rt; SHAPE.index(Part::MarkSerial { worker }), first + 27);
+        assert_eq!(rt; SHAPE.index(Part::MarkDesc { worker }), first + 28);
+        assert_eq!(rt; SHAPE.index(Part::MarkEntry { worker }), first + 29);
+        assert_eq!(rt; SHAPE.index(Part::Note { worker, owner: 0 }), first + 30);
+        assert_eq!(rt; SHAPE.index(Part::Note { worker, owner: 1 }), first + 31);
     }
     for (worker, entry, first) in [(0, 0, 11), (0, 7, 32), (1, 0, 43), (1, 7, 64)] {
-        assert_eq!(rt; SHAPE.place(Part::EntryCell { worker, entry }), first);
-        assert_eq!(rt; SHAPE.place(Part::EntryOld { worker, entry }), first + 1);
-        assert_eq!(rt; SHAPE.place(Part::EntryNew { worker, entry }), first + 2);
+        assert_eq!(rt; SHAPE.index(Part::EntryCell { worker, entry }), first);
+        assert_eq!(rt; SHAPE.index(Part::EntryOld { worker, entry }), first + 1);
+        assert_eq!(rt; SHAPE.index(Part::EntryNew { worker, entry }), first + 2);
     }
-    assert_eq!(rt; SHAPE.place(Part::Counter), 72);
+    assert_eq!(rt; SHAPE.index(Part::Counter), 72);
     Ok(())
 }
 
@@ -80,7 +80,7 @@ fn a_word_of_an_own_row_is_written_and_read(rt: HostRuntime) -> Result<(), Fail>
     let write = Ask::Write { part, word: 40 };
     assert_eq!(rt; make_step(&SHAPE, &mut words, &mut side, write), 0);
     assert_eq!(rt; words[65], 40);
-    let read = Ask::Read(Reading::Place(65));
+    let read = Ask::Read(Reading::Word(65));
     assert_eq!(rt; make_step(&SHAPE, &mut words, &mut side, read), 40);
     Ok(())
 }

@@ -1,4 +1,4 @@
--- No key of the list is done twice: the places of done keys lie apart.
+-- No key of the list is done twice: the positions of done keys lie apart.
 use Rattle.std.proofs.Common.{◌≡◌, ℕ, zero, suc, ◌+◌, ◌<◌, ◌≤◌, ◌⊎◌, ⊎_elim, sym, ap, ◌∙◌, subst, arith, Bool, List, [], ◌∷◌, length, set, take, get_or}
 use Rattle.std.specs.Prelude.{nat_lt, All}
 use Rattle.std.specs.List.{AllPairs, range_with_len}
@@ -19,7 +19,7 @@ use Rattle.rh_run.proofs.Sharing.{from, rising}
 use Rattle.rh_turns.specs.declared.hand.Hand.{Hand}
 use Rattle.rh_turns.specs.declared.hand.Share.{Share}
 use Rattle.rh_turns.specs.declared.hand.Share.TheVariants.{Piece, Claims}
-use Rattle.rh_turns.specs.Hands.{IsClaiming, IsHand, IsShare, places, places_of, view_of}
+use Rattle.rh_turns.specs.Hands.{IsClaiming, IsHand, IsShare, positions, positions_of, view_of}
 use Rattle.rh_turns.specs.Game.{ArePieces, at_hand}
 use Rattle.rh_turns.proofs.AtHands.{at_hand_is}
 
@@ -71,7 +71,7 @@ in_order low (h ∷ hs) count are zero (suc v) d less l =
     omega (arith, r.1, same)
 in_order low (h ∷ hs) count are (suc u) (suc v) d less l = in_order are.0 hs count are.3 u v d (omega (arith, less)) (omega (arith, l))
 
--- a place is in one piece alone
+-- a position is in one piece alone
 pub in_one_piece : (hs : List Hand) (count : ℕ) → ArePieces 0 hs count → (u v : ℕ) (d : Hand) → u < length hs → v < length hs → (p : ℕ)
     → (first_of (get_or hs u d).share ≤ p) × (p < end_of (get_or hs u d).share) → (first_of (get_or hs v d).share ≤ p) × (p < end_of (get_or hs v d).share) → u ≡ v
 in_one_piece hs count are u v d lu lv p a b = ⊎_elim
@@ -84,10 +84,10 @@ pieces_set low [] count who d next l same are = are
 pieces_set low (h ∷ hs) count zero d next l same are = (are.0, same ∙ are.1, are.2, are.3)
 pieces_set low (h ∷ hs) count (suc who) d next l same are = (are.0, are.1, are.2, pieces_set are.0 hs count who d next (omega (arith, l)) same are.3)
 
--- ---- the places of one worker
+-- ---- the positions of one worker
 
-pub in_piece : (z : Shape) (keys : List ℕ) (h : Hand) (s : Share) (i : ℕ) → IsPiece s → IsShare z keys h s → i < length (places_of z s (view_of h) h.done)
-    → (get_or (places_of z s (view_of h) h.done) i 0 ≡ first_of s + i) × (first_of s + i < end_of s)
+pub in_piece : (z : Shape) (keys : List ℕ) (h : Hand) (s : Share) (i : ℕ) → IsPiece s → IsShare z keys h s → i < length (positions_of z s (view_of h) h.done)
+    → (get_or (positions_of z s (view_of h) h.done) i 0 ≡ first_of s + i) × (first_of s + i < end_of s)
 in_piece z keys h (Piece first end) i piece o l =
     let size : length (range_with_len first h.done) ≡ h.done = length-range_with_len first h.done in
     (get_or-range_with_len first h.done i 0 (omega (arith, l, size)), omega (arith, l, size, o.0))
@@ -119,13 +119,13 @@ module _ (z : Shape) (kind : Kind) (keys words : List ℕ) (hands : List Hand) (
   claims_are v mine = ap (λ (x : View). x.side.claims) (sym (at_hand_is view_of (new_view [] 0) hands v d (inside v mine))) ∙ ap (λ (s : Side). s.claims) (told.kept v mine)
 
   module _ (are : ArePieces 0 hands (length keys)) where
-    of_piece : (v i : ℕ) → v < z.workers → i < length (places z (hand v)) → (get_or (places z (hand v)) i 0 ≡ first_of (hand v).share + i) × (first_of (hand v).share + i < end_of (hand v).share)
+    of_piece : (v i : ℕ) → v < z.workers → i < length (positions z (hand v)) → (get_or (positions z (hand v)) i 0 ≡ first_of (hand v).share + i) × (first_of (hand v).share + i < end_of (hand v).share)
     of_piece v i mine l = in_piece z keys (hand v) (hand v).share i (piece_at 0 hands (length keys) are v d (inside v mine)).0 (all v d (inside v mine)).share l
 
-    pieces_once : (v i j : ℕ) → v < z.workers → i < length (places z (hand v)) → j < length (places z (hand v)) → get_or (places z (hand v)) i 0 ≡ get_or (places z (hand v)) j 0 → i ≡ j
+    pieces_once : (v i j : ℕ) → v < z.workers → i < length (positions z (hand v)) → j < length (positions z (hand v)) → get_or (positions z (hand v)) i 0 ≡ get_or (positions z (hand v)) j 0 → i ≡ j
     pieces_once v i j mine li lj e = let a = of_piece v i mine li in let b = of_piece v j mine lj in omega (arith, a.0, b.0, e)
 
-    pieces_apart : (u v i j : ℕ) → u < v → u < z.workers → v < z.workers → i < length (places z (hand u)) → j < length (places z (hand v)) → get_or (places z (hand u)) i 0 ≡ get_or (places z (hand v)) j 0 → ⊥
+    pieces_apart : (u v i j : ℕ) → u < v → u < z.workers → v < z.workers → i < length (positions z (hand u)) → j < length (positions z (hand v)) → get_or (positions z (hand u)) i 0 ≡ get_or (positions z (hand v)) j 0 → ⊥
     pieces_apart u v i j less yours mine li lj e =
         let a = of_piece u i yours li in
         let b = of_piece v j mine lj in
@@ -133,43 +133,43 @@ module _ (z : Shape) (kind : Kind) (keys words : List ℕ) (hands : List Hand) (
         omega (arith, a.0, a.1, b.0, b.1, order, e)
 
   module _ (are : All IsClaiming hands) where
-    of_claims : (v i : ℕ) → v < z.workers → i < length (places z (hand v)) → (get_or (places z (hand v)) i 0 ≡ get_or (claimed z (view_of (hand v))) i 0) × (i < length (claimed z (view_of (hand v))))
+    of_claims : (v i : ℕ) → v < z.workers → i < length (positions z (hand v)) → (get_or (positions z (hand v)) i 0 ≡ get_or (claimed z (view_of (hand v))) i 0) × (i < length (claimed z (view_of (hand v))))
     of_claims v i mine l =
         let share = (are v d (inside v mine)).2 in
-        let same : places z (hand v) ≡ take (hand v).done (claimed z (view_of (hand v))) = ap (λ (s : Share). places_of z s (view_of (hand v)) (hand v).done) share in
+        let same : positions z (hand v) ≡ take (hand v).done (claimed z (view_of (hand v))) = ap (λ (s : Share). positions_of z s (view_of (hand v)) (hand v).done) share in
         let r = in_claims z (view_of (hand v)) (hand v).done i (subst (λ (l : List ℕ). i < length l) same l) in
         (ap (λ (l : List ℕ). get_or l i 0) same ∙ r.0, r.1)
 
-    claims_once : (v i j : ℕ) → v < z.workers → i < length (places z (hand v)) → j < length (places z (hand v)) → get_or (places z (hand v)) i 0 ≡ get_or (places z (hand v)) j 0 → i ≡ j
+    claims_once : (v i j : ℕ) → v < z.workers → i < length (positions z (hand v)) → j < length (positions z (hand v)) → get_or (positions z (hand v)) i 0 ≡ get_or (positions z (hand v)) j 0 → i ≡ j
     claims_once v i j mine li lj e =
         let a = of_claims v i mine li in
         let b = of_claims v j mine lj in
         let falls = subst IsFalling (sym (claims_are v mine)) (told.shared.once v) in
         rise_once (claimed z (view_of (hand v))) (rising (λ n. nat_lt n z.keys) (view_of (hand v)).side.claims falls) i j a.1 b.1 (sym a.0 ∙ e ∙ b.0)
 
-    it_claims : (v i : ℕ) → v < z.workers → i < length (places z (hand v)) → In (get_or (places z (hand v)) i 0) (core.side v).claims
+    it_claims : (v i : ℕ) → v < z.workers → i < length (positions z (hand v)) → In (get_or (positions z (hand v)) i 0) (core.side v).claims
     it_claims v i mine l =
         let a = of_claims v i mine l in
         subst (λ (n : ℕ). In n (core.side v).claims) (sym a.0)
         (subst (In (get_or (claimed z (view_of (hand v))) i 0)) (claims_are v mine)
         (from (λ n. nat_lt n z.keys) (view_of (hand v)).side.claims (get_or (claimed z (view_of (hand v))) i 0) (Contains-get_or (claimed z (view_of (hand v))) i 0 a.1)).0)
 
-    claims_apart : (u v i j : ℕ) → u < z.workers → v < z.workers → i < length (places z (hand u)) → j < length (places z (hand v)) → get_or (places z (hand u)) i 0 ≡ get_or (places z (hand v)) j 0 → u ≡ v
-    claims_apart u v i j yours mine li lj e = told.shared.one_worker u v (get_or (places z (hand u)) i 0) (it_claims u i yours li) (subst (λ (n : ℕ). In n (core.side v).claims) (sym e) (it_claims v j mine lj))
+    claims_apart : (u v i j : ℕ) → u < z.workers → v < z.workers → i < length (positions z (hand u)) → j < length (positions z (hand v)) → get_or (positions z (hand u)) i 0 ≡ get_or (positions z (hand v)) j 0 → u ≡ v
+    claims_apart u v i j yours mine li lj e = told.shared.one_worker u v (get_or (positions z (hand u)) i 0) (it_claims u i yours li) (subst (λ (n : ℕ). In n (core.side v).claims) (sym e) (it_claims v j mine lj))
 
   module _ (dealt : ArePieces 0 hands (length keys) ⊎ All IsClaiming hands) where
-    once : (v i j : ℕ) → v < z.workers → i < length (places z (hand v)) → j < length (places z (hand v)) → get_or (places z (hand v)) i 0 ≡ get_or (places z (hand v)) j 0 → i ≡ j
+    once : (v i j : ℕ) → v < z.workers → i < length (positions z (hand v)) → j < length (positions z (hand v)) → get_or (positions z (hand v)) i 0 ≡ get_or (positions z (hand v)) j 0 → i ≡ j
     once v i j mine li lj e = ⊎_elim (λ (are : ArePieces 0 hands (length keys)). pieces_once are v i j mine li lj e) (λ (are : All IsClaiming hands). claims_once are v i j mine li lj e) dealt
 
-    one_worker : (u v i j : ℕ) → u < z.workers → v < z.workers → i < length (places z (hand u)) → j < length (places z (hand v)) → get_or (places z (hand u)) i 0 ≡ get_or (places z (hand v)) j 0 → u ≡ v
+    one_worker : (u v i j : ℕ) → u < z.workers → v < z.workers → i < length (positions z (hand u)) → j < length (positions z (hand v)) → get_or (positions z (hand u)) i 0 ≡ get_or (positions z (hand v)) j 0 → u ≡ v
     one_worker u v i j yours mine li lj e = ⊎_elim
         (λ (are : ArePieces 0 hands (length keys)). ⊎_elim
         (λ (less : u < v). absurd (pieces_apart are u v i j less yours mine li lj e))
         (λ (most : v ≤ u). ⊎_elim (λ (less : v < u). absurd (pieces_apart are v u j i less mine yours lj li (sym e))) (λ (least : u ≤ v). omega (arith, most, least)) (cases_lt v u)) (cases_lt u v))
         (λ (are : All IsClaiming hands). claims_apart are u v i j yours mine li lj e) dealt
 
-    pub apart : (u v i j : ℕ) → u < z.workers → v < z.workers → i < length (places z (hand u)) → j < length (places z (hand v)) → get_or (places z (hand u)) i 0 ≡ get_or (places z (hand v)) j 0 → (u ≡ v) × (i ≡ j)
+    pub apart : (u v i j : ℕ) → u < z.workers → v < z.workers → i < length (positions z (hand u)) → j < length (positions z (hand v)) → get_or (positions z (hand u)) i 0 ≡ get_or (positions z (hand v)) j 0 → (u ≡ v) × (i ≡ j)
     apart u v i j yours mine li lj e =
         let same : u ≡ v = one_worker u v i j yours mine li lj e in
-        let lists : places z (hand v) ≡ places z (hand u) = ap (λ (x : ℕ). places z (hand x)) (sym same) in
+        let lists : positions z (hand v) ≡ positions z (hand u) = ap (λ (x : ℕ). positions z (hand x)) (sym same) in
         (same, once u i j yours li (subst (λ (l : List ℕ). j < length l) lists lj) (e ∙ ap (λ (l : List ℕ). get_or l j 0) lists))

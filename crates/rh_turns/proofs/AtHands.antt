@@ -16,7 +16,7 @@ module _ {A : Type 0} (f : Hand → A) (default : A) where
   at_hand_is (h ∷ hs) zero d l = refl
   at_hand_is (h ∷ hs) (suc v) d l = at_hand_is hs v d (omega (arith, l))
 
-  -- one of them is put in the place of another
+  -- one of them is put in the position of another
   pub at_hand_here : (hs : List Hand) (who : ℕ) (next : Hand) → who < length hs → at_hand f default (set hs who next) who ≡ f next
   at_hand_here [] who next l = absurd (omega (arith, l))
   at_hand_here (h ∷ hs) zero next l = refl

@@ -22,8 +22,8 @@ use Rattle.rh_run.proofs.Sharing.{claims_at, claims_size, run_shared_ends, share
 use Rattle.rh_turns.specs.declared.hand.Hand.{Hand}
 use Rattle.rh_turns.specs.declared.hand.Share.{Share}
 use Rattle.rh_turns.specs.declared.hand.Share.TheVariants.{Piece, Claims}
-use Rattle.rh_turns.specs.Hands.{IsAtEnd, IsClaiming, IsHand, IsIdle, IsShare, done_keys, keys_for, keys_in, places, places_of, view_of}
-use Rattle.rh_turns.specs.Game.{AllFinished, ArePieces, Game, IsDoneAt, Plays, at_hand, changed_at, done_at, keep, keys_at, places_at}
+use Rattle.rh_turns.specs.Hands.{IsAtEnd, IsClaiming, IsHand, IsIdle, IsShare, done_keys, keys_for, keys_in, positions, positions_of, view_of}
+use Rattle.rh_turns.specs.Game.{AllFinished, ArePieces, Game, IsDoneAt, Plays, at_hand, changed_at, done_at, keep, keys_at, positions_at}
 use Rattle.rh_turns.specs.Laws.{EndsWith}
 use Rattle.rh_turns.proofs.AtHands.{at_hand_is}
 use Rattle.rh_turns.proofs.Apart.{IsPiece, end_of, first_of, piece_at, up_to}
@@ -47,29 +47,29 @@ ranges_join first (suc m) n =
     ∙ ap (λ (l : List ℕ). first ∷ l) (ranges_join (first + 1) m n ∙ ap (λ (k : ℕ). range_with_len (first + 1) m ++ range_with_len k n) start)
 
 module _ (keys : List ℕ) where
-  -- the keys at so many places
-  abbrev keys_at_places : (first n : ℕ) → List ℕ
-  keys_at_places first n = map (slice_index keys) (range_with_len first n)
+  -- the keys at so many positions
+  abbrev keys_at_positions : (first n : ℕ) → List ℕ
+  keys_at_positions first n = map (slice_index keys) (range_with_len first n)
 
-  parts_join : (first mid end : ℕ) → first ≤ mid → mid ≤ end → keys_at_places first (mid - first) ++ keys_at_places mid (end - mid) ≡ keys_at_places first (end - first)
+  parts_join : (first mid end : ℕ) → first ≤ mid → mid ≤ end → keys_at_positions first (mid - first) ++ keys_at_positions mid (end - mid) ≡ keys_at_positions first (end - first)
   parts_join first mid end low high =
       let all : end - first ≡ (mid - first) + (end - mid) = omega (arith, low, high) in
       let next : first + (mid - first) ≡ mid = omega (arith, low) in
-      ap (λ (k : ℕ). keys_at_places first (mid - first) ++ keys_at_places k (end - mid)) (sym next)
+      ap (λ (k : ℕ). keys_at_positions first (mid - first) ++ keys_at_positions k (end - mid)) (sym next)
       ∙ sym (map-append (slice_index keys) (range_with_len first (mid - first)) (range_with_len (first + (mid - first)) (end - mid)))
-      ∙ ap (map (slice_index keys)) (sym (ranges_join first (mid - first) (end - mid))) ∙ ap (keys_at_places first) (sym all)
+      ∙ ap (map (slice_index keys)) (sym (ranges_join first (mid - first) (end - mid))) ∙ ap (keys_at_positions first) (sym all)
 
-  pieces_join : (low : ℕ) (hs : List Hand) (count : ℕ) → ArePieces low hs count → joined (map (keys_for keys) hs) ≡ keys_at_places low (count - low)
-  pieces_join low [] count are = let none : zero ≡ count - low = omega (arith, are) in ap (keys_at_places low) none
+  pieces_join : (low : ℕ) (hs : List Hand) (count : ℕ) → ArePieces low hs count → joined (map (keys_for keys) hs) ≡ keys_at_positions low (count - low)
+  pieces_join low [] count are = let none : zero ≡ count - low = omega (arith, are) in ap (keys_at_positions low) none
   pieces_join low (h ∷ hs) count are =
       (λ i. keys_in keys (are.1 i) ++ pieces_join are.0 hs count are.3 i) ∙ parts_join low are.0 count are.2 (up_to are.0 hs count are.3)
 
   pub pieces_are : (hs : List Hand) → ArePieces 0 hs (length keys) → joined (map (keys_for keys) hs) ≡ keys
   pieces_are hs are =
       let whole : length keys - 0 ≡ length keys = omega arith in
-      pieces_join 0 hs (length keys) are ∙ ap (keys_at_places 0) whole ∙ sym (fill_by_all (slice_index keys) keys (length keys) 0 refl (λ k l. refl))
+      pieces_join 0 hs (length keys) are ∙ ap (keys_at_positions 0) whole ∙ sym (fill_by_all (slice_index keys) keys (length keys) 0 refl (λ k l. refl))
 
--- a place of the list is in the piece of a worker
+-- a position of the list is in the piece of a worker
 in_some_piece : (low : ℕ) (hs : List Hand) (count : ℕ) → ArePieces low hs count → (p : ℕ) (d : Hand) → low ≤ p → p < count
     → (v : ℕ) × (v < length hs) × (first_of (get_or hs v d).share ≤ p) × (p < end_of (get_or hs v d).share)
 in_some_piece low [] count are p d least inside = absurd (omega (arith, are, least, inside))
@@ -83,23 +83,23 @@ in_some_piece low (h ∷ hs) count are p d least inside = ⊎_elim
 -- ---- a worker that has done all its keys
 
 -- of a piece
-piece_done : (z : Shape) (keys : List ℕ) (v : View) (s : Share) (done : ℕ) → IsPiece s → IsAtEnd s done → (map (slice_index keys) (places_of z s v done) ≡ keys_in keys s) × (length (places_of z s v done) ≡ done) × (first_of s + done ≡ end_of s)
+piece_done : (z : Shape) (keys : List ℕ) (v : View) (s : Share) (done : ℕ) → IsPiece s → IsAtEnd s done → (map (slice_index keys) (positions_of z s v done) ≡ keys_in keys s) × (length (positions_of z s v done) ≡ done) × (first_of s + done ≡ end_of s)
 piece_done z keys v (Piece first end) done piece at_end =
     let size : done ≡ end - first = omega (arith, at_end) in
     (ap (λ (n : ℕ). map (slice_index keys) (range_with_len first n)) size, length-range_with_len first done, at_end)
 piece_done z keys v (Claims last ended) done piece at_end = absurd piece
 
-piece_place : (z : Shape) (v : View) (s : Share) (done j : ℕ) → IsPiece s → j < done → slice_index (places_of z s v done) j ≡ first_of s + j
-piece_place z v (Piece first end) done j piece l = get_or-range_with_len first done j 0 l
-piece_place z v (Claims last ended) done j piece l = absurd piece
+piece_position : (z : Shape) (v : View) (s : Share) (done j : ℕ) → IsPiece s → j < done → slice_index (positions_of z s v done) j ≡ first_of s + j
+piece_position z v (Piece first end) done j piece l = get_or-range_with_len first done j 0 l
+piece_position z v (Claims last ended) done j piece l = absurd piece
 
 -- of the list that is shared
 claims_done : (z : Shape) (keys : List ℕ) (h : Hand) (last : ℕ) (ended : Bool) → h.share ≡ Claims last ended → IsHand z h.worker.kind keys h → IsIdle h → IsAtEnd h.share h.done
-    → (places z h ≡ claimed z (view_of h)) × FoundEnd z (view_of h) × (length (claimed z (view_of h)) ≡ h.done) × (z.keys ≡ length keys)
+    → (positions z h ≡ claimed z (view_of h)) × FoundEnd z (view_of h) × (length (claimed z (view_of h)) ≡ h.done) × (z.keys ≡ length keys)
 claims_done z keys h last ended is hand idle at_end =
     let o = subst (IsShare z keys h) is hand.share in
     let size : length (claimed z (view_of h)) ≡ h.done = o.1.idle idle in (
-      ap (λ (s : Share). places_of z s (view_of h) h.done) is ∙ take_all h.done (claimed z (view_of h)) (omega (arith, size)),
+      ap (λ (s : Share). positions_of z s (view_of h) h.done) is ∙ take_all h.done (claimed z (view_of h)) (omega (arith, size)),
       o.1.end (subst (λ (s : Share). IsAtEnd s h.done) is at_end),
       size,
       o.0,
@@ -127,9 +127,9 @@ module _ (g : Game) (plays : Plays g) (finished : AllFinished g) where
   ended v mine = finished v (some_hand g plays) (in_hands g plays v mine)
 
   -- each worker counts its keys as it was told of them
-  tally_is : {list : List ℕ} → EndsSo g.kind z g.words plays.told S list → sum_of_all (λ v. tally_by g.kind (length (places_at g v)) (changed_at g v)) z.workers ≡ tally_of g.kind S list
+  tally_is : {list : List ℕ} → EndsSo g.kind z g.words plays.told S list → sum_of_all (λ v. tally_by g.kind (length (positions_at g v)) (changed_at g v)) z.workers ≡ tally_of g.kind S list
   tally_is ends =
-      same_sums (λ v. tally_by g.kind (length (places_at g v)) (changed_at g v)) (λ v. counted g.kind (plays.told v)) z.workers
+      same_sums (λ v. tally_by g.kind (length (positions_at g v)) (changed_at g v)) (λ v. counted g.kind (plays.told v)) z.workers
       (λ v mine i. tally_by g.kind (sym (told_size g plays v mine) i) (plays.changed v mine i)) ∙ ends.tally
 
   -- an answer is that of its key
@@ -144,7 +144,7 @@ module _ (g : Game) (plays : Plays g) (finished : AllFinished g) where
     has_piece : (v : ℕ) → v < z.workers → IsPiece (hand v).share
     has_piece v mine = (piece_at 0 g.hands (length g.keys) are v (some_hand g plays) (in_hands g plays v mine)).0
 
-    of_piece : (v : ℕ) → v < z.workers → (done_keys z g.keys (hand v) ≡ keys_for g.keys (hand v)) × (length (places z (hand v)) ≡ (hand v).done) × (first_of (hand v).share + (hand v).done ≡ end_of (hand v).share)
+    of_piece : (v : ℕ) → v < z.workers → (done_keys z g.keys (hand v) ≡ keys_for g.keys (hand v)) × (length (positions z (hand v)) ≡ (hand v).done) × (first_of (hand v).share + (hand v).done ≡ end_of (hand v).share)
     of_piece v mine = piece_done z g.keys (view_of (hand v)) (hand v).share (hand v).done (has_piece v mine) (ended v mine).1
 
     piece_is : (v : ℕ) → v < z.workers → piece pieces v ≡ keys_for g.keys (hand v)
@@ -170,9 +170,9 @@ module _ (g : Game) (plays : Plays g) (finished : AllFinished g) where
         let is = of_piece v mine in
         let within : j < h.done = omega (arith, at.2, at.3, is.2) in
         let where_it_is : first_of h.share + j ≡ p = omega (arith, at.2) in
-        let place : slice_index (places z h) j ≡ p = piece_place z (view_of h) h.share h.done j (has_piece v mine) within ∙ where_it_is in
-        let places_are : places_at g v ≡ places z h = at_v (places z) [] v mine in
-        answer_is asks p inside (v, j, mine, omega (arith, within, is.1, ap length places_are), ap (λ (l : List ℕ). slice_index l j) places_are ∙ place)
+        let position : slice_index (positions z h) j ≡ p = piece_position z (view_of h) h.share h.done j (has_piece v mine) within ∙ where_it_is in
+        let positions_are : positions_at g v ≡ positions z h = at_v (positions z) [] v mine in
+        answer_is asks p inside (v, j, mine, omega (arith, within, is.1, ap length positions_are), ap (λ (l : List ℕ). slice_index l j) positions_are ∙ position)
 
     ends_pieces : EndsWith g
     ends_pieces = record {
@@ -184,7 +184,7 @@ module _ (g : Game) (plays : Plays g) (finished : AllFinished g) where
 
   -- all share the list
   module _ (are : All IsClaiming g.hands) where
-    of_claims : (v : ℕ) → v < z.workers → (places z (hand v) ≡ claimed z (view_of (hand v))) × FoundEnd z (view_of (hand v)) × (length (claimed z (view_of (hand v))) ≡ (hand v).done) × (z.keys ≡ length g.keys)
+    of_claims : (v : ℕ) → v < z.workers → (positions z (hand v) ≡ claimed z (view_of (hand v))) × FoundEnd z (view_of (hand v)) × (length (claimed z (view_of (hand v))) ≡ (hand v).done) × (z.keys ≡ length g.keys)
     of_claims v mine =
         let c = are v (some_hand g plays) (in_hands g plays v mine) in
         let hand_is : IsHand z g.kind g.keys (hand v) = hand_of g plays v mine (some_hand g plays) in
@@ -196,8 +196,8 @@ module _ (g : Game) (plays : Plays g) (finished : AllFinished g) where
     found : (v : ℕ) → v < z.workers → FoundEnd z (keep g v)
     found v mine = subst (FoundEnd z) (sym (kept_is v mine)) (of_claims v mine).1
 
-    places_claimed : (v : ℕ) → v < z.workers → places_at g v ≡ claimed z (keep g v)
-    places_claimed v mine = at_v (places z) [] v mine ∙ (of_claims v mine).0 ∙ ap (claimed z) (sym (kept_is v mine))
+    positions_claimed : (v : ℕ) → v < z.workers → positions_at g v ≡ claimed z (keep g v)
+    positions_claimed v mine = at_v (positions z) [] v mine ∙ (of_claims v mine).0 ∙ ap (claimed z) (sym (kept_is v mine))
 
     all_claimed_done : (v : ℕ) → v < z.workers → done_at g v ≡ map (slice_index g.keys) (claimed z (keep g v))
     all_claimed_done v mine = at_v (done_keys z g.keys) [] v mine ∙ ap (map (slice_index g.keys)) ((of_claims v mine).0 ∙ ap (claimed z) (sym (kept_is v mine)))
@@ -216,9 +216,9 @@ module _ (g : Game) (plays : Plays g) (finished : AllFinished g) where
         let mine : v < z.workers = omega (arith, one.1, claims_size run.world z g.words (keep g) run.core) in
         let here : Contains (claimed z (keep g v)) p = subst (λ (l : List ℕ). Contains l p) (claims_at run.world z g.words (keep g) run.core v mine) one.2 in
         let j : ℕ = here.0 in
-        let place : slice_index (claimed z (keep g v)) j ≡ p = get_or_default (claimed z (keep g v)) j 0 p here.1 ∙ here.2 in
-        let places_are : places_at g v ≡ claimed z (keep g v) = places_claimed v mine in
-        answer_is asks p inside (v, j, mine, omega (arith, here.1, ap length places_are), ap (λ (l : List ℕ). slice_index l j) places_are ∙ place)
+        let position : slice_index (claimed z (keep g v)) j ≡ p = get_or_default (claimed z (keep g v)) j 0 p here.1 ∙ here.2 in
+        let positions_are : positions_at g v ≡ claimed z (keep g v) = positions_claimed v mine in
+        answer_is asks p inside (v, j, mine, omega (arith, here.1, ap length positions_are), ap (λ (l : List ℕ). slice_index l j) positions_are ∙ position)
 
     ends_claims : EndsWith g
     ends_claims = record {

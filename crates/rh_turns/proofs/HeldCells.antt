@@ -6,9 +6,9 @@ use Rattle.rh_world.specs.Moves.{MayWork}
 use Rattle.rh_world.specs.Sides.{Debt}
 use Rattle.rh_world.proofs.Updated.{some_injective, some_not_none}
 use Rattle.rh_descriptor.specs.declared.shape.Shape.{Shape}
-use Rattle.rh_descriptor.specs.View.{View, new_view}
+use Rattle.rh_descriptor.specs.View.{View, new_view, own_ref}
 use Rattle.rh_descriptor.specs.Words.{ref_of}
-use Rattle.rh_helping.specs.Goal.{debt_of, own_ref}
+use Rattle.rh_helping.specs.Goal.{debt_of}
 use Rattle.rh_helping.specs.Held.{IsHeld, KnowsOld}
 use Rattle.rh_helping.specs.declared.goal.Owed.{Owed}
 use Rattle.rh_run.specs.Known.{NotesOld}

@@ -14,7 +14,7 @@ use Rattle.rh_world.specs.Acts.{cells_after}
 use Rattle.rh_world.specs.Logical.{StandsFor, entry_value}
 use Rattle.rh_world.specs.Sides.{AtRest, Side}
 use Rattle.rh_descriptor.specs.declared.shape.Shape.{Shape}
-use Rattle.rh_descriptor.specs.Places.{cell_count, word_count}
+use Rattle.rh_descriptor.specs.Parts.{cell_count, word_count}
 use Rattle.rh_descriptor.specs.View.{View, new_view}
 use Rattle.rh_descriptor.specs.Words.{IsPlain}
 use Rattle.rh_rule.specs.Core.{Core}
@@ -25,7 +25,7 @@ use Rattle.rh_steps.specs.Relies.{Relies, Serves, Shows}
 use Rattle.rh_steps.proofs.Relying.{workers_may_rely}
 use Rattle.rh_helping.specs.Goal.{IsClear}
 use Rattle.rh_worker.specs.Worker.{IsWorker, Stays}
-use Rattle.rh_worker.specs.declared.place.Place.{Place}
+use Rattle.rh_worker.specs.declared.stage.Stage.{Stage}
 use Rattle.rh_run.specs.Claimed.{claimed}
 use Rattle.rh_run.proofs.Saying.{logical_words, words_lead_inside}
 use Rattle.rh_run.proofs.Standing.{run_moment}
@@ -34,7 +34,7 @@ use Rattle.rh_history.specs.History.{history}
 use Rattle.rh_turns.specs.declared.hand.Hand.{Hand}
 use Rattle.rh_turns.specs.declared.hand.Share.{Share}
 use Rattle.rh_turns.specs.declared.hand.Share.TheVariants.{Piece, Claims}
-use Rattle.rh_turns.specs.Hands.{HasClaimed, HasNext, IsFinished, IsHand, IsIdle, IsShare, IsSpent, keys_for, keys_in, place_of, places, view_of}
+use Rattle.rh_turns.specs.Hands.{HasClaimed, HasNext, IsFinished, IsHand, IsIdle, IsShare, IsSpent, keys_for, keys_in, position_of, positions, view_of}
 use Rattle.rh_turns.specs.Readable.{AreWorkers, IsReadable}
 use Rattle.rh_turns.specs.Game.{AllStopped, Game, Plays, keep, keys_at, done_at}
 use Rattle.rh_turns.proofs.AtHands.{at_hand_is, first_of_all}
@@ -59,8 +59,8 @@ few_claimed z v falls =
     omega (arith, few, same)
 
 -- it has claimed those that it has done, and one more while it is at that key
-pub busy_claims : (z : Shape) (h : Hand) (last : ℕ) → (claimed z (view_of h) ≡ places z h ++ last ∷ []) × (length (places z h) ≡ h.done) → length (claimed z (view_of h)) ≡ h.done + 1
-busy_claims z h last b = ap length b.0 ∙ length_push (places z h) last ∙ ap (λ (n : ℕ). n + 1) b.1
+pub busy_claims : (z : Shape) (h : Hand) (last : ℕ) → (claimed z (view_of h) ≡ positions z h ++ last ∷ []) × (length (positions z h) ≡ h.done) → length (claimed z (view_of h)) ≡ h.done + 1
+busy_claims z h last b = ap length b.0 ∙ length_push (positions z h) last ∙ ap (λ (n : ℕ). n + 1) b.1
 
 pub done_claimed : (z : Shape) (h : Hand) (last : ℕ) (ended : Bool) → HasClaimed z h last ended → h.done ≤ length (claimed z (view_of h))
 done_claimed z h last ended claims = ⊎_elim
@@ -77,11 +77,6 @@ done_in z keys h (Claims last ended) falls o =
 
 -- ---- its keys
 
--- a busy worker is at the next one of its share
-pub busy_next : (z : Shape) (keys : List ℕ) (h : Hand) (s : Share) → (IsIdle h → ⊥) → IsShare z keys h s → HasNext s h.done
-busy_next z keys h (Piece first end) busy o = ⊎_elim (λ (e : IsIdle h). absurd (busy e)) (λ l. l) o.2
-busy_next z keys h (Claims last ended) busy o = ⊎_elim (λ (e : IsIdle h). absurd (busy e)) (λ b. b.2) o.1.busy
-
 -- those that it may come to do are of the list
 keys_from : (z : Shape) (keys : List ℕ) (h : Hand) (s : Share) (k : ℕ) → IsShare z keys h s → Contains (keys_in keys s) k → Contains keys k
 keys_from z keys h (Piece first end) k o has =
@@ -93,7 +88,7 @@ keys_from z keys h (Piece first end) k o has =
 keys_from z keys h (Claims last ended) k o has = has
 
 -- the next one is among them
-pub next_among : (keys : List ℕ) (s : Share) (done : ℕ) → HasNext s done → place_of s done < length keys → Contains (keys_in keys s) (slice_index keys (place_of s done))
+pub next_among : (keys : List ℕ) (s : Share) (done : ℕ) → HasNext s done → position_of s done < length keys → Contains (keys_in keys s) (slice_index keys (position_of s done))
 next_among keys (Piece first end) done next within =
     let size : length (map (slice_index keys) (range_with_len first (end - first))) ≡ end - first = length-map-range_with_len (slice_index keys) first (end - first) in
     let inside : done < end - first = omega (arith, next) in
@@ -104,8 +99,8 @@ next_among keys (Claims last ended) done next within = Contains-get_or keys last
 -- ---- a worker that stopped
 
 module _ (z : Shape) (h : Hand) (worker : IsWorker z h.worker) where
-  stays_at : (p : Place) → h.worker.place ≡ p → Stays z (view_of h) h.worker.kind h.worker.key h.worker.sights p
-  stays_at p e = subst (λ (q : Place). Stays z (view_of h) h.worker.kind h.worker.key h.worker.sights q) e worker.stays
+  stays_at : (p : Stage) → h.worker.stage ≡ p → Stays z (view_of h) h.worker.kind h.worker.key h.worker.sights p
+  stays_at p e = subst (λ (q : Stage). Stays z (view_of h) h.worker.kind h.worker.key h.worker.sights q) e worker.stays
 
   stopped_clear : IsFinished h ⊎ IsSpent h → IsClear (view_of h)
   stopped_clear o = ⊎_elim (λ (f : IsFinished h). stays_at _ f.0) (λ (s : IsSpent h). (stays_at _ s).0) o

@@ -5,11 +5,11 @@ use Rattle.std.proofs.lemmas.List.Elements.{All-from_get_or}
 use Rattle.rh_ledger.specs.declared.tally.Kind.{Kind}
 use Rattle.rh_world.specs.World.{In}
 use Rattle.rh_descriptor.specs.declared.shape.Shape.{Shape}
-use Rattle.rh_descriptor.specs.Places.{cell_count}
+use Rattle.rh_descriptor.specs.Parts.{cell_count}
 use Rattle.rh_descriptor.specs.View.{View, new_view, round_view}
 use Rattle.rh_worker.specs.Worker.{IsBusy}
-use Rattle.rh_worker.specs.declared.place.Place.{Place}
-use Rattle.rh_worker.specs.declared.place.Place.TheVariants as place
+use Rattle.rh_worker.specs.declared.stage.Stage.{Stage}
+use Rattle.rh_worker.specs.declared.stage.Stage.TheVariants as stage
 use Rattle.rh_run.specs.Claimed.{claimed}
 use Rattle.rh_run.specs.Laws.{AreAlike}
 use Rattle.rh_run.specs.Run.{Running}
@@ -19,8 +19,8 @@ use Rattle.rh_run.proofs.Turning.{run_rounds}
 use Rattle.rh_turns.specs.declared.hand.Hand.{Hand}
 use Rattle.rh_turns.specs.declared.hand.Share.{Share}
 use Rattle.rh_turns.specs.declared.hand.Share.TheVariants.{Piece, Claims}
-use Rattle.rh_turns.specs.Hands.{IsAtKey, IsClaiming, IsFinished, IsHand, IsIdle, IsShare, IsSpent, done_keys, keys_for, keys_in, place_now, place_of, places, places_of, view_of}
-use Rattle.rh_turns.specs.Game.{AllStopped, ArePieces, Game, IsDealt, Plays, at_hand, done_at, keep, keys_at, places_at}
+use Rattle.rh_turns.specs.Hands.{IsAtKey, IsClaiming, IsFinished, IsHand, IsIdle, IsShare, IsSpent, done_keys, keys_for, keys_in, position_now, position_of, positions, positions_of, view_of}
+use Rattle.rh_turns.specs.Game.{AllStopped, ArePieces, Game, IsDealt, Plays, at_hand, done_at, keep, keys_at, positions_at}
 use Rattle.rh_turns.specs.Laws.{Begins, begun}
 use Rattle.rh_turns.proofs.AtHands.{at_hand_is}
 use Rattle.rh_turns.proofs.Playing.{in_hands, plays_stopped, some_hand}
@@ -28,7 +28,7 @@ use Rattle.rh_turns.proofs.Turned.{same_claims}
 
 -- ---- one worker
 
-idle_not_spent : (p : Place) → p ≡ place.Idle → p ≡ place.Spent → ⊥
+idle_not_spent : (p : Stage) → p ≡ stage.Idle → p ≡ stage.Spent → ⊥
 idle_not_spent p idle spent = cc
 
 module _ (z : Shape) (kind : Kind) (keys cells : List ℕ) (h next : Hand) (begins : Begins z cells h next) where
@@ -38,8 +38,8 @@ module _ (z : Shape) (kind : Kind) (keys cells : List ℕ) (h next : Hand) (begi
   claimed_same : claimed z (view_of next) ≡ claimed z (view_of h)
   claimed_same = ap (λ (l : List ℕ). reverse (filter (λ i. nat_lt i z.keys) l)) claims_same
 
-  pub places_same : places z next ≡ places z h
-  places_same = ap (λ (s : Share). places_of z s (view_of next) next.done) begins.share ∙ same_claims z (view_of h) (view_of next) h.share next.done claims_same ∙ ap (places_of z h.share (view_of h)) begins.done
+  pub positions_same : positions z next ≡ positions z h
+  positions_same = ap (λ (s : Share). positions_of z s (view_of next) next.done) begins.share ∙ same_claims z (view_of h) (view_of next) h.share next.done claims_same ∙ ap (positions_of z h.share (view_of h)) begins.done
 
   -- both are idle, or neither is
   abbrev IdleSo : Type 0
@@ -47,7 +47,7 @@ module _ (z : Shape) (kind : Kind) (keys cells : List ℕ) (h next : Hand) (begi
 
   idle_so : IsFinished h ⊎ IsSpent h → IdleSo
   idle_so stopped = ⊎_elim (λ (f : IsFinished h). inl (f.0, begins.idle f.0))
-      (λ (s : IsSpent h). inr (λ e. idle_not_spent h.worker.place e s, λ e. subst IsBusy e (begins.again s))) stopped
+      (λ (s : IsSpent h). inr (λ e. idle_not_spent h.worker.stage e s, λ e. subst IsBusy e (begins.again s))) stopped
 
   still : {A : Type 0} → IdleSo → IsIdle h ⊎ A → IsIdle next ⊎ A
   still so o = ⊎_elim (λ (e : IsIdle h). ⊎_elim (λ (both : IsIdle h × IsIdle next). inl both.1) (λ neither. absurd (neither.0 e)) so) (λ a. inr a) o
@@ -63,7 +63,7 @@ module _ (z : Shape) (kind : Kind) (keys cells : List ℕ) (h next : Hand) (begi
     record {
       idle = λ e. ap length claimed_same ∙ o.1.idle (was_idle so e) ∙ sym begins.done;
       busy = ⊎_elim (λ (e : IsIdle next). inl e)
-          (λ b. inr (claimed_same ∙ b.0 ∙ ap (λ (l : List ℕ). l ++ last ∷ []) (sym places_same), ap length places_same ∙ b.1 ∙ sym begins.done, b.2)) (still so o.1.busy);
+          (λ b. inr (claimed_same ∙ b.0 ∙ ap (λ (l : List ℕ). l ++ last ∷ []) (sym positions_same), ap length positions_same ∙ b.1 ∙ sym begins.done, b.2)) (still so o.1.busy);
       within = λ e n i. o.1.within e n (subst (λ (l : List ℕ). In n l) claims_same i);
       end = λ e. let f = o.1.end e in (f.0, subst (λ (l : List ℕ). In f.0 l) (sym claims_same) f.1, f.2);
     },
@@ -71,7 +71,7 @@ module _ (z : Shape) (kind : Kind) (keys cells : List ℕ) (h next : Hand) (begi
 
   at_key : IsAtKey keys h → IsAtKey keys next
   at_key at =
-      let same : place_now next ≡ place_now h = ap (λ (s : Share). place_of s next.done) begins.share ∙ ap (place_of h.share) begins.done in
+      let same : position_now next ≡ position_now h = ap (λ (s : Share). position_of s next.done) begins.share ∙ ap (position_of h.share) begins.done in
       record {
         within = subst (λ (p : ℕ). p < length keys) (sym same) at.within;
         key = ap (slice_index keys) same ∙ at.key ∙ sym begins.key_same;
@@ -120,15 +120,15 @@ module _ (g : Game) (plays : Plays g) (stopped : AllStopped g) (then cells : Lis
   of : (v : ℕ) → v < z.workers → Begins z cells (get_or g.hands v d) (get_or hands v d)
   of v mine = begins v d (inside v mine)
 
-  places_are : (v : ℕ) → v < z.workers → places_at g v ≡ places_at game v
-  places_are v mine = was (places z) [] v mine ∙ sym (places_same z g.kind g.keys cells (get_or g.hands v d) (get_or hands v d) (of v mine)) ∙ now (places z) [] v mine
+  positions_are : (v : ℕ) → v < z.workers → positions_at g v ≡ positions_at game v
+  positions_are v mine = was (positions z) [] v mine ∙ sym (positions_same z g.kind g.keys cells (get_or g.hands v d) (get_or hands v d) (of v mine)) ∙ now (positions z) [] v mine
 
   alike : (v : ℕ) → v < z.workers → AreAlike (round_view cells (keep g v)) (keep game v) (keys_at g v) (keys_at game v) (done_at g v) (done_at game v) (plays.told v) (plays.told v)
   alike v mine = record {
     kept = ap (round_view cells) (was view_of (new_view [] 0) v mine) ∙ sym (of v mine).view ∙ now view_of (new_view [] 0) v mine;
     keys_are = was (keys_for g.keys) [] v mine ∙ ap (keys_in g.keys) (sym (of v mine).share) ∙ now (keys_for g.keys) [] v mine;
     done_are = was (done_keys z g.keys) [] v mine
-        ∙ ap (map (slice_index g.keys)) (sym (places_same z g.kind g.keys cells (get_or g.hands v d) (get_or hands v d) (of v mine))) ∙ now (done_keys z g.keys) [] v mine;
+        ∙ ap (map (slice_index g.keys)) (sym (positions_same z g.kind g.keys cells (get_or g.hands v d) (get_or hands v d) (of v mine))) ∙ now (done_keys z g.keys) [] v mine;
     told_are = refl;
   }
 
@@ -161,8 +161,8 @@ module _ (g : Game) (plays : Plays g) (stopped : AllStopped g) (then cells : Lis
     told = plays.told;
     running = running;
     changed = λ v mine. sym (now (λ h. h.changed) 0 v mine) ∙ (of v mine).changed ∙ sym (was (λ h. h.changed) 0 v mine) ∙ plays.changed v mine;
-    answered = λ v j mine l. ap (λ (at : List ℕ). slice_index_or g.answers (slice_index at j) None) (sym (places_are v mine)) ∙ plays.answered v j mine l;
+    answered = λ v j mine l. ap (λ (at : List ℕ). slice_index_or g.answers (slice_index at j) None) (sym (positions_are v mine)) ∙ plays.answered v j mine l;
     unanswered = λ p undone. plays.unanswered p (λ done.
-        let same : places_at g done.0 ≡ places_at game done.0 = places_are done.0 done.2 in
+        let same : positions_at g done.0 ≡ positions_at game done.0 = positions_are done.0 done.2 in
         undone (done.0, done.1, done.2, subst (λ (at : List ℕ). done.1 < length at) same done.3, ap (λ (at : List ℕ). slice_index at done.1) (sym same) ∙ done.4));
   }

@@ -15,7 +15,7 @@ use Rattle.rh_run.proofs.Turning.{run_starts}
 use Rattle.rh_turns.specs.declared.hand.Hand.{Hand}
 use Rattle.rh_turns.specs.declared.hand.Share.{Share}
 use Rattle.rh_turns.specs.declared.hand.Share.TheVariants.{Piece, Claims}
-use Rattle.rh_turns.specs.Hands.{IsHand, IsShare, done_keys, places_of, view_of}
+use Rattle.rh_turns.specs.Hands.{IsHand, IsShare, done_keys, positions_of, view_of}
 use Rattle.rh_turns.specs.Game.{ArePieces, Game, IsDealt, Plays, at_hand, done_at, keep, keys_at}
 use Rattle.rh_turns.specs.Laws.{Starts, WillClaim}
 use Rattle.rh_turns.proofs.AtHands.{at_hand_is, first_of_all}
@@ -24,7 +24,7 @@ use Rattle.rh_turns.proofs.Apart.{piece_within}
 abbrev no_answers : ℕ → List (Option Bool)
 no_answers n = replicate n None
 
--- no answer stands at any place
+-- no answer stands at any position
 none_at : (n p : ℕ) → get_or (no_answers n) p None ≡ None
 none_at zero p = refl
 none_at (suc n) zero = refl
@@ -81,9 +81,9 @@ module _ (g : Game) (starts : Starts g) where
       }
 
   none_done : (h : Hand) → h.done ≡ 0 → [] ≡ done_keys z g.keys h
-  none_done h is = go h.share ∙ sym (ap (λ (n : ℕ). map (slice_index g.keys) (places_of z h.share (view_of h) n)) is)
+  none_done h is = go h.share ∙ sym (ap (λ (n : ℕ). map (slice_index g.keys) (positions_of z h.share (view_of h) n)) is)
     where
-      go : (s : Share) → [] ≡ map (slice_index g.keys) (places_of z s (view_of h) 0)
+      go : (s : Share) → [] ≡ map (slice_index g.keys) (positions_of z s (view_of h) 0)
       go (Piece first end) = refl
       go (Claims last ended) = refl
 

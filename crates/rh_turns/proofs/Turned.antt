@@ -26,22 +26,22 @@ use Rattle.rh_turns.specs.declared.hand.Share.{Share}
 use Rattle.rh_turns.specs.declared.hand.Share.TheVariants.{Piece, Claims}
 use Rattle.rh_turns.specs.declared.turning.Turn.{Turn}
 use Rattle.rh_turns.specs.declared.turning.Turn.TheVariants.{Did, Finished, Spent, NoSuchWorker}
-use Rattle.rh_turns.specs.Hands.{ClaimsOn, IsClaiming, IsHand, IsIdle, IsShare, StepsOn, TurnsOn, answered, counted, done_keys, keys_for, keys_in, place_now, place_of, places, places_of, view_of}
-use Rattle.rh_turns.specs.Game.{ArePieces, Game, IsDealt, IsDoneAt, Plays, at_hand, changed_at, done_at, keep, keys_at, places_at}
+use Rattle.rh_turns.specs.Hands.{ClaimsOn, IsClaiming, IsHand, IsIdle, IsShare, StepsOn, TurnsOn, answered, counted, done_keys, keys_for, keys_in, position_now, position_of, positions, positions_of, view_of}
+use Rattle.rh_turns.specs.Game.{ArePieces, Game, IsDealt, IsDoneAt, Plays, at_hand, changed_at, done_at, keep, keys_at, positions_at}
 use Rattle.rh_turns.specs.Laws.{turned}
 use Rattle.rh_turns.proofs.AtHands.{at_hand_is, at_hand_set}
 use Rattle.rh_turns.proofs.Apart.{apart, piece_at, piece_not_claims, pieces_set}
 use Rattle.rh_turns.proofs.Playing.{done_claimed, hand_of, in_hands, kept_at, next_among}
 use Rattle.rh_turns.proofs.Telling.{told_size}
 
--- ---- the places of its done keys
+-- ---- the positions of its done keys
 
--- one place more, where the key there is done
-abbrev also_at : List ℕ → (place : ℕ) → Option Bool → List ℕ
-also_at l place None = l
-also_at l place (Some told) = l ++ place ∷ []
+-- one position more, where the key there is done
+abbrev also_at : List ℕ → (position : ℕ) → Option Bool → List ℕ
+also_at l position None = l
+also_at l position (Some told) = l ++ position ∷ []
 
--- of the first of the claimed places none changes where one more is claimed
+-- of the first of the claimed positions none changes where one more is claimed
 first_stay : (z : Shape) (v next : View) (n : ℕ) → next.side.claims ≡ n ∷ v.side.claims → (m : ℕ) → m ≤ length (claimed z v) → take m (claimed z next) ≡ take m (claimed z v)
 first_stay z v next n more m most = ap (λ (l : List ℕ). take m (reverse (filter (λ i. nat_lt i z.keys) l))) more ∙ go (nat_lt n z.keys)
   where
@@ -54,7 +54,7 @@ range_more first n =
     sym (map-id (range_with_len first (n + 1))) ∙ map-range_with_len_more (λ (i : ℕ). i) first n (first + n) refl ∙ ap (λ (l : List ℕ). l ++ (first + n) ∷ []) (map-id (range_with_len first n))
 
 -- they go by what was claimed
-pub same_claims : (z : Shape) (v next : View) (s : Share) (done : ℕ) → next.side.claims ≡ v.side.claims → places_of z s next done ≡ places_of z s v done
+pub same_claims : (z : Shape) (v next : View) (s : Share) (done : ℕ) → next.side.claims ≡ v.side.claims → positions_of z s next done ≡ positions_of z s v done
 same_claims z v next (Piece first end) done same = refl
 same_claims z v next (Claims last ended) done same = ap (λ (l : List ℕ). take done (reverse (filter (λ i. nat_lt i z.keys) l))) same
 
@@ -71,31 +71,31 @@ module _ (z : Shape) (keys : List ℕ) (h next : Hand) (claims : (view_of next).
       ⊎_elim
       (λ (idle : IsIdle h). let few : length (claimed z (view_of h)) ≡ h.done = was.1.idle idle in absurd (omega (arith, more, size, few, done)))
       (λ b.
-      let here : places z h ≡ take h.done (claimed z (view_of h)) = ap (λ (s : Share). places_of z s (view_of h) h.done) is in
-      let long : length (claimed z (view_of h)) ≡ h.done + 1 = ap length b.0 ∙ length_push (places z h) last ∙ ap (λ (n : ℕ). n + 1) b.1 in
+      let here : positions z h ≡ take h.done (claimed z (view_of h)) = ap (λ (s : Share). positions_of z s (view_of h) h.done) is in
+      let long : length (claimed z (view_of h)) ≡ h.done + 1 = ap length b.0 ∙ length_push (positions z h) last ∙ ap (λ (n : ℕ). n + 1) b.1 in
       take_all (h.done + 1) (claimed z (view_of h)) (omega (arith, long)) ∙ b.0 ∙ ap (λ (l : List ℕ). l ++ last ∷ []) here) was.1.busy
 
   one_done : (s : Share) → h.share ≡ s → IsShare z keys h s → IsShare z keys next s → next.done ≡ h.done + 1
-      → places_of z s (view_of h) (h.done + 1) ≡ places_of z s (view_of h) h.done ++ place_of s h.done ∷ []
+      → positions_of z s (view_of h) (h.done + 1) ≡ positions_of z s (view_of h) h.done ++ position_of s h.done ∷ []
   one_done (Piece first end) is was now done = range_more first h.done
   one_done (Claims last ended) is was now done = last_done last ended is was now done
 
-  places_then : (answer : Option Bool) → next.share ≡ h.share → IsShare z keys h h.share → IsShare z keys next next.share → counted h answer next
-      → places z next ≡ also_at (places z h) (place_now h) answer
-  places_then answer share was now counts =
-      ap (λ (s : Share). places_of z s (view_of next) next.done) share ∙ same_claims z (view_of h) (view_of next) h.share next.done claims ∙ go answer counts
+  positions_then : (answer : Option Bool) → next.share ≡ h.share → IsShare z keys h h.share → IsShare z keys next next.share → counted h answer next
+      → positions z next ≡ also_at (positions z h) (position_now h) answer
+  positions_then answer share was now counts =
+      ap (λ (s : Share). positions_of z s (view_of next) next.done) share ∙ same_claims z (view_of h) (view_of next) h.share next.done claims ∙ go answer counts
     where
-      go : (answer : Option Bool) → counted h answer next → places_of z h.share (view_of h) next.done ≡ also_at (places z h) (place_now h) answer
-      go None counts = ap (places_of z h.share (view_of h)) counts.0
-      go (Some told) counts = ap (places_of z h.share (view_of h)) counts.0 ∙ one_done h.share refl was (subst (IsShare z keys next) share now) counts.0
+      go : (answer : Option Bool) → counted h answer next → positions_of z h.share (view_of h) next.done ≡ also_at (positions z h) (position_now h) answer
+      go None counts = ap (positions_of z h.share (view_of h)) counts.0
+      go (Some told) counts = ap (positions_of z h.share (view_of h)) counts.0 ∙ one_done h.share refl was (subst (IsShare z keys next) share now) counts.0
 
-keys_then : (z : Shape) (keys : List ℕ) (h next : Hand) (answer : Option Bool) → places z next ≡ also_at (places z h) (place_now h) answer
-    → also_done (done_keys z keys h) (slice_index keys (place_now h)) answer ≡ done_keys z keys next
+keys_then : (z : Shape) (keys : List ℕ) (h next : Hand) (answer : Option Bool) → positions z next ≡ also_at (positions z h) (position_now h) answer
+    → also_done (done_keys z keys h) (slice_index keys (position_now h)) answer ≡ done_keys z keys next
 keys_then z keys h next answer is = go answer ∙ sym (ap (map (slice_index keys)) is)
   where
-    go : (answer : Option Bool) → also_done (done_keys z keys h) (slice_index keys (place_now h)) answer ≡ map (slice_index keys) (also_at (places z h) (place_now h) answer)
+    go : (answer : Option Bool) → also_done (done_keys z keys h) (slice_index keys (position_now h)) answer ≡ map (slice_index keys) (also_at (positions z h) (position_now h) answer)
     go None = refl
-    go (Some told) = sym (map_push (slice_index keys) (places z h) (place_now h))
+    go (Some told) = sym (map_push (slice_index keys) (positions z h) (position_now h))
 
 -- ---- what it was told
 
@@ -108,32 +108,32 @@ counts_then h next told (Some so) counts was = counts.1 ∙ ap (λ (n : ℕ). n 
 
 -- ---- the answers
 
--- at the place of the j-th done key stands what was told of it
+-- at the position of the j-th done key stands what was told of it
 abbrev Stands : List (Option Bool) → (at : List ℕ) (told : List Bool) (j : ℕ) → Type 0
 Stands answers at told j = slice_index_or answers (slice_index at j) None ≡ Some (slice_index_or told j false)
 
 stands_so : (answers : List (Option Bool)) (l m : List ℕ) (t u : List Bool) (j : ℕ) → l ≡ m → t ≡ u → (j < length u → Stands answers m u j) → j < length t → Stands answers l t j
-stands_so answers l m t u j places told so inside =
-    (λ i. slice_index_or answers (slice_index (places i) j) None) ∙ so (subst (λ (x : List Bool). j < length x) told inside) ∙ sym (λ i. Some (slice_index_or (told i) j false))
+stands_so answers l m t u j positions told so inside =
+    (λ i. slice_index_or answers (slice_index (positions i) j) None) ∙ so (subst (λ (x : List Bool). j < length x) told inside) ∙ sym (λ i. Some (slice_index_or (told i) j false))
 
-stands_still : (answers : List (Option Bool)) (at : List ℕ) (told : List Bool) (place : ℕ) (so : Option Bool) (j : ℕ) → slice_index at j ≢ place → Stands answers at told j → Stands (set answers place so) at told j
-stands_still answers at told place so j other was = get_or-set_other answers place (slice_index at j) so None other ∙ was
+stands_still : (answers : List (Option Bool)) (at : List ℕ) (told : List Bool) (position : ℕ) (so : Option Bool) (j : ℕ) → slice_index at j ≢ position → Stands answers at told j → Stands (set answers position so) at told j
+stands_still answers at told position so j other was = get_or-set_other answers position (slice_index at j) so None other ∙ was
 
-stands_more : (answers : List (Option Bool)) (at : List ℕ) (told : List Bool) (place : ℕ) (so : Bool) (j : ℕ) → length told ≡ length at → place < length answers
-    → (j < length told → Stands answers at told j) → (j < length told → slice_index at j ≢ place) → j < length (told ++ so ∷ [])
-    → Stands (set answers place (Some so)) (at ++ place ∷ []) (told ++ so ∷ []) j
-stands_more answers at told place so j size within was other inside =
+stands_more : (answers : List (Option Bool)) (at : List ℕ) (told : List Bool) (position : ℕ) (so : Bool) (j : ℕ) → length told ≡ length at → position < length answers
+    → (j < length told → Stands answers at told j) → (j < length told → slice_index at j ≢ position) → j < length (told ++ so ∷ [])
+    → Stands (set answers position (Some so)) (at ++ position ∷ []) (told ++ so ∷ []) j
+stands_more answers at told position so j size within was other inside =
     let long : length (told ++ so ∷ []) ≡ length told + 1 = length_push told so in
     ⊎_elim
     (λ (l : j < length told).
     let m : j < length at = omega (arith, l, size) in
-    ap (λ (p : ℕ). slice_index_or (set answers place (Some so)) p None) (get_or_append_left at (place ∷ []) 0 j m)
-    ∙ stands_still answers at told place (Some so) j (other l) (was l)
+    ap (λ (p : ℕ). slice_index_or (set answers position (Some so)) p None) (get_or_append_left at (position ∷ []) 0 j m)
+    ∙ stands_still answers at told position (Some so) j (other l) (was l)
     ∙ ap (λ (b : Bool). Some b) (sym (get_or_append_left told (so ∷ []) false j l)))
     (λ (m : length told ≤ j).
     let e : length told ≡ j = omega (arith, m, inside, long) in
-    ap (λ (p : ℕ). slice_index_or (set answers place (Some so)) p None) (get_or_push at place 0 j (sym size ∙ e))
-    ∙ get_or-set_same answers place (Some so) None within
+    ap (λ (p : ℕ). slice_index_or (set answers position (Some so)) p None) (get_or_push at position 0 j (sym size ∙ e))
+    ∙ get_or-set_same answers position (Some so) None within
     ∙ ap (λ (b : Bool). Some b) (sym (get_or_push told so false j e))) (cases_lt j (length told))
 
 -- ---- the game
@@ -174,90 +174,90 @@ module _ (g : Game) (plays : Plays g) (who : ℕ) (mine : who < g.shape.workers)
 
   abbrev Fits : Option Bool → Type 0
   Fits None = Unit {0}
-  Fits (Some so) = place_now h < length g.keys
+  Fits (Some so) = position_now h < length g.keys
 
-  -- what the places of the game after the turn say of the place that is written
+  -- what the positions of the game after the turn say of the position that is written
   abbrev IsFresh : Option Bool → Type 0
   IsFresh None = Unit {0}
-  IsFresh (Some so) = (v j : ℕ) → v < z.workers → j < length (places_at game v) → get_or (places_at game v) j 0 ≡ place_now h → (who ≡ v) × (length (places z h) ≡ j)
+  IsFresh (Some so) = (v j : ℕ) → v < z.workers → j < length (positions_at game v) → get_or (positions_at game v) j 0 ≡ position_now h → (who ≡ v) × (length (positions z h) ≡ j)
 
-  places_here : (v : ℕ) → v ≡ who → places_at game v ≡ places z next
-  places_here v e = sym (at_then (places z) [] v) ∙ updated_here (places_at g) who v (places z next) e
+  positions_here : (v : ℕ) → v ≡ who → positions_at game v ≡ positions z next
+  positions_here v e = sym (at_then (positions z) [] v) ∙ updated_here (positions_at g) who v (positions z next) e
 
-  places_else : (v : ℕ) → v ≢ who → places_at game v ≡ places_at g v
-  places_else v ne = sym (at_then (places z) [] v) ∙ updated_else (places_at g) who v (places z next) ne
+  positions_else : (v : ℕ) → v ≢ who → positions_at game v ≡ positions_at g v
+  positions_else v ne = sym (at_then (positions z) [] v) ∙ updated_else (positions_at g) who v (positions z next) ne
 
-  stand_then : (answer : Option Bool) → Fits answer → IsFresh answer → places z next ≡ also_at (places z h) (place_now h) answer → answers ≡ answered g.answers (place_now h) answer
+  stand_then : (answer : Option Bool) → Fits answer → IsFresh answer → positions z next ≡ also_at (positions z h) (position_now h) answer → answers ≡ answered g.answers (position_now h) answer
       → (v j : ℕ) → v < z.workers → j < length (updated plays.told who (also_told (plays.told who) answer) v)
-      → Stands answers (places_at game v) (updated plays.told who (also_told (plays.told who) answer) v) j
-  stand_then None fits fresh places_are is_now v j l inside =
-      let same : places_at game v ≡ places_at g v = sym (at_then (places z) [] v) ∙ sym (same_as_was (places_at g) who (places z next) (at_who (places z) [] ∙ sym places_are) v) in
-      subst (λ (a : List (Option Bool)). Stands a (places_at game v) (updated plays.told who (plays.told who) v) j) (sym is_now)
-      (stands_so g.answers (places_at game v) (places_at g v) (updated plays.told who (plays.told who) v) (plays.told v) j same (sym (same_as_was plays.told who (plays.told who) refl v)) (plays.answered v j l) inside)
-  stand_then (Some so) fits fresh places_are is_now v j l inside =
-      let p : ℕ = place_now h in
+      → Stands answers (positions_at game v) (updated plays.told who (also_told (plays.told who) answer) v) j
+  stand_then None fits fresh positions_are is_now v j l inside =
+      let same : positions_at game v ≡ positions_at g v = sym (at_then (positions z) [] v) ∙ sym (same_as_was (positions_at g) who (positions z next) (at_who (positions z) [] ∙ sym positions_are) v) in
+      subst (λ (a : List (Option Bool)). Stands a (positions_at game v) (updated plays.told who (plays.told who) v) j) (sym is_now)
+      (stands_so g.answers (positions_at game v) (positions_at g v) (updated plays.told who (plays.told who) v) (plays.told v) j same (sym (same_as_was plays.told who (plays.told who) refl v)) (plays.answered v j l) inside)
+  stand_then (Some so) fits fresh positions_are is_now v j l inside =
+      let p : ℕ = position_now h in
       let within : p < length g.answers = omega (arith, fits, plays.answers) in
-      let mine_at : places_at g who ≡ places z h = at_who (places z) [] in
+      let mine_at : positions_at g who ≡ positions z h = at_who (positions z) [] in
       let more : List Bool = plays.told who ++ so ∷ [] in
-      subst (λ (a : List (Option Bool)). Stands a (places_at game v) (updated plays.told who (plays.told who ++ so ∷ []) v) j) (sym is_now)
+      subst (λ (a : List (Option Bool)). Stands a (positions_at game v) (updated plays.told who (plays.told who ++ so ∷ []) v) j) (sym is_now)
       (⊎_elim
       (λ (e : v ≡ who).
-      let here : places_at game v ≡ places_at g who ++ p ∷ [] = places_here v e ∙ places_are ∙ ap (λ (l : List ℕ). l ++ p ∷ []) (sym mine_at) in
-      let size : length (plays.told who) ≡ length (places_at g who) = told_size g plays who mine in
-      let long : length (places_at game v) ≡ length (places_at g who) + 1 = ap length here ∙ length_push (places_at g who) p in
-      stands_so (set g.answers p (Some so)) (places_at game v) (places_at g who ++ p ∷ []) (updated plays.told who (plays.told who ++ so ∷ []) v) (plays.told who ++ so ∷ []) j here (updated_here plays.told who v (plays.told who ++ so ∷ []) e)
-      (stands_more g.answers (places_at g who) (plays.told who) p so j size within (plays.answered who j mine)
-      (λ (m : j < length (plays.told who)) (same : slice_index (places_at g who) j ≡ p).
-      let last = (fresh v j l (omega (arith, m, size, long)) (ap (λ (l : List ℕ). get_or l j 0) here ∙ get_or_append_left (places_at g who) (p ∷ []) 0 j (omega (arith, m, size)) ∙ same)).1 in
-      let at_size : length (places_at g who) ≡ length (places z h) = ap length mine_at in
+      let here : positions_at game v ≡ positions_at g who ++ p ∷ [] = positions_here v e ∙ positions_are ∙ ap (λ (l : List ℕ). l ++ p ∷ []) (sym mine_at) in
+      let size : length (plays.told who) ≡ length (positions_at g who) = told_size g plays who mine in
+      let long : length (positions_at game v) ≡ length (positions_at g who) + 1 = ap length here ∙ length_push (positions_at g who) p in
+      stands_so (set g.answers p (Some so)) (positions_at game v) (positions_at g who ++ p ∷ []) (updated plays.told who (plays.told who ++ so ∷ []) v) (plays.told who ++ so ∷ []) j here (updated_here plays.told who v (plays.told who ++ so ∷ []) e)
+      (stands_more g.answers (positions_at g who) (plays.told who) p so j size within (plays.answered who j mine)
+      (λ (m : j < length (plays.told who)) (same : slice_index (positions_at g who) j ≡ p).
+      let last = (fresh v j l (omega (arith, m, size, long)) (ap (λ (l : List ℕ). get_or l j 0) here ∙ get_or_append_left (positions_at g who) (p ∷ []) 0 j (omega (arith, m, size)) ∙ same)).1 in
+      let at_size : length (positions_at g who) ≡ length (positions z h) = ap length mine_at in
       absurd (omega (arith, last, m, size, at_size))))
       inside)
       (λ (ne : v ≢ who).
-      stands_so (set g.answers p (Some so)) (places_at game v) (places_at g v) (updated plays.told who (plays.told who ++ so ∷ []) v) (plays.told v) j (places_else v ne) (updated_else plays.told who v (plays.told who ++ so ∷ []) ne)
+      stands_so (set g.answers p (Some so)) (positions_at game v) (positions_at g v) (updated plays.told who (plays.told who ++ so ∷ []) v) (plays.told v) j (positions_else v ne) (updated_else plays.told who v (plays.told who ++ so ∷ []) ne)
       (λ (m : j < length (plays.told v)).
-      let size : length (plays.told v) ≡ length (places_at g v) = told_size g plays v l in
-      stands_still g.answers (places_at g v) (plays.told v) p (Some so) j
-      (λ (same : slice_index (places_at g v) j ≡ p).
-      let long : length (places_at game v) ≡ length (places_at g v) = ap length (places_else v ne) in
-      ne (sym (fresh v j l (omega (arith, m, size, long)) (ap (λ (l : List ℕ). get_or l j 0) (places_else v ne) ∙ same)).0))
+      let size : length (plays.told v) ≡ length (positions_at g v) = told_size g plays v l in
+      stands_still g.answers (positions_at g v) (plays.told v) p (Some so) j
+      (λ (same : slice_index (positions_at g v) j ≡ p).
+      let long : length (positions_at game v) ≡ length (positions_at g v) = ap length (positions_else v ne) in
+      ne (sym (fresh v j l (omega (arith, m, size, long)) (ap (λ (l : List ℕ). get_or l j 0) (positions_else v ne) ∙ same)).0))
       (plays.answered v j l m))
       inside)
       (cases_eq v who))
 
   -- what is done stays so
-  done_then : (l : List ℕ) → places z next ≡ places z h ++ l → (p : ℕ) → IsDoneAt g p → IsDoneAt game p
-  done_then l places_are p done =
+  done_then : (l : List ℕ) → positions z next ≡ positions z h ++ l → (p : ℕ) → IsDoneAt g p → IsDoneAt game p
+  done_then l positions_are p done =
       let v : ℕ = done.0 in
       let j : ℕ = done.1 in
       ⊎_elim
       (λ (me : v ≡ who).
-      let mine_at : places_at g v ≡ places z h = ap (places_at g) me ∙ at_who (places z) [] in
-      let now : places_at game v ≡ places z h ++ l = places_here v me ∙ places_are in
-      let less : j < length (places z h) = subst (λ (at : List ℕ). j < length at) mine_at done.3 in
-      let long : length (places_at game v) ≡ length (places z h) + length l = ap length now ∙ length-append (places z h) l in
-      (v, j, done.2, omega (arith, less, long), ap (λ (at : List ℕ). get_or at j 0) now ∙ get_or_append_left (places z h) l 0 j less ∙ ap (λ (at : List ℕ). get_or at j 0) (sym mine_at) ∙ done.4))
+      let mine_at : positions_at g v ≡ positions z h = ap (positions_at g) me ∙ at_who (positions z) [] in
+      let now : positions_at game v ≡ positions z h ++ l = positions_here v me ∙ positions_are in
+      let less : j < length (positions z h) = subst (λ (at : List ℕ). j < length at) mine_at done.3 in
+      let long : length (positions_at game v) ≡ length (positions z h) + length l = ap length now ∙ length-append (positions z h) l in
+      (v, j, done.2, omega (arith, less, long), ap (λ (at : List ℕ). get_or at j 0) now ∙ get_or_append_left (positions z h) l 0 j less ∙ ap (λ (at : List ℕ). get_or at j 0) (sym mine_at) ∙ done.4))
       (λ (ne : v ≢ who).
-      let same : places_at game v ≡ places_at g v = places_else v ne in
+      let same : positions_at game v ≡ positions_at g v = positions_else v ne in
       (v, j, done.2, subst (λ (at : List ℕ). j < length at) (sym same) done.3, ap (λ (at : List ℕ). get_or at j 0) same ∙ done.4))
       (cases_eq v who)
 
   -- of a key that is not done nothing is told
-  open_then : (answer : Option Bool) → places z next ≡ also_at (places z h) (place_now h) answer → answers ≡ answered g.answers (place_now h) answer
+  open_then : (answer : Option Bool) → positions z next ≡ also_at (positions z h) (position_now h) answer → answers ≡ answered g.answers (position_now h) answer
       → (p : ℕ) → (IsDoneAt game p → ⊥) → slice_index_or answers p None ≡ None
-  open_then None places_are is_now p undone =
-      ap (λ (a : List (Option Bool)). slice_index_or a p None) is_now ∙ plays.unanswered p (λ done. undone (done_then [] (places_are ∙ sym (append-nil (places z h))) p done))
-  open_then (Some so) places_are is_now p undone =
-      let at : ℕ = place_now h in
-      let n : ℕ = length (places z h) in
-      let now : places_at game who ≡ places z h ++ at ∷ [] = places_here who refl ∙ places_are in
-      let long : length (places_at game who) ≡ n + 1 = ap length now ∙ length_push (places z h) at in
-      let last : slice_index (places_at game who) n ≡ at = ap (λ (l : List ℕ). get_or l n 0) now ∙ get_or_push (places z h) at 0 n refl in
+  open_then None positions_are is_now p undone =
+      ap (λ (a : List (Option Bool)). slice_index_or a p None) is_now ∙ plays.unanswered p (λ done. undone (done_then [] (positions_are ∙ sym (append-nil (positions z h))) p done))
+  open_then (Some so) positions_are is_now p undone =
+      let at : ℕ = position_now h in
+      let n : ℕ = length (positions z h) in
+      let now : positions_at game who ≡ positions z h ++ at ∷ [] = positions_here who refl ∙ positions_are in
+      let long : length (positions_at game who) ≡ n + 1 = ap length now ∙ length_push (positions z h) at in
+      let last : slice_index (positions_at game who) n ≡ at = ap (λ (l : List ℕ). get_or l n 0) now ∙ get_or_push (positions z h) at 0 n refl in
       ap (λ (a : List (Option Bool)). slice_index_or a p None) is_now
       ∙ get_or-set_other g.answers at p (Some so) None (λ (e : p ≡ at). undone (who, n, mine, omega (arith, long), last ∙ sym e))
-      ∙ plays.unanswered p (λ done. undone (done_then (at ∷ []) places_are p done))
+      ∙ plays.unanswered p (λ done. undone (done_then (at ∷ []) positions_are p done))
 
   -- its keys, its done keys and what it was told
-  module _ (answer : Option Bool) (share : keys_for g.keys next ≡ keys_for g.keys h) (places_are : places z next ≡ also_at (places z h) (place_now h) answer) (counts : counted h answer next) (hand : IsHand z g.kind g.keys next) (dealt : IsDealt game) where
+  module _ (answer : Option Bool) (share : keys_for g.keys next ≡ keys_for g.keys h) (positions_are : positions z next ≡ also_at (positions z h) (position_now h) answer) (counts : counted h answer next) (hand : IsHand z g.kind g.keys next) (dealt : IsDealt game) where
     abbrev told : ℕ → List Bool
     told = updated plays.told who (also_told (plays.told who) answer)
 
@@ -285,20 +285,20 @@ module _ (g : Game) (plays : Plays g) (who : ℕ) (mine : who < g.shape.workers)
           (λ r. r.1 ∙ plays.changed v l ∙ ap (λ (l : List Bool). count_by (λ so. so) l) (sym (updated_else plays.told who v (also_told (plays.told who) answer) r.0)))
           (updated_at (changed_at g) who v next.changed)
 
-      -- the place of the key is that of no other
+      -- the position of the key is that of no other
       fresh_then : (so : Option Bool) → so ≡ answer → IsFresh so
       fresh_then None e = tt
       fresh_then (Some so) e = λ v j l inside same.
-          let at_v : places_at game v ≡ places z (get_or (set g.hands who next) v next) = at_hand_is (places z) [] (set g.hands who next) v next (omega (arith, l, size_then)) in
-          let me : places z (get_or (set g.hands who next) who next) ≡ places z h ++ place_now h ∷ [] =
-          ap (places z) (get_or-set_same g.hands who next next is) ∙ places_are ∙ ap (also_at (places z h) (place_now h)) (sym e) in
-          let n : ℕ = length (places z h) in
-          let long : length (places z (get_or (set g.hands who next) who next)) ≡ n + 1 = ap length me ∙ length_push (places z h) (place_now h) in
+          let at_v : positions_at game v ≡ positions z (get_or (set g.hands who next) v next) = at_hand_is (positions z) [] (set g.hands who next) v next (omega (arith, l, size_then)) in
+          let me : positions z (get_or (set g.hands who next) who next) ≡ positions z h ++ position_now h ∷ [] =
+          ap (positions z) (get_or-set_same g.hands who next next is) ∙ positions_are ∙ ap (also_at (positions z h) (position_now h)) (sym e) in
+          let n : ℕ = length (positions z h) in
+          let long : length (positions z (get_or (set g.hands who next) who next)) ≡ n + 1 = ap length me ∙ length_push (positions z h) (position_now h) in
           apart z g.kind g.keys then (set g.hands who next) running.world running.core size_then hands_then next dealt who v n j mine l
           (omega (arith, long)) (subst (λ (l : List ℕ). j < length l) at_v inside)
-          (ap (λ (l : List ℕ). get_or l n 0) me ∙ get_or_push (places z h) (place_now h) 0 n refl ∙ sym same ∙ ap (λ (l : List ℕ). get_or l j 0) at_v)
+          (ap (λ (l : List ℕ). get_or l n 0) me ∙ get_or_push (positions z h) (position_now h) 0 n refl ∙ sym same ∙ ap (λ (l : List ℕ). get_or l j 0) at_v)
 
-      plays_then : Fits answer → answers ≡ answered g.answers (place_now h) answer → Plays game
+      plays_then : Fits answer → answers ≡ answered g.answers (position_now h) answer → Plays game
       plays_then fits is_now = record {
         shape = plays.shape;
         some = plays.some;
@@ -312,32 +312,32 @@ module _ (g : Game) (plays : Plays g) (who : ℕ) (mine : who < g.shape.workers)
         told = told;
         running = running;
         changed = changed_then;
-        answered = λ v j l inside. stand_then answer fits (fresh_then answer refl) places_are is_now v j l inside;
-        unanswered = λ p undone. open_then answer places_are is_now p undone;
+        answered = λ v j l inside. stand_then answer fits (fresh_then answer refl) positions_are is_now v j l inside;
+        unanswered = λ p undone. open_then answer positions_are is_now p undone;
       }
         where
-          same_size : (answer : Option Bool) → length (answered g.answers (place_now h) answer) ≡ length g.answers
+          same_size : (answer : Option Bool) → length (answered g.answers (position_now h) answer) ≡ length g.answers
           same_size None = refl
-          same_size (Some so) = length-set g.answers (place_now h) (Some so)
+          same_size (Some so) = length-set g.answers (position_now h) (Some so)
 
   by_step : (k : StepKind) → StepsOn z g.keys k g.words g.answers h then answers next → IsHand z g.kind g.keys next → Plays game
   by_step k s hand =
       let was : IsHand z g.kind g.keys h = hand_of g plays who mine d in
-      let key : ℕ = slice_index g.keys (place_now h) in
+      let key : ℕ = slice_index g.keys (position_now h) in
       let kept : view_of h ≡ keep g who = sym (kept_at g plays who mine d) in
-      let places_are : places z next ≡ also_at (places z h) (place_now h) s.done = places_then z g.keys h next s.makes.claims s.done s.share was.share hand.share s.counts in
-      let done : also_done (done_at g who) key s.done ≡ done_keys z g.keys next = ap (λ (l : List ℕ). also_done l key s.done) (at_who (done_keys z g.keys) []) ∙ keys_then z g.keys h next s.done places_are in
+      let positions_are : positions z next ≡ also_at (positions z h) (position_now h) s.done = positions_then z g.keys h next s.makes.claims s.done s.share was.share hand.share s.counts in
+      let done : also_done (done_at g who) key s.done ≡ done_keys z g.keys next = ap (λ (l : List ℕ). also_done l key s.done) (at_who (done_keys z g.keys) []) ∙ keys_then z g.keys h next s.done positions_are in
       let run = run_steps g.kind z g.opening g.words then (keep g) (keys_at g) (done_at g) plays.told who s.makes.step s.makes.word (view_of next) key s.done plays.shape mine
       (subst (λ (x : View). Allowed z x s.makes.step) kept s.makes.allowed)
       (subst (λ (x : View). StepsTo z s.makes.step g.words x s.makes.word then (view_of next)) kept s.makes.steps)
       (subst (λ (l : List ℕ). Contains l key) (sym (at_who (keys_for g.keys) [])) (next_among g.keys h.share h.done s.next_key s.within))
       (subst (λ (x : View). Advances z g.kind key x (view_of next) s.done) kept (subst (λ (k : Kind). Advances z k key (view_of h) (view_of next) s.done) was.kind_is s.advances))
       plays.running in
-      plays_then s.done (ap (keys_in g.keys) s.share) places_are s.counts hand (dealt_then g who d next is s.share plays.dealt)
+      plays_then s.done (ap (keys_in g.keys) s.share) positions_are s.counts hand (dealt_then g who d next is s.share plays.dealt)
       (subst (λ (l : List ℕ). Running g.kind z g.opening then (updated (keep g) who (view_of next)) (keys_at g) (updated (done_at g) who l) (updated plays.told who (also_told (plays.told who) s.done))) done run)
       (fits s.done s.within) s.told_is
     where
-      fits : (answer : Option Bool) → place_now h < length g.keys → Fits answer
+      fits : (answer : Option Bool) → position_now h < length g.keys → Fits answer
       fits None within = tt
       fits (Some so) within = within
 
@@ -349,14 +349,14 @@ module _ (g : Game) (plays : Plays g) (who : ℕ) (mine : who < g.shape.workers)
       let share_then = c.claiming.1.2 in
       let keys_are : keys_for g.keys next ≡ keys_for g.keys h = ap (keys_in g.keys) share_then ∙ sym (ap (keys_in g.keys) share) in
       let most : h.done ≤ length (claimed z (view_of h)) = done_claimed z h c.claiming.0.0 c.claiming.0.1 (subst (IsShare z g.keys h) share was.share).1 in
-      let places_are : places z next ≡ places z h =
-      ap (λ (s : Share). places_of z s (view_of next) next.done) share_then ∙ ap (λ (n : ℕ). take n (claimed z (view_of next))) c.counts.0
-      ∙ first_stay z (view_of h) (view_of next) c.word (ap (λ (x : View). x.side.claims) c.steps.view_is) h.done most ∙ sym (ap (λ (s : Share). places_of z s (view_of h) h.done) share) in
+      let positions_are : positions z next ≡ positions z h =
+      ap (λ (s : Share). positions_of z s (view_of next) next.done) share_then ∙ ap (λ (n : ℕ). take n (claimed z (view_of next))) c.counts.0
+      ∙ first_stay z (view_of h) (view_of next) c.word (ap (λ (x : View). x.side.claims) c.steps.view_is) h.done most ∙ sym (ap (λ (s : Share). positions_of z s (view_of h) h.done) share) in
       let run = run_claims g.kind z g.opening g.words then (keep g) (keys_at g) (done_at g) plays.told who c.word (view_of next) plays.shape mine
       (subst (λ (x : View). Allowed z x Step.claims) kept c.allowed)
       (subst (λ (x : View). StepsTo z Step.claims g.words x c.word then (view_of next)) kept c.steps) plays.running in
-      let done : done_at g who ≡ done_keys z g.keys next = at_who (done_keys z g.keys) [] ∙ sym (ap (map (slice_index g.keys)) places_are) in
-      plays_then None keys_are places_are c.counts hand (claiming_then g who d next is c.claiming.0 c.claiming.1 plays.dealt)
+      let done : done_at g who ≡ done_keys z g.keys next = at_who (done_keys z g.keys) [] ∙ sym (ap (map (slice_index g.keys)) positions_are) in
+      plays_then None keys_are positions_are c.counts hand (claiming_then g who d next is c.claiming.0 c.claiming.1 plays.dealt)
       (subst (λ (t : ℕ → List Bool). Running g.kind z g.opening then (updated (keep g) who (view_of next)) (keys_at g) (updated (done_at g) who (done_keys z g.keys next)) t) (λ i v. same_as_was plays.told who (plays.told who) refl v i)
       (subst (λ (l : ℕ → List ℕ). Running g.kind z g.opening then (updated (keep g) who (view_of next)) (keys_at g) l plays.told) (λ i v. same_as_was (done_at g) who (done_keys z g.keys next) done v i) run))
       tt c.told_is

@@ -1,16 +1,16 @@
--- A player, as its calls see it: the table, the keys, and the workers with what each has done of them. (own)
+-- A player, as its calls see it: the table, the keys, and the workers with what each has done of them.
 use Rattle.std.specs.Prelude.{zero, suc, ◌≡◌, ℕ, ◌<◌, ◌≤◌, ◌⊎◌, Option, Some, None, Bool, false, List, [], ◌∷◌, length, slice_index, slice_index_or, All}
 use Rattle.rh_layout.specs.Key.{IsKey}
 use Rattle.rh_layout.specs.Layout.{IsLayout, keys_of}
 use Rattle.rh_ledger.specs.declared.tally.Kind.{Kind}
 use Rattle.rh_descriptor.specs.declared.shape.Shape.{Shape}
-use Rattle.rh_descriptor.specs.Places.{IsShape}
+use Rattle.rh_descriptor.specs.Parts.{IsShape}
 use Rattle.rh_descriptor.specs.View.{View, new_view}
 use Rattle.rh_acts.specs.Workers.{LeavesRoom, how_many}
 use Rattle.rh_run.specs.Run.{Running}
 use Rattle.rh_turns.specs.declared.hand.Hand.{Hand}
 use Rattle.rh_turns.specs.declared.hand.Share.TheVariants.{Piece}
-use Rattle.rh_turns.specs.Hands.{IsClaiming, IsFinished, IsHand, IsSpent, done_keys, keys_for, places, view_of}
+use Rattle.rh_turns.specs.Hands.{IsClaiming, IsFinished, IsHand, IsSpent, done_keys, keys_for, positions, view_of}
 
 pub record Game : Type 0 where
   pub kind : Kind
@@ -38,19 +38,19 @@ keys_at g = at_hand (keys_for g.keys) [] g.hands
 abbrev pub done_at : Game → (v : ℕ) → List ℕ
 done_at g = at_hand (done_keys g.shape g.keys) [] g.hands
 
-abbrev pub places_at : Game → (v : ℕ) → List ℕ
-places_at g = at_hand (places g.shape) [] g.hands
+abbrev pub positions_at : Game → (v : ℕ) → List ℕ
+positions_at g = at_hand (positions g.shape) [] g.hands
 
 abbrev pub changed_at : Game → (v : ℕ) → ℕ
 changed_at g = at_hand (λ h. h.changed) 0 g.hands
 
--- a worker has done the key at this place of the list
-abbrev pub IsDoneAt : Game → (place : ℕ) → Type 0
-IsDoneAt g p = (v j : ℕ) × (v < g.shape.workers) × (j < length (places_at g v)) × (slice_index (places_at g v) j ≡ p)
+-- a worker has done the key at this position of the list
+abbrev pub IsDoneAt : Game → (position : ℕ) → Type 0
+IsDoneAt g p = (v j : ℕ) × (v < g.shape.workers) × (j < length (positions_at g v)) × (slice_index (positions_at g v) j ≡ p)
 
 -- ---- how the keys are dealt
 
--- the pieces follow one another in the list of all keys, from this place to its end
+-- the pieces follow one another in the list of all keys, from this position to its end
 abbrev pub ArePieces : (from : ℕ) → List Hand → (count : ℕ) → Type 0
 ArePieces from [] count = from ≡ count
 ArePieces from (h ∷ hs) count = (end : ℕ) × (h.share ≡ Piece from end) × (from ≤ end) × ArePieces end hs count
@@ -76,7 +76,7 @@ pub record Plays (g : Game) : Type 0 where
   pub running : Running g.kind g.shape g.opening g.words (keep g) (keys_at g) (done_at g) told
   pub changed : (v : ℕ) → v < g.shape.workers → changed_at g v ≡ how_many (told v)
   pub answered : (v j : ℕ) → v < g.shape.workers → j < length (told v)
-      → slice_index_or g.answers (slice_index (places_at g v) j) None ≡ Some (slice_index_or (told v) j false)
+      → slice_index_or g.answers (slice_index (positions_at g v) j) None ≡ Some (slice_index_or (told v) j false)
   pub unanswered : (p : ℕ) → (IsDoneAt g p → ⊥) → slice_index_or g.answers p None ≡ None
 
 -- all keys of all workers are done

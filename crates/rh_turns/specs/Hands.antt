@@ -1,4 +1,4 @@
--- A worker of a player, and how far it has come with its keys. (own)
+-- A worker of a player, and how far it has come with its keys.
 use Rattle.std.specs.Prelude.{◌≡◌, ℕ, ◌+◌, ◌-◌, ◌<◌, ◌≤◌, ◌⊎◌, Option, Some, None, Bool, true, false, cond, List, [], ◌∷◌, ◌++◌, length, map, take, set, slice_index}
 use Rattle.std.specs.List.{range_with_len}
 use Rattle.rh_ledger.specs.declared.tally.Kind.{Kind}
@@ -12,7 +12,7 @@ use Rattle.rh_worker.specs.Makes.{Makes}
 use Rattle.rh_steps.specs.Relies.{Shows}
 use Rattle.rh_run.specs.Advance.{Advances}
 use Rattle.rh_worker.specs.Worker.{GivesUp, HasNoRoom, IsWorker}
-use Rattle.rh_worker.specs.declared.place.Place.TheVariants as place
+use Rattle.rh_worker.specs.declared.stage.Stage.TheVariants as stage
 use Rattle.rh_run.specs.Claimed.{claimed, FoundEnd}
 use Rattle.rh_turns.specs.declared.hand.Hand.{Hand}
 use Rattle.rh_turns.specs.declared.hand.Share.{Share}
@@ -25,28 +25,28 @@ abbrev pub view_of : Hand → View
 view_of h = h.worker.side.known.view
 
 abbrev pub IsIdle : Hand → Type 0
-IsIdle h = h.worker.place ≡ place.Idle
+IsIdle h = h.worker.stage ≡ stage.Idle
 
 abbrev pub IsSpent : Hand → Type 0
-IsSpent h = h.worker.place ≡ place.Spent
+IsSpent h = h.worker.stage ≡ stage.Spent
 
--- ---- its keys, by their places in the list of all keys
+-- ---- its keys, by their positions in the list of all keys
 
 -- those that are done, in the order in which they were
-abbrev pub places_of : Shape → Share → View → (done : ℕ) → List ℕ
-places_of z (Piece first end) v done = range_with_len first done
-places_of z (Claims last ended) v done = take done (claimed z v)
+abbrev pub positions_of : Shape → Share → View → (done : ℕ) → List ℕ
+positions_of z (Piece first end) v done = range_with_len first done
+positions_of z (Claims last ended) v done = take done (claimed z v)
 
-abbrev pub places : Shape → Hand → List ℕ
-places z h = places_of z h.share (view_of h) h.done
+abbrev pub positions : Shape → Hand → List ℕ
+positions z h = positions_of z h.share (view_of h) h.done
 
 -- that of the key that it is at, or of the next one of its piece
-abbrev pub place_of : Share → (done : ℕ) → ℕ
-place_of (Piece first end) done = first + done
-place_of (Claims last ended) done = last
+abbrev pub position_of : Share → (done : ℕ) → ℕ
+position_of (Piece first end) done = first + done
+position_of (Claims last ended) done = last
 
-abbrev pub place_now : Hand → ℕ
-place_now h = place_of h.share h.done
+abbrev pub position_now : Hand → ℕ
+position_now h = position_of h.share h.done
 
 -- it claims its keys
 abbrev pub IsClaiming : Hand → Type 0
@@ -61,7 +61,7 @@ abbrev pub keys_for : (keys : List ℕ) → Hand → List ℕ
 keys_for keys h = keys_in keys h.share
 
 abbrev pub done_keys : Shape → (keys : List ℕ) → Hand → List ℕ
-done_keys z keys h = map (slice_index keys) (places z h)
+done_keys z keys h = map (slice_index keys) (positions z h)
 
 -- ---- what is so of it
 
@@ -83,15 +83,15 @@ HasNext (Claims last ended) done = ended ≡ false
 abbrev pub IsFinished : Hand → Type 0
 IsFinished h = IsIdle h × IsAtEnd h.share h.done
 
--- it is at a key, which stands at this place of the list
+-- it is at a key, which stands at this position of the list
 pub record IsAtKey (keys : List ℕ) (h : Hand) : Type 0 where
-  pub within : place_now h < length keys
-  pub key : slice_index keys (place_now h) ≡ h.worker.key
+  pub within : position_now h < length keys
+  pub key : slice_index keys (position_now h) ≡ h.worker.key
 
--- the places that it claimed are done, but for the last one while it is at that key
+-- the positions that it claimed are done, but for the last one while it is at that key
 pub record HasClaimed (z : Shape) (h : Hand) (last : ℕ) (ended : Bool) : Type 0 where
   pub idle : IsIdle h → length (claimed z (view_of h)) ≡ h.done
-  pub busy : IsIdle h ⊎ ((claimed z (view_of h) ≡ places z h ++ last ∷ []) × (length (places z h) ≡ h.done) × (ended ≡ false))
+  pub busy : IsIdle h ⊎ ((claimed z (view_of h) ≡ positions z h ++ last ∷ []) × (length (positions z h) ≡ h.done) × (ended ≡ false))
   pub within : ended ≡ false → (n : ℕ) → In n (view_of h).side.claims → n < z.keys
   pub end : ended ≡ true → FoundEnd z (view_of h)
 
@@ -113,23 +113,23 @@ abbrev pub counted : Hand → Option Bool → Hand → Type 0
 counted h None next = (next.done ≡ h.done) × (next.changed ≡ h.changed)
 counted h (Some told) next = (next.done ≡ h.done + 1) × (next.changed ≡ h.changed + cond told 1 0)
 
-abbrev pub answered : (answers : List (Option Bool)) → (place : ℕ) → Option Bool → List (Option Bool)
-answered answers place None = answers
-answered answers place (Some told) = set answers place (Some told)
+abbrev pub answered : (answers : List (Option Bool)) → (position : ℕ) → Option Bool → List (Option Bool)
+answered answers position None = answers
+answered answers position (Some told) = set answers position (Some told)
 
 -- One step of this kind on the next key of a worker that is not spent; the key is done by it or is not. With the step that
 -- closes a descriptor which the worker had withdrawn it is spent.
 pub record StepsOn (z : Shape) (keys : List ℕ) (k : StepKind) (words : List ℕ) (answers : List (Option Bool)) (h : Hand) (then : List ℕ) (told : List (Option Bool)) (next : Hand) : Type 0 where
   pub unspent : IsSpent h → ⊥
   pub next_key : HasNext h.share h.done
-  pub within : place_now h < length keys
+  pub within : position_now h < length keys
   pub makes : Makes Shows StepsTo z k words (view_of h) then (view_of next)
   pub done : Option Bool
-  pub advances : Advances z h.worker.kind (slice_index keys (place_now h)) (view_of h) (view_of next) done
+  pub advances : Advances z h.worker.kind (slice_index keys (position_now h)) (view_of h) (view_of next) done
   pub gives_up : GivesUp (view_of h) (view_of next) → IsSpent next
   pub share : next.share ≡ h.share
   pub counts : counted h done next
-  pub told_is : told ≡ answered answers (place_now h) done
+  pub told_is : told ≡ answered answers (position_now h) done
 
 -- One Claim of a worker that is at no key.
 pub record ClaimsOn (z : Shape) (words : List ℕ) (answers : List (Option Bool)) (h : Hand) (then : List ℕ) (told : List (Option Bool)) (next : Hand) : Type 0 where

@@ -8,7 +8,7 @@ use Rattle.rh_ledger.specs.declared.tally.Kind.TheVariants.{Ask}
 use Rattle.rh_ledger.specs.Phase.{looked_up, set_after, tally_of}
 use Rattle.rh_tagword.specs.Word.{plain_number}
 use Rattle.rh_descriptor.specs.declared.shape.Shape.{Shape}
-use Rattle.rh_descriptor.specs.Places.{IsShape, cell_count}
+use Rattle.rh_descriptor.specs.Parts.{IsShape, cell_count}
 use Rattle.rh_descriptor.specs.View.{new_view, round_view}
 use Rattle.rh_rule.specs.Rest.{AllRest}
 use Rattle.rh_rule.specs.Wipes.{row_total}
@@ -23,7 +23,7 @@ use Rattle.rh_turns.specs.declared.hand.Share.TheVariants.{Claims}
 use Rattle.rh_turns.specs.declared.turning.Turn.{Turn}
 use Rattle.rh_turns.specs.Hands.{IsHand, IsIdle, IsSpent, TurnsOn, view_of}
 use Rattle.rh_turns.specs.Readable.{IsReadable}
-use Rattle.rh_turns.specs.Game.{AllFinished, AllStopped, ArePieces, Game, IsDoneAt, Plays, changed_at, done_at, keep, keys_at, places_at}
+use Rattle.rh_turns.specs.Game.{AllFinished, AllStopped, ArePieces, Game, IsDoneAt, Plays, changed_at, done_at, keep, keys_at, positions_at}
 
 abbrev pub hand : Game → (v : ℕ) (other : Hand) → Hand
 hand g v other = slice_index_or g.hands v other
@@ -85,7 +85,7 @@ pub record Begins (z : Shape) (cells : List ℕ) (h next : Hand) : Type 0 where
   pub kind_same : next.worker.kind ≡ h.worker.kind
   pub key_same : next.worker.key ≡ h.worker.key
   pub idle : IsIdle h → IsIdle next
-  pub again : IsSpent h → IsBusy next.worker.place
+  pub again : IsSpent h → IsBusy next.worker.stage
   pub view : view_of next ≡ round_view cells (view_of h)
   pub share : next.share ≡ h.share
   pub done : next.done ≡ h.done
@@ -104,13 +104,13 @@ RoundsKeep = (g : Game) → Plays g → AllStopped g → AllRest g.shape (keep g
 
 -- ---- what was made
 
--- What is counted of the keys that are done, and what stands at their places, where each worker was told this of its keys.
+-- What is counted of the keys that are done, and what stands at their positions, where each worker was told this of its keys.
 -- Where keys are asked for, it is told of each whether the first set holds it; of a key that is not done nothing is told.
 pub record TellsSo (g : Game) (told : ℕ → List Bool) : Type 0 where
-  pub counts : (v : ℕ) (d : Hand) → v < g.shape.workers → length (places_at g v) ≡ (hand g v d).done
+  pub counts : (v : ℕ) (d : Hand) → v < g.shape.workers → length (positions_at g v) ≡ (hand g v d).done
   pub changed : (v : ℕ) → v < g.shape.workers → changed_at g v ≡ how_many (told v)
   pub stands : (v j : ℕ) → v < g.shape.workers → j < length (told v)
-      → slice_index_or g.answers (slice_index (places_at g v) j) None ≡ Some (slice_index_or (told v) j false)
+      → slice_index_or g.answers (slice_index (positions_at g v) j) None ≡ Some (slice_index_or (told v) j false)
   pub answers : g.kind ≡ Ask → (p : ℕ) → IsDoneAt g p → slice_index_or g.answers p None ≡ Some (contains (keys_of g.opening) (slice_index g.keys p))
   pub unanswered : (p : ℕ) → (IsDoneAt g p → ⊥) → slice_index_or g.answers p None ≡ None
 
@@ -126,7 +126,7 @@ MadeSoFar = (g : Game) → (plays : Plays g) → ((c : ℕ) → c < cell_count g
 pub record EndsWith (g : Game) : Type 0 where
   pub now : AreNow g.shape g.words (keep g) (cells_held g.shape g.words)
   pub layout : Layout (cells_held g.shape g.words) g.shape.bits (set_after g.kind (keys_of g.opening) g.keys)
-  pub tally : sum_of_all (λ v. tally_by g.kind (length (places_at g v)) (changed_at g v)) g.shape.workers ≡ tally_of g.kind (keys_of g.opening) g.keys
+  pub tally : sum_of_all (λ v. tally_by g.kind (length (positions_at g v)) (changed_at g v)) g.shape.workers ≡ tally_of g.kind (keys_of g.opening) g.keys
   pub answers : g.kind ≡ Ask → (p : ℕ) → p < length g.keys → slice_index_or g.answers p None ≡ Some (slice_index_or (looked_up (keys_of g.opening) g.keys) p false)
 
 abbrev pub MadeAtTheEnd : Type 0

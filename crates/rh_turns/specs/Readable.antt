@@ -1,4 +1,4 @@
--- That what a cell stands for can be read off the words of a table, and off what its workers hold. (own)
+-- That what a cell stands for can be read off the words of a table, and off what its workers hold.
 use Rattle.std.specs.Prelude.{◌≡◌, ℕ, ◌<◌, List, [], length, slice_index, slice_index_or, All}
 use Rattle.rh_world.specs.World.{Ref}
 use Rattle.rh_descriptor.specs.declared.shape.Shape.{Shape}

@@ -2,12 +2,12 @@
 
 use rh_worker::Worker;
 
-/// Which keys of the list a worker does, by their places.
+/// Which keys of the list a worker does, by their positions.
 #[derive(Clone, Copy, Debug, PartialEq, Eq)]
 pub enum Share {
-    /// Those from the first place up to the end.
+    /// Those from the first position up to the end.
     Piece { first: usize, end: usize },
-    /// Those that it claims: the place that it claimed last, and whether a Claim found the end of the
+    /// Those that it claims: the position that it claimed last, and whether a Claim found the end of the
     /// list.
     Claims { last: usize, ended: bool },
 }
@@ -25,12 +25,12 @@ pub struct Hand {
 
 impl Share {
     ghost use Rattle.std.specs.Prelude.{◌≡◌, ◌↔◌, IsTrue};
-    ghost use Rattle.rh_turns.specs.Hands.{IsAtEnd, IsWithin, place_of};
+    ghost use Rattle.rh_turns.specs.Hands.{IsAtEnd, IsWithin, position_of};
 
-    /// The place of the key that comes after those that are done.
-    pub(crate) fn place(self, done: usize) -> usize
+    /// The position of the key that comes after those that are done.
+    pub(crate) fn position(self, done: usize) -> usize
         requires { IsWithin self done }
-        ensures { result ≡ place_of self done }
+        ensures { result ≡ position_of self done }
     {
         match self {
             Share::Piece { first, .. } => first + done,

@@ -1,7 +1,7 @@
 //! What a cell stands for.
 
 ghost use Rattle.std.specs.Prelude.{◌≡◌, ◌<◌, ◌≤◌, ℕ, Some, length};
-ghost use Rattle.rh_descriptor.specs.Places.{IsShape, cell_count, word_count};
+ghost use Rattle.rh_descriptor.specs.Parts.{IsShape, cell_count, word_count};
 ghost use Rattle.rh_descriptor.specs.Words.{ref_of};
 ghost use Rattle.rh_descriptor.specs.Steps.{IsDesc};
 ghost use Rattle.rh_rule.specs.Mirrors.{word_at};
@@ -72,7 +72,7 @@ fn described_word(shape: &Shape, words: &[u64], hands: &[Hand], desc: Ref, cell:
     ensures { StandsFor shape.now words.now (views_of hands.now) cell (is_desc (ref_of desc)) result }
 {
     let worker = desc.worker;
-    if words[shape.place(Part::Serial { worker })] == desc.number {
+    if words[shape.index(Part::Serial { worker })] == desc.number {
         word_in_row(shape, words, desc, cell)
     } else {
         word_held(hands, desc, cell)
@@ -89,18 +89,18 @@ fn word_in_row(shape: &Shape, words: &[u64], desc: Ref, cell: usize) -> u64
         (word_at shape.now words.now (part.Length desc.worker)) ≡ result }
 {
     let worker = desc.worker;
-    let size = words[shape.place(Part::Length { worker })] as usize;
-    let control = words[shape.place(Part::Control { worker })];
+    let size = words[shape.index(Part::Length { worker })] as usize;
+    let control = words[shape.index(Part::Control { worker })];
     let succeeded = control == pack_control(desc.number, State::Succeeded);
     let mut value = 0;
     for entry in 0..size {
-        if words[shape.place(Part::EntryCell { worker, entry })] == cell as u64 {
+        if words[shape.index(Part::EntryCell { worker, entry })] == cell as u64 {
             let counts = if succeeded {
                 Part::EntryNew { worker, entry }
             } else {
                 Part::EntryOld { worker, entry }
             };
-            value = words[shape.place(counts)];
+            value = words[shape.index(counts)];
         }
     }
     value

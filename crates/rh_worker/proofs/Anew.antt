@@ -10,7 +10,7 @@ use Rattle.rh_layout.specs.Round.{place_after}
 use Rattle.rh_layout.specs.Order.{home_of}
 use Rattle.rh_history.specs.History.{kept_of, value_of}
 use Rattle.rh_descriptor.specs.declared.shape.Shape.{Shape}
-use Rattle.rh_descriptor.specs.Places.{cell_count}
+use Rattle.rh_descriptor.specs.Parts.{cell_count}
 use Rattle.rh_descriptor.specs.View.{View}
 use Rattle.rh_worker.specs.Reading.{HasRead, IsToldAnew, TellsAnew, seen_back}
 

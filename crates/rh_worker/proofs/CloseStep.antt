@@ -15,7 +15,7 @@ use Rattle.rh_descriptor.specs.declared.steps.StepKind.{StepKind}
 use Rattle.rh_helping.specs.declared.work.Outcome.TheVariants.{Closed}
 use Rattle.rh_helping.specs.declared.work.Ended.{Ended}
 use Rattle.rh_helping.specs.declared.work.Ended.TheVariants as ended
-use Rattle.rh_helping.specs.Goal.{IsNewest, KnowsOwn, own_ref}
+use Rattle.rh_helping.specs.Goal.{IsNewest, KnowsOwn}
 use Rattle.rh_helping.specs.Made.{HasMade}
 use Rattle.rh_helping.specs.Work.{HasEnded, Leads}
 use Rattle.rh_worker.specs.Worker.{GivesUp}
@@ -24,7 +24,7 @@ use Rattle.rh_world.specs.World.Control.{failed, succeeded, withdrawn}
 use Rattle.rh_run.specs.Advance.{Fails, Succeeds}
 use Rattle.rh_layout.specs.declared.entry.Entry.{Entry}
 use Rattle.rh_descriptor.specs.declared.shape.Shape.{Shape}
-use Rattle.rh_descriptor.specs.View.{OwnDesc, View}
+use Rattle.rh_descriptor.specs.View.{OwnDesc, View, own_ref}
 use Rattle.rh_descriptor.specs.Steps.{Step, entries_of, next_entries, noted, own_desc, release_view}
 use Rattle.rh_rule.proofs.OpensKept.{entries_current}
 use Rattle.rh_rule.proofs.SeatsKept.{noted_worker}

@@ -12,7 +12,7 @@ use Rattle.rh_history.proofs.Learning.{reads_stay}
 use Rattle.rh_descriptor.specs.declared.shape.Shape.{Shape}
 use Rattle.rh_descriptor.specs.declared.steps.StepKind.{StepKind}
 use Rattle.rh_descriptor.specs.Words.{IsPlain}
-use Rattle.rh_descriptor.specs.Places.{cell_count}
+use Rattle.rh_descriptor.specs.Parts.{cell_count}
 use Rattle.rh_descriptor.specs.View.{OwnDesc, View}
 use Rattle.rh_descriptor.specs.Steps.{Step, with_side}
 use Rattle.rh_helping.specs.Goal.{IsClear}

@@ -19,8 +19,8 @@ use Rattle.rh_helping.specs.declared.opening.Opening.{Opening}
 use Rattle.rh_helping.specs.declared.work.Work.TheVariants as work
 use Rattle.rh_helping.proofs.Owing.{open_all_noted}
 use Rattle.rh_helping.proofs.OwnRows.{entry_is}
-use Rattle.rh_worker.specs.declared.place.Plan.{Plan}
-use Rattle.rh_worker.specs.declared.place.Place.TheVariants as place
+use Rattle.rh_worker.specs.declared.stage.Plan.{Plan}
+use Rattle.rh_worker.specs.declared.stage.Stage.TheVariants as stage
 use Rattle.rh_worker.specs.declared.sights.Sights.{Sights}
 use Rattle.rh_worker.specs.Sights.{AreFit}
 use Rattle.rh_worker.specs.Worker.{IsPlanned, Stays, planned}
@@ -80,24 +80,9 @@ module _ (z : Shape) (v : View) (kind : Kind) (k : ℕ) (s : Sights) (p : Plan) 
       }
 
   module _ (next : View) where
-    pub opening_goes : (o : Opening) → OpensOn z es v next (Some o) → Stays z next kind k s (place.Open o p)
-    opening_goes o on =
-        let room = planned_is.room in
-        let number = on.2 in
-        (record { owns = on.0.owns; owes = on.0.owes; plan = planned_is.plan; room = omega (arith, number) }, subst (λ (l : List Entry). IsOpening next l o) same on.1)
 
     module _ (worker number : ℕ) (by : next.worker ≡ worker) (of : v.next_number ≡ number) (on : OpensOn z es v next None) where
-      pub opened_stays : Stays z next kind k s (place.Swap (work.Control (record { worker = worker; number = number })) number p)
+      pub opened_stays : Stays z next kind k s (stage.Swap (work.Control (record { worker = worker; number = number })) number p)
       opened_stays =
           let own : KnowsOwn next (Some (record { number = number; entries = planned s p })) = subst (λ (d : OwnDesc). KnowsOwn next (Some d)) (λ i. record { number = of i; entries = same i }) on.0 in
           (own, (on.1, inl (subst (λ (w : ℕ). In (known (record { worker = w; number = number })) next.side.notes) by (open_all_noted next _ own).known)), planned_is.plan)
-
-    pub opened_so : next.opened ≡ next_desc v es ∷ v.opened → OpensOn z es v next None → Opens z kind k v next
-    opened_so opened on = record {
-      own = next_desc v es;
-      changes = p.changes;
-      opened = opened;
-      closed = planned_is.owns.current;
-      current = on.0.current;
-      does = subst (λ (l : List Entry). Does kind z.bits k p.changes (act_of l)) (sym same) planned_is.plan.act;
-    }

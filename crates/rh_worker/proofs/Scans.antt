@@ -11,7 +11,7 @@ use Rattle.rh_layout.specs.declared.entry.Entry.{Entry}
 use Rattle.rh_acts.specs.Done.{IsTold, Kept, kept}
 use Rattle.rh_history.specs.History.{kept_of}
 use Rattle.rh_descriptor.specs.declared.shape.Shape.{Shape}
-use Rattle.rh_descriptor.specs.Places.{cell_count}
+use Rattle.rh_descriptor.specs.Parts.{cell_count}
 use Rattle.rh_descriptor.specs.View.{View}
 use Rattle.rh_helping.specs.declared.looking.Looked.{Looked}
 use Rattle.rh_helping.specs.declared.looking.Looked.TheVariants.{On, Sees, Spent}

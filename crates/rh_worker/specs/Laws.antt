@@ -1,4 +1,4 @@
--- What the steps of a worker make of its own acts, and how its keys are done. (own)
+-- What the steps of a worker make of its own acts, and how its keys are done.
 use Rattle.std.specs.Prelude.{◌≡◌, ℕ, Option, Some, None, Bool, List, ◌++◌}
 use Rattle.rh_ledger.specs.declared.tally.Kind.{Kind}
 use Rattle.rh_acts.specs.Act.{Act}

@@ -1,4 +1,4 @@
--- What a worker's step is. (own)
+-- What a worker's step is.
 use Rattle.std.specs.Prelude.{◌≡◌, ℕ}
 use Rattle.std.specs.List.{Contains}
 use Rattle.rh_acts.specs.Done.{Kept}

@@ -1,17 +1,17 @@
--- What was read for a key since it was begun. (own)
+-- What was read for a key since it was begun.
 use Rattle.std.specs.Prelude.{zero, suc, ◌≡◌, ℕ, ◌⊎◌, Option, Some, None, Bool, List, [], ◌∷◌, ◌++◌, length, slice_index}
 use Rattle.rh_layout.specs.Round.{place_after}
 use Rattle.rh_layout.specs.Order.{home_of}
 use Rattle.rh_ledger.specs.declared.tally.Kind.{Kind}
 use Rattle.rh_acts.specs.Done.{Kept, kept}
 use Rattle.rh_descriptor.specs.declared.shape.Shape.{Shape}
-use Rattle.rh_descriptor.specs.Places.{cell_count}
+use Rattle.rh_descriptor.specs.Parts.{cell_count}
 use Rattle.rh_descriptor.specs.View.{View}
 use Rattle.rh_history.specs.History.{kept_of}
 use Rattle.rh_run.specs.Advance.{GoesOn, Succeeds}
 use Rattle.rh_worker.specs.Sights.{IsDoneBy}
-use Rattle.rh_worker.specs.declared.place.Place.{Place}
-use Rattle.rh_worker.specs.declared.place.Place.TheVariants as place
+use Rattle.rh_worker.specs.declared.stage.Stage.{Stage}
+use Rattle.rh_worker.specs.declared.stage.Stage.TheVariants as stage
 use Rattle.rh_worker.specs.declared.worker.Worker.{Worker}
 
 -- the first n cells from the key's home on, as they were seen, the last one first
@@ -25,17 +25,17 @@ pub record HasRead (z : Shape) (before : List Kept) (v : View) (k : ℕ) (seen :
   pub since : List Kept
   pub reads : kept_of z v ≡ seen_back z k seen n ++ (since ++ before)
 
--- how many cells from the key's home on are seen, at a place
-abbrev pub seen_at : Place → ℕ
-seen_at place.Idle = 0
-seen_at place.Spent = 0
-seen_at (place.Scan l n) = n
-seen_at (place.Open o p) = 0
-seen_at (place.Swap w n p) = 0
+-- how many cells from the key's home on are seen, at a stage
+abbrev pub seen_at : Stage → ℕ
+seen_at stage.Idle = 0
+seen_at stage.Spent = 0
+seen_at (stage.Scan l n) = n
+seen_at (stage.Open o p) = 0
+seen_at (stage.Swap w n p) = 0
 
 -- what the worker sees was read anew
 abbrev pub ReadsAnew : Shape → (before : List Kept) → Worker → Type 0
-ReadsAnew z before w = HasRead z before w.side.known.view w.key w.sights.seen.items (seen_at w.place)
+ReadsAnew z before w = HasRead z before w.side.known.view w.key w.sights.seen.items (seen_at w.stage)
 
 -- what is told of a key that no act does, by the cells that were read in turn since it was begun
 pub record IsToldAnew (z : Shape) (before : List Kept) (v : View) (kind : Kind) (k : ℕ) (told : Bool) : Type 0 where

@@ -1,4 +1,4 @@
--- What the cells from a key's home on lead to, and the entries of the key's act. (own)
+-- What the cells from a key's home on lead to, and the entries of the key's act.
 use Rattle.std.specs.Prelude.{◌≡◌, ℕ, ◌^◌, ◌<◌, ◌≤◌, ◌⊎◌, Bool, true, false, List, length, take, slice_index}
 use Rattle.std.specs.List.{Contains}
 use Rattle.rh_tagword.specs.Word.{IsValue, plain_number}
@@ -14,7 +14,7 @@ use Rattle.rh_acts.specs.declared.answer.Removal.TheVariants as removal
 use Rattle.rh_acts.specs.Decision.{Inserts, Removes}
 use Rattle.rh_descriptor.specs.Words.{IsPlain}
 use Rattle.rh_history.specs.History.{act_of}
-use Rattle.rh_worker.specs.declared.place.Plan.{Plan}
+use Rattle.rh_worker.specs.declared.stage.Plan.{Plan}
 use Rattle.rh_worker.specs.declared.sights.Decision.{Decision}
 use Rattle.rh_worker.specs.declared.sights.Decision.TheVariants.{Done, More, Acts}
 use Rattle.rh_worker.specs.declared.sights.Sights.{Sights}

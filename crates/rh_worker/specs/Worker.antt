@@ -1,4 +1,4 @@
--- What is so of a worker between two of its steps. (own)
+-- What is so of a worker between two of its steps.
 use Rattle.std.specs.Prelude.{◌≡◌, ℕ, ◌<◌, ◌≤◌, ◌⊎◌, Option, Some, None, Bool, List, length, take, slice_index}
 use Rattle.std.specs.List.{Contains}
 use Rattle.rh_layout.specs.Round.{place_after}
@@ -13,40 +13,40 @@ use Rattle.rh_layout.specs.declared.entry.Entry.{Entry}
 use Rattle.rh_descriptor.specs.declared.shape.Shape.{Shape}
 use Rattle.rh_descriptor.specs.declared.steps.StepKind.{StepKind}
 use Rattle.rh_descriptor.specs.declared.steps.StepKind.TheVariants as kind
-use Rattle.rh_descriptor.specs.Places.{cell_count}
-use Rattle.rh_descriptor.specs.View.{OwnDesc, View}
-use Rattle.rh_helping.specs.Goal.{IsClear, KnowsOwn, Owns, OwesNothing, own_ref}
+use Rattle.rh_descriptor.specs.Parts.{cell_count}
+use Rattle.rh_descriptor.specs.View.{OwnDesc, View, own_ref}
+use Rattle.rh_helping.specs.Goal.{IsClear, KnowsOwn, Owns, OwesNothing}
 use Rattle.rh_helping.specs.Looking.{IsLooking, kind_of_looking}
 use Rattle.rh_helping.specs.Opening.{IsOpening, kind_of_opening}
 use Rattle.rh_helping.specs.Work.{Stands, kind_of_work}
 use Rattle.rh_history.specs.History.{kept_of}
 use Rattle.rh_history.specs.OwnActs.{Closes}
 use Rattle.rh_worker.specs.Sights.{HasRoom, IsPlan}
-use Rattle.rh_worker.specs.declared.place.Plan.{Plan}
-use Rattle.rh_worker.specs.declared.place.Place.{Place}
-use Rattle.rh_worker.specs.declared.place.Place.TheVariants as place
+use Rattle.rh_worker.specs.declared.stage.Plan.{Plan}
+use Rattle.rh_worker.specs.declared.stage.Stage.{Stage}
+use Rattle.rh_worker.specs.declared.stage.Stage.TheVariants as stage
 use Rattle.rh_worker.specs.declared.sights.Sights.{Sights}
 use Rattle.rh_worker.specs.declared.worker.Worker.{Worker}
 
-abbrev pub kind_of_place : Place → StepKind
-kind_of_place place.Idle = kind.Read
-kind_of_place place.Spent = kind.Read
-kind_of_place (place.Scan l n) = kind_of_looking l
-kind_of_place (place.Open o p) = kind_of_opening o
-kind_of_place (place.Swap w n p) = kind_of_work w
+abbrev pub kind_of_stage : Stage → StepKind
+kind_of_stage stage.Idle = kind.Read
+kind_of_stage stage.Spent = kind.Read
+kind_of_stage (stage.Scan l n) = kind_of_looking l
+kind_of_stage (stage.Open o p) = kind_of_opening o
+kind_of_stage (stage.Swap w n p) = kind_of_work w
 
 -- a step is left
-abbrev pub IsBusy : Place → Type 0
-IsBusy place.Idle = ⊥
-IsBusy place.Spent = ⊥
-IsBusy (place.Scan l n) = Unit {0}
-IsBusy (place.Open o p) = Unit {0}
-IsBusy (place.Swap w n p) = Unit {0}
+abbrev pub IsBusy : Stage → Type 0
+IsBusy stage.Idle = ⊥
+IsBusy stage.Spent = ⊥
+IsBusy (stage.Scan l n) = Unit {0}
+IsBusy (stage.Open o p) = Unit {0}
+IsBusy (stage.Swap w n p) = Unit {0}
 
 -- a worker is idle exactly where the key was done
-abbrev pub EndsAt : (done : Option Bool) → Place → Type 0
-EndsAt None p = p ≡ place.Idle → ⊥
-EndsAt (Some told) p = p ≡ place.Idle
+abbrev pub EndsAt : (done : Option Bool) → Stage → Type 0
+EndsAt None p = p ≡ stage.Idle → ⊥
+EndsAt (Some told) p = p ≡ stage.Idle
 
 -- each was read of its cell, from the key's home on
 abbrev pub WereRead : Shape → View → (k : ℕ) → (seen : List ℕ) → Type 0
@@ -85,20 +85,20 @@ pub record GivesUp (v next : View) : Type 0 where
 abbrev pub HasNoRoom : Shape → View → Type 0
 HasNoRoom z v = (z.rooms.marks ≤ v.marks_used) ⊎ (z.rooms.descriptors ≤ v.next_number)
 
--- ---- at each place
+-- ---- at each stage
 
-abbrev pub Stays : Shape → View → Kind → (k : ℕ) → Sights → Place → Type 0
-Stays z v kind k s place.Idle = IsClear v
-Stays z v kind k s place.Spent = IsClear v × HasNoRoom z v
-Stays z v kind k s (place.Scan l n) = IsLooking z v l × HasSeen z v k s n
-Stays z v kind k s (place.Open o p) = IsPlanned z v kind k s p × IsOpening v (planned s p) o
-Stays z v kind k s (place.Swap w n p) = KnowsOwn v (Some (opened_as n s p)) × Stands z v w × IsPlan kind z.bits k s.entries.items p
+abbrev pub Stays : Shape → View → Kind → (k : ℕ) → Sights → Stage → Type 0
+Stays z v kind k s stage.Idle = IsClear v
+Stays z v kind k s stage.Spent = IsClear v × HasNoRoom z v
+Stays z v kind k s (stage.Scan l n) = IsLooking z v l × HasSeen z v k s n
+Stays z v kind k s (stage.Open o p) = IsPlanned z v kind k s p × IsOpening v (planned s p) o
+Stays z v kind k s (stage.Swap w n p) = KnowsOwn v (Some (opened_as n s p)) × Stands z v w × IsPlan kind z.bits k s.entries.items p
 
--- what is so of a worker at a place
-pub record IsAt (z : Shape) (w : Worker) (p : Place) : Type 0 where
+-- what is so of a worker at a stage
+pub record IsAt (z : Shape) (w : Worker) (p : Stage) : Type 0 where
   pub key : IsKey w.key
   pub room : HasRoom z.bits w.sights
   pub stays : Stays z w.side.known.view w.kind w.key w.sights p
 
 abbrev pub IsWorker : Shape → Worker → Type 0
-IsWorker z w = IsAt z w w.place
+IsWorker z w = IsAt z w w.stage

@@ -4,13 +4,13 @@
 #![tactic(auto)]
 
 mod laws;
-mod place;
+mod stage;
 mod scanning;
 mod sights;
 mod swapping;
 mod worker;
 
 pub use laws::keys_are_done;
-pub use place::{Place, Plan};
+pub use stage::{Plan, Stage};
 pub use sights::Sights;
 pub use worker::{Stepped, Worker};

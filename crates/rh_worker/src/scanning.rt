@@ -1,12 +1,12 @@
 //! Scanning the cells from a key's home on, one Read after the other.
 
 ghost use Rattle.std.specs.Prelude.{◌≡◌, ◌<◌, ◌≤◌, ◌++◌, ℕ, IfSome, List, None, take};
-ghost use Rattle.rh_descriptor.specs.Places.{IsShape};
+ghost use Rattle.rh_descriptor.specs.Parts.{IsShape};
 ghost use Rattle.rh_run.specs.Advance.{Advances};
 ghost use Rattle.rh_worker.specs.Makes.{Makes};
 ghost use Rattle.rh_steps.specs.Relies.{Relies};
 ghost use Rattle.rh_worker.specs.Worker.{IsAt, IsWorker};
-ghost use Rattle.rh_worker.specs.declared.place.Place.TheVariants as place;
+ghost use Rattle.rh_worker.specs.declared.stage.Stage.TheVariants as stage;
 ghost use Rattle.rh_acts.specs.Done.{IsTold, Kept};
 ghost use Rattle.rh_worker.specs.Reading.{HasRead, IsToldAnew, ReadsAnew, TellsAnew, seen_at};
 ghost use Rattle.rh_history.specs.History.{kept_of};
@@ -16,11 +16,11 @@ ghost use Rattle.rh_worker.specs.Sights.{HasRoom, IsPlan};
 ghost use Rattle.rh_worker.specs.declared.sights.Sights.{Sights};
 ghost use Rattle.rh_ledger.specs.declared.tally.Kind.{Kind};
 ghost use Rattle.rh_worker.specs.Worker.{EndsAt, Stays, WereRead};
-ghost use Rattle.rh_descriptor.specs.Places.{cell_count};
+ghost use Rattle.rh_descriptor.specs.Parts.{cell_count};
 ghost use Rattle.rh_layout.specs.Key.{IsKey};
 ghost use Rattle.rh_rule.specs.Sound.{Sound};
 
-use crate::place::{Place, Plan};
+use crate::stage::{Plan, Stage};
 use crate::sights::Decision;
 use crate::worker::Worker;
 use rh_descriptor::{Shape, Side};
@@ -41,7 +41,7 @@ pub(crate) fn scan<T: Steps>(
 ) -> Option<bool>
     requires shape { IsShape shape.now }
     requires relies { Relies T.shows T.serves shape.now table.old worker.old.side.known.view }
-    requires worker { IsAt shape.now worker.old (place.Scan looking seen) }
+    requires worker { IsAt shape.now worker.old (stage.Scan looking seen) }
     ensures makes { Makes T.shows T.made shape.now (kind_of_looking looking) table.old worker.old.side.known.view
         table.new worker.new.side.known.view }
     ensures worker { IsWorker shape.now worker.new }
@@ -49,7 +49,7 @@ pub(crate) fn scan<T: Steps>(
     ensures same_key { worker.new.key ≡ worker.old.key }
     ensures advances { Advances shape.now worker.old.kind worker.old.key worker.old.side.known.view
         worker.new.side.known.view result }
-    ensures ends { EndsAt result worker.new.place }
+    ensures ends { EndsAt result worker.new.stage }
     ensures anew { (before : List Kept) → HasRead shape.now before worker.old.side.known.view worker.old.key
         worker.old.sights.seen.items seen → ReadsAnew shape.now before worker.new ×
         TellsAnew shape.now before worker.old.kind worker.old.key worker.old.side.known.view
@@ -58,7 +58,7 @@ pub(crate) fn scan<T: Steps>(
     let cell = cell_after(shape.cells(), home(shape.bits, worker.key), seen);
     match looking.step(shape, table, &mut worker.side, cell) {
         Looked::On(looking) => {
-            worker.place = Place::Scan { looking, seen };
+            worker.stage = Stage::Scan { looking, seen };
             None
         }
         Looked::Sees(word) => {
@@ -66,7 +66,7 @@ pub(crate) fn scan<T: Steps>(
             decide(worker, shape, seen + 1)
         }
         Looked::Spent => {
-            worker.place = Place::Spent;
+            worker.stage = Stage::Spent;
             None
         }
     }
@@ -86,7 +86,7 @@ fn decide(worker: &mut Worker, shape: &Shape, count: usize) -> Option<bool>
     ensures same_view { worker.new.side.known.view ≡ worker.old.side.known.view }
     ensures same_kind { worker.new.kind ≡ worker.old.kind }
     ensures same_key { worker.new.key ≡ worker.old.key }
-    ensures ends { EndsAt result worker.new.place }
+    ensures ends { EndsAt result worker.new.stage }
     ensures told { IfSome result (IsTold worker.old.kind shape.now.bits
         (kept_of shape.now worker.old.side.known.view) worker.old.key) }
     ensures anew { (before : List Kept) → HasRead shape.now before worker.old.side.known.view worker.old.key
@@ -98,23 +98,23 @@ fn decide(worker: &mut Worker, shape: &Shape, count: usize) -> Option<bool>
         .decide(worker.kind, shape.bits, worker.key, count);
     match decision {
         Decision::Done(answer) => {
-            worker.place = Place::Idle;
+            worker.stage = Stage::Idle;
             Some(answer)
         }
         Decision::Acts(plan) => {
-            worker.place = planned(shape, &worker.side, plan);
+            worker.stage = planned(shape, &worker.side, plan);
             None
         }
         Decision::More => {
             let seen = if count < shape.cells() { count } else { 0 };
-            worker.place = Place::reading(seen);
+            worker.stage = Stage::reading(seen);
             None
         }
     }
 }
 
 /// The first step of an own descriptor, if there is a number left for it and a mark for its work.
-fn planned(shape: &Shape, side: &Side, plan: Plan) -> Place
+fn planned(shape: &Shape, side: &Side, plan: Plan) -> Stage
     requires { Sound shape.now side.now.known.view }
     ensures stays { (kind : Kind) → (k : ℕ) → (s : Sights) → HasRoom shape.now.bits s →
         IsClear side.now.known.view → IsPlan kind shape.now.bits k s.entries.items plan →
@@ -123,11 +123,11 @@ fn planned(shape: &Shape, side: &Side, plan: Plan) -> Place
     ensures unseen { seen_at result ≡ 0 }
 {
     if side.next_number < shape.rooms.descriptors && side.marks_used < shape.rooms.marks {
-        Place::Open {
+        Stage::Open {
             opening: Opening::Serial,
             plan,
         }
     } else {
-        Place::Spent
+        Stage::Spent
     }
 }

@@ -6,7 +6,7 @@ ghost use Rattle.rh_worker.specs.Sights.{AreValued, Decides, HasRoom, worded};
 ghost use Rattle.rh_worker.specs.declared.sights.Decision.TheVariants.{Acts};
 ghost use Rattle.rh_ledger.specs.declared.tally.Kind.TheVariants.{Insert, Remove, Ask};
 
-use crate::place::Plan;
+use crate::stage::Plan;
 use rh_acts::{Insertion, Removal, insert_entries, remove_entries};
 use rh_layout::Entry;
 use rh_ledger::Kind;

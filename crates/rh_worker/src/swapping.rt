@@ -1,18 +1,18 @@
 //! An own descriptor, from its opening to its end.
 
 ghost use Rattle.std.specs.Prelude.{◌≡◌, List, None};
-ghost use Rattle.rh_descriptor.specs.Places.{IsShape};
+ghost use Rattle.rh_descriptor.specs.Parts.{IsShape};
 ghost use Rattle.rh_run.specs.Advance.{Advances};
 ghost use Rattle.rh_worker.specs.Makes.{Makes};
 ghost use Rattle.rh_steps.specs.Relies.{Relies};
 ghost use Rattle.rh_worker.specs.Worker.{EndsAt, GivesUp, IsAt, IsWorker};
 ghost use Rattle.rh_worker.specs.Reading.{HasRead, ReadsAnew};
-ghost use Rattle.rh_worker.specs.declared.place.Place.TheVariants as place;
+ghost use Rattle.rh_worker.specs.declared.stage.Stage.TheVariants as stage;
 ghost use Rattle.rh_acts.specs.Done.{Kept};
 ghost use Rattle.rh_helping.specs.Opening.{kind_of_opening};
 ghost use Rattle.rh_helping.specs.Work.{kind_of_work};
 
-use crate::place::{Place, Plan};
+use crate::stage::{Plan, Stage};
 use crate::worker::Worker;
 use rh_descriptor::{Ref, Shape};
 use rh_helping::{Ended, OpenDesc, Opening, Outcome, Work};
@@ -28,7 +28,7 @@ pub(crate) fn open<T: Steps>(
 )
     requires shape { IsShape shape.now }
     requires relies { Relies T.shows T.serves shape.now table.old worker.old.side.known.view }
-    requires worker { IsAt shape.now worker.old (place.Open opening plan) }
+    requires worker { IsAt shape.now worker.old (stage.Open opening plan) }
     ensures makes { Makes T.shows T.made shape.now (kind_of_opening opening) table.old worker.old.side.known.view
         table.new worker.new.side.known.view }
     ensures worker { IsWorker shape.now worker.new }
@@ -36,7 +36,7 @@ pub(crate) fn open<T: Steps>(
     ensures same_key { worker.new.key ≡ worker.old.key }
     ensures advances { Advances shape.now worker.old.kind worker.old.key worker.old.side.known.view
         worker.new.side.known.view None }
-    ensures ends { EndsAt None worker.new.place }
+    ensures ends { EndsAt None worker.new.stage }
     ensures anew { (before : List Kept) → HasRead shape.now before worker.old.side.known.view worker.old.key
         worker.old.sights.seen.items 0 → ReadsAnew shape.now before worker.new }
 {
@@ -46,9 +46,9 @@ pub(crate) fn open<T: Steps>(
     };
     let entries = &worker.sights.entries[..plan.entries];
     match opening.step(shape, table, &mut worker.side, entries) {
-        Some(opening) => worker.place = Place::Open { opening, plan },
+        Some(opening) => worker.stage = Stage::Open { opening, plan },
         None => {
-            worker.place = Place::Swap {
+            worker.stage = Stage::Swap {
                 work: Work::Control(desc),
                 number: desc.number,
                 plan,
@@ -69,7 +69,7 @@ pub(crate) fn swap<T: Steps>(
 ) -> Option<bool>
     requires shape { IsShape shape.now }
     requires relies { Relies T.shows T.serves shape.now table.old worker.old.side.known.view }
-    requires worker { IsAt shape.now worker.old (place.Swap work number plan) }
+    requires worker { IsAt shape.now worker.old (stage.Swap work number plan) }
     ensures makes { Makes T.shows T.made shape.now (kind_of_work work) table.old worker.old.side.known.view
         table.new worker.new.side.known.view }
     ensures worker { IsWorker shape.now worker.new }
@@ -77,9 +77,9 @@ pub(crate) fn swap<T: Steps>(
     ensures same_key { worker.new.key ≡ worker.old.key }
     ensures advances { Advances shape.now worker.old.kind worker.old.key worker.old.side.known.view
         worker.new.side.known.view result }
-    ensures ends { EndsAt result worker.new.place }
+    ensures ends { EndsAt result worker.new.stage }
     ensures gives_up { GivesUp worker.old.side.known.view worker.new.side.known.view →
-        worker.new.place ≡ place.Spent }
+        worker.new.stage ≡ stage.Spent }
     ensures anew { (before : List Kept) → HasRead shape.now before worker.old.side.known.view worker.old.key
         worker.old.sights.seen.items 0 → ReadsAnew shape.now before worker.new }
 {
@@ -89,19 +89,19 @@ pub(crate) fn swap<T: Steps>(
     };
     match work.step(shape, table, &mut worker.side, Some(open)) {
         Outcome::On(work) => {
-            worker.place = Place::Swap { work, number, plan };
+            worker.stage = Stage::Swap { work, number, plan };
             None
         }
         Outcome::Closed(Ended::Succeeded) => {
-            worker.place = Place::Idle;
+            worker.stage = Stage::Idle;
             Some(plan.changes)
         }
         Outcome::Closed(Ended::Withdrawn) => {
-            worker.place = Place::Spent;
+            worker.stage = Stage::Spent;
             None
         }
         Outcome::Closed(Ended::Failed { .. }) => {
-            worker.place = Place::reading(0);
+            worker.stage = Stage::reading(0);
             None
         }
         Outcome::Over | Outcome::Spent => unreachable!(),

@@ -3,7 +3,7 @@
 ghost use Rattle.std.specs.Prelude.{◌≡◌, ◌↔◌, ◌<◌, ◌⊎◌, ℕ, IfOk, IsTrue, List, []};
 ghost use Rattle.rh_layout.specs.Key.{IsKey};
 ghost use Rattle.rh_world.specs.World.{In};
-ghost use Rattle.rh_descriptor.specs.Places.{IsShape};
+ghost use Rattle.rh_descriptor.specs.Parts.{IsShape};
 ghost use Rattle.rh_descriptor.specs.declared.shape.Shape.{Shape};
 ghost use Rattle.rh_descriptor.specs.View.{new_view, round_view};
 ghost use Rattle.rh_descriptor.specs.Steps.Step.{claims};
@@ -15,9 +15,9 @@ ghost use Rattle.rh_worker.specs.Reading.{ReadsAnew, TellsAnew};
 ghost use Rattle.rh_acts.specs.Done.{Kept};
 ghost use Rattle.rh_history.specs.History.{kept_of};
 ghost use Rattle.rh_helping.specs.Held.{IsHeld};
-ghost use Rattle.rh_worker.specs.declared.place.Place.TheVariants as place;
+ghost use Rattle.rh_worker.specs.declared.stage.Stage.TheVariants as stage;
 
-use crate::place::Place;
+use crate::stage::Stage;
 use crate::sights::Sights;
 use crate::{scanning, swapping};
 use rh_descriptor::{Ask, Shape, Side, StepKind};
@@ -36,7 +36,7 @@ pub struct Worker {
     /// The key that was begun last.
     pub key: u64,
     /// What it does next.
-    pub place: Place,
+    pub stage: Stage,
     /// What it has seen of the table for the key.
     pub sights: Sights,
 }
@@ -60,7 +60,7 @@ impl Worker {
     ) -> Result<Worker, AllocError>
         requires { IsShape shape.now }
         ensures worker { IfOk result (IsWorker shape.now) }
-        ensures idle { IfOk result (λ w. w.place ≡ place.Idle) }
+        ensures idle { IfOk result (λ w. w.stage ≡ stage.Idle) }
         ensures kind { IfOk result (λ w. w.kind ≡ kind) }
         ensures view { IfOk result (λ w. w.side.known.view ≡ new_view cells.now worker) }
     {
@@ -69,23 +69,23 @@ impl Worker {
             side: Side::new(worker, cells),
             kind,
             key: 0,
-            place: Place::Idle,
+            stage: Stage::Idle,
             sights,
         })
     }
 
     /// Whether no key is begun, or the last one is done.
     pub fn is_idle(&self) -> bool
-        ensures { IsTrue result ↔ (self.now.place ≡ place.Idle) }
+        ensures { IsTrue result ↔ (self.now.stage ≡ stage.Idle) }
     {
-        matches!(self.place, Place::Idle)
+        matches!(self.stage, Stage::Idle)
     }
 
     /// Whether no step is left before the next round.
     pub fn is_spent(&self) -> bool
-        ensures { IsTrue result ↔ (self.now.place ≡ place.Spent) }
+        ensures { IsTrue result ↔ (self.now.stage ≡ stage.Spent) }
     {
-        matches!(self.place, Place::Spent)
+        matches!(self.stage, Stage::Spent)
     }
 
     /// The cell where an own mark stands that is not settled yet, or where its descriptor may stand by
@@ -93,39 +93,39 @@ impl Worker {
     pub fn held(&self) -> Option<Owed>
         ensures { (z : Shape) → IsWorker z self.now → IsHeld self.now.side.known.view result }
     {
-        match &self.place {
-            Place::Scan { looking, .. } => looking.held(),
-            Place::Swap { work, .. } => work.held(),
-            Place::Idle | Place::Spent | Place::Open { .. } => None,
+        match &self.stage {
+            Stage::Scan { looking, .. } => looking.held(),
+            Stage::Swap { work, .. } => work.held(),
+            Stage::Idle | Stage::Spent | Stage::Open { .. } => None,
         }
     }
 
     /// Begins a key.
     pub fn begin(&mut self, key: u64)
-        requires idle { self.old.place ≡ place.Idle }
+        requires idle { self.old.stage ≡ stage.Idle }
         requires key { IsKey key }
         ensures worker { (z : Shape) → IsWorker z self.old → IsWorker z self.new }
-        ensures busy { IsBusy self.new.place }
+        ensures busy { IsBusy self.new.stage }
         ensures same_view { self.new.side.known.view ≡ self.old.side.known.view }
         ensures same_kind { self.new.kind ≡ self.old.kind }
         ensures key { self.new.key ≡ key }
         ensures anew { (z : Shape) → ReadsAnew z (kept_of z self.new.side.known.view) self.new }
     {
         self.key = key;
-        self.place = Place::reading(0);
+        self.stage = Stage::reading(0);
     }
 
-    /// Claims the next place of the list of keys, and answers it.
+    /// Claims the next position in the list of keys, and answers it.
     pub fn claim<T: Steps>(&mut self, shape: &Shape, table: &mut T) -> u64
         requires shape { IsShape shape.now }
         requires relies { Relies T.shows T.serves shape.now table.old self.old.side.known.view }
         requires worker { IsWorker shape.now self.old }
-        requires idle { self.old.place ≡ place.Idle }
+        requires idle { self.old.stage ≡ stage.Idle }
         requires keys { (n : ℕ) → In n self.old.side.known.view.side.claims → n < shape.now.keys }
         ensures steps { Went T.shows T.made shape.now claims table.old self.old.side.known.view
             result table.new self.new.side.known.view }
         ensures worker { IsWorker shape.now self.new }
-        ensures idle { self.new.place ≡ place.Idle }
+        ensures idle { self.new.stage ≡ stage.Idle }
         ensures same_kind { self.new.kind ≡ self.old.kind }
         ensures same_key { self.new.key ≡ self.old.key }
     {
@@ -134,18 +134,18 @@ impl Worker {
 
     /// A round begins with these cells, given as words. A spent worker begins its key again.
     pub fn begin_round(&mut self, cells: &[u64])
-        requires { (self.old.place ≡ place.Idle) ⊎ (self.old.place ≡ place.Spent) }
+        requires { (self.old.stage ≡ stage.Idle) ⊎ (self.old.stage ≡ stage.Spent) }
         ensures worker { (z : Shape) → IsWorker z self.old → IsWorker z self.new }
-        ensures idle { self.old.place ≡ place.Idle → self.new.place ≡ place.Idle }
-        ensures again { self.old.place ≡ place.Spent → IsBusy self.new.place }
+        ensures idle { self.old.stage ≡ stage.Idle → self.new.stage ≡ stage.Idle }
+        ensures again { self.old.stage ≡ stage.Spent → IsBusy self.new.stage }
         ensures view { self.new.side.known.view ≡ round_view cells.now self.old.side.known.view }
         ensures same_kind { self.new.kind ≡ self.old.kind }
         ensures same_key { self.new.key ≡ self.old.key }
-        ensures anew { (z : Shape) → self.old.place ≡ place.Spent → ReadsAnew z [] self.new }
+        ensures anew { (z : Shape) → self.old.stage ≡ stage.Spent → ReadsAnew z [] self.new }
     {
         self.side.begin_round(cells);
         if self.is_spent() {
-            self.place = Place::reading(0);
+            self.stage = Stage::reading(0);
         }
     }
 
@@ -155,7 +155,7 @@ impl Worker {
         requires shape { IsShape shape.now }
         requires relies { Relies T.shows T.serves shape.now table.old self.old.side.known.view }
         requires worker { IsWorker shape.now self.old }
-        requires busy { IsBusy self.old.place }
+        requires busy { IsBusy self.old.stage }
         ensures makes { Makes T.shows T.made shape.now result.kind table.old self.old.side.known.view
             table.new self.new.side.known.view }
         ensures worker { IsWorker shape.now self.new }
@@ -163,23 +163,23 @@ impl Worker {
         ensures same_key { self.new.key ≡ self.old.key }
         ensures advances { Advances shape.now self.old.kind self.old.key self.old.side.known.view
             self.new.side.known.view result.done }
-        ensures ends { EndsAt result.done self.new.place }
+        ensures ends { EndsAt result.done self.new.stage }
         ensures gives_up { GivesUp self.old.side.known.view self.new.side.known.view →
-            self.new.place ≡ place.Spent }
+            self.new.stage ≡ stage.Spent }
         ensures anew { (before : List Kept) → ReadsAnew shape.now before self.old →
             ReadsAnew shape.now before self.new × TellsAnew shape.now before self.old.kind self.old.key
             self.old.side.known.view self.new.side.known.view result.done }
     {
-        let place = self.place;
-        let kind = place.kind();
-        let done = match place {
-            Place::Idle | Place::Spent => unreachable!(),
-            Place::Scan { looking, seen } => scanning::scan(self, shape, table, looking, seen),
-            Place::Open { opening, plan } => {
+        let stage = self.stage;
+        let kind = stage.kind();
+        let done = match stage {
+            Stage::Idle | Stage::Spent => unreachable!(),
+            Stage::Scan { looking, seen } => scanning::scan(self, shape, table, looking, seen),
+            Stage::Open { opening, plan } => {
                 swapping::open(self, shape, table, opening, plan);
                 None
             }
-            Place::Swap { work, number, plan } => {
+            Stage::Swap { work, number, plan } => {
                 swapping::swap(self, shape, table, work, number, plan)
             }
         };

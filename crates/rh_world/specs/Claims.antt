@@ -1,4 +1,4 @@
--- The fourth part of the rule: the numbers that the workers took from the shared counter. (own)
+-- The fourth part of the rule: the numbers that the workers took from the shared counter.
 use Rattle.std.specs.Prelude.{zero, suc, ◌≡◌, ℕ, ◌+◌, ◌<◌, ◌≤◌, Bool, false, ◌||◌, nat_le, cond, List, [], ◌∷◌}
 use Rattle.rh_world.specs.World.{World, IsFalling, In}
 use Rattle.rh_world.specs.Sides.{Side}

@@ -1,4 +1,4 @@
--- What a worker may note: facts that stay true, whatever the other workers do. (own)
+-- What a worker may note: facts that stay true, whatever the other workers do.
 use Rattle.std.specs.Prelude.{◌≡◌, ◌≢◌, ℕ, ◌<◌, ◌≤◌}
 use Rattle.rh_world.specs.World.{Ref, Control, World, IsOpened, IsDecided, HasFailed, IsUsed}
 use Rattle.rh_world.specs.World.Cell.{mark, desc}

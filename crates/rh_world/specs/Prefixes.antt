@@ -1,5 +1,5 @@
 -- The third part of the rule: what a worker's failed descriptors and kept reads say of the acts. Each has its own
--- number of acts, its prefix, and along one worker's events these numbers never get smaller. (own)
+-- number of acts, its prefix, and along one worker's events these numbers never get smaller.
 use Rattle.std.specs.Prelude.{◌≡◌, ℕ, ◌<◌, ◌≤◌, Some, List, [], ◌∷◌}
 use Rattle.rh_world.specs.World.{Ref, World, IsOpened, HasFailed, In}
 use Rattle.rh_world.specs.Notes.{Note, HoldsIn, IsPrefix, IsMismatch, part_of}

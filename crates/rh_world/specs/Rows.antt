@@ -1,4 +1,4 @@
--- The first part of the rule: the descriptors of each worker, and who owes what stands in a cell. (own)
+-- The first part of the rule: the descriptors of each worker, and who owes what stands in a cell.
 use Rattle.std.specs.Prelude.{suc, ◌≡◌, ℕ, ◌<◌, ◌≤◌, ◌⊎◌, Some}
 use Rattle.rh_world.specs.World.{Ref, World, IsOpened, IsDecided, IsUsed, In}
 use Rattle.rh_world.specs.World.Cell.{mark, desc}

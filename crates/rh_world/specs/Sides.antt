@@ -1,4 +1,4 @@
--- What each worker has done and knows: its Side. (own)
+-- What each worker has done and knows: its Side.
 use Rattle.std.specs.Prelude.{◌≡◌, ℕ, ◌==◌, ◌&&◌, Option, Some, None, Bool, false, not, List, [], ◌∷◌, filter}
 use Rattle.rh_world.specs.World.{Ref, is_ref}
 use Rattle.rh_world.specs.Notes.{Note}

@@ -1,4 +1,4 @@
-use Rattle.rh_descriptor.proofs.PlaceLemmas.{same_part}
+use Rattle.rh_descriptor.proofs.IndexLemmas.{same_part}
 use Rattle.rh_descriptor.proofs.laws.one_part.Goals as goal
 
 pub returns : goal.returns

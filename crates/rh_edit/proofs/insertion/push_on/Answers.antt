@@ -3,7 +3,7 @@ use Rattle.std.proofs.Math.ListN.{length-set}
 use Rattle.std.proofs.Math.Nat.{mod-lt}
 use Rattle.rh_layout.proofs.RoundLemmas.{place_below, steps_below}
 use Rattle.rh_layout.proofs.LayoutLemmas.{at}
-use Rattle.rh_probe.proofs.PlaceLemmas.{walk_goes_on}
+use Rattle.rh_probe.proofs.ProbeLemmas.{walk_goes_on}
 use Rattle.rh_edit.proofs.PutLemmas.{part_none}
 use Rattle.rh_edit.proofs.PushLemmas.{push_done, push_more}
 use Rattle.rh_edit.proofs.insertion.push_on.Goals as goal

@@ -5,7 +5,7 @@ use Rattle.rh_layout.specs.Order.{home_in}
 use Rattle.rh_layout.proofs.RoundLemmas.{place_below, steps_below}
 use Rattle.rh_layout.proofs.LayoutLemmas.{at}
 use Rattle.rh_probe.specs.Segment.{IsAway}
-use Rattle.rh_probe.proofs.PlaceLemmas.{walk_goes_on}
+use Rattle.rh_probe.proofs.ProbeLemmas.{walk_goes_on}
 use Rattle.rh_edit.proofs.PullLemmas.{pull_none, pull_stops, pull_goes_on}
 use Rattle.rh_edit.proofs.removal.pull_back.Goals as goal
 

@@ -1,5 +1,5 @@
 use Rattle.std.proofs.Common.{arith, refl}
-use Rattle.rh_descriptor.specs.Places.{note_row}
+use Rattle.rh_descriptor.specs.Parts.{note_row}
 use Rattle.rh_helping.specs.Goal.{opened_by}
 use Rattle.rh_helping.specs.declared.work.Outcome.TheVariants.{On}
 use Rattle.rh_helping.specs.declared.work.Work.TheVariants as work

@@ -1,7 +1,7 @@
 use Rattle.std.proofs.Common.{ℕ, inl, subst}
+use Rattle.rh_descriptor.specs.View.{own_ref}
 use Rattle.rh_world.specs.World.{In}
 use Rattle.rh_world.specs.Notes.Note.{known}
-use Rattle.rh_helping.specs.Goal.{own_ref}
 use Rattle.rh_helping.specs.Work.{HasEnded}
 use Rattle.rh_helping.proofs.Owing.{open_all_noted}
 use Rattle.rh_rdcss.proofs.Lending.{stays_first, stays_on}

@@ -57,7 +57,7 @@ returns-in-Some-done-clause-done g c =
     let next = c.step-done.new.self in
     let e = c.step-done.ensures in
     let tells = subst (λ (o : Option Bool). TellsAnew z (kept_of z first) w.kind w.key w.side.known.view next.side.known.view o) c.in-Some-done.is (e.anew (kept_of z first) h.anew).1 in (
-      subst (λ (o : Option Bool). EndsAt o next.place) c.in-Some-done.is e.ends,
+      subst (λ (o : Option Bool). EndsAt o next.stage) c.in-Some-done.is e.ends,
       subst (λ (q : Kind). DoneSo z q c.args.worker.now.key first next.side.known.view c.in-Some-done.told) h.kind
           (subst (λ (n : ℕ). DoneSo z w.kind n first next.side.known.view c.in-Some-done.told) h.key
           (done_so z _ _ w.side.known.view _ next.side.known.view e.makes first w.kind w.key c.in-Some-done.told h.orderly h.acts tells)),
@@ -111,7 +111,7 @@ loop-preserved g c =
       trusts = e.makes.trusts;
       stays = stays_on _ _ _ h.stays e.makes.steps;
       worker = e.worker;
-      busy = busy_on next.place (subst (λ (o : Option Bool). EndsAt o next.place) c.in-None-done.is e.ends) (λ s. true≢false (sym (c.if-is_spent.ensures.1 s)));
+      busy = busy_on next.stage (subst (λ (o : Option Bool). EndsAt o next.stage) c.in-None-done.is e.ends) (λ s. true≢false (sym (c.if-is_spent.ensures.1 s)));
       kind = e.same_kind ∙ h.kind;
       key = e.same_key ∙ h.key;
       who = same_worker _ _ _ _ _ _ e.makes ∙ h.who;

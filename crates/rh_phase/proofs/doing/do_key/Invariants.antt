@@ -13,7 +13,7 @@ invariant-loop g l = record {
   trusts : Trusts Sits l.shape l.here l.worker.side.known.view;
   stays : Stays l.fn.here l.here;
   worker : IsWorker l.shape l.worker;
-  busy : IsBusy l.worker.place;
+  busy : IsBusy l.worker.stage;
   kind : l.worker.kind ≡ l.fn.worker.kind;
   key : l.worker.key ≡ l.fn.worker.key;
   who : l.worker.side.known.view.worker ≡ l.fn.worker.side.known.view.worker;

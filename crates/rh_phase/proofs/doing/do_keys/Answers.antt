@@ -6,7 +6,7 @@ use Rattle.rh_rdcss.proofs.Lending.{stays_on}
 use Rattle.rh_rdcss.specs.Sits.{Sits}
 use Rattle.rh_steps.specs.Relies.{Trusts}
 use Rattle.rh_worker.specs.Worker.{Stays}
-use Rattle.rh_worker.specs.declared.place.Place.TheVariants as place
+use Rattle.rh_worker.specs.declared.stage.Stage.TheVariants as stage
 use Rattle.rh_worker.specs.declared.worker.Worker.{Worker}
 use Rattle.rh_worker.specs.Sights.{HasRoom}
 use Rattle.rh_phase.specs.Keys.{Furthers}
@@ -26,13 +26,13 @@ loop-preserved g c =
     let keys = c.args.keys.now in
     let n = c.next_key.new.hand in
     let begun = c.if-not-next_key.ensures.begun refl in
-    let at = busy_at_key n.worker.place begun.0 in
+    let at = busy_at_key n.worker.stage begun.0 in
     let hand = c.next_key.ensures.hand in
     let w = c.do_key.new.worker in
     let e = c.in-Some-do_key.ensures in
     let then = c.count.new.self in
     let same : then.worker ≡ w = c.count.ensures.worker in
-    let idle : then.worker.place ≡ place.Idle = ap (λ (x : Worker). x.place) same ∙ e.done.0 in
+    let idle : then.worker.stage ≡ stage.Idle = ap (λ (x : Worker). x.stage) same ∙ e.done.0 in
     let clear : IsClear w.side.known.view = subst (Stays z w.side.known.view w.kind w.key w.sights) e.done.0 e.worker.stays in record {
       trusts = subst (λ (x : Worker). Trusts Sits z c.do_key.new.here x.side.known.view) (sym same) e.trusts;
       stays = stays_on _ _ _ (stays_on _ _ _ h.stays c.next_key.ensures.stays) e.stays;
@@ -48,9 +48,9 @@ loop-preserved g c =
         claims = claims_on z n then n.worker.side.known.view _ hand.claims c.count.ensures.ended (ap (λ (x : Worker). x.side.known.view.side.claims) same ∙ e.claims);
       };
       stands = λ past was. stands_done z keys past n then n.worker.side.known.view _ (c.next_key.ensures.stands past (h.stands past was)) n.worker.key
-          (among keys n.place n.worker.key (hand.within at) (hand.at at)) (hand.at at)
+          (among keys n.position n.worker.key (hand.within at) (hand.at at)) (hand.at at)
           (ap (λ (x : Worker). x.kind) same ∙ e.same_kind) (ap (λ (x : Worker). x.side.known.view.side.claims) same ∙ e.claims) (ap (λ (x : Worker). x.side.known.view.opening) same ∙ e.opening)
-          (left_at_key n.worker.place n.place at) c.in-Some-do_key.told
+          (left_at_key n.worker.stage n.position at) c.in-Some-do_key.told
           (subst (λ (x : Worker). Furthers z n.worker.kind n.worker.key n.worker.side.known.view x.side.known.view (Some c.in-Some-do_key.told)) (sym same) e.furthers)
           idle c.count.ensures.changed c.count.ensures.found;
     }
@@ -58,7 +58,7 @@ loop-preserved g c =
 pub returns-in-None-do_key-clause-hand : goal.returns-in-None-do_key-clause-hand
 returns-in-None-do_key-clause-hand g c =
     let n = c.next_key.new.hand in
-    let at = busy_at_key n.worker.place (c.if-not-next_key.ensures.begun refl).0 in
+    let at = busy_at_key n.worker.stage (c.if-not-next_key.ensures.begun refl).0 in
     let hand = c.next_key.ensures.hand in
     let e = c.in-None-do_key.ensures in record {
       key = e.worker.key;
@@ -74,10 +74,10 @@ returns-in-None-do_key-clause-stands g c past was =
     let z = c.args.shape.now in
     let keys = c.args.keys.now in
     let n = c.next_key.new.hand in
-    let at = busy_at_key n.worker.place (c.if-not-next_key.ensures.begun refl).0 in
+    let at = busy_at_key n.worker.stage (c.if-not-next_key.ensures.begun refl).0 in
     let hand = c.next_key.ensures.hand in
     let e = c.in-None-do_key.ensures in
-    let spent : c.do_key.new.worker.place ≡ place.Spent = e.spent.0 in
+    let spent : c.do_key.new.worker.stage ≡ stage.Spent = e.spent.0 in
     stands_left z keys past n _ n.worker.side.known.view _ (c.next_key.ensures.stands past (h.stands past was)) n.worker.key
-    (among keys n.place n.worker.key (hand.within at) (hand.at at)) (hand.at at) e.same_kind e.claims e.opening (left_at_key n.worker.place n.place at)
-    e.furthers (left_at_key c.do_key.new.worker.place n.place (λ idle. let q : place.Spent ≡ place.Idle = sym spent ∙ idle in cc)) refl refl
+    (among keys n.position n.worker.key (hand.within at) (hand.at at)) (hand.at at) e.same_kind e.claims e.opening (left_at_key n.worker.stage n.position at)
+    e.furthers (left_at_key c.do_key.new.worker.stage n.position (λ idle. let q : stage.Spent ≡ stage.Idle = sym spent ∙ idle in cc)) refl refl

@@ -11,6 +11,6 @@ loop-worker-preserved c =
     let more : c.push_back.new.self ≡ c.loop-worker.hands ++ c.in_ok-hand.hand ∷ [] = c.in_ok-push_back.ensures.items in
     record {
       long = ap length more ∙ length_push c.loop-worker.hands c.in_ok-hand.hand ∙ ap (λ n. n + 1) h.long;
-      each = subst (λ (l : List Hand). All (IsNew c.args.shape.now c.args.kind c.args.places) l) (sym more)
-          (All-push (IsNew c.args.shape.now c.args.kind c.args.places) c.loop-worker.hands c.in_ok-hand.hand h.each c.in_ok-hand.ensures);
+      each = subst (λ (l : List Hand). All (IsNew c.args.shape.now c.args.kind c.args.positions) l) (sym more)
+          (All-push (IsNew c.args.shape.now c.args.kind c.args.positions) c.loop-worker.hands c.in_ok-hand.hand h.each c.in_ok-hand.ensures);
     }

@@ -21,16 +21,16 @@ rounds-requires-clause-can g c lifetimes lives =
     let z = c.args.shape in
     let t = c.in-Ok-make.table in
     let e = c.in-Ok-make.ensures in
-    can_begin t c.args.kind c.args.places c.args.cells.now c.args.keys.now (record { seat = c.in-Ok-make.seat; hands = c.in-Ok.hands }) e.all e.fresh
+    can_begin t c.args.kind c.args.positions c.args.cells.now c.args.keys.now (record { seat = c.in-Ok-make.seat; hands = c.in-Ok.hands }) e.all e.fresh
     (subst (λ (y : Shape). views_of c.in-Ok-make.seat ≡ first_view y (map plain_number c.args.cells.now)) (sym e.shape) e.views)
-    (subst (λ (y : Shape). AreNew y c.args.kind c.args.places c.in-Ok.hands) (sym e.shape) c.in-Ok.ensures)
+    (subst (λ (y : Shape). AreNew y c.args.kind c.args.positions c.in-Ok.hands) (sym e.shape) c.in-Ok.ensures)
     (ap (λ (y : Shape). y.keys) e.shape ∙ c.requires.list) c.requires.keys
 
 pub returns-clause-made : goal.returns-clause-made
 returns-clause-made g c =
     let z = c.args.shape in
     let kind = c.args.kind in
-    let places = c.args.places in
+    let positions = c.args.positions in
     let cells = c.args.cells.now in
     let keys = c.args.keys.now in
     let t = c.in-Ok-make.table in
@@ -40,13 +40,13 @@ returns-clause-made g c =
     let h = c.in-Ok-rounds.ensures.done in
     let list : t.shape.keys ≡ length keys = ap (λ (y : Shape). y.keys) e.shape ∙ c.requires.list in
     let bits : t.shape.bits ≡ z.bits = ap (λ (y : Shape). y.bits) e.shape in
-    let comes : Comes t.shape kind places cells keys (views_of then.seat) then.hands = h.comes kind places cells
-    (comes_first t kind places cells keys crew e.all e.fresh
+    let comes : Comes t.shape kind positions cells keys (views_of then.seat) then.hands = h.comes kind positions cells
+    (comes_first t kind positions cells keys crew e.all e.fresh
     (subst (λ (y : Shape). views_of crew.seat ≡ first_view y (map plain_number cells)) (sym e.shape) e.views)
-    (subst (λ (y : Shape). AreNew y kind places crew.hands) (sym e.shape) c.in-Ok.ensures)
+    (subst (λ (y : Shape). AreNew y kind positions crew.hands) (sym e.shape) c.in-Ok.ensures)
     list c.requires.keys (c.requires.layout.size ∙ ap (λ (b : ℕ). 2 ^ b) (sym bits))) in
-    subst (λ (b : ℕ). HasMade b kind places (keys_of cells) keys c.close.new.cells then.hands) bits
-    (has_made t.shape kind places cells keys (views_of then.seat) then.hands c.close.new.cells (all_some t then.seat h.all) (all_spans t then.seat h.all) (h.crew.long ∙ h.all.count)
+    subst (λ (b : ℕ). HasMade b kind positions (keys_of cells) keys c.close.new.cells then.hands) bits
+    (has_made t.shape kind positions cells keys (views_of then.seat) then.hands c.close.new.cells (all_some t then.seat h.all) (all_spans t then.seat h.all) (h.crew.long ∙ h.all.count)
     comes c.close.ensures list h.finished h.crew.hands
     (subst (λ (b : ℕ). Layout cells b (keys_of cells)) (sym bits) c.requires.layout)
     (subst (λ (b : ℕ). LeavesRoom kind b (keys_of cells) keys) (sym bits) (leaves_room kind z.bits (keys_of cells) keys c.requires.room))

@@ -9,6 +9,6 @@ abbrev pub invariant-loop : goal.invariant-loop
 invariant-loop g l = record {
   can : CanWork l.table l.keys l.crew;
   all : HasAll l.table l.crew.seat;
-  comes : (kind : Kind) (places : ℕ) (opening : List ℕ) → Comes l.table.shape kind places opening l.keys (views_of l.fn.crew.seat) l.fn.crew.hands
-      → Comes l.table.shape kind places opening l.keys (views_of l.crew.seat) l.crew.hands;
+  comes : (kind : Kind) (positions : ℕ) (opening : List ℕ) → Comes l.table.shape kind positions opening l.keys (views_of l.fn.crew.seat) l.fn.crew.hands
+      → Comes l.table.shape kind positions opening l.keys (views_of l.crew.seat) l.crew.hands;
 }

@@ -30,7 +30,7 @@ returns-clause-added g c =
 pub returns-in_err-tally-clause-refused : goal.returns-in_err-tally-clause-refused
 returns-in_err-tally-clause-refused g c files known =
     let p = err_from_is_err_and c.from_residual-in_err-tally.result c.from_residual-in_err-tally.ensures.1 in
-    let found = bytes_at files c.args.list.now.place in
+    let found = bytes_at files c.args.list.now.source in
     let count = c.args.list.now.count in
     let failed : Type 0 = Rose (g.S.Shelf.failures c.args.shelf.now) (g.S.Shelf.failures c.open_list.new.shelf) in
     let starts = g.N.Runner.refused_starts c.args.runner.now in
@@ -47,7 +47,7 @@ returns-in_err-tally-clause-refused g c files known =
 pub returns-in_err-bits-clause-refused : goal.returns-in_err-bits-clause-refused
 returns-in_err-bits-clause-refused g c files known =
     let p = err_from_is_err_and c.from_residual-in_err-bits.result c.from_residual-in_err-bits.ensures.1 in
-    let found = bytes_at files c.args.list.now.place in
+    let found = bytes_at files c.args.list.now.source in
     let count = c.args.list.now.count in
     let failed : Type 0 = Rose (g.S.Shelf.failures c.args.shelf.now) (g.S.Shelf.failures c.open_list.new.shelf) in
     let starts = g.N.Runner.refused_starts c.args.runner.now in
@@ -61,11 +61,11 @@ returns-in_err-bits-clause-refused g c files known =
 pub returns-in_err-keys-clause-refused : goal.returns-in_err-keys-clause-refused
 returns-in_err-keys-clause-refused g c files known =
     let p = err_from_is_err_and c.from_residual-in_err-keys.result c.from_residual-in_err-keys.ensures.1 in
-    let found = bytes_at files c.args.list.now.place in
+    let found = bytes_at files c.args.list.now.source in
     rw (p.1, p.2) (not_again _ files known _ _ c.args.list.now.count c.in_ok-reader.ensures.opened (λ n. size_for c.args.set.now.bits (set.len c.args.set.now.keys + n) >>= (λ size. keys_found found >>= (λ _. Ok size))) _ _ _ c.in_err-keys.ensures.refused)
 
 pub returns-in_err-reader-clause-refused : goal.returns-in_err-reader-clause-refused
 returns-in_err-reader-clause-refused g c files known =
     let p = err_from_is_err_and c.from_residual.result c.from_residual.ensures.1 in
-    let found = bytes_at files c.args.list.now.place in
+    let found = bytes_at files c.args.list.now.source in
     rw (p.1, p.2) (not_opened found c.args.list.now.count (λ n. size_for c.args.set.now.bits (set.len c.args.set.now.keys + n) >>= (λ size. keys_found found >>= (λ _. Ok size))) _ _ _ (c.in_err-reader.ensures.refused files known))

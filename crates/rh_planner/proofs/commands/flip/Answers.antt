@@ -27,7 +27,7 @@ returns-in_err-bits-clause-refused g c files known =
     let want : set.len rest.keys + c.in_ok-rest.absent ≡ flipped_most S first.0 = omega (arith, ap (λ (T : Keys). set.len T) first.2.held, first.3) in
     let size = ap (λ b. size_for b (set.len rest.keys + c.in_ok-rest.absent)) first.2.size in
     rw (p.1, p.2)
-    (later_refused (keys_again c.args.list.now.count (bytes_at files c.args.list.now.place)) (λ keys. size_for bits (flipped_most S keys)) _ failed refused first.0 again
+    (later_refused (keys_again c.args.list.now.count (bytes_at files c.args.list.now.source)) (λ keys. size_for bits (flipped_most S keys)) _ failed refused first.0 again
     (size_refused bits (set.len rest.keys) c.in_ok-rest.absent (flipped_most S first.0) failed refused _ want (subst (λ r. RefusedBy r MemoryFails c.in_err-bits.field-0.0) size c.in_err-bits.ensures.refused)))
 
 pub returns-in_err-added-clause-refused : goal.returns-in_err-added-clause-refused
@@ -38,6 +38,6 @@ returns-in_err-added-clause-refused g c files known =
     let why = c.in_err-added.ensures.refused files (c.in_ok-rest.ensures.shelf.same_files ∙ known) in
     rw (p.1, p.2)
     (inr (met_later _ _ _ _ _ _ _ c.in_ok-rest.ensures.shelf.fine c.in_ok-rest.ensures.runner.fine
-    (same_again (keys_again c.args.list.now.count (bytes_at files c.args.list.now.place)) first.0 (chosen false c.args.set.now.keys) c.in_ok-rest.absent
+    (same_again (keys_again c.args.list.now.count (bytes_at files c.args.list.now.source)) first.0 (chosen false c.args.set.now.keys) c.in_ok-rest.absent
     (Rose (g.S.Shelf.failures c.without_listed.new.shelf) (g.S.Shelf.failures c.insert_listed.new.shelf))
     (Rose (g.N.Runner.refused_starts c.without_listed.new.runner) (g.N.Runner.refused_starts c.insert_listed.new.runner)) _ again (sym first.3) why)))

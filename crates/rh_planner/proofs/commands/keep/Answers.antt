@@ -27,7 +27,7 @@ returns-in_err-bits-clause-refused g c files known =
     let want : set.len c.in_ok-empty.empty.keys + c.in_ok-found.found ≡ length (chosen true S first.0) = omega (arith, nothing_held c.in_ok-empty.empty.keys c.in_ok-empty.ensures.keys, first.2) in
     let size = ap (λ b. size_for b (set.len c.in_ok-empty.empty.keys + c.in_ok-found.found)) c.in_ok-empty.ensures.bits in
     rw (p.1, p.2)
-    (later_refused (keys_again c.args.list.now.count (bytes_at files c.args.list.now.place)) (λ keys. size_for MIN_BITS (length (chosen true S keys))) _ failed refused first.0 again
+    (later_refused (keys_again c.args.list.now.count (bytes_at files c.args.list.now.source)) (λ keys. size_for MIN_BITS (length (chosen true S keys))) _ failed refused first.0 again
     (size_refused MIN_BITS (set.len c.in_ok-empty.empty.keys) c.in_ok-found.found (length (chosen true S first.0)) failed refused _ want (subst (λ r. RefusedBy r MemoryFails c.in_err-bits.field-0.0) size c.in_err-bits.ensures.refused)))
 
 pub returns-in_err-insert_listed-clause-refused : goal.returns-in_err-insert_listed-clause-refused
@@ -39,7 +39,7 @@ returns-in_err-insert_listed-clause-refused g c files known =
     let why = c.in_err-insert_listed.ensures.refused files (c.in_ok-found.ensures.shelf.same_files ∙ known) in
     rw (p.1, p.2)
     (inr (met_later _ _ _ _ _ _ _ c.in_ok-found.ensures.shelf.fine c.in_ok-found.ensures.runner.fine
-    (same_again (keys_again c.args.list.now.count (bytes_at files c.args.list.now.place)) first.0 (chosen true S) c.in_ok-found.found
+    (same_again (keys_again c.args.list.now.count (bytes_at files c.args.list.now.source)) first.0 (chosen true S) c.in_ok-found.found
     (Rose (g.S.Shelf.failures c.count_found.new.shelf) (g.S.Shelf.failures c.insert_listed.new.shelf))
     (Rose (g.N.Runner.refused_starts c.count_found.new.runner) (g.N.Runner.refused_starts c.insert_listed.new.runner)) _ again (sym first.2) why)))
 

@@ -4,7 +4,7 @@ use Rattle.rh_files.specs.Counting.{Rose}
 use Rattle.rh_script.specs.Instruction.{Use}
 use Rattle.rh_planner.specs.Outside.{IsOutside}
 use Rattle.rh_planner.specs.declared.key_lists.KeyList.{KeyList}
-use Rattle.rh_planner.specs.declared.key_lists.Place.TheVariants.{Path}
+use Rattle.rh_planner.specs.declared.key_lists.Source.TheVariants.{Path}
 use Rattle.rh_planner.specs.KeyLists.{Stands}
 use Rattle.rh_planner.specs.Steps.{ListsStand}
 use Rattle.rh_planner.proofs.FileLemmas.{known_files, same_keys}
@@ -38,7 +38,7 @@ returns-clause-step g c set named files has stand =
     let known = known_files files before has in
     let same = same_keys files before known.0 known.1 has path in
     let used = c.in_ok-count.ensures.used known.0 known.1 in
-    let list : KeyList = record { place = Path c.args.path; count = c.in_ok-count.count } in
+    let list : KeyList = record { source = Path c.args.path; count = c.in_ok-count.count } in
     let new : Stands (Some known.0) list used.0 = (used.1, used.2) in
     let here : Stands before list used.0 = subst (λ now. Stands now list used.0) (sym known.1) new in
     let pushed : c.push.new.self.items ≡ c.args.lists.now.items ++ list ∷ [] = search rules in
@@ -47,6 +47,6 @@ returns-clause-step g c set named files has stand =
 
 pub returns-clause-paths : goal.returns-clause-paths
 returns-clause-paths g c =
-    let list : KeyList = record { place = Path c.args.path; count = c.in_ok-count.count } in
+    let list : KeyList = record { source = Path c.args.path; count = c.in_ok-count.count } in
     let pushed : c.push.new.self.items ≡ c.args.lists.now.items ++ list ∷ [] = search rules in
     paths_more c.args.lists.now.items _ list pushed

@@ -1,6 +1,6 @@
 use Rattle.std.proofs.Common.{ℕ, List, [], ◌++◌, sym, ap, ◌∙◌, subst, append-nil, append_assoc}
 use Rattle.rh_descriptor.specs.declared.shape.Shape.{Shape}
-use Rattle.rh_descriptor.specs.Places.{cell_count}
+use Rattle.rh_descriptor.specs.Parts.{cell_count}
 use Rattle.rh_play_run.specs.Schedule.{Follows}
 use Rattle.rh_play_run.proofs.Following.{all_followed, orders_from}
 use Rattle.rh_play_run.proofs.Keeping.{order_keeps}

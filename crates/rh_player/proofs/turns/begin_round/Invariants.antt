@@ -1,5 +1,5 @@
 use Rattle.std.proofs.Common.{◌≡◌, ℕ, ◌<◌, ◌≤◌, length, take, get_or}
-use Rattle.rh_descriptor.specs.Places.{cell_count}
+use Rattle.rh_descriptor.specs.Parts.{cell_count}
 use Rattle.rh_turns.specs.declared.hand.Hand.{Hand}
 use Rattle.rh_turns.specs.Laws.{Begins}
 use Rattle.rh_player.proofs.turns.begin_round.Given as goal

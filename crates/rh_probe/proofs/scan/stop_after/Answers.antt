@@ -1,5 +1,5 @@
 use Rattle.std.proofs.Common.{rules, ◌≡◌, true}
-use Rattle.rh_probe.proofs.PlaceLemmas.{away_more}
+use Rattle.rh_probe.proofs.ProbeLemmas.{away_more}
 use Rattle.rh_probe.proofs.scan.stop_after.Goals as goal
 
 pub loop-j-preserved : goal.loop-j-preserved

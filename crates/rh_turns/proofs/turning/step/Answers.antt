@@ -7,7 +7,7 @@ use Rattle.rh_turns.proofs.turning.step.Goals as goal
 
 pub returns-in-Some-clause-hand : goal.returns-in-Some-clause-hand
 returns-in-Some-clause-hand c =
-    let idle = subst (λ (d : Option Bool). EndsAt d c.step-stepped.new.self.place) c.in-Some.is c.step-stepped.ensures.ends in
+    let idle = subst (λ (d : Option Bool). EndsAt d c.step-stepped.new.self.stage) c.in-Some.is c.step-stepped.ensures.ends in
     record {
       worker = c.step-stepped.ensures.worker;
       kind_is = c.step-stepped.ensures.same_kind ∙ c.requires.hand.kind_is;
@@ -18,7 +18,7 @@ returns-in-Some-clause-hand c =
 
 pub returns-in_default-clause-hand : goal.returns-in_default-clause-hand
 returns-in_default-clause-hand c =
-    let busy = subst (λ (d : Option Bool). EndsAt d c.step-stepped.new.self.place) c.in_default.is c.step-stepped.ensures.ends in
+    let busy = subst (λ (d : Option Bool). EndsAt d c.step-stepped.new.self.stage) c.in_default.is c.step-stepped.ensures.ends in
     record {
       worker = c.step-stepped.ensures.worker;
       kind_is = c.step-stepped.ensures.same_kind ∙ c.requires.hand.kind_is;
@@ -33,7 +33,7 @@ returns-in-Some-clause-steps c =
     let h = c.args.hand.now in
     let at = at_key c.args.keys.now h c.requires.busy c.requires.hand.key in
     record {
-      unspent = busy_not_spent h.worker.place c.requires.busy;
+      unspent = busy_not_spent h.worker.stage c.requires.busy;
       within = at.within;
       next_key = next_of c.args.shape.now c.args.keys.now h c.requires.busy h.share c.requires.hand.share;
       makes = makes_so _ _ _ _ _ _ c.step-stepped.ensures.makes;
@@ -43,7 +43,7 @@ returns-in-Some-clause-steps c =
       gives_up = c.step-stepped.ensures.gives_up;
       share = refl;
       counts = (refl, ap (λ (n : ℕ). h.changed + n) (c.from.ensures ∙ byte_is c.in-Some.told));
-      told_is = ap (λ (p : ℕ). set c.args.answers.now p (Some c.in-Some.told)) c.place-place.ensures;
+      told_is = ap (λ (p : ℕ). set c.args.answers.now p (Some c.in-Some.told)) c.position-position.ensures;
     }
 
 pub returns-in_default-clause-steps : goal.returns-in_default-clause-steps
@@ -51,7 +51,7 @@ returns-in_default-clause-steps c =
     let h = c.args.hand.now in
     let at = at_key c.args.keys.now h c.requires.busy c.requires.hand.key in
     record {
-      unspent = busy_not_spent h.worker.place c.requires.busy;
+      unspent = busy_not_spent h.worker.stage c.requires.busy;
       within = at.within;
       next_key = next_of c.args.shape.now c.args.keys.now h c.requires.busy h.share c.requires.hand.share;
       makes = makes_so _ _ _ _ _ _ c.step-stepped.ensures.makes;

@@ -2,8 +2,8 @@ use Rattle.std.proofs.Common.{ℕ, ◌≤◌, List, length, length-take, rules, 
 use Rattle.rh_helping.specs.declared.looking.Looking.TheVariants as looking
 use Rattle.rh_worker.specs.Worker.{Stays}
 use Rattle.rh_worker.specs.Reading.{HasRead, seen_at}
-use Rattle.rh_worker.specs.declared.place.Place.{Place}
-use Rattle.rh_worker.specs.declared.place.Place.TheVariants as place
+use Rattle.rh_worker.specs.declared.stage.Stage.{Stage}
+use Rattle.rh_worker.specs.declared.stage.Stage.TheVariants as stage
 use Rattle.rh_worker.proofs.Anew.{front_read, left_off}
 use Rattle.rh_worker.proofs.Scans.{none_seen, seen_again, told_is}
 use Rattle.rh_worker.proofs.scanning.decide.Goals.{then-count-cells, else-count-cells}
@@ -25,9 +25,9 @@ returns-after-count-cells-clause-worker c =
       key = c.requires.key;
       room = c.in-More.ensures.room;
       stays = subst (Stays z v w.kind w.key t) (sym c.reading-worker.ensures) (elim c.if-count-cells.branch [
-        | then-count-cells b ↦ subst (λ n. Stays z v w.kind w.key t (place.Scan looking.Read n)) (sym b.seen-is)
+        | then-count-cells b ↦ subst (λ n. Stays z v w.kind w.key t (stage.Scan looking.Read n)) (sym b.seen-is)
             (c.requires.clear, seen_again z v w.key w.sights t c.args.count (omega arith) c.in-More.ensures.seen c.requires.were_read)
-        | else-count-cells b ↦ subst (λ n. Stays z v w.kind w.key t (place.Scan looking.Read n)) (sym b.seen-is) (c.requires.clear, none_seen z v w.key t (search rules))
+        | else-count-cells b ↦ subst (λ n. Stays z v w.kind w.key t (stage.Scan looking.Read n)) (sym b.seen-is) (c.requires.clear, none_seen z v w.key t (search rules))
       ]);
     }
 
@@ -54,7 +54,7 @@ returns-after-count-cells-clause-anew c before h =
     let v = w.side.known.view in
     let t = c.decide-decision.new.self in
     let same = c.in-More.ensures.seen in (
-      subst (λ (p : Place). HasRead z before v w.key t.seen.items (seen_at p)) (sym c.reading-worker.ensures) (elim c.if-count-cells.branch [
+      subst (λ (p : Stage). HasRead z before v w.key t.seen.items (seen_at p)) (sym c.reading-worker.ensures) (elim c.if-count-cells.branch [
         | then-count-cells b ↦ subst (HasRead z before v w.key t.seen.items) (sym b.seen-is) (subst (λ (l : List ℕ). HasRead z before v w.key l c.args.count) (sym same) h)
         | else-count-cells b ↦ subst (HasRead z before v w.key t.seen.items) (sym b.seen-is) (left_off z before v w.key w.sights.seen.items t.seen.items c.args.count h)
       ]),

@@ -1,7 +1,7 @@
 use Rattle.std.proofs.Common.{suc, ◌≡◌, ◌+◌, ◌∙◌, inl, rules, set, subst, sym, arith}
 use Rattle.rh_layout.specs.Order.{home_of}
 use Rattle.rh_layout.specs.Round.{place_after}
-use Rattle.rh_descriptor.specs.Places.{cell_count}
+use Rattle.rh_descriptor.specs.Parts.{cell_count}
 use Rattle.rh_descriptor.specs.View.{View}
 use Rattle.rh_run.specs.Advance.{GoesOn}
 use Rattle.rh_helping.specs.declared.looking.Looked.TheVariants.{On, Sees}

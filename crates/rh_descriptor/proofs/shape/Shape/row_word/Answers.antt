@@ -1,11 +1,11 @@
 use Rattle.std.proofs.Common.{◌<◌, arith}
-use Rattle.rh_descriptor.specs.Places.{row_count, row_place, word_count}
-use Rattle.rh_descriptor.proofs.PlaceLemmas.{row_inside}
+use Rattle.rh_descriptor.specs.Parts.{row_count, row_index, word_count}
+use Rattle.rh_descriptor.proofs.IndexLemmas.{row_inside}
 use Rattle.rh_descriptor.proofs.shape.Shape.row_word.Goals as goal
 
 pub returns-clause-within : goal.returns-clause-within
 returns-clause-within c =
     let z = c.args.self.now in
     let inside = row_inside c.args.worker z.workers c.args.row (row_count z) c.requires.worker c.requires.row in
-    let fits : row_place z c.args.worker c.args.row < word_count z = omega (arith, inside) in
+    let fits : row_index z c.args.worker c.args.row < word_count z = omega (arith, inside) in
     rw (c.cells.ensures, c.rows.ensures) fits

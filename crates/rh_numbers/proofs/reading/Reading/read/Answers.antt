@@ -12,5 +12,5 @@ returns-in_err-step-clause-read c =
     let old = c.args.self.now in
     rw (p.1, p.2) (λ rest.
     subst (Stops c.in_err-step.field-0.0)
-    (sym (ap (keys_from old.keys.items old.line old.place) (at_place bytes rest i (search rules)) ∙ c.loop-b.invariant.read (get_or bytes i 0 ∷ (drop (suc i) bytes ++ rest))))
+    (sym (ap (keys_from old.keys.items old.line old.so_far) (at_place bytes rest i (search rules)) ∙ c.loop-b.invariant.read (get_or bytes i 0 ∷ (drop (suc i) bytes ++ rest))))
     (c.in_err-step.ensures.read (drop (suc i) bytes ++ rest)))

@@ -4,7 +4,7 @@ use Rattle.rh_layout.specs.Key.{IsKey}
 use Rattle.rh_layout.specs.Layout.{IsLayout, keys_of}
 use Rattle.rh_acts.specs.Workers.{LeavesRoom}
 use Rattle.rh_descriptor.specs.declared.shape.Shape.{Shape}
-use Rattle.rh_descriptor.specs.Places.{IsShape}
+use Rattle.rh_descriptor.specs.Parts.{IsShape}
 use Rattle.rh_player.specs.SetUp.{AreDealt}
 use Rattle.rh_player.specs.Start.{are_keys, joined}
 use Rattle.rh_player.proofs.Starting.{all_keys, has_room, is_shape, made_none, no_fault, pieces_are, refuses_key, refuses_memory}

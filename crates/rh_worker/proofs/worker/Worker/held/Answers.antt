@@ -2,19 +2,19 @@ use Rattle.std.proofs.Common.{subst, sym}
 use Rattle.rh_helping.specs.Held.{IsHeld}
 use Rattle.rh_helping.proofs.HeldCells.{looking_held, work_held}
 use Rattle.rh_worker.specs.Worker.{Stays}
-use Rattle.rh_worker.specs.declared.place.Place.{Place}
+use Rattle.rh_worker.specs.declared.stage.Stage.{Stage}
 use Rattle.rh_worker.proofs.worker.Worker.held.Goals as goal
 
 pub returns-in-Scan : goal.returns-in-Scan
 returns-in-Scan c z worker =
     let w = c.args.self.now in
     let v = w.side.known.view in
-    let stays = subst (λ (p : Place). Stays z v w.kind w.key w.sights p) c.in-Scan.is worker.stays in
+    let stays = subst (λ (p : Stage). Stays z v w.kind w.key w.sights p) c.in-Scan.is worker.stays in
     subst (IsHeld v) (sym c.held.ensures) (looking_held z v c.in-Scan.looking stays.0)
 
 pub returns-in-Swap : goal.returns-in-Swap
 returns-in-Swap c z worker =
     let w = c.args.self.now in
     let v = w.side.known.view in
-    let stays = subst (λ (p : Place). Stays z v w.kind w.key w.sights p) c.in-Swap.is worker.stays in
+    let stays = subst (λ (p : Stage). Stays z v w.kind w.key w.sights p) c.in-Swap.is worker.stays in
     subst (IsHeld v) (sym c.held-in-Swap.ensures) (work_held z v c.in-Swap.work stays.1)

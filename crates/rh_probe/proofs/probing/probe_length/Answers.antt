@@ -2,8 +2,8 @@ use Rattle.std.proofs.Common.{rules, ◌≡◌, ◌+◌, ◌^◌, ◌<◌, lengt
 use Rattle.std.proofs.Math.Nat.{mod-lt}
 use Rattle.rh_layout.specs.Order.{home_of}
 use Rattle.rh_layout.proofs.LayoutLemmas.{low_of}
-use Rattle.rh_probe.proofs.PlaceLemmas.{walk_starts, walk_goes_on, passed_more, passed_all}
-use Rattle.rh_probe.proofs.place.place_for.Goals as goal
+use Rattle.rh_probe.proofs.ProbeLemmas.{walk_starts, walk_goes_on, passed_more, passed_all}
+use Rattle.rh_probe.proofs.probing.probe_length.Goals as goal
 
 pub loop-i-init : goal.loop-i-init
 loop-i-init c = record {

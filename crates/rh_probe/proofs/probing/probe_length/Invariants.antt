@@ -1,8 +1,8 @@
 use Rattle.std.proofs.Common.{◌≡◌, ◌<◌, ◌^◌}
 use Rattle.rh_layout.specs.Round.{place_after}
 use Rattle.rh_layout.specs.Order.{home_of}
-use Rattle.rh_probe.proofs.PlaceLemmas.{IsPassed}
-use Rattle.rh_probe.proofs.place.place_for.Given as goal
+use Rattle.rh_probe.proofs.ProbeLemmas.{IsPassed}
+use Rattle.rh_probe.proofs.probing.probe_length.Given as goal
 
 abbrev pub invariant-loop-i : goal.invariant-loop-i
 invariant-loop-i l = record {

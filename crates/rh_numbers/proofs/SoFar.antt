@@ -1,4 +1,4 @@
--- What each place says of the line before it.
+-- What is so of a line of which the reader has come so far.
 use Rattle.std.proofs.Common.{◌≡◌, ℕ, ◌+◌, ◌-◌, ◌*◌, ◌<◌, ◌≤◌, min, true, List, [], ◌∷◌, ◌++◌, Option, Some, None, refl, sym, ap, subst, ◌∙◌, arith, append_assoc, append-nil, length-append}
 use Rattle.std.specs.Prelude.{fold, nat_le}
 use Rattle.std.specs.Char.{digit_value, is_ascii_digit}
@@ -7,8 +7,8 @@ use Rattle.std.proofs.lemmas.Bool.{and_parts, cond_both, eqb-true, leb-true}
 use Rattle.std.proofs.lemmas.Int.Digits.{digits_push, digits_value_push}
 use Rattle.std.proofs.lemmas.Str.{digit_value_digit}
 use Rattle.rh_layout.specs.declared.limits.TheConstants.{MAX_KEY}
-use Rattle.rh_numbers.specs.declared.place.Place.{Place}
-use Rattle.rh_numbers.specs.declared.place.Place.TheVariants.{Start, Blank, Comment, Number, After, Return, Other}
+use Rattle.rh_numbers.specs.declared.line_so_far.LineSoFar.{LineSoFar}
+use Rattle.rh_numbers.specs.declared.line_so_far.LineSoFar.TheVariants.{Start, Blank, Comment, Number, After, Return, Other}
 use Rattle.rh_numbers.specs.Grammar.{AreSpaces}
 use Rattle.rh_numbers.specs.Reading.{first, grown, next, past}
 
@@ -40,7 +40,7 @@ Said (Some n) line = Numeral n line
 abbrev pub Returned : Option ℕ → List ℕ → Type 0
 Returned said line = (front : List ℕ) × (line ≡ front ++ (13 ∷ [])) × Said said front
 
-abbrev pub Means : Place → List ℕ → Type 0
+abbrev pub Means : LineSoFar → List ℕ → Type 0
 Means Start line = line ≡ []
 Means Blank line = AreSpaces line
 Means Comment line = (rest : List ℕ) × (line ≡ 35 ∷ rest)
@@ -101,18 +101,18 @@ next_space n line b m is = record {
   spaces = spaces_push m.after b m.spaces is;
 }
 
-means_past : (blank : Place) (said : Option ℕ) (line : List ℕ) (b : ℕ) → Said said line → (b ≡ 32 → Means blank (line ++ (b ∷ []))) → Means (past blank said b) (line ++ (b ∷ []))
+means_past : (blank : LineSoFar) (said : Option ℕ) (line : List ℕ) (b : ℕ) → Said said line → (b ≡ 32 → Means blank (line ++ (b ∷ []))) → Means (past blank said b) (line ++ (b ∷ []))
 means_past spaced said line b told space =
-    let P : Place → Type 0 = λ p. Means p (line ++ (b ∷ [])) in
+    let P : LineSoFar → Type 0 = λ p. Means p (line ++ (b ∷ [])) in
     cond_both _ _ _ P (λ is. space (eqb-true b 32 is)) (λ _. cond_both _ _ _ P (λ is. let back : Returned said (line ++ (b ∷ [])) = (line, ap (λ c. line ++ (c ∷ [])) (eqb-true b 13 is), told) in back) (λ _. tt))
 
 means_first : (line : List ℕ) (b : ℕ) → AreSpaces line → Means (first b) (line ++ (b ∷ []))
 means_first line b spaces =
     cond_both _ _ _ (λ p. Means p (line ++ (b ∷ []))) (first_digit line b spaces) (λ _. means_past Blank None line b spaces (spaces_push line b spaces))
 
-pub means_next : (place : Place) (line : List ℕ) (b : ℕ) → Means place line → Means (next place b) (line ++ (b ∷ []))
+pub means_next : (so_far : LineSoFar) (line : List ℕ) (b : ℕ) → Means so_far line → Means (next so_far b) (line ++ (b ∷ []))
 means_next Start line b told =
-    let P : Place → Type 0 = λ p. Means p (line ++ (b ∷ [])) in
+    let P : LineSoFar → Type 0 = λ p. Means p (line ++ (b ∷ [])) in
     let none : AreSpaces line = subst AreSpaces (sym told) tt in
     cond_both _ _ _ P (λ is. let begun : (rest : List ℕ) × (line ++ (b ∷ []) ≡ 35 ∷ rest) = ([], ap (λ l. l ++ (b ∷ [])) told ∙ ap (λ c. c ∷ []) (eqb-true b 35 is)) in begun) (λ _. means_first line b none)
 means_next Blank line b told = means_first line b told
@@ -124,8 +124,8 @@ means_next (After n) line b told = means_past (After n) (Some n) line b told (ne
 means_next (Return said) line b told = tt
 means_next Other line b told = tt
 
--- what the whole line says of the place after it
-pub means_after : (place : Place) (done line : List ℕ) → Means place done → Means (fold next place line) (done ++ line)
-means_after place done [] told = subst (Means place) (sym (append-nil done)) told
-means_after place done (b ∷ line) told =
-    subst (Means (fold next (next place b) line)) (append_assoc done (b ∷ []) line) (means_after (next place b) (done ++ (b ∷ [])) line (means_next place done b told))
+-- what the whole line has said
+pub means_after : (so_far : LineSoFar) (done line : List ℕ) → Means so_far done → Means (fold next so_far line) (done ++ line)
+means_after so_far done [] told = subst (Means so_far) (sym (append-nil done)) told
+means_after so_far done (b ∷ line) told =
+    subst (Means (fold next (next so_far b) line)) (append_assoc done (b ∷ []) line) (means_after (next so_far b) (done ++ (b ∷ [])) line (means_next so_far done b told))

@@ -2,8 +2,8 @@
 
 ghost use Rattle.std.specs.Prelude.{◌≡◌};
 ghost use Rattle.rh_helping.specs.declared.looking.Looking.TheVariants as looking;
-ghost use Rattle.rh_worker.specs.Worker.{kind_of_place};
-ghost use Rattle.rh_worker.specs.declared.place.Place.TheVariants as place;
+ghost use Rattle.rh_worker.specs.Worker.{kind_of_stage};
+ghost use Rattle.rh_worker.specs.declared.stage.Stage.TheVariants as stage;
 
 use rh_descriptor::StepKind;
 use rh_helping::{Looking, Opening, Work};
@@ -19,7 +19,7 @@ pub struct Plan {
 
 /// The next step of a worker.
 #[derive(Clone, Copy)]
-pub enum Place {
+pub enum Stage {
     /// None: no key is begun.
     Idle,
     /// None before the next round, which begins the key again.
@@ -32,12 +32,12 @@ pub enum Place {
     Swap { work: Work, number: u64, plan: Plan },
 }
 
-impl Place {
+impl Stage {
     /// Read of the next cell, where so many were seen.
-    pub(crate) fn reading(seen: usize) -> Place
-        ensures { result ≡ place.Scan looking.Read seen }
+    pub(crate) fn reading(seen: usize) -> Stage
+        ensures { result ≡ stage.Scan looking.Read seen }
     {
-        Place::Scan {
+        Stage::Scan {
             looking: Looking::Read,
             seen,
         }
@@ -45,13 +45,13 @@ impl Place {
 
     /// The kind of the step. Where there is none, a Read.
     pub(crate) fn kind(&self) -> StepKind
-        ensures { result ≡ kind_of_place self.now }
+        ensures { result ≡ kind_of_stage self.now }
     {
         match self {
-            Place::Idle | Place::Spent => StepKind::Read,
-            Place::Scan { looking, .. } => looking.kind(),
-            Place::Open { opening, .. } => opening.kind(),
-            Place::Swap { work, .. } => work.kind(),
+            Stage::Idle | Stage::Spent => StepKind::Read,
+            Stage::Scan { looking, .. } => looking.kind(),
+            Stage::Open { opening, .. } => opening.kind(),
+            Stage::Swap { work, .. } => work.kind(),
         }
     }
 }

@@ -1,4 +1,4 @@
-//! The places in a line, by what stands before them.
+//! What a line has said so far, byte by byte.
 
 ghost use Rattle.std.specs.Prelude.{◌≡◌, ◌≤◌, ◌+◌};
 ghost use Rattle.rh_layout.specs.declared.limits.TheConstants.{MAX_KEY};
@@ -8,7 +8,7 @@ use rh_layout::MAX_KEY;
 
 /// What a line has said so far. A number above the greatest key counts as the first of them.
 #[derive(Clone, Copy, Debug, PartialEq, Eq)]
-pub(crate) enum Place {
+pub(crate) enum LineSoFar {
     /// Nothing.
     Start,
     /// Spaces.
@@ -25,19 +25,19 @@ pub(crate) enum Place {
     Other,
 }
 
-impl Place {
-    /// The place after the next byte.
-    pub(crate) fn next(self, b: u8) -> Place
+impl LineSoFar {
+    /// What it has said after the next byte.
+    pub(crate) fn next(self, b: u8) -> LineSoFar
         ensures { result ≡ next self b }
     {
         match self {
-            Place::Start if b == b'#' => Place::Comment,
-            Place::Start | Place::Blank if b.is_ascii_digit() => Place::Number(grown(0, b)),
-            Place::Start | Place::Blank => past(Place::Blank, None, b),
-            Place::Comment => Place::Comment,
-            Place::Number(n) if b.is_ascii_digit() => Place::Number(grown(n, b)),
-            Place::Number(n) | Place::After(n) => past(Place::After(n), Some(n), b),
-            Place::Return(_) | Place::Other => Place::Other,
+            LineSoFar::Start if b == b'#' => LineSoFar::Comment,
+            LineSoFar::Start | LineSoFar::Blank if b.is_ascii_digit() => LineSoFar::Number(grown(0, b)),
+            LineSoFar::Start | LineSoFar::Blank => past(LineSoFar::Blank, None, b),
+            LineSoFar::Comment => LineSoFar::Comment,
+            LineSoFar::Number(n) if b.is_ascii_digit() => LineSoFar::Number(grown(n, b)),
+            LineSoFar::Number(n) | LineSoFar::After(n) => past(LineSoFar::After(n), Some(n), b),
+            LineSoFar::Return(_) | LineSoFar::Other => LineSoFar::Other,
         }
     }
 }
@@ -52,13 +52,13 @@ fn grown(n: u64, digit: u8) -> u64
         .min(MAX_KEY + 1)
 }
 
-/// The place after a byte that is no digit.
-fn past(blank: Place, said: Option<u64>, b: u8) -> Place
+/// What it has said after a byte that is no digit.
+fn past(blank: LineSoFar, said: Option<u64>, b: u8) -> LineSoFar
     ensures { result ≡ past blank said b }
 {
     match b {
         b' ' => blank,
-        b'\r' => Place::Return(said),
-        _ => Place::Other,
+        b'\r' => LineSoFar::Return(said),
+        _ => LineSoFar::Other,
     }
 }

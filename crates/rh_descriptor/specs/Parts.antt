@@ -1,4 +1,4 @@
--- Where each part of a shared table stands in its words (this project's own).
+-- Where each part of a shared table stands in its words.
 use Rattle.std.specs.Prelude.{ℕ, ◌+◌, ◌*◌, ◌^◌, ◌<◌, ◌≤◌}
 use Rattle.rh_layout.specs.Key.{IsBits}
 use Rattle.rh_descriptor.specs.declared.limits.TheConstants.{MAX_WORKERS, MAX_ROOM, HEAD_WORDS, WORDS_PER_ENTRY, MARK_WORDS}
@@ -36,8 +36,8 @@ abbrev pub word_count : Shape → ℕ
 word_count z = cell_count z + z.workers * row_count z + 1
 
 -- the word of a worker's rows that has this number among them
-abbrev pub row_place : Shape → (worker row : ℕ) → ℕ
-row_place z worker row = cell_count z + (worker * row_count z + row)
+abbrev pub row_index : Shape → (worker row : ℕ) → ℕ
+row_index z worker row = cell_count z + (worker * row_count z + row)
 
 -- the word of an entry, that of the mark row, and that of the note to an owner
 abbrev pub entry_row : (entry word : ℕ) → ℕ
@@ -49,19 +49,19 @@ mark_row z word = HEAD_WORDS + entry_words z + word
 abbrev pub note_row : Shape → (owner : ℕ) → ℕ
 note_row z owner = HEAD_WORDS + entry_words z + MARK_WORDS + owner
 
-abbrev pub place_of : Shape → Part → ℕ
-place_of z (Cell c) = c
-place_of z (Control worker) = row_place z worker 0
-place_of z (Serial worker) = row_place z worker 1
-place_of z (Length worker) = row_place z worker 2
-place_of z (EntryCell worker entry) = row_place z worker (entry_row entry 0)
-place_of z (EntryOld worker entry) = row_place z worker (entry_row entry 1)
-place_of z (EntryNew worker entry) = row_place z worker (entry_row entry 2)
-place_of z (MarkSerial worker) = row_place z worker (mark_row z 0)
-place_of z (MarkDesc worker) = row_place z worker (mark_row z 1)
-place_of z (MarkEntry worker) = row_place z worker (mark_row z 2)
-place_of z (Note worker owner) = row_place z worker (note_row z owner)
-place_of z Counter = cell_count z + z.workers * row_count z
+abbrev pub index_of : Shape → Part → ℕ
+index_of z (Cell c) = c
+index_of z (Control worker) = row_index z worker 0
+index_of z (Serial worker) = row_index z worker 1
+index_of z (Length worker) = row_index z worker 2
+index_of z (EntryCell worker entry) = row_index z worker (entry_row entry 0)
+index_of z (EntryOld worker entry) = row_index z worker (entry_row entry 1)
+index_of z (EntryNew worker entry) = row_index z worker (entry_row entry 2)
+index_of z (MarkSerial worker) = row_index z worker (mark_row z 0)
+index_of z (MarkDesc worker) = row_index z worker (mark_row z 1)
+index_of z (MarkEntry worker) = row_index z worker (mark_row z 2)
+index_of z (Note worker owner) = row_index z worker (note_row z owner)
+index_of z Counter = cell_count z + z.workers * row_count z
 
 -- the table has this part
 abbrev pub IsPart : Shape → Part → Type 0

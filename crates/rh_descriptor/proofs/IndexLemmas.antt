@@ -6,7 +6,7 @@ use Rattle.std.proofs.lemmas.Nat.{div-mul-add, mod-mul-add, mul-add-lt}
 use Rattle.rh_descriptor.specs.declared.shape.Shape.{Shape}
 use Rattle.rh_descriptor.specs.declared.shape.Part.{Part}
 use Rattle.rh_descriptor.specs.declared.shape.Part.TheVariants.{Cell, Control, Serial, Length, EntryCell, EntryOld, EntryNew, MarkSerial, MarkDesc, MarkEntry, Note, Counter}
-use Rattle.rh_descriptor.specs.Places.{IsPart, cell_count, entry_row, entry_words, mark_row, note_row, place_of, row_count, row_place}
+use Rattle.rh_descriptor.specs.Parts.{IsPart, cell_count, entry_row, entry_words, mark_row, note_row, index_of, row_count, row_index}
 
 pub entry_inside : (cells entry word workers : ℕ) → entry < cells → word < 3 → 3 + (3 * entry + word) < 3 + 3 * cells + 3 + workers
 entry_inside cells entry word workers inside below = omega (arith, inside, below)
@@ -14,7 +14,7 @@ entry_inside cells entry word workers inside below = omega (arith, inside, below
 pub row_inside : (worker workers row rows : ℕ) → worker < workers → row < rows → worker * rows + row < workers * rows
 row_inside worker workers row rows mine inside = omega (arith, mul-add-lt worker rows row workers mine inside)
 
--- ---- the part that stands at a place
+-- ---- the part that stands at a index
 
 abbrev head_part : (worker row : ℕ) → Part
 head_part worker zero = Control worker
@@ -53,14 +53,14 @@ is_not_less : (a b : ℕ) → (a < b → ⊥) → nat_lt a b ≡ false
 is_not_less a b h = false_from_ne_true (nat_lt a b) (λ is. h (ltb-true a b is))
 
 module _ (z : Shape) where
-  row_found : (worker row : ℕ) → worker < z.workers → row < row_count z → part_at z (row_place z worker row) ≡ row_part z worker row
+  row_found : (worker row : ℕ) → worker < z.workers → row < row_count z → part_at z (row_index z worker row) ≡ row_part z worker row
   row_found worker row mine inside =
-      let beyond : nat_lt (row_place z worker row) (cell_count z) ≡ false = is_not_less _ _ (λ h. omega (arith, h)) in
-      let rest : row_place z worker row - cell_count z ≡ worker * row_count z + row = omega arith in
+      let beyond : nat_lt (row_index z worker row) (cell_count z) ≡ false = is_not_less _ _ (λ h. omega (arith, h)) in
+      let rest : row_index z worker row - cell_count z ≡ worker * row_count z + row = omega arith in
       let fits : worker * row_count z + row < z.workers * row_count z = omega (arith, mul-add-lt worker (row_count z) row z.workers mine inside) in
       rw (beyond, rest, is_less _ _ fits, div-mul-add worker (row_count z) row inside, mod-mul-add worker (row_count z) row inside) refl
 
-  head_at : (worker row : ℕ) → worker < z.workers → row < 3 → part_at z (row_place z worker row) ≡ head_part worker row
+  head_at : (worker row : ℕ) → worker < z.workers → row < 3 → part_at z (row_index z worker row) ≡ head_part worker row
   head_at worker row here below = row_found worker row here (omega (arith, below)) ∙ rw (is_less row 3 below) refl
 
   entry_found : (worker entry word : ℕ) → entry < cell_count z → word < 3 → row_part z worker (entry_row entry word) ≡ entry_part worker entry word
@@ -72,11 +72,11 @@ module _ (z : Shape) where
       let what : (3 * entry + word) % 3 ≡ word = omega (arith, below) in
       rw (behind, rest, is_less _ _ fits, which, what) refl
 
-  entry_at : (worker entry word : ℕ) → (worker < z.workers) × (entry < cell_count z) → word < 3 → part_at z (row_place z worker (entry_row entry word)) ≡ entry_part worker entry word
+  entry_at : (worker entry word : ℕ) → (worker < z.workers) × (entry < cell_count z) → word < 3 → part_at z (row_index z worker (entry_row entry word)) ≡ entry_part worker entry word
   entry_at worker entry word here below =
       row_found worker (entry_row entry word) here.0 (entry_inside (cell_count z) entry word z.workers here.1 below) ∙ entry_found worker entry word here.1 below
 
-  tail_at : (worker row : ℕ) → worker < z.workers → row < 3 + z.workers → part_at z (row_place z worker (mark_row z row)) ≡ tail_part worker row
+  tail_at : (worker row : ℕ) → worker < z.workers → row < 3 + z.workers → part_at z (row_index z worker (mark_row z row)) ≡ tail_part worker row
   tail_at worker row here below =
       let behind : nat_lt (mark_row z row) 3 ≡ false = is_not_less _ _ (λ h. omega (arith, h)) in
       let rest : mark_row z row - 3 ≡ entry_words z + row = omega arith in
@@ -84,7 +84,7 @@ module _ (z : Shape) where
       let last : entry_words z + row - entry_words z ≡ row = omega arith in
       row_found worker (mark_row z row) here (omega (arith, below)) ∙ rw (behind, rest, beyond, last) refl
 
-  found_at : (p : Part) → IsPart z p → part_at z (place_of z p) ≡ p
+  found_at : (p : Part) → IsPart z p → part_at z (index_of z p) ≡ p
   found_at (Cell c) here = rw (is_less c (cell_count z) here) refl
   found_at (Control worker) here = head_at worker 0 here (omega arith)
   found_at (Serial worker) here = head_at worker 1 here (omega arith)
@@ -97,15 +97,15 @@ module _ (z : Shape) where
   found_at (MarkEntry worker) here = tail_at worker 2 here (omega arith)
   found_at (Note worker owner) here =
       let row : note_row z owner ≡ mark_row z (3 + owner) = omega arith in
-      ap (λ (n : ℕ). part_at z (row_place z worker n)) row ∙ tail_at worker (3 + owner) here.0 (let h = here.1 in omega (arith, h)) ∙ three owner
+      ap (λ (n : ℕ). part_at z (row_index z worker n)) row ∙ tail_at worker (3 + owner) here.0 (let h = here.1 in omega (arith, h)) ∙ three owner
     where
       three : (owner : ℕ) → tail_part worker (3 + owner) ≡ Note worker owner
       three owner = ap (tail_part worker) (let q : 3 + owner ≡ suc (suc (suc owner)) = omega arith in q)
   found_at Counter here =
-      let beyond : nat_lt (place_of z Counter) (cell_count z) ≡ false = is_not_less _ _ (λ h. omega (arith, h)) in
-      let rest : place_of z Counter - cell_count z ≡ z.workers * row_count z = omega arith in
+      let beyond : nat_lt (index_of z Counter) (cell_count z) ≡ false = is_not_less _ _ (λ h. omega (arith, h)) in
+      let rest : index_of z Counter - cell_count z ≡ z.workers * row_count z = omega arith in
       let last : nat_lt (z.workers * row_count z) (z.workers * row_count z) ≡ false = is_not_less _ _ (λ h. omega (arith, h)) in
       rw (beyond, rest, last) refl
 
-  pub same_part : (p q : Part) → IsPart z p → IsPart z q → place_of z p ≡ place_of z q → p ≡ q
+  pub same_part : (p q : Part) → IsPart z p → IsPart z q → index_of z p ≡ index_of z q → p ≡ q
   same_part p q here there same = sym (found_at p here) ∙ ap (part_at z) same ∙ found_at q there

@@ -1,4 +1,4 @@
-//! The search for a key's place in a whole table.
+//! The search for a key in a whole table.
 
 ghost use Rattle.std.specs.Prelude.{◌≡◌, ◌+◌, ◌%◌, ◌^◌, ◌<◌, length, false, MatchOption};
 ghost use Rattle.std.specs.FinSet as set;
@@ -6,12 +6,12 @@ ghost use Rattle.std.specs.FinSet.{contains};
 ghost use Rattle.rh_layout.specs.Round.{place_after};
 ghost use Rattle.rh_layout.specs.Key.{IsBits, IsKey};
 ghost use Rattle.rh_layout.specs.Layout.{HasFree, Holds, IsLayout, keys_of};
-ghost use Rattle.rh_probe.specs.Look.{IsPlaceFor};
+ghost use Rattle.rh_probe.specs.Look.{IsProbeLength};
 
 use rh_layout::{beats, cell_of, home, key_in};
 
 /// The cell after this one. Cell 0 comes after the last.
-#[tactic(auto, using(crate::proofs::PlaceLemmas::next_is))]
+#[tactic(auto, using(crate::proofs::ProbeLemmas::next_is))]
 pub fn next_cell(size: usize, cell: usize) -> usize
     requires { cell < size }
     ensures { result ≡ (cell + 1) % size }
@@ -20,7 +20,7 @@ pub fn next_cell(size: usize, cell: usize) -> usize
 }
 
 /// The cell that so many steps round the table lead to.
-#[tactic(auto, using(crate::proofs::PlaceLemmas::after_ahead, crate::proofs::PlaceLemmas::after_round))]
+#[tactic(auto, using(crate::proofs::ProbeLemmas::after_ahead, crate::proofs::ProbeLemmas::after_round))]
 pub fn cell_after(size: usize, from: usize, steps: usize) -> usize
     requires from { from < size }
     requires steps { steps < size }
@@ -34,11 +34,11 @@ pub fn cell_after(size: usize, from: usize, steps: usize) -> usize
 
 /// How many steps from its home the key stands, or else where it goes: the first cell that is empty
 /// or holds a key that does not beat it there (Celis 1986).
-pub fn place_for(bits: u32, cells: &[u64], key: u64) -> usize
+pub fn probe_length(bits: u32, cells: &[u64], key: u64) -> usize
     requires bits { IsBits bits }
     requires size { length cells.now ≡ 2 ^ bits }
     requires free { HasFree cells.now }
-    ensures { IsPlaceFor bits cells.now key result }
+    ensures { IsProbeLength bits cells.now key result }
 {
     let mut cell = home(bits, key);
     for i in 0..cells.len() {
@@ -58,7 +58,7 @@ pub fn find(bits: u32, cells: &[u64], key: u64) -> Option<usize>
     ensures { MatchOption result (contains (keys_of cells.now) key ≡ false)
         (λ c. Holds cells.now c key) }
 {
-    let steps = place_for(bits, cells, key);
+    let steps = probe_length(bits, cells, key);
     let cell = cell_after(cells.len(), home(bits, key), steps);
     if cells[cell] == cell_of(key) {
         Some(cell)
