@@ -1,0 +1,23 @@
+//! What a program needs that carries out scripts itself: a script is read by `parse` and carried out by
+//! `run`, over the files of a `Shelf` and by a `Runner`, which is `Single` for one worker, or `Threads`
+//! for several that change one table at once. What is written, and the files that are left, are those
+//! that the script means, whichever the runner is.
+//!
+//! ```text
+//! let mut shelf = MemShelf::new(alloc);                     // or a `Shelf` of your own
+//! shelf.put(alloc, "a.keys", &file)?;
+//! let script = parse(alloc, b"use a a.keys\nadd a\ndump\n")?;
+//! let mut writer = Counted::new(Vec::new(alloc));           // or any other `Write`
+//! let report = run(rt, alloc, &script, &mut shelf, &mut Threads::new(4), &mut writer)?;
+//! ```
+//!
+//! The program `rh_example` is this whole.
+#![tactic(auto)]
+
+pub use rh_files::{Counted, KeyFault, WriteFault, write_keys};
+pub use rh_phase::Threads;
+pub use rh_planner::{Cause, Report, RunFault, run};
+pub use rh_runner::{PhaseFault, Runner, Single};
+pub use rh_script::{Plan, Script, ScriptFault, ScriptFaultKind, parse, plan};
+pub use rh_shelf::{MemShelf, Shelf, ShelfFault};
+pub use rh_snapshot::SnapFault;
