@@ -17,9 +17,9 @@ const NOTHING: Tally = Tally {
     found: 0,
 };
 
-// The keys from 1 to 70,000: more than one phase has.
+// The keys from 1 to 200,000: more than one phase has.
 fn many_keys(alloc: Global) -> Result<Vec<u64>, AllocError> {
-    let mut keys = vec![in alloc; 0; 70_000]?;
+    let mut keys = vec![in alloc; 0; 200_000]?;
     for (i, key) in keys.iter_mut().enumerate() {
         *key = i as u64 + 1;
     }
@@ -29,30 +29,30 @@ fn many_keys(alloc: Global) -> Result<Vec<u64>, AllocError> {
 #[test]
 fn a_long_list_changes_a_table(rt: HostRuntime) -> Result<(), Fail> {
     let keys = many_keys(rt.alloc())?;
-    assert!(rt; keys.len() == 70_000 && keys.iter().all(|key| *key <= 70_000));
-    let set = SeqSet::new(rt.alloc(), 17)?;
+    assert!(rt; keys.len() == 200_000 && keys.iter().all(|key| *key <= 200_000));
+    let set = SeqSet::new(rt.alloc(), 18)?;
     assert!(rt; set.len() == 0);
     let mut cells = set.into_cells();
-    assert!(rt; is_layout(17, &cells));
+    assert!(rt; is_layout(18, &cells));
     let mut list = HeldKeys::new(&keys);
     let told = change_all(
         &rt,
         rt.alloc(),
         &mut Single,
         Kind::Insert,
-        17,
+        18,
         &mut cells,
         &mut list,
     )?;
     assert_eq!(rt;
         told,
         Tally {
-            read: 70_000,
-            added: 70_000,
+            read: 200_000,
+            added: 200_000,
             ..NOTHING
         }
     );
-    let all = SeqSet::from_keys(rt.alloc(), 17, &keys)?;
+    let all = SeqSet::from_keys(rt.alloc(), 18, &keys)?;
     assert_eq!(rt; cells.as_slice(), all.cells());
     Ok(())
 }
@@ -60,15 +60,15 @@ fn a_long_list_changes_a_table(rt: HostRuntime) -> Result<(), Fail> {
 #[test]
 fn a_long_list_is_looked_up(rt: HostRuntime) -> Result<(), Fail> {
     let keys = many_keys(rt.alloc())?;
-    assert!(rt; keys.len() == 70_000 && keys.iter().all(|key| *key <= 70_000));
+    assert!(rt; keys.len() == 200_000 && keys.iter().all(|key| *key <= 200_000));
     let set = SeqSet::from_keys(rt.alloc(), 3, &[1, 9, 17])?;
     assert!(rt; set.bits() == 3);
     let mut list = HeldKeys::new(&keys);
     let found = ask_all(&rt, rt.alloc(), &mut Single, 3, set.cells(), &mut list)?;
-    assert_eq!(rt; found.len(), 70_000);
+    assert_eq!(rt; found.len(), 200_000);
     assert_eq!(rt; found.iter().position(|there| *there), Some(0));
     assert_eq!(rt; found.iter().filter(|there| **there).count(), 3);
-    for (wanted, many) in [(true, 3), (false, 69_997)] {
+    for (wanted, many) in [(true, 3), (false, 199_997)] {
         let mut list = HeldKeys::new(&keys);
         let told = count_chosen(
             &rt,
@@ -89,25 +89,25 @@ fn a_long_list_is_looked_up(rt: HostRuntime) -> Result<(), Fail> {
 #[test]
 fn chosen_keys_of_a_long_list(rt: HostRuntime) -> Result<(), Fail> {
     let keys = many_keys(rt.alloc())?;
-    assert!(rt; keys.len() == 70_000 && keys.iter().all(|key| *key <= 70_000));
+    assert!(rt; keys.len() == 200_000 && keys.iter().all(|key| *key <= 200_000));
     let old = SeqSet::from_keys(rt.alloc(), 3, &[1, 9, 17])?;
     assert!(rt; old.bits() == 3);
     for (many, told) in [
-        (69_996, Err(ListFault::Changed)),
+        (199_996, Err(ListFault::Changed)),
         (
-            69_997,
+            199_997,
             Ok(Tally {
-                read: 69_997,
-                added: 69_997,
+                read: 199_997,
+                added: 199_997,
                 ..NOTHING
             }),
         ),
-        (69_998, Err(ListFault::Changed)),
+        (199_998, Err(ListFault::Changed)),
     ] {
-        let set = SeqSet::new(rt.alloc(), 17)?;
-        assert!(rt; set.len() == 0 && many < 70_000);
+        let set = SeqSet::new(rt.alloc(), 18)?;
+        assert!(rt; set.len() == 0 && many < 200_000);
         let mut cells = set.into_cells();
-        assert!(rt; is_layout(17, &cells));
+        assert!(rt; is_layout(18, &cells));
         let mut list = HeldKeys::new(&keys);
         assert_eq!(rt;
             insert_chosen(
@@ -118,7 +118,7 @@ fn chosen_keys_of_a_long_list(rt: HostRuntime) -> Result<(), Fail> {
                 many,
                 3,
                 old.cells(),
-                17,
+                18,
                 &mut cells,
                 &mut list,
             ),
@@ -283,5 +283,5 @@ fn faults_of_the_runner_are_told(rt: HostRuntime) -> Result<(), Fail> {
 #[test]
 fn batches_and_phases_are_so_long(rt: HostRuntime) {
     assert_eq!(rt; BATCH, 4_096);
-    assert_eq!(rt; PHASE, 65_536);
+    assert_eq!(rt; PHASE, 196_608);
 }

@@ -18,9 +18,9 @@ use std::thread::Threads;
 /// How many keys are taken at a time of a list that is only read through.
 pub const BATCH: usize = 4_096;
 
-/// How many keys a phase takes at most. A phase of several workers makes a table of its own, which is
-/// to be a small part of what it costs.
-pub const PHASE: usize = 65_536;
+/// How many keys a phase takes at most: as many as may be added to a table. A phase of several workers
+/// makes a table of its own, so a list is cut only where that is needed to bound the memory.
+pub const PHASE: usize = 196_608;
 
 /// Room for the keys of a phase over a list of which so many are to come.
 pub(crate) fn phase_room(alloc: Global, left: u64) -> Result<Vec<u64>, PhaseFault>

@@ -28,9 +28,9 @@ impl KeySource for Noting<'_> {
 
 // The old table holds 1, 9 and 17.
 #[test]
-fn a_list_is_read_by_4096_keys_and_looked_up_by_65536(rt: HostRuntime) -> Result<(), Fail> {
+fn a_list_is_read_by_4096_keys_and_looked_up_by_196608(rt: HostRuntime) -> Result<(), Fail> {
     let keys = many_keys(rt.alloc())?;
-    assert!(rt; keys.len() == 70_000 && keys.iter().all(|key| *key <= 70_000));
+    assert!(rt; keys.len() == 200_000 && keys.iter().all(|key| *key <= 200_000));
     let old = SeqSet::from_keys(rt.alloc(), 3, &[1, 9, 17])?;
     assert!(rt; old.bits() == 3);
     let (old, longest) = (old.cells(), 0);
@@ -40,10 +40,10 @@ fn a_list_is_read_by_4096_keys_and_looked_up_by_65536(rt: HostRuntime) -> Result
     assert_eq!(rt; list.longest, 4_096);
     let mut list = Noting { keys, longest };
     ask_all(&rt, rt.alloc(), &mut Single, 3, old, &mut list)?;
-    assert_eq!(rt; list.longest, 65_536);
+    assert_eq!(rt; list.longest, 196_608);
     let mut list = Noting { keys, longest };
     count_chosen(&rt, rt.alloc(), &mut Single, true, 3, old, &mut list)?;
-    assert_eq!(rt; list.longest, 65_536);
+    assert_eq!(rt; list.longest, 196_608);
     Ok(())
 }
 
@@ -63,13 +63,13 @@ fn a_short_list_is_taken_whole(rt: HostRuntime) -> Result<(), Fail> {
 }
 
 #[test]
-fn a_table_is_changed_by_65536_keys(rt: HostRuntime) -> Result<(), Fail> {
+fn a_table_is_changed_by_196608_keys(rt: HostRuntime) -> Result<(), Fail> {
     let keys = many_keys(rt.alloc())?;
-    assert!(rt; keys.len() == 70_000 && keys.iter().all(|key| *key <= 70_000));
-    let set = SeqSet::new(rt.alloc(), 17)?;
+    assert!(rt; keys.len() == 200_000 && keys.iter().all(|key| *key <= 200_000));
+    let set = SeqSet::new(rt.alloc(), 18)?;
     assert!(rt; set.len() == 0);
     let mut cells = set.into_cells();
-    assert!(rt; is_layout(17, &cells));
+    assert!(rt; is_layout(18, &cells));
     let keys = HeldKeys::new(&keys);
     let mut list = Noting { keys, longest: 0 };
     let kind = Kind::Insert;
@@ -78,37 +78,37 @@ fn a_table_is_changed_by_65536_keys(rt: HostRuntime) -> Result<(), Fail> {
         rt.alloc(),
         &mut Single,
         kind,
-        17,
+        18,
         &mut cells,
         &mut list,
     )?;
-    assert_eq!(rt; list.longest, 65_536);
+    assert_eq!(rt; list.longest, 196_608);
     Ok(())
 }
 
 // The two tables begin without a key.
 #[test]
-fn two_tables_are_gone_through_by_65536_keys(rt: HostRuntime) -> Result<(), Fail> {
+fn two_tables_are_gone_through_by_196608_keys(rt: HostRuntime) -> Result<(), Fail> {
     let keys = many_keys(rt.alloc())?;
-    assert!(rt; keys.len() == 70_000 && keys.iter().all(|key| *key <= 70_000));
+    assert!(rt; keys.len() == 200_000 && keys.iter().all(|key| *key <= 200_000));
     let keys = HeldKeys::new(&keys);
-    for many in [0, 70_000] {
-        let old = SeqSet::new(rt.alloc(), 17)?;
-        let set = SeqSet::new(rt.alloc(), 17)?;
-        assert!(rt; old.len() == 0 && set.len() == 0 && many <= 70_000);
+    for many in [0, 200_000] {
+        let old = SeqSet::new(rt.alloc(), 18)?;
+        let set = SeqSet::new(rt.alloc(), 18)?;
+        assert!(rt; old.len() == 0 && set.len() == 0 && many <= 200_000);
         let old = old.cells();
         let mut cells = set.into_cells();
-        assert!(rt; is_layout(17, &cells));
+        assert!(rt; is_layout(18, &cells));
         let mut list = Noting { keys, longest: 0 };
         let (alloc, runner) = (rt.alloc(), &mut Single);
         if many == 0 {
-            remove_and_count_absent(&rt, alloc, runner, 17, old, &mut cells, &mut list)?;
+            remove_and_count_absent(&rt, alloc, runner, 18, old, &mut cells, &mut list)?;
         } else {
             insert_chosen(
-                &rt, alloc, runner, false, many, 17, old, 17, &mut cells, &mut list,
+                &rt, alloc, runner, false, many, 18, old, 18, &mut cells, &mut list,
             )?;
         }
-        assert_eq!(rt; list.longest, 65_536);
+        assert_eq!(rt; list.longest, 196_608);
     }
     Ok(())
 }
