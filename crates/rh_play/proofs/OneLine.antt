@@ -1,13 +1,12 @@
 -- A line more of a text.
-use Rattle.std.proofs.Common.{◌≡◌, ◌∙◌, ap, sym, ℕ, ◌+◌, ◌-◌, ◌<◌, ◌≤◌, arith, length, length-drop, take, drop, get_or, List, [], ◌∷◌, ◌++◌, Result, Ok, Err, refl}
-use Rattle.std.proofs.lemmas.List.{drop_more, take_more}
-use Rattle.std.specs.List.{before_first, after_first, position_or_len}
+use Rattle.std.proofs.Common.{◌≡◌, ◌∙◌, ap, sym, ℕ, ◌+◌, ◌-◌, ◌<◌, arith, length, take, drop, List, [], ◌∷◌, ◌++◌, Result, Ok, Err, refl}
+use Rattle.std.specs.List.{before_first, after_first}
+use Rattle.rh_lines.specs.Lines.{is_line_feed, lines_of}
+use Rattle.rh_lines.proofs.Walking.{cut, no_line_left, passed_more}
 use Rattle.rh_play.specs.declared.fault.PlayTextFault.{PlayTextFault}
 use Rattle.rh_play.specs.declared.fault.PlayTextKind.{PlayTextKind}
 use Rattle.rh_play.specs.Saying.{AtStart}
-use Rattle.rh_play.specs.Lines.{is_line_feed, lines_of}
 use Rattle.rh_play.specs.Grammar.{◌>>=◌, HasNoFaultBefore, Way, after_line, after_lines, at_line}
-use Rattle.rh_play.proofs.Splitting.{lines_step, no_line}
 
 line_read : (number : ℕ) (way next : Way) (line : List ℕ) (lines : List (List ℕ)) → after_line way line ≡ Ok next → after_lines number way (line ∷ lines) ≡ after_lines (number + 1) next lines
 unfolding after_lines
@@ -36,19 +35,7 @@ one_line_more number start way next (first ∷ lines) line so_far last =
     let one = both (at_line number (after_line start first)) _ way so_far in
     rw one.1 (one_line_more (number + 1) one.0 way next lines line one.2 last)
 
-cut : (text line rest : List ℕ) → 0 < length text → line ≡ before_first is_line_feed text → rest ≡ after_first is_line_feed text → lines_of text ≡ line ∷ lines_of rest
-cut text line rest some is then = rw (is, then) (lines_step text some)
-
 -- ---- the loop over the lines
-
-pub counted_more : (n lines : ℕ) (text rest : List ℕ) → 0 < length text → rest ≡ after_first is_line_feed text → n + length (lines_of text) ≡ lines → n + 1 + length (lines_of rest) ≡ lines
-counted_more n lines text rest some then h =
-    let cut_off : length (lines_of text) ≡ 1 + length (lines_of rest) = rw then (omega (arith, ap length (lines_step text some))) in
-    omega arith
-
-pub fewer_left : (n bytes : ℕ) (text rest : List ℕ) → 0 < length text → rest ≡ after_first is_line_feed text → n + length text ≤ bytes → n + 1 + length rest ≤ bytes
-fewer_left n bytes text rest some then h =
-    rw then (omega (arith, length-drop (position_or_len is_line_feed text + 1) text))
 
 pub step_read : (n : ℕ) (way next : Way) (text line rest : List ℕ) → 0 < length text → line ≡ before_first is_line_feed text → rest ≡ after_first is_line_feed text → after_line way line ≡ Ok next → after_lines (n + 1) way (lines_of text) ≡ after_lines (n + 1 + 1) next (lines_of rest)
 step_read n way next text line rest some is then h =
@@ -60,29 +47,11 @@ step_refused n way fault text line rest some is then at h =
     rw (cut text line rest some is then) (line_refused (n + 1) way fault.kind line (lines_of rest) h ∙ ap Err there)
 
 pub ended_there : (n : ℕ) (way : Way) (text : List ℕ) → length text ≡ 0 → after_lines n way (lines_of text) ≡ Ok way
-ended_there n way [] none = rw no_line (all_read n way)
-ended_there n way (b ∷ bs) none = absurd (omega arith)
-
-pub none_left : (n lines : ℕ) (text : List ℕ) → length text ≡ 0 → n + length (lines_of text) ≡ lines → n ≡ lines
-none_left n lines [] none h = let no : length (lines_of []) ≡ 0 = ap length no_line in omega arith
-none_left n lines (b ∷ bs) none h = absurd (omega arith)
-
--- the line after the first n, and those that are left after it
-parted : (n : ℕ) (lines : List (List ℕ)) (text line rest : List ℕ) → 0 < length text → line ≡ before_first is_line_feed text → rest ≡ after_first is_line_feed text → n + length (lines_of text) ≡ length lines → lines_of text ≡ drop n lines → (n < length lines) × (line ≡ get_or lines n line) × (lines_of rest ≡ drop (n + 1) lines)
-parted n lines text line rest some is then all left =
-    let parts = cut text line rest some is then in
-    let within : n < length lines = omega (arith, ap length parts) in
-    let next = drop_more lines n line within in
-    (within, cc, cc)
-
-pub left_more : (n : ℕ) (lines : List (List ℕ)) (text line rest : List ℕ) → 0 < length text → line ≡ before_first is_line_feed text → rest ≡ after_first is_line_feed text → n + length (lines_of text) ≡ length lines → lines_of text ≡ drop n lines → lines_of rest ≡ drop (n + 1) lines
-left_more n lines text line rest some is then all left = (parted n lines text line rest some is then all left).2
+ended_there n way text none = rw (no_line_left text none) (all_read n way)
 
 pub read_more : (n : ℕ) (start way next : Way) (lines : List (List ℕ)) (text line rest : List ℕ) → 0 < length text → line ≡ before_first is_line_feed text → rest ≡ after_first is_line_feed text → n + length (lines_of text) ≡ length lines → lines_of text ≡ drop n lines → after_lines 1 start (take n lines) ≡ Ok way → after_line way line ≡ Ok next → after_lines 1 start (take (n + 1) lines) ≡ Ok next
 read_more n start way next lines text line rest some is then all left read here =
-    let parts = parted n lines text line rest some is then all left in
-    let longer : take (n + 1) lines ≡ take n lines ++ line ∷ [] = take_more lines n line parts.0 ∙ ap (λ l. take n lines ++ l ∷ []) (sym parts.1) in
-    rw longer (one_line_more 1 start way next (take n lines) line read here)
+    rw (passed_more n lines text line rest some is then all left) (one_line_more 1 start way next (take n lines) line read here)
 
 pub read_so_far : (n m : ℕ) (way : Way) (text : List ℕ) → m ≡ n + 1 → after_lines 1 (AtStart, []) (take n (lines_of text)) ≡ Ok way → HasNoFaultBefore m text
 read_so_far n m way text next read =

@@ -1,4 +1,4 @@
--- The grammar of the texts of plays (this project's own): what the lines of a text say, or its first fault.
+-- The grammar of the texts of plays: what the lines of a text say, or its first fault.
 use Rattle.std.specs.Prelude.{ℕ, ◌+◌, ◌-◌, ◌^◌, Bool, true, ◌&&◌, IsTrue, nat_le, nat_lt, if◌then◌else◌, List, [], ◌∷◌, ◌++◌, length, take, codes, Option, Some, None, Result, Ok, Err, is_ok}
 use Rattle.std.specs.Char.{is_ascii_digit}
 use Rattle.std.specs.Str.{bytes_eq}
@@ -17,7 +17,7 @@ use Rattle.rh_play.specs.declared.schedule.Step.TheVariants as steps
 use Rattle.rh_play.specs.declared.verb.Verb.{Verb}
 use Rattle.rh_play.specs.declared.verb.Verb.TheVariants as verbs
 use Rattle.rh_play.specs.Saying.{Saying, Play, Bits, Held, Rooms, Work, Share, Schedule, Place, AtStart, AfterPlay, AfterBits, AfterHeld, AfterRooms, AmongWork, AmongSchedule}
-use Rattle.rh_play.specs.Lines.{is_printable, is_skipped, lines_of, without_return, words_of}
+use Rattle.rh_lines.specs.Lines.{is_printable, is_skipped, lines_of, without_return, words_of}
 
 -- one step, and then the next
 infixl 10 ◌>>=◌

@@ -1,4 +1,3 @@
-pub mod Lines
 pub mod Saying
 pub mod Grammar
 pub mod Play

@@ -1,4 +1,4 @@
--- What the lines of a play's text say (this project's own), with keys as lists.
+-- What the lines of a play's text say, with keys as lists.
 use Rattle.std.specs.Prelude.{ℕ, List}
 use Rattle.rh_ledger.specs.declared.tally.Kind.{Kind}
 use Rattle.rh_play.specs.declared.schedule.Order.{Order}

@@ -5,7 +5,6 @@ mod draft;
 mod fault;
 mod limits;
 mod line;
-mod lines;
 mod numbers;
 mod play;
 mod reading;

@@ -1,19 +1,19 @@
 //! What a line says.
 
 ghost use Rattle.std.specs.Prelude.{◌≡◌, option_map};
-ghost use Rattle.rh_play.specs.Lines.{words_of};
+ghost use Rattle.rh_lines.specs.Lines.{words_of};
 ghost use Rattle.rh_play.specs.Grammar.{fits, is_within, no_word, number_and_step, one_kind};
 ghost use Rattle.rh_play.specs.Grammar.{said_in, saying_in, saying_of, shared};
 ghost use Rattle.rh_play.specs.Play.{Answers, saying_as};
 
 use crate::fault::PlayTextKind;
 use crate::limits::{MAX_BITS, MAX_ROOM, MAX_TURNS, MIN_BITS};
-use crate::lines::is_skipped;
 use crate::numbers::{number, numbers, one_number, two_numbers};
 use crate::schedule::{Order, Step};
 use crate::verb::{Verb, kind_from_word, step_from_word};
-use crate::words::{end_of_words, next_word, printable};
+use crate::words::end_of_words;
 use rh_ledger::Kind;
+use rh_lines::{is_skipped, next_word, printable};
 use std::alloc::Global;
 
 /// A line that is not skipped.
@@ -57,7 +57,7 @@ pub(crate) fn read_said(alloc: Global, line: &[u8]) -> Result<Option<Line>, Play
     if is_skipped(line) {
         return Ok(None);
     }
-    let text = printable(line)?;
+    let text = printable(line).ok_or(PlayTextKind::BadLine)?;
     let said = said(alloc, text)?;
     Ok(Some(said))
 }

@@ -1,13 +1,14 @@
 //! The numbers of a line.
 
 ghost use Rattle.std.specs.Prelude.{◌≡◌, []};
-ghost use Rattle.rh_play.specs.Lines.{words_of};
+ghost use Rattle.rh_lines.specs.Lines.{words_of};
 ghost use Rattle.rh_play.specs.Grammar.{number_of, numbers_after, one_number, two_numbers};
 ghost use Rattle.rh_play.specs.Play.{Answers};
 
 use crate::fault::PlayTextKind;
 use crate::limits::MAX_DIGITS;
-use crate::words::{end_of_words, next_word};
+use crate::words::end_of_words;
+use rh_lines::next_word;
 use std::alloc::Global;
 
 /// The number of a word of decimal digits.

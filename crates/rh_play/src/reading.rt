@@ -3,15 +3,15 @@
 ghost use Rattle.std.specs.Prelude.{◌≡◌, ◌≢◌, ◌≤◌, IfOk, IfErr, Ok, Err, length};
 ghost use Rattle.rh_play.specs.declared.limits.TheConstants.{MAX_TEXT_BYTES};
 ghost use Rattle.rh_play.specs.Grammar.{HasNoFaultBefore, after_line, after_lines, sayings_of};
-ghost use Rattle.rh_play.specs.Lines.{lines_of};
+ghost use Rattle.rh_lines.specs.Lines.{lines_of};
 ghost use Rattle.rh_play.specs.Play.{Answers, said_of, way_of};
 
 use crate::draft::Draft;
 use crate::fault::{PlayTextFault, PlayTextKind};
 use crate::limits::MAX_TEXT_BYTES;
 use crate::line::read_said;
-use crate::lines::{next_line, without_return};
 use crate::play::Play;
+use rh_lines::{next_line, without_return};
 use std::alloc::Global;
 
 /// Reads a play up to the first fault of its text. Want of memory is a fault of the line that was

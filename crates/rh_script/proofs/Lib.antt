@@ -1,5 +1,3 @@
-pub mod Splitting
-pub mod Printing
 pub mod Naming
 pub mod Commands
 pub mod OneLine

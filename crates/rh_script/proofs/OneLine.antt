@@ -1,8 +1,9 @@
 -- A line more of a script.
-use Rattle.std.proofs.Common.{◌≡◌, ◌∙◌, ap, sym, subst, ℕ, ◌+◌, ◌-◌, ◌<◌, arith, add-zero, length, take, drop, get_or, List, [], ◌∷◌, ◌++◌, map, Ok, Err, refl}
-use Rattle.std.proofs.lemmas.List.{drop_more, length-take-le, map-append, take_more}
+use Rattle.std.proofs.Common.{◌≡◌, ◌∙◌, ap, sym, subst, ℕ, ◌+◌, ◌-◌, ◌<◌, arith, add-zero, length, take, drop, List, [], ◌∷◌, ◌++◌, map, Ok, Err, refl}
+use Rattle.std.proofs.lemmas.List.{length-take-le, map-append}
 use Rattle.std.specs.List.{before_first, after_first}
-use Rattle.rh_script.specs.Lines.{is_line_feed, lines_of}
+use Rattle.rh_lines.specs.Lines.{is_line_feed, lines_of}
+use Rattle.rh_lines.proofs.Walking.{cut, no_line_left, passed_more}
 use Rattle.rh_script.specs.declared.fault.ScriptFault.{ScriptFault}
 use Rattle.rh_script.specs.declared.fault.ScriptFaultKind.{ScriptFaultKind}
 use Rattle.rh_script.specs.declared.given.Given.{Given}
@@ -12,7 +13,6 @@ use Rattle.rh_script.specs.Grammar.{HasNoFaultBefore, after_line, after_lines, a
 use Rattle.rh_script.specs.Steps.{instruction_as, step_as}
 use Rattle.rh_script.specs.Script.{GivenBy}
 use Rattle.rh_script.proofs.Order.{both}
-use Rattle.rh_script.proofs.Splitting.{lines_step, no_line}
 
 pub known_more : (old new : Given) (before after : List Step) (step : Step) → GivenBy (map step_as before) old → ((steps : List Numbered) (line : ℕ) → GivenBy steps old → GivenBy (steps ++ record { line = line; instruction = instruction_as step.command } ∷ []) new) → after ≡ before ++ step ∷ [] → GivenBy (map step_as after) new
 known_more old new before after step has kept is =
@@ -31,9 +31,6 @@ pub all_read : (number : ℕ) (before : List Numbered) → after_lines number be
 unfolding after_lines
 all_read number before = refl
 
-cut : (text line rest : List ℕ) → 0 < length text → line ≡ before_first is_line_feed text → rest ≡ after_first is_line_feed text → lines_of text ≡ line ∷ lines_of rest
-cut text line rest some is then = rw (is, then) (lines_step text some)
-
 pub one_line_more : (number : ℕ) (start before more : List Numbered) (lines : List (List ℕ)) (line : List ℕ) → after_lines number start lines ≡ Ok before → after_line (number + length lines) before line ≡ Ok more → after_lines number start (lines ++ line ∷ []) ≡ Ok more
 unfolding after_lines
 one_line_more number start before more [] line so_far last =
@@ -50,11 +47,6 @@ one_line_more number start before more (first ∷ lines) line so_far last =
 pub nothing_known : (given : Given) (before : List Step) → GivenBy [] given → before ≡ [] → GivenBy (map step_as before) given
 nothing_known given before has none = rw none has
 
-pub counted_more : (n lines : ℕ) (text rest : List ℕ) → 0 < length text → rest ≡ after_first is_line_feed text → n + length (lines_of text) ≡ lines → n + 1 + length (lines_of rest) ≡ lines
-counted_more n lines text rest some then h =
-    let cut_off : length (lines_of text) ≡ 1 + length (lines_of rest) = rw then (omega (arith, ap length (lines_step text some))) in
-    omega arith
-
 pub begun : (text : List ℕ) (before : List Step) → before ≡ [] → script_of text ≡ after_lines 1 (map step_as before) (lines_of text)
 unfolding script_of
 begun text before none = rw none refl
@@ -69,26 +61,12 @@ step_refused n m before fault text line rest some is then next at h =
     rw (← next, cut text line rest some is then) (line_refused m before fault.kind line (lines_of rest) h ∙ ap Err there)
 
 pub ended_there : (n : ℕ) (before : List Numbered) (text : List ℕ) → length text ≡ 0 → after_lines n before (lines_of text) ≡ Ok before
-ended_there n before [] none = rw no_line (all_read n before)
-ended_there n before (b ∷ bs) none = absurd (omega arith)
-
--- the line after the first n, and those that are left after it
-parted : (n : ℕ) (lines : List (List ℕ)) (text line rest : List ℕ) → 0 < length text → line ≡ before_first is_line_feed text → rest ≡ after_first is_line_feed text → n + length (lines_of text) ≡ length lines → lines_of text ≡ drop n lines → (n < length lines) × (line ≡ get_or lines n line) × (lines_of rest ≡ drop (n + 1) lines)
-parted n lines text line rest some is then all left =
-    let parts = cut text line rest some is then in
-    let within : n < length lines = omega (arith, ap length parts) in
-    let next = drop_more lines n line within in
-    (within, cc, cc)
-
-pub left_more : (n m : ℕ) (lines : List (List ℕ)) (text line rest : List ℕ) → 0 < length text → line ≡ before_first is_line_feed text → rest ≡ after_first is_line_feed text → n + length (lines_of text) ≡ length lines → lines_of text ≡ drop n lines → m ≡ n + 1 → lines_of rest ≡ drop m lines
-left_more n m lines text line rest some is then all left next =
-    rw next ((parted n lines text line rest some is then all left).2)
+ended_there n before text none = rw (no_line_left text none) (all_read n before)
 
 pub read_more : (n m : ℕ) (before more : List Numbered) (lines : List (List ℕ)) (text line rest : List ℕ) → 0 < length text → line ≡ before_first is_line_feed text → rest ≡ after_first is_line_feed text → n + length (lines_of text) ≡ length lines → lines_of text ≡ drop n lines → m ≡ n + 1 → after_lines 1 [] (take n lines) ≡ Ok before → after_line m before line ≡ Ok more → after_lines 1 [] (take m lines) ≡ Ok more
 read_more n m before more lines text line rest some is then all left next read here =
-    let parts = parted n lines text line rest some is then all left in
-    let longer : take (n + 1) lines ≡ take n lines ++ line ∷ [] = take_more lines n line parts.0 ∙ ap (λ l. take n lines ++ l ∷ []) (sym parts.1) in
-    let there : m ≡ 1 + length (take n lines) = omega (arith, length-take-le n lines (omega (arith, parts.0))) in
+    let longer = passed_more n lines text line rest some is then all left in
+    let there : m ≡ 1 + length (take n lines) = omega (arith, length-take-le n lines (omega (arith, all))) in
     rw (next, longer) (one_line_more 1 [] before more (take n lines) line read (rw there at here))
 
 pub none_read : (lines : List (List ℕ)) (before : List Step) → before ≡ [] → after_lines 1 [] (take 0 lines) ≡ Ok (map step_as before)

@@ -3,7 +3,7 @@ use Rattle.std.proofs.Common.{◌≡◌, ◌∙◌, ◌⊎◌, inl, inr, ap, sym
 use Rattle.std.proofs.lemmas.Bool.{or_parts}
 use Rattle.rh_script.specs.declared.fault.ScriptFaultKind.{ScriptFaultKind}
 use Rattle.rh_script.specs.Instruction.{Instruction, Numbered}
-use Rattle.rh_script.specs.Lines.{lines_of, without_return}
+use Rattle.rh_lines.specs.Lines.{lines_of, without_return}
 use Rattle.rh_script.specs.Names.{InOrder, SnapshotsAreNew, admitted, files_in, is_given, snapshots_in}
 use Rattle.rh_script.specs.Grammar.{◌>>=◌, after_line, after_lines, at_line, entered, said_in, script_of, within_limits}
 use Rattle.rh_script.proofs.Naming.{may_stand_once}

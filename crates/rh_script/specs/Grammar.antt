@@ -1,4 +1,4 @@
--- The grammar of scripts (this project's own): the instructions of a text, or its first fault.
+-- The grammar of scripts: the instructions of a text, or its first fault.
 use Rattle.std.specs.Prelude.{ℕ, ◌+◌, ◌-◌, Bool, false, ◌&&◌, ◌||◌, IsTrue, nat_le, if◌then◌else◌, List, [], ◌∷◌, ◌++◌, length, take, codes, Option, Some, None, Result, Ok, Err, is_ok}
 use Rattle.std.specs.Char.{is_ascii_digit, is_ascii_lowercase}
 use Rattle.std.specs.Str.{bytes_eq}
@@ -10,7 +10,7 @@ use Rattle.rh_script.specs.declared.verb.Verb.{Verb}
 use Rattle.rh_script.specs.declared.verb.Verb.TheVariants as verbs
 use Rattle.rh_script.specs.declared.limits.TheConstants.{MAX_LINES, MAX_LINE_BYTES, MAX_NAME_BYTES}
 use Rattle.rh_script.specs.Instruction.{Instruction, Use, Add, Drop, Ask, Keep, Flip, Save, Clear, Dump, Snapshot, Restore, Numbered}
-use Rattle.rh_script.specs.Lines.{is_printable, is_skipped, lines_of, without_return, words_of}
+use Rattle.rh_lines.specs.Lines.{is_printable, is_skipped, lines_of, without_return, words_of}
 use Rattle.rh_script.specs.Names.{admitted}
 
 -- one step, and then the next

@@ -1,5 +1,4 @@
 pub mod Instruction
-pub mod Lines
 pub mod Names
 pub mod Grammar
 pub mod Steps

@@ -1,4 +1,4 @@
--- What a script's steps give: names to lists, and paths to files (this project's own).
+-- What a script's steps give: names to lists, and paths to files.
 use Rattle.std.specs.Prelude.{◌≡◌, ℕ, Bool, false, ◌||◌, IsTrue, if◌then◌else◌, List, [], ◌∷◌, ◌++◌, Result, Ok, Err, is_ok}
 use Rattle.std.specs.Str.{bytes_eq}
 use Rattle.std.specs.List.{flat_map, list_any}

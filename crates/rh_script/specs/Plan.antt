@@ -1,4 +1,4 @@
--- The plan of a script: its steps, with their lists numbered (this project's own).
+-- The plan of a script: its steps, with their lists numbered.
 use Rattle.std.specs.Prelude.{ℕ, List, [], ◌∷◌, ◌++◌, length, position, Option, Some, None}
 use Rattle.std.specs.Str.{bytes_eq}
 use Rattle.rh_script.specs.Instruction.{Instruction, Use, Add, Drop, Ask, Keep, Flip, Save, Clear, Dump, Snapshot, Restore, Numbered}

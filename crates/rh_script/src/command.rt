@@ -2,17 +2,17 @@
 
 ghost use Rattle.std.specs.Prelude.{◌≡◌, option_map, string_bytes};
 ghost use Rattle.rh_script.specs.Instruction.{Instruction};
-ghost use Rattle.rh_script.specs.Lines.{words_of};
+ghost use Rattle.rh_lines.specs.Lines.{words_of};
 ghost use Rattle.rh_script.specs.Grammar.{name_and_path, no_word, one_name, one_path};
 ghost use Rattle.rh_script.specs.Grammar.{instruction_in, instruction_of, said_in};
 ghost use Rattle.rh_script.specs.Steps.{instruction_as};
 ghost use Rattle.rh_script.specs.Script.{Answers};
 
 use crate::fault::ScriptFaultKind;
-use crate::lines::is_skipped;
+use crate::name::is_name;
 use crate::script::Command;
 use crate::verb::Verb;
-use crate::words::{is_name, next_word, printable};
+use rh_lines::{is_skipped, next_word, printable};
 use std::alloc::Global;
 
 /// What a line says, if it is not skipped.
@@ -23,7 +23,7 @@ pub(crate) fn read_command(alloc: Global, line: &[u8]) -> Result<Option<Command>
     if is_skipped(line) {
         return Ok(None);
     }
-    let text = printable(line)?;
+    let text = printable(line).ok_or(ScriptFaultKind::BadCommand)?;
     let command = command_in(alloc, text)?;
     Ok(Some(command))
 }

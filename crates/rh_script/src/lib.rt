@@ -5,13 +5,12 @@ mod command;
 mod fault;
 mod given;
 mod limits;
-mod lines;
+mod name;
 mod planning;
 mod reading;
 mod script;
 mod task;
 mod verb;
-mod words;
 
 pub use fault::{ScriptFault, ScriptFaultKind};
 pub use limits::{MAX_LINE_BYTES, MAX_LINES, MAX_NAME_BYTES};

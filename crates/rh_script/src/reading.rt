@@ -3,7 +3,7 @@
 ghost use Rattle.std.specs.Prelude.{◌≡◌, ◌≢◌, IfOk, IfErr, Ok, Err, length, map, OnOk, ◌≤◌, ◌+◌};
 ghost use Rattle.rh_script.specs.declared.limits.TheConstants.{MAX_LINES};
 ghost use Rattle.rh_script.specs.Grammar.{HasNoFaultBefore, after_line, script_of};
-ghost use Rattle.rh_script.specs.Lines.{lines_of};
+ghost use Rattle.rh_lines.specs.Lines.{lines_of};
 ghost use Rattle.rh_script.specs.Steps.{step_as};
 ghost use Rattle.rh_script.specs.Script.{Answers, GivenBy, steps_of};
 
@@ -11,8 +11,8 @@ use crate::command::read_command;
 use crate::fault::{ScriptFault, ScriptFaultKind};
 use crate::given::Given;
 use crate::limits::{MAX_LINE_BYTES, MAX_LINES};
-use crate::lines::{next_line, without_return};
 use crate::script::{Script, Step};
+use rh_lines::{next_line, without_return};
 use std::alloc::Global;
 
 /// How far a script was read.

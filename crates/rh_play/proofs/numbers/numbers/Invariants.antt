@@ -1,7 +1,7 @@
 use Rattle.std.proofs.Common.{◌≡◌, [], length}
 use denote.Shadow.{shadow}
 use denote.Text.{Utf8}
-use Rattle.rh_play.specs.Lines.{words_of}
+use Rattle.rh_lines.specs.Lines.{words_of}
 use Rattle.rh_play.specs.Grammar.{numbers_after}
 use Rattle.rh_play.proofs.numbers.numbers.Given as goal
 

@@ -1,9 +1,10 @@
 use Rattle.std.proofs.lemmas.Result.{err_from_is_err_and}
 use Rattle.std.proofs.Common.{◌∙◌, arith, refl}
 use Rattle.rh_play.specs.declared.draft.Draft.TheVariants.{Empty}
-use Rattle.rh_play.specs.Lines.{lines_of}
+use Rattle.rh_lines.specs.Lines.{lines_of}
 use Rattle.rh_play.specs.Play.{way_of}
-use Rattle.rh_play.proofs.OneLine.{all_read, counted_more, ended_there, fewer_left, left_more, none_left, read_more, read_so_far, step_read, step_refused}
+use Rattle.rh_lines.proofs.Walking.{all_counted, counted_more, fewer_left, left_more}
+use Rattle.rh_play.proofs.OneLine.{all_read, ended_there, read_more, read_so_far, step_read, step_refused}
 use Rattle.rh_play.proofs.reading.read_lines.Goals as goal
 
 pub loop-rest-init : goal.loop-rest-init
@@ -44,7 +45,7 @@ loop-rest-preserved c = record {
 }
 
 pub returns-clause-counted : goal.returns-clause-counted
-returns-clause-counted c = none_left _ _ c.loop-rest.rest.now (grind arith) c.loop-rest.invariant.counted
+returns-clause-counted c = all_counted _ _ c.loop-rest.rest.now (grind arith) c.loop-rest.invariant.counted
 
 pub returns-clause-read : goal.returns-clause-read
 returns-clause-read c = c.loop-rest.invariant.so_far ∙ ended_there _ _ c.loop-rest.rest.now (grind arith)

@@ -1,6 +1,6 @@
 use Rattle.std.proofs.Common.{◌≡◌, ◌+◌, ◌≤◌, length, take, drop, Ok}
 use Rattle.rh_play.specs.declared.draft.Draft.TheVariants.{Empty}
-use Rattle.rh_play.specs.Lines.{lines_of}
+use Rattle.rh_lines.specs.Lines.{lines_of}
 use Rattle.rh_play.specs.Grammar.{after_lines}
 use Rattle.rh_play.specs.Play.{way_of}
 use Rattle.rh_play.proofs.reading.read_lines.Given as goal

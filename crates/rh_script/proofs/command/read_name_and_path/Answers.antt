@@ -1,7 +1,7 @@
 use Rattle.std.proofs.Common.{◌≡◌, ◌∷◌, rules}
 use Rattle.std.proofs.lemmas.Result.{err_from_is_err_and}
 use Rattle.rh_script.specs.Instruction.{Clear}
-use Rattle.rh_script.specs.Lines.{words_of}
+use Rattle.rh_lines.specs.Lines.{words_of}
 use Rattle.rh_script.proofs.Commands.{bad_name_with_path, good_name_with_path, more_than_a_path}
 use Rattle.rh_script.proofs.command.read_name_and_path.Goals as goal
 

@@ -1,7 +1,7 @@
 use Rattle.std.proofs.Common.{◌≡◌, ◌∷◌}
 use Rattle.std.proofs.lemmas.Result.{err_from_is_err_and}
 use Rattle.rh_script.specs.Instruction.{Clear}
-use Rattle.rh_script.specs.Lines.{words_of}
+use Rattle.rh_lines.specs.Lines.{words_of}
 use Rattle.rh_script.proofs.Commands.{good_path, more_than_one_path}
 use Rattle.rh_script.proofs.command.read_path.Goals as goal
 

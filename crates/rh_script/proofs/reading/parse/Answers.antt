@@ -1,8 +1,9 @@
 use Rattle.std.proofs.lemmas.Result.{err_from_is_err_and}
 use Rattle.std.proofs.Common.{◌∙◌, arith, map, refl}
-use Rattle.rh_script.specs.Lines.{lines_of}
+use Rattle.rh_lines.specs.Lines.{lines_of}
 use Rattle.rh_script.specs.Steps.{step_as}
-use Rattle.rh_script.proofs.OneLine.{begun, counted_more, ended_there, left_more, none_read, nothing_known, read_more, read_so_far, step_read, step_refused}
+use Rattle.rh_lines.proofs.Walking.{counted_more, left_more}
+use Rattle.rh_script.proofs.OneLine.{begun, ended_there, none_read, nothing_known, read_more, read_so_far, step_read, step_refused}
 use Rattle.rh_script.proofs.Order.{read_in_order}
 use Rattle.rh_script.proofs.reading.parse.Goals as goal
 
@@ -38,7 +39,7 @@ pub loop-rest-preserved : goal.loop-rest-preserved
 loop-rest-preserved c = record {
   few = c.in_ok-read_line.ensures.few;
   counted = rw c.read_line.ensures.line (counted_more c.loop-rest.reading.line _ c.loop-rest.rest.now c.next_line.result.1.now (grind arith) c.next_line.ensures.rest c.loop-rest.invariant.counted);
-  left = left_more c.loop-rest.reading.line _ (lines_of c.args.text.now) c.loop-rest.rest.now c.next_line.result.0.now c.next_line.result.1.now (grind arith) c.next_line.ensures.line c.next_line.ensures.rest c.loop-rest.invariant.counted c.loop-rest.invariant.left c.read_line.ensures.line;
+  left = rw c.read_line.ensures.line (left_more c.loop-rest.reading.line (lines_of c.args.text.now) c.loop-rest.rest.now c.next_line.result.0.now c.next_line.result.1.now (grind arith) c.next_line.ensures.line c.next_line.ensures.rest c.loop-rest.invariant.counted c.loop-rest.invariant.left);
   read = read_more c.loop-rest.reading.line _ (map step_as c.loop-rest.reading.steps.items) (map step_as c.read_line.new.self.steps.items) (lines_of c.args.text.now) c.loop-rest.rest.now c.next_line.result.0.now c.next_line.result.1.now (grind arith) c.next_line.ensures.line c.next_line.ensures.rest c.loop-rest.invariant.counted c.loop-rest.invariant.left c.read_line.ensures.line c.loop-rest.invariant.read c.in_ok-read_line.ensures.read;
   known = c.in_ok-read_line.ensures.known;
   so_far = c.loop-rest.invariant.so_far

@@ -1,6 +1,6 @@
 use Rattle.std.proofs.Common.{◌≡◌, ◌+◌, ◌≤◌, [], length, map, take, drop, Ok}
 use Rattle.rh_script.specs.declared.limits.TheConstants.{MAX_LINES}
-use Rattle.rh_script.specs.Lines.{lines_of}
+use Rattle.rh_lines.specs.Lines.{lines_of}
 use Rattle.rh_script.specs.Grammar.{after_lines, script_of}
 use Rattle.rh_script.specs.Steps.{step_as}
 use Rattle.rh_script.specs.Script.{GivenBy}

@@ -1,9 +1,9 @@
 use Rattle.std.proofs.Common.{rules, tests}
 use Rattle.std.proofs.lemmas.Iterator.{YieldsList-from_slice}
 use Rattle.std.proofs.lemmas.Iterator.Search.{position_from_yields_List}
-use Rattle.rh_play.specs.Lines.{is_line_feed}
-use Rattle.rh_play.proofs.Splitting.{before_at, after_at, before_none, after_none}
-use Rattle.rh_play.proofs.lines.next_line.Goals as goal
+use Rattle.rh_lines.specs.Lines.{is_line_feed}
+use Rattle.rh_lines.proofs.Splitting.{before_at, after_at, before_none, after_none}
+use Rattle.rh_lines.proofs.lines.next_line.Goals as goal
 
 pub returns-in-Some-clause-line : goal.returns-in-Some-clause-line
 returns-in-Some-clause-line c =

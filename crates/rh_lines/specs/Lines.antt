@@ -1,4 +1,4 @@
--- The lines of a text, and the words of a line (this project's own).
+-- The lines of a text, and the words of a line.
 use Rattle.std.specs.Prelude.{ℕ, ◌-◌, Bool, true, false, ◌||◌, ◌==◌, nat_eq, if◌then◌else◌, List, [], ◌∷◌, length, take, filter, codes}
 use Rattle.std.specs.Char.{is_ascii_graphic}
 use Rattle.std.specs.List.{list_all, slice_split, starts_with, ends_with}

@@ -1,8 +1,8 @@
 use Rattle.std.proofs.Common.{rules, tests, arith}
 use Rattle.std.proofs.lemmas.Iterator.{YieldsList-from_slice}
 use Rattle.std.proofs.lemmas.Iterator.Search.{all_from_yields_List}
-use Rattle.rh_script.specs.Lines.{is_space, is_skipped}
-use Rattle.rh_script.proofs.lines.is_skipped.Goals as goal
+use Rattle.rh_lines.specs.Lines.{is_space, is_skipped}
+use Rattle.rh_lines.proofs.lines.is_skipped.Goals as goal
 
 pub returns-else-starts_with : goal.returns-else-starts_with
 unfolding is_skipped

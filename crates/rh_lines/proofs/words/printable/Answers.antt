@@ -2,9 +2,9 @@ use Rattle.std.proofs.Common.{◌∙◌, sym, rules, tests}
 use Rattle.std.proofs.lemmas.Iterator.{YieldsList-from_slice}
 use Rattle.std.proofs.lemmas.Iterator.Search.{all_from_yields_List}
 use Rattle.std.proofs.lemmas.Result.{MatchResult-at_ok}
-use Rattle.rh_script.specs.Lines.{is_printable}
-use Rattle.rh_script.proofs.Printing.{can_be_text}
-use Rattle.rh_script.proofs.words.printable.Goals as goal
+use Rattle.rh_lines.specs.Lines.{is_printable}
+use Rattle.rh_lines.proofs.Printing.{can_be_text}
+use Rattle.rh_lines.proofs.words.printable.Goals as goal
 
 pub unwrap-requires : goal.unwrap-requires
 unwrap-requires c =

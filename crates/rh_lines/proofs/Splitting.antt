@@ -9,7 +9,7 @@ use Rattle.std.proofs.lemmas.Str.Pattern.{drop_at_char}
 use Rattle.std.specs.Prelude.{nat_lt, filter, unwrap_or}
 use Rattle.std.specs.List.{slice_split, position_or_len, before_first, after_first}
 use Rattle.std.specs.Str.Pattern.{FindsCharPrefix, CutsPrefixes, IsFullyTrimmed, IsTrimStartMatches}
-use Rattle.rh_play.specs.Lines.{is_line_feed, is_space, has_bytes, ended, lines_of, words_of}
+use Rattle.rh_lines.specs.Lines.{is_line_feed, is_space, has_bytes, ended, lines_of, words_of}
 
 -- a list in which no element passes is the one part
 split_whole : {X : Type 0} (p : X → Bool) (xs : List X) → length xs ≤ position_or_len p xs → slice_split p xs ≡ xs ∷ []

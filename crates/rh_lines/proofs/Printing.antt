@@ -6,7 +6,7 @@ use Rattle.std.proofs.lemmas.Bool.{and_parts}
 use Rattle.std.proofs.lemmas.Str.{IsUtf8-from_ascii}
 use Rattle.std.proofs.lemmas.Str.Ascii.{IsAscii-nil, IsAscii-cons}
 use Rattle.std.proofs.lemmas.Bool.Decides.{nat_tests}
-use Rattle.rh_script.specs.Lines.{is_printable}
+use Rattle.rh_lines.specs.Lines.{is_printable}
 
 below_128 : (b : ℕ) → is_printable b ≡ true → b < 128
 below_128 b h = grind (arith, nat_tests)

@@ -1,0 +1,3 @@
+pub mod Splitting
+mod Printing
+pub mod Walking
