@@ -14,20 +14,20 @@ use Rattle.rh_play.specs.declared.line.Line.TheVariants as lines
 use Rattle.rh_play.specs.declared.play.Play as plays
 use Rattle.rh_play.specs.declared.play.Work.TheVariants as work
 use Rattle.rh_play.specs.declared.schedule.Order.{Order}
-use Rattle.rh_play.specs.Saying.{Saying, Play, Bits, Held, Work, Share, Schedule, Place, AtStart, AfterPlay, AfterBits, AfterHeld, AfterRooms, AmongWork, AmongSchedule}
+use Rattle.rh_play.specs.Saying.{Saying, Play, Bits, Held, Work, Share, Schedule, Stage, AtStart, AfterPlay, AfterBits, AfterHeld, AfterRooms, AmongWork, AmongSchedule}
 use Rattle.rh_play.specs.Grammar.{Way, entered, fits, follow}
 use Rattle.rh_play.specs.Play.{rooms_said, said_of, saying_as, table_said, with_work, work_said}
 
 -- ---- a line that may stand there, or not
 
-abbrev To : Place → List Saying → Result Way PlayTextKind
-To place said = Ok (place, said)
+abbrev To : Stage → List Saying → Result Way PlayTextKind
+To stage said = Ok (stage, said)
 
-pub goes : (way : Way) (line : Line) (said : Saying) (place : Place) (more : List Saying) → IsTrue (fits (saying_as line)) → saying_as line ≡ said → follow way.0 said ≡ Some place → way.1 ++ said ∷ [] ≡ more → entered way (saying_as line) ≡ Ok (place, more)
+pub goes : (way : Way) (line : Line) (said : Saying) (stage : Stage) (more : List Saying) → IsTrue (fits (saying_as line)) → saying_as line ≡ said → follow way.0 said ≡ Some stage → way.1 ++ said ∷ [] ≡ more → entered way (saying_as line) ≡ Ok (stage, more)
 unfolding entered
-goes way line said place more fit is next same =
+goes way line said stage more fit is next same =
     let fits_too : fits said ≡ true = rw is at fit in
-    rw (is, fits_too, next) (ap (To place) same)
+    rw (is, fits_too, next) (ap (To stage) same)
 
 pub stays : (way : Way) (said : Saying) → follow way.0 said ≡ None → entered way said ≡ Err BadLine
 unfolding entered
@@ -114,9 +114,9 @@ no_rooms (lines.Work v) not_rooms = refl
 no_rooms (lines.Share w v) not_rooms = refl
 no_rooms (lines.Schedule o) not_rooms = refl
 
-pub entered_alike : (place other : Place) (said : List Saying) (line : Saying) → follow place line ≡ follow other line → entered (place, said) line ≡ entered (other, said) line
+pub entered_alike : (stage other : Stage) (said : List Saying) (line : Saying) → follow stage line ≡ follow other line → entered (stage, said) line ≡ entered (other, said) line
 unfolding entered
-entered_alike place other said line same = rw same refl
+entered_alike stage other said line same = rw same refl
 
 -- ---- ranges
 

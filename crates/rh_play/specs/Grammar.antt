@@ -16,7 +16,7 @@ use Rattle.rh_play.specs.declared.schedule.Step.{Step}
 use Rattle.rh_play.specs.declared.schedule.Step.TheVariants as steps
 use Rattle.rh_play.specs.declared.verb.Verb.{Verb}
 use Rattle.rh_play.specs.declared.verb.Verb.TheVariants as verbs
-use Rattle.rh_play.specs.Saying.{Saying, Play, Bits, Held, Rooms, Work, Share, Schedule, Place, AtStart, AfterPlay, AfterBits, AfterHeld, AfterRooms, AmongWork, AmongSchedule}
+use Rattle.rh_play.specs.Saying.{Saying, Play, Bits, Held, Rooms, Work, Share, Schedule, Stage, AtStart, AfterPlay, AfterBits, AfterHeld, AfterRooms, AmongWork, AmongSchedule}
 use Rattle.rh_lines.specs.Lines.{is_printable, is_skipped, lines_of, without_return, words_of}
 
 -- one step, and then the next
@@ -143,8 +143,8 @@ fits (Rooms descriptors marks) = is_within 1 MAX_ROOM descriptors && is_within 1
 fits (Schedule (Turn worker turns)) = is_within 1 MAX_TURNS turns
 fits _ = true
 
--- the place after a line, if it may stand there
-unfoldable pub follow : Place → Saying → Option Place
+-- how far a text has come after a line, if that may stand there
+unfoldable pub follow : Stage → Saying → Option Stage
 follow AtStart (Play kind) = Some AfterPlay
 follow AfterPlay (Bits bits) = Some AfterBits
 follow AfterBits (Held keys) = Some AfterHeld
@@ -158,13 +158,13 @@ follow AmongWork (Schedule order) = Some AmongSchedule
 follow AmongSchedule (Schedule order) = Some AmongSchedule
 follow _ _ = None
 
--- the place that was come to, and what was said on the way
+-- how far a text has come, and what was said on the way
 abbrev pub Way : Type 0
-Way = Place × List Saying
+Way = Stage × List Saying
 
 unfoldable pub entered : Way → Saying → Result Way PlayTextKind
 entered way said =
-    if fits said then known (follow way.0 said) >>= (λ place. Ok (place, way.1 ++ said ∷ []))
+    if fits said then known (follow way.0 said) >>= (λ stage. Ok (stage, way.1 ++ said ∷ []))
     else Err BadLine
 
 abbrev pub entered_if_any : Way → Option Saying → Result Way PlayTextKind
