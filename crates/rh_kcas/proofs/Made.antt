@@ -1,12 +1,13 @@
 -- A table that is made meets the rule, and at its close the cells are those that the acts made.
-use Rattle.std.proofs.Common.{◌≡◌, ◌≢◌, ℕ, zero, suc, ◌+◌, ◌-◌, ◌<◌, ◌≤◌, true≢false, false, eq-eqb, Option, Some, None, List, [], ◌∷◌, ◌++◌, length, length-take-le, get_or, get_or-take, map, set, take, replicate, ⊎_elim, refl, sym, ap, ◌∙◌, subst, arith}
-use Rattle.std.specs.Prelude.{MatchOption, unwrap_or}
+use Rattle.std.proofs.Common.{◌≡◌, ◌≢◌, ℕ, zero, suc, ◌+◌, ◌-◌, ◌<◌, ◌≤◌, false, Option, Some, None, List, [], ◌∷◌, ◌++◌, length, length-take-le, get_or, get_or-take, map, set, take, replicate, ⊎_elim, refl, sym, ap, ◌∙◌, subst, arith}
+use Rattle.std.specs.Prelude.{IsSome, MatchOption}
 use Rattle.std.proofs.lemmas.List.{ext_get_or, get_or-map, get_or-set_other, get_or-set_same, length-map, take_all}
 use mathlib.Core.Option.{some, some-injective, some-ne-none}
 use lib.ListN.{get_elem?}
 use Rattle.atomic_table.specs.Table.{State, opening}
 use Rattle.rh_world.proofs.Updated.{same_nat}
 use Rattle.rh_tagword.specs.Word.{IsValue, is_plain, plain_number, tag_of}
+use Rattle.rh_tagword.proofs.PlainWords.{value_said, value_there}
 use Rattle.rh_descriptor.specs.declared.known.Known.{Known}
 use Rattle.rh_descriptor.specs.declared.shape.Shape.{Shape}
 use Rattle.rh_descriptor.specs.Parts.{IsShape, cell_count, word_count}
@@ -100,23 +101,22 @@ closes_with z y id vs st words same some_one all holds at quiet is =
     let r = closes z y id vs st same some_one all holds at quiet in
     (r.0, subst (λ (ws : List ℕ). r.0.cells ≡ take (cell_count z) ws) is r.1, subst (λ (ws : List ℕ). cell_count z ≤ length ws) is r.2)
 
--- a plain word says its value
-word_of_value : (o : Option ℕ) (word : ℕ) → MatchOption o (is_plain word ≡ false) (λ value. IsValue value × (word ≡ plain_number value)) → IsPlain word → word ≡ plain_number (unwrap_or o 0)
-word_of_value None word h plain_word = absurd (true≢false (sym (eq-eqb (tag_of word) 0 plain_word) ∙ h))
-word_of_value (Some x) word h plain_word = h.1
-
 module _ (z : Shape) (vs : List Known) (words : List ℕ) (m : AreMade z vs) (front : m.cells ≡ take (cell_count z) words) where
   pub front_plain : (c : ℕ) → c < cell_count z → IsPlain (get_or words c 0)
   front_plain c inside = subst (λ (n : ℕ). IsPlain n) (ap (λ (l : List ℕ). get_or l c 0) front ∙ get_or-take (cell_count z) words c 0 inside) (m.rested.plain c inside)
 
+  pub value_given : (n word : ℕ) (o : Option ℕ) → n < cell_count z → get_elem? words n ≡ some word
+      → MatchOption o (is_plain word ≡ false) (λ value. IsValue value × (word ≡ plain_number value)) → IsSome o
+  value_given n word o inside at says = value_there o word says (subst (λ (k : ℕ). IsPlain k) (get_from words n word at) (front_plain n inside))
+
   -- one value more is handed out
   pub one_more : (values : List ℕ) (n x : ℕ) (word : ℕ) (o : Option ℕ) → n < cell_count z → n < length values → get_elem? words n ≡ some word
-      → MatchOption o (is_plain word ≡ false) (λ value. IsValue value × (word ≡ plain_number value)) → x ≡ unwrap_or o 0
+      → MatchOption o (is_plain word ≡ false) (λ value. IsValue value × (word ≡ plain_number value)) → o ≡ Some x
       → ((c : ℕ) → c < n → get_or words c 0 ≡ plain_number (get_or values c 0)) → (c : ℕ) → c < n + 1 → get_or words c 0 ≡ plain_number (get_or (set values n x) c 0)
   one_more values n x word o inside room at says is before c less = ⊎_elim
       (λ (q : c ≡ n).
       let here = get_from words n word at in
-      ap (λ (i : ℕ). get_or words i 0) q ∙ here ∙ word_of_value o word says (subst (λ (k : ℕ). IsPlain k) here (front_plain n inside)) ∙ ap plain_number (sym is)
+      ap (λ (i : ℕ). get_or words i 0) q ∙ here ∙ (value_said o word x says is).1
       ∙ ap plain_number (sym (get_or-set_same values n x 0 room)) ∙ ap (λ (i : ℕ). plain_number (get_or (set values n x) i 0)) (sym q))
       (λ (ne : c ≢ n). before c (omega arith) ∙ ap plain_number (sym (get_or-set_other values n c x 0 ne))) (same_nat c n)
 

@@ -72,7 +72,9 @@ pub fn close(table: Table, seat: Seat, cells: &mut [u64])
     } = seat;
     let closed = inner.close_with(seat);
     for cell in 0..cells.len() {
-        cells[cell] = plain_value(closed.word(cell)).unwrap_or(0);
+        // (at rest each cell is plain)
+        let value = plain_value(closed.word(cell)).unwrap();
+        cells[cell] = value;
     }
     closed.free();
 }

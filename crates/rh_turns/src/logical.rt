@@ -28,7 +28,7 @@ pub fn logical_value(shape: &Shape, words: &[u64], hands: &[Hand], cell: usize) 
     requires readable { IsReadable shape.now words.now (views_of hands.now) cell }
     ensures { IsValueOf shape.now words.now (views_of hands.now) cell result }
 {
-    plain_value(logical_word(shape, words, hands, cell)).unwrap_or(0)
+    plain_value(logical_word(shape, words, hands, cell)).unwrap()
 }
 
 fn logical_word(shape: &Shape, words: &[u64], hands: &[Hand], cell: usize) -> u64

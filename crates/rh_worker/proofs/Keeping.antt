@@ -1,9 +1,9 @@
 -- What a worker's step leaves of what was read, and what the Read of a cell adds to it.
 use Rattle.std.proofs.Common.{◌≡◌, ℕ, ◌<◌, false, true, true≢false, eq-eqb, Bool, cond, filter, map, List, ◌∷◌, Option, Some, None, refl, sym, ap, ◌∙◌, subst, arith}
-use Rattle.std.specs.Prelude.{MatchOption, nat_lt, unwrap_or}
+use Rattle.std.specs.Prelude.{nat_lt}
 use Rattle.std.specs.List.{Contains}
 use Rattle.std.proofs.lemmas.Bool.Decides.{nat_tests}
-use Rattle.rh_tagword.specs.Word.{IsValue, is_plain, plain_number, tag_of}
+use Rattle.rh_tagword.specs.Word.{IsValue, plain_number}
 use Rattle.rh_acts.specs.Done.{Kept, kept}
 use Rattle.rh_acts.proofs.ActLemmas.{contains_head}
 use Rattle.rh_world.specs.Sides.{KeptRead, claim_side}
@@ -60,11 +60,9 @@ has_seen z k t v then next m key s n h = record { within = h.within; were_read =
 pub plain_value : (x : ℕ) → value_of (plain_number x) ≡ x
 plain_value x = omega arith
 
--- what a plain word says
-pub value_said : (o : Option ℕ) (word : ℕ) → MatchOption o (is_plain word ≡ false) (λ value. IsValue value × (word ≡ plain_number value)) → IsPlain word
-    → IsValue (unwrap_or o 0) × (unwrap_or o 0 ≡ value_of word)
-value_said None word h plain_word = absurd (true≢false (sym (eq-eqb (tag_of word) 0 plain_word) ∙ h))
-value_said (Some x) word h plain_word = (h.0, sym (ap value_of h.1 ∙ plain_value x))
+-- what a plain word says is its value
+pub value_read : (word value : ℕ) → IsValue value × (word ≡ plain_number value) → value ≡ value_of word
+value_read word value said = sym (ap value_of said.1 ∙ plain_value value)
 
 -- a word that is kept as read, before all that were kept
 pub read_first : (z : Shape) (v next : View) (c word number value : ℕ) → next.side.reads ≡ record { cell = c; word = word; acts = 0; next_number = number } ∷ v.side.reads

@@ -62,7 +62,9 @@ pub(crate) fn scan<T: Steps>(
             None
         }
         Looked::Sees(word) => {
-            worker.sights.seen[seen] = plain_value(word).unwrap_or(0);
+            // (a look ends with a plain word)
+            let value = plain_value(word).unwrap();
+            worker.sights.seen[seen] = value;
             decide(worker, shape, seen + 1)
         }
         Looked::Spent => {

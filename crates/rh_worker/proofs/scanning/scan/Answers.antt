@@ -1,5 +1,6 @@
 use Rattle.std.proofs.Common.{suc, ◌≡◌, ◌+◌, ◌∙◌, inl, rules, set, subst, sym, arith}
 use Rattle.rh_layout.specs.Order.{home_of}
+use Rattle.rh_tagword.proofs.PlainWords.{value_said, value_there}
 use Rattle.rh_layout.specs.Round.{place_after}
 use Rattle.rh_descriptor.specs.Parts.{cell_count}
 use Rattle.rh_descriptor.specs.View.{View}
@@ -9,7 +10,7 @@ use Rattle.rh_helping.specs.Looking.{kind_of_looking}
 use Rattle.rh_worker.specs.Makes.{Makes}
 use Rattle.rh_worker.specs.Reading.{HasRead}
 use Rattle.rh_worker.proofs.Anew.{kept_alike, left_off, none_read, one_read, tells_anew}
-use Rattle.rh_worker.proofs.Keeping.{has_seen, read_first, stepped_makes, value_kept, value_said}
+use Rattle.rh_worker.proofs.Keeping.{has_seen, read_first, stepped_makes, value_kept, value_read}
 use Rattle.rh_worker.proofs.Scans.{looks_on, more_seen}
 use Rattle.rh_worker.proofs.scanning.scan.Goals as goal
 
@@ -35,6 +36,9 @@ returns-in-On-clause-anew g c before h =
     let next = c.step.new.side.known.view in
     (none_read z before w.side.known.view next w.key w.sights.seen.items c.args.seen (kept_alike z w.side.known.view next c.in-On.ensures.made.reads) h, tt)
 
+pub unwrap-value-requires : goal.unwrap-value-requires
+unwrap-value-requires g c = value_there c.plain_value.result c.in-Sees.word c.plain_value.ensures c.in-Sees.ensures.leads.1
+
 pub decide-requires-clause-sound : goal.decide-requires-clause-sound
 decide-requires-clause-sound g c = c.in-Sees.ensures.made.trusts.knows.sound
 
@@ -47,10 +51,10 @@ decide-requires-clause-were_read g c =
     let a = c.in-Sees in
     let h = c.requires.worker.stays.1 in
     let at : c.cell_after-cell.result ≡ place_after (cell_count z) (home_of z.bits w.key) c.args.seen = cc in
-    let said = value_said c.plain_value.result a.word c.plain_value.ensures a.ensures.leads.1 in
-    let first = read_first z v next c.cell_after-cell.result a.word v.next_number c.unwrap_or.result a.ensures.made.reads (search rules) (c.unwrap_or.ensures ∙ said.1) in
+    let said = value_said c.plain_value.result a.word c.unwrap-value.result c.plain_value.ensures c.unwrap-value.ensures in
+    let first = read_first z v next c.cell_after-cell.result a.word v.next_number c.unwrap-value.result a.ensures.made.reads (search rules) (value_read a.word c.unwrap-value.result said) in
     let made = stepped_makes z _ _ _ _ v _ next a.ensures.made in
-    more_seen z v next w.key c.args.seen c.cell_after-cell.result c.unwrap_or.result w.sights.seen.items made.reads h.were_read (omega (arith, h.within, c.requires.worker.room.seen)) at (value_kept z v c.cell_after-cell.result c.unwrap_or.result next first)
+    more_seen z v next w.key c.args.seen c.cell_after-cell.result c.unwrap-value.result w.sights.seen.items made.reads h.were_read (omega (arith, h.within, c.requires.worker.room.seen)) at (value_kept z v c.cell_after-cell.result c.unwrap-value.result next first)
 
 pub returns-in-Sees-clause-makes : goal.returns-in-Sees-clause-makes
 returns-in-Sees-clause-makes g c =
@@ -68,12 +72,12 @@ returns-in-Sees-clause-anew g c before h =
     let room = c.requires.worker.room.seen in
     let inside = c.requires.worker.stays.1.within in
     let at : c.cell_after-cell.result ≡ place_after (cell_count z) (home_of z.bits w.key) c.args.seen = cc in
-    let said = value_said c.plain_value.result a.word c.plain_value.ensures a.ensures.leads.1 in
-    let first = read_first z v next c.cell_after-cell.result a.word v.next_number c.unwrap_or.result a.ensures.made.reads (search rules) (c.unwrap_or.ensures ∙ said.1) in
+    let said = value_said c.plain_value.result a.word c.unwrap-value.result c.plain_value.ensures c.unwrap-value.ensures in
+    let first = read_first z v next c.cell_after-cell.result a.word v.next_number c.unwrap-value.result a.ensures.made.reads (search rules) (value_read a.word c.unwrap-value.result said) in
     let on = looks_on z v next c.args.looking (Sees a.word) c.requires.worker.stays.0 a.ensures.leads a.ensures.made.opened in
     let count : suc c.args.seen ≡ c.args.seen + 1 = omega arith in
-    let one = one_read z before v next w.key w.sights.seen.items c.args.seen c.cell_after-cell.result c.unwrap_or.result (omega (arith, inside, room)) at first h in
-    let got = c.decide.ensures.anew before (subst (HasRead z before next w.key (set w.sights.seen.items c.args.seen c.unwrap_or.result)) count one) in
+    let one = one_read z before v next w.key w.sights.seen.items c.args.seen c.cell_after-cell.result c.unwrap-value.result (omega (arith, inside, room)) at first h in
+    let got = c.decide.ensures.anew before (subst (HasRead z before next w.key (set w.sights.seen.items c.args.seen c.unwrap-value.result)) count one) in
     (got.0, tells_anew z before w.kind w.key v _ _ (subst (GoesOn v) (sym c.decide.ensures.same_view) on) got.1)
 
 pub returns-in-Spent-clause-anew : goal.returns-in-Spent-clause-anew
