@@ -12,7 +12,7 @@ mod settling;
 mod steps;
 mod table;
 
-pub use calls::{Placed, peek_cell, index, settle, status};
+pub use calls::{Placed, peek_cell, place, settle, status};
 pub use on_table::OnTable;
 pub use seat::{Seat, unused_side};
 pub use table::{Inner, Table};

@@ -1,6 +1,5 @@
 -- What was read for a key since it was begun.
-use Rattle.std.proofs.Common.{zero, suc, ◌≡◌, ℕ, ◌<◌, ◌≤◌, List, ◌∷◌, ◌++◌, length, map, filter, get_or, set, take, get_or-take, length-take-le, append_assoc, inl, refl, sym, ap, ◌∙◌, subst, arith}
-use Rattle.std.proofs.lemmas.List.{get_or-set_other, get_or-set_same}
+use Rattle.std.proofs.Common.{zero, suc, ◌≡◌, ℕ, ◌<◌, ◌≤◌, List, ◌∷◌, ◌++◌, length, map, filter, get_or, take, get_or-take, length-take-le, append_assoc, inl, refl, sym, ap, ◌∙◌, subst, arith}
 use Rattle.std.specs.Prelude.{Bool, Option, Some, None, IfSome, nat_lt}
 use Rattle.rh_ledger.specs.declared.tally.Kind.{Kind}
 use Rattle.rh_world.specs.Sides.{KeptRead}
@@ -42,16 +41,15 @@ seen_alike z before v k seen other n same h = record {
 }
 
 -- the next cell is read
-pub one_read : (z : Shape) (before : List Kept) (v next : View) (k : ℕ) (seen : List ℕ) (n c value : ℕ) → n < length seen
+pub one_read : (z : Shape) (before : List Kept) (v next : View) (k : ℕ) (seen now : List ℕ) (n c value : ℕ) → ((p : ℕ) → p < n → get_or now p 0 ≡ get_or seen p 0) → get_or now n 0 ≡ value
     → c ≡ place_after (cell_count z) (home_of z.bits k) n → kept_of z next ≡ kept c value ∷ kept_of z v
-    → HasRead z before v k seen n → HasRead z before next k (set seen n value) (suc n)
-one_read z before v next k seen n c value inside at now h =
-    let l : List ℕ = set seen n value in
-    let old = seen_alike z before v k seen l n (λ p less. get_or-set_other seen n p value 0 (omega arith)) h in
+    → HasRead z before v k seen n → HasRead z before next k now (suc n)
+one_read z before v next k seen now n c value same last at read h =
+    let old = seen_alike z before v k seen now n same h in
     record {
       since = old.since;
-      reads = now ∙ ap (λ (ks : List Kept). kept c value ∷ ks) old.reads
-          ∙ ap (λ (x : Kept). x ∷ (seen_back z k l n ++ (old.since ++ before))) (ap (λ (a : ℕ). kept a value) at ∙ ap (λ (x : ℕ). kept (place_after (cell_count z) (home_of z.bits k) n) x) (sym (get_or-set_same seen n value 0 inside)));
+      reads = read ∙ ap (λ (ks : List Kept). kept c value ∷ ks) old.reads
+          ∙ ap (λ (x : Kept). x ∷ (seen_back z k now n ++ (old.since ++ before))) (ap (λ (a : ℕ). kept a value) at ∙ ap (λ (x : ℕ). kept (place_after (cell_count z) (home_of z.bits k) n) x) (sym last));
     }
 
 -- what was seen, as a list of its own

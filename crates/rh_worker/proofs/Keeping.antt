@@ -53,7 +53,7 @@ stepped_makes z k descs reads t v then next m = record {
 
 pub has_seen : {T : Type 0} {shows : Shape → T → View → Type 0} {does : Shape → Step → T → View → ℕ → T → View → Type 0} (z : Shape) (k : StepKind) (t : T) (v : View) (then : T) (next : View) → Makes shows does z k t v then next
     → (key : ℕ) (s : Sights) (n : ℕ) → HasSeen z v key s n → HasSeen z next key s n
-has_seen z k t v then next m key s n h = record { within = h.within; were_read = λ p l. m.reads _ (h.were_read p l) }
+has_seen z k t v then next m key s n h = record { within = h.within; seen = h.seen; were_read = λ p l. m.reads _ (h.were_read p l) }
 
 -- ---- the Read of a cell
 

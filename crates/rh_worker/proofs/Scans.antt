@@ -1,7 +1,6 @@
 -- What a scan has seen, and what it tells.
-use Rattle.std.proofs.Common.{◌≡◌, ◌≢◌, None, ℕ, ◌+◌, ◌<◌, ◌≤◌, Bool, List, [], ◌∷◌, ◌++◌, length, get_or, set, take, length-take-le, sym, ap, ◌∙◌, subst, ⊎_elim, arith}
+use Rattle.std.proofs.Common.{◌≡◌, ◌≢◌, None, ℕ, ◌+◌, ◌<◌, ◌≤◌, Bool, List, length, get_or, get_or-take, take, length-take-le, sym, ap, ◌∙◌, subst, ⊎_elim, arith}
 use Rattle.std.specs.List.{Contains}
-use Rattle.std.proofs.lemmas.List.{get_or_append_left, get_or_push, length_push, take_more_set}
 use Rattle.rh_layout.specs.Round.{place_after}
 use Rattle.rh_layout.specs.Order.{home_of}
 use Rattle.rh_ledger.specs.declared.tally.Kind.{Kind}
@@ -32,28 +31,30 @@ told_is Insert z v k seen entries told room read d =
 told_is Remove z v k seen entries told room read d = absurd d
 told_is Ask z v k seen entries told room read d = record { seen = seen; room = room; read = read; tells = d }
 
-pub seen_again : (z : Shape) (v : View) (k : ℕ) (s t : Sights) (n : ℕ) → n < cell_count z → t.seen.items ≡ s.seen.items → WereRead z v k (take n s.seen.items) → HasSeen z v k t n
-seen_again z v k s t n inside same h = record { within = inside; were_read = subst (λ (l : List ℕ). WereRead z v k (take n l)) (sym same) h }
+pub seen_again : (z : Shape) (v : View) (k : ℕ) (s t : Sights) (n : ℕ) → n < cell_count z → n ≤ length s.seen.items → t.seen.items ≡ s.seen.items → WereRead z v k (take n s.seen.items)
+    → HasSeen z v k t n
+seen_again z v k s t n inside within same h = record { within = inside; seen = omega (arith, ap length same, within); were_read = subst (λ (l : List ℕ). WereRead z v k (take n l)) (sym same) h }
 
 pub none_seen : (z : Shape) (v : View) (k : ℕ) (s : Sights) → 0 < cell_count z → HasSeen z v k s 0
-none_seen z v k s more = record { within = more; were_read = λ p l. absurd (omega arith) }
+none_seen z v k s more = record { within = more; seen = omega arith; were_read = λ p l. absurd (omega arith) }
 
 -- one more cell is read
-pub more_seen : (z : Shape) (v next : View) (k n c value : ℕ) (items : List ℕ) → ((r : Kept) → Contains (kept_of z v) r → Contains (kept_of z next) r)
-    → WereRead z v k (take n items) → n < length items → c ≡ place_after (cell_count z) (home_of z.bits k) n → Contains (kept_of z next) (kept c value)
-    → WereRead z next k (take (n + 1) (set items n value))
-more_seen z v next k n c value items stay before inside at now =
-    subst (WereRead z next k) (sym (take_more_set items n value inside)) (λ p l.
-    let size = length-take-le n items (omega arith) in
+pub more_seen : (z : Shape) (v next : View) (k n c value : ℕ) (items now : List ℕ) → ((r : Kept) → Contains (kept_of z v) r → Contains (kept_of z next) r)
+    → WereRead z v k (take n items) → n ≤ length items → n < length now → ((p : ℕ) → p < n → get_or now p 0 ≡ get_or items p 0) → get_or now n 0 ≡ value
+    → c ≡ place_after (cell_count z) (home_of z.bits k) n → Contains (kept_of z next) (kept c value) → WereRead z next k (take (n + 1) now)
+more_seen z v next k n c value items now stay before reached inside same last at read p l =
     let is : ℕ → ℕ = place_after (cell_count z) (home_of z.bits k) in
+    let size = length-take-le (n + 1) now (omega (arith, inside)) in
+    let here : get_or (take (n + 1) now) p 0 ≡ get_or now p 0 = get_or-take (n + 1) now p 0 (omega (arith, size, l)) in
     ⊎_elim (λ (q : p ≡ n).
-    let e : get_or (take n items ++ value ∷ []) p 0 ≡ value = ap (λ (m : ℕ). get_or (take n items ++ value ∷ []) m 0) q ∙ get_or_push (take n items) value 0 n size in
+    let e : get_or (take (n + 1) now) p 0 ≡ value = here ∙ ap (λ (m : ℕ). get_or now m 0) q ∙ last in
     let c_is : c ≡ is p = at ∙ ap is (sym q) in
-    subst (λ (x : ℕ). Contains (kept_of z next) (kept (is p) x)) (sym e) (subst (λ (x : ℕ). Contains (kept_of z next) (kept x value)) c_is now))
+    subst (λ (x : ℕ). Contains (kept_of z next) (kept (is p) x)) (sym e) (subst (λ (x : ℕ). Contains (kept_of z next) (kept x value)) c_is read))
     (λ (ne : p ≢ n).
-    let less : p < length (take n items) = omega (arith, length_push (take n items) value) in
-    subst (λ (x : ℕ). Contains (kept_of z next) (kept (is p) x)) (sym (get_or_append_left (take n items) (value ∷ []) 0 p less)) (stay _ (before p less)))
-    (same_nat p n))
+    let less : p < n = omega (arith, size, l) in
+    let e : get_or (take (n + 1) now) p 0 ≡ get_or (take n items) p 0 = here ∙ same p less ∙ sym (get_or-take n items p 0 less) in
+    subst (λ (x : ℕ). Contains (kept_of z next) (kept (is p) x)) (sym e) (stay _ (before p (omega (arith, length-take-le n items reached, less)))))
+    (same_nat p n)
 
 -- ---- looking at a cell
 

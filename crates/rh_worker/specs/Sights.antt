@@ -1,6 +1,7 @@
 -- What the cells from a key's home on lead to, and the entries of the key's act.
 use Rattle.std.specs.Prelude.{◌≡◌, ℕ, ◌^◌, ◌<◌, ◌≤◌, ◌⊎◌, Bool, true, false, List, length, take, slice_index}
 use Rattle.std.specs.List.{Contains}
+use Rattle.std.specs.Vec.{vec_capacity}
 use Rattle.rh_tagword.specs.Word.{IsValue, plain_number}
 use Rattle.rh_probe.specs.Look.{Finds}
 use Rattle.rh_probe.specs.declared.answer.Look.TheVariants as look
@@ -38,11 +39,14 @@ pub record IsPlan (kind : Kind) (b k : ℕ) (entries : List Entry) (p : Plan) : 
   pub act : Does kind b k p.changes (act_of (take p.entries entries))
   pub fit : AreFit b (take p.entries entries)
 
--- room for what each cell holds, and for an entry of each
+-- room for what each cell holds, and for an entry of each; of it so much was in use as the longest scan took
 pub record HasRoom (b : ℕ) (s : Sights) : Type 0 where
-  pub seen : length s.seen.items ≡ 2 ^ b
-  pub news : length s.news.items ≡ 2 ^ b
-  pub entries : length s.entries.items ≡ 2 ^ b
+  pub seen : 2 ^ b ≤ vec_capacity s.seen
+  pub news : 2 ^ b ≤ vec_capacity s.news
+  pub entries : 2 ^ b ≤ vec_capacity s.entries
+  pub few : length s.seen.items ≤ 2 ^ b
+  pub as_many_news : length s.news.items ≡ length s.seen.items
+  pub as_many_entries : length s.entries.items ≡ length s.seen.items
   pub values : (p : ℕ) → IsValue (slice_index s.seen.items p)
 
 -- The key is done by what was seen, with this answer: it is to be inserted and is there, or it is asked for and its place

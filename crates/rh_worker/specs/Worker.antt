@@ -55,6 +55,7 @@ WereRead z v k seen = (p : ℕ) → p < length seen → Contains (kept_of z v) (
 -- the first n cells from the key's home on were read, and there is a next one
 pub record HasSeen (z : Shape) (v : View) (k : ℕ) (s : Sights) (n : ℕ) : Type 0 where
   pub within : n < cell_count z
+  pub seen : n ≤ length s.seen.items
   pub were_read : WereRead z v k (take n s.seen.items)
 
 -- ---- an own descriptor that is to be opened: its row may be of it by now

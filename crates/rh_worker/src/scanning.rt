@@ -1,6 +1,6 @@
 //! Scanning the cells from a key's home on, one Read after the other.
 
-ghost use Rattle.std.specs.Prelude.{◌≡◌, ◌<◌, ◌≤◌, ◌++◌, ℕ, IfSome, List, None, take};
+ghost use Rattle.std.specs.Prelude.{◌≡◌, ◌<◌, ◌≤◌, ◌++◌, ℕ, IfSome, List, None, length, take};
 ghost use Rattle.rh_descriptor.specs.Parts.{IsShape};
 ghost use Rattle.rh_run.specs.Advance.{Advances};
 ghost use Rattle.rh_worker.specs.Makes.{Makes};
@@ -64,7 +64,7 @@ pub(crate) fn scan<T: Steps>(
         Looked::Sees(word) => {
             // (a look ends with a plain word)
             let value = plain_value(word).unwrap();
-            worker.sights.seen[seen] = value;
+            worker.sights.see(seen, value);
             decide(worker, shape, seen + 1)
         }
         Looked::Spent => {
@@ -82,6 +82,7 @@ fn decide(worker: &mut Worker, shape: &Shape, count: usize) -> Option<bool>
     requires room { HasRoom shape.now.bits worker.old.sights }
     requires clear { IsClear worker.old.side.known.view }
     requires count { count ≤ cell_count shape.now }
+    requires seen { count ≤ length worker.old.sights.seen.items }
     requires were_read { WereRead shape.now worker.old.side.known.view worker.old.key
         (take count worker.old.sights.seen.items) }
     ensures worker { IsWorker shape.now worker.new }

@@ -1,7 +1,9 @@
 //! What a worker has seen of the table, and the entries that it makes of it.
 
-ghost use Rattle.std.specs.Prelude.{◌≡◌, ◌^◌, ◌≤◌, ◌++◌, IfOk, drop, length, map, take};
+ghost use Rattle.std.specs.Prelude.{◌≡◌, ◌^◌, ◌<◌, ◌≤◌, ◌++◌, ℕ, IfOk, drop, length, map, slice_index, take};
+ghost use Rattle.std.specs.Vec.{vec_capacity};
 ghost use Rattle.rh_layout.specs.Key.{IsBits, IsKey};
+ghost use Rattle.rh_tagword.specs.Word.{IsValue};
 ghost use Rattle.rh_worker.specs.Sights.{AreValued, Decides, HasRoom, worded};
 ghost use Rattle.rh_worker.specs.declared.sights.Decision.TheVariants.{Acts};
 ghost use Rattle.rh_ledger.specs.declared.tally.Kind.TheVariants.{Insert, Remove, Ask};
@@ -14,8 +16,9 @@ use rh_probe::{Look, look};
 use rh_tagword::plain_word;
 use std::alloc::{AllocError, Global};
 
-/// Room for what the cells from a key's home on hold, and for the entries of the key's act. Each has
-/// as many places as the table has cells.
+/// Room for what the cells from a key's home on hold, and for the entries of the key's act. It does for
+/// as many as the table has cells, and grows in use as scans get longer: the memory behind is never
+/// touched.
 #[derive(Drop)]
 pub struct Sights {
     /// What the cells hold.
@@ -26,6 +29,13 @@ pub struct Sights {
     /// values.
     pub entries: Vec<Entry>,
 }
+
+/// What stands where no entry was planned yet.
+const NO_ENTRY: Entry = Entry {
+    cell: 0,
+    old: 0,
+    new: 0,
+};
 
 /// What the cells that were seen lead to.
 #[derive(Clone, Copy)]
@@ -45,16 +55,31 @@ impl Sights {
         ensures { IfOk result (HasRoom bits) }
     {
         let cells = 1usize << bits;
-        let nothing = Entry {
-            cell: 0,
-            old: 0,
-            new: 0,
-        };
         Ok(Sights {
-            seen: vec![in alloc; 0; cells]?,
-            news: vec![in alloc; 0; cells]?,
-            entries: vec![in alloc; nothing; cells]?,
+            seen: Vec::with_capacity(alloc, cells)?,
+            news: Vec::with_capacity(alloc, cells)?,
+            entries: Vec::with_capacity(alloc, cells)?,
         })
+    }
+
+    /// Keeps what the next cell holds, where so many were seen.
+    pub(crate) fn see(&mut self, count: usize, value: u64)
+        requires within { count ≤ length self.old.seen.items }
+        requires room { (b : ℕ) × HasRoom b self.old × (count < 2 ^ b) }
+        requires value { IsValue value }
+        ensures room { (b : ℕ) → HasRoom b self.old → count < 2 ^ b → HasRoom b self.new }
+        ensures before { (p : ℕ) → p < count →
+            slice_index self.new.seen.items p ≡ slice_index self.old.seen.items p }
+        ensures seen { slice_index self.new.seen.items count ≡ value }
+        ensures within { count < length self.new.seen.items }
+    {
+        if count < self.seen.len() {
+            self.seen[count] = value;
+        } else {
+            self.seen.push_reserved(value);
+            self.news.push_reserved(0);
+            self.entries.push_reserved(NO_ENTRY);
+        }
     }
 
     /// What the first `count` cells from the key's home on lead to.
@@ -62,7 +87,7 @@ impl Sights {
         requires bits { IsBits bits }
         requires key { IsKey key }
         requires room { HasRoom bits self.old }
-        requires count { count ≤ 2 ^ bits }
+        requires count { count ≤ length self.old.seen.items }
         ensures room { HasRoom bits self.new }
         ensures seen { self.new.seen.items ≡ self.old.seen.items }
         ensures decides { Decides kind bits key (take count self.old.seen.items)
@@ -79,7 +104,7 @@ impl Sights {
         requires bits { IsBits bits }
         requires key { IsKey key }
         requires room { HasRoom bits self.old }
-        requires count { count ≤ 2 ^ bits }
+        requires count { count ≤ length self.old.seen.items }
         ensures room { HasRoom bits self.new }
         ensures seen { self.new.seen.items ≡ self.old.seen.items }
         ensures decides { Decides Insert bits key (take count self.old.seen.items)
@@ -97,7 +122,7 @@ impl Sights {
         requires bits { IsBits bits }
         requires key { IsKey key }
         requires room { HasRoom bits self.old }
-        requires count { count ≤ 2 ^ bits }
+        requires count { count ≤ length self.old.seen.items }
         ensures room { HasRoom bits self.new }
         ensures seen { self.new.seen.items ≡ self.old.seen.items }
         ensures decides { Decides Remove bits key (take count self.old.seen.items)
@@ -117,6 +142,8 @@ impl Sights {
         requires values { AreValued (take entries self.old.entries.items) }
         ensures seen { self.new.seen ≡ self.old.seen }
         ensures news { self.new.news ≡ self.old.news }
+        ensures room { vec_capacity self.new.entries ≡ vec_capacity self.old.entries }
+        ensures as_many { length self.new.entries.items ≡ length self.old.entries.items }
         ensures entries { self.new.entries.items ≡
             map worded (take entries self.old.entries.items) ++ drop entries self.old.entries.items }
         ensures plan { result ≡ Acts (record { entries = entries; changes = changes }) }
@@ -129,7 +156,7 @@ impl Sights {
         requires bits { IsBits bits }
         requires key { IsKey key }
         requires room { HasRoom bits self.now }
-        requires count { count ≤ 2 ^ bits }
+        requires count { count ≤ length self.now.seen.items }
         ensures { Decides Ask bits key (take count self.now.seen.items)
             self.now.entries.items result }
     {

@@ -26,7 +26,7 @@ returns-after-count-cells-clause-worker c =
       room = c.in-More.ensures.room;
       stays = subst (Stays z v w.kind w.key t) (sym c.reading-worker.ensures) (elim c.if-count-cells.branch [
         | then-count-cells b ↦ subst (λ n. Stays z v w.kind w.key t (stage.Scan looking.Read n)) (sym b.seen-is)
-            (c.requires.clear, seen_again z v w.key w.sights t c.args.count (omega arith) c.in-More.ensures.seen c.requires.were_read)
+            (c.requires.clear, seen_again z v w.key w.sights t c.args.count (omega arith) c.requires.seen c.in-More.ensures.seen c.requires.were_read)
         | else-count-cells b ↦ subst (λ n. Stays z v w.kind w.key t (stage.Scan looking.Read n)) (sym b.seen-is) (c.requires.clear, none_seen z v w.key t (search rules))
       ]);
     }
@@ -36,7 +36,7 @@ returns-in-Done-clause-anew c before h =
     let w = c.args.worker.now in
     let z = c.args.shape.now in
     let v = w.side.known.view in
-    let within : c.args.count ≤ length w.sights.seen.items = omega (arith, c.requires.count, c.requires.room.seen) in (
+    let within = c.requires.seen in (
       left_off z before v w.key w.sights.seen.items _ c.args.count h,
       record { seen = take c.args.count w.sights.seen.items; read = front_read z before v w.key w.sights.seen.items c.args.count within h; tells = c.in-Done.ensures.decides },
     )

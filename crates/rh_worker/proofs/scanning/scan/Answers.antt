@@ -39,6 +39,15 @@ returns-in-On-clause-anew g c before h =
 pub unwrap-value-requires : goal.unwrap-value-requires
 unwrap-value-requires g c = value_there c.plain_value.result c.in-Sees.word c.plain_value.ensures c.in-Sees.ensures.leads.1
 
+pub see-requires-clause-room : goal.see-requires-clause-room
+see-requires-clause-room g c = (c.args.shape.now.bits, c.requires.worker.room, c.requires.worker.stays.1.within)
+
+pub see-requires-clause-value : goal.see-requires-clause-value
+see-requires-clause-value g c = (value_said c.plain_value.result c.in-Sees.word c.unwrap-value.result c.plain_value.ensures c.unwrap-value.ensures).0
+
+pub decide-requires-clause-room : goal.decide-requires-clause-room
+decide-requires-clause-room g c = c.see.ensures.room c.args.shape.now.bits c.requires.worker.room c.requires.worker.stays.1.within
+
 pub decide-requires-clause-sound : goal.decide-requires-clause-sound
 decide-requires-clause-sound g c = c.in-Sees.ensures.made.trusts.knows.sound
 
@@ -54,7 +63,8 @@ decide-requires-clause-were_read g c =
     let said = value_said c.plain_value.result a.word c.unwrap-value.result c.plain_value.ensures c.unwrap-value.ensures in
     let first = read_first z v next c.cell_after-cell.result a.word v.next_number c.unwrap-value.result a.ensures.made.reads (search rules) (value_read a.word c.unwrap-value.result said) in
     let made = stepped_makes z _ _ _ _ v _ next a.ensures.made in
-    more_seen z v next w.key c.args.seen c.cell_after-cell.result c.unwrap-value.result w.sights.seen.items made.reads h.were_read (omega (arith, h.within, c.requires.worker.room.seen)) at (value_kept z v c.cell_after-cell.result c.unwrap-value.result next first)
+    let e = c.see.ensures in
+    more_seen z v next w.key c.args.seen c.cell_after-cell.result c.unwrap-value.result w.sights.seen.items c.see.new.self.seen.items made.reads h.were_read h.seen e.within e.before e.seen at (value_kept z v c.cell_after-cell.result c.unwrap-value.result next first)
 
 pub returns-in-Sees-clause-makes : goal.returns-in-Sees-clause-makes
 returns-in-Sees-clause-makes g c =
@@ -69,15 +79,13 @@ returns-in-Sees-clause-anew g c before h =
     let v = w.side.known.view in
     let next = c.step.new.side.known.view in
     let a = c.in-Sees in
-    let room = c.requires.worker.room.seen in
-    let inside = c.requires.worker.stays.1.within in
     let at : c.cell_after-cell.result ≡ place_after (cell_count z) (home_of z.bits w.key) c.args.seen = cc in
     let said = value_said c.plain_value.result a.word c.unwrap-value.result c.plain_value.ensures c.unwrap-value.ensures in
     let first = read_first z v next c.cell_after-cell.result a.word v.next_number c.unwrap-value.result a.ensures.made.reads (search rules) (value_read a.word c.unwrap-value.result said) in
     let on = looks_on z v next c.args.looking (Sees a.word) c.requires.worker.stays.0 a.ensures.leads a.ensures.made.opened in
     let count : suc c.args.seen ≡ c.args.seen + 1 = omega arith in
-    let one = one_read z before v next w.key w.sights.seen.items c.args.seen c.cell_after-cell.result c.unwrap-value.result (omega (arith, inside, room)) at first h in
-    let got = c.decide.ensures.anew before (subst (HasRead z before next w.key (set w.sights.seen.items c.args.seen c.unwrap-value.result)) count one) in
+    let one = one_read z before v next w.key w.sights.seen.items c.see.new.self.seen.items c.args.seen c.cell_after-cell.result c.unwrap-value.result c.see.ensures.before c.see.ensures.seen at first h in
+    let got = c.decide.ensures.anew before (subst (HasRead z before next w.key c.see.new.self.seen.items) count one) in
     (got.0, tells_anew z before w.kind w.key v _ _ (subst (GoesOn v) (sym c.decide.ensures.same_view) on) got.1)
 
 pub returns-in-Spent-clause-anew : goal.returns-in-Spent-clause-anew
