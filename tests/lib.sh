@@ -1,0 +1,119 @@
+# What the scripts beside it share: each sources it first and ends by `finish`. It is not run by itself.
+# A script has from it $root, the top of the repository, and $work, an empty folder that goes when the script ends. The status
+# is 0 where all is as expected, 1 where something is not, and 77 where this machine lacks what the script needs.
+set -uo pipefail
+root=$(dirname "$(readlink -f "${BASH_SOURCE[0]}")")/..
+work=$(mktemp -d) || exit 1
+trap 'rm -rf "$work"' EXIT
+test_name=${0##*/}
+failed=0
+
+# wrong TEXT FILE..: tells what is not as expected, and shows these files. The script goes on, and fails at its end.
+wrong() {
+    echo "$test_name: $1"
+    shift
+    [ $# = 0 ] || tail -v -n +1 -- "$@"
+    failed=1
+    return 1
+}
+
+# fail TEXT FILE..: the same, and the script ends here.
+fail() {
+    wrong "$@"
+    exit 1
+}
+
+# finish: the end of each script.
+finish() {
+    [ "$failed" = 0 ] && echo "$test_name: all as expected"
+    exit "$failed"
+}
+
+# built PROGRAM..: the programs are built where they are not, or the script ends here.
+built() {
+    local program
+    for program in "$@"; do
+        "$root/$program" --version >/dev/null || fail "$program is not there"
+    done
+}
+
+# text FILE TEXT: writes the file FILE of the work folder. %b reads \n in TEXT; where it begins with @ it is a file's path, and
+# that file is copied.
+text() {
+    if [ "${2:0:1}" = @ ]; then cat -- "${2:1}" >"$work/$1"; else printf '%b' "$2" >"$work/$1"; fi || fail "no file $1 is written"
+}
+
+# keys FILE KEY..: writes a key file of the second version, of these keys, as 9 or 0x9.
+keys() {
+    local file=$1
+    shift
+    {
+        printf 'RHK2'
+        printf '%016x' "$#" "$@" | sed 's/../\\x&/g' | xargs -0 printf '%b'
+    } >"$work/$file" || fail "no file $file is written"
+}
+
+# run INPUT COMMAND..: runs the command in the work folder, on the file INPUT. What it writes is then $work/output, what it
+# tells $work/told, and its status $ended, which is the status of this call too.
+run() {
+    local input=$1
+    shift
+    (cd "$work" && "$@") <"$input" >"$work/output" 2>"$work/told"
+    ended=$?
+    return "$ended"
+}
+
+# expect STATUS OUTPUT TOLD INPUT PROGRAM ARGUMENT..: the program of the repository, with these arguments on this input, ends with
+# this status, writes this and tells this, byte by byte. OUTPUT, TOLD and INPUT are texts or @FILE, as `text` takes them.
+expect() {
+    local status=$1
+    text expected_output "$2"
+    text expected_told "$3"
+    text input "$4"
+    shift 4
+    run "$work/input" "$root/$1" "${@:2}"
+    if [ "$ended" != "$status" ] || ! cmp -s "$work/output" "$work/expected_output" ||
+        ! cmp -s "$work/told" "$work/expected_told"; then
+        wrong "not as expected: $*, status $ended, wanted $status" "$work"/{,expected_}{output,told}
+    fi
+}
+
+# expect_line STATUS LINE INPUT OUTPUT PROGRAM ARGUMENT..: the program, between the files INPUT and OUTPUT, ends with this status
+# and tells a line that is LINE, as grep reads it.
+expect_line() {
+    local status=$1 line=$2 input=$3 output=$4
+    shift 4
+    (cd "$work" && "$root/$1" "${@:2}") <"$input" >"$output" 2>"$work/told"
+    ended=$?
+    if [ "$ended" != "$status" ] || ! grep -qx -- "$line" "$work/told"; then
+        wrong "not as expected: $*, status $ended, wanted $status and the line $line" "$work/told"
+    fi
+}
+
+# is_part_left: a snapshot that was begun is left in the work folder.
+is_part_left() {
+    [ -n "$(find "$work" -maxdepth 1 -name '*rhset-part*')" ]
+}
+
+# preload: builds the library that `refuse` loads, of the C text on standard input. It refuses the call of the number $REFUSED,
+# and then makes the file $REFUSED_MET. Where there is no C compiler the script ends here, with status 77.
+preload() {
+    local compiler
+    compiler=$(command -v cc || command -v gcc || command -v clang) || {
+        echo "$test_name: no C compiler here, not run"
+        exit 77
+    }
+    cat >"$work/refuse.c"
+    "$compiler" -shared -fPIC -O1 -o "$work/refuse.so" "$work/refuse.c" -ldl || fail 'the C text is not compiled'
+}
+
+# refuse NUMBER INPUT PROGRAM ARGUMENT..: runs the built program, as `run` does, with the call of this number refused. It is
+# true where the run came to that call.
+refuse() {
+    local number=$1 input=$2 program=$3
+    shift 3
+    rm -f "$work/met"
+    run "$input" env REFUSED="$number" REFUSED_MET="$work/met" LD_PRELOAD="$work/refuse.so" \
+        "$root/crates/$program/out/$program" "$@"
+    [ -e "$work/met" ]
+}
