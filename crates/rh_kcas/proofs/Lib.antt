@@ -1,3 +1,16 @@
+-- The calls of one worker are loops over the machines of rh_helping at its seat. Each loop keeps what the machine asks
+-- for at its next step.
+-- Noting: what a worker has noted, from step to step.
+-- Fitting: entries of which each fits behind the one before are those of a descriptor.
+-- Left: how many steps of an opening are left, so that it ends.
+-- Peeking: a look at a cell: the seat rests after it, and a descriptor that was met there may be helped.
+-- Helped: the control of a descriptor that is helped is read again.
+-- Carried: the acts that a worker at rest has made, after it noted more.
+-- Swapped: what an own descriptor that was opened and carried out makes of a worker at rest.
+-- Crews: seats of several workers are cut and joined, and a worker that is fresh rests.
+-- Clearing: what the seat of all workers may do in a wipe, and what becomes of its views.
+-- Made: a table that is made meets the rule, and at its close the cells are those that the acts made.
+
 mod Fitting
 mod Noting
 pub mod Peeking

@@ -1,3 +1,12 @@
+-- A text is read part by part, and each part place by place; the proofs join the parts to the text, and tell its keys or
+-- its first fault.
+-- Places: what each place says of the line before it.
+-- Parts: a text that is read in parts.
+-- Meaning: what is read is a text of its keys.
+-- Spelling: a text of keys is read to them.
+-- Faults: the first faulty line gives the fault.
+-- Lines: numbers written one after another.
+
 pub mod Lines
 pub mod Parts
 pub mod SoFar

@@ -1,3 +1,26 @@
+-- The words and the world of rh_world meet here: `Mirrors` says where each part of a world stands in the words and in
+-- what is kept of the workers, and nothing else names a place. There is a file for each kind of step: the world after it
+-- is that of rh_world, and the words after it mirror that world. The mirror says something of a row only while the row
+-- is of that descriptor or mark; so each of these files has the step first for a row that stands, and then for one that
+-- has gone on.
+-- Said: what the words of a table say, and what a swap finds in them.
+-- Frames: a word that is set leaves the other parts of the table.
+-- Kept: what stays of a mirror, and how a new one is put together.
+-- Touched: a step that sets the word of one part, and what stays of the mirror then.
+-- Erasing: the notes are the same in words and world without the numbers of acts and the entries of failures.
+-- Deciders: a control without the entry at which it failed, as its word tells it.
+-- ReadsKept: Reads, which change no word.
+-- WritesKept: Writes and Claims.
+-- OpensKept: Opens.
+-- PlacesKept: Places.
+-- DecidesKept: Decides.
+-- CellsKept: the swaps of cells: Places, Settles and Releases.
+-- StepLaw: each allowed step of a worker keeps the rule.
+-- SeatsKept: the steps of a seat, and the moves beside them, keep the rule.
+-- WipesKept: a wipe keeps the rule, from its beginning to its end.
+-- Soundness: what a worker may rely on follows from the rule.
+-- Telling: what the rule says of what is kept of the workers.
+
 pub mod CellsKept
 pub mod Deciders
 pub mod DecidesKept

@@ -1,3 +1,17 @@
+-- The acts get keys here. The rounds are joined to one list of acts, and rh_acts says what that list makes of the set.
+-- Stepping: a run goes on by a step of one of its workers: what the step adds to the keys that it has done.
+-- Turning: how a run starts, and how it goes on with a further round.
+-- Standing: what the cells of a run stand for: the acts of all its rounds are a phase over their own keys.
+-- Ending: what the workers have made at the end of a run.
+-- Answering: what was asked for is answered from the first set.
+-- Sharing: a shared list that the workers have claimed to its end, and what they made of it.
+-- Showing: each key that is done shows in the set: its act is one of all, or what was read of it was true and stays so.
+-- Knowing: a worker goes on knowing which cell it holds, from step to step.
+-- Saying: what a cell stands for, read off the words, and where a row has gone on off what the workers noted.
+-- Leaving: no step changes what the cells stand for but one that lets a descriptor succeed.
+-- Alike: a run tells of the workers of its table alone.
+-- Growing: more is read, behind what was read before.
+
 pub mod Growing
 pub mod Stepping
 pub mod Knowing
