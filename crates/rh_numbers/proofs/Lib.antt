@@ -1,6 +1,6 @@
 -- A text is read part by part, and each part place by place; the proofs join the parts to the text, and tell its keys or
 -- its first fault.
--- Places: what each place says of the line before it.
+-- SoFar: what is so of a line of which the reader has come so far.
 -- Parts: a text that is read in parts.
 -- Meaning: what is read is a text of its keys.
 -- Spelling: a text of keys is read to them.

@@ -14,7 +14,7 @@ use Rattle.rh_files.specs.KeyFile.{KeyFile, spelling}
 use Rattle.rh_files.specs.Source as source
 use Rattle.rh_files.proofs.Grammar.{file_given}
 use Rattle.rh_shelf.specs.Shelf.{Files}
-use Rattle.rh_script.specs.Plan.{place_of}
+use Rattle.rh_script.specs.Plan.{position_of}
 use Rattle.rh_planner.specs.declared.key_lists.KeyList.{KeyList}
 use Rattle.rh_planner.specs.KeyLists.{Stands, path_of, paths_of}
 use Rattle.rh_planner.specs.Found.{keys_found}
@@ -29,8 +29,8 @@ one_more_stands files (l ∷ lists) (n ∷ named) list name keys stand new = (st
 
 -- ---- the list of a name
 
-place_is : (name : List ℕ) (given : List (List ℕ)) (i : ℕ) → place_of name given ≡ Some i → (position_or_len (λ other. bytes_eq other name) given ≡ i) × (position_or_len (λ other. bytes_eq other name) given < length given)
-unfolding place_of
+place_is : (name : List ℕ) (given : List (List ℕ)) (i : ℕ) → position_of name given ≡ Some i → (position_or_len (λ other. bytes_eq other name) given ≡ i) × (position_or_len (λ other. bytes_eq other name) given < length given)
+unfolding position_of
 place_is name given i is =
     let n : ℕ = position_or_len (λ other. bytes_eq other name) given in
     elim (cases_Bool (nat_lt n (length given))) [
@@ -38,7 +38,7 @@ place_is name given i is =
       | inr outside ↦ let found : None ≡ Some i = rw outside at is in absurd cc
     ]
 
-pub place_inside : (name : List ℕ) (given : List (List ℕ)) (i : ℕ) → place_of name given ≡ Some i → i < length given
+pub place_inside : (name : List ℕ) (given : List (List ℕ)) (i : ℕ) → position_of name given ≡ Some i → i < length given
 place_inside name given i is = let at = place_is name given i is in omega (arith, at.0, at.1)
 
 module _ (files : Option Files) (name : List ℕ) (d : KeyList) where
@@ -61,7 +61,7 @@ module _ (files : Option Files) (name : List ℕ) (d : KeyList) where
       ]
 
 -- the list with a name's number is that of the name
-pub stands_at : (files : Option Files) (lists : List KeyList) (named : Named) (name : List ℕ) (i : ℕ) (d : KeyList) → ListsStand files lists named → place_of name (names_of named) ≡ Some i → Stands files (get_or lists i d) (list_of name named)
+pub stands_at : (files : Option Files) (lists : List KeyList) (named : Named) (name : List ℕ) (i : ℕ) (d : KeyList) → ListsStand files lists named → position_of name (names_of named) ≡ Some i → Stands files (get_or lists i d) (list_of name named)
 stands_at files lists named name i d stand is =
     let at = place_is name (names_of named) i is in
     subst (λ j. Stands files (get_or lists j d) (list_of name named)) at.0 (stands_from files name d lists named stand at.1)

@@ -9,7 +9,7 @@ use Rattle.rh_snapshot.specs.Snapshot.{Table}
 use Rattle.rh_snapshot.specs.Reading.{file_table}
 use Rattle.rh_shelf.specs.Shelf.{Files}
 use Rattle.rh_script.specs.Instruction.{Instruction, Use, Add, Drop, Ask, Keep, Flip, Save, Clear, Dump, Snapshot, Restore}
-use Rattle.rh_script.specs.Plan.{place_of}
+use Rattle.rh_script.specs.Plan.{position_of}
 use Rattle.rh_planner.specs.declared.fault.Cause.{Cause}
 use Rattle.rh_planner.specs.declared.fault.Cause.TheVariants as causes
 use Rattle.rh_planner.specs.declared.key_lists.KeyList.{KeyList}
@@ -153,6 +153,6 @@ still_now w said plain (Some known) named set lists lists' failed refused old ne
     plain_state w said (Some known) plain has failed refused old new set lists' r (step known stand)
 
 -- the list that a task names
-pub list_at : (lists : List KeyList) (named : Named) (now : Option Files) (name : List ℕ) (i : ℕ) (list : KeyList) → ListsStand now lists named → place_of name (names_of named) ≡ Some i → list ≡ slice_index_or lists i list → Stands now list (list_of name named)
+pub list_at : (lists : List KeyList) (named : Named) (now : Option Files) (name : List ℕ) (i : ℕ) (list : KeyList) → ListsStand now lists named → position_of name (names_of named) ≡ Some i → list ≡ slice_index_or lists i list → Stands now list (list_of name named)
 list_at lists named now name i list stand source is =
     subst (λ l. Stands now l (list_of name named)) (sym is) (stands_at now lists named name i list stand source)

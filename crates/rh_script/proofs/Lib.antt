@@ -4,12 +4,12 @@
 -- Commands: the words of a command.
 -- OneLine: a line more of a script.
 -- Order: what the grammar reads is in order.
--- Places: the positions of the names that are given.
+-- Positions: the positions of the names that are given.
 -- Numbering: a step more of a plan.
 
 pub mod Naming
 pub mod Commands
 pub mod OneLine
 pub mod Order
-pub mod Places
+pub mod Positions
 pub mod Numbering

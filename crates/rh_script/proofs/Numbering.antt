@@ -8,7 +8,7 @@ use Rattle.rh_script.specs.declared.task.PlannedStep.{PlannedStep}
 use Rattle.rh_script.specs.Instruction.{Numbered}
 use Rattle.rh_script.specs.Names.{InOrder, admitted, given_by, names_in}
 use Rattle.rh_script.specs.Steps.{instruction_as, step_as}
-use Rattle.rh_script.specs.Plan.{Planned, number_after, place_of, plan_of, planned_after}
+use Rattle.rh_script.specs.Plan.{Planned, number_after, position_of, plan_of, planned_after}
 use Rattle.rh_script.specs.Tasks.{HasPlaces, planned_as, task_as}
 use Rattle.rh_script.proofs.Naming.{names_more}
 
@@ -35,7 +35,7 @@ unfolding names_in
 no_names = refl
 
 pub no_places : (lists : BTreeMap (Bor (List ℕ)) ℕ) → IsEmpty lists → HasPlaces lists (names_in [])
-unfolding names_in place_of
+unfolding names_in position_of
 no_places lists empty = (ap length empty, λ name. rw empty refl)
 
 -- each step may stand after the steps to it

@@ -11,17 +11,17 @@ pub record Planned : Type 0 where
   pub list : Option ℕ
 
 -- the first place of a name among those that are given
-unfoldable pub place_of : List ℕ → List (List ℕ) → Option ℕ
-place_of name given = position (λ other. bytes_eq other name) given
+unfoldable pub position_of : List ℕ → List (List ℕ) → Option ℕ
+position_of name given = position (λ other. bytes_eq other name) given
 
 -- the number of an instruction's list, after these names: a new name has the next number
 unfoldable pub number_after : List (List ℕ) → Instruction → Option ℕ
 number_after given (Use name path) = Some (length given)
-number_after given (Add name) = place_of name given
-number_after given (Drop name) = place_of name given
-number_after given (Ask name) = place_of name given
-number_after given (Keep name) = place_of name given
-number_after given (Flip name) = place_of name given
+number_after given (Add name) = position_of name given
+number_after given (Drop name) = position_of name given
+number_after given (Ask name) = position_of name given
+number_after given (Keep name) = position_of name given
+number_after given (Flip name) = position_of name given
 number_after given (Save name) = Some (length given)
 number_after given Clear = None
 number_after given Dump = None

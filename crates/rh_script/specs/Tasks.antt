@@ -9,7 +9,7 @@ use Rattle.rh_script.specs.declared.task.Task.TheVariants as tasks
 use Rattle.rh_script.specs.declared.task.PlannedStep.{PlannedStep}
 use Rattle.rh_script.specs.declared.task.Plan.{Plan}
 use Rattle.rh_script.specs.Instruction.{Instruction, Use, Add, Drop, Ask, Keep, Flip, Save, Clear, Dump, Snapshot, Restore}
-use Rattle.rh_script.specs.Plan.{Planned, place_of}
+use Rattle.rh_script.specs.Plan.{Planned, position_of}
 
 -- the instruction that a task carries out, and the number of its list
 abbrev pub task_as : Task → Instruction × Option ℕ
@@ -39,4 +39,4 @@ number_in lists name = get_by (λ key. slice_cmp nat_cmp name key.now) lists
 -- the map has just the names that are given, each with its place
 abbrev pub HasPlaces : BTreeMap (Bor (List ℕ)) ℕ → List (List ℕ) → Type 0
 HasPlaces lists given = (btree_map_len lists ≡ length given)
-    × ((name : List ℕ) → number_in lists name ≡ place_of name given)
+    × ((name : List ℕ) → number_in lists name ≡ position_of name given)

@@ -1,6 +1,6 @@
 use Rattle.std.proofs.Common.{◌≡◌, ◌∙◌, ◌+◌, None, btree_map_len}
 use Rattle.std.proofs.lemmas.Map.Text.{btree_map_updates_str}
-use Rattle.rh_script.proofs.Places.{places_kept}
+use Rattle.rh_script.proofs.Positions.{places_kept}
 use Rattle.rh_script.proofs.planning.give.Goals as goal
 
 pub returns-clause-kept : goal.returns-clause-kept

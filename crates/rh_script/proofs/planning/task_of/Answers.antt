@@ -1,5 +1,5 @@
 use Rattle.std.proofs.Common.{inl, inr}
-use Rattle.rh_script.proofs.Places.{gift_is_new, place_found}
+use Rattle.rh_script.proofs.Positions.{gift_is_new, place_found}
 use Rattle.rh_script.proofs.planning.task_of.Goals as goal
 
 pub give-requires : goal.give-requires
