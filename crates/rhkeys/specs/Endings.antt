@@ -1,7 +1,7 @@
 -- How the program ends.
-use Rattle.std.specs.Prelude.{ℕ}
-use Rattle.clap.specs.declared.error.kind.ErrorKind.{ErrorKind}
-use Rattle.clap.specs.declared.error.kind.ErrorKind.TheVariants.{DisplayHelp, DisplayVersion}
+use Rattle.rh_cli.specs.Endings.{ending_by as ending_by_program}
+use Rattle.rh_cli.specs.declared.status.Status.{Status}
+use Rattle.rh_cli.specs.declared.status.Status.TheVariants.{Refused, Memory, Write}
 use Rattle.rh_files.specs.declared.fault.KeyFault.{KeyFault}
 use Rattle.rh_files.specs.declared.fault.KeyFault.TheVariants as keys
 use Rattle.rh_snapshot.specs.declared.fault.SnapFault.{SnapFault}
@@ -13,22 +13,6 @@ use Rattle.rh_packing.specs.declared.listing.ListFault.TheVariants as list
 use Rattle.rh_packing.specs.declared.snapshot.HeldFault.TheVariants as held
 use Rattle.rhkeys.specs.declared.status.Fault.{Fault}
 use Rattle.rhkeys.specs.declared.status.Fault.TheVariants as fault
-use Rattle.rhkeys.specs.declared.status.Status.{Status}
-use Rattle.rhkeys.specs.declared.status.Status.TheVariants.{Done, Refused, CommandLine, Memory, Write}
-
--- the exit status of each ending
-abbrev pub number_of : Status → ℕ
-number_of Done = 0
-number_of Refused = 1
-number_of CommandLine = 2
-number_of Memory = 3
-number_of Write = 4
-
--- how a run ends that printed what clap told: a text that was asked for, or a mistake in the words
-abbrev pub ending_of : ErrorKind → Status
-ending_of DisplayHelp = Done
-ending_of DisplayVersion = Done
-ending_of _ = CommandLine
 
 -- how a run ends whose text could not be read, or is none
 abbrev pub ending_by_text : TextFault → Status
@@ -47,9 +31,7 @@ ending_by_snapshot fault = Refused
 
 -- how a run ends that a fault ended early
 abbrev pub ending_by : Fault → Status
-ending_by fault.NotText = CommandLine
-ending_by fault.Memory = Memory
-ending_by fault.Write = Write
+ending_by (fault.Program fault) = ending_by_program fault
 ending_by (fault.Pack (pack.Text fault)) = ending_by_text fault
 ending_by (fault.Pack pack.Write) = Write
 ending_by (fault.List (list.Keys fault)) = ending_by_keys fault

@@ -7,6 +7,7 @@ ghost use Rattle.rhset.specs.declared.script.TheConstants.{MAX_BYTES};
 use crate::file_shelf::FileShelf;
 use crate::input::open;
 use crate::status::Fault;
+use rh_cli::ProgramFault;
 use rh_files::Counted;
 use rh_phase::Threads;
 use rh_planner::run;
@@ -43,14 +44,14 @@ fn run_by<N: Runner>(
 ) -> Result<(), Fault> {
     let text = script_text(rt, path)?;
     let script = parse(rt.alloc(), &text).map_err(Fault::Script)?;
-    let output = BufWriter::new(rt.alloc(), io::writer(rt)).map_err(|_| Fault::Memory)?;
+    let output = BufWriter::new(rt.alloc(), io::writer(rt)).map_err(|_| ProgramFault::Memory)?;
     let mut writer = Counted::new(output);
     let mut shelf = FileShelf::new(rt);
     let told = run(rt, rt.alloc(), &script, &mut shelf, runner, &mut writer);
     // What the commands before a fault told is written too.
     let flushed = writer.flush();
     told.map_err(Fault::Run)?;
-    flushed.map_err(|_| Fault::Write)
+    flushed.map_err(|_| Fault::Program(ProgramFault::Write))
 }
 
 fn script_text(rt: &(impl Files + AllocGlobal), path: &str) -> Result<Vec<u8>, Fault> {
@@ -61,13 +62,13 @@ fn script_text(rt: &(impl Files + AllocGlobal), path: &str) -> Result<Vec<u8>, F
 fn front_of<R: Read + Drop>(alloc: Global, reader: R) -> Result<Vec<u8>, Fault>
     ensures front { IfOk result (λ text. IfSome (R.remaining reader)
         (λ bytes. text.items ≡ take MAX_BYTES bytes)) }
-    ensures fault { IfErr result (λ fault. (fault ≡ Fault.Memory) ⊎ (fault ≡ Fault.Read)) }
+    ensures fault { IfErr result (λ fault. (fault ≡ Fault.Program ProgramFault.Memory) ⊎ (fault ≡ Fault.Read)) }
 {
     let mut text = Vec::new(alloc);
     match reader.take(MAX_BYTES).read_to_end(&mut text) {
         Ok(_) => Ok(text),
         Err(error) => Err(match error.kind() {
-            ErrorKind::OutOfMemory => Fault::Memory,
+            ErrorKind::OutOfMemory => Fault::Program(ProgramFault::Memory),
             _ => Fault::Read,
         }),
     }

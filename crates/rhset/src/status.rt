@@ -1,8 +1,9 @@
 //! How the program ends.
 
 ghost use Rattle.std.specs.Prelude.{◌≡◌};
-ghost use Rattle.rhset.specs.Endings.{ending_by, ending_by_play, number_of};
+ghost use Rattle.rhset.specs.Endings.{ending_by, ending_by_play};
 
+use rh_cli::{ProgramFault, Status};
 use rh_commands::{CheckFault, DumpFault};
 use rh_planner::{Cause, RunFault};
 use rh_play::PlayTextKind;
@@ -10,38 +11,13 @@ use rh_play_run::PlayRunFault;
 use rh_player::PlayFault;
 use rh_script::{ScriptFault, ScriptFaultKind};
 use rh_snapshot::SnapFault;
-use std::process::ExitCode;
 use thiserror::Error;
-
-/// How a run ends, with its exit status.
-#[derive(Clone, Copy, Debug, PartialEq, Eq)]
-pub enum Status {
-    Done = 0,
-    Refused = 1,
-    CommandLine = 2,
-    Memory = 3,
-    Write = 4,
-}
-
-impl From<Status> for ExitCode {
-    ghost use Rattle.std.specs.Process.{exit_status};
-
-    ghost from_gives = { λ status code. exit_status code ≡ number_of status };
-
-    fn from(status: Status) -> ExitCode {
-        ExitCode::from(status as u8)
-    }
-}
 
 /// Why a run ends early, in the words that the user is told.
 #[derive(Debug, Drop, Error)]
 pub enum Fault {
-    #[error("a word of the command line is not UTF-8")]
-    NotText,
-    #[error("out of memory")]
-    Memory,
-    #[error("cannot write the output")]
-    Write,
+    #[error(transparent)]
+    Program(#[from] ProgramFault),
     /// The file of a script, a play or a snapshot.
     #[error("cannot open the file")]
     Open,
@@ -65,9 +41,7 @@ impl Fault {
         ensures { result ≡ ending_by self.now }
     {
         match self {
-            Fault::NotText => Status::CommandLine,
-            Fault::Memory => Status::Memory,
-            Fault::Write => Status::Write,
+            Fault::Program(fault) => fault.status(),
             Fault::Open | Fault::Read => Status::Refused,
             Fault::Dump(DumpFault::Keys(_) | DumpFault::TooLarge) => Status::Refused,
             Fault::Dump(DumpFault::Memory) => Status::Memory,

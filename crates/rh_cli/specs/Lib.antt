@@ -1,0 +1,5 @@
+pub mod Endings
+pub mod Faults
+pub mod KeysLine
+pub mod SetLine
+pub mod Words

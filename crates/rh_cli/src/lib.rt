@@ -1,0 +1,15 @@
+//! The command lines of the two programs, and how a program ends.
+#![tactic(auto)]
+
+mod fault;
+pub mod keys_line;
+mod limits;
+mod parsing;
+mod program;
+pub mod set_line;
+mod status;
+
+pub use fault::LineFault;
+pub use limits::MAX_WORKERS;
+pub use program::{answer, words};
+pub use status::{ProgramFault, Status};

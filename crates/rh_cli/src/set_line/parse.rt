@@ -1,0 +1,167 @@
+//! Reading the words of the command line.
+
+ghost use Rattle.std.specs.Prelude.{◌≡◌, [], IfOk, IfErr, codes, false};
+ghost use Rattle.clap.specs.Words.{app_of, fault_of, found_of, rows_of, rule_of};
+ghost use Rattle.clap.specs.Words.{subcommand_of, subcommand_rows_of};
+ghost use Rattle.rh_cli.specs.Faults.{IsOneOf};
+ghost use Rattle.rh_cli.specs.SetLine.{Asks, Gives, GivesNumber, HasNumber, HasRunArguments};
+ghost use Rattle.rh_cli.specs.SetLine.{HasText, IsCommand, Says, check_app, dump_app, path_rule};
+ghost use Rattle.rh_cli.specs.SetLine.{play_app, rhset_app, run_app, workers_rule};
+ghost use Rattle.rh_cli.specs.Words.{Finds, texts_of};
+
+use super::asked::Line;
+use super::help;
+use crate::fault::LineFault;
+use crate::limits::MAX_WORKERS;
+use crate::parsing::{parsed, program_command};
+use clap::{Arg, ArgAction, ArgMatches, Command, value_parser};
+use std::alloc::{AllocError, Global};
+
+const NAME: &str = "rhset";
+
+/// What `words` ask for, of which the first is the program's name.
+///
+/// `LineFault::Memory` comes only where a growth was refused.
+pub fn line(alloc: Global, words: &[String]) -> Result<Line, LineFault>
+    ensures asked { IfOk result (λ l. Asks (subcommand_of rhset_app (texts_of words.now)) l) }
+    ensures taken { IfOk result (λ l. fault_of rhset_app (texts_of words.now) ≡ []) }
+    ensures refused { IfErr result (λ f. IsOneOf (fault_of rhset_app (texts_of words.now)) f) }
+{
+    let matches = parsed(command(alloc)?, words)?;
+    let line = asked(alloc, &matches)?;
+    Ok(line)
+}
+
+fn asked(alloc: Global, matches: &ArgMatches<'_>) -> Result<Line, AllocError>
+    requires { Finds IsCommand (subcommand_rows_of matches.now) }
+    ensures { IfOk result (λ l. Asks (subcommand_rows_of matches.now) l) }
+{
+    match matches.subcommand() {
+        Some(("dump", _)) => Ok(Line::Dump),
+        Some(("run", given)) => run_asked(alloc, given),
+        Some(("play", given)) => play_asked(alloc, given),
+        Some(("check", given)) => check_asked(alloc, given),
+        _ => unreachable!(),
+    }
+}
+
+fn run_asked(alloc: Global, given: &ArgMatches<'_>) -> Result<Line, AllocError>
+    requires { HasRunArguments (rows_of (found_of given.now)) }
+    ensures { IfOk result (λ l. Says (codes "run") (rows_of (found_of given.now)) l) }
+{
+    let workers = workers(given);
+    let script = text(alloc, given, "script")?;
+    Ok(Line::Run { workers, script })
+}
+
+fn play_asked(alloc: Global, given: &ArgMatches<'_>) -> Result<Line, AllocError>
+    requires { HasText (codes "file") (rows_of (found_of given.now)) }
+    ensures { IfOk result (λ l. Says (codes "play") (rows_of (found_of given.now)) l) }
+{
+    let file = text(alloc, given, "file")?;
+    Ok(Line::Play { file })
+}
+
+fn check_asked(alloc: Global, given: &ArgMatches<'_>) -> Result<Line, AllocError>
+    requires { HasText (codes "snapshot") (rows_of (found_of given.now)) }
+    ensures { IfOk result (λ l. Says (codes "check") (rows_of (found_of given.now)) l) }
+{
+    let snapshot = text(alloc, given, "snapshot")?;
+    Ok(Line::Check { snapshot })
+}
+
+// The text for an argument that has to be given.
+fn text(alloc: Global, given: &ArgMatches<'_>, id: &str) -> Result<String, AllocError>
+    requires { HasText id.now (rows_of (found_of given.now)) }
+    ensures { IfOk result (λ t. Gives id.now (rows_of (found_of given.now)) t) }
+{
+    String::from_str(alloc, given.get_str(id).unwrap())
+}
+
+fn workers(given: &ArgMatches<'_>) -> usize
+    requires { HasNumber (codes "workers") 1 MAX_WORKERS (rows_of (found_of given.now)) }
+    ensures { GivesNumber (codes "workers") 1 MAX_WORKERS (rows_of (found_of given.now)) result }
+{
+    given.get_one("workers").unwrap()
+}
+
+fn command<'a>(alloc: Global) -> Result<Command<'a>, AllocError>
+    ensures { IfOk result (λ c. app_of c ≡ rhset_app) }
+{
+    program_command(
+        alloc,
+        NAME,
+        help::PROGRAM,
+        help::PROGRAM_AT_LENGTH,
+        help::STATUSES,
+    )?
+    .subcommand(dump_command(alloc))?
+    .subcommand(run_command(alloc)?)?
+    .subcommand(play_command(alloc)?)?
+    .subcommand(check_command(alloc)?)
+}
+
+fn dump_command<'a>(alloc: Global) -> Command<'a>
+    ensures { app_of result ≡ dump_app }
+{
+    Command::new(alloc, "dump")
+        .about(help::DUMP)
+        .long_about(help::DUMP_AT_LENGTH)
+        .after_help(help::DUMP_FORMATS)
+}
+
+fn run_command<'a>(alloc: Global) -> Result<Command<'a>, AllocError>
+    ensures { IfOk result (λ c. app_of c ≡ run_app) }
+{
+    Command::new(alloc, "run")
+        .about(help::RUN)
+        .long_about(help::RUN_AT_LENGTH)
+        .after_help(help::SCRIPTS)
+        .arg(workers_arg(alloc))?
+        .arg(path_arg(alloc, "script", "SCRIPT", help::SCRIPT))
+}
+
+fn play_command<'a>(alloc: Global) -> Result<Command<'a>, AllocError>
+    ensures { IfOk result (λ c. app_of c ≡ play_app) }
+{
+    Command::new(alloc, "play")
+        .about(help::PLAY)
+        .long_about(help::PLAY_AT_LENGTH)
+        .after_help(help::PLAYS)
+        .arg(path_arg(alloc, "file", "FILE", help::FILE))
+}
+
+fn check_command<'a>(alloc: Global) -> Result<Command<'a>, AllocError>
+    ensures { IfOk result (λ c. app_of c ≡ check_app) }
+{
+    Command::new(alloc, "check")
+        .about(help::CHECK)
+        .long_about(help::CHECK_AT_LENGTH)
+        .after_help(help::CHECK_FORMATS)
+        .arg(path_arg(alloc, "snapshot", "SNAPSHOT", help::SNAPSHOT))
+}
+
+fn workers_arg<'a>(alloc: Global) -> Arg<'a>
+    ensures rule { rule_of result ≡ workers_rule }
+    ensures local { result.global ≡ false }
+{
+    Arg::new(alloc, "workers")
+        .long("workers")
+        .value_name("N")
+        .action(ArgAction::Set)
+        .value_parser(value_parser!(usize).range(1..=MAX_WORKERS as i64))
+        .default_value("1")
+        .help(help::WORKERS)
+}
+
+// A path that has to be given.
+fn path_arg<'a>(alloc: Global, id: &'a str, name: &'a str, help: &'a str) -> Arg<'a>
+    ensures rule { rule_of result ≡ path_rule id.now }
+    ensures local { result.global ≡ false }
+{
+    Arg::new(alloc, id)
+        .value_name(name)
+        .required(true)
+        .action(ArgAction::Set)
+        .help(help)
+}

@@ -1,0 +1,9 @@
+//! Tests of the two command lines, from outside.
+//!
+//! They stand apart from the code, so that each crate is proved once, and not once more with its tests.
+#![tactic(auto)]
+
+#[cfg(test)]
+mod keys_line;
+#[cfg(test)]
+mod set_line;

@@ -1,2 +1,0 @@
-pub mod FlagLemmas
-pub mod NamedLemmas

@@ -1,2 +1,0 @@
-pub mod App
-pub mod Faults
