@@ -1,6 +1,5 @@
 -- Seats whose workers rest, one by one and joined.
-use Rattle.std.proofs.Common.{◌≡◌, zero, suc, List, [], ◌∷◌, ◌++◌, refl, sym, ap, subst, ⊎_elim}
-use mathlib.Core.Option.{some-injective, some-ne-none}
+use Rattle.std.proofs.Common.{◌≡◌, List, [], ◌∷◌, ◌++◌, refl, sym, ap, subst, ⊎_elim}
 use Rattle.rh_descriptor.specs.declared.known.Known.{Known}
 use Rattle.rh_rule.specs.Seats.{InView, known}
 use Rattle.rh_rule.proofs.SeatsKept.{at_append}

@@ -11,7 +11,7 @@
 -- RemoveLayout: a layout with a key taken out.
 -- RemoveSegment: a segment of a layout, written over with a key taken out.
 -- PullLemmas: the loop that moves keys back by one.
--- NewsLemmas: the values of a segment's news, place by place.
+-- NewsLemmas: the values of a segment's news, one by one.
 -- SetLemmas: what the calls of a `SeqSet` leave.
 -- RisingLemmas: the keys of a set in rising order, and how they come of the cells of a layout.
 

@@ -1,19 +1,13 @@
 -- A look at a cell: the seat rests after it, and a descriptor that was met there may be helped.
-use Rattle.std.proofs.Common.{◌≡◌, ℕ, Option, Some, None, refl, sym, ap, ◌∙◌, subst, inl}
-use Rattle.rh_tagword.specs.Word.{word_in}
-use Rattle.rh_tagword.specs.declared.word.Word.{Word}
-use Rattle.rh_tagword.specs.declared.word.Word.TheVariants.{Empty, Key, Mark, Desc}
-use Rattle.rh_world.specs.World.{Cell, Ref}
-use Rattle.rh_world.specs.World.Cell.{desc}
+use Rattle.std.proofs.Common.{ℕ, sym, subst}
 use Rattle.rh_descriptor.specs.declared.shape.Shape.{Shape}
 use Rattle.rh_descriptor.specs.declared.reference.Reading.TheVariants as reading
 use Rattle.rh_descriptor.specs.View.{View}
-use Rattle.rh_descriptor.specs.Steps.{IsKnown}
 use Rattle.rh_descriptor.specs.Steps.Step.{reads}
-use Rattle.rh_descriptor.specs.Words.{cell_in, cell_said, desc_in, ref_said}
+use Rattle.rh_descriptor.specs.Words.{cell_in}
 use Rattle.rh_helping.specs.Settling.{Grows}
 use Rattle.rh_helping.proofs.Growing.{clear_grows}
-use Rattle.rh_helping.proofs.Looks.{cell_grows, noted_cell}
+use Rattle.rh_helping.proofs.Looks.{cell_grows}
 use Rattle.rh_rdcss.specs.Calls.{Learned}
 use Rattle.rh_kcas.specs.Rests.{IsRested}
 use Rattle.rh_kcas.proofs.Carried.{over_same}

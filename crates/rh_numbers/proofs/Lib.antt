@@ -1,4 +1,4 @@
--- A text is read part by part, and each part place by place; the proofs join the parts to the text, and tell its keys or
+-- A text is read part by part, and each part byte by byte; the proofs join the parts to the text, and tell its keys or
 -- its first fault.
 -- SoFar: what is so of a line of which the reader has come so far.
 -- Parts: a text that is read in parts.

@@ -32,7 +32,9 @@ impl LineSoFar {
     {
         match self {
             LineSoFar::Start if b == b'#' => LineSoFar::Comment,
-            LineSoFar::Start | LineSoFar::Blank if b.is_ascii_digit() => LineSoFar::Number(grown(0, b)),
+            LineSoFar::Start | LineSoFar::Blank if b.is_ascii_digit() => LineSoFar::Number(grown(
+                0, b,
+            )),
             LineSoFar::Start | LineSoFar::Blank => past(LineSoFar::Blank, None, b),
             LineSoFar::Comment => LineSoFar::Comment,
             LineSoFar::Number(n) if b.is_ascii_digit() => LineSoFar::Number(grown(n, b)),

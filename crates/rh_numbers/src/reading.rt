@@ -97,7 +97,8 @@ impl Reading {
             (with_line self.old.keys.items self.old.line self.old.so_far)) }
     {
         match self.so_far {
-            LineSoFar::Start | LineSoFar::Blank | LineSoFar::Comment | LineSoFar::Return(None) => Ok(()),
+            LineSoFar::Start | LineSoFar::Blank | LineSoFar::Comment | LineSoFar::Return(None) =>
+                Ok(()),
             LineSoFar::Number(n) | LineSoFar::After(n) | LineSoFar::Return(Some(n)) => self.take(n),
             LineSoFar::Other => Err(TextFault::NotAKey { line: self.line }),
         }

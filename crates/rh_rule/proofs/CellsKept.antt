@@ -1,8 +1,8 @@
 -- The swaps of cells: Places, Settles and Releases.
-use Rattle.std.proofs.Common.{◌≡◌, ◌≢◌, ℕ, eqb, ◌<◌, ◌⊎◌, Bool, true, false, true≢false, cond, ◌&&◌, List, [], ◌∷◌, length, get_or, set, sym, refl, ap, ◌∙◌, subst, inl, inr, ⊎_elim, eq-eqb, ne_eqb, map, Some, None, Option}
+use Rattle.std.proofs.Common.{◌≡◌, ◌≢◌, ℕ, eqb, ◌<◌, ◌⊎◌, Bool, true, false, cond, ◌&&◌, List, [], ◌∷◌, length, get_or, set, sym, refl, ap, ◌∙◌, subst, inl, inr, ⊎_elim, eq-eqb, ne_eqb, map, Some, None, Option}
 use Rattle.std.proofs.lemmas.List.{set-get_or}
 use Rattle.rh_world.specs.World.{Cell, Control, In, IsOpened, IsUsed, Ref, World, updated}
-use Rattle.rh_world.specs.World.Cell.{desc, mark, plain}
+use Rattle.rh_world.specs.World.Cell.{desc, mark}
 use Rattle.rh_world.specs.World.Control.{failed, succeeded, undecided, unused, withdrawn}
 use Rattle.rh_world.specs.Logical.{entry_value}
 use Rattle.rh_world.specs.Notes.{HoldsIn, Note}
@@ -10,11 +10,11 @@ use Rattle.rh_world.specs.Notes.Note.{decided, desc_is, found, may_demote, may_p
 use Rattle.rh_world.specs.Later.{Steady}
 use Rattle.rh_world.specs.Sides.{Side, close_side, is_number, paid_side, release_side}
 use Rattle.rh_world.specs.Rule.{Rule}
-use Rattle.rh_world.specs.Moves.{IsAllowed, KnowsOver, Move, cell_world, covers, is_desc, is_mark, is_plain, release_noted, released_cell, settle_noted, settled_cell, side_after, world_after}
+use Rattle.rh_world.specs.Moves.{IsAllowed, KnowsOver, Move, cell_world, covers, is_desc, is_mark, release_noted, released_cell, settle_noted, settled_cell, side_after, world_after}
 use Rattle.rh_world.specs.Moves.Move.{releases, settles}
 use Rattle.rh_world.proofs.StepLaws.{each_step_keeps}
 use Rattle.rh_world.proofs.StepsLater.{steps_later}
-use Rattle.rh_world.proofs.Tests.{by_cond, eqb_yes, is_desc_yes, is_number_yes}
+use Rattle.rh_world.proofs.Tests.{by_cond, is_desc_yes, is_number_yes}
 use Rattle.rh_world.proofs.Updated.{ref_path, same_nat, some_injective, updated_at}
 use Rattle.rh_descriptor.specs.declared.shape.Shape.{Shape}
 use Rattle.rh_descriptor.specs.declared.shape.Part.{Part}

@@ -18,7 +18,7 @@ use Rattle.rh_descriptor.specs.declared.reference.Reading.TheVariants as reading
 use Rattle.rh_descriptor.specs.Parts.{IsShape, note_row, index_of}
 use Rattle.rh_descriptor.specs.View.{View}
 use Rattle.rh_descriptor.specs.Words.{number_of, read_control, serial_in, with_entry, without_entry}
-use Rattle.rh_descriptor.specs.Steps.{CanDecide, IsResult, Step, control_read, control_seen, decided_so, noted, row_word, swapped}
+use Rattle.rh_descriptor.specs.Steps.{CanDecide, IsResult, control_read, control_seen, decided_so, row_word, swapped}
 use Rattle.rh_rule.specs.Erased.{erased}
 use Rattle.rh_rule.specs.Mirrors.{Controls, Kept, Mirrors, word_at}
 use Rattle.rh_rule.specs.Core.{Core}

@@ -25,7 +25,7 @@ use Rattle.rh_descriptor.specs.View.MarkWord.{desc_word, entry_word}
 use Rattle.rh_descriptor.specs.Words.{cell_in, desc_in, number_of, read_control, ref_of, serial_in, without_entry}
 use Rattle.rh_descriptor.specs.Steps.{IsKnown, IsNoted, IsRead, KnowsMark, WasOpened, control_seen, desc_row_said, desc_said, gone_noted, is_known, is_newest, mark_said, index_read, read_noted, read_view, row_said, rows_said, tells_opened}
 use Rattle.rh_rule.specs.Erased.{erased}
-use Rattle.rh_rule.specs.Mirrors.{DescRow, HasItsRow, IsRaw, IsRawRow, IsRowSaid, IsSaid, Kept, Stands, word_at, Mirrors}
+use Rattle.rh_rule.specs.Mirrors.{HasItsRow, IsRaw, IsRawRow, IsRowSaid, IsSaid, Kept, Stands, word_at, Mirrors}
 use Rattle.rh_rule.specs.Core.{Core}
 use Rattle.rh_rule.proofs.Deciders.{told_decided, told_failed, told_number}
 use Rattle.rh_rule.proofs.Erasing.{IsWhole, erased_all, erased_cell, erased_control, erased_mark, in_decided, in_whole}

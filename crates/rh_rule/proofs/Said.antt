@@ -4,7 +4,7 @@ use Rattle.rh_layout.specs.Key.{is_full, key_in}
 use Rattle.rh_tagword.specs.declared.word.Word.{Word}
 use Rattle.rh_tagword.specs.declared.word.Word.TheVariants as tagged
 use Rattle.rh_tagword.specs.Word.{IsRef, tag_of}
-use Rattle.rh_tagword.specs.Control.{IsState, control_number, state_number}
+use Rattle.rh_tagword.specs.Control.{IsState, state_number}
 use Rattle.rh_tagword.proofs.WordLemmas.{word_in-word_number, word_number_one}
 use Rattle.rh_tagword.proofs.ControlLemmas.{state_in-state_number, state_number_fits}
 use Rattle.std.proofs.lemmas.Nat.{div-mul-add, mod-mul-add}

@@ -1,16 +1,16 @@
 -- One worker's phase, key by key.
 use Rattle.std.proofs.Common.{◌≡◌, ℕ, ◌+◌, ◌-◌, ◌^◌, ◌<◌, ◌≤◌, ◌⊎◌, inl, inr, refl, sym, ap, ◌∙◌, arith, Bool, true, false, cond, List, [], ◌∷◌, ◌++◌, length, take, get_or}
-use Rattle.std.specs.Prelude.{not, map}
+use Rattle.std.specs.Prelude.{not}
 use Rattle.std.specs.Cmp.{nat_cmp_total}
 use Rattle.std.specs.FinSet as set
 use Rattle.std.specs.FinSet.{contains}
-use Rattle.std.proofs.lemmas.List.{take_more, length-take, map-append}
+use Rattle.std.proofs.lemmas.List.{length-take}
 use Rattle.rh_layout.specs.Layout.{Keys}
 use Rattle.rh_ledger.specs.declared.tally.Kind.{Kind}
 use Rattle.rh_ledger.specs.declared.tally.Kind.TheVariants.{Insert, Remove}
 use Rattle.rh_ledger.specs.declared.tally.Tally.{Tally}
 use Rattle.rh_ledger.specs.Tally.{sum_of, none_yet, added_of, removed_of}
-use Rattle.rh_ledger.specs.Phase.{set_with, count_of, set_after, tally_of, looked_up}
+use Rattle.rh_ledger.specs.Phase.{set_with, count_of, set_after, tally_of}
 use Rattle.rh_ledger.proofs.PhaseLemmas.{set_after_more, tally_of_more, len-insert_all}
 
 -- ---- room

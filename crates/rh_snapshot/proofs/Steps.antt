@@ -1,5 +1,5 @@
 -- The steps of the header.
-use Rattle.std.proofs.Common.{◌≡◌, ℕ, true, false, List, length, get_or, Option, Some, None, Ok, Err, Result, refl, sym, ap, ◌∙◌, subst}
+use Rattle.std.proofs.Common.{◌≡◌, ℕ, true, false, List, length, get_or, Option, Ok, Err, Result, refl, ◌∙◌, subst}
 use Rattle.std.specs.Int.{w64, from_be_bytes}
 use Rattle.std.specs.Str.{bytes_eq}
 use Rattle.rh_snapshot.specs.declared.version.Version.{Version}

@@ -1,5 +1,5 @@
 -- What a worker's step leaves of what was read, and what the Read of a cell adds to it.
-use Rattle.std.proofs.Common.{◌≡◌, ℕ, ◌<◌, false, true, true≢false, eq-eqb, Bool, cond, filter, map, List, ◌∷◌, Option, Some, None, refl, sym, ap, ◌∙◌, subst, arith}
+use Rattle.std.proofs.Common.{◌≡◌, ℕ, ◌<◌, true, Bool, cond, filter, map, List, ◌∷◌, refl, sym, ap, ◌∙◌, subst, arith}
 use Rattle.std.specs.Prelude.{nat_lt}
 use Rattle.std.specs.List.{Contains}
 use Rattle.std.proofs.lemmas.Bool.Decides.{nat_tests}
@@ -11,7 +11,6 @@ use Rattle.rh_history.specs.History.{kept_of, value_of}
 use Rattle.rh_history.proofs.Learning.{reads_stay}
 use Rattle.rh_descriptor.specs.declared.shape.Shape.{Shape}
 use Rattle.rh_descriptor.specs.declared.steps.StepKind.{StepKind}
-use Rattle.rh_descriptor.specs.Words.{IsPlain}
 use Rattle.rh_descriptor.specs.Parts.{cell_count}
 use Rattle.rh_descriptor.specs.View.{OwnDesc, View}
 use Rattle.rh_descriptor.specs.Steps.{Step, with_side}

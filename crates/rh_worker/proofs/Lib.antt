@@ -1,5 +1,5 @@
--- As in rh_helping, a worker's place with its key is a value with one clause for each variant, and the proofs go place
--- by place.
+-- As in rh_helping, a worker's stage with its key is a value with one clause for each variant, and the proofs go stage
+-- by stage.
 -- Anew: what was read for a key since it was begun.
 -- Keeping: what a worker's step leaves of what was read, and what the Read of a cell adds to it.
 -- Scans: what a scan has seen, and what it tells.

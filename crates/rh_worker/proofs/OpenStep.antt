@@ -14,8 +14,7 @@ use Rattle.rh_descriptor.specs.View.{OwnDesc, View}
 use Rattle.rh_descriptor.specs.Words.{IsPlain}
 use Rattle.rh_descriptor.specs.Steps.{AreEntries, entry_of}
 use Rattle.rh_helping.specs.Goal.{KnowsOwn}
-use Rattle.rh_helping.specs.Opening.{IsOpening, MayOpen, OpensOn, next_desc}
-use Rattle.rh_helping.specs.declared.opening.Opening.{Opening}
+use Rattle.rh_helping.specs.Opening.{MayOpen, OpensOn}
 use Rattle.rh_helping.specs.declared.work.Work.TheVariants as work
 use Rattle.rh_helping.proofs.Owing.{open_all_noted}
 use Rattle.rh_helping.proofs.OwnRows.{entry_is}
@@ -24,7 +23,6 @@ use Rattle.rh_worker.specs.declared.stage.Stage.TheVariants as stage
 use Rattle.rh_worker.specs.declared.sights.Sights.{Sights}
 use Rattle.rh_worker.specs.Sights.{AreFit}
 use Rattle.rh_worker.specs.Worker.{IsPlanned, Stays, planned}
-use Rattle.rh_run.specs.Advance.{Opens}
 
 -- ---- the entries
 
@@ -80,7 +78,6 @@ module _ (z : Shape) (v : View) (kind : Kind) (k : ℕ) (s : Sights) (p : Plan) 
       }
 
   module _ (next : View) where
-
     module _ (worker number : ℕ) (by : next.worker ≡ worker) (of : v.next_number ≡ number) (on : OpensOn z es v next None) where
       pub opened_stays : Stays z next kind k s (stage.Swap (work.Control (record { worker = worker; number = number })) number p)
       opened_stays =

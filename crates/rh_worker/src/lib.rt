@@ -4,13 +4,13 @@
 #![tactic(auto)]
 
 mod laws;
-mod stage;
 mod scanning;
 mod sights;
+mod stage;
 mod swapping;
 mod worker;
 
 pub use laws::keys_are_done;
-pub use stage::{Plan, Stage};
 pub use sights::Sights;
+pub use stage::{Plan, Stage};
 pub use worker::{Stepped, Worker};

@@ -20,8 +20,8 @@ ghost use Rattle.rh_descriptor.specs.Parts.{cell_count};
 ghost use Rattle.rh_layout.specs.Key.{IsKey};
 ghost use Rattle.rh_rule.specs.Sound.{Sound};
 
-use crate::stage::{Plan, Stage};
 use crate::sights::Decision;
+use crate::stage::{Plan, Stage};
 use crate::worker::Worker;
 use rh_descriptor::{Shape, Side};
 use rh_helping::{Looked, Looking, Opening};

@@ -17,8 +17,8 @@ ghost use Rattle.rh_history.specs.History.{kept_of};
 ghost use Rattle.rh_helping.specs.Held.{IsHeld};
 ghost use Rattle.rh_worker.specs.declared.stage.Stage.TheVariants as stage;
 
-use crate::stage::Stage;
 use crate::sights::Sights;
+use crate::stage::Stage;
 use crate::{scanning, swapping};
 use rh_descriptor::{Ask, Shape, Side, StepKind};
 use rh_helping::Owed;

@@ -1,4 +1,4 @@
-use Rattle.std.proofs.Common.{ℕ, ◌≤◌, List, length, length-take, rules, subst, sym, take, arith}
+use Rattle.std.proofs.Common.{ℕ, ◌≤◌, List, length-take, rules, subst, sym, take, arith}
 use Rattle.rh_helping.specs.declared.looking.Looking.TheVariants as looking
 use Rattle.rh_worker.specs.Worker.{Stays}
 use Rattle.rh_worker.specs.Reading.{HasRead, seen_at}

@@ -1,4 +1,4 @@
-use Rattle.std.proofs.Common.{suc, ◌≡◌, ◌+◌, ◌∙◌, inl, rules, set, subst, sym, arith}
+use Rattle.std.proofs.Common.{suc, ◌≡◌, ◌+◌, ◌∙◌, inl, rules, subst, sym, arith}
 use Rattle.rh_layout.specs.Order.{home_of}
 use Rattle.rh_tagword.proofs.PlainWords.{value_said, value_there}
 use Rattle.rh_layout.specs.Round.{place_after}
