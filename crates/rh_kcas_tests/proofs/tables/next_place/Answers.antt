@@ -11,7 +11,7 @@ IsWithin z v = (n : ℕ) → In n v.side.claims → n < z.keys
 goes_on : (z : Shape) (v next : View) (found : Option ℕ) → Claims z v next found → IsWithin z v → IfSome found (λ _. IsWithin z next)
 goes_on z v next None c within = tt
 goes_on z v next (Some p) c within = λ n i.
-    let is : IsClaimed z c.place (Some p) = c.is in
+    let is : IsClaimed z c.position (Some p) = c.is in
     ⊎_elim (λ q. let less = is.0 in omega (arith, q, less)) (λ j. within n j) (subst (λ (x : View). In n x.side.claims) c.view_is i)
 
 pub returns-clause-keys : goal.returns-clause-keys
