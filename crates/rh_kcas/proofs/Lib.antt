@@ -3,7 +3,7 @@
 -- Noting: what a worker has noted, from step to step.
 -- Fitting: entries of which each fits behind the one before are those of a descriptor.
 -- Left: how many steps of an opening are left, so that it ends.
--- Peeking: a look at a cell: the seat rests after it, and a descriptor that was met there may be helped.
+-- Peeking: a look at a cell: the seat rests after it.
 -- Helped: the control of a descriptor that is helped is read again.
 -- Carried: the acts that a worker at rest has made, after it noted more.
 -- Swapped: what an own descriptor that was opened and carried out makes of a worker at rest.

@@ -1,4 +1,4 @@
--- A look at a cell: the seat rests after it, and a descriptor that was met there may be helped.
+-- A look at a cell: the seat rests after it.
 use Rattle.std.proofs.Common.{ℕ, sym, subst}
 use Rattle.rh_descriptor.specs.declared.shape.Shape.{Shape}
 use Rattle.rh_descriptor.specs.declared.reference.Reading.TheVariants as reading
