@@ -3,7 +3,7 @@ use Rattle.std.proofs.Common.{ℕ, inl, inr, refl, sym, ap, ◌∙◌, subst, �
 use Rattle.std.specs.List.{Contains}
 use Rattle.std.proofs.lemmas.List.{append-nil}
 use Rattle.std.proofs.lemmas.List.Elements.{Contains-append_left, Contains-append_right, Contains-append_cases}
-use Rattle.rh_layout.specs.Round.{place_after}
+use Rattle.rh_layout.specs.Round.{cell_ahead}
 use Rattle.rh_layout.specs.Key.{cell_of}
 use Rattle.rh_layout.specs.Order.{home_of}
 use Rattle.rh_ledger.specs.declared.tally.Kind.{Kind}
@@ -78,12 +78,12 @@ told_more Remove b reads more k told all is = is
 told_more Ask b reads more k told all is = record {
   seen = is.seen;
   room = is.room;
-  read = λ p l. all (kept (place_after (2 ^ b) (home_of b k) p) (get_or is.seen p 0)) (is.read p l);
+  read = λ p l. all (kept (cell_ahead (2 ^ b) (home_of b k) p) (get_or is.seen p 0)) (is.read p l);
   tells = is.tells;
 }
 
 pub key_more : (kind : Kind) (b : ℕ) (reads more : List Kept) (k : ℕ) (acts : List Act) (told : Bool) → ((r : Kept) → Contains reads r → Contains more r) → KeyDone kind b reads k acts told → KeyDone kind b more k acts told
-key_more kind b reads more k acts told all one = elim one [ inl act ↦ inl act | inr read ↦ inr (read.0, told_more kind b reads more k told all read.1) ]
+key_more kind b reads more k acts told all one = elim one [ inl by ↦ inl by | inr by ↦ inr record { none = by.none; tells = told_more kind b reads more k told all by.tells } ]
 
 pub more_read : (kind : Kind) (b : ℕ) (reads more : List Kept) (keys : List ℕ) (acts : List Act) (told : List Bool) → ((r : Kept) → Contains reads r → Contains more r) → IsDone kind b reads keys acts told → IsDone kind b more keys acts told
 more_read kind b reads more [] acts told all done = done

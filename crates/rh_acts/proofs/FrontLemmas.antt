@@ -4,19 +4,19 @@ use Rattle.std.specs.Prelude.{nat_lt}
 use Rattle.std.proofs.lemmas.Bool.{cases_lt}
 use Rattle.std.proofs.lemmas.Bool.Decides.{nat_tests}
 use Rattle.std.proofs.lemmas.List.{take_at}
-use Rattle.rh_layout.specs.Round.{place_after}
+use Rattle.rh_layout.specs.Round.{cell_ahead}
 use Rattle.rh_layout.specs.Key.{IsBits, IsKey, cell_of}
 use Rattle.rh_layout.specs.Order.{home_of}
 use Rattle.rh_layout.proofs.LayoutLemmas.{low_of}
-use Rattle.rh_layout.proofs.RoundLemmas.{place_cases}
+use Rattle.rh_layout.proofs.RoundLemmas.{ahead_cases}
 use Rattle.rh_probe.specs.Look.{Finds}
 use Rattle.rh_probe.specs.Segment.{IsFirstFree, IsFirstStop}
 use Rattle.rh_probe.specs.declared.answer.Look.TheVariants.{Here, Goes}
-use Rattle.rh_edit.specs.News.{put_in, taken_out}
-use Rattle.rh_edit.proofs.NewsLemmas.{put_in_len, taken_out_len}
+use Rattle.rh_edit.specs.News.{inserted_at, shifted_back}
+use Rattle.rh_edit.proofs.NewsLemmas.{inserted_at_len, shifted_back_len}
 use Rattle.rh_acts.specs.Act.{Act}
 use Rattle.rh_acts.specs.KeyActs.{IsFrontAct, PutsIn, TakesOut, ShowsAbsent}
-use Rattle.rh_acts.specs.CellOrder.{past_end, place_at, entry_of, IsInCellOrder}
+use Rattle.rh_acts.specs.CellOrder.{past_end, offset_at, entry_of, IsInCellOrder}
 use Rattle.rh_acts.proofs.FoldLemmas.{then_is, else_is}
 
 -- ---- what a scan found holds of the part that it looked at
@@ -66,36 +66,36 @@ stop_part b h seen i j first =
 -- ---- the order of the cells
 
 module _ (n h m : ℕ) (h_in : h < n) (room : m ≤ n) where
-  low_place : (t : ℕ) → t < past_end n h m → place_at n h m t ≡ n - h + t
-  low_place t l = then_is (nat_lt t (past_end n h m)) (n - h + t) (t - past_end n h m) (grind (arith, nat_tests))
+  low_offset : (t : ℕ) → t < past_end n h m → offset_at n h m t ≡ n - h + t
+  low_offset t l = then_is (nat_lt t (past_end n h m)) (n - h + t) (t - past_end n h m) (grind (arith, nat_tests))
 
-  high_place : (t : ℕ) → past_end n h m ≤ t → place_at n h m t ≡ t - past_end n h m
-  high_place t l = else_is (nat_lt t (past_end n h m)) (n - h + t) (t - past_end n h m) (grind (arith, nat_tests))
+  high_offset : (t : ℕ) → past_end n h m ≤ t → offset_at n h m t ≡ t - past_end n h m
+  high_offset t l = else_is (nat_lt t (past_end n h m)) (n - h + t) (t - past_end n h m) (grind (arith, nat_tests))
 
-  place_within : (t : ℕ) → t < m → place_at n h m t < m
-  place_within t l = elim (cases_lt t (past_end n h m)) [ inl low ↦ omega (arith, low_place t low) | inr high ↦ omega (arith, high_place t high) ]
+  offset_within : (t : ℕ) → t < m → offset_at n h m t < m
+  offset_within t l = elim (cases_lt t (past_end n h m)) [ inl low ↦ omega (arith, low_offset t low) | inr high ↦ omega (arith, high_offset t high) ]
 
-  cell_cases : (t : ℕ) → t < m → ((t < past_end n h m) × (place_after n h (place_at n h m t) ≡ t)) ⊎ ((past_end n h m ≤ t) × (place_after n h (place_at n h m t) ≡ h + (t - past_end n h m)))
+  cell_cases : (t : ℕ) → t < m → ((t < past_end n h m) × (cell_ahead n h (offset_at n h m t) ≡ t)) ⊎ ((past_end n h m ≤ t) × (cell_ahead n h (offset_at n h m t) ≡ h + (t - past_end n h m)))
   cell_cases t l =
-      let in' = place_within t l in
+      let in' = offset_within t l in
       elim (cases_lt t (past_end n h m)) [
-        | inl low ↦ inl (low, elim (place_cases n h (place_at n h m t) h_in (omega arith)) [ inl a ↦ absurd (omega (arith, low_place t low, a.0)) | inr a ↦ omega (arith, low_place t low, a.1) ])
-        | inr high ↦ inr (high, elim (place_cases n h (place_at n h m t) h_in (omega arith)) [ inl a ↦ omega (arith, high_place t high, a.1) | inr a ↦ absurd (omega (arith, high_place t high, a.0)) ])
+        | inl low ↦ inl (low, elim (ahead_cases n h (offset_at n h m t) h_in (omega arith)) [ inl a ↦ absurd (omega (arith, low_offset t low, a.0)) | inr a ↦ omega (arith, low_offset t low, a.1) ])
+        | inr high ↦ inr (high, elim (ahead_cases n h (offset_at n h m t) h_in (omega arith)) [ inl a ↦ omega (arith, high_offset t high, a.1) | inr a ↦ absurd (omega (arith, high_offset t high, a.0)) ])
       ]
 
-  cells_rise : (i j : ℕ) → i < j → j < m → place_after n h (place_at n h m i) < place_after n h (place_at n h m j)
+  cells_rise : (i j : ℕ) → i < j → j < m → cell_ahead n h (offset_at n h m i) < cell_ahead n h (offset_at n h m j)
   cells_rise i j l j_in =
       elim (cell_cases i (omega arith)) [
         | inl a ↦ elim (cell_cases j j_in) [ inl c ↦ omega (arith, a.1, c.1) | inr c ↦ omega (arith, a.0, a.1, c.0, c.1) ]
         | inr a ↦ elim (cell_cases j j_in) [ inl c ↦ absurd (omega (arith, a.0, c.0)) | inr c ↦ omega (arith, a.0, a.1, c.0, c.1) ]
       ]
 
-  -- each place has its turn
-  turn_of : (p : ℕ) → p < m → (t : ℕ) × (t < m) × (place_at n h m t ≡ p)
+  -- each offset has its turn
+  turn_of : (p : ℕ) → p < m → (t : ℕ) × (t < m) × (offset_at n h m t ≡ p)
   turn_of p l =
       elim (cases_lt p (n - h)) [
-        | inl before ↦ (p + past_end n h m, omega arith, high_place (p + past_end n h m) (omega arith) ∙ omega arith)
-        | inr behind ↦ (p - (n - h), omega arith, low_place (p - (n - h)) (omega arith) ∙ omega arith)
+        | inl before ↦ (p + past_end n h m, omega arith, high_offset (p + past_end n h m) (omega arith) ∙ omega arith)
+        | inr behind ↦ (p - (n - h), omega arith, low_offset (p - (n - h)) (omega arith) ∙ omega arith)
       ]
 
 -- Entries in the order of their cells are an act on the front.
@@ -109,12 +109,12 @@ front_in_cell_order n h act olds news h_in room order =
           let t = turn_of n h m h_in room p p_in in
           let e = entry_of n h olds news p in
           (t.0, omega (arith, t.1, order.size), order.at t.0 e (omega (arith, t.1, order.size)) ∙ ap (entry_of n h olds news) t.2);
-      only = λ e in'. (place_at n h m in'.0, place_within n h m h_in room in'.0 (omega (arith, in'.1, order.size)), sym in'.2 ∙ order.at in'.0 e in'.1);
+      only = λ e in'. (offset_at n h m in'.0, offset_within n h m h_in room in'.0 (omega (arith, in'.1, order.size)), sym in'.2 ∙ order.at in'.0 e in'.1);
     }
 
 -- ---- acts, as the slices show them
 
--- the written entries are an act on the first m places
+-- the written entries are an act on the first m offsets
 module _ (b k m first : ℕ) (seen news : List ℕ) (act more : Act) (fits : IsBits b) (room : length seen ≤ 2 ^ b) (within : m ≤ length seen) (home : first ≡ home_of b k) where
   written_front : IsInCellOrder (2 ^ b) first act (take m seen) news → IsFrontAct (2 ^ b) (home_of b k) (take m (act ++ more)) (take m seen) news
   written_front order =
@@ -124,51 +124,51 @@ module _ (b k m first : ℕ) (seen news : List ℕ) (act more : Act) (fits : IsB
       (front_in_cell_order (2 ^ b) (home_of b k) act (take m seen) news (low_of b fits k) (omega (arith, size))
       (subst (λ h. IsInCellOrder (2 ^ b) h act (take m seen) news) home order))
 
-pub insert_written : (b k place last first : ℕ) (seen news rest : List ℕ) (act more : Act) → IsBits b → IsKey k → length seen ≤ 2 ^ b → Finds b k seen (Goes place) → IsFirstFree seen place last → first ≡ home_of b k → news ≡ put_in (cell_of k) (take (last + 1) seen) place → IsInCellOrder (2 ^ b) first act (take (last + 1) seen) (take (last + 1) (news ++ rest)) → (last + 1 ≤ length seen) × PutsIn b k (take (last + 1) seen) (take (last + 1) (act ++ more))
-insert_written b k place last first seen news rest act more fits key room goes free home is order =
+pub insert_written : (b k offset last first : ℕ) (seen news rest : List ℕ) (act more : Act) → IsBits b → IsKey k → length seen ≤ 2 ^ b → Finds b k seen (Goes offset) → IsFirstFree seen offset last → first ≡ home_of b k → news ≡ inserted_at (cell_of k) (take (last + 1) seen) offset → IsInCellOrder (2 ^ b) first act (take (last + 1) seen) (take (last + 1) (news ++ rest)) → (last + 1 ≤ length seen) × PutsIn b k (take (last + 1) seen) (take (last + 1) (act ++ more))
+insert_written b k offset last first seen news rest act more fits key room goes free home is order =
     let l : last + 1 ≤ length seen = omega (arith, free.within) in
     let size = part_len seen (last + 1) l in
-    let news_len : length news ≡ last + 1 = ap length is ∙ put_in_len (cell_of k) (take (last + 1) seen) place (omega (arith, size, free.from)) ∙ size in
-    let news_is : take (last + 1) (news ++ rest) ≡ put_in (cell_of k) (take (last + 1) seen) place = take_at news rest (last + 1) news_len ∙ is in (
+    let news_len : length news ≡ last + 1 = ap length is ∙ inserted_at_len (cell_of k) (take (last + 1) seen) offset (omega (arith, size, free.from)) ∙ size in
+    let news_is : take (last + 1) (news ++ rest) ≡ inserted_at (cell_of k) (take (last + 1) seen) offset = take_at news rest (last + 1) news_len ∙ is in (
       l,
       record {
         key = key;
-        place = place;
+        offset = offset;
         last = last;
-        goes = goes_part seen (last + 1) l b k place (omega (arith, free.from)) goes;
-        free = free_part seen place last free;
+        goes = goes_part seen (last + 1) l b k offset (omega (arith, free.from)) goes;
+        free = free_part seen offset last free;
         ends = sym size;
-        front = written_front b k (last + 1) first seen (put_in (cell_of k) (take (last + 1) seen) place) act more fits room l home
+        front = written_front b k (last + 1) first seen (inserted_at (cell_of k) (take (last + 1) seen) offset) act more fits room l home
             (subst (λ (ns : List ℕ). IsInCellOrder (2 ^ b) first act (take (last + 1) seen) ns) news_is order);
       },
     )
 
-pub remove_written : (b k place last first : ℕ) (seen news rest : List ℕ) (act more : Act) → IsBits b → length seen ≤ 2 ^ b → Finds b k seen (Here place) → IsFirstStop b first seen place last → first ≡ home_of b k → news ≡ taken_out (take (last + 1) seen) place → IsInCellOrder (2 ^ b) first act (take (last + 1) seen) (take (last + 1) (news ++ rest)) → (last + 1 ≤ length seen) × TakesOut b k (take (last + 1) seen) (take (last + 1) (act ++ more))
-remove_written b k place last first seen news rest act more fits room here stop home is order =
+pub remove_written : (b k offset last first : ℕ) (seen news rest : List ℕ) (act more : Act) → IsBits b → length seen ≤ 2 ^ b → Finds b k seen (Here offset) → IsFirstStop b first seen offset last → first ≡ home_of b k → news ≡ shifted_back (take (last + 1) seen) offset → IsInCellOrder (2 ^ b) first act (take (last + 1) seen) (take (last + 1) (news ++ rest)) → (last + 1 ≤ length seen) × TakesOut b k (take (last + 1) seen) (take (last + 1) (act ++ more))
+remove_written b k offset last first seen news rest act more fits room here stop home is order =
     let l : last + 1 ≤ length seen = omega (arith, stop.within) in
     let size = part_len seen (last + 1) l in
-    let news_len : length news ≡ last + 1 = ap length is ∙ taken_out_len (take (last + 1) seen) place (omega (arith, size, stop.from)) ∙ size in
-    let news_is : take (last + 1) (news ++ rest) ≡ taken_out (take (last + 1) seen) place = take_at news rest (last + 1) news_len ∙ is in (
+    let news_len : length news ≡ last + 1 = ap length is ∙ shifted_back_len (take (last + 1) seen) offset (omega (arith, size, stop.from)) ∙ size in
+    let news_is : take (last + 1) (news ++ rest) ≡ shifted_back (take (last + 1) seen) offset = take_at news rest (last + 1) news_len ∙ is in (
       l,
       record {
-        place = place;
+        offset = offset;
         last = last;
-        here = here_part seen (last + 1) l b k place (omega (arith, stop.from)) here;
-        stop = stop_part b (home_of b k) seen place last (subst (λ h. IsFirstStop b h seen place last) home stop);
+        here = here_part seen (last + 1) l b k offset (omega (arith, stop.from)) here;
+        stop = stop_part b (home_of b k) seen offset last (subst (λ h. IsFirstStop b h seen offset last) home stop);
         ends = sym size;
-        front = written_front b k (last + 1) first seen (taken_out (take (last + 1) seen) place) act more fits room l home
+        front = written_front b k (last + 1) first seen (shifted_back (take (last + 1) seen) offset) act more fits room l home
             (subst (λ (ns : List ℕ). IsInCellOrder (2 ^ b) first act (take (last + 1) seen) ns) news_is order);
       },
     )
 
-pub absence_written : (b k place first : ℕ) (seen : List ℕ) (act more : Act) → IsBits b → length seen ≤ 2 ^ b → Finds b k seen (Goes place) → first ≡ home_of b k → IsInCellOrder (2 ^ b) first act (take (place + 1) seen) (take (place + 1) seen) → (place + 1 ≤ length seen) × ShowsAbsent b k (take (place + 1) seen) (take (place + 1) (act ++ more))
-absence_written b k place first seen act more fits room goes home order =
-    let l : place + 1 ≤ length seen = omega (arith, goes.0) in (
+pub absence_written : (b k offset first : ℕ) (seen : List ℕ) (act more : Act) → IsBits b → length seen ≤ 2 ^ b → Finds b k seen (Goes offset) → first ≡ home_of b k → IsInCellOrder (2 ^ b) first act (take (offset + 1) seen) (take (offset + 1) seen) → (offset + 1 ≤ length seen) × ShowsAbsent b k (take (offset + 1) seen) (take (offset + 1) (act ++ more))
+absence_written b k offset first seen act more fits room goes home order =
+    let l : offset + 1 ≤ length seen = omega (arith, goes.0) in (
       l,
       record {
-        place = place;
-        goes = goes_part seen (place + 1) l b k place (omega arith) goes;
-        ends = sym (part_len seen (place + 1) l);
-        front = written_front b k (place + 1) first seen (take (place + 1) seen) act more fits room l home order;
+        offset = offset;
+        goes = goes_part seen (offset + 1) l b k offset (omega arith) goes;
+        ends = sym (part_len seen (offset + 1) l);
+        front = written_front b k (offset + 1) first seen (take (offset + 1) seen) act more fits room l home order;
       },
     )

@@ -11,9 +11,9 @@ use Rattle.rh_acts.specs.Done.{Kept, WereTrue}
 use Rattle.rh_acts.specs.Workers.{Made, acts_of, own}
 use Rattle.rh_acts.proofs.OwnLemmas.{own_yes, own_no}
 
-pub meet_by_place : (acts : List Act) (cells : List ℕ) → ((n : ℕ) → n < length acts → Meets (get_or acts n []) (apply_acts (take n acts) cells)) → AllMeet acts cells
-meet_by_place [] cells each = tt
-meet_by_place (a ∷ rest) cells each = (each 0 (omega arith), meet_by_place rest (apply_act a cells) (λ n l. each (suc n) (omega arith)))
+pub meet_one_by_one : (acts : List Act) (cells : List ℕ) → ((n : ℕ) → n < length acts → Meets (get_or acts n []) (apply_acts (take n acts) cells)) → AllMeet acts cells
+meet_one_by_one [] cells each = tt
+meet_one_by_one (a ∷ rest) cells each = (each 0 (omega arith), meet_one_by_one rest (apply_act a cells) (λ n l. each (suc n) (omega arith)))
 
 apply_push : (acts : List Act) (a : Act) (cells : List ℕ) → apply_acts (acts ++ a ∷ []) cells ≡ apply_act a (apply_acts acts cells)
 apply_push [] a cells = refl

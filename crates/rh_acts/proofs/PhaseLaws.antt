@@ -64,9 +64,9 @@ abbrev tallies : Kind → List (List Bool) → ℕ → Tally
 tallies kind told w = counted kind (piece told w)
 
 insert_counts : (b : ℕ) (reads : List Kept) (k : ℕ) (first : List Act) (so : Bool) → KeyDone Insert b reads k first so → cond so 1 0 ≡ sum_by (λ a. 1) first
-insert_counts b reads k first true (inl act) = ap (sum_by (λ (a : Act). 1)) (sym act.1)
-insert_counts b reads k first false (inl act) = absurd act.2
-insert_counts b reads k first so (inr read) = ap (λ (t : Bool). cond {A = ℕ} t 1 0) read.1.0 ∙ ap (sum_by (λ (a : Act). 1)) (sym read.0)
+insert_counts b reads k first true (inl by) = ap (sum_by (λ (a : Act). 1)) (sym by.only)
+insert_counts b reads k first false (inl by) = absurd by.does
+insert_counts b reads k first so (inr by) = ap (λ (t : Bool). cond {A = ℕ} t 1 0) by.tells.0 ∙ ap (sum_by (λ (a : Act). 1)) (sym by.none)
 
 tally_inserted : (b : ℕ) (S : Keys) (pieces : List (List ℕ)) (made : List Made) (reads : List (List Kept)) (told : List (List Bool)) → AreOf (length pieces) made → ((w : ℕ) → w < length pieces → IsDone Insert b (piece reads w) (piece pieces w) (own w made) (piece told w)) → set.len (set_after Insert S (joined pieces)) ≡ set.len S + length (acts_of made) → sum_of_all (λ w. counted Insert (piece told w)) (length pieces) ≡ tally_of Insert S (joined pieces)
 tally_inserted b S pieces made reads told owned done grew =

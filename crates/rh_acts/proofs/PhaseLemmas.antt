@@ -4,7 +4,7 @@ use Rattle.std.specs.List.{Contains, count_by}
 use Rattle.std.specs.FinSet as set
 use Rattle.std.specs.FinSet.{contains}
 use Rattle.std.proofs.lemmas.List.{map-append}
-use Rattle.rh_layout.specs.Round.{place_after}
+use Rattle.rh_layout.specs.Round.{cell_ahead}
 use Rattle.rh_layout.specs.Key.{cell_of}
 use Rattle.rh_layout.specs.Order.{home_of}
 use Rattle.rh_layout.specs.Layout.{Keys, Layout}
@@ -29,8 +29,8 @@ only_act first a a' is h = elim (contains_cases a a' [] (subst (λ (ys : List Ac
 act_of_key : (kind : Kind) (b : ℕ) (reads : List Kept) (k : ℕ) (first : List Act) (so : Bool) (a : Act) → KeyDone kind b reads k first so → Contains first a → Does kind b k so a
 act_of_key kind b reads k first so a one h =
     elim one [
-      | inl act ↦ subst (λ (z : Act). Does kind b k so z) (only_act first act.0 a act.1 h) act.2
-      | inr read ↦ absurd (contains_none a (subst (λ (ys : List Act). Contains ys a) read.0 h))
+      | inl by ↦ subst (λ (z : Act). Does kind b k so z) (only_act first by.act a by.only h) by.does
+      | inr by ↦ absurd (contains_none a (subst (λ (ys : List Act). Contains ys a) by.none h))
     ]
 
 first_act : (first : List Act) (a : Act) → first ≡ a ∷ [] → Contains first a
@@ -56,8 +56,8 @@ module _ (b : ℕ) (opening : List ℕ) (S : Keys) (pieces : List (List ℕ)) (m
       let w = at_w.0 in
       let one = done_key Insert b (piece reads w) (piece pieces w) (own w made) (piece told w) (done w at_w.1) k at_w.2 in
       elim one.2 [
-        | inl act ↦ inl (act.0, own_among w made act.0 (one.3 act.0 (first_act one.0 act.0 act.1)), does_insert b k one.1 act.0 act.2)
-        | inr held ↦ let at = held.1.1 in inr (at.0, were w at_w.1 (kept at.0 (cell_of k)) at.1)
+        | inl by ↦ inl (by.act, own_among w made by.act (one.3 by.act (first_act one.0 by.act by.only)), does_insert b k one.1 by.act by.does)
+        | inr by ↦ let at = by.tells.1 in inr (at.0, were w at_w.1 (kept at.0 (cell_of k)) at.1)
       ])
       (λ a h. let got = does_a_key Insert done a h in (got.0, got.1, does_insert b got.0 got.2 a got.3))
 
@@ -69,16 +69,16 @@ module _ (b : ℕ) (opening : List ℕ) (S : Keys) (pieces : List (List ℕ)) (m
       let w = at_w.0 in
       let one = done_key Remove b (piece reads w) (piece pieces w) (own w made) (piece told w) (done w at_w.1) k at_w.2 in
       elim one.2 [
-        | inl act ↦ (act.0, own_among w made act.0 (one.3 act.0 (first_act one.0 act.0 act.1)), does_removal b k one.1 act.0 act.2)
-        | inr none ↦ absurd none.1
+        | inl by ↦ (by.act, own_among w made by.act (one.3 by.act (first_act one.0 by.act by.only)), does_removal b k one.1 by.act by.does)
+        | inr by ↦ absurd by.tells
       ])
       (λ a h. let got = does_a_key Remove done a h in (got.0, got.1, does_removal b got.0 got.2 a got.3))
 
 -- ---- phases that ask
 
 no_act : (b : ℕ) (reads : List Kept) (k : ℕ) (first : List Act) (so : Bool) → KeyDone Ask b reads k first so → first ≡ []
-no_act b reads k first so (inl act) = absurd act.2
-no_act b reads k first so (inr read) = read.0
+no_act b reads k first so (inl by) = absurd by.does
+no_act b reads k first so (inr by) = by.none
 
 pub ask_has_no_act : (b : ℕ) (reads : List Kept) (keys : List ℕ) (acts : List Act) (told : List Bool) → IsDone Ask b reads keys acts told → acts ≡ []
 ask_has_no_act b reads [] acts told done = done.0
@@ -100,15 +100,15 @@ held_without_acts opening acts reads none were r h =
 
 asked_right : (b : ℕ) (opening : List ℕ) (S : Keys) (reads : List Kept) (k : ℕ) (answer : Bool) → Layout opening b S → AreHeld opening reads → IsAsked b reads k answer → answer ≡ contains S k
 asked_right b opening S reads k answer layout held ask =
-    let front : IsFront (2 ^ b) (home_of b k) opening ask.seen = record { room = ask.room; shows = λ p p_in. sym (held (kept (place_after (2 ^ b) (home_of b k) p) (get_or ask.seen p 0)) (ask.read p p_in)) } in
+    let front : IsFront (2 ^ b) (home_of b k) opening ask.seen = record { room = ask.room; shows = λ p p_in. sym (held (kept (cell_ahead (2 ^ b) (home_of b k) p) (get_or ask.seen p 0)) (ask.read p p_in)) } in
     elim ask.tells [
       | inl yes' ↦ yes'.0 ∙ sym (here_held b opening ask.seen k yes'.1.0 S layout front yes'.1.1)
       | inr no' ↦ no'.0 ∙ sym (goes_fresh b opening ask.seen k no'.1.0 S layout front no'.1.1)
     ]
 
 key_asked : (b : ℕ) (opening : List ℕ) (S : Keys) (reads : List Kept) (k : ℕ) (first : List Act) (so : Bool) → Layout opening b S → AreHeld opening reads → KeyDone Ask b reads k first so → so ≡ contains S k
-key_asked b opening S reads k first so layout held (inl act) = absurd act.2
-key_asked b opening S reads k first so layout held (inr read) = asked_right b opening S reads k so layout held read.1
+key_asked b opening S reads k first so layout held (inl by) = absurd by.does
+key_asked b opening S reads k first so layout held (inr by) = asked_right b opening S reads k so layout held by.tells
 
 pub piece_asked : (b : ℕ) (opening : List ℕ) (S : Keys) (reads : List Kept) (keys : List ℕ) (acts : List Act) (told : List Bool) → Layout opening b S → AreHeld opening reads → IsDone Ask b reads keys acts told → told ≡ looked_up S keys
 piece_asked b opening S reads [] acts told layout held done = done.1

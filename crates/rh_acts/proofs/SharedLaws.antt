@@ -42,11 +42,11 @@ rounds_are_one_phase kind S pieces first next are =
       sym (tally_of-append kind S (joined first) (joined next)) ∙ same_tally_of (joined first ++ joined next) (joined pieces) shuffled kind S,
     )
 
--- ---- sums over the places of a list
+-- ---- sums over the positions of a list
 
-by_place : (f : ℕ → ℕ) (keys : List ℕ) → sum_by f keys ≡ sum_upto (λ i. f (get_or keys i 0)) (length keys)
-by_place f [] = refl
-by_place f (k ∷ keys) = sum_by-cons f k keys ∙ ap (λ n. f k + n) (by_place f keys) ∙ sym (upto_first (λ i. f (get_or (k ∷ keys) i 0)) (length keys))
+by_position : (f : ℕ → ℕ) (keys : List ℕ) → sum_by f keys ≡ sum_upto (λ i. f (get_or keys i 0)) (length keys)
+by_position f [] = refl
+by_position f (k ∷ keys) = sum_by-cons f k keys ∙ ap (λ n. f k + n) (by_position f keys) ∙ sym (upto_first (λ i. f (get_or (k ∷ keys) i 0)) (length keys))
 
 sum_of_map : (f g : ℕ → ℕ) (xs : List ℕ) → sum_by f (map g xs) ≡ sum_by (λ i. f (g i)) xs
 sum_of_map f g [] = refl
@@ -57,11 +57,11 @@ sum_of_maps f g [] = refl
 sum_of_maps f g (xs ∷ xss) = omega (arith, sum_by-append f (map g xs) (joined (map (map g) xss)), sum_of_map f g xs, sum_of_maps f g xss, sum_by-append (λ i. f (g i)) xs (joined xss))
 
 -- what x is worth where it is i
-abbrev at_place : (h : ℕ → ℕ) (i x : ℕ) → ℕ
-at_place h i x = cond (nat_eq x i) (h x) 0
+abbrev at_position : (h : ℕ → ℕ) (i x : ℕ) → ℕ
+at_position h i x = cond (nat_eq x i) (h x) 0
 
 -- a sum by the values of the list's members
-by_value : (h : ℕ → ℕ) (n : ℕ) (xs : List ℕ) → ((x : ℕ) → Contains xs x → x < n) → sum_by h xs ≡ sum_upto (λ i. sum_by (at_place h i) xs) n
+by_value : (h : ℕ → ℕ) (n : ℕ) (xs : List ℕ) → ((x : ℕ) → Contains xs x → x < n) → sum_by h xs ≡ sum_upto (λ i. sum_by (at_position h i) xs) n
 by_value h n [] below = sym (upto_zero n)
 by_value h n (x ∷ xs) below =
     omega (
@@ -69,16 +69,16 @@ by_value h n (x ∷ xs) below =
       sum_by-cons h x xs,
       by_value h n xs (λ y in'. below y (contains_tail x y xs in')),
       upto_one x (h x) n (below x (contains_head x xs)),
-      upto_add (λ i. at_place h i x) (λ i. sum_by (at_place h i) xs) n,
-      upto_same (λ i. sum_by (at_place h i) (x ∷ xs)) (λ i. at_place h i x + sum_by (at_place h i) xs) n (λ i l. sum_by-cons (at_place h i) x xs),
+      upto_add (λ i. at_position h i x) (λ i. sum_by (at_position h i) xs) n,
+      upto_same (λ i. sum_by (at_position h i) (x ∷ xs)) (λ i. at_position h i x + sum_by (at_position h i) xs) n (λ i l. sum_by-cons (at_position h i) x xs),
     )
 
-sum_absent : (h : ℕ → ℕ) (i : ℕ) (xs : List ℕ) → (Contains xs i → ⊥) → sum_by (at_place h i) xs ≡ 0
+sum_absent : (h : ℕ → ℕ) (i : ℕ) (xs : List ℕ) → (Contains xs i → ⊥) → sum_by (at_position h i) xs ≡ 0
 sum_absent h i [] none = refl
 sum_absent h i (x ∷ xs) none =
     elim (true_or_false (nat_eq x i)) [
       | inl yes' ↦ absurd (none (rw (eqb-true x i yes') (contains_head i xs)))
-      | inr no' ↦ omega (arith, sum_by-cons (at_place h i) x xs, else_is (nat_eq x i) (h x) 0 no', sum_absent h i xs (λ in'. none (contains_tail x i xs in')))
+      | inr no' ↦ omega (arith, sum_by-cons (at_position h i) x xs, else_is (nat_eq x i) (h x) 0 no', sum_absent h i xs (λ in'. none (contains_tail x i xs in')))
     ]
 
 abbrev IsOnce : List ℕ → Type 0
@@ -90,16 +90,16 @@ once_tail x xs once = λ i j d l m. once (suc i) (suc j) d (omega arith) (omega 
 once_head : (x : ℕ) (xs : List ℕ) → IsOnce (x ∷ xs) → Contains xs x → ⊥
 once_head x xs once h = once 0 (suc h.0) x (omega arith) (omega (arith, h.1)) (sym h.2)
 
-sum_once : (h : ℕ → ℕ) (i : ℕ) (xs : List ℕ) → IsOnce xs → Contains xs i → sum_by (at_place h i) xs ≡ h i
+sum_once : (h : ℕ → ℕ) (i : ℕ) (xs : List ℕ) → IsOnce xs → Contains xs i → sum_by (at_position h i) xs ≡ h i
 sum_once h i [] once in' = absurd (contains_none i in')
 sum_once h i (x ∷ xs) once in' =
     elim (cases_eq x i) [
       | inl is ↦
-          let rest : sum_by (at_place h i) xs ≡ 0 = sum_absent h i xs (λ later. once_head x xs once (rw is later)) in
-          omega (arith, sum_by-cons (at_place h i) x xs, then_is (nat_eq x i) (h x) 0 (eq-eqb x i is), ap h is, rest)
+          let rest : sum_by (at_position h i) xs ≡ 0 = sum_absent h i xs (λ later. once_head x xs once (rw is later)) in
+          omega (arith, sum_by-cons (at_position h i) x xs, then_is (nat_eq x i) (h x) 0 (eq-eqb x i is), ap h is, rest)
       | inr ne ↦
           let other : nat_eq x i ≡ false = grind (arith, nat_tests) in
-          omega (arith, sum_by-cons (at_place h i) x xs, else_is (nat_eq x i) (h x) 0 other, sum_once h i xs (once_tail x xs once) (later in' ne))
+          omega (arith, sum_by-cons (at_position h i) x xs, else_is (nat_eq x i) (h x) 0 other, sum_once h i xs (once_tail x xs once) (later in' ne))
     ]
   where
     later : Contains (x ∷ xs) i → (x ≡ i → ⊥) → Contains xs i
@@ -111,13 +111,13 @@ module _ (count : ℕ) (claims : List (List ℕ)) (shared : IsSharedOut count cl
   all_below : (xss : List (List ℕ)) (i : ℕ) → ((w : ℕ) → w < length xss → Contains (piece xss w) i → i < count) → Contains (joined xss) i → i < count
   all_below xss i below h = let at = from_joined xss i h in below at.0 at.1 at.2
 
-  -- the one worker that claimed place i has it once
-  place_once : (h : ℕ → ℕ) (i : ℕ) → i < count → sum_by (at_place h i) (joined claims) ≡ h i
-  place_once h i l =
+  -- the one worker that claimed position i has it once
+  position_once : (h : ℕ → ℕ) (i : ℕ) → i < count → sum_by (at_position h i) (joined claims) ≡ h i
+  position_once h i l =
       let it = shared.all i l in
       let v = it.0 in
-      sym (upto_joined (at_place h i) claims)
-      ∙ upto_same (λ w. sum_by (at_place h i) (piece claims w)) (λ w. cond (nat_eq v w) (h i) 0) (length claims) (λ w w_in. elim (cases_eq v w) [
+      sym (upto_joined (at_position h i) claims)
+      ∙ upto_same (λ w. sum_by (at_position h i) (piece claims w)) (λ w. cond (nat_eq v w) (h i) 0) (length claims) (λ w w_in. elim (cases_eq v w) [
         | inl is ↦ sum_once h i (piece claims w) (shared.once w w_in) (rw (← is) it.2) ∙ sym (then_is (nat_eq v w) (h i) 0 (eq-eqb v w is))
         | inr ne ↦
             let other : nat_eq v w ≡ false = grind (arith, nat_tests) in
@@ -128,11 +128,11 @@ module _ (count : ℕ) (claims : List (List ℕ)) (shared : IsSharedOut count cl
   claimed_sum : (h : ℕ → ℕ) → sum_by h (joined claims) ≡ sum_upto h count
   claimed_sum h =
       by_value h count (joined claims) (λ i in'. all_below claims i (λ w l. shared.below w i l) in')
-      ∙ upto_same (λ i. sum_by (at_place h i) (joined claims)) h count (place_once h)
+      ∙ upto_same (λ i. sum_by (at_position h i) (joined claims)) h count (position_once h)
 
 shared_shuffled : (keys : List ℕ) (claims : List (List ℕ)) → IsSharedOut (length keys) claims → AreShuffled (joined (pieces_at keys claims)) keys
 shared_shuffled keys claims shared f =
-    sum_of_maps f (λ i. get_or keys i 0) claims ∙ claimed_sum (length keys) claims shared (λ i. f (get_or keys i 0)) ∙ sym (by_place f keys)
+    sum_of_maps f (λ i. get_or keys i 0) claims ∙ claimed_sum (length keys) claims shared (λ i. f (get_or keys i 0)) ∙ sym (by_position f keys)
 
 piece_at : (keys : List ℕ) (claims : List (List ℕ)) (w : ℕ) → piece (pieces_at keys claims) w ≡ map (λ i. get_or keys i 0) (piece claims w)
 piece_at keys [] w = refl
@@ -148,11 +148,11 @@ shared_list_is_one_list kind S keys claims shared =
       same_set_after (joined (pieces_at keys claims)) keys shuffled kind S,
       same_tally_of (joined (pieces_at keys claims)) keys shuffled kind S,
       λ w j w_in j_in.
-          let places = piece claims w in
-          let i = get_or places j 0 in
-          let there : i < length keys = shared.below w i w_in (Contains-get_or places j 0 j_in) in
+          let offsets = piece claims w in
+          let i = get_or offsets j 0 in
+          let there : i < length keys = shared.below w i w_in (Contains-get_or offsets j 0 j_in) in
           ap (λ (ks : List ℕ). get_or (looked_up S ks) j false) (piece_at keys claims w)
-          ∙ look_up_at S (map (λ p. get_or keys p 0) places) j (omega (arith, j_in, length-map places (λ p. get_or keys p 0)))
-          ∙ ap (contains S) (get_or-map (λ p. get_or keys p 0) places j 0 0 j_in)
+          ∙ look_up_at S (map (λ p. get_or keys p 0) offsets) j (omega (arith, j_in, length-map offsets (λ p. get_or keys p 0)))
+          ∙ ap (contains S) (get_or-map (λ p. get_or keys p 0) offsets j 0 0 j_in)
           ∙ sym (look_up_at S keys i there),
     )

@@ -7,12 +7,12 @@ use Rattle.std.proofs.lemmas.Bool.Decides.{nat_tests}
 use Rattle.std.proofs.lemmas.List.Elements.{Contains-get_or}
 use Rattle.std.proofs.lemmas.List.Folds.{list_any_at, list_any_none}
 use Rattle.std.proofs.lemmas.List.Sums.{sum_by-append, sum_by-cons}
-use Rattle.rh_layout.specs.Round.{place_after}
+use Rattle.rh_layout.specs.Round.{cell_ahead}
 use Rattle.rh_layout.specs.Order.{home_of}
 use Rattle.rh_probe.specs.Segment.{IsAway}
 use Rattle.rh_layout.specs.Key.{cell_of}
-use Rattle.rh_edit.specs.News.{put_in, taken_out}
-use Rattle.rh_edit.proofs.NewsLemmas.{put_in_above, put_in_at, taken_out_cleared}
+use Rattle.rh_edit.specs.News.{inserted_at, shifted_back}
+use Rattle.rh_edit.proofs.NewsLemmas.{inserted_at_above, inserted_at_at, shifted_back_cleared}
 use Rattle.rh_ledger.specs.declared.tally.Kind.{Kind}
 use Rattle.rh_ledger.specs.declared.tally.Kind.TheVariants.{Insert, Remove, Ask}
 use Rattle.rh_layout.specs.declared.entry.Entry.{Entry}
@@ -34,37 +34,37 @@ away_full b c value away = omega (arith, away.1)
 -- an entry of a front, whose old value is not the new one
 one_changes : (n h : ℕ) (act : Act) (olds news : List ℕ) (front : IsFrontAct n h act olds news) (p : ℕ) → p < length olds → (get_or olds p 0 ≡ get_or news p 0 → ⊥) → changes act ≡ true
 one_changes n h act olds news front p inside ne =
-    let e = entry (place_after n h p) (get_or olds p 0) (get_or news p 0) in
+    let e = entry (cell_ahead n h p) (get_or olds p 0) (get_or news p 0) in
     let in' : Contains act e = front.has p inside in
     list_any_at (λ (x : Entry). not (nat_eq x.old x.new)) act in'.0 e in'.1 (subst (λ (x : Entry). not (nat_eq x.old x.new) ≡ true) (sym in'.2) (test_differ e.old e.new ne))
 
--- The last place was empty and is full.
+-- The last cell was empty and is full.
 insert_changes : (b k : ℕ) (act : Act) → IsInsertAct b k act → changes act ≡ true
 insert_changes b k act ins =
     let seen = ins.0 in
     let t = ins.1 in
-    let inside : t.place < length seen = omega (arith, t.free.from, t.free.within) in
-    let full : 0 < get_or (put_in (cell_of k) seen t.place) t.last 0 = elim (cases_eq t.place t.last) [
-      | inl is ↦ let here = put_in_at (cell_of k) seen t.place inside t.last (sym is) in omega (arith, here)
+    let inside : t.offset < length seen = omega (arith, t.free.from, t.free.within) in
+    let full : 0 < get_or (inserted_at (cell_of k) seen t.offset) t.last 0 = elim (cases_eq t.offset t.last) [
+      | inl is ↦ let here = inserted_at_at (cell_of k) seen t.offset inside t.last (sym is) in omega (arith, here)
       | inr ne ↦
-          let before = put_in_above (cell_of k) seen t.place inside t.last (omega (arith, ne, t.free.from)) t.free.within in
+          let before = inserted_at_above (cell_of k) seen t.offset inside t.last (omega (arith, ne, t.free.from)) t.free.within in
           omega (arith, before, t.free.full (t.last - 1) (omega (arith, ne, t.free.from)) (omega (arith, ne, t.free.from)))
     ] in
-    one_changes (2 ^ b) (home_of b k) act seen (put_in (cell_of k) seen t.place) t.front t.last t.free.within (λ e. omega (arith, full, t.free.free, e))
+    one_changes (2 ^ b) (home_of b k) act seen (inserted_at (cell_of k) seen t.offset) t.front t.last t.free.within (λ e. omega (arith, full, t.free.free, e))
 
--- The place before the last was full and is empty.
+-- The cell before the last was full and is empty.
 pub remove_changes : (b k : ℕ) (act : Act) → IsRemoveAct b k act → changes act ≡ true
 remove_changes b k act rem =
     let seen = rem.0 in
     let t = rem.1 in
     let p = length seen - 2 in
     let h = home_of b k in
-    let cleared : 0 ≡ get_or (taken_out seen t.place) p 0 = taken_out_cleared seen t.place (omega (arith, t.stop.from, t.stop.within)) p (omega (arith, t.stop.from, t.stop.within)) in
-    let full : 0 < get_or seen p 0 = elim (cases_eq t.place p) [
+    let cleared : 0 ≡ get_or (shifted_back seen t.offset) p 0 = shifted_back_cleared seen t.offset (omega (arith, t.stop.from, t.stop.within)) p (omega (arith, t.stop.from, t.stop.within)) in
+    let full : 0 < get_or seen p 0 = elim (cases_eq t.offset p) [
       | inl is ↦ let here = ap (λ m. get_or seen m 0) (sym is) ∙ t.here.2 in omega (arith, here)
-      | inr ne ↦ away_full b (place_after (2 ^ b) h p) (get_or seen p 0) (t.stop.between p (omega (arith, ne, t.ends, t.stop.from, t.stop.within)) (omega (arith, t.ends, t.stop.from, t.stop.within)))
+      | inr ne ↦ away_full b (cell_ahead (2 ^ b) h p) (get_or seen p 0) (t.stop.between p (omega (arith, ne, t.ends, t.stop.from, t.stop.within)) (omega (arith, t.ends, t.stop.from, t.stop.within)))
     ] in
-    one_changes (2 ^ b) h act seen (taken_out seen t.place) t.front p (omega (arith, t.stop.within)) (λ e. omega (arith, full, cleared, e))
+    one_changes (2 ^ b) h act seen (shifted_back seen t.offset) t.front p (omega (arith, t.stop.within)) (λ e. omega (arith, full, cleared, e))
 
 pub absence_changes : (b k : ℕ) (act : Act) → IsAbsenceAct b k act → changes act ≡ false
 absence_changes b k act none = list_any_none (λ (e : Entry). not (nat_eq e.old e.new)) act (λ i d l.
@@ -98,10 +98,10 @@ act_counts : (act : Act) (so : Bool) → changes act ≡ so → cond so 1 0 ≡ 
 act_counts act so is = ap (λ (t : Bool). cond {A = ℕ} t 1 0) (sym is) ∙ sym (zero-add (cond {A = ℕ} (changes act) 1 0))
 
 pub key_counts : (kind : Kind) (b : ℕ) (reads : List Kept) (k : ℕ) (first : List Act) (so : Bool) → kind ≢ Ask → KeyDone kind b reads k first so → cond so 1 0 ≡ count_by changes first
-key_counts kind b reads k first so changed (inl act) = act_counts act.0 so (does_told kind b k so act.0 act.2) ∙ ap (count_by changes) (sym act.1)
-key_counts Insert b reads k first so changed (inr read) = ap (λ (t : Bool). cond {A = ℕ} t 1 0) read.1.0 ∙ ap (count_by changes) (sym read.0)
-key_counts Remove b reads k first so changed (inr read) = absurd read.1
-key_counts Ask b reads k first so changed (inr read) = absurd (changed refl)
+key_counts kind b reads k first so changed (inl by) = act_counts by.act so (does_told kind b k so by.act by.does) ∙ ap (count_by changes) (sym by.only)
+key_counts Insert b reads k first so changed (inr by) = ap (λ (t : Bool). cond {A = ℕ} t 1 0) by.tells.0 ∙ ap (count_by changes) (sym by.none)
+key_counts Remove b reads k first so changed (inr by) = absurd by.tells
+key_counts Ask b reads k first so changed (inr by) = absurd (changed refl)
 
 pub told_is_changed : ToldIsChanged
 told_is_changed kind b reads keys acts told done = (

@@ -1,6 +1,6 @@
 -- What a scan from a key's home on leads to.
 use Rattle.std.specs.Prelude.{ℕ, ◌^◌, ◌<◌, ◌≤◌, ◌⊎◌, List, length, slice_index, take}
-use Rattle.rh_layout.specs.Round.{place_after}
+use Rattle.rh_layout.specs.Round.{cell_ahead}
 use Rattle.rh_layout.specs.Order.{home_of}
 use Rattle.rh_probe.specs.Look.{Finds}
 use Rattle.rh_probe.specs.Segment.{IsAway}
@@ -12,7 +12,7 @@ use Rattle.rh_acts.specs.declared.answer.Insertion.TheVariants as insertion
 use Rattle.rh_acts.specs.declared.answer.Removal.{Removal}
 use Rattle.rh_acts.specs.declared.answer.Removal.TheVariants as removal
 
--- The key is there, or the first n entries put it into the first n places, or no place shows where it goes, or none from
+-- The key is there, or the first n entries put it into the first n offsets, or no offset shows where it goes, or none from
 -- there on is empty.
 abbrev pub Inserts : (b k : ℕ) (seen : List ℕ) (entries : Act) → Insertion → Type 0
 Inserts b k seen entries insertion.Held = (i : ℕ) × Finds b k seen (look.Here i)
@@ -20,11 +20,11 @@ Inserts b k seen entries (insertion.PutsIn n) = (n ≤ length seen) × PutsIn b 
 Inserts b k seen entries insertion.More = Finds b k seen look.More
     ⊎ ((i : ℕ) × Finds b k seen (look.Goes i) × ((p : ℕ) → i ≤ p → p < length seen → 0 < slice_index seen p))
 
--- The first n entries take the key out of the first n places, or show that it is not there, or no place decides, or what
+-- The first n entries take the key out of the first n offsets, or show that it is not there, or no offset decides, or what
 -- stands behind the key can all move back.
 abbrev pub Removes : (b k : ℕ) (seen : List ℕ) (entries : Act) → Removal → Type 0
 Removes b k seen entries (removal.TakesOut n) = (n ≤ length seen) × TakesOut b k (take n seen) (take n entries)
 Removes b k seen entries (removal.ShowsAbsent n) = (n ≤ length seen) × ShowsAbsent b k (take n seen) (take n entries)
 Removes b k seen entries removal.More = Finds b k seen look.More
     ⊎ ((i : ℕ) × Finds b k seen (look.Here i)
-    × ((p : ℕ) → i < p → p < length seen → IsAway b (place_after (2 ^ b) (home_of b k) p) (slice_index seen p)))
+    × ((p : ℕ) → i < p → p < length seen → IsAway b (cell_ahead (2 ^ b) (home_of b k) p) (slice_index seen p)))

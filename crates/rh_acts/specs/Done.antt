@@ -1,7 +1,7 @@
 -- How a worker does the keys of its list, by acts of its own and by words that it read, and what it is told of each.
 use Rattle.std.specs.Prelude.{ℕ, ◌^◌, ◌<◌, ◌≤◌, ◌≡◌, ◌⊎◌, List, [], ◌∷◌, ◌++◌, length, slice_index, Bool, true, false}
 use Rattle.std.specs.List.{Contains}
-use Rattle.rh_layout.specs.Round.{place_after}
+use Rattle.rh_layout.specs.Round.{cell_ahead}
 use Rattle.rh_layout.specs.Key.{cell_of}
 use Rattle.rh_layout.specs.Order.{home_of}
 use Rattle.rh_probe.specs.Look.{Finds}
@@ -27,7 +27,7 @@ WereTrue opening acts reads = (r : Kept) → Contains reads r → WasWord openin
 pub record IsAsked (b : ℕ) (reads : List Kept) (k : ℕ) (answer : Bool) : Type 0 where
   pub seen : List ℕ
   pub room : length seen ≤ 2 ^ b
-  pub read : (p : ℕ) → p < length seen → Contains reads (kept (place_after (2 ^ b) (home_of b k) p) (slice_index seen p))
+  pub read : (p : ℕ) → p < length seen → Contains reads (kept (cell_ahead (2 ^ b) (home_of b k) p) (slice_index seen p))
   pub tells : ((answer ≡ true) × ((i : ℕ) × Finds b k seen (Here i))) ⊎ ((answer ≡ false) × ((i : ℕ) × Finds b k seen (Goes i)))
 
 -- An act does a key, and changes a cell or does not. A key is inserted by the act that puts it in; it is removed by the
@@ -45,10 +45,20 @@ IsTold Insert b reads k told = (told ≡ false) × ((c : ℕ) × Contains reads 
 IsTold Remove b reads k told = ⊥
 IsTold Ask b reads k told = IsAsked b reads k told
 
--- How one key is done, and what is told of it, which is whether it was added, removed or found: by one own act that does it,
--- and it is told whether this changes a cell; or by no act, and what was read tells it.
+-- A key is done by one own act, and it is told whether this changes a cell.
+pub record IsByAct (kind : Kind) (b k : ℕ) (acts : List Act) (told : Bool) : Type 0 where
+  pub act : Act
+  pub only : acts ≡ act ∷ []
+  pub does : Does kind b k told act
+
+-- A key is done by no act: what was read tells it.
+pub record IsByRead (kind : Kind) (b : ℕ) (reads : List Kept) (k : ℕ) (acts : List Act) (told : Bool) : Type 0 where
+  pub none : acts ≡ []
+  pub tells : IsTold kind b reads k told
+
+-- How one key is done, and what is told of it, which is whether it was added, removed or found.
 abbrev pub KeyDone : Kind → (b : ℕ) (reads : List Kept) (k : ℕ) (acts : List Act) (told : Bool) → Type 0
-KeyDone kind b reads k acts told = ((a : Act) × (acts ≡ a ∷ []) × Does kind b k told a) ⊎ ((acts ≡ []) × IsTold kind b reads k told)
+KeyDone kind b reads k acts told = IsByAct kind b k acts told ⊎ IsByRead kind b reads k acts told
 
 -- each key in turn, by the next own acts, and with what is told next
 abbrev pub IsDone : Kind → (b : ℕ) (reads : List Kept) (keys : List ℕ) (acts : List Act) (told : List Bool) → Type 0

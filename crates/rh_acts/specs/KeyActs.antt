@@ -2,48 +2,48 @@
 -- key's home on. (own; what becomes of the front is Celis's insertion, and the usual backward shift)
 use Rattle.std.specs.Prelude.{ℕ, ◌+◌, ◌^◌, ◌<◌, ◌≤◌, ◌≡◌, ◌⊎◌, List, length, slice_index}
 use Rattle.std.specs.List.{Contains}
-use Rattle.rh_layout.specs.Round.{place_after}
+use Rattle.rh_layout.specs.Round.{cell_ahead}
 use Rattle.rh_layout.specs.Key.{IsKey, cell_of}
 use Rattle.rh_layout.specs.Order.{home_of}
 use Rattle.rh_probe.specs.Look.{Finds}
 use Rattle.rh_probe.specs.Segment.{IsFirstFree, IsFirstStop}
 use Rattle.rh_probe.specs.declared.answer.Look.TheVariants.{Here, Goes}
-use Rattle.rh_edit.specs.News.{put_in, taken_out}
+use Rattle.rh_edit.specs.News.{inserted_at, shifted_back}
 use Rattle.rh_layout.specs.declared.entry.Entry.{Entry}
 use Rattle.rh_acts.specs.Act.{entry, Act, IsRising}
 
 -- The entries take the cells from cell h on, in a circle of n, from `olds` to `news`. This is said by membership: where
--- the front goes round the end, the order of its places is not that of its cells.
+-- the front goes round the end, the order of its offsets is not that of its cells.
 pub record IsFrontAct (n h : ℕ) (act : Act) (olds news : List ℕ) : Type 0 where
   pub rising : IsRising act
   pub room : length olds ≤ n
-  pub has : (p : ℕ) → p < length olds → Contains act (entry (place_after n h p) (slice_index olds p) (slice_index news p))
-  pub only : (e : Entry) → Contains act e → (p : ℕ) × (p < length olds) × (e ≡ entry (place_after n h p) (slice_index olds p) (slice_index news p))
+  pub has : (p : ℕ) → p < length olds → Contains act (entry (cell_ahead n h p) (slice_index olds p) (slice_index news p))
+  pub only : (e : Entry) → Contains act e → (p : ℕ) × (p < length olds) × (e ≡ entry (cell_ahead n h p) (slice_index olds p) (slice_index news p))
 
 -- The act puts k in: `seen` is what it finds from the home of k to the first empty cell from where k goes.
 pub record PutsIn (b k : ℕ) (seen : List ℕ) (act : Act) : Type 0 where
   pub key : IsKey k
-  pub place : ℕ
+  pub offset : ℕ
   pub last : ℕ
-  pub goes : Finds b k seen (Goes place)
-  pub free : IsFirstFree seen place last
+  pub goes : Finds b k seen (Goes offset)
+  pub free : IsFirstFree seen offset last
   pub ends : last + 1 ≡ length seen
-  pub front : IsFrontAct (2 ^ b) (home_of b k) act seen (put_in (cell_of k) seen place)
+  pub front : IsFrontAct (2 ^ b) (home_of b k) act seen (inserted_at (cell_of k) seen offset)
 
 -- The act takes k out: `seen` is what it finds from the home of k to the first stop after k.
 pub record TakesOut (b k : ℕ) (seen : List ℕ) (act : Act) : Type 0 where
-  pub place : ℕ
+  pub offset : ℕ
   pub last : ℕ
-  pub here : Finds b k seen (Here place)
-  pub stop : IsFirstStop b (home_of b k) seen place last
+  pub here : Finds b k seen (Here offset)
+  pub stop : IsFirstStop b (home_of b k) seen offset last
   pub ends : last + 1 ≡ length seen
-  pub front : IsFrontAct (2 ^ b) (home_of b k) act seen (taken_out seen place)
+  pub front : IsFrontAct (2 ^ b) (home_of b k) act seen (shifted_back seen offset)
 
--- The act changes nothing: `seen` is what it finds from the home of k to the place that shows that k is not there.
+-- The act changes nothing: `seen` is what it finds from the home of k to the offset that shows that k is not there.
 pub record ShowsAbsent (b k : ℕ) (seen : List ℕ) (act : Act) : Type 0 where
-  pub place : ℕ
-  pub goes : Finds b k seen (Goes place)
-  pub ends : place + 1 ≡ length seen
+  pub offset : ℕ
+  pub goes : Finds b k seen (Goes offset)
+  pub ends : offset + 1 ≡ length seen
   pub front : IsFrontAct (2 ^ b) (home_of b k) act seen seen
 
 abbrev pub IsInsertAct : (b k : ℕ) (act : Act) → Type 0

@@ -36,8 +36,8 @@ ActsAreTold = (kind : Kind) (b k : ℕ) (told : Bool) (act : Act) → Does kind 
 -- ---- lists of acts
 
 -- All acts meet their old values if the n-th does, on the cells after the first n.
-abbrev pub MeetByPlace : Type 0
-MeetByPlace = (acts : List Act) (cells : List ℕ)
+abbrev pub MeetOneByOne : Type 0
+MeetOneByOne = (acts : List Act) (cells : List ℕ)
     → ((n : ℕ) → n < length acts → Meets (slice_index_or acts n []) (apply_acts (take n acts) cells)) → AllMeet acts cells
 
 -- one act more, at the end
@@ -102,7 +102,7 @@ RoundsAreOnePhase = (kind : Kind) (S : Keys) (pieces first next : List (List ℕ
     → (set_after kind (set_after kind S (joined first)) (joined next) ≡ set_after kind S (joined pieces))
     × (sum_of (tally_of kind S (joined first)) (tally_of kind (set_after kind S (joined first)) (joined next)) ≡ tally_of kind S (joined pieces))
 
--- The set and the tally of a list that is shared out are those of the list, and each of its look-ups has its place among
+-- The set and the tally of a list that is shared out are those of the list, and each of its look-ups has its position among
 -- the answers of the worker that claimed it.
 abbrev pub SharedListIsOneList : Type 0
 SharedListIsOneList = (kind : Kind) (S : Keys) (keys : List ℕ) (claims : List (List ℕ)) → IsSharedOut (length keys) claims

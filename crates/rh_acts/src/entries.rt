@@ -2,7 +2,7 @@
 
 ghost use Rattle.std.specs.Prelude.{◌≡◌, ◌^◌, ◌<◌, ◌≤◌, length};
 ghost use Rattle.rh_layout.specs.Key.{IsBits, IsKey};
-ghost use Rattle.rh_acts.specs.CellOrder.{entry_of, place_at, IsInCellOrder};
+ghost use Rattle.rh_acts.specs.CellOrder.{entry_of, offset_at, IsInCellOrder};
 ghost use Rattle.rh_acts.specs.Decision.{Inserts, Removes};
 
 use crate::answer::{Insertion, Removal};
@@ -108,18 +108,18 @@ fn entry_at(bits: u32, first: usize, olds: &[u64], news: &[u64], turn: usize) ->
     requires room { length olds.now ≤ 2 ^ bits }
     requires turn { turn < length olds.now }
     ensures { result ≡ entry_of (2 ^ bits) first olds.now news.now
-        (place_at (2 ^ bits) first (length olds.now) turn) }
+        (offset_at (2 ^ bits) first (length olds.now) turn) }
 {
     let size = 1usize << bits;
     let past = (first + olds.len()).saturating_sub(size);
-    let place = if turn < past {
+    let offset = if turn < past {
         size - first + turn
     } else {
         turn - past
     };
     Entry {
-        cell: cell_after(size, first, place),
-        old: olds[place],
-        new: news[place],
+        cell: cell_after(size, first, offset),
+        old: olds[offset],
+        new: news[offset],
     }
 }

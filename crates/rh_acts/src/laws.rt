@@ -2,7 +2,7 @@
 
 ghost use Rattle.rh_acts.specs.Laws.{InsertActPutsIn, RemoveActTakesOut};
 ghost use Rattle.rh_acts.specs.Laws.{AbsenceActChangesNothing, ActsAreTold};
-ghost use Rattle.rh_acts.specs.Laws.{MeetByPlace, OneMoreAct, OneMoreIsOwn, ReadsStayTrue};
+ghost use Rattle.rh_acts.specs.Laws.{MeetOneByOne, OneMoreAct, OneMoreIsOwn, ReadsStayTrue};
 ghost use Rattle.rh_acts.specs.Laws.{InsertionsGrow, RemovalsShrink, ActsAreAPhase};
 ghost use Rattle.rh_acts.specs.Laws.{PhaseIsOfJoinedLists, AnswersAreLookUps};
 ghost use Rattle.rh_acts.specs.Laws.{RoundsAreOnePhase, SharedListIsOneList};
@@ -19,7 +19,7 @@ pub fn one_act()
 /// How a list of acts grows: what becomes of the cells, of each worker's own acts, and of the reads
 /// that were kept.
 pub fn lists_of_acts()
-    ensures by_place { MeetByPlace }
+    ensures one_by_one { MeetOneByOne }
     ensures one_more { OneMoreAct }
     ensures own { OneMoreIsOwn }
     ensures reads { ReadsStayTrue }
@@ -40,7 +40,7 @@ pub fn finished_phase()
     ensures answers { AnswersAreLookUps }
 {}
 
-/// Lists that are done in two rounds are the whole lists, and a list whose places the workers claim
+/// Lists that are done in two rounds are the whole lists, and a list whose positions the workers claim
 /// is the one list.
 pub fn rounds_and_shares()
     ensures rounds { RoundsAreOnePhase }

@@ -3,12 +3,12 @@ use Rattle.std.proofs.Common.{◌≡◌, ℕ, ◌+◌, ◌<◌, inl, inr, sym, �
 use Rattle.std.proofs.lemmas.Bool.{cases_lt, cases_order}
 use Rattle.rh_layout.specs.Round.{steps_round}
 use Rattle.rh_edit.specs.Pull.{IsTakenOut}
-use Rattle.rh_layout.proofs.RoundLemmas.{next_cases, place_before, place_next, next_below}
+use Rattle.rh_layout.proofs.RoundLemmas.{next_cases, has_cell_before, has_cell_next, next_below}
 use Rattle.rh_edit.proofs.RemoveLemmas.{LeavesFrom}
 use Rattle.rh_layout.proofs.HeldLemmas.{IsHeld}
 
 module _ (n : ℕ) (home : ℕ → ℕ) (low : (k : ℕ) → home k < n) (i j k : ℕ) (old new : ℕ → ℕ) (leaves : LeavesFrom n home i j k old) (out : IsTakenOut n (home k) i j old new) where
-  -- What c holds, if a key, stood there or one place on, and not where k stood.
+  -- What c holds, if a key, stood there or one cell on, and not where k stood.
   pub left_from : (c : ℕ) → c < n → 0 < new c → (d : ℕ) × (d < n) × (old d ≡ new c) × (steps_round n (home k) d ≡ i → ⊥)
   left_from c c_in some =
       elim (cases_lt (steps_round n (home k) c) i) [
@@ -20,7 +20,7 @@ module _ (n : ℕ) (home : ℕ → ℕ) (low : (k : ℕ) → home k < n) (i j k 
                   elim (cases_lt (steps_round n (home k) c + 1) j) [
                     | inr last ↦ let z : new c ≡ 0 = out.cleared c c_in (omega arith) in absurd (omega arith)
                     | inl more ↦
-                        let d = place_next n c c_in in
+                        let d = has_cell_next n c c_in in
                         elim (next_cases n (home k) c d.0 (low k) d.1) [
                           | inl turn ↦ absurd (omega (arith, turn.1, leaves.in_table))
                           | inr on ↦ (d.0, (next_below n c d.0 d.1).1, sym (out.moved c d.0 d.1 from more), λ e. omega (arith, on.1))
@@ -40,7 +40,7 @@ module _ (n : ℕ) (home : ℕ → ℕ) (low : (k : ℕ) → home k < n) (i j k 
             elim (cases_lt (steps_round n (home k) c) j) [
               | inr past ↦ (c, held.1, out.after c held.1 past ∙ held.2)
               | inl within ↦
-                  let p = place_before n c held.1 in
+                  let p = has_cell_before n c held.1 in
                   elim (next_cases n (home k) p.0 c (low k) p.1) [
                     | inl turn ↦ absurd (omega (arith, turn.2))
                     | inr on ↦ (p.0, (next_below n p.0 c p.1).0, out.moved p.0 c p.1 (omega (arith, on.1)) (omega (arith, on.1)) ∙ held.2)

@@ -2,11 +2,11 @@
 use Rattle.std.proofs.Common.{◌≡◌, ℕ, ◌+◌, ◌<◌, ◌≤◌, inl, inr, ap, ◌∙◌, arith}
 use Rattle.std.proofs.lemmas.Bool.{cases_lt, cases_eq, cases_order}
 use Rattle.rh_edit.specs.Put.{IsPutIn}
-use Rattle.rh_layout.specs.Round.{steps_round, place_after, IsNext}
-use Rattle.rh_layout.proofs.RoundLemmas.{place_below, steps-place_after, next_cases, place_before}
+use Rattle.rh_layout.specs.Round.{steps_round, cell_ahead, IsNext}
+use Rattle.rh_layout.proofs.RoundLemmas.{ahead_below, steps-cell_ahead, next_cases, has_cell_before}
 use Rattle.rh_layout.proofs.OrderLemmas.{Ahead, HoldsAhead, IsOrdered, IsStepwise, ahead_on, ahead_home, stepwise_from_ordered, not_full_turn}
 
--- k goes i steps after h, and the first free place from there on is j steps after h
+-- k goes i steps after h, and the first free cell from there on is j steps after h
 pub record GoesAt (n : ℕ) (home : ℕ → ℕ) (h i j k : ℕ) (old : ℕ → ℕ) : Type 0 where
   pub at_home : home k ≡ h
   pub is_key : 0 < k
@@ -23,13 +23,13 @@ through n home f p c x y ex ey gives some away =
     rw (ex, ey) got
 
 module _ (n : ℕ) (home : ℕ → ℕ) (low : (k : ℕ) → home k < n) (h i j k : ℕ) (old new : ℕ → ℕ) (h_in : h < n) (goes : GoesAt n home h i j k old) (put : IsPutIn n h i j k old new) (ordered : IsOrdered n home old) where
-  -- A key y that stands before another, x, at the place before c, both before the free place: one place on, y still stands before x.
+  -- A key y that stands before another, x, in the cell before c, both before the free cell: one cell on, y still stands before x.
   still_before : (q p : ℕ) → IsNext n q p → p < n → 0 < steps_round n h p → steps_round n h p < j → (h ≡ p → ⊥) → steps_round n h p ≡ steps_round n h q + 1 → (0 < old q) × Ahead n home p (old q) (old p)
   still_before q p next p_in _ below _ step =
       let q_in : q < n = grind arith in
-      let e = place_after n h j in
-      let e_in : e < n = place_below n h j (omega arith) in
-      let es : steps_round n h e ≡ j = steps-place_after n h j h_in (omega (arith, goes.second_free)) in
+      let e = cell_ahead n h j in
+      let e_in : e < n = ahead_below n h j (omega arith) in
+      let es : steps_round n h e ≡ j = steps-cell_ahead n h j h_in (omega (arith, goes.second_free)) in
       let some_q : 0 < old q = goes.full q q_in (omega arith) in
       let some_p : 0 < old p = goes.full p p_in below in
       let y_away : home (old q) ≡ p → ⊥ = not_full_turn n home old low e e_in (goes.free e e_in es) ordered q p next some_q in
@@ -41,13 +41,13 @@ module _ (n : ℕ) (home : ℕ → ℕ) (low : (k : ℕ) → home k < n) (h i j 
   -- A key that was moved on stands behind the one that was moved on before it.
   shifted : (p c : ℕ) → IsNext n p c → p < n → i < steps_round n h p → (h ≡ c → ⊥) → steps_round n h c ≡ steps_round n h p + 1 → i < steps_round n h c → steps_round n h c ≤ j → 0 < new c → (home (new c) ≡ c → ⊥) → HoldsAhead n home new p (new c)
   shifted p c next p_in p_above off step above within some away =
-      let before_p = place_before n p p_in in
+      let before_p = has_cell_before n p p_in in
       elim (next_cases n h before_p.0 p h_in before_p.1) [
         | inl at_h ↦ absurd (omega (arith, at_h.2))
         | inr on ↦ through n home new p c (old before_p.0) (old p) (put.moved before_p.0 p before_p.1 p_above (omega arith)) (put.moved p c next above within) (λ _ _. still_before before_p.0 p before_p.1 p_in (omega arith) (omega arith) on.0 on.1) some away
       ]
 
-  -- A key right after the free place is at home.
+  -- A key right after the free cell is at home.
   after_free : (p c : ℕ) → IsNext n p c → p < n → c < n → steps_round n h p ≡ j → j < steps_round n h c → 0 < new c → (home (new c) ≡ c → ⊥) → ⊥
   after_free p c next p_in c_in p_free past some away =
       let same : new c ≡ old c = put.after c c_in past in
@@ -55,7 +55,7 @@ module _ (n : ℕ) (home : ℕ → ℕ) (low : (k : ℕ) → home k < n) (h i j 
       let got = stepwise_from_ordered n home old low ordered p c next (rw same at some) (rw same at away) in
       omega (arith, got.0)
 
-  -- what the two places hold, by where c is, counted from h
+  -- what the two cells hold, by where c is, counted from h
   stepwise_at : (p c : ℕ) → IsNext n p c → p < n → c < n → (h ≡ c → ⊥) → steps_round n h c ≡ steps_round n h p + 1 → 0 < new c → (home (new c) ≡ c → ⊥) → HoldsAhead n home new p (new c)
   stepwise_at p c next p_in c_in off step some away =
       let old_step = stepwise_from_ordered n home old low ordered in

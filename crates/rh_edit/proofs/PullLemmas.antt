@@ -1,13 +1,13 @@
 -- A loop that moves keys back by one.
 use Rattle.std.proofs.Common.{◌≡◌, ℕ, ◌+◌, ◌<◌, inl, inr, refl, sym, ap, ◌∙◌, arith, List, length, set, get_or-set_same, get_or-set_other}
 use Rattle.std.proofs.lemmas.Bool.{cases_eq}
-use Rattle.rh_layout.specs.Round.{steps_round, place_after, IsNext}
+use Rattle.rh_layout.specs.Round.{steps_round, cell_ahead, IsNext}
 use Rattle.rh_layout.specs.Key.{key_in}
 use Rattle.rh_layout.specs.Order.{home_of, home_in}
 use Rattle.rh_layout.proofs.LayoutLemmas.{at}
 use Rattle.rh_probe.specs.Segment.{IsAway}
 use Rattle.rh_edit.specs.Pull.{IsPartOut, IsPulled}
-use Rattle.rh_layout.proofs.RoundLemmas.{place_cases, place_below, place_after-steps, steps-place_after, next_below}
+use Rattle.rh_layout.proofs.RoundLemmas.{ahead_cases, ahead_below, cell_ahead-steps, steps-cell_ahead, next_below}
 
 same_after : (n p c d : ℕ) → IsNext n p c → IsNext n p d → c ≡ d
 same_after n p c d a b = grind arith
@@ -22,24 +22,24 @@ pull_none n home h i old = record {
   full = λ c _ above upto. absurd (omega arith);
 }
 
-module _ (n : ℕ) (home : ℕ → ℕ) (h i t : ℕ) (old now new : ℕ → ℕ) (h_in : h < n) (t_in : t + 1 < n) (part : IsPartOut n home h i t old now) (here next : ℕ) (is_here : here ≡ place_after n h t) (is_next : next ≡ place_after n h (t + 1)) (kept : (c : ℕ) → c < n → (c ≡ here → ⊥) → new c ≡ now c) where
+module _ (n : ℕ) (home : ℕ → ℕ) (h i t : ℕ) (old now new : ℕ → ℕ) (h_in : h < n) (t_in : t + 1 < n) (part : IsPartOut n home h i t old now) (here next : ℕ) (is_here : here ≡ cell_ahead n h t) (is_next : next ≡ cell_ahead n h (t + 1)) (kept : (c : ℕ) → c < n → (c ≡ here → ⊥) → new c ≡ now c) where
   here_in : here < n
-  here_in = rw is_here (place_below n h t (omega arith))
+  here_in = rw is_here (ahead_below n h t (omega arith))
 
   next_in : next < n
-  next_in = rw is_next (place_below n h (t + 1) (omega arith))
+  next_in = rw is_next (ahead_below n h (t + 1) (omega arith))
 
   here_steps : steps_round n h here ≡ t
-  here_steps = rw is_here (steps-place_after n h t h_in (omega arith))
+  here_steps = rw is_here (steps-cell_ahead n h t h_in (omega arith))
 
   next_steps : steps_round n h next ≡ t + 1
-  next_steps = rw is_next (steps-place_after n h (t + 1) h_in t_in)
+  next_steps = rw is_next (steps-cell_ahead n h (t + 1) h_in t_in)
 
   joined : IsNext n here next
-  joined = grind (arith, place_cases n h t h_in (omega arith), place_cases n h (t + 1) h_in t_in, is_here, is_next)
+  joined = grind (arith, ahead_cases n h t h_in (omega arith), ahead_cases n h (t + 1) h_in t_in, is_here, is_next)
 
   at_steps : (c d : ℕ) → c < n → d < n → steps_round n h c ≡ steps_round n h d → c ≡ d
-  at_steps c d c_in d_in e = sym (place_after-steps n h c h_in c_in) ∙ ap (place_after n h) e ∙ place_after-steps n h d h_in d_in
+  at_steps c d c_in d_in e = sym (cell_ahead-steps n h c h_in c_in) ∙ ap (cell_ahead n h) e ∙ cell_ahead-steps n h d h_in d_in
 
   elsewhere : (c : ℕ) → c < n → (steps_round n h c ≡ t → ⊥) → new c ≡ now c
   elsewhere c c_in ne = kept c c_in (λ e. ne (ap (steps_round n h) e ∙ here_steps))
@@ -106,9 +106,9 @@ unmovable_is b c value stays some =
       | inr other ↦ absurd (stays (key_in value, omega arith, other))
     ]
 
-module _ (b n h i t cell next : ℕ) (old now : List ℕ) (size : length now ≡ n) (h_in : h < n) (t_in : t + 1 < n) (part : IsPartOut n (home_in b) h i t (at old) (at now)) (is_cell : cell ≡ place_after n h t) (is_next : next ≡ place_after n h (t + 1)) where
+module _ (b n h i t cell next : ℕ) (old now : List ℕ) (size : length now ≡ n) (h_in : h < n) (t_in : t + 1 < n) (part : IsPartOut n (home_in b) h i t (at old) (at now)) (is_cell : cell ≡ cell_ahead n h t) (is_next : next ≡ cell_ahead n h (t + 1)) where
   cell_in : cell < length now
-  cell_in = rw (is_cell, size) (place_below n h t (omega arith))
+  cell_in = rw (is_cell, size) (ahead_below n h t (omega arith))
 
   wrote : (value : ℕ) → at (set now cell value) cell ≡ value
   wrote value = let inside = cell_in in get_or-set_same now cell value 0 inside

@@ -1,14 +1,14 @@
 -- A step of the loop that pushes cells on.
 use Rattle.std.proofs.Common.{◌≡◌, ℕ, ◌+◌, ◌<◌, arith, List, length, set, get_or-set_same, get_or-set_other}
-use Rattle.rh_layout.specs.Round.{place_after}
-use Rattle.rh_layout.proofs.RoundLemmas.{place_below}
+use Rattle.rh_layout.specs.Round.{cell_ahead}
+use Rattle.rh_layout.proofs.RoundLemmas.{ahead_below}
 use Rattle.rh_layout.proofs.LayoutLemmas.{at}
 use Rattle.rh_edit.specs.Put.{IsPartPut, IsPushed}
 use Rattle.rh_edit.proofs.PutLemmas.{part_done, part_more}
 
-module _ (n h i t value carry cell : ℕ) (old now : List ℕ) (size : length now ≡ n) (h_in : h < n) (t_in : t < n) (part : IsPartPut n h i t value carry (at old) (at now)) (is_at : cell ≡ place_after n h t) where
+module _ (n h i t value carry cell : ℕ) (old now : List ℕ) (size : length now ≡ n) (h_in : h < n) (t_in : t < n) (part : IsPartPut n h i t value carry (at old) (at now)) (is_at : cell ≡ cell_ahead n h t) where
   cell_in : cell < length now
-  cell_in = rw (is_at, size) (place_below n h t (omega arith))
+  cell_in = rw (is_at, size) (ahead_below n h t (omega arith))
 
   written : at (set now cell carry) cell ≡ carry
   written = let inside = cell_in in get_or-set_same now cell carry 0 inside

@@ -1,9 +1,9 @@
 -- A loop that puts a key in and moves on what it finds.
 use Rattle.std.proofs.Common.{◌≡◌, ℕ, ◌+◌, ◌<◌, inl, inr, refl, sym, ap, ◌∙◌, arith}
 use Rattle.std.proofs.lemmas.Bool.{cases_eq}
-use Rattle.rh_layout.specs.Round.{steps_round, place_after, IsNext}
+use Rattle.rh_layout.specs.Round.{steps_round, cell_ahead, IsNext}
 use Rattle.rh_edit.specs.Put.{IsPartPut, IsPushed}
-use Rattle.rh_layout.proofs.RoundLemmas.{place_after-steps, steps-place_after, next_cases, next_below}
+use Rattle.rh_layout.proofs.RoundLemmas.{cell_ahead-steps, steps-cell_ahead, next_cases, next_below}
 
 pub part_none : (n h i k : ℕ) (old : ℕ → ℕ) → IsPartPut n h i i k k old old
 part_none n h i k old = record {
@@ -17,16 +17,16 @@ part_none n h i k old = record {
   later = λ c _ less. absurd (omega arith);
 }
 
-module _ (n h i t k carry : ℕ) (old now new : ℕ → ℕ) (h_in : h < n) (t_in : t < n) (part : IsPartPut n h i t k carry old now) (at : ℕ) (is_at : at ≡ place_after n h t) (written : new at ≡ carry) (kept : (c : ℕ) → c < n → (c ≡ at → ⊥) → new c ≡ now c) where
+module _ (n h i t k carry : ℕ) (old now new : ℕ → ℕ) (h_in : h < n) (t_in : t < n) (part : IsPartPut n h i t k carry old now) (at : ℕ) (is_at : at ≡ cell_ahead n h t) (written : new at ≡ carry) (kept : (c : ℕ) → c < n → (c ≡ at → ⊥) → new c ≡ now c) where
   at_steps : steps_round n h at ≡ t
-  at_steps = rw is_at (steps-place_after n h t h_in t_in)
+  at_steps = rw is_at (steps-cell_ahead n h t h_in t_in)
 
   elsewhere : (c : ℕ) → c < n → (steps_round n h c ≡ t → ⊥) → new c ≡ now c
   elsewhere c c_in ne = kept c c_in (λ e. ne (ap (steps_round n h) e ∙ at_steps))
 
   there : (c : ℕ) → c < n → steps_round n h c ≡ t → new c ≡ carry
   there c c_in e =
-      let is : c ≡ at = sym (place_after-steps n h c h_in c_in) ∙ ap (place_after n h) e ∙ sym is_at in
+      let is : c ≡ at = sym (cell_ahead-steps n h c h_in c_in) ∙ ap (cell_ahead n h) e ∙ sym is_at in
       ap new is ∙ written
 
   carried : (p c : ℕ) → IsNext n p c → i < t → steps_round n h c ≡ t → carry ≡ old p
@@ -53,11 +53,11 @@ module _ (n h i t k carry : ℕ) (old now new : ℕ → ℕ) (h_in : h < n) (t_i
       ];
       after = λ c c_in past. elsewhere c c_in (omega arith) ∙ part.after c c_in (omega arith);
     };
-    free = λ c c_in e. let is : c ≡ at = sym (place_after-steps n h c h_in c_in) ∙ ap (place_after n h) e ∙ sym is_at in sym (part.after c c_in (omega arith)) ∙ ap now is ∙ free;
+    free = λ c c_in e. let is : c ≡ at = sym (cell_ahead-steps n h c h_in c_in) ∙ ap (cell_ahead n h) e ∙ sym is_at in sym (part.after c c_in (omega arith)) ∙ ap now is ∙ free;
     full = part.full;
   }
 
-  -- It is a key: that is to be put into the next place.
+  -- It is a key: that is to be put into the next cell.
   pub part_more : 0 < now at → IsPartPut n h i (t + 1) k (now at) old new
   part_more some = record {
     begun = omega (arith, part.begun);
@@ -72,10 +72,10 @@ module _ (n h i t k carry : ℕ) (old now new : ℕ → ℕ) (h_in : h < n) (t_i
     ];
     after = λ c c_in past. elsewhere c c_in (omega arith) ∙ part.after c c_in (omega arith);
     full = λ c c_in from upto. elim (cases_eq (steps_round n h c) t) [
-      | inl same ↦ let is : c ≡ at = sym (place_after-steps n h c h_in c_in) ∙ ap (place_after n h) same ∙ sym is_at in
+      | inl same ↦ let is : c ≡ at = sym (cell_ahead-steps n h c h_in c_in) ∙ ap (cell_ahead n h) same ∙ sym is_at in
           let e : old c ≡ now at = sym (part.after c c_in (omega arith)) ∙ ap now is in omega arith
       | inr other ↦ part.full c c_in from (omega arith)
     ];
     first = λ e. absurd (omega (arith, part.begun));
-    later = λ c c_in _ e. let is : c ≡ at = sym (place_after-steps n h c h_in c_in) ∙ ap (place_after n h) (omega arith) ∙ sym is_at in sym (ap now is) ∙ part.after c c_in (omega arith);
+    later = λ c c_in _ e. let is : c ≡ at = sym (cell_ahead-steps n h c h_in c_in) ∙ ap (cell_ahead n h) (omega arith) ∙ sym is_at in sym (ap now is) ∙ part.after c c_in (omega arith);
   }

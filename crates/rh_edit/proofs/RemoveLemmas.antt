@@ -3,11 +3,11 @@ use Rattle.std.proofs.Common.{◌≡◌, ℕ, ◌+◌, ◌<◌, ◌≤◌, inl, 
 use Rattle.std.proofs.lemmas.Bool.{cases_lt, cases_eq, cases_order}
 use Rattle.rh_edit.specs.Pull.{IsTakenOut}
 use Rattle.rh_layout.specs.Round.{steps_round, IsNext}
-use Rattle.rh_layout.proofs.RoundLemmas.{steps_at_home, home_of_steps, next_cases, place_next, next_below}
+use Rattle.rh_layout.proofs.RoundLemmas.{steps_at_home, home_of_steps, next_cases, has_cell_next, next_below}
 use Rattle.rh_layout.proofs.OrderLemmas.{Ahead, HoldsAhead, IsOrdered, IsStepwise, ahead_back, ahead_trans, stepwise_from_ordered}
 use Rattle.rh_edit.proofs.InsertLemmas.{through}
 
--- k stands i steps after its home, and the first place behind it that is free, or holds a key at home, is j steps after that home
+-- k stands i steps after its home, and the first cell behind it that is free, or holds a key at home, is j steps after that home
 pub record LeavesFrom (n : ℕ) (home : ℕ → ℕ) (i j k : ℕ) (old : ℕ → ℕ) : Type 0 where
   pub is_key : 0 < k
   pub in_order : i < j
@@ -28,10 +28,10 @@ module _ (n : ℕ) (home : ℕ → ℕ) (low : (k : ℕ) → home k < n) (i j k 
       let got = old_step p c next (rw is leaves.is_key) (rw is off_k) in
       (got.0, ahead_trans n home p (old p) k x (rw is at got.1) (ahead_back n home low p c k x next off_k off_x k_ahead))
 
-  -- at the place that k left
+  -- in the cell that k left
   at_gap : (p c : ℕ) → IsNext n p c → p < n → c < n → steps_round n (home k) c ≡ i → 0 < new c → (home (new c) ≡ c → ⊥) → new p ≡ old p → HoldsAhead n home new p (new c)
   at_gap p c next p_in c_in at_i some off same_p =
-      let d = place_next n c c_in in
+      let d = has_cell_next n c c_in in
       elim (cases_lt (i + 1) j) [
         | inr last ↦ let z : new c ≡ 0 = out.cleared c c_in (omega (arith, leaves.in_order)) in absurd (omega arith)
         | inl more ↦
@@ -51,7 +51,7 @@ module _ (n : ℕ) (home : ℕ → ℕ) (low : (k : ℕ) → home k < n) (i j k 
   -- between two keys that both moved back
   both_back : (p c : ℕ) → IsNext n p c → p < n → c < n → steps_round n (home k) c ≡ steps_round n (home k) p + 1 → i ≤ steps_round n (home k) p → steps_round n (home k) c + 1 < j → 0 < new c → (home (new c) ≡ c → ⊥) → HoldsAhead n home new p (new c)
   both_back p c next p_in c_in step from_i more some off =
-      let d = place_next n c c_in in
+      let d = has_cell_next n c c_in in
       elim (next_cases n (home k) c d.0 (low k) d.1) [
         | inl turn ↦ absurd (omega (arith, turn.1, leaves.in_table))
         | inr on ↦
@@ -65,7 +65,7 @@ module _ (n : ℕ) (home : ℕ → ℕ) (low : (k : ℕ) → home k < n) (i j k 
             (λ _ off_x. (some_c, ahead_back n home low p c (old c) (old d.0) next off_c off_x got.1)) some off
       ]
 
-  -- where both places are as they were
+  -- where both cells are as they were
   both_stay : (p c : ℕ) → IsNext n p c → new p ≡ old p → new c ≡ old c → 0 < new c → (home (new c) ≡ c → ⊥) → HoldsAhead n home new p (new c)
   both_stay p c next same_p same_c some off = through n home new p c (old p) (old c) same_p same_c (λ x y. old_step p c next x y) some off
 

@@ -24,7 +24,7 @@ use Rattle.rh_layout.specs.Layout.{Keys, IsLayout, keys_of}
 use Rattle.rh_layout.proofs.SetLemmas.{same_keys}
 use Rattle.rh_layout.proofs.CountLemmas.{full_count, count_of_layout}
 use Rattle.rh_edit.specs.Held.{Held}
-use Rattle.rh_edit.specs.Rising.{put_in_order, rising_keys}
+use Rattle.rh_edit.specs.Rising.{inserted_at_order, rising_keys}
 use Rattle.rh_edit.proofs.SetLemmas.{len-from_list}
 
 -- ---- a list that rises is the rising list of its set: a map has its keys in order, and it is the map of them
@@ -52,7 +52,7 @@ firsts-put k (e ∷ es) =
 abbrev map_of : List ℕ → Keys
 map_of ks = maps.from_entries {R = nat_cmp} (units ks)
 
-put_is_keys : (ks : List ℕ) → put_in_order ks ≡ maps.keys (map_of ks)
+put_is_keys : (ks : List ℕ) → inserted_at_order ks ≡ maps.keys (map_of ks)
 put_is_keys [] = sym (ap firsts (nil_from_length _ (sym (maps.len-entries (map_of [])) ∙ maps.len-empty nat_cmp (Unit {0}))))
 put_is_keys (k ∷ ks) = ap (λ l. insert_key nat_cmp l k) (put_is_keys ks) ∙ sym (firsts-put k (maps.entries (map_of ks))) ∙ sym (ap firsts (maps.entries-insert nat_cmp_total (map_of ks) k tt))
 

@@ -1,11 +1,11 @@
 -- The new values of a segment.
 use Rattle.std.specs.Prelude.{ℕ, ◌-◌, List, length, take, insert, remove}
 
--- the segment with the value at place i, and what stood from there up to the last place moved on by one
-abbrev pub put_in : (value : ℕ) (seen : List ℕ) (i : ℕ) → List ℕ
-put_in value seen i = insert (take (length seen - 1) seen) i value
+-- the segment with the value at offset i, and what stood from there up to the last one moved on by one
+abbrev pub inserted_at : (value : ℕ) (seen : List ℕ) (i : ℕ) → List ℕ
+inserted_at value seen i = insert (take (length seen - 1) seen) i value
 
--- the segment without what stands at place i: what stands after it, up to before the last place, has moved back by one, and
--- the place before the last is empty
-abbrev pub taken_out : (seen : List ℕ) (i : ℕ) → List ℕ
-taken_out seen i = insert (remove seen i) (length seen - 2) 0
+-- the segment without what stands at offset i: what stands after it, up to before the last offset, has moved back by one, and
+-- the offset before the last is empty
+abbrev pub shifted_back : (seen : List ℕ) (i : ℕ) → List ℕ
+shifted_back seen i = insert (remove seen i) (length seen - 2) 0

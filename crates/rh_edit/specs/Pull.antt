@@ -10,7 +10,7 @@ pub record IsTakenOut (n h i j : ℕ) (old new : ℕ → ℕ) : Type 0 where
   pub cleared : (c : ℕ) → c < n → steps_round n h c + 1 ≡ j → new c ≡ 0
   pub after : (c : ℕ) → c < n → j ≤ steps_round n h c → new c ≡ old c
 
--- the same on the way, after the place t steps after h was read
+-- the same on the way, after the cell t steps after h was read
 pub record IsPartOut (n : ℕ) (home : ℕ → ℕ) (h i t : ℕ) (old new : ℕ → ℕ) : Type 0 where
   pub begun : i ≤ t
   pub before : (c : ℕ) → c < n → steps_round n h c < i → new c ≡ old c
@@ -19,7 +19,7 @@ pub record IsPartOut (n : ℕ) (home : ℕ → ℕ) (h i t : ℕ) (old new : ℕ
   pub away : (c : ℕ) → c < n → i < steps_round n h c → steps_round n h c ≤ t → home (old c) ≡ c → ⊥
   pub full : (c : ℕ) → c < n → i < steps_round n h c → steps_round n h c ≤ t → 0 < old c
 
--- where the first place more than i steps after h that is empty, or holds a key at home, is j steps after h
+-- where the first cell more than i steps after h that is empty, or holds a key at home, is j steps after h
 pub record IsPulled (n : ℕ) (home : ℕ → ℕ) (h i j : ℕ) (old new : ℕ → ℕ) : Type 0 where
   pub in_order : i < j
   pub in_table : j < n

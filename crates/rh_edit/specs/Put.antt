@@ -2,14 +2,14 @@
 use Rattle.std.specs.Prelude.{ℕ, ◌+◌, ◌<◌, ◌≤◌, ◌≡◌, List, length, slice_index}
 use Rattle.rh_layout.specs.Round.{steps_round, IsNext}
 
--- `new` is `old` with k put in i steps after h, and with what stood from there up to j steps after h moved on by one place
+-- `new` is `old` with k put in i steps after h, and with what stood from there up to j steps after h moved on by one cell
 pub record IsPutIn (n h i j k : ℕ) (old new : ℕ → ℕ) : Type 0 where
   pub before : (c : ℕ) → c < n → steps_round n h c < i → new c ≡ old c
   pub here : (c : ℕ) → c < n → steps_round n h c ≡ i → new c ≡ k
   pub moved : (p c : ℕ) → IsNext n p c → i < steps_round n h c → steps_round n h c ≤ j → new c ≡ old p
   pub after : (c : ℕ) → c < n → j < steps_round n h c → new c ≡ old c
 
--- the same on the way, before the place t steps after h is written, with `carry` still to be put there
+-- the same on the way, before the cell t steps after h is written, with `carry` still to be put there
 pub record IsPartPut (n h i t k carry : ℕ) (old new : ℕ → ℕ) : Type 0 where
   pub begun : i ≤ t
   pub before : (c : ℕ) → c < n → steps_round n h c < i → new c ≡ old c
@@ -20,7 +20,7 @@ pub record IsPartPut (n h i t k carry : ℕ) (old new : ℕ → ℕ) : Type 0 wh
   pub first : i ≡ t → carry ≡ k
   pub later : (c : ℕ) → c < n → i < t → steps_round n h c + 1 ≡ t → carry ≡ old c
 
--- where the first free place from i steps after h on is j steps after h
+-- where the first free cell from i steps after h on is j steps after h
 pub record IsPushed (n h i j k : ℕ) (old new : ℕ → ℕ) : Type 0 where
   pub in_order : i ≤ j
   pub in_table : j < n

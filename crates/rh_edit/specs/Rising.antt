@@ -6,10 +6,10 @@ use Rattle.std.specs.FinSet as set
 use Rattle.rh_layout.specs.Layout.{Keys}
 
 -- the numbers of a list, each once and put before the greater ones
-abbrev pub put_in_order : List ℕ → List ℕ
-put_in_order [] = []
-put_in_order (k ∷ ks) = insert_key nat_cmp (put_in_order ks) k
+abbrev pub inserted_at_order : List ℕ → List ℕ
+inserted_at_order [] = []
+inserted_at_order (k ∷ ks) = insert_key nat_cmp (inserted_at_order ks) k
 
 -- The keys of a set in rising order. Of the order of a set's `items` the library says nothing.
 unfoldable pub rising_keys : Keys → List ℕ
-rising_keys S = put_in_order (set.items S)
+rising_keys S = inserted_at_order (set.items S)

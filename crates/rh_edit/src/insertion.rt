@@ -2,7 +2,7 @@
 
 ghost use Rattle.std.specs.Prelude.{◌≡◌, ℕ, ◌+◌, ◌%◌, ◌^◌, ◌<◌, ◌≤◌, length, slice_index, not};
 ghost use Rattle.std.specs.FinSet as set;
-ghost use Rattle.rh_layout.specs.Round.{steps_round, place_after};
+ghost use Rattle.rh_layout.specs.Round.{steps_round, cell_ahead};
 ghost use Rattle.rh_layout.specs.Key.{IsKey};
 ghost use Rattle.rh_layout.specs.Layout.{IsLayout, keys_of};
 ghost use Rattle.rh_edit.specs.Put.{HasFreeFrom, IsPushed};
@@ -35,7 +35,7 @@ pub fn insert(bits: u32, cells: &mut [u64], key: u64) -> bool
 fn push_on(cells: &mut [u64], first: usize, at: usize, cell: usize, value: u64)
     requires first { first < length cells.old }
     requires at { at < length cells.old }
-    requires cell { cell ≡ place_after (length cells.old) first at }
+    requires cell { cell ≡ cell_ahead (length cells.old) first at }
     requires free { HasFreeFrom cells.old first at }
     ensures { (j : ℕ) × IsPushed (length cells.old) first at j value
         (slice_index cells.old) (slice_index cells.new) }

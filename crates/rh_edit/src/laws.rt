@@ -8,7 +8,7 @@ ghost use Rattle.rh_layout.specs.Layout.{Keys, Layout, HasTwoFree};
 ghost use Rattle.rh_edit.specs.Acts.{InsertsIn, RemovesFrom};
 
 /// Where a segment of a layout of S, from the key's home to the first empty cell, is written over
-/// by what `insert_news` gives for the place that `look` names, the cells are the layout of S and
+/// by what `insert_news` gives for the offset that `look` names, the cells are the layout of S and
 /// the key.
 pub fn insert_segment(bits: u32, old: &[u64], new: &[u64], key: u64, seen: &[u64])
     requires { IsKey key }
@@ -23,8 +23,8 @@ pub fn insert_segment(bits: u32, old: &[u64], new: &[u64], key: u64, seen: &[u64
     let _ = seen;
 }
 
-/// Where a segment of a layout of S, from the key's home to the first place after the key that is
-/// empty or holds a key at home, is written over by what `remove_news` gives for the place of the
+/// Where a segment of a layout of S, from the key's home to the first cell after the key that is
+/// empty or holds a key at home, is written over by what `remove_news` gives for the offset of the
 /// key, the cells are the layout of S without the key.
 pub fn remove_segment(bits: u32, old: &[u64], new: &[u64], key: u64, seen: &[u64])
     ensures { (S : Keys) → Layout old.now bits S →

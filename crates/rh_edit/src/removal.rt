@@ -2,7 +2,7 @@
 
 ghost use Rattle.std.specs.Prelude.{◌≡◌, ℕ, ◌+◌, ◌^◌, ◌<◌, length, slice_index};
 ghost use Rattle.std.specs.FinSet as set;
-ghost use Rattle.rh_layout.specs.Round.{steps_round, place_after};
+ghost use Rattle.rh_layout.specs.Round.{steps_round, cell_ahead};
 ghost use Rattle.rh_layout.specs.Key.{IsBits, IsKey};
 ghost use Rattle.rh_layout.specs.Order.{home_in};
 ghost use Rattle.rh_layout.specs.Layout.{IsLayout, keys_of};
@@ -37,7 +37,7 @@ fn pull_back(bits: u32, cells: &mut [u64], first: usize, at: usize, cell: usize)
     requires bits { IsBits bits }
     requires first { first < length cells.old }
     requires at { at < length cells.old }
-    requires cell { cell ≡ place_after (length cells.old) first at }
+    requires cell { cell ≡ cell_ahead (length cells.old) first at }
     requires free { HasFreeFrom cells.old first (at + 1) }
     ensures { (j : ℕ) × IsPulled (length cells.old) (home_in bits) first at j
         (slice_index cells.old) (slice_index cells.new) }

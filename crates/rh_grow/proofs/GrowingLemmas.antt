@@ -19,7 +19,7 @@ unfolding keys_of
 keys_of_none = refl
 
 module _ (cells : List ℕ) (i : ℕ) (inside : i < length cells) where
-  -- the values of the full cells before place i
+  -- the values of the full cells before cell i
   abbrev before : List ℕ
   before = filter is_full (take i cells)
 

@@ -1,11 +1,11 @@
 -- Layouts of lists of cells, and ordered circles of what the cells hold.
 use Rattle.std.proofs.Common.{◌≡◌, ℕ, ◌^◌, ◌<◌, ap, subst, arith, List, length, get_or}
-use Rattle.rh_layout.specs.Round.{place_after}
+use Rattle.rh_layout.specs.Round.{cell_ahead}
 use Rattle.rh_layout.specs.Key.{IsKey, IsBits, cell_of, key_in}
 use Rattle.rh_layout.specs.Order.{home_of, home_in, dist_of, Beats}
 use Rattle.rh_layout.specs.Layout.{Keys, Holds, IsBeatenAt, Layout, IsLayout, keys_of}
 use Rattle.rh_layout.proofs.HomeLemmas.{home_below}
-use Rattle.rh_layout.proofs.RoundLemmas.{place_below}
+use Rattle.rh_layout.proofs.RoundLemmas.{ahead_below}
 use Rattle.rh_layout.proofs.OrderLemmas.{Ahead, HoldsAhead, IsOrdered}
 use Rattle.rh_layout.proofs.HeldLemmas.{once_from_ordered}
 use Rattle.rh_layout.proofs.SetLemmas.{same_keys}
@@ -56,7 +56,7 @@ layout_ordered cells b S layout c c_in some i below =
     let holds = holds_its b cells c (omega (arith, layout.size)) some in
     let beaten = layout.beaten c (key_in (at cells c)) holds i below in
     let is : cell_of (key_in (at cells c)) ≡ at cells c = omega arith in
-    rw is at (ahead_from_beaten b cells (place_after (2 ^ b) (home_in b (at cells c)) i) (key_in (at cells c)) beaten)
+    rw is at (ahead_from_beaten b cells (cell_ahead (2 ^ b) (home_in b (at cells c)) i) (key_in (at cells c)) beaten)
 
 -- Cells in order are a layout of the keys that they hold.
 pub layout_from_ordered : (b : ℕ) (cells : List ℕ) → IsBits b → length cells ≡ 2 ^ b → ((c k : ℕ) → Holds cells c k → IsKey k) → IsOrdered (2 ^ b) (home_in b) (at cells) → IsLayout b cells
@@ -70,13 +70,13 @@ layout_from_ordered b cells fits size keys ordered = record {
   beaten = λ c k p i below. beaten_in c k p i below;
 }
   where
-    beaten_in : (c k : ℕ) → Holds cells c k → (i : ℕ) → i < dist_of b c k → IsBeatenAt cells b (place_after (2 ^ b) (home_of b k) i) k
+    beaten_in : (c k : ℕ) → Holds cells c k → (i : ℕ) → i < dist_of b c k → IsBeatenAt cells b (cell_ahead (2 ^ b) (home_of b k) i) k
     beaten_in c k p i below =
         let from_home : home_in b (at cells c) ≡ home_of b k = ap (home_of b) (omega (arith, p.1)) in
         let ahead = ordered c (omega (arith, p.0)) (omega (arith, p.1)) i (rw from_home below) in
-        let there = subst (λ h. HoldsAhead (2 ^ b) (home_in b) (at cells) (place_after (2 ^ b) h i) (at cells c)) from_home ahead in
-        beaten_from_ahead b cells (place_after (2 ^ b) (home_of b k) i) k (rw size (place_below (2 ^ b) (home_of b k) i (omega (arith, low_of b fits k))))
-        (subst (HoldsAhead (2 ^ b) (home_in b) (at cells) (place_after (2 ^ b) (home_of b k) i)) p.1 there)
+        let there = subst (λ h. HoldsAhead (2 ^ b) (home_in b) (at cells) (cell_ahead (2 ^ b) h i) (at cells c)) from_home ahead in
+        beaten_from_ahead b cells (cell_ahead (2 ^ b) (home_of b k) i) k (rw size (ahead_below (2 ^ b) (home_of b k) i (omega (arith, low_of b fits k))))
+        (subst (HoldsAhead (2 ^ b) (home_in b) (at cells) (cell_ahead (2 ^ b) (home_of b k) i)) p.1 there)
 
 -- A layout's set is the set of the keys that its cells hold.
 pub layout_keys : (cells : List ℕ) (b : ℕ) (S : Keys) → Layout cells b S → S ≡ keys_of cells

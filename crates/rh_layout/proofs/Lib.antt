@@ -1,6 +1,6 @@
 -- The proofs see a table as a function from cells to numbers, and know nothing of lists or hashing: the order round the
 -- circle is argued there. LayoutLemmas goes between that view and lists of cells.
--- RoundLemmas: arithmetic on places in a circle.
+-- RoundLemmas: arithmetic on cells in a circle.
 -- OrderLemmas: the order of keys round a circle of cells.
 -- HeldLemmas: which keys a circle of cells holds, and where.
 -- UniqueLemmas: two ordered circles with the same keys are one.

@@ -1,8 +1,8 @@
--- Arithmetic on places in a circle.
+-- Arithmetic on cells in a circle.
 use Rattle.std.proofs.Common.{◌≡◌, ℕ, ◌+◌, ◌-◌, ◌%◌, ◌<◌, ◌≤◌, ◌⊎◌, inl, inr, refl, arith}
 use Rattle.std.proofs.Math.Nat.{mod-eq_of_lt, mod-lt, mod-eq-sub-mod}
 use Rattle.std.proofs.lemmas.Bool.{cases_lt, cases_eq}
-use Rattle.rh_layout.specs.Round.{steps_round, place_after, IsNext}
+use Rattle.rh_layout.specs.Round.{steps_round, cell_ahead, IsNext}
 
 pub steps_below : (n from to : ℕ) → 0 < n → steps_round n from to < n
 unfolding steps_round
@@ -16,7 +16,7 @@ reduced n x p =
       | inr high ↦ let e : x % n ≡ (x - n) % n = mod-eq-sub-mod high in let f : x - n < n = omega arith in let g : (x - n) % n ≡ x - n = mod-eq_of_lt f in inr (high, omega arith)
     ]
 
--- the steps to a place ahead, and to one behind
+-- the steps to a cell ahead, and to one behind
 pub steps_cases : (n from to : ℕ) → from < n → to < n → ((from ≤ to) × (steps_round n from to + from ≡ to)) ⊎ ((to < from) × (steps_round n from to + from ≡ to + n))
 unfolding steps_round
 steps_cases n from to p q = grind (arith, reduced n (to + n - from) (omega arith))
@@ -28,26 +28,26 @@ steps_ahead n from to p q h = grind (arith, steps_cases n from to p q)
 pub steps_behind : (n from to : ℕ) → from < n → to < n → to < from → to + n - from ≡ steps_round n from to
 steps_behind n from to p q h = grind (arith, steps_cases n from to p q)
 
-pub place_cases : (n from i : ℕ) → from < n → i < n → ((from + i < n) × (place_after n from i ≡ from + i)) ⊎ ((n ≤ from + i) × (place_after n from i + n ≡ from + i))
-unfolding place_after
-place_cases n from i p q = reduced n (from + i) (omega arith)
+pub ahead_cases : (n from i : ℕ) → from < n → i < n → ((from + i < n) × (cell_ahead n from i ≡ from + i)) ⊎ ((n ≤ from + i) × (cell_ahead n from i + n ≡ from + i))
+unfolding cell_ahead
+ahead_cases n from i p q = reduced n (from + i) (omega arith)
 
--- The steps to a place lead to it, and the place that i steps lead to is i steps away.
-pub place_after-steps : (n from to : ℕ) → from < n → to < n → place_after n from (steps_round n from to) ≡ to
-place_after-steps n from to p q = grind (arith, steps_cases n from to p q, place_cases n from (steps_round n from to) p (steps_below n from to (omega arith)))
+-- The steps to a cell lead to it, and the cell that i steps lead to is i steps away.
+pub cell_ahead-steps : (n from to : ℕ) → from < n → to < n → cell_ahead n from (steps_round n from to) ≡ to
+cell_ahead-steps n from to p q = grind (arith, steps_cases n from to p q, ahead_cases n from (steps_round n from to) p (steps_below n from to (omega arith)))
 
-pub place_below : (n from i : ℕ) → 0 < n → place_after n from i < n
-unfolding place_after
-place_below n from i h = mod-lt (from + i) h
+pub ahead_below : (n from i : ℕ) → 0 < n → cell_ahead n from i < n
+unfolding cell_ahead
+ahead_below n from i h = mod-lt (from + i) h
 
 -- one step more
-pub place_after-next : (n from i : ℕ) → from < n → i < n → (place_after n from i + 1) % n ≡ place_after n from (i + 1)
-unfolding place_after
-place_after-next n from i p q =
+pub cell_ahead-next : (n from i : ℕ) → from < n → i < n → (cell_ahead n from i + 1) % n ≡ cell_ahead n from (i + 1)
+unfolding cell_ahead
+cell_ahead-next n from i p q =
     grind (arith, reduced n (from + i) (omega arith), reduced n (from + (i + 1)) (omega arith), reduced n ((from + i) % n + 1) (omega (arith, mod-lt (from + i) {m = n} (omega arith))))
 
-pub steps-place_after : (n from i : ℕ) → from < n → i < n → steps_round n from (place_after n from i) ≡ i
-steps-place_after n from i p q = grind (arith, place_cases n from i p q, steps_cases n from (place_after n from i) p (place_below n from i (omega arith)))
+pub steps-cell_ahead : (n from i : ℕ) → from < n → i < n → steps_round n from (cell_ahead n from i) ≡ i
+steps-cell_ahead n from i p q = grind (arith, ahead_cases n from i p q, steps_cases n from (cell_ahead n from i) p (ahead_below n from i (omega arith)))
 
 pub steps_next : (n h p c : ℕ) → h < n → IsNext n p c → (h ≡ c → ⊥) → steps_round n h c ≡ steps_round n h p + 1
 steps_next n h p c low next away = grind (arith, steps_cases n h c low (grind arith), steps_cases n h p low (grind arith))
@@ -65,15 +65,15 @@ steps_full n h p c low next e = grind (arith, steps_cases n h p low (grind arith
 pub steps_at_home : (n h c : ℕ) → c < n → h ≡ c → steps_round n h c ≡ 0
 steps_at_home n h c in' e = grind (arith, steps_cases n h c (omega arith) in')
 
--- each place comes after one
-pub place_before : (n c : ℕ) → c < n → (p : ℕ) × IsNext n p c
-place_before n c c_in =
+-- each cell comes after one
+pub has_cell_before : (n c : ℕ) → c < n → (p : ℕ) × IsNext n p c
+has_cell_before n c c_in =
     elim (cases_lt 0 c) [
       | inl pos ↦ (c - 1, inl (omega arith, c_in))
       | inr zero ↦ (n - 1, inr (omega arith, omega arith))
     ]
 
--- Counted from h, the next place is one further on, or a full turn is done.
+-- Counted from h, the next cell is one further on, or a full turn is done.
 pub next_cases : (n h p c : ℕ) → h < n → IsNext n p c → ((h ≡ c) × (steps_round n h p + 1 ≡ n) × (steps_round n h c ≡ 0)) ⊎ ((h ≡ c → ⊥) × (steps_round n h c ≡ steps_round n h p + 1))
 next_cases n h p c low next =
     let c_in : c < n = grind arith in
@@ -85,8 +85,8 @@ next_cases n h p c low next =
 pub next_below : (n p c : ℕ) → IsNext n p c → (p < n) × (c < n)
 next_below n p c next = (grind arith, grind arith)
 
-pub place_next : (n p : ℕ) → p < n → (c : ℕ) × IsNext n p c
-place_next n p p_in =
+pub has_cell_next : (n p : ℕ) → p < n → (c : ℕ) × IsNext n p c
+has_cell_next n p p_in =
     elim (cases_lt (p + 1) n) [
       | inl low ↦ (p + 1, inl (refl, low))
       | inr high ↦ (0, inr (omega arith, refl))

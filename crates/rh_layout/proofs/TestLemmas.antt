@@ -5,7 +5,7 @@ use Rattle.std.proofs.lemmas.Bool.Decides.{Decides-and, Decides-eqb, Decides-lik
 use Rattle.std.specs.Bool.{Decides}
 use Rattle.std.specs.Prelude.{nat_le}
 use Rattle.rh_layout.specs.declared.limits.TheConstants.{MAX_KEY}
-use Rattle.rh_layout.specs.Round.{place_back}
+use Rattle.rh_layout.specs.Round.{cell_behind}
 use Rattle.rh_layout.specs.Key.{key_in}
 use Rattle.rh_layout.specs.Order.{dist_of, Beats}
 use Rattle.rh_layout.specs.Layout.{IsLayout, IsPlaced, keys_of}
@@ -27,15 +27,15 @@ decides_beaten b c value k = Decides-and _ _ (Decides-not _ (Decides-eqb value 0
 -- what `may_stand` tests
 abbrev MayStand : (b c value before : ℕ) → Type 0
 MayStand b c value before =
-    (value ≡ 0) ⊎ ((key_in value ≤ MAX_KEY) × ((dist_of b c (key_in value) ≡ 0) ⊎ ((before ≡ 0 → ⊥) × Beats b (place_back (2 ^ b) c) (key_in before) (key_in value))))
+    (value ≡ 0) ⊎ ((key_in value ≤ MAX_KEY) × ((dist_of b c (key_in value) ≡ 0) ⊎ ((before ≡ 0 → ⊥) × Beats b (cell_behind (2 ^ b) c) (key_in before) (key_in value))))
 
 decides_stand : (b c value before : ℕ) → Decides (may_stand b c value before) (MayStand b c value before)
 decides_stand b c value before =
-    Decides-or _ _ (Decides-eqb value 0) (Decides-and _ _ (decides_le (key_in value) MAX_KEY) (Decides-or _ _ (Decides-eqb (dist_of b c (key_in value)) 0) (decides_beaten b (place_back (2 ^ b) c) before (key_in value))))
+    Decides-or _ _ (Decides-eqb value 0) (Decides-and _ _ (decides_le (key_in value) MAX_KEY) (Decides-or _ _ (Decides-eqb (dist_of b c (key_in value)) 0) (decides_beaten b (cell_behind (2 ^ b) c) before (key_in value))))
 
 module _ (b : ℕ) (cells : List ℕ) (size : length cells ≡ 2 ^ b) (c : ℕ) (c_in : c < 2 ^ b) where
   abbrev p : ℕ
-  p = place_back (2 ^ b) c
+  p = cell_behind (2 ^ b) c
 
   p_in : p < length cells
   p_in = omega (arith, size, (next_below (2 ^ b) p c (back_next (2 ^ b) c c_in)).0)

@@ -3,7 +3,7 @@ use Rattle.std.specs.Prelude.{ℕ, ◌^◌, ◌<◌, ◌≡◌, List, length, sl
 use Rattle.std.specs.Ordering.{nat_cmp}
 use Rattle.std.specs.FinSet as set
 use Rattle.std.specs.FinSet.{FinSet, contains}
-use Rattle.rh_layout.specs.Round.{place_after, place_back}
+use Rattle.rh_layout.specs.Round.{cell_ahead, cell_behind}
 use Rattle.rh_layout.specs.Key.{IsKey, IsBits, cell_of, key_in, is_full}
 use Rattle.rh_layout.specs.Order.{home_of, dist_of, Beats}
 
@@ -28,7 +28,7 @@ pub record Layout (cells : List ℕ) (b : ℕ) (S : Keys) : Type 0 where
   pub held : (k : ℕ) → IsTrue (contains S k) → (c : ℕ) × Holds cells c k
   pub once : (c d k : ℕ) → Holds cells c k → Holds cells d k → c ≡ d
   pub no_other : (c k : ℕ) → Holds cells c k → IsTrue (contains S k)
-  pub beaten : (c k : ℕ) → Holds cells c k → (i : ℕ) → i < dist_of b c k → IsBeatenAt cells b (place_after (2 ^ b) (home_of b k) i) k
+  pub beaten : (c k : ℕ) → Holds cells c k → (i : ℕ) → i < dist_of b c k → IsBeatenAt cells b (cell_ahead (2 ^ b) (home_of b k) i) k
 
 -- the keys that the cells hold
 unfoldable pub keys_of : List ℕ → Keys
@@ -40,7 +40,7 @@ IsLayout b cells = Layout cells b (keys_of cells)
 
 -- what cell c holds of a layout, seen beside the cell before: nothing, or a key that is at home or is beaten there
 abbrev pub IsPlaced : (b : ℕ) (cells : List ℕ) (c : ℕ) → Type 0
-IsPlaced b cells c = (k : ℕ) → Holds cells c k → IsKey k × (0 < dist_of b c k → IsBeatenAt cells b (place_back (2 ^ b) c) k)
+IsPlaced b cells c = (k : ℕ) → Holds cells c k → IsKey k × (0 < dist_of b c k → IsBeatenAt cells b (cell_behind (2 ^ b) c) k)
 
 -- a cell is empty
 abbrev pub HasFree : List ℕ → Type 0

@@ -1,7 +1,7 @@
 -- The test of a layout, as a function: each cell is seen beside the one before it.
 use Rattle.std.specs.Prelude.{ℕ, zero, suc, ◌^◌, Bool, true, ◌&&◌, ◌||◌, ◌==◌, nat_lt, nat_le, List, length, slice_index}
 use Rattle.rh_layout.specs.declared.limits.TheConstants.{MAX_KEY, MIN_BITS, MAX_BITS}
-use Rattle.rh_layout.specs.Round.{place_back}
+use Rattle.rh_layout.specs.Round.{cell_behind}
 use Rattle.rh_layout.specs.Key.{key_in, is_full}
 use Rattle.rh_layout.specs.Order.{dist_of}
 
@@ -16,10 +16,10 @@ is_beaten b c value k = is_full value && beats_at b c (key_in value) k
 -- whether cell c may hold this behind what stands in the cell before: nothing, or a key that is at home or is beaten there
 abbrev pub may_stand : (b c value before : ℕ) → Bool
 may_stand b c value before =
-    (value == 0) || (nat_le (key_in value) MAX_KEY && ((dist_of b c (key_in value) == 0) || is_beaten b (place_back (2 ^ b) c) before (key_in value)))
+    (value == 0) || (nat_le (key_in value) MAX_KEY && ((dist_of b c (key_in value) == 0) || is_beaten b (cell_behind (2 ^ b) c) before (key_in value)))
 
 abbrev pub is_placed : (b : ℕ) (cells : List ℕ) (c : ℕ) → Bool
-is_placed b cells c = may_stand b c (slice_index cells c) (slice_index cells (place_back (2 ^ b) c))
+is_placed b cells c = may_stand b c (slice_index cells c) (slice_index cells (cell_behind (2 ^ b) c))
 
 -- whether each of the first n cells is placed
 unfoldable pub are_placed : (b : ℕ) (cells : List ℕ) (n : ℕ) → Bool

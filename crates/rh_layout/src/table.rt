@@ -1,7 +1,7 @@
 //! The test of a layout.
 
 ghost use Rattle.std.specs.Prelude.{◌≡◌, ◌^◌, ◌<◌, ◌↔◌, IsTrue, length};
-ghost use Rattle.rh_layout.specs.Round.{place_back};
+ghost use Rattle.rh_layout.specs.Round.{cell_behind};
 ghost use Rattle.rh_layout.specs.Key.{IsBits};
 ghost use Rattle.rh_layout.specs.Layout.{IsLayout, IsPlaced};
 ghost use Rattle.rh_layout.specs.Test.{layout_test};
@@ -54,7 +54,7 @@ fn is_placed(bits: u32, cells: &[u64], cell: usize) -> bool
 #[tactic(auto, using(crate::proofs::PlacedLemmas::back_one, crate::proofs::PlacedLemmas::back_round))]
 fn cell_before(size: usize, cell: usize) -> usize
     requires { cell < size }
-    ensures value { result ≡ place_back size cell }
+    ensures value { result ≡ cell_behind size cell }
     ensures in_table { result < size }
 {
     if cell == 0 { size - 1 } else { cell - 1 }

@@ -1,15 +1,15 @@
 -- Segments: what consecutive cells of a table hold, from some cell on.
 use Rattle.std.specs.Prelude.{ℕ, ◌^◌, ◌<◌, ◌≤◌, ◌≡◌, List, length, slice_index}
-use Rattle.rh_layout.specs.Round.{steps_round, place_after}
+use Rattle.rh_layout.specs.Round.{steps_round, cell_ahead}
 use Rattle.rh_layout.specs.Key.{cell_of}
 use Rattle.rh_layout.specs.Order.{home_of}
 
 -- `seen` is what the cells from cell h on hold, in a circle of n
 pub record IsFront (n h : ℕ) (cells seen : List ℕ) : Type 0 where
   pub room : length seen ≤ n
-  pub shows : (p : ℕ) → p < length seen → slice_index seen p ≡ slice_index cells (place_after n h p)
+  pub shows : (p : ℕ) → p < length seen → slice_index seen p ≡ slice_index cells (cell_ahead n h p)
 
--- j is the first place from i on that is empty
+-- j is the first offset from i on that is empty
 pub record IsFirstFree (seen : List ℕ) (i j : ℕ) : Type 0 where
   pub from : i ≤ j
   pub within : j < length seen
@@ -20,12 +20,12 @@ pub record IsFirstFree (seen : List ℕ) (i j : ℕ) : Type 0 where
 abbrev pub IsAway : (b c value : ℕ) → Type 0
 IsAway b c value = (k : ℕ) × (value ≡ cell_of k) × (home_of b k ≡ c → ⊥)
 
--- j is the first place after i that is empty or holds a key at its home, where h is the cell of place 0
+-- j is the first offset after i that is empty or holds a key at its home, where h is the cell of offset 0
 pub record IsFirstStop (b h : ℕ) (seen : List ℕ) (i j : ℕ) : Type 0 where
   pub from : i < j
   pub within : j < length seen
-  pub stop : IsAway b (place_after (2 ^ b) h j) (slice_index seen j) → ⊥
-  pub between : (p : ℕ) → i < p → p < j → IsAway b (place_after (2 ^ b) h p) (slice_index seen p)
+  pub stop : IsAway b (cell_ahead (2 ^ b) h j) (slice_index seen j) → ⊥
+  pub between : (p : ℕ) → i < p → p < j → IsAway b (cell_ahead (2 ^ b) h p) (slice_index seen p)
 
 -- `new` is `old` with what the cells from cell h on hold replaced by `news`
 pub record ReplacesFront (n h : ℕ) (old new news : List ℕ) : Type 0 where

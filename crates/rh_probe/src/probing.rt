@@ -3,7 +3,7 @@
 ghost use Rattle.std.specs.Prelude.{◌≡◌, ◌+◌, ◌%◌, ◌^◌, ◌<◌, length, false, MatchOption};
 ghost use Rattle.std.specs.FinSet as set;
 ghost use Rattle.std.specs.FinSet.{contains};
-ghost use Rattle.rh_layout.specs.Round.{place_after};
+ghost use Rattle.rh_layout.specs.Round.{cell_ahead};
 ghost use Rattle.rh_layout.specs.Key.{IsBits, IsKey};
 ghost use Rattle.rh_layout.specs.Layout.{HasFree, Holds, IsLayout, keys_of};
 ghost use Rattle.rh_probe.specs.Look.{IsProbeLength};
@@ -25,7 +25,7 @@ pub fn cell_after(size: usize, from: usize, steps: usize) -> usize
     requires from { from < size }
     requires steps { steps < size }
     requires small { size < 2 ^ 63 }
-    ensures value { result ≡ place_after size from steps }
+    ensures value { result ≡ cell_ahead size from steps }
     ensures in_table { result < size }
 {
     let cell = from + steps;

@@ -1,5 +1,5 @@
 use Rattle.std.proofs.Common.{ℕ, ◌+◌, ◌^◌, ◌<◌, drop, inr, subst, length, get_or}
-use Rattle.rh_layout.specs.Round.{place_after}
+use Rattle.rh_layout.specs.Round.{cell_ahead}
 use Rattle.rh_probe.specs.Segment.{IsAway}
 use Rattle.rh_acts.proofs.FrontLemmas.{remove_written, absence_written}
 use Rattle.rh_acts.proofs.entries.remove_entries.Goals as goal
@@ -11,7 +11,7 @@ returns-in-Goes c =
 
 pub returns-in_default : goal.returns-in_default
 returns-in_default c =
-    inr (c.in-Here.at, c.in-Here.ensures, subst (λ h. (p : ℕ) → c.in-Here.at < p → p < length c.args.seen.now → IsAway c.args.bits (place_after (2 ^ c.args.bits) h p) (get_or c.args.seen.now p 0)) c.home-first.ensures.value c.in_default.ensures)
+    inr (c.in-Here.at, c.in-Here.ensures, subst (λ h. (p : ℕ) → c.in-Here.at < p → p < length c.args.seen.now → IsAway c.args.bits (cell_ahead (2 ^ c.args.bits) h p) (get_or c.args.seen.now p 0)) c.home-first.ensures.value c.in_default.ensures)
 
 pub returns : goal.returns
 returns c =

@@ -4,7 +4,7 @@ use Rattle.std.specs.FinSet as set
 use Rattle.rh_layout.specs.Layout.{HasFree, keys_of}
 use Rattle.rh_layout.proofs.CountLemmas.{free_from_len}
 use Rattle.rh_layout.proofs.LayoutLemmas.{layout_own, layout_keys}
-use Rattle.rh_edit.proofs.InsertLayout.{put_again, found_code, insert_code, free_past_place}
+use Rattle.rh_edit.proofs.InsertLayout.{put_again, found_code, insert_code, free_past_probe}
 use Rattle.rh_edit.proofs.insertion.insert.Goals as goal
 
 pub probe_length-at-requires-clause-free : goal.probe_length-at-requires-clause-free
@@ -22,7 +22,7 @@ returns-then-cells-cell-clause-changed c =
 pub push_on-requires-clause-free : goal.push_on-requires-clause-free
 push_on-requires-clause-free c =
     let free : HasFree c.args.cells.now = free_from_len c.args.cells.now c.args.bits (keys_of c.args.cells.now) c.requires.layout (omega (arith, c.requires.room)) in
-    let past = free_past_place c.args.bits c.args.cells.now c.args.key c.probe_length-at.result c.requires.layout.size c.probe_length-at.ensures free in
+    let past = free_past_probe c.args.bits c.args.cells.now c.args.key c.probe_length-at.result c.requires.layout.size c.probe_length-at.ensures free in
     (free.0, free.1, rw (c.requires.layout.size, c.home-first.ensures.value) past, free.2)
 
 pub returns-clause-layout : goal.returns-clause-layout

@@ -1,7 +1,7 @@
 use Rattle.std.proofs.Common.{◌+◌, ◌≡◌, ◌<◌, ◌∙◌, length, set, arith}
 use Rattle.std.proofs.Math.ListN.{length-set}
 use Rattle.std.proofs.Math.Nat.{mod-lt}
-use Rattle.rh_layout.proofs.RoundLemmas.{place_below, steps_below}
+use Rattle.rh_layout.proofs.RoundLemmas.{ahead_below, steps_below}
 use Rattle.rh_layout.proofs.LayoutLemmas.{at}
 use Rattle.rh_probe.proofs.ProbeLemmas.{walk_goes_on}
 use Rattle.rh_edit.proofs.PutLemmas.{part_none}
@@ -10,7 +10,7 @@ use Rattle.rh_edit.proofs.insertion.push_on.Goals as goal
 
 pub loop-step-init : goal.loop-step-init
 loop-step-init c = record {
-  in_table = rw c.requires.cell (place_below (length c.args.cells.now) c.args.first c.args.at (omega arith));
+  in_table = rw c.requires.cell (ahead_below (length c.args.cells.now) c.args.first c.args.at (omega arith));
   reached = c.requires.cell;
   part = part_none (length c.args.cells.now) c.args.first c.args.at c.args.value (at c.args.cells.now);
 }

@@ -2,7 +2,7 @@ use Rattle.std.proofs.Common.{◌+◌, length, arith}
 use Rattle.std.proofs.Math.Nat.{mod-lt}
 use Rattle.std.proofs.Math.ListN.{length-set, get_or}
 use Rattle.rh_layout.specs.Order.{home_in}
-use Rattle.rh_layout.proofs.RoundLemmas.{place_below, steps_below}
+use Rattle.rh_layout.proofs.RoundLemmas.{ahead_below, steps_below}
 use Rattle.rh_layout.proofs.LayoutLemmas.{at}
 use Rattle.rh_probe.specs.Segment.{IsAway}
 use Rattle.rh_probe.proofs.ProbeLemmas.{walk_goes_on}
@@ -11,7 +11,7 @@ use Rattle.rh_edit.proofs.removal.pull_back.Goals as goal
 
 pub loop-step-init : goal.loop-step-init
 loop-step-init c = record {
-  in_table = rw c.requires.cell (place_below (length c.args.cells.now) c.args.first c.args.at (omega arith));
+  in_table = rw c.requires.cell (ahead_below (length c.args.cells.now) c.args.first c.args.at (omega arith));
   reached = c.requires.cell;
   part = pull_none (length c.args.cells.now) (home_in c.args.bits) c.args.first c.args.at (at c.args.cells.now);
 }
