@@ -17,7 +17,7 @@ use Rattle.rh_descriptor.specs.Steps.{IsKnown, control_read, decided_word, gone_
 use Rattle.rh_rule.specs.Sound.{ControlTells, IsControlWord}
 use Rattle.rh_rule.proofs.Said.{control_said_is, serial_said_is}
 use Rattle.rh_helping.specs.Goal.{IsFresh, IsMet, IsOther, KnowsOwn, StandsAt}
-use Rattle.rh_helping.specs.Met.{state_said}
+use Rattle.rh_helping.specs.CellContent.{state_said}
 use Rattle.rh_helping.specs.Settling.{FailsNone, Keeps}
 use Rattle.rh_helping.specs.Work.{IsOver}
 use Rattle.rh_helping.proofs.Growing.{met_sub}

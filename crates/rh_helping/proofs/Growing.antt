@@ -12,7 +12,7 @@ use Rattle.rh_descriptor.specs.Steps.{IsKnown, entry_of, row_word}
 use Rattle.rh_helping.specs.declared.goal.Task.{Task}
 use Rattle.rh_helping.specs.declared.goal.Goal.{Goal}
 use Rattle.rh_helping.specs.declared.goal.Owed.{Owed}
-use Rattle.rh_helping.specs.Goal.{HasGone, HasReason, HasReleased, IsAllNoted, IsClear, IsForeign, IsMet, IsOpenOf, KnowsGoal, KnowsOwn, KnowsTask, OwesNothing, OwesOne, Owns, Releases, StandsAt, open_number}
+use Rattle.rh_helping.specs.Goal.{HasGone, HasReason, HasReleased, IsAllNoted, IsClear, IsForeign, IsMet, IsOpenOf, KnowsGoal, KnowsOwn, KnowsTask, OwesNothing, OwesOne, Owns, Releases, ReleasesOther, ReleasesOwn, StandsAt, open_number}
 use Rattle.rh_helping.specs.Settling.{FailsNone, Grows, Keeps}
 use Rattle.rh_helping.specs.Work.{IsAt, IsOver, Owes, OwesAs}
 
@@ -125,8 +125,8 @@ module _ (v next : View) (keeps : Keeps v next) where
     module _ (released : next.side.released ≡ v.side.released) where
       pub released_sub : (d : Ref) (e : ℕ) → HasReleased v d e → HasReleased next d e
       released_sub d e h = ⊎_elim
-          (λ p. inl (p.0 ∙ own_path v next keeps.worker keeps.notes d.number, current ∙ p.1, released ∙ p.2))
-          (λ p. inr ((λ a b. p.0 (a ∙ keeps.worker) (sym current ∙ b)), released ∙ p.1)) h
+          (λ (own : ReleasesOwn v d e). inl record { own = own.own ∙ own_path v next keeps.worker keeps.notes d.number; open_one = current ∙ own.open_one; released = released ∙ own.released })
+          (λ (others : ReleasesOther v d). inr record { other = λ a b. others.other (a ∙ keeps.worker) (sym current ∙ b); released = released ∙ others.released }) h
 
       module _ (unsettled : next.side.unsettled ≡ v.side.unsettled) (debts : next.side.debts ≡ v.side.debts) where
         pub nothing_sub : OwesNothing v → OwesNothing next

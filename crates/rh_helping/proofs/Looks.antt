@@ -12,7 +12,7 @@ use Rattle.rh_descriptor.specs.View.{View}
 use Rattle.rh_descriptor.specs.Words.{cell_in, ref_of}
 use Rattle.rh_descriptor.specs.Parts.{cell_count}
 use Rattle.rh_descriptor.specs.Steps.{Allowed, Step, noted, with_side}
-use Rattle.rh_rule.specs.Mirrors.{IsCell}
+use Rattle.rh_rule.specs.Represents.{IsCell}
 use Rattle.rh_steps.specs.Relies.{Knows}
 use Rattle.rh_helping.specs.declared.looking.Looked.{Looked}
 use Rattle.rh_helping.specs.declared.looking.Looked.TheVariants.{On, Sees}

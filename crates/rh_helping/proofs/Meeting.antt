@@ -14,7 +14,7 @@ use Rattle.rh_descriptor.specs.Steps.{mark_control_read}
 use Rattle.rh_rule.specs.Sound.{ControlTells}
 use Rattle.rh_helping.specs.declared.settling.Settling.TheVariants.{Old, Settle}
 use Rattle.rh_helping.specs.Goal.{OwesNothing}
-use Rattle.rh_helping.specs.Met.{state_said}
+use Rattle.rh_helping.specs.CellContent.{state_said}
 use Rattle.rh_helping.specs.Settling.{FailsNone, Grows, IsFound, IsSettling}
 use Rattle.rh_helping.proofs.Controls.{MarkedAs, Saw, is_decided_over, marked_demotes, over_not, saw_mark_control, some_state, stands_undecided}
 use Rattle.rh_helping.proofs.Marks.{found_grows}

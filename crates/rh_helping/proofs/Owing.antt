@@ -12,7 +12,7 @@ use Rattle.rh_descriptor.specs.Words.{ref_of}
 use Rattle.rh_helping.specs.declared.goal.Goal.{Goal}
 use Rattle.rh_helping.specs.declared.goal.Owed.{Owed}
 use Rattle.rh_helping.specs.declared.goal.Task.{Task}
-use Rattle.rh_helping.specs.Goal.{HasGone, HasReleased, IsAllNoted, IsForeign, IsNewest, KnowsOwn, OwesNothing, OwesOne, Releases, StandsAt, debt_of, open_number, owed_of}
+use Rattle.rh_helping.specs.Goal.{HasGone, HasReleased, IsAllNoted, IsForeign, IsNewest, KnowsOwn, OwesNothing, OwesOne, Releases, ReleasesOther, ReleasesOwn, StandsAt, debt_of, open_number, owed_of}
 use Rattle.rh_helping.specs.Settling.{Grows}
 use Rattle.rh_helping.specs.Work.{IsAt, IsLeft, IsOver, OwesAs}
 use Rattle.rh_helping.proofs.Growing.{known_sub, nothing_grows, stands_known}
@@ -26,9 +26,9 @@ same_number (Some m) n = ⊎_elim (λ e. inl (ap Some e)) (λ ne. inr (λ e. ne 
 pub released_from : (v : View) (d : Ref) (e : ℕ) → e ≡ 0 → v.side.released ≡ [] → HasReleased v d e
 released_from v d e zero none = subst (HasReleased v d) (sym zero) (⊎_elim
     (λ (mine : d.worker ≡ v.worker). ⊎_elim
-    (λ c. inl (ref_path d (own_ref v d.number) mine refl, c, none))
-    (λ other. inr ((λ a c. other c), none)) (same_number v.side.current d.number))
-    (λ foreign. inr ((λ a c. foreign a), none)) (same_nat d.worker v.worker))
+    (λ c. inl record { own = ref_path d (own_ref v d.number) mine refl; open_one = c; released = none })
+    (λ other. inr record { other = λ a c. other c; released = none }) (same_number v.side.current d.number))
+    (λ foreign. inr record { other = λ a c. foreign a; released = none }) (same_nat d.worker v.worker))
 
 module _ (v : View) (t : Task) (first : t.entry ≡ 0) where
   pub releases_from : t.owed ≡ None → OwesNothing v → Releases v t
@@ -88,7 +88,7 @@ module _ (v next : View) (g : Grows v next) (t : Task) (h : IsAt v t) (foreign :
   d = ref_of t.desc
 
   unreleased : HasReleased v d t.entry → v.side.released ≡ []
-  unreleased r = ⊎_elim (λ mine. absurd (foreign (ap (λ (x : Ref). x.worker) mine.0))) (λ other. other.1) r
+  unreleased r = ⊎_elim (λ (mine : ReleasesOwn v d t.entry). absurd (foreign (ap (λ (x : Ref). x.worker) mine.own))) (λ (others : ReleasesOther v d). others.released) r
 
   left_nothing : t.owed ≡ None → OwesNothing v
   left_nothing none = by t.state refl h.owes

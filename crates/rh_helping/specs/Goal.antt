@@ -155,10 +155,19 @@ abbrev pub owed_after : Option Owed → (cell : ℕ) → Option Owed
 owed_after None c = None
 owed_after (Some o) c = cond (o.piece.cell == c) None (Some o)
 
--- of its open descriptor the entries before e are released, if it is d
+-- d is the own open descriptor, of which the entries before e are released
+pub record ReleasesOwn (v : View) (d : Ref) (e : ℕ) : Type 0 where
+  pub own : d ≡ own_ref v d.number
+  pub open_one : v.side.current ≡ Some d.number
+  pub released : v.side.released ≡ below e
+
+-- d is another one, and no entry of the own open descriptor is released
+pub record ReleasesOther (v : View) (d : Ref) : Type 0 where
+  pub other : IsOther v d
+  pub released : v.side.released ≡ []
+
 abbrev pub HasReleased : View → (d : Ref) → (e : ℕ) → Type 0
-HasReleased v d e = ((d ≡ own_ref v d.number) × (v.side.current ≡ Some d.number) × (v.side.released ≡ below e))
-    ⊎ (IsOther v d × (v.side.released ≡ []))
+HasReleased v d e = ReleasesOwn v d e ⊎ ReleasesOther v d
 
 -- while the entries of a task are released
 pub record Releases (v : View) (t : Task) : Type 0 where

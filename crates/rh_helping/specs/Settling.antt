@@ -1,9 +1,9 @@
 -- What is so while a mark that was met in a cell is settled.
-use Rattle.std.specs.Prelude.{◌≡◌, ℕ, Option, Some, None}
+use Rattle.std.specs.Prelude.{◌≡◌, Option, Some, None}
 use Rattle.rh_world.specs.World.{In, Ref}
 use Rattle.rh_world.specs.World.Control.{failed}
 use Rattle.rh_world.specs.Notes.{Note}
-use Rattle.rh_world.specs.Notes.Note.{decided, found, desc_is, which_is, may_promote, may_demote, old_is, passed}
+use Rattle.rh_world.specs.Notes.Note.{decided, found, desc_is, which_is, may_demote, passed}
 use Rattle.rh_descriptor.specs.declared.reference.Ref.{Ref as Reference}
 use Rattle.rh_descriptor.specs.declared.reference.Piece.{Piece}
 use Rattle.rh_descriptor.specs.declared.steps.StepKind.{StepKind}
@@ -12,6 +12,7 @@ use Rattle.rh_descriptor.specs.View.{MarkWord, View}
 use Rattle.rh_descriptor.specs.View.MarkWord.{desc_word, entry_word}
 use Rattle.rh_descriptor.specs.View.RowWord.{old_word}
 use Rattle.rh_descriptor.specs.Words.{ref_of}
+use Rattle.rh_descriptor.specs.Steps.{MaySettle}
 use Rattle.rh_helping.specs.Goal.{HasReadRow}
 use Rattle.rh_helping.specs.declared.settling.Settling.{Settling}
 use Rattle.rh_helping.specs.declared.settling.Settling.TheVariants as settling
@@ -54,11 +55,6 @@ pub record IsFound (v : View) (x : Reference) (p : Piece) : Type 0 where
   pub of_desc : In (desc_is (ref_of x) (ref_of p.desc)) v.side.notes
   pub of_entry : In (which_is (ref_of x) p.entry) v.side.notes
 
--- it may be swapped to its descriptor, or to this old value
-abbrev pub MaySwap : View → Reference → Piece → Option ℕ → Type 0
-MaySwap v x p None = In (may_promote (ref_of x) p.cell) v.side.notes
-MaySwap v x p (Some old) = In (may_demote (ref_of x)) v.side.notes × In (old_is (ref_of p.desc) p.entry old) v.side.notes
-
 -- this word was read in the row of the mark
 abbrev pub HasRead : View → Reference → MarkWord → Type 0
 HasRead v x u = In (record { mark = ref_of x; word = u }) v.raw
@@ -70,7 +66,7 @@ IsSettling v (settling.Serial x c u e) = In (found (ref_of x) c) v.side.notes ×
 IsSettling v (settling.Control x p) = IsFound v x p
 IsSettling v (settling.Old x p) = IsFound v x p × In (may_demote (ref_of x)) v.side.notes
 IsSettling v (settling.OldSerial x p old) = IsFound v x p × In (may_demote (ref_of x)) v.side.notes × HasReadRow v (ref_of p.desc) (old_word p.entry old)
-IsSettling v (settling.Settle x p old) = IsFound v x p × MaySwap v x p old
+IsSettling v (settling.Settle x p old) = IsFound v x p × MaySettle v (ref_of x) p.cell (ref_of p.desc) p.entry old
 
 -- The mark is left once it is settled, or where its row has gone on, and then nothing is noted of it, or that of its
 -- descriptor.

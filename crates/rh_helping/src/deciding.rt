@@ -3,7 +3,6 @@
 
 ghost use Rattle.std.specs.Prelude.{◌≡◌};
 ghost use Rattle.rh_tagword.specs.Control.{IsControl};
-ghost use Rattle.rh_descriptor.specs.Parts.{IsShape};
 ghost use Rattle.rh_descriptor.specs.Steps.{Allowed, Step};
 ghost use Rattle.rh_descriptor.specs.Words.{control_of, ref_of};
 ghost use Rattle.rh_steps.specs.Relies.{Relies};
@@ -28,7 +27,6 @@ pub(crate) fn write_note<T: Steps>(
     opens: Option<OpenDesc<'_>>,
     task: Task,
 ) -> Outcome
-    requires shape { IsShape shape.now }
     requires relies { Relies T.shows T.serves shape.now table.old side.old.known.view }
     requires own { KnowsOwn side.old.known.view (opened_by opens) }
     requires stands { Stands shape.now side.old.known.view (Note task) }
@@ -53,7 +51,6 @@ pub(crate) fn fail<T: Steps>(
     opens: Option<OpenDesc<'_>>,
     task: Task,
 ) -> Outcome
-    requires shape { IsShape shape.now }
     requires relies { Relies T.shows T.serves shape.now table.old side.old.known.view }
     requires own { KnowsOwn side.old.known.view (opened_by opens) }
     requires stands { Stands shape.now side.old.known.view (Fail task) }
@@ -75,7 +72,6 @@ pub(crate) fn succeed<T: Steps>(
     opens: Option<OpenDesc<'_>>,
     task: Task,
 ) -> Outcome
-    requires shape { IsShape shape.now }
     requires relies { Relies T.shows T.serves shape.now table.old side.old.known.view }
     requires own { KnowsOwn side.old.known.view (opened_by opens) }
     requires stands { Stands shape.now side.old.known.view (Succeed task) }
@@ -97,7 +93,6 @@ fn decide<T: Steps>(
     task: Task,
     state: State,
 ) -> Outcome
-    requires shape { IsShape shape.now }
     requires relies { Relies T.shows T.serves shape.now table.old side.old.known.view }
     requires own { KnowsOwn side.old.known.view (opened_by opens) }
     requires allowed { Allowed shape.now side.old.known.view (Step.decides (ref_of task.desc) (control_of state)) }
@@ -125,7 +120,6 @@ pub(crate) fn withdraw<T: Steps>(
     opens: Option<OpenDesc<'_>>,
     number: u64,
 ) -> Outcome
-    requires shape { IsShape shape.now }
     requires relies { Relies T.shows T.serves shape.now table.old side.old.known.view }
     requires own { KnowsOwn side.old.known.view (opened_by opens) }
     requires stands { Stands shape.now side.old.known.view (Withdraw number) }
@@ -155,7 +149,6 @@ pub(crate) fn read_reason<T: Steps>(
     task: Task,
     decider: usize,
 ) -> Outcome
-    requires shape { IsShape shape.now }
     requires relies { Relies T.shows T.serves shape.now table.old side.old.known.view }
     requires own { KnowsOwn side.old.known.view (opened_by opens) }
     requires stands { Stands shape.now side.old.known.view (Reason task decider) }

@@ -1,7 +1,7 @@
 //! Which step is next.
 
 ghost use Rattle.std.specs.Prelude.{◌≡◌, ◌<◌, ◌+◌, ◌⊎◌, suc, Some, IfSome, Decides};
-ghost use Rattle.rh_descriptor.specs.Parts.{IsShape, cell_count, entry_row};
+ghost use Rattle.rh_descriptor.specs.Parts.{cell_count, entry_row};
 ghost use Rattle.rh_descriptor.specs.Words.{ref_of};
 ghost use Rattle.rh_descriptor.specs.declared.shape.Shape.{Shape};
 ghost use Rattle.rh_helping.specs.Goal.{HasReason, IsMet, KnowsGoal, KnowsOwn, KnowsTask, OwesNothing, open_number, opened_by};
@@ -29,7 +29,6 @@ pub(crate) fn start<T: Steps>(
     desc: Ref,
     state: State,
 ) -> Outcome
-    requires shape { IsShape shape.now }
     requires trusts { Trusts T.shows shape.now table.old side.now.known.view }
     requires own { KnowsOwn side.now.known.view (opened_by opens) }
     requires owes { OwesNothing side.now.known.view }
@@ -54,7 +53,6 @@ pub(crate) fn begin<T: Steps>(
     opens: Option<OpenDesc<'_>>,
     task: Task,
 ) -> Outcome
-    requires shape { IsShape shape.now }
     requires trusts { Trusts T.shows shape.now table.old side.now.known.view }
     requires own { KnowsOwn side.now.known.view (opened_by opens) }
     requires begins { Begins side.now.known.view task }
@@ -103,7 +101,6 @@ pub(crate) fn at_entry<T: Steps>(
     opens: Option<OpenDesc<'_>>,
     task: Task,
 ) -> Outcome
-    requires shape { IsShape shape.now }
     requires trusts { Trusts T.shows shape.now table.old side.now.known.view }
     requires own { KnowsOwn side.now.known.view (opened_by opens) }
     requires next { IsNext side.now.known.view task }
@@ -199,7 +196,6 @@ fn own_size<T: Steps>(
     opens: Option<OpenDesc<'_>>,
     desc: Ref,
 ) -> usize
-    requires shape { IsShape shape.now }
     requires trusts { Trusts T.shows shape.now table.old side.now.known.view }
     requires own { KnowsOwn side.now.known.view (opened_by opens) }
     requires worker { desc.worker ≡ side.now.worker }
@@ -227,7 +223,6 @@ fn own_goal<T: Steps>(
     opens: Option<OpenDesc<'_>>,
     task: Task,
 ) -> Goal
-    requires shape { IsShape shape.now }
     requires trusts { Trusts T.shows shape.now table.old side.now.known.view }
     requires own { KnowsOwn side.now.known.view (opened_by opens) }
     requires task { KnowsTask side.now.known.view task }
@@ -253,7 +248,6 @@ fn own_goal<T: Steps>(
 
 /// The next entry of an own descriptor, as its row says.
 fn row_goal<T: Steps>(shape: &Shape, table: &mut T, side: &Side, task: Task) -> Goal
-    requires shape { IsShape shape.now }
     requires trusts { Trusts T.shows shape.now table.old side.now.known.view }
     requires worker { task.desc.worker ≡ side.now.worker }
     requires entry { task.entry < cell_count shape.now }

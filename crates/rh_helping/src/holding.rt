@@ -2,7 +2,6 @@
 //! Pratt 2002).
 
 ghost use Rattle.std.specs.Prelude.{◌≡◌};
-ghost use Rattle.rh_descriptor.specs.Parts.{IsShape};
 ghost use Rattle.rh_steps.specs.Relies.{Relies};
 ghost use Rattle.rh_helping.specs.Settling.{kind_of_settling};
 ghost use Rattle.rh_helping.specs.Made.{HasMade};
@@ -11,7 +10,7 @@ ghost use Rattle.rh_helping.specs.Work.{Stands, Leads, MayEnd};
 
 use crate::goal::{Goal, OpenDesc, Owed, Placed};
 use crate::going::{at_entry, begin, ready};
-use crate::reading::{Met, state_told, what_stands};
+use crate::reading::{CellContent, state_told, what_stands};
 use crate::settling::Settling;
 use crate::work::{Outcome, Work};
 use rh_descriptor::{Ask, Part, Piece, Reading, Ref, Shape, Side, StepKind, desc_word, mark_word};
@@ -26,7 +25,6 @@ pub(crate) fn write_serial<T: Steps>(
     opens: Option<OpenDesc<'_>>,
     goal: Goal,
 ) -> Outcome
-    requires shape { IsShape shape.now }
     requires relies { Relies T.shows T.serves shape.now table.old side.old.known.view }
     requires own { KnowsOwn side.old.known.view (opened_by opens) }
     requires stands { Stands shape.now side.old.known.view (Work.MarkSerial goal) }
@@ -50,7 +48,6 @@ pub(crate) fn write_desc<T: Steps>(
     opens: Option<OpenDesc<'_>>,
     goal: Goal,
 ) -> Outcome
-    requires shape { IsShape shape.now }
     requires relies { Relies T.shows T.serves shape.now table.old side.old.known.view }
     requires own { KnowsOwn side.old.known.view (opened_by opens) }
     requires stands { Stands shape.now side.old.known.view (Work.MarkDesc goal) }
@@ -74,7 +71,6 @@ pub(crate) fn write_entry<T: Steps>(
     opens: Option<OpenDesc<'_>>,
     goal: Goal,
 ) -> Outcome
-    requires shape { IsShape shape.now }
     requires relies { Relies T.shows T.serves shape.now table.old side.old.known.view }
     requires own { KnowsOwn side.old.known.view (opened_by opens) }
     requires stands { Stands shape.now side.old.known.view (Work.MarkEntry goal) }
@@ -105,7 +101,6 @@ pub(crate) fn place<T: Steps>(
     opens: Option<OpenDesc<'_>>,
     goal: Goal,
 ) -> Outcome
-    requires shape { IsShape shape.now }
     requires relies { Relies T.shows T.serves shape.now table.old side.old.known.view }
     requires own { KnowsOwn side.old.known.view (opened_by opens) }
     requires stands { Stands shape.now side.old.known.view (Work.Place goal) }
@@ -136,15 +131,15 @@ pub(crate) fn place<T: Steps>(
         return Outcome::On(Work::MarkControl(Placed { goal, mark }));
     }
     match what_stands(found) {
-        Met::Value => Outcome::On(Work::Note(task)),
-        Met::Mark(mark) => {
+        CellContent::Value => Outcome::On(Work::Note(task)),
+        CellContent::Mark(mark) => {
             let settling = Settling::Desc {
                 mark,
                 cell: goal.cell,
             };
             Outcome::On(Work::Settle { settling, goal })
         }
-        Met::Desc(desc) => {
+        CellContent::Desc(desc) => {
             if desc == task.desc {
                 at_entry(shape, table, side, opens, task.after())
             } else {
@@ -163,7 +158,6 @@ pub(crate) fn settle<T: Steps>(
     settling: Settling,
     goal: Goal,
 ) -> Outcome
-    requires shape { IsShape shape.now }
     requires relies { Relies T.shows T.serves shape.now table.old side.old.known.view }
     requires own { KnowsOwn side.old.known.view (opened_by opens) }
     requires stands { Stands shape.now side.old.known.view (Work.Settle settling goal) }
@@ -185,7 +179,6 @@ pub(crate) fn read_control<T: Steps>(
     opens: Option<OpenDesc<'_>>,
     placed: Placed,
 ) -> Outcome
-    requires shape { IsShape shape.now }
     requires relies { Relies T.shows T.serves shape.now table.old side.old.known.view }
     requires own { KnowsOwn side.old.known.view (opened_by opens) }
     requires stands { Stands shape.now side.old.known.view (Work.MarkControl placed) }
@@ -223,7 +216,6 @@ pub(crate) fn promote<T: Steps>(
     opens: Option<OpenDesc<'_>>,
     placed: Placed,
 ) -> Outcome
-    requires shape { IsShape shape.now }
     requires relies { Relies T.shows T.serves shape.now table.old side.old.known.view }
     requires own { KnowsOwn side.old.known.view (opened_by opens) }
     requires stands { Stands shape.now side.old.known.view (Work.Promote placed) }
@@ -260,7 +252,6 @@ pub(crate) fn demote<T: Steps>(
     placed: Placed,
     state: Option<State>,
 ) -> Outcome
-    requires shape { IsShape shape.now }
     requires relies { Relies T.shows T.serves shape.now table.old side.old.known.view }
     requires own { KnowsOwn side.old.known.view (opened_by opens) }
     requires stands { Stands shape.now side.old.known.view (Work.Demote placed state) }
@@ -303,7 +294,6 @@ pub(crate) fn recheck<T: Steps>(
     goal: Goal,
     promoted: bool,
 ) -> Outcome
-    requires shape { IsShape shape.now }
     requires relies { Relies T.shows T.serves shape.now table.old side.old.known.view }
     requires own { KnowsOwn side.old.known.view (opened_by opens) }
     requires stands { Stands shape.now side.old.known.view (Work.Recheck goal promoted) }

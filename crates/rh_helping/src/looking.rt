@@ -2,13 +2,13 @@
 //! helped to its end.
 
 ghost use Rattle.std.specs.Prelude.{◌≡◌, ◌<◌};
-ghost use Rattle.rh_descriptor.specs.Parts.{IsShape, cell_count};
+ghost use Rattle.rh_descriptor.specs.Parts.{cell_count};
 ghost use Rattle.rh_helping.specs.Goal.{IsClear};
 ghost use Rattle.rh_helping.specs.Looking.{IsLooking, LooksOn, MayLookOn, kind_of_looking, reads_after};
 ghost use Rattle.rh_helping.specs.Made.{HasStepped};
 ghost use Rattle.rh_steps.specs.Relies.{Relies};
 
-use crate::reading::{Met, what_stands};
+use crate::reading::{CellContent, what_stands};
 use crate::settling::Settling;
 use crate::work::{Outcome, Work};
 use rh_descriptor::{Ask, Reading, Shape, Side, StepKind};
@@ -56,7 +56,6 @@ impl Looking {
         side: &mut Side,
         cell: usize,
     ) -> Looked
-        requires shape { IsShape shape.now }
         requires relies { Relies T.shows T.serves shape.now table.old side.old.known.view }
         requires cell { cell < cell_count shape.now }
         requires looking { IsLooking shape.now side.old.known.view self }
@@ -85,7 +84,6 @@ impl Looking {
 
 /// Reads the cell, and goes by what stands there.
 fn read<T: Steps>(shape: &Shape, table: &mut T, side: &mut Side, cell: usize) -> Looked
-    requires shape { IsShape shape.now }
     requires relies { Relies T.shows T.serves shape.now table.old side.old.known.view }
     requires cell { cell < cell_count shape.now }
     requires clear { IsClear side.old.known.view }
@@ -97,8 +95,8 @@ fn read<T: Steps>(shape: &Shape, table: &mut T, side: &mut Side, cell: usize) ->
 {
     let word = table.make(shape, side, Ask::Read(Reading::Cell(cell)));
     match what_stands(word) {
-        Met::Value => Looked::Sees(word),
-        Met::Mark(mark) => Looked::On(Looking::Settle(Settling::Desc { mark, cell })),
-        Met::Desc(desc) => Looked::On(Looking::Help(Work::Control(desc))),
+        CellContent::Value => Looked::Sees(word),
+        CellContent::Mark(mark) => Looked::On(Looking::Settle(Settling::Desc { mark, cell })),
+        CellContent::Desc(desc) => Looked::On(Looking::Help(Work::Control(desc))),
     }
 }

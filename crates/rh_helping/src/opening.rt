@@ -47,7 +47,6 @@ impl Opening {
         side: &mut Side,
         entries: &[Entry],
     ) -> Option<Opening>
-        requires shape { IsShape shape.now }
         requires relies { Relies T.shows T.serves shape.now table.old side.old.known.view }
         requires may { MayOpen shape.now side.old.known.view entries.now }
         requires opening { IsOpening side.old.known.view entries.now self }

@@ -3,7 +3,7 @@
 ghost use Rattle.std.specs.Prelude.{◌≡◌, option_map};
 ghost use Rattle.rh_descriptor.specs.Words.{cell_in, control_of, desc_in, ref_of};
 ghost use Rattle.rh_rule.specs.Sound.{IsControlWord};
-ghost use Rattle.rh_helping.specs.Met.{cell_met, state_said};
+ghost use Rattle.rh_helping.specs.CellContent.{cell_met, state_said};
 
 use rh_descriptor::Ref;
 use rh_tagword::{State, Word, unpack, unpack_control};
@@ -24,7 +24,7 @@ pub fn state_told(desc: Ref, word: u64) -> Option<State>
 
 /// What stands in a cell.
 #[derive(Clone, Copy)]
-pub enum Met {
+pub enum CellContent {
     /// The value of the cell itself.
     Value,
     Mark(Ref),
@@ -32,19 +32,19 @@ pub enum Met {
 }
 
 /// What a cell with this word holds.
-pub fn what_stands(word: u64) -> Met
+pub fn what_stands(word: u64) -> CellContent
     ensures { cell_met result word ≡ cell_in word }
 {
     match unpack(word) {
-        Some(Word::Mark { worker, number }) => Met::Mark(Ref {
+        Some(Word::Mark { worker, number }) => CellContent::Mark(Ref {
             worker: worker as usize,
             number,
         }),
-        Some(Word::Desc { worker, number }) => Met::Desc(Ref {
+        Some(Word::Desc { worker, number }) => CellContent::Desc(Ref {
             worker: worker as usize,
             number,
         }),
-        _ => Met::Value,
+        _ => CellContent::Value,
     }
 }
 
@@ -54,7 +54,7 @@ pub fn named_desc(word: u64) -> Option<Ref>
     ensures { option_map ref_of result ≡ desc_in word }
 {
     match what_stands(word) {
-        Met::Desc(desc) => Some(desc),
+        CellContent::Desc(desc) => Some(desc),
         _ => None,
     }
 }

@@ -1,7 +1,6 @@
 //! Releasing a decided descriptor.
 
 ghost use Rattle.std.specs.Prelude.{◌≡◌, ℕ, Some};
-ghost use Rattle.rh_descriptor.specs.Parts.{IsShape};
 ghost use Rattle.rh_steps.specs.Relies.{Relies};
 ghost use Rattle.rh_helping.specs.Made.{HasMade};
 ghost use Rattle.rh_helping.specs.Goal.{KnowsOwn, opened_by, owed_after, released_value};
@@ -24,7 +23,6 @@ pub(crate) fn release<T: Steps>(
     opens: Option<OpenDesc<'_>>,
     goal: Goal,
 ) -> Outcome
-    requires shape { IsShape shape.now }
     requires relies { Relies T.shows T.serves shape.now table.old side.old.known.view }
     requires own { KnowsOwn side.old.known.view (opened_by opens) }
     requires stands { Stands shape.now side.old.known.view (Release goal) }
@@ -117,7 +115,6 @@ pub(crate) fn give_back<T: Steps>(
     opens: Option<OpenDesc<'_>>,
     owed: Owed,
 ) -> Outcome
-    requires shape { IsShape shape.now }
     requires relies { Relies T.shows T.serves shape.now table.old side.old.known.view }
     requires own { KnowsOwn side.old.known.view (opened_by opens) }
     requires stands { Stands shape.now side.old.known.view (GiveBack owed) }

@@ -1,7 +1,6 @@
 //! Settling a mark that was met in a cell, as RDCSS is helped (Harris, Fraser and Pratt 2002).
 
 ghost use Rattle.std.specs.Prelude.{◌≡◌, None};
-ghost use Rattle.rh_descriptor.specs.Parts.{IsShape};
 ghost use Rattle.rh_helping.specs.Goal.{OwesNothing};
 ghost use Rattle.rh_steps.specs.Relies.{Relies};
 ghost use Rattle.rh_helping.specs.Settling.{Grows, IsSettling, LeadsOn, kind_of_settling};
@@ -71,7 +70,6 @@ impl Settling {
     /// Makes the step, and answers the next one, or none where the mark was settled, or where its row,
     /// or that of its descriptor, has gone on to a later one: then it is left to its worker.
     pub fn step<T: Steps>(self, shape: &Shape, table: &mut T, side: &mut Side) -> Option<Settling>
-        requires shape { IsShape shape.now }
         requires relies { Relies T.shows T.serves shape.now table.old side.old.known.view }
         requires owes { OwesNothing side.old.known.view }
         requires settling { IsSettling side.old.known.view self }
@@ -108,7 +106,6 @@ fn read_desc<T: Steps>(
     mark: Ref,
     cell: usize,
 ) -> Option<Settling>
-    requires shape { IsShape shape.now }
     requires relies { Relies T.shows T.serves shape.now table.old side.old.known.view }
     requires settling { IsSettling side.old.known.view (Settling.Desc mark cell) }
     ensures made { HasMade T.shows T.made shape.now StepKind.Read table.old side.old.known.view
@@ -128,7 +125,6 @@ fn read_entry<T: Steps>(
     cell: usize,
     named: u64,
 ) -> Option<Settling>
-    requires shape { IsShape shape.now }
     requires relies { Relies T.shows T.serves shape.now table.old side.old.known.view }
     requires settling { IsSettling side.old.known.view (Settling.Entry mark cell named) }
     ensures made { HasMade T.shows T.made shape.now StepKind.Read table.old side.old.known.view
@@ -154,7 +150,6 @@ fn read_serial<T: Steps>(
     named: u64,
     entry: usize,
 ) -> Option<Settling>
-    requires shape { IsShape shape.now }
     requires relies { Relies T.shows T.serves shape.now table.old side.old.known.view }
     requires settling { IsSettling side.old.known.view (Settling.Serial mark cell named entry) }
     ensures made { HasMade T.shows T.made shape.now StepKind.Read table.old side.old.known.view
@@ -183,7 +178,6 @@ fn read_control<T: Steps>(
     mark: Ref,
     piece: Piece,
 ) -> Option<Settling>
-    requires shape { IsShape shape.now }
     requires relies { Relies T.shows T.serves shape.now table.old side.old.known.view }
     requires owes { OwesNothing side.old.known.view }
     requires settling { IsSettling side.old.known.view (Settling.Control mark piece) }
@@ -221,7 +215,6 @@ fn read_old<T: Steps>(
     mark: Ref,
     piece: Piece,
 ) -> Option<Settling>
-    requires shape { IsShape shape.now }
     requires relies { Relies T.shows T.serves shape.now table.old side.old.known.view }
     requires settling { IsSettling side.old.known.view (Settling.Old mark piece) }
     ensures made { HasMade T.shows T.made shape.now StepKind.Read table.old side.old.known.view
@@ -245,7 +238,6 @@ fn read_old_serial<T: Steps>(
     piece: Piece,
     old: u64,
 ) -> Option<Settling>
-    requires shape { IsShape shape.now }
     requires relies { Relies T.shows T.serves shape.now table.old side.old.known.view }
     requires settling { IsSettling side.old.known.view (Settling.OldSerial mark piece old) }
     ensures made { HasMade T.shows T.made shape.now StepKind.Read table.old side.old.known.view
@@ -272,7 +264,6 @@ fn swap<T: Steps>(
     piece: Piece,
     old: Option<u64>,
 ) -> Option<Settling>
-    requires shape { IsShape shape.now }
     requires relies { Relies T.shows T.serves shape.now table.old side.old.known.view }
     requires owes { OwesNothing side.old.known.view }
     requires settling { IsSettling side.old.known.view (Settling.Settle mark piece old) }

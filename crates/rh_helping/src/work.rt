@@ -1,7 +1,6 @@
 //! The work of one worker on descriptors, step by step.
 
 ghost use Rattle.std.specs.Prelude.{◌≡◌};
-ghost use Rattle.rh_descriptor.specs.Parts.{IsShape};
 ghost use Rattle.rh_steps.specs.Relies.{Relies};
 ghost use Rattle.rh_helping.specs.Made.{HasMade};
 ghost use Rattle.rh_helping.specs.Goal.{KnowsOwn, opened_by};
@@ -143,7 +142,6 @@ impl Work {
         side: &mut Side,
         opens: Option<OpenDesc<'_>>,
     ) -> Outcome
-        requires shape { IsShape shape.now }
         requires relies { Relies T.shows T.serves shape.now table.old side.old.known.view }
         requires own { KnowsOwn side.old.known.view (opened_by opens) }
         requires stands { Stands shape.now side.old.known.view self }

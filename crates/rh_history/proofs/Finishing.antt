@@ -12,7 +12,7 @@ use Rattle.rh_descriptor.specs.declared.shape.Shape.{Shape}
 use Rattle.rh_descriptor.specs.View.{OwnDesc, Raw, RawRow, View, Written, own_ref}
 use Rattle.rh_descriptor.specs.Words.{number_of}
 use Rattle.rh_descriptor.specs.Steps.{CanOpen, KnowsValue, Step, entries_of, next_entries, noted, own_desc, size_in, with_side}
-use Rattle.rh_rule.specs.Mirrors.{numbers_of}
+use Rattle.rh_rule.specs.Represents.{numbers_of}
 use Rattle.rh_rule.specs.Rest.{is_noted_success}
 use Rattle.rh_rule.proofs.OpensKept.{entries_current}
 use Rattle.rh_rule.proofs.Telling.{OneResult, in_noted, noted_no, noted_same, same_filtered}

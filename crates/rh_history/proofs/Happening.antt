@@ -16,16 +16,16 @@ use Rattle.rh_descriptor.specs.Parts.{cell_count}
 use Rattle.rh_descriptor.specs.View.{OwnDesc, View}
 use Rattle.rh_descriptor.specs.Steps.{entry_of, no_entry}
 use Rattle.rh_rule.specs.Erased.{erased_read}
-use Rattle.rh_rule.specs.Mirrors.{IsOpenedSo, numbers_of}
+use Rattle.rh_rule.specs.Represents.{IsOpenedSo, numbers_of}
 use Rattle.rh_rule.specs.Core.{Core}
 use Rattle.rh_rule.specs.Rest.{Told}
 use Rattle.rh_rule.proofs.Telling.{tells}
 use Rattle.rh_acts.specs.Act.{Act, Meets, WasWord, entry, apply_acts}
 use Rattle.rh_acts.specs.Done.{Kept, kept}
 use Rattle.rh_acts.specs.Workers.{Made, acts_of}
-use Rattle.rh_acts.proofs.ListLemmas.{meet_by_place}
+use Rattle.rh_acts.proofs.ListLemmas.{meet_one_by_one}
 use Rattle.rh_history.specs.History.{value_of, act_of, world_act, entry_in, made_by, history, opening_cells, cells_of, kept_of}
-use Rattle.rh_history.specs.Laws.{Happened, HappenedSo}
+use Rattle.rh_history.specs.Laws.{Happened, HistorySpec}
 use Rattle.rh_history.proofs.Filtered.{from_filtered}
 use Rattle.rh_history.proofs.Values.{contains_upto, cells_length, get_cells, acts_lead, acts_length, acts_before, act_at}
 
@@ -69,7 +69,7 @@ module _ (w : World) (z : Shape) (words : List ℕ) (keep : ℕ → View) (core 
   act_meets : (i : ℕ) → i < w.act_count → Meets (world_act w (w.act i)) (cells_of z (cells_after w i))
   act_meets i l e h =
       let d = w.act i in
-      let row = core.mirrors.rows.entries d (succeeded_opened (w.control d) (told.order.succeeded i l)) in
+      let row = core.represents.rows.entries d (succeeded_opened (w.control d) (told.order.succeeded i l)) in
       let it = contains_upto (entry_in w d) (w.size d) e h in
       let inside : w.target d it.0 < cell_count z = row.within it.0 it.1 in
       subst (λ (x : Entry). (x.cell < length (cells_of z (cells_after w i))) × (get_or (cells_of z (cells_after w i)) x.cell 0 ≡ x.old)) (sym it.2) (
@@ -82,7 +82,7 @@ module _ (w : World) (z : Shape) (words : List ℕ) (keep : ℕ → View) (core 
       let it = contains_upto (λ i. made_by w (w.act i)) w.act_count m h in
       let d = w.act it.0 in
       let mine = told.workers it.0 it.1 in
-      let its = core.mirrors.kept d.worker mine in
+      let its = core.represents.kept d.worker mine in
       let o = of_number (keep d.worker).opened d.number (its.all d.number (succeeded_opened (w.control d) (told.order.succeeded it.0 it.1))) in
       let is : record { worker = d.worker; number = o.0.number } ≡ d = ref_path record { worker = d.worker; number = o.0.number } d refl (sym o.2) in
       subst (λ (x : Made). (x.worker < z.workers) × ((o : OwnDesc) × In o (keep x.worker).opened × (x.act ≡ act_of o.entries))) (sym it.2)
@@ -108,9 +108,9 @@ module _ (w : World) (z : Shape) (words : List ℕ) (keep : ℕ → View) (core 
             ∙ ap (λ (x : KeptRead). value_of x.word) (sym was.2),
       )
 
-  pub happened_so : HappenedSo w z keep
+  pub happened_so : HistorySpec w z keep
   happened_so = record {
-    meet = meet_by_place (acts_of (history w)) (opening_cells w z) (λ n l.
+    meet = meet_one_by_one (acts_of (history w)) (opening_cells w z) (λ n l.
         let at : n < w.act_count = omega (arith, acts_length w w.act_count) in
         subst (λ (act : Act). Meets act (apply_acts (take n (acts_of (history w))) (opening_cells w z))) (sym (act_at w w.act_count n at))
         (subst (Meets (world_act w (w.act n)))
@@ -120,7 +120,7 @@ module _ (w : World) (z : Shape) (words : List ℕ) (keep : ℕ → View) (core 
     size = cells_length z (w.logical 0);
     workers = λ m h. (opened_by m h).0;
     opened = λ m h. (opened_by m h).1;
-    opening = λ v c mine inside. get_cells z (w.logical 0) c inside ∙ ap (λ u. value_of u) (sym ((core.mirrors.kept v mine).opening c inside));
+    opening = λ v c mine inside. get_cells z (w.logical 0) c inside ∙ ap (λ u. value_of u) (sym ((core.represents.kept v mine).opening c inside));
     reads = read_true;
   }
 

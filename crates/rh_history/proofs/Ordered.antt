@@ -4,7 +4,7 @@ use Rattle.rh_world.specs.World.{In, IsFalling, Ref}
 use Rattle.rh_world.specs.Notes.Note.{decided}
 use Rattle.rh_world.specs.Sides.{Side}
 use Rattle.rh_descriptor.specs.View.{OwnDesc}
-use Rattle.rh_rule.specs.Mirrors.{numbers_of}
+use Rattle.rh_rule.specs.Represents.{numbers_of}
 use Rattle.rh_history.specs.OwnActs.{KeptIsOrderly}
 use Rattle.rh_history.proofs.Happening.{of_number}
 
@@ -18,7 +18,7 @@ first_is (o ∷ os) p falls i most =
 
 pub kept_is_orderly : KeptIsOrderly
 kept_is_orderly w z words keep v core mine =
-    let h = core.mirrors.kept v mine in
+    let h = core.represents.kept v mine in
     let rows = core.rule.rows in
     let ref : ℕ → Ref = λ n. record { worker = v; number = n } in
     record {

@@ -13,7 +13,7 @@ use Rattle.rh_descriptor.specs.declared.shape.Shape.{Shape}
 use Rattle.rh_descriptor.specs.View.{OwnDesc, View, own_ref}
 use Rattle.rh_descriptor.specs.Words.{without_entry}
 use Rattle.rh_rule.specs.Core.{Core}
-use Rattle.rh_rule.specs.Mirrors.{numbers_of}
+use Rattle.rh_rule.specs.Represents.{numbers_of}
 use Rattle.rh_rule.specs.Rest.{Told, is_noted_success}
 use Rattle.rh_rule.proofs.Deciders.{told_success}
 use Rattle.rh_rule.proofs.Telling.{in_noted, noted_in, same_bool, same_filtered, tells}
@@ -80,7 +80,7 @@ module _ (w : World) (z : Shape) (words : List ℕ) (keep : ℕ → View) (v : �
   succeeds o = is_success (w.control (own_ref k o.number))
 
   number_is : k.worker ≡ v
-  number_is = (core.mirrors.kept v mine).worker
+  number_is = (core.represents.kept v mine).worker
 
   by_success : own v (history w) ≡ succeeded_acts w k
   by_success =

@@ -16,7 +16,7 @@ use Rattle.rh_history.specs.History.{value_of, act_of, history, opening_cells, l
 
 -- The acts meet their old values one after the other, from the opening cells to what the cells stand for now. Each is of a
 -- worker of the table, with the entries of a descriptor that it opened, and what was read of a cell was true.
-pub record HappenedSo (w : World) (z : Shape) (keep : ℕ → View) : Type 0 where
+pub record HistorySpec (w : World) (z : Shape) (keep : ℕ → View) : Type 0 where
   pub meet : AllMeet (acts_of (history w)) (opening_cells w z)
   pub cells : logical_cells w z ≡ apply_acts (acts_of (history w)) (opening_cells w z)
   pub size : length (opening_cells w z) ≡ cell_count z
@@ -26,11 +26,11 @@ pub record HappenedSo (w : World) (z : Shape) (keep : ℕ → View) : Type 0 whe
   pub reads : (v : ℕ) → v < z.workers → WereTrue (opening_cells w z) (acts_of (history w)) (kept_of z (keep v))
 
 abbrev pub Happened : Type 0
-Happened = (w : World) (z : Shape) (words : List ℕ) (keep : ℕ → View) → Core w z words keep → HappenedSo w z keep
+Happened = (w : World) (z : Shape) (words : List ℕ) (keep : ℕ → View) → Core w z words keep → HistorySpec w z keep
 
 -- The own acts of a worker are its descriptors that succeeded, in the order in which it opened them. First come those that it
 -- has finished, and then one more at most, which it has open.
-pub record OwnSo (w : World) (v : ℕ) (k : View) : Type 0 where
+pub record OwnActsSpec (w : World) (v : ℕ) (k : View) : Type 0 where
   pub succeeded : own v (history w) ≡ succeeded_acts w k
   pub later : List Act
   pub finished : own v (history w) ≡ own_acts_of k ++ later
@@ -38,16 +38,16 @@ pub record OwnSo (w : World) (v : ℕ) (k : View) : Type 0 where
   pub closed : k.side.current ≡ None → later ≡ []
 
 abbrev pub OwnSoFar : Type 0
-OwnSoFar = (w : World) (z : Shape) (words : List ℕ) (keep : ℕ → View) (v : ℕ) → Core w z words keep → v < z.workers → OwnSo w v (keep v)
+OwnSoFar = (w : World) (z : Shape) (words : List ℕ) (keep : ℕ → View) (v : ℕ) → Core w z words keep → v < z.workers → OwnActsSpec w v (keep v)
 
 -- Where all workers are at rest, the own acts of each are those that it has finished, and the cells hold what all acts leave.
-pub record EndedSo (w : World) (z : Shape) (words : List ℕ) (keep : ℕ → View) : Type 0 where
+pub record RestSpec (w : World) (z : Shape) (words : List ℕ) (keep : ℕ → View) : Type 0 where
   pub acts : (v : ℕ) → v < z.workers → own v (history w) ≡ own_acts_of (keep v)
   pub size : length (logical_cells w z) ≡ cell_count z
   pub cells : (c : ℕ) → c < cell_count z → value_of (slice_index words c) ≡ slice_index (logical_cells w z) c
 
 abbrev pub Ended : Type 0
-Ended = (w : World) (z : Shape) (words : List ℕ) (keep : ℕ → View) → Core w z words keep → AllRest z keep → EndedSo w z words keep
+Ended = (w : World) (z : Shape) (words : List ℕ) (keep : ℕ → View) → Core w z words keep → AllRest z keep → RestSpec w z words keep
 
 -- Plain words and what cells hold are one to one.
 abbrev pub PlainWords : Type 0

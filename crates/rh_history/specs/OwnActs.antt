@@ -14,7 +14,7 @@ use Rattle.rh_descriptor.specs.View.{OwnDesc, View, own_ref}
 use Rattle.rh_descriptor.specs.Words.{IsPlain}
 use Rattle.rh_descriptor.specs.Steps.{Allowed, Step, noted}
 use Rattle.rh_descriptor.specs.Steps.Step.{reads}
-use Rattle.rh_rule.specs.Mirrors.{numbers_of}
+use Rattle.rh_rule.specs.Represents.{numbers_of}
 use Rattle.rh_rule.specs.Core.{Core}
 use Rattle.rh_rule.specs.Sound.{Sound}
 use Rattle.rh_acts.specs.Done.{Kept, kept}

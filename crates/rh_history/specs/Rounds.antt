@@ -8,7 +8,7 @@ use Rattle.rh_acts.specs.Act.{AllMeet, apply_acts}
 use Rattle.rh_acts.specs.Done.{Kept, WereTrue}
 use Rattle.rh_acts.specs.Workers.{Made, AreOf, acts_of, own}
 use Rattle.rh_history.specs.History.{value_of, kept_of, opening_cells, own_acts_of}
-use Rattle.rh_history.specs.Laws.{HappenedSo}
+use Rattle.rh_history.specs.Laws.{HistorySpec}
 use Rattle.rh_history.specs.OwnActs.{Orderly}
 
 -- what is kept of a worker that has done nothing yet
@@ -23,11 +23,11 @@ RoundsBegin = (z : Shape) (cells : List ℕ) → ((worker : ℕ) → IsFresh z (
 
 -- The opening cells are those that the round was begun with, so that the acts go on from where those before it ended.
 abbrev pub RoundsFollow : Type 0
-RoundsFollow = (w : World) (z : Shape) (keep : ℕ → View) (v : ℕ) (cells : List ℕ) → HappenedSo w z keep → v < z.workers → length cells ≡ cell_count z
+RoundsFollow = (w : World) (z : Shape) (keep : ℕ → View) (v : ℕ) (cells : List ℕ) → HistorySpec w z keep → v < z.workers → length cells ≡ cell_count z
     → ((c : ℕ) → c < cell_count z → value_of (slice_index (keep v).opening c) ≡ slice_index cells c) → opening_cells w z ≡ cells
 
 -- what was done first and what was done next, as one list
-pub record JoinedSo (opening : List ℕ) (first next : List Made) : Type 0 where
+pub record RoundsSpec (opening : List ℕ) (first next : List Made) : Type 0 where
   pub meet : AllMeet (acts_of first) opening → AllMeet (acts_of next) (apply_acts (acts_of first) opening) → AllMeet (acts_of (first ++ next)) opening
   pub cells : apply_acts (acts_of (first ++ next)) opening ≡ apply_acts (acts_of next) (apply_acts (acts_of first) opening)
   pub workers : (count : ℕ) → AreOf count first → AreOf count next → AreOf count (first ++ next)
@@ -36,4 +36,4 @@ pub record JoinedSo (opening : List ℕ) (first next : List Made) : Type 0 where
       → WereTrue opening (acts_of (first ++ next)) (earlier ++ later)
 
 abbrev pub RoundsJoin : Type 0
-RoundsJoin = (opening : List ℕ) (first next : List Made) → JoinedSo opening first next
+RoundsJoin = (opening : List ℕ) (first next : List Made) → RoundsSpec opening first next

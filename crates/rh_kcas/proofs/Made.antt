@@ -72,7 +72,7 @@ closes z y id vs st same some_one all holds at quiet =
     subst P (sym (of_view v it.0 it.1)) (h v it.0 it.1) in
     let rest : AllRest z keep = record { still = λ v inside. (each IsQuiet quiet v inside).still; rest = λ v inside. (each IsQuiet quiet v inside).rest } in
     let r = rests ruled.0 z st.words keep ruled.1 rest in
-    let sized : length st.words ≡ word_count z = ruled.1.mirrors.sized in
+    let sized : length st.words ≡ word_count z = ruled.1.represents.sized in
     let front : (c : ℕ) → c < cell_count z → get_or st.words c 0 ≡ get_or (take (cell_count z) st.words) c 0 = λ c inside. sym (get_or-take (cell_count z) st.words c 0 inside) in (
       record {
         cells = take (cell_count z) st.words;

@@ -15,7 +15,7 @@ use Rattle.rh_rule.specs.Rest.{made}
 use Rattle.rh_helping.specs.Opening.{next_desc}
 use Rattle.rh_steps.specs.Relies.{Knows}
 use Rattle.rh_kcas.specs.Rests.{IsRested}
-use Rattle.rh_kcas.specs.Swaps.{EndedSo, HasCarriedOut, HasOpened}
+use Rattle.rh_kcas.specs.Swaps.{RestSpec, HasCarriedOut, HasOpened}
 use Rattle.rh_kcas.proofs.Carried.{made_more, over_more}
 
 abbrev has_succeeded : Ended → Bool
@@ -31,7 +31,7 @@ ended_noted v d (Failed e) h = (failed 0 h.0.0, h.0.1, refl)
 
 pub record IsSwapped (z : Shape) (es : List Entry) (v next : View) (k : Ended) : Type 0 where
   pub rested : IsRested next
-  pub so : EndedSo es v next k
+  pub so : RestSpec es v next k
   pub acts : made next ≡ cond (has_succeeded k) (next_desc v es ∷ made v) (made v)
   pub spends : k ≡ Withdrawn → z.rooms.marks ≤ next.marks_used
   pub notes : (n : Note) → In n v.side.notes → In n next.side.notes

@@ -46,7 +46,7 @@ pub record HasCarriedOut (v : View) (number : ℕ) (next : View) (k : Ended) : T
   pub result : HasEnded next (own_ref next number) k
 
 -- it opened a descriptor of these entries, which ended so
-pub record EndedSo (es : List Entry) (v next : View) (k : Ended) : Type 0 where
+pub record RestSpec (es : List Entry) (v next : View) (k : Ended) : Type 0 where
   pub opened : next.opened ≡ next_desc v es ∷ v.opened
   pub result : HasEnded next (own_ref next v.next_number) k
 
@@ -56,8 +56,8 @@ HasNoRoom z v next = (z.rooms.descriptors ≤ v.next_number) ⊎ (z.rooms.marks 
 
 -- What became of a K-CAS: whether the worker's own acts grew by these entries, in one act, or are the same.
 abbrev pub BecameOf : Shape → List Entry → (v next : View) → Outcome → Type 0
-BecameOf z es v next Done = EndedSo es v next ended.Succeeded × (made next ≡ next_desc v es ∷ made v)
-BecameOf z es v next (Failed e) = EndedSo es v next (ended.Failed e) × (made next ≡ made v)
+BecameOf z es v next Done = RestSpec es v next ended.Succeeded × (made next ≡ next_desc v es ∷ made v)
+BecameOf z es v next (Failed e) = RestSpec es v next (ended.Failed e) × (made next ≡ made v)
 BecameOf z es v next Spent = HasNoRoom z v next × (made next ≡ made v)
 
 pub record Swaps (z : Shape) (es : List Entry) (v next : View) (o : Outcome) : Type 0 where

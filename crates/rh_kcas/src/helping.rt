@@ -1,7 +1,6 @@
 //! Helping a descriptor to its end.
 
 ghost use Rattle.std.specs.Prelude.{◌≡◌};
-ghost use Rattle.rh_descriptor.specs.Parts.{IsShape};
 ghost use Rattle.rh_descriptor.specs.Steps.{IsKnown};
 ghost use Rattle.rh_descriptor.specs.Words.{ref_of};
 ghost use Rattle.rh_helping.specs.Goal.{IsClear};
@@ -37,7 +36,6 @@ pub fn help<R: Wait>(rt: &R, table: &Table, seat: &mut Seat, desc: Ref)
 }
 
 fn go_about<R: Wait>(rt: &R, shape: &Shape, here: &mut OnTable, side: &mut Side, desc: Ref)
-    requires shape { IsShape shape.now }
     requires trusts { Trusts Sits shape.now here.old side.old.known.view }
     requires clear { IsClear side.old.known.view }
     requires known { IsKnown side.old.known.view.side.notes (ref_of desc) }
@@ -67,7 +65,6 @@ fn go_about<R: Wait>(rt: &R, shape: &Shape, here: &mut OnTable, side: &mut Side,
 
 /// How the descriptor stands, by one Read. None where its worker has gone on to a later one.
 fn state(shape: &Shape, here: &mut OnTable, side: &mut Side, desc: Ref) -> Option<State>
-    requires shape { IsShape shape.now }
     requires trusts { Trusts Sits shape.now here.old side.old.known.view }
     requires clear { IsClear side.old.known.view }
     requires known { IsKnown side.old.known.view.side.notes (ref_of desc) }

@@ -1,7 +1,7 @@
 //! Reading a cell.
 
 ghost use Rattle.std.specs.Prelude.{◌≡◌, ◌<◌};
-ghost use Rattle.rh_descriptor.specs.Parts.{IsShape, cell_count};
+ghost use Rattle.rh_descriptor.specs.Parts.{cell_count};
 ghost use Rattle.rh_helping.specs.Goal.{IsClear};
 ghost use Rattle.rh_kcas.specs.Rests.{Rests};
 ghost use Rattle.rh_kcas.specs.Swaps.{HasRead};
@@ -38,7 +38,6 @@ fn look<R: Wait>(
     side: &mut Side,
     cell: usize,
 ) -> Option<u64>
-    requires shape { IsShape shape.now }
     requires trusts { Trusts Sits shape.now here.old side.old.known.view }
     requires clear { IsClear side.old.known.view }
     requires cell { cell < cell_count shape.now }

@@ -1,7 +1,6 @@
 //! An own K-CAS: its descriptor is opened, and carried out.
 
 ghost use Rattle.std.specs.Prelude.{◌≡◌, Some};
-ghost use Rattle.rh_descriptor.specs.Parts.{IsShape};
 ghost use Rattle.rh_descriptor.specs.Steps.{AreEntries};
 ghost use Rattle.rh_helping.specs.Goal.{KnowsOwn, OwesNothing, opened_by};
 ghost use Rattle.rh_helping.specs.Opening.{MayOpen, next_desc};
@@ -60,7 +59,6 @@ pub fn kcas<R: Wait>(rt: &R, table: &Table, seat: &mut Seat, entries: &[Entry]) 
 
 /// Opens a descriptor of the entries: the first part of a K-CAS, for who goes on with it later.
 pub fn open(shape: &Shape, here: &mut OnTable, side: &mut Side, entries: &[Entry])
-    requires shape { IsShape shape.now }
     requires trusts { Trusts Sits shape.now here.old side.old.known.view }
     requires may { MayOpen shape.now side.old.known.view entries.now }
     ensures trusts { Trusts Sits shape.now here.new side.new.known.view }
@@ -82,7 +80,6 @@ pub fn carry_out<R: Wait>(
     side: &mut Side,
     own: OpenDesc<'_>,
 ) -> Ended
-    requires shape { IsShape shape.now }
     requires trusts { Trusts Sits shape.now here.old side.old.known.view }
     requires own { KnowsOwn side.old.known.view (opened_by (Some own)) }
     requires owes { OwesNothing side.old.known.view }

@@ -1,7 +1,6 @@
 //! A descriptor that another worker meets, and whose own worker then goes on to its next one.
 
 ghost use Rattle.std.specs.Prelude.{IfSome, None};
-ghost use Rattle.rh_descriptor.specs.Parts.{IsShape};
 ghost use Rattle.rh_descriptor.specs.Steps.{IsKnown};
 ghost use Rattle.rh_descriptor.specs.Words.{ref_of};
 ghost use Rattle.rh_helping.specs.Goal.{IsClear};
@@ -43,7 +42,6 @@ fn meet<R: Abort>(rt: &R, table: &Table, seat: &mut Seat, cell: usize) -> Ref
 }
 
 fn comes_to_entry(shape: &Shape, here: &mut OnTable, side: &mut Side, desc: Ref) -> Option<Task>
-    requires shape { IsShape shape.now }
     requires trusts { Trusts Sits shape.now here.old side.old.known.view }
     requires clear { IsClear side.old.known.view }
     requires known { IsKnown side.old.known.view.side.notes (ref_of desc) }

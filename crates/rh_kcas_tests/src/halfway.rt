@@ -2,7 +2,6 @@
 //! decision is left.
 
 ghost use Rattle.std.specs.Prelude.{◌≡◌, ◌<◌, IsTrue, IfSome, Some};
-ghost use Rattle.rh_descriptor.specs.Parts.{IsShape};
 ghost use Rattle.rh_descriptor.specs.Steps.{AreEntries};
 ghost use Rattle.rh_helping.specs.Goal.{KnowsOwn, OwesNothing, opened_by};
 ghost use Rattle.rh_kcas_tests.specs.Halfway.{IsFree, IsHalfway};
@@ -44,7 +43,6 @@ pub fn stop_halfway(table: &Table, seat: &mut Seat, entries: &[Entry]) -> Option
 }
 
 fn comes_to_decide(shape: &Shape, here: &mut OnTable, side: &mut Side, own: OpenDesc<'_>) -> bool
-    requires shape { IsShape shape.now }
     requires trusts { Trusts Sits shape.now here.old side.old.known.view }
     requires own { KnowsOwn side.old.known.view (opened_by (Some own)) }
     requires owes { OwesNothing side.old.known.view }

@@ -19,7 +19,7 @@ use Rattle.rh_descriptor.specs.Words.{control_of, control_said, desc_in, read_co
 use Rattle.rh_descriptor.specs.Steps.{Allowed, noted}
 use Rattle.rh_descriptor.specs.Steps.Step.{reads, settles}
 use Rattle.rh_helping.specs.Goal.{HasReadRow}
-use Rattle.rh_helping.specs.Met.{state_said}
+use Rattle.rh_helping.specs.CellContent.{state_said}
 use Rattle.rh_helping.specs.Settling.{HasRead, IsFound, Keeps}
 use Rattle.rh_helping.proofs.Controls.{MarkedAs, saw_mark_control}
 use Rattle.rh_helping.proofs.Marks.{found_keeps, may_read_entry, may_read_old, may_read_row, may_read_serial, may_settle, serial_tells}
@@ -30,14 +30,14 @@ use Rattle.rh_rdcss.specs.Calls.{ByControl, ByOld, Judged, Learned, Named, Reads
 -- ---- the row is read
 
 module _ (z : Shape) (v : View) (x : Reference) (c : ℕ) (here : In (found (ref_of x) c) v.side.notes) where
-  abbrev Met : View → Type 0
-  Met u = In (found (ref_of x) c) u.side.notes
+  abbrev CellContent : View → Type 0
+  CellContent u = In (found (ref_of x) c) u.side.notes
 
-  met_entry : (named : ℕ) (first : View) → Learned z (reads (reading.MarkDesc x)) v named first → Met first
-  met_entry named first l = subst Met (sym l.view_is) here
+  met_entry : (named : ℕ) (first : View) → Learned z (reads (reading.MarkDesc x)) v named first → CellContent first
+  met_entry named first l = subst CellContent (sym l.view_is) here
 
-  met_serial : (named entry : ℕ) (first second : View) → Learned z (reads (reading.MarkDesc x)) v named first → Learned z (reads (reading.MarkEntry x)) first entry second → Met second
-  met_serial named entry first second l m = subst Met (sym m.view_is) (met_entry named first l)
+  met_serial : (named entry : ℕ) (first second : View) → Learned z (reads (reading.MarkDesc x)) v named first → Learned z (reads (reading.MarkEntry x)) first entry second → CellContent second
+  met_serial named entry first second l m = subst CellContent (sym m.view_is) (met_entry named first l)
 
   -- once its descriptor was read, its entry may be, and then the number of the mark that it is of
   pub then_entry : (named : ℕ) (first : View) → Learned z (reads (reading.MarkDesc x)) v named first → Allowed z first (reads (reading.MarkEntry x))

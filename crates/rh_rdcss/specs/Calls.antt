@@ -18,7 +18,7 @@ use Rattle.rh_descriptor.specs.Steps.{IsDesc, IsKnown, Step, noted}
 use Rattle.rh_descriptor.specs.Steps.Step.{places, reads, settles, writes}
 use Rattle.rh_rule.specs.Sound.{Finds}
 use Rattle.rh_steps.specs.Relies.{Knows}
-use Rattle.rh_helping.specs.Met.{state_said}
+use Rattle.rh_helping.specs.CellContent.{state_said}
 use Rattle.rh_rdcss.specs.declared.calls.Placed.{Placed}
 use Rattle.rh_rdcss.specs.declared.calls.Placed.TheVariants as placed
 use Rattle.rh_rdcss.specs.declared.seat.Seat.{Seat}

@@ -24,17 +24,17 @@ use Rattle.rh_descriptor.specs.View.{OwnDesc, View}
 use Rattle.rh_descriptor.specs.Words.{IsPlain, cell_in, desc_number, mark_number, without_entry}
 use Rattle.rh_descriptor.specs.Steps.{CanRelease, CanSettle, IsReleased, KnowsValue, MaySettle, Step, is_none, noted, release_view, settle_view, settled_word, size_in, swapped}
 use Rattle.rh_rule.specs.Erased.{erased}
-use Rattle.rh_rule.specs.Mirrors.{Cells, IsCell, Kept, cell_number, numbers_of, Mirrors}
+use Rattle.rh_rule.specs.Represents.{Cells, IsCell, Kept, cell_number, numbers_of, Represents}
 use Rattle.rh_rule.specs.Core.{Core}
 use Rattle.rh_rule.proofs.Deciders.{told_value}
 use Rattle.rh_rule.proofs.Erasing.{erased_either, erased_release, erased_settle}
 use Rattle.rh_rule.proofs.Frames.{word_new, word_same}
-use Rattle.rh_rule.proofs.Kept.{Grows, Over, Quiet, kept_stays, mirrors, over_grows, quiet}
+use Rattle.rh_rule.proofs.Kept.{Grows, Over, Quiet, kept_stays, represents, over_grows, quiet}
 use Rattle.rh_rule.proofs.ReadsKept.{grows_none, quiet_none, known_decided, known_note, true_decided, true_note, work_known}
 use Rattle.rh_rule.proofs.Said.{cell_said_is, desc_test, mark_test}
 use Rattle.rh_rule.proofs.Touched.{controls_same, counter_same, descs_same, marks_same, others_stay, own_same, placed_same, quiet_same, raw_row_same, raw_same, rows_same, set_sized}
 
-module _ (z : Shape) (shape : IsShape z) (words : List ℕ) (keep : ℕ → View) (w : World) (side : ℕ → Side) (rule : Rule w side) (m : Mirrors z words keep w side) (who : ℕ) (mine : who < z.workers) where
+module _ (z : Shape) (shape : IsShape z) (words : List ℕ) (keep : ℕ → View) (w : World) (side : ℕ → Side) (rule : Rule w side) (m : Represents z words keep w side) (who : ℕ) (mine : who < z.workers) where
   abbrev pub k : View
   k = keep who
 
@@ -84,7 +84,7 @@ module _ (z : Shape) (shape : IsShape z) (words : List ℕ) (keep : ℕ → View
       subst (λ (y : World). Core y z (set words c (cell_number n)) (updated keep who (record k { side = x }))) (sym e) record {
         side = updated side who (side_after w t who mv);
         rule = rule_at mv may v e;
-        mirrors = mirrors z words (set words c (cell_number n)) keep w v side m l who mine (side_after w t who mv) (record k { side = x })
+        represents = represents z words (set words c (cell_number n)) keep w v side m l who mine (side_after w t who mv) (record k { side = x })
             (set_sized z words keep w side m p here (cell_number n) v l)
             (counter_same z words keep w side m p here (cell_number n) v l (λ q. cc) refl)
             (cells_new c n v here is (λ j. refl))
@@ -107,7 +107,7 @@ module _ (z : Shape) (shape : IsShape z) (words : List ℕ) (keep : ℕ → View
   still_step mv may c e x same ends calm = subst (λ (y : World × List ℕ). Core y.0 z y.1 (updated keep who (record k { side = x }))) (λ i. (sym e i, sym (set-get_or words c 0) i)) record {
     side = updated side who (side_after w t who mv);
     rule = rule_at mv may w e;
-    mirrors = mirrors z words words keep w w side m (steady_at mv may w e) who mine (side_after w t who mv) (record k { side = x })
+    represents = represents z words words keep w w side m (steady_at mv may w e) who mine (side_after w t who mv) (record k { side = x })
         m.sized m.counter m.cells m.controls m.rows
         (kept_stays z words words w w (steady_at mv may w e) t (side_after w t who mv) who k x k.control k.raw_rows k.raw refl refl (λ i o. o) (λ q i. refl) h.raw_rows h.raw same
         (quiet z words words w w (steady_at mv may w e) t who k x h calm ends refl (λ d f q. q)) h)

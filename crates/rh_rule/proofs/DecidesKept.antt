@@ -20,13 +20,13 @@ use Rattle.rh_descriptor.specs.View.{View}
 use Rattle.rh_descriptor.specs.Words.{number_of, read_control, serial_in, with_entry, without_entry}
 use Rattle.rh_descriptor.specs.Steps.{CanDecide, IsResult, control_read, control_seen, decided_so, row_word, swapped}
 use Rattle.rh_rule.specs.Erased.{erased}
-use Rattle.rh_rule.specs.Mirrors.{Controls, Kept, Mirrors, word_at}
+use Rattle.rh_rule.specs.Represents.{Controls, Kept, Represents, word_at}
 use Rattle.rh_rule.specs.Core.{Core}
 use Rattle.rh_rule.proofs.CellsKept.{rule_at, steady_at}
 use Rattle.rh_rule.proofs.Deciders.{set_decided, set_failed, set_number, set_state, told_number}
 use Rattle.rh_rule.proofs.Erasing.{erased_control, in_mismatch}
 use Rattle.rh_rule.proofs.Frames.{word_new, word_same}
-use Rattle.rh_rule.proofs.Kept.{Meets, kept_stays, mirrors}
+use Rattle.rh_rule.proofs.Kept.{Meets, kept_stays, represents}
 use Rattle.rh_rule.proofs.ReadsKept.{control_word, grows_control, in_control, keeps_read, known_note, meets_seen, newest_word, older_gone, opened_known, true_decided}
 use Rattle.rh_rule.proofs.Said.{HasState, control_said_is, is_undecided, serial_said_is, undecided_test}
 use Rattle.rh_rule.proofs.Touched.{cells_same, counter_same, descs_same, marks_same, marks_stay, others_stay, own_same, placed_same, raw_row_same, raw_same, rows_same, serial_same, set_sized}
@@ -71,7 +71,7 @@ decided_closed (failed e by) h = refl
 opened_decided : (k : Control) → IsDecided k → IsOpened k
 opened_decided k h e = subst IsDecided e h
 
-module _ (z : Shape) (shape : IsShape z) (words : List ℕ) (keep : ℕ → View) (w : World) (side : ℕ → Side) (rule : Rule w side) (m : Mirrors z words keep w side) (who : ℕ) (mine : who < z.workers) (d : Ref) (r : Control) (can : CanDecide z (keep who) d r) where
+module _ (z : Shape) (shape : IsShape z) (words : List ℕ) (keep : ℕ → View) (w : World) (side : ℕ → Side) (rule : Rule w side) (m : Represents z words keep w side) (who : ℕ) (mine : who < z.workers) (d : Ref) (r : Control) (can : CanDecide z (keep who) d r) where
   abbrev k : View
   k = keep who
 
@@ -264,7 +264,7 @@ module _ (z : Shape) (shape : IsShape z) (words : List ℕ) (keep : ℕ → View
         (subst (λ (y : World). Core y z then (updated keep who (record k { side = x; control = control_seen k d num }))) (sym same) record {
           side = updated side who s;
           rule = rule_at z shape words keep w side rule m who mine (decides d set_to) may v same;
-          mirrors = mirrors z words then keep w v side m l who mine s (record k { side = x; control = control_seen k d num })
+          represents = represents z words then keep w v side m l who mine s (record k { side = x; control = control_seen k d num })
               (set_sized z words keep w side m p can.desc.0 num v l)
               (counter_same z words keep w side m p can.desc.0 num v l (λ q. cc) only.counter)
               (cells_same z words keep w side m p can.desc.0 num v l (λ c q. cc) (λ c. ap (λ (f : ℕ → Cell). f c) only.cell))

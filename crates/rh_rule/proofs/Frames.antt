@@ -6,7 +6,7 @@ use Rattle.rh_descriptor.specs.declared.shape.Part.{Part}
 use Rattle.rh_descriptor.specs.declared.shape.Part.TheVariants as part
 use Rattle.rh_descriptor.specs.Parts.{IsPart, cell_count, entry_row, mark_row, note_row, index_of, row_count, row_index, word_count}
 use Rattle.rh_descriptor.proofs.IndexLemmas.{entry_inside, same_part}
-use Rattle.rh_rule.specs.Mirrors.{word_at}
+use Rattle.rh_rule.specs.Represents.{word_at}
 
 module _ (z : Shape) where
   row_within : (worker row : ℕ) → worker < z.workers → row < row_count z → row_index z worker row < word_count z

@@ -1,4 +1,4 @@
--- What stays of a mirror, and how a new one is put together.
+-- What stays of a representation, and how a new one is put together.
 use Rattle.std.proofs.Common.{suc, ◌≡◌, ◌≢◌, ℕ, ◌<◌, ◌≤◌, ◌⊎◌, List, length, sym, ap, ◌∙◌, subst, inl, inr, ⊎_elim, arith, Some}
 use Rattle.rh_world.specs.World.{Control, In, IsOpened, IsUsed, Ref, World, updated}
 use Rattle.rh_world.specs.World.Cell.{mark}
@@ -18,7 +18,7 @@ use Rattle.rh_descriptor.specs.View.MarkWord.{desc_word, entry_word}
 use Rattle.rh_descriptor.specs.Words.{desc_number, number_of}
 use Rattle.rh_descriptor.specs.Steps.{IsDesc, IsMark}
 use Rattle.rh_rule.specs.Erased.{erased}
-use Rattle.rh_rule.specs.Mirrors.{Cells, Controls, DescRow, HasEntries, HasItsRow, IsOwn, IsRaw, IsRawRow, IsRowSaid, IsSaid, Kept, MarkRow, RowWords, Stands, word_at, Mirrors}
+use Rattle.rh_rule.specs.Represents.{Cells, Controls, DescRow, HasEntries, HasItsRow, IsOwn, IsRaw, IsRawRow, IsRowSaid, IsSaid, Kept, MarkRow, RowWords, Stands, word_at, Represents}
 
 -- an opened descriptor that has its row after a step had it before, and the row says the same
 pub record DescStays (z : Shape) (words then : List ℕ) (d : Ref) : Type 0 where
@@ -189,13 +189,13 @@ module _ (z : Shape) (words then : List ℕ) (w v : World) (l : Steady w v) wher
     failures = λ d e f. q.notes (decided d (failed 0 u)) (h.failures d e (fails d e f));
   }
 
--- the parts of a new mirror
-module _ (z : Shape) (words then : List ℕ) (keep : ℕ → View) (w v : World) (side : ℕ → Side) (m : Mirrors z words keep w side) (l : Steady w v) (who : ℕ) (mine : who < z.workers) (s : Side) (k : View) where
-  pub mirrors : length then ≡ word_count z → word_at z then part.Counter ≡ v.counter → Cells z then v
+-- the parts of a new representation
+module _ (z : Shape) (words then : List ℕ) (keep : ℕ → View) (w v : World) (side : ℕ → Side) (m : Represents z words keep w side) (l : Steady w v) (who : ℕ) (mine : who < z.workers) (s : Side) (k : View) where
+  pub represents : length then ≡ word_count z → word_at z then part.Counter ≡ v.counter → Cells z then v
       → Controls z then v → RowWords z then v → Kept z then v s who k
       → ((u : ℕ) → u < z.workers → u ≢ who → Kept z then v (side u) u (keep u))
-      → Mirrors z then (updated keep who k) v (updated side who s)
-  mirrors sized counter cells controls rows own others = record {
+      → Represents z then (updated keep who k) v (updated side who s)
+  represents sized counter cells controls rows own others = record {
     sized = sized;
     workers = l.workers ∙ m.workers;
     keys = l.keys ∙ m.keys;

@@ -1,12 +1,12 @@
--- The words and the world of rh_world meet here: `Mirrors` says where each part of a world stands in the words and in
--- what is kept of the workers, and nothing else names a place. There is a file for each kind of step: the world after it
--- is that of rh_world, and the words after it mirror that world. The mirror says something of a row only while the row
+-- The words and the world of rh_world meet here: `Represents` says where each part of a world stands in the words and in
+-- what is kept of the workers, and nothing else names an index. There is a file for each kind of step: the world after it
+-- is that of rh_world, and the words after it represent that world. The representation says something of a row only while the row
 -- is of that descriptor or mark; so each of these files has the step first for a row that stands, and then for one that
 -- has gone on.
 -- Said: what the words of a table say, and what a swap finds in them.
 -- Frames: a word that is set leaves the other parts of the table.
--- Kept: what stays of a mirror, and how a new one is put together.
--- Touched: a step that sets the word of one part, and what stays of the mirror then.
+-- Kept: what stays of a representation, and how a new one is put together.
+-- Touched: a step that sets the word of one part, and what stays of the representation then.
 -- Erasing: the notes are the same in words and world without the numbers of acts and the entries of failures.
 -- Deciders: a control without the entry at which it failed, as its word tells it.
 -- ReadsKept: Reads, which change no word.

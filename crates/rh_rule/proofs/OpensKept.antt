@@ -19,14 +19,14 @@ use Rattle.rh_descriptor.specs.View.{OwnDesc, View, Written}
 use Rattle.rh_descriptor.specs.Words.{IsPlain, number_of, without_entry}
 use Rattle.rh_descriptor.specs.Steps.{AreEntries, CanOpen, IsDesc, Step, entries_at, entries_of, entry_of, next_entries, noted, open_noted, own_desc, row_of, row_word, swapped}
 use Rattle.rh_rule.specs.Erased.{erased}
-use Rattle.rh_rule.specs.Mirrors.{Controls, DescRow, HasEntries, HasItsRow, IsOpenedSo, IsOwn, Kept, numbers_of, word_at, Mirrors}
+use Rattle.rh_rule.specs.Represents.{Controls, DescRow, HasEntries, HasItsRow, IsOpenedSo, IsOwn, Kept, numbers_of, word_at, Represents}
 use Rattle.rh_rule.specs.Core.{Core}
 use Rattle.rh_rule.proofs.CellsKept.{rule_at, steady_at}
 use Rattle.rh_rule.proofs.Deciders.{told_number}
 use Rattle.rh_rule.proofs.Erasing.{erased_entries}
 use Rattle.rh_rule.proofs.Frames.{word_new, word_same}
 use Rattle.rh_rule.proofs.ReadsKept.{newest_word, true_decided, unused_or}
-use Rattle.rh_rule.proofs.Kept.{desc_row_stays, entries_stay, mark_row_stays, mirrors}
+use Rattle.rh_rule.proofs.Kept.{desc_row_stays, entries_stay, mark_row_stays, represents}
 use Rattle.rh_rule.proofs.Touched.{cells_same, counter_same, descs_same, marks_same, others_stay, own_same, placed_same, raw_row_same, raw_same, set_sized}
 
 -- the entries that the rows say
@@ -68,7 +68,7 @@ no_decided : (s : Side) (d : Ref) (p : Entries) (n : ℕ) (f : Ref) (r : Control
 no_decided s d p zero f r i = ⊎_elim (λ e. cc) (λ j. ⊎_elim (λ e. cc) (λ j. j) j) i
 no_decided s d p (suc n) f r i = ⊎_elim (λ e. cc) (λ j. ⊎_elim (λ e. cc) (λ j. ⊎_elim (λ e. cc) (λ j. no_decided s d p n f r j) j) j) i
 
-module _ (z : Shape) (shape : IsShape z) (words : List ℕ) (keep : ℕ → View) (w : World) (side : ℕ → Side) (rule : Rule w side) (m : Mirrors z words keep w side) (who : ℕ) (mine : who < z.workers) (size : ℕ) (can : CanOpen z (keep who) size) where
+module _ (z : Shape) (shape : IsShape z) (words : List ℕ) (keep : ℕ → View) (w : World) (side : ℕ → Side) (rule : Rule w side) (m : Represents z words keep w side) (who : ℕ) (mine : who < z.workers) (size : ℕ) (can : CanOpen z (keep who) size) where
   abbrev k : View
   k = keep who
 
@@ -319,7 +319,7 @@ module _ (z : Shape) (shape : IsShape z) (words : List ℕ) (keep : ℕ → View
   opens_to = record {
     side = updated side who s;
     rule = rule_at z shape words keep w side rule m who mine (opens es_of) may v refl;
-    mirrors = mirrors z words then keep w v side m l who mine s k'
+    represents = represents z words then keep w v side m l who mine s k'
         (set_sized z words keep w side m p mine (number_of (w.next_number who) undecided) v l)
         (counter_same z words keep w side m p mine (number_of (w.next_number who) undecided) v l (λ q. cc) refl)
         (cells_same z words keep w side m p mine (number_of (w.next_number who) undecided) v l (λ c q. cc) (λ c. refl))

@@ -18,12 +18,12 @@ use Rattle.rh_descriptor.specs.View.{View}
 use Rattle.rh_descriptor.specs.Words.{IsPlain, cell_in, desc_number, mark_number}
 use Rattle.rh_descriptor.specs.Steps.{CanPlace, IsMark, Step, noted, own_mark, swapped}
 use Rattle.rh_rule.specs.Erased.{erased}
-use Rattle.rh_rule.specs.Mirrors.{IsCell, Kept, MarkRow, Stands, Mirrors}
+use Rattle.rh_rule.specs.Represents.{IsCell, Kept, MarkRow, Stands, Represents}
 use Rattle.rh_rule.specs.Core.{Core}
 use Rattle.rh_rule.proofs.Frames.{word_same}
 use Rattle.rh_rule.proofs.CellsKept.{cell_found, cells_new, rule_at, steady_at, still_step}
 use Rattle.rh_rule.proofs.Erasing.{erased_place}
-use Rattle.rh_rule.proofs.Kept.{Grows, Over, Quiet, desc_row_stays, entries_stay, mark_row_stays, mirrors, over_grows}
+use Rattle.rh_rule.proofs.Kept.{Grows, Over, Quiet, desc_row_stays, entries_stay, mark_row_stays, represents, over_grows}
 use Rattle.rh_rule.proofs.ReadsKept.{grows_note, known_note, true_note, work_known}
 use Rattle.rh_rule.proofs.Said.{plain_test}
 use Rattle.rh_rule.proofs.Touched.{controls_same, counter_same, descs_same, mark_word_same, marks_same, others_stay, own_same, quiet_same, raw_row_same, raw_same, set_sized}
@@ -61,7 +61,7 @@ quiet_index s x d e c old (desc f) = either (is_ref f d)
     either true = quiet_note s (held d e) (λ g r q. cc)
     either false = quiet_note s (known f) (λ g r q. cc)
 
-module _ (z : Shape) (shape : IsShape z) (words : List ℕ) (keep : ℕ → View) (w : World) (side : ℕ → Side) (rule : Rule w side) (m : Mirrors z words keep w side) (who : ℕ) (mine : who < z.workers) (d : Ref) (e : ℕ) (can : CanPlace z (keep who) d e (w.target d e) (w.old d e)) where
+module _ (z : Shape) (shape : IsShape z) (words : List ℕ) (keep : ℕ → View) (w : World) (side : ℕ → Side) (rule : Rule w side) (m : Represents z words keep w side) (who : ℕ) (mine : who < z.workers) (d : Ref) (e : ℕ) (can : CanPlace z (keep who) d e (w.target d e) (w.old d e)) where
   abbrev k : View
   k = keep who
 
@@ -150,7 +150,7 @@ module _ (z : Shape) (shape : IsShape z) (words : List ℕ) (keep : ℕ → View
       subst (λ (y : World). Core y z then (updated keep who k')) (sym same) record {
         side = updated side who s;
         rule = rule_at z shape words keep w side rule m who mine (places d e) may v same;
-        mirrors = mirrors z words then keep w v side m l who mine s k'
+        represents = represents z words then keep w v side m l who mine s k'
             (set_sized z words keep w side m p can.cell n v l)
             (counter_same z words keep w side m p can.cell n v l (λ q. cc) refl)
             (cells_new z shape words keep w side rule m who mine c (mark x) v can.cell is_mark (λ j. refl))
@@ -206,7 +206,7 @@ module _ (z : Shape) (shape : IsShape z) (words : List ℕ) (keep : ℕ → View
       either true same_word = subst (λ (y : Ref). Core (world_after w who (places d e)) z (set words c (mark_number y)) (updated keep who (record k { side = place_noted k.side (own_mark k) d e c old (cell_in word) 0; marks_used = suc k.marks_used }))) (sym own_mark_is) (placed same_word)
       either false not = still_step z shape words keep w side rule m who mine (places d e) may c (ap (λ (b : Bool). cond b v w) not) (place_noted k.side (own_mark k) d e c old (cell_in word) 0) side_is over calm
 
-module _ (z : Shape) (shape : IsShape z) (words : List ℕ) (keep : ℕ → View) (w : World) (side : ℕ → Side) (rule : Rule w side) (m : Mirrors z words keep w side) (who : ℕ) (mine : who < z.workers) where
+module _ (z : Shape) (shape : IsShape z) (words : List ℕ) (keep : ℕ → View) (w : World) (side : ℕ → Side) (rule : Rule w side) (m : Represents z words keep w side) (who : ℕ) (mine : who < z.workers) where
   pub keeps_place : (d : Ref) (e c old : ℕ) → CanPlace z (keep who) d e c old
       → Core (world_after w who (places d e)) z (set words c (swapped old (mark_number (own_mark (keep who))) (get_or words c 0))) (updated keep who (noted z (keep who) (Step.places d e c old) (get_or words c 0)))
   keeps_place d e c old can =

@@ -25,11 +25,11 @@ use Rattle.rh_descriptor.specs.View.MarkWord.{desc_word, entry_word}
 use Rattle.rh_descriptor.specs.Words.{cell_in, desc_in, number_of, read_control, ref_of, serial_in, without_entry}
 use Rattle.rh_descriptor.specs.Steps.{IsKnown, IsNoted, IsRead, KnowsMark, WasOpened, control_seen, desc_row_said, desc_said, gone_noted, is_known, is_newest, mark_said, index_read, read_noted, read_view, row_said, rows_said, tells_opened}
 use Rattle.rh_rule.specs.Erased.{erased}
-use Rattle.rh_rule.specs.Mirrors.{HasItsRow, IsRaw, IsRawRow, IsRowSaid, IsSaid, Kept, Stands, word_at, Mirrors}
+use Rattle.rh_rule.specs.Represents.{HasItsRow, IsRaw, IsRawRow, IsRowSaid, IsSaid, Kept, Stands, word_at, Represents}
 use Rattle.rh_rule.specs.Core.{Core}
 use Rattle.rh_rule.proofs.Deciders.{told_decided, told_failed, told_number}
 use Rattle.rh_rule.proofs.Erasing.{IsWhole, erased_all, erased_cell, erased_control, erased_mark, in_decided, in_whole}
-use Rattle.rh_rule.proofs.Kept.{Grows, Meets, Quiet, kept_stays, mirrors, over_grows, quiet}
+use Rattle.rh_rule.proofs.Kept.{Grows, Meets, Quiet, kept_stays, represents, over_grows, quiet}
 use Rattle.rh_rule.proofs.Said.{HasState, cell_said_is, control_said_is, desc_said_is, serial_said_is}
 
 -- ---- Sides that grow
@@ -151,7 +151,7 @@ in_append n (m ∷ l) r i = ⊎_elim (λ e. inl (inl e)) (λ j. ⊎_elim (λ o. 
 
 -- ---- the steps
 
-module _ (z : Shape) (shape : IsShape z) (words : List ℕ) (keep : ℕ → View) (w : World) (side : ℕ → Side) (rule : Rule w side) (m : Mirrors z words keep w side) (who : ℕ) (mine : who < z.workers) where
+module _ (z : Shape) (shape : IsShape z) (words : List ℕ) (keep : ℕ → View) (w : World) (side : ℕ → Side) (rule : Rule w side) (m : Represents z words keep w side) (who : ℕ) (mine : who < z.workers) where
   abbrev pub k : View
   k = keep who
 
@@ -204,7 +204,7 @@ module _ (z : Shape) (shape : IsShape z) (words : List ℕ) (keep : ℕ → View
   side_keeps s x c rows rs r is meets raw_rows raw = record {
     side = updated side who s;
     rule = r;
-    mirrors = mirrors z words words keep w w side m (steady_same w) who mine s (record k { side = x; control = c; raw_rows = rows; raw = rs })
+    represents = represents z words words keep w w side m (steady_same w) who mine s (record k { side = x; control = c; raw_rows = rows; raw = rs })
         m.sized m.counter m.cells m.controls m.rows
         (kept_stays z words words w w (steady_same w) t s who k x c rows rs refl refl (λ n o. o) (λ q i. refl) raw_rows raw is meets h)
         (λ u lt ne. m.kept u lt);

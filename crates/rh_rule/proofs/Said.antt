@@ -17,7 +17,7 @@ use Rattle.rh_descriptor.specs.declared.shape.Shape.{Shape}
 use Rattle.rh_descriptor.specs.Parts.{IsShape}
 use Rattle.rh_descriptor.specs.Words.{IsPlain, cell_in, cell_said, control_of, control_said, desc_in, desc_number, mark_number, number_of, read_control, ref_said, serial_in, state_of, without_entry}
 use Rattle.rh_descriptor.specs.Steps.{IsDesc, IsMark}
-use Rattle.rh_rule.specs.Mirrors.{IsCell, cell_number}
+use Rattle.rh_rule.specs.Represents.{IsCell, cell_number}
 
 -- ---- cells
 

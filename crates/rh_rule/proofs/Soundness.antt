@@ -18,7 +18,7 @@ use Rattle.rh_descriptor.specs.View.{OwnDesc, View}
 use Rattle.rh_descriptor.specs.View.MarkWord.{desc_word}
 use Rattle.rh_descriptor.specs.Words.{cell_in, desc_in, read_control, ref_of, serial_in, without_entry}
 use Rattle.rh_descriptor.specs.Steps.{IsDesc, IsKnown, IsNoted, IsRead, IsStep, Step, index, index_read, row_of, row_word}
-use Rattle.rh_rule.specs.Mirrors.{DescRow, HasItsRow, IsCell, IsOpenedSo, IsOwn, Kept, Mirrors, numbers_of, word_at}
+use Rattle.rh_rule.specs.Represents.{DescRow, HasItsRow, IsCell, IsOpenedSo, IsOwn, Kept, Represents, numbers_of, word_at}
 use Rattle.rh_rule.specs.Sound.{ControlTells, Finds, IsControlWord, OwnRow, Reads, Sound, StepsFind, ViewsAreSound}
 use Rattle.rh_rule.proofs.Deciders.{told_failed, told_undecided, told_unused, told_withdrawn}
 use Rattle.rh_rule.proofs.OpensKept.{word_is}
@@ -29,7 +29,7 @@ number_in : (os : List OwnDesc) (n : ℕ) → In n (numbers_of os) → (o : OwnD
 number_in [] n h = absurd h
 number_in (o ∷ os) n h = ⊎_elim (λ (e : n ≡ o.number). (o, inl refl, sym e)) (λ i. let r = number_in os n i in (r.0, inr r.1, r.2)) h
 
-module _ (z : Shape) (shape : IsShape z) (words : List ℕ) (keep : ℕ → View) (w : World) (side : ℕ → Side) (rule : Rule w side) (m : Mirrors z words keep w side) (who : ℕ) (mine : who < z.workers) where
+module _ (z : Shape) (shape : IsShape z) (words : List ℕ) (keep : ℕ → View) (w : World) (side : ℕ → Side) (rule : Rule w side) (m : Represents z words keep w side) (who : ℕ) (mine : who < z.workers) where
   abbrev v : View
   v = keep who
 
@@ -200,7 +200,7 @@ module _ (z : Shape) (shape : IsShape z) (words : List ℕ) (keep : ℕ → View
       omega arith
 
 pub views_are_sound : ViewsAreSound
-views_are_sound w z words keep v shape core mine = sound z shape words keep w core.side core.rule core.mirrors v mine
+views_are_sound w z words keep v shape core mine = sound z shape words keep w core.side core.rule core.represents v mine
 
 pub steps_find : StepsFind
-steps_find w z words keep v s shape core mine may = finds z shape words keep w core.side core.rule core.mirrors v mine s may.step
+steps_find w z words keep v s shape core mine may = finds z shape words keep w core.side core.rule core.represents v mine s may.step

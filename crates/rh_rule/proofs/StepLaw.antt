@@ -18,16 +18,16 @@ step_keeps : (w : World) (z : Shape) (words : List ℕ) (keep : ℕ → View) (w
     → who < z.workers → IsStep z (keep who) s
     → Core (world_then z w who (keep who) s) z (set words (index z (keep who) s) (word_after (keep who) s (get_or words (index z (keep who) s) 0)))
     (updated keep who (noted z (keep who) s (get_or words (index z (keep who) s) 0)))
-step_keeps w z words keep who (Step.writes p u) shape core mine may = keeps_write z shape words keep w core.side core.rule core.mirrors who mine p u may
-step_keeps w z words keep who (Step.opens size) shape core mine may = keeps_open z shape words keep w core.side core.rule core.mirrors who mine size may
+step_keeps w z words keep who (Step.writes p u) shape core mine may = keeps_write z shape words keep w core.side core.rule core.represents who mine p u may
+step_keeps w z words keep who (Step.opens size) shape core mine may = keeps_open z shape words keep w core.side core.rule core.represents who mine size may
 step_keeps w z words keep who (Step.reads r) shape core mine may =
     subst (λ (ws : List ℕ). Core w z ws (updated keep who (read_view (keep who) r (get_or words (index_read z r) 0)))) (sym (set-get_or words (index_read z r) 0))
-    (keeps_read z shape words keep w core.side core.rule core.mirrors who mine r may.0 may.1 (get_or words (index_read z r) 0) refl)
-step_keeps w z words keep who (Step.places d e c old) shape core mine may = keeps_place z shape words keep w core.side core.rule core.mirrors who mine d e c old may
-step_keeps w z words keep who (Step.settles x c d e old) shape core mine may = keeps_settle z shape words keep w core.side core.rule core.mirrors who mine x c d e old may
-step_keeps w z words keep who (Step.decides d k) shape core mine may = keeps_decide z shape words keep w core.side core.rule core.mirrors who mine d k may
-step_keeps w z words keep who (Step.releases d e c k value) shape core mine may = keeps_release z shape words keep w core.side core.rule core.mirrors who mine d e c k value may
-step_keeps w z words keep who Step.claims shape core mine may = keeps_claim z shape words keep w core.side core.rule core.mirrors who mine may
+    (keeps_read z shape words keep w core.side core.rule core.represents who mine r may.0 may.1 (get_or words (index_read z r) 0) refl)
+step_keeps w z words keep who (Step.places d e c old) shape core mine may = keeps_place z shape words keep w core.side core.rule core.represents who mine d e c old may
+step_keeps w z words keep who (Step.settles x c d e old) shape core mine may = keeps_settle z shape words keep w core.side core.rule core.represents who mine x c d e old may
+step_keeps w z words keep who (Step.decides d k) shape core mine may = keeps_decide z shape words keep w core.side core.rule core.represents who mine d k may
+step_keeps w z words keep who (Step.releases d e c k value) shape core mine may = keeps_release z shape words keep w core.side core.rule core.represents who mine d e c k value may
+step_keeps w z words keep who Step.claims shape core mine may = keeps_claim z shape words keep w core.side core.rule core.represents who mine may
 
 pub each_step_keeps : EachStepKeeps
 each_step_keeps w z words then keep who s word next shape core mine may to =

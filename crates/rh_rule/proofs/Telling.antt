@@ -15,7 +15,7 @@ use Rattle.rh_world.proofs.Updated.{updated_ref_here}
 use Rattle.rh_descriptor.specs.declared.shape.Shape.{Shape}
 use Rattle.rh_descriptor.specs.View.{OwnDesc, View}
 use Rattle.rh_descriptor.specs.Words.{without_entry}
-use Rattle.rh_rule.specs.Mirrors.{IsCell, cell_number, numbers_of}
+use Rattle.rh_rule.specs.Represents.{IsCell, cell_number, numbers_of}
 use Rattle.rh_rule.specs.Core.{Core}
 use Rattle.rh_rule.specs.Rest.{Rests, Tells, Told, is_noted_success, says_success}
 use Rattle.rh_rule.proofs.Deciders.{told_success}
@@ -24,7 +24,7 @@ use Rattle.rh_rule.proofs.WipesKept.{all_rest}
 
 told : (w : World) (z : Shape) (words : List ℕ) (keep : ℕ → View) (core : Core w z words keep) → Told w z keep core.side
 told w z words keep core =
-    let m = core.mirrors in
+    let m = core.represents in
     let order = one_order w core.side core.rule in
     record {
       order = order;
@@ -121,7 +121,7 @@ filtered f g (o ∷ os) same =
 
 pub rests : Rests
 rests w z words keep core rest =
-    let m = core.mirrors in
+    let m = core.represents in
     let settled = rest_is_settled w core.side core.rule (all_rest w z words keep core rest) in
     let t = told w z words keep core in
     record {

@@ -1,4 +1,4 @@
--- A step that sets the word of one part: what stays of the mirror.
+-- A step that sets the word of one part: what stays of the representation.
 use Rattle.std.proofs.Common.{zero, suc, ◌≡◌, ◌≢◌, ℕ, ◌<◌, ◌≤◌, arith, List, length, set, refl, sym, ap, ◌∙◌, subst, length-set}
 use Rattle.rh_world.specs.World.{Cell, IsOpened, IsUsed, Ref, World}
 use Rattle.rh_world.specs.World.Cell.{mark}
@@ -11,7 +11,7 @@ use Rattle.rh_descriptor.specs.declared.shape.Part.TheVariants as part
 use Rattle.rh_descriptor.specs.Parts.{IsPart, cell_count, index_of, word_count}
 use Rattle.rh_descriptor.specs.View.{Raw, RawRow, View}
 use Rattle.rh_descriptor.specs.Words.{number_of}
-use Rattle.rh_rule.specs.Mirrors.{Cells, Controls, IsCell, IsOwn, IsRaw, IsRawRow, Kept, RowWords, Stands, cell_number, word_at, Mirrors}
+use Rattle.rh_rule.specs.Represents.{Cells, Controls, IsCell, IsOwn, IsRaw, IsRawRow, Kept, RowWords, Stands, cell_number, word_at, Represents}
 use Rattle.rh_rule.proofs.Frames.{word_same}
 use Rattle.rh_rule.proofs.Kept.{DescsStay, MarksStay, Meets, Over, Quiet, kept_stays, quiet, raw_row_stays, raw_stays, rows_stay}
 
@@ -64,7 +64,7 @@ pub marks_stay : (room : ℕ) (w v : World) → Steady w v → (u : ℕ) → roo
 marks_stay zero w v l u h = omega arith
 marks_stay (suc last) w v l u h = (let used : last < v.marks_used u = l.marks record { worker = u; number = last } (omega arith) in omega arith)
 
-module _ (z : Shape) (words : List ℕ) (keep : ℕ → View) (w : World) (side : ℕ → Side) (m : Mirrors z words keep w side) (p : Part) (here : IsPart z p) (n : ℕ) (v : World) (l : Steady w v) where
+module _ (z : Shape) (words : List ℕ) (keep : ℕ → View) (w : World) (side : ℕ → Side) (m : Represents z words keep w side) (p : Part) (here : IsPart z p) (n : ℕ) (v : World) (l : Steady w v) where
   abbrev pub then : List ℕ
   then = set words (index_of z p) n
 

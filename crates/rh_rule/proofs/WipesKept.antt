@@ -18,7 +18,7 @@ use Rattle.rh_descriptor.specs.View.{View, Wiping, new_view, round_view}
 use Rattle.rh_descriptor.specs.Words.{IsPlain}
 use Rattle.rh_descriptor.specs.Steps.{row_of}
 use Rattle.rh_descriptor.proofs.IndexLemmas.{entry_inside}
-use Rattle.rh_rule.specs.Mirrors.{IsCell, IsOwn, Kept, cell_number, word_at}
+use Rattle.rh_rule.specs.Represents.{IsCell, IsOwn, Kept, cell_number, word_at}
 use Rattle.rh_rule.specs.Core.{Core, Ruled}
 use Rattle.rh_rule.specs.Rest.{AllRest}
 use Rattle.rh_rule.specs.Wipes.{AreWiping, Rules, ShareOut, TableStarts, WipeBegins, WipeEnds, WipeStores, Wiped, row_total, wiping_view}
@@ -68,7 +68,7 @@ fresh z words opening keep before sized cells plain_cells zeros s workers is =
         side = side;
         rule = opening_meets z.workers z.keys counter (λ c. get_or opening c 0) s.claims
             (claims_stay (opening_world z.workers z.keys counter (λ c. 0)) w side side record { counter = refl; keys = refl; workers = refl } (λ u. refl) s.share);
-        mirrors = record {
+        represents = record {
           sized = sized;
           workers = refl;
           keys = refl;
@@ -127,12 +127,12 @@ cleared_of (Some w) = w.cleared
 
 pub all_rest : (w : World) (z : Shape) (words : List ℕ) (keep : ℕ → View) (core : Core w z words keep) → AllRest z keep → AllAtRest core.side
 all_rest w z words keep core rest v = elim (dec_lt v z.workers) [
-  | yes lt ↦ (let k = core.mirrors.kept v lt in let r = rest.rest v lt in record {
+  | yes lt ↦ (let k = core.represents.kept v lt in let r = rest.rest v lt in record {
     closed = ap (λ (s : Side). s.current) (sym k.side_is) ∙ r.closed;
     settled = ap (λ (s : Side). s.unsettled) (sym k.side_is) ∙ r.settled;
     paid = ap (λ (s : Side). s.debts) (sym k.side_is) ∙ r.paid;
   })
-  | no ge ↦ subst AtRest (sym (core.mirrors.beyond v (omega arith))) record { closed = refl; settled = refl; paid = refl }
+  | no ge ↦ subst AtRest (sym (core.represents.beyond v (omega arith))) record { closed = refl; settled = refl; paid = refl }
 ]
 
 module _ (z : Shape) (words cells : List ℕ) (keep : ℕ → View) (some_one : 0 < z.workers) where
@@ -140,7 +140,7 @@ module _ (z : Shape) (words cells : List ℕ) (keep : ℕ → View) (some_one : 
   only_wiped : (n : ℕ) → AreWiping z keep cells n → Rules z words keep
       → (w : Wiped z words keep) × (w.cells ≡ cells) × (w.cleared ≡ n)
   only_wiped n wiping rules = ⊎_elim
-      (λ (c : Ruled z words keep). let bad : Some (record { cells = cells; cleared = n }) ≡ None = sym (wiping 0 some_one) ∙ (c.1.mirrors.kept 0 some_one).still in cc)
+      (λ (c : Ruled z words keep). let bad : Some (record { cells = cells; cleared = n }) ≡ None = sym (wiping 0 some_one) ∙ (c.1.represents.kept 0 some_one).still in cc)
       (λ (w : Wiped z words keep).
       let same : Some (record { cells = w.cells; cleared = w.cleared }) ≡ Some (record { cells = cells; cleared = n }) = sym (w.wiping 0 some_one) ∙ wiping 0 some_one in
       (w, ap cells_of same, ap cleared_of same)) rules
@@ -158,7 +158,7 @@ module _ (z : Shape) (words cells : List ℕ) (keep : ℕ → View) (some_one : 
   begins : (w : World) → AllRest z keep → Core w z words keep → ((c : ℕ) → c < cell_count z → get_or words c 0 ≡ get_or cells c 0)
       → Wiped z words (λ v. wiping_view cells 0 (keep v))
   begins w rest core same =
-      let m = core.mirrors in
+      let m = core.represents in
       let settled = rest_is_settled w core.side core.rule (all_rest w z words keep core rest) in
       record {
         cells = cells;

@@ -20,11 +20,11 @@ use Rattle.rh_descriptor.specs.Parts.{IsPart, IsShape, cell_count, index_of, row
 use Rattle.rh_descriptor.specs.View.{View}
 use Rattle.rh_descriptor.specs.Steps.{CanClaim, IsFree, Step, noted, row_of, row_word, word_after}
 use Rattle.rh_descriptor.proofs.IndexLemmas.{same_part}
-use Rattle.rh_rule.specs.Mirrors.{Controls, HasItsRow, IsOwn, Kept, Stands, word_at, Mirrors}
+use Rattle.rh_rule.specs.Represents.{Controls, HasItsRow, IsOwn, Kept, Stands, word_at, Represents}
 use Rattle.rh_rule.specs.Core.{Core}
 use Rattle.rh_rule.proofs.Erasing.{in_mismatch}
 use Rattle.rh_rule.proofs.Frames.{word_new, word_same}
-use Rattle.rh_rule.proofs.Kept.{DescsStay, MarksStay, kept_stays, mirrors, raw_row_stays, raw_stays}
+use Rattle.rh_rule.proofs.Kept.{DescsStay, MarksStay, kept_stays, represents, raw_row_stays, raw_stays}
 use Rattle.rh_rule.proofs.ReadsKept.{rule_none}
 use Rattle.rh_rule.proofs.Touched.{IsOfDesc, IsOfMark, cells_same, controls_same, counter_same, descs_same, marks_same, others_stay, own_part, own_same, placed_same, quiet_same, raw_row_same, raw_same, rows_same, serial_same, set_sized}
 
@@ -131,7 +131,7 @@ free_settled z v (part.MarkEntry worker) u f o = f.1
 free_settled z v (part.Note worker owner) u f o = absurd o
 free_settled z v part.Counter u f o = absurd o
 
-module _ (z : Shape) (shape : IsShape z) (words : List ℕ) (keep : ℕ → View) (w : World) (side : ℕ → Side) (rule : Rule w side) (m : Mirrors z words keep w side) (who : ℕ) (mine : who < z.workers) where
+module _ (z : Shape) (shape : IsShape z) (words : List ℕ) (keep : ℕ → View) (w : World) (side : ℕ → Side) (rule : Rule w side) (m : Represents z words keep w side) (who : ℕ) (mine : who < z.workers) where
   abbrev own : View
   own = keep who
 
@@ -283,7 +283,7 @@ module _ (z : Shape) (shape : IsShape z) (words : List ℕ) (keep : ℕ → View
     keeps_write = record {
       side = updated side who (side who);
       rule = rule_none z shape words keep w side rule m who mine;
-      mirrors = mirrors z words then keep w w side m l who mine (side who) (noted z own (Step.writes p u) (get_or words (index_of z p) 0))
+      represents = represents z words then keep w w side m l who mine (side who) (noted z own (Step.writes p u) (get_or words (index_of z p) 0))
           (set_sized z words keep w side m p here u w l)
           (counter_same z words keep w side m p here u w l (λ e. subst (λ (x : Part). IsOwn z who x) (sym e) mine_p) refl)
           (cells_same z words keep w side m p here u w l (λ c e. subst (λ (x : Part). IsOwn z who x) (sym e) mine_p) (λ c. refl))
@@ -335,7 +335,7 @@ module _ (z : Shape) (shape : IsShape z) (words : List ℕ) (keep : ℕ → View
           closed = ap (λ (x : Side). x.current) (sym old.side_is) ∙ can.closed;
           keys = λ i h. subst (λ (x : ℕ). i < x) (sym m.keys) (can.keys i (subst (λ (x : Side). In i x.claims) (sym old.side_is) h));
         };
-        mirrors = mirrors z words (set words (index_of z part.Counter) n) keep w v side m l who mine s (noted z own Step.claims found)
+        represents = represents z words (set words (index_of z part.Counter) n) keep w v side m l who mine s (noted z own Step.claims found)
             (set_sized z words keep w side m part.Counter tt n v l)
             (word_new z words part.Counter n tt m.sized ∙ after)
             (cells_same z words keep w side m part.Counter tt n v l (λ c e. cc) (λ c. refl))

@@ -1,4 +1,4 @@
--- The rule of a table between two steps: there is a world that the words and what is kept of the workers mirror, and which
+-- The rule of a table between two steps: there is a world that the words and what is kept of the workers represent, and which
 -- meets the rule of the worlds.
 use Rattle.std.specs.Prelude.{ℕ, ◌<◌, List}
 use Rattle.rh_world.specs.World.{World, updated}
@@ -10,13 +10,13 @@ use Rattle.rh_descriptor.specs.View.{View}
 use Rattle.rh_world.specs.Moves.{world_after}
 use Rattle.rh_world.specs.Moves.Move.{opens, places, settles, decides, releases, claims}
 use Rattle.rh_descriptor.specs.Steps.{Step, Allowed, StepsTo, decided_so, entries_of, is_none, next_entries}
-use Rattle.rh_rule.specs.Mirrors.{Mirrors}
+use Rattle.rh_rule.specs.Represents.{Represents}
 
 -- the table is ruled by this world
 pub record Core (w : World) (z : Shape) (words : List ℕ) (keep : ℕ → View) : Type 0 where
   pub side : ℕ → Side
   pub rule : Rule w side
-  pub mirrors : Mirrors z words keep w side
+  pub represents : Represents z words keep w side
 
 -- it is ruled by some world
 abbrev pub Ruled : Shape → List ℕ → (ℕ → View) → Type 0

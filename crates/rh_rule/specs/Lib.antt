@@ -1,5 +1,5 @@
 pub mod Erased
-pub mod Mirrors
+pub mod Represents
 pub mod Core
 pub mod Sound
 pub mod Rest

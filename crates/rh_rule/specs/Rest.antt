@@ -11,7 +11,7 @@ use Rattle.rh_descriptor.specs.Parts.{cell_count}
 use Rattle.rh_descriptor.specs.View.{OwnDesc, View}
 use Rattle.rh_descriptor.specs.Words.{IsPlain, without_entry}
 use Rattle.rh_rule.specs.Erased.{erased}
-use Rattle.rh_rule.specs.Mirrors.{IsOpenedSo, numbers_of}
+use Rattle.rh_rule.specs.Represents.{IsOpenedSo, numbers_of}
 use Rattle.rh_rule.specs.Core.{Core}
 
 -- The acts of the world stand in one order, and it tells of what is kept: the reads that are kept and the descriptors that

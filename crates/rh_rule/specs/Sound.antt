@@ -15,7 +15,7 @@ use Rattle.rh_descriptor.specs.View.{OwnDesc, View}
 use Rattle.rh_descriptor.specs.View.MarkWord.{desc_word}
 use Rattle.rh_descriptor.specs.Words.{IsPlain, cell_in, desc_in, number_of, read_control, ref_of, serial_in, state_of}
 use Rattle.rh_descriptor.specs.Steps.{Allowed, IsDesc, IsKnown, IsMark, KnowsMark, Step, entry_of, index, row_of, row_word}
-use Rattle.rh_rule.specs.Mirrors.{IsCell, IsOwn}
+use Rattle.rh_rule.specs.Represents.{IsCell, IsOwn}
 use Rattle.rh_rule.specs.Core.{Core}
 
 -- the own row says the entries that are kept of the descriptor that it is of, by what the worker wrote there

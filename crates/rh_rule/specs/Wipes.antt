@@ -10,7 +10,7 @@ use Rattle.rh_descriptor.specs.declared.shape.Part.TheVariants as part
 use Rattle.rh_descriptor.specs.Parts.{IsShape, cell_count, row_count, word_count}
 use Rattle.rh_descriptor.specs.View.{View, new_view, round_view}
 use Rattle.rh_descriptor.specs.Words.{IsPlain}
-use Rattle.rh_rule.specs.Mirrors.{word_at}
+use Rattle.rh_rule.specs.Represents.{word_at}
 use Rattle.rh_rule.specs.Core.{Core, Ruled}
 use Rattle.rh_rule.specs.Rest.{AllRest}
 

@@ -1,5 +1,5 @@
 //! The rule of a shared table, which each step of a worker keeps: its words, and what is kept of its
-//! workers, mirror a world that meets the rule of worlds.
+//! workers, represent a world that meets the rule of worlds.
 #![tactic(auto)]
 
 mod laws;

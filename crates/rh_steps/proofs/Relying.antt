@@ -6,19 +6,20 @@ use Rattle.rh_descriptor.specs.declared.shape.Shape.{Shape}
 use Rattle.rh_descriptor.specs.Parts.{IsShape}
 use Rattle.rh_descriptor.specs.View.{View}
 use Rattle.rh_rule.specs.Core.{Core, world_then}
-use Rattle.rh_rule.specs.Mirrors.{IsOwn, Kept}
+use Rattle.rh_rule.specs.Represents.{IsOwn, Kept}
 use Rattle.rh_rule.proofs.Soundness.{steps_find, views_are_sound}
 use Rattle.rh_rule.proofs.StepLaw.{each_step_keeps}
 use Rattle.rh_steps.specs.Relies.{Shows, Trusts, WorkersRely}
 
 module _ (w : World) (z : Shape) (words : List ℕ) (keep : ℕ → View) (who : ℕ) (shape : IsShape z) (core : Core w z words keep) (mine : who < z.workers) where
   kept : Kept z words w (core.side who) who (keep who)
-  kept = core.mirrors.kept who mine
+  kept = core.represents.kept who mine
 
   pub trusts : Trusts Shows z words (keep who)
   trusts = record {
+    shape = shape;
     knows = record { worker = subst (λ (u : ℕ). u < z.workers) (sym kept.worker) mine; still = kept.still; sound = views_are_sound w z words keep who shape core mine };
-    rows = record { sized = core.mirrors.sized; written = λ q own. kept.written q (subst (λ (u : ℕ). IsOwn z u q) kept.worker own) };
+    rows = record { sized = core.represents.sized; written = λ q own. kept.written q (subst (λ (u : ℕ). IsOwn z u q) kept.worker own) };
   }
 
 pub workers_may_rely : WorkersRely

@@ -1,5 +1,5 @@
 use Rattle.std.proofs.Common.{None, Some, ap, refl, sym, subst, ◌∙◌}
-use Rattle.rh_helping.specs.Met.{state_said}
+use Rattle.rh_helping.specs.CellContent.{state_said}
 use Rattle.rh_descriptor.specs.Words.{ref_of}
 use Rattle.rh_helping.specs.Goal.{opened_by}
 use Rattle.rh_helping.specs.Work.{Begins}

@@ -8,4 +8,4 @@ pub decide-requires-clause-owes : goal.decide-requires-clause-owes
 decide-requires-clause-owes g c = undecided_owes _ _ c.requires.stands.0.at c.requires.stands.0.undecided
 
 pub decide-requires-clause-state : goal.decide-requires-clause-state
-decide-requires-clause-state g c = fail_control _ _ c.requires.shape c.requires.relies.now.knows c.args.task c.requires.stands.0.at.task _ c.args.side.now.same_worker
+decide-requires-clause-state g c = fail_control _ _ c.requires.relies.now.shape c.requires.relies.now.knows c.args.task c.requires.stands.0.at.task _ c.args.side.now.same_worker

@@ -1,5 +1,5 @@
 use Rattle.std.proofs.Common.{None, Some, ap, inl, refl, sym, ◌∙◌}
-use Rattle.rh_helping.specs.Met.{state_said}
+use Rattle.rh_helping.specs.CellContent.{state_said}
 use Rattle.rh_tagword.specs.declared.control.State.TheVariants.{Withdrawn}
 use Rattle.rh_descriptor.specs.declared.reference.Ref.{Ref as Reference}
 use Rattle.rh_descriptor.specs.Words.{ref_of}

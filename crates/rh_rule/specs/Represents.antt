@@ -1,5 +1,5 @@
--- How the words of a table, and what is kept of its workers, mirror a world. Only here does a part of the world have a
--- place.
+-- How the words of a table, and what is kept of its workers, represent a world. Only here does a part of the world have an
+-- index.
 use Rattle.std.specs.Prelude.{suc, ◌≡◌, ℕ, ◌<◌, ◌≤◌, ◌⊎◌, Some, None, List, map, length, slice_index}
 use Rattle.rh_world.specs.World.{Ref, Cell, Control, World, IsOpened, IsUsed, IsFalling, In}
 use Rattle.rh_world.specs.World.Cell.{plain, mark, desc}
@@ -161,8 +161,8 @@ pub record Kept (z : Shape) (words : List ℕ) (w : World) (side : Side) (v : �
   pub over : (o : OwnDesc) → In o k.opened
       → (k.side.current ≡ Some o.number) ⊎ ((r : Control) × In (decided (record { worker = v; number = o.number }) r) k.side.notes)
 
--- the words, and what is kept of the workers, mirror this world and these Sides
-pub record Mirrors (z : Shape) (words : List ℕ) (keep : ℕ → View) (w : World) (side : ℕ → Side) : Type 0 where
+-- the words, and what is kept of the workers, represent this world and these Sides
+pub record Represents (z : Shape) (words : List ℕ) (keep : ℕ → View) (w : World) (side : ℕ → Side) : Type 0 where
   pub sized : length words ≡ word_count z
   pub workers : w.workers ≡ z.workers
   pub keys : w.keys ≡ z.keys

@@ -3,11 +3,11 @@ use Rattle.std.specs.Prelude.{ℕ, ◌==◌, cond, Option, Some, None}
 use Rattle.rh_world.specs.World.{Cell, Control}
 use Rattle.rh_world.specs.World.Cell.{plain, mark, desc}
 use Rattle.rh_descriptor.specs.Words.{read_control, ref_of, serial_in}
-use Rattle.rh_helping.specs.declared.reading.Met.{Met}
-use Rattle.rh_helping.specs.declared.reading.Met.TheVariants as met
+use Rattle.rh_helping.specs.declared.reading.CellContent.{CellContent}
+use Rattle.rh_helping.specs.declared.reading.CellContent.TheVariants as met
 
 -- of this word
-abbrev pub cell_met : Met → (word : ℕ) → Cell
+abbrev pub cell_met : CellContent → (word : ℕ) → Cell
 cell_met met.Value word = plain word
 cell_met (met.Mark x) word = mark (ref_of x)
 cell_met (met.Desc d) word = desc (ref_of d)
