@@ -19,7 +19,7 @@ use Rattle.rh_descriptor.specs.declared.shape.Part.TheVariants as part
 use Rattle.rh_descriptor.specs.Parts.{IsShape, cell_count}
 use Rattle.rh_descriptor.specs.View.{OwnDesc, View, own_ref}
 use Rattle.rh_descriptor.specs.Words.{cell_in, number_of, read_control, serial_in, without_entry}
-use Rattle.rh_rule.specs.Mirrors.{DescRow, HasItsRow, IsCell, Mirrors, word_at}
+use Rattle.rh_rule.specs.Represents.{DescRow, HasItsRow, IsCell, Represents, word_at}
 use Rattle.rh_rule.specs.Core.{Core}
 use Rattle.rh_rule.specs.Rest.{is_noted_success}
 use Rattle.rh_rule.proofs.Deciders.{told_succeeded}
@@ -51,8 +51,8 @@ module _ (w : World) (z : Shape) (words : List ℕ) (keep : ℕ → View) (shape
   abbrev rule : Rule w side
   rule = core.rule
 
-  abbrev m : Mirrors z words keep w side
-  m = core.mirrors
+  abbrev m : Represents z words keep w side
+  m = core.represents
 
   -- ---- notes are true
 

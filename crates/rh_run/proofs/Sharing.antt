@@ -113,7 +113,7 @@ module _ (w : World) (z : Shape) (words : List ℕ) (keep : ℕ → View) (core 
   -- each place was that lies below the counter
   shared_so_far : IsSharedOut (min w.counter z.keys) claims
   shared_so_far =
-      let m = core.mirrors in
+      let m = core.represents in
       let shared = told.shared in
       record {
         all = λ i inside.
@@ -160,15 +160,15 @@ room_same Remove b S list keys same room = tt
 room_same Ask b S list keys same room = tt
 
 pub run_shared_ends : RunSharedEnds
-run_shared_ends kind z opening words keep keys done told S list run rest layout some_one long found all_done room =
-    let claims = all_claimed z keep in
+run_shared_ends r S list run rest layout some_one long found all_done room =
+    let claims = all_claimed r.shape r.keep in
     let pieces = pieces_at list claims in
-    let size = claims_size run.world z words keep run.core in
-    let at = claims_at run.world z words keep run.core in
-    let shared : IsSharedOut (length list) claims = subst (λ (n : ℕ). IsSharedOut n claims) (sym long) (shared_out run.world z words keep run.core some_one found) in
-    let one = shared_list_is_one_list kind S list claims shared in
-    let long_pieces : length pieces ≡ z.workers = length-map claims (map (slice_index list)) ∙ size in
-    let all_pieces : (v : ℕ) → v < z.workers → done v ≡ piece pieces v =
+    let size = claims_size run.world r.shape r.words r.keep run.core in
+    let at = claims_at run.world r.shape r.words r.keep run.core in
+    let shared : IsSharedOut (length list) claims = subst (λ (n : ℕ). IsSharedOut n claims) (sym long) (shared_out run.world r.shape r.words r.keep run.core some_one found) in
+    let one = shared_list_is_one_list r.kind S list claims shared in
+    let long_pieces : length pieces ≡ r.shape.workers = length-map claims (map (slice_index list)) ∙ size in
+    let all_pieces : (v : ℕ) → v < r.shape.workers → r.done v ≡ piece pieces v =
     λ v mine. all_done v mine ∙ ap (map (slice_index list)) (sym (at v mine)) ∙ sym (get_or-map (map (slice_index list)) claims v [] [] (omega (arith, size))) in
-    let end = ends kind z opening words keep keys done told run rest S pieces layout long_pieces all_pieces (room_same kind z.bits S list (joined pieces) one.0 room) in
-    record { layout = subst (λ (T : Keys). Layout (cells_held z words) z.bits T) one.0 end.layout; tally = end.tally ∙ one.1 }
+    let end = ends r run rest S pieces layout long_pieces all_pieces (room_same r.kind r.shape.bits S list (joined pieces) one.0 room) in
+    record { layout = subst (λ (T : Keys). Layout (cells_held r.shape r.words) r.shape.bits T) one.0 end.layout; tally = end.tally ∙ one.1 }

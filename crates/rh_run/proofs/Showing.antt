@@ -21,7 +21,7 @@ use Rattle.rh_rule.specs.Rest.{is_noted_success}
 use Rattle.rh_rule.proofs.Deciders.{told_succeeded}
 use Rattle.rh_rule.proofs.Telling.{noted_in, tells}
 use Rattle.rh_acts.specs.Act.{Act, AllMeet, apply_acts}
-use Rattle.rh_acts.specs.Done.{Does, Kept, KeyDone, WereTrue, kept}
+use Rattle.rh_acts.specs.Done.{IsByAct, IsByRead, Kept, KeyDone, WereTrue, kept}
 use Rattle.rh_acts.specs.KeyActs.{IsInsertAct, IsRemovalAct}
 use Rattle.rh_acts.specs.Workers.{LeavesRoom, acts_of}
 use Rattle.rh_acts.proofs.ActLemmas.{contains_cases, contains_head, contains_none, contains_tail, contains_take}
@@ -31,7 +31,7 @@ use Rattle.rh_history.specs.History.{act_of, history, is_current, is_finished, o
 use Rattle.rh_history.proofs.Filtered.{from_filtered}
 use Rattle.rh_history.proofs.Happening.{opened_act}
 use Rattle.rh_history.proofs.Values.{act_at, acts_length}
-use Rattle.rh_run.specs.Laws.{Shows}
+use Rattle.rh_run.specs.Laws.{Reflects}
 use Rattle.rh_run.specs.Run.{DoesOneOf}
 
 -- ---- the set that the cells are a layout of
@@ -55,7 +55,7 @@ only_one first act is = subst (λ (acts : List Act). Contains acts act) (sym is)
 pub key_shows : (kind : Kind) (b : ℕ) (opening : List ℕ) (S U : Keys) (all : List ℕ) (acts first : List Act) (reads : List Kept) (k : ℕ) (so : Bool)
     → Layout opening b S → AllMeet acts opening → LeavesRoom kind b S all → ((a : Act) → Contains acts a → DoesOneOf kind b all a)
     → Layout (apply_acts acts opening) b U → WereTrue opening acts reads → KeyDone kind b reads k first so → ((a : Act) → Contains first a → Contains acts a)
-    → Shows kind U k
+    → Reflects kind U k
 key_shows Insert b opening S U all acts first reads k so layout meet room each leads were one among =
     let grown = insertions_grow b opening S all acts layout meet room (λ a h. inserts b all a (each a h)) in
     let whole : take (length acts) acts ≡ acts = take-length acts in
@@ -63,19 +63,19 @@ key_shows Insert b opening S U all acts first reads k so layout meet room each l
     let end_layout : Layout (apply_acts acts opening) b end.0 = subst (λ (xs : List Act). Layout (apply_acts xs opening) b end.0) whole end.1.layout in
     let made : (a : Act) → Contains acts a → IsInsertAct b k a → contains end.0 k ≡ true = λ a h does. end.1.adds a k (subst (λ (xs : List Act). Contains xs a) (sym whole) h) does in
     same_shown (apply_acts acts opening) b end.0 U k end_layout leads (⊎_elim
-    (λ act. made act.0 (among act.0 (only_one first act.0 act.1)) (does_insert b k so act.0 act.2))
-    (λ read.
-    let at = read.1.1 in
+    (λ (by : IsByAct Insert b k first so). made by.act (among by.act (only_one first by.act by.only)) (does_insert b k so by.act by.does))
+    (λ (by : IsByRead Insert b reads k first so).
+    let at = by.tells.1 in
     let was = were (kept at.0 (cell_of k)) at.1 in
     let then = grown was.0 in
     ⊎_elim (end.1.keeps k) (λ by. made by.0 (contains_take was.0 acts by.0 by.1) by.2)
     (then.1.only k (then.1.layout.no_other at.0 k (word_held (apply_acts (take was.0 acts) opening) at.0 k was.2)))) one)
 key_shows Remove b opening S U all acts first reads k so layout meet room each leads were one among =
-    let act : (a : Act) × (first ≡ a ∷ []) × Does Remove b k so a = ⊎_elim (λ a. a) (λ none. absurd none.1) one in
+    let by : IsByAct Remove b k first so = ⊎_elim (λ by. by) (λ (by : IsByRead Remove b reads k first so). absurd by.tells) one in
     let whole : take (length acts) acts ≡ acts = take-length acts in
     let end = removals_shrink b opening S acts layout meet (λ a h. removes b all a (each a h)) (length acts) in
     let end_layout : Layout (apply_acts acts opening) b end.0 = subst (λ (xs : List Act). Layout (apply_acts xs opening) b end.0) whole end.1.layout in
-    let out : contains end.0 k ≡ false = end.1.drops act.0 k (subst (λ (xs : List Act). Contains xs act.0) (sym whole) (among act.0 (only_one first act.0 act.1))) (does_removal b k so act.0 act.2) in
+    let out : contains end.0 k ≡ false = end.1.drops by.act k (subst (λ (xs : List Act). Contains xs by.act) (sym whole) (among by.act (only_one first by.act by.only))) (does_removal b k so by.act by.does) in
     not_shown (contains U k) (λ there. true≢false (sym (same_shown (apply_acts acts opening) b U end.0 k leads end_layout there) ∙ out))
   where
     not_shown : (t : Bool) → (t ≡ true → ⊥) → t ≡ false
@@ -99,7 +99,7 @@ module _ (w : World) (z : Shape) (words : List ℕ) (keep : ℕ → View) (core 
       let told = tells w z words keep core in
       let d : Ref = record { worker = v; number = o.number } in
       let noted : w.control (own_ref (keep v) o.number) ≡ succeeded = told_succeeded (w.control (own_ref (keep v) o.number)) (told.results v (own_ref (keep v) o.number) succeeded mine (noted_in (keep v).side.notes (own_ref (keep v) o.number) is)) in
-      let control : w.control d ≡ succeeded = subst (λ (u : ℕ). w.control record { worker = u; number = o.number } ≡ succeeded) (core.mirrors.kept v mine).worker noted in
+      let control : w.control d ≡ succeeded = subst (λ (u : ℕ). w.control record { worker = u; number = o.number } ≡ succeeded) (core.represents.kept v mine).worker noted in
       let at = told.order.made d control in
       let act_is : get_or (acts_of (history w)) at.0 [] ≡ act_of o.entries =
       act_at w w.act_count at.0 at.1 ∙ ap (world_act w) at.2 ∙ sym (opened_act w d o (told.opened v o mine i)) in

@@ -25,14 +25,14 @@ use Rattle.rh_acts.proofs.InOrder.{acts_are_a_phase}
 use Rattle.rh_acts.proofs.OwnLemmas.{own_among}
 use Rattle.rh_acts.proofs.Told.{does_told}
 use Rattle.rh_history.specs.History.{act_of, history, kept_of, logical_cells, own_acts_of, value_of}
-use Rattle.rh_history.specs.Laws.{HappenedSo, OwnSo}
-use Rattle.rh_history.specs.Rounds.{JoinedSo}
+use Rattle.rh_history.specs.Laws.{HistorySpec, OwnActsSpec}
+use Rattle.rh_history.specs.Rounds.{RoundsSpec}
 use Rattle.rh_history.proofs.Happening.{happened}
 use Rattle.rh_history.proofs.Joining.{rounds_join}
 use Rattle.rh_history.proofs.Succeeding.{own_so_far}
 use Rattle.rh_history.proofs.Values.{cells_length, get_cells}
-use Rattle.rh_run.specs.Laws.{ActsSoFar, DidSo, RunMoment, StandsSo}
-use Rattle.rh_run.specs.Run.{DoesOneOf, Running}
+use Rattle.rh_run.specs.Laws.{ActsSoFar, MomentSpec, RunMoment, WorkerSpec}
+use Rattle.rh_run.specs.Run.{DoesOneOf, Run, RunInvariant}
 use Rattle.rh_run.specs.Known.{KnowsHeld}
 use Rattle.rh_run.specs.Words.{AreNow, has_succeeded, succeeded_now}
 use Rattle.rh_run.proofs.Saying.{own_told, words_say, words_tell}
@@ -62,7 +62,7 @@ keys_done kind b keys (m ∷ made) each =
     let rest = keys_done kind b keys made (λ x h. each x (contains_tail m x made h)) in
     record {
       so_far = k ∷ rest.so_far;
-      done = (m.act ∷ [], acts_of made, changes m.act, map changes (acts_of made), refl, refl, inl (m.act, refl, subst (λ (t : Bool). Does kind b k t m.act) (sym (does_told kind b k one.2.0 m.act one.2.1)) one.2.1), rest.done);
+      done = (m.act ∷ [], acts_of made, changes m.act, map changes (acts_of made), refl, refl, inl record { act = m.act; only = refl; does = subst (λ (t : Bool). Does kind b k t m.act) (sym (does_told kind b k one.2.0 m.act one.2.1)) one.2.1 }, rest.done);
       among = λ q h. ⊎_elim
           (λ (e : k ≡ q). (m, contains_head m made, subst (Contains (keys m.worker)) e one.1))
           (λ later. let it = rest.among q later in (it.0, contains_tail m it.0 made it.1, it.2))
@@ -86,73 +86,73 @@ from_acts (m ∷ made) a h = ⊎_elim (λ e. (m, contains_head m made, e)) (λ l
 
 -- ---- the acts of all rounds
 
-module _ (kind : Kind) (z : Shape) (opening words : List ℕ) (keep : ℕ → View) (keys done : ℕ → List ℕ) (told : ℕ → List Bool) (run : Running kind z opening words keep keys done told) where
+module _ (r : Run) (run : RunInvariant r) where
   abbrev now : List Made
   now = history run.world
 
   abbrev pub all_made : List Made
   all_made = run.before ++ now
 
-  pub so : HappenedSo run.world z keep
-  so = happened run.world z words keep run.core
+  pub so : HistorySpec run.world r.shape r.keep
+  so = happened run.world r.shape r.words r.keep run.core
 
-  pub both : JoinedSo opening run.before now
-  both = rounds_join opening run.before now
+  pub both : RoundsSpec r.opening run.before now
+  both = rounds_join r.opening run.before now
 
-  pub meet : AllMeet (acts_of all_made) opening
+  pub meet : AllMeet (acts_of all_made) r.opening
   meet = both.meet run.meet (subst (AllMeet (acts_of now)) run.cells so.meet)
 
-  pub workers : AreOf z.workers all_made
-  workers = both.workers z.workers run.workers so.workers
+  pub workers : AreOf r.shape.workers all_made
+  workers = both.workers r.shape.workers run.workers so.workers
 
-  pub was : (v : ℕ) → v < z.workers → WereTrue opening (acts_of all_made) (run.reads v ++ kept_of z (keep v))
-  was v mine = both.reads (run.reads v) (kept_of z (keep v)) (run.was v mine) (subst (λ (cells : List ℕ). WereTrue cells (acts_of now) (kept_of z (keep v))) run.cells (so.reads v mine))
+  pub was : (v : ℕ) → v < r.shape.workers → WereTrue r.opening (acts_of all_made) (run.reads v ++ kept_of r.shape (r.keep v))
+  was v mine = both.reads (run.reads v) (kept_of r.shape (r.keep v)) (run.was v mine) (subst (λ (cells : List ℕ). WereTrue cells (acts_of now) (kept_of r.shape (r.keep v))) run.cells (so.reads v mine))
 
   -- they lead to what the cells stand for
-  pub lead : logical_cells run.world z ≡ apply_acts (acts_of all_made) opening
+  pub lead : logical_cells run.world r.shape ≡ apply_acts (acts_of all_made) r.opening
   lead = so.cells ∙ ap (apply_acts (acts_of now)) run.cells ∙ sym both.cells
 
-  pub each_does : (m : Made) → Contains all_made m → DoesOneOf kind z.bits (keys m.worker) m.act
+  pub each_does : (m : Made) → Contains all_made m → DoesOneOf r.kind r.shape.bits (r.keys m.worker) m.act
   each_does m h = ⊎_elim (run.acts m)
       (λ i.
       let o = so.opened m i in
-      subst (DoesOneOf kind z.bits (keys m.worker)) (sym o.2) ((run.doing m.worker (so.workers m i)).opened o.0 o.1))
+      subst (DoesOneOf r.kind r.shape.bits (r.keys m.worker)) (sym o.2) ((run.doing m.worker (so.workers m i)).opened o.0 o.1))
       (Contains-append_cases run.before now m h)
 
   -- what a worker made of its own is among them
-  own_among_all : (v : ℕ) → v < z.workers → (a : Act) → Contains (own v run.before ++ own_acts_of (keep v)) a → Contains (acts_of all_made) a
+  own_among_all : (v : ℕ) → v < r.shape.workers → (a : Act) → Contains (own v run.before ++ own_acts_of (r.keep v)) a → Contains (acts_of all_made) a
   own_among_all v mine a h = subst (λ (acts : List Act). Contains acts a) (sym (map-append (λ (m : Made). m.act) run.before now)) (⊎_elim
       (λ i. Contains-append_left (acts_of run.before) (acts_of now) a (own_among v run.before a i))
-      (λ i. Contains-append_right (acts_of run.before) (acts_of now) a (finished_among run.world z words keep run.core v mine a i))
-      (Contains-append_cases (own v run.before) (own_acts_of (keep v)) a h))
+      (λ i. Contains-append_right (acts_of run.before) (acts_of now) a (finished_among run.world r.shape r.words r.keep run.core v mine a i))
+      (Contains-append_cases (own v run.before) (own_acts_of (r.keep v)) a h))
 
   -- those of one worker, in this round and in all
-  abbrev own_now : (v : ℕ) → v < z.workers → OwnSo run.world v (keep v)
-  own_now v mine = own_so_far run.world z words keep v run.core mine
+  abbrev own_now : (v : ℕ) → v < r.shape.workers → OwnActsSpec run.world v (r.keep v)
+  own_now v mine = own_so_far run.world r.shape r.words r.keep v run.core mine
 
-  own_succeeded : IsShape z → (v : ℕ) → v < z.workers → own v now ≡ succeeded_now z words (keep v)
+  own_succeeded : IsShape r.shape → (v : ℕ) → v < r.shape.workers → own v now ≡ succeeded_now r.shape r.words (r.keep v)
   own_succeeded shape v mine =
-      let k = keep v in
+      let k = r.keep v in
       (own_now v mine).succeeded
       ∙ ap (λ (os : List OwnDesc). reverse (map (λ (o : OwnDesc). act_of o.entries) os))
       (same_filtered (λ (o : OwnDesc). is_success (run.world.control (own_ref k o.number)))
-      (λ (o : OwnDesc). has_succeeded z words (own_ref k o.number) || is_noted_success k.side.notes (own_ref k o.number)) k.opened
-      (λ o i. own_told run.world z words keep shape run.core v mine o i))
+      (λ (o : OwnDesc). has_succeeded r.shape r.words (own_ref k o.number) || is_noted_success k.side.notes (own_ref k o.number)) k.opened
+      (λ o i. own_told run.world r.shape r.words r.keep shape run.core v mine o i))
 
-  knows : (v : ℕ) → v < z.workers → KnowsHeld (keep v).side v
-  knows v mine = subst (KnowsHeld (keep v).side) (run.core.mirrors.kept v mine).worker (run.doing v mine).knows
+  knows : (v : ℕ) → v < r.shape.workers → KnowsHeld (r.keep v).side v
+  knows v mine = subst (KnowsHeld (r.keep v).side) (run.core.represents.kept v mine).worker (run.doing v mine).knows
 
   -- the cells stand for these values, and for no others
-  pub are_now : IsShape z → AreNow z words keep (apply_acts (acts_of all_made) opening)
-  are_now shape = subst (AreNow z words keep) lead record {
-    size = cells_length z (cells_after run.world run.world.act_count);
-    stands = words_tell run.world z words keep shape run.core knows;
+  pub are_now : IsShape r.shape → AreNow r.shape r.words r.keep (apply_acts (acts_of all_made) r.opening)
+  are_now shape = subst (AreNow r.shape r.words r.keep) lead record {
+    size = cells_length r.shape (cells_after run.world run.world.act_count);
+    stands = words_tell run.world r.shape r.words r.keep shape run.core knows;
     values = λ c word inside is.
-        get_cells z (cells_after run.world run.world.act_count) c inside
-        ∙ ap (λ u. value_of u) (sym (words_say run.world z words keep shape run.core c word inside is));
+        get_cells r.shape (cells_after run.world run.world.act_count) c inside
+        ∙ ap (λ u. value_of u) (sym (words_say run.world r.shape r.words r.keep shape run.core c word inside is));
   }
 
-  acts_so_far : IsShape z → ActsSoFar z opening words keep run.before now
+  acts_so_far : IsShape r.shape → ActsSoFar r run.before now
   acts_so_far shape = record {
     workers = workers;
     meet = meet;
@@ -161,47 +161,47 @@ module _ (kind : Kind) (z : Shape) (opening words : List ℕ) (keep : ℕ → Vi
     cells = are_now shape;
   }
 
-  did : (v : ℕ) → v < z.workers → DidSo kind z opening all_made v (keep v) (done v) (told v)
+  did : (v : ℕ) → v < r.shape.workers → WorkerSpec r all_made v
   did v mine =
       let own_so = own_now v mine in
       record {
-        acts = own v run.before ++ own_acts_of (keep v);
+        acts = own v run.before ++ own_acts_of (r.keep v);
         left = own_so.later;
-        reads = run.reads v ++ kept_of z (keep v);
+        reads = run.reads v ++ kept_of r.shape (r.keep v);
         each = (run.doing v mine).so_far;
         were_true = was v mine;
-        are_own = both.acts v ∙ ap (λ (acts : List Act). own v run.before ++ acts) own_so.finished ∙ sym (append_assoc (own v run.before) (own_acts_of (keep v)) own_so.later);
+        are_own = both.acts v ∙ ap (λ (acts : List Act). own v run.before ++ acts) own_so.finished ∙ sym (append_assoc (own v run.before) (own_acts_of (r.keep v)) own_so.later);
         one_left = own_so.one;
         none_left = own_so.closed;
       }
 
-  module _ (S : Keys) (all : List ℕ) (shape : IsShape z) (layout : Layout opening z.bits S) (asked : (v k : ℕ) → v < z.workers → Contains (keys v) k → Contains all k) (room : LeavesRoom kind z.bits S all) where
-    does_asked : (a : Act) → Contains (acts_of all_made) a → DoesOneOf kind z.bits all a
+  module _ (S : Keys) (all : List ℕ) (shape : IsShape r.shape) (layout : Layout r.opening r.shape.bits S) (asked : (v k : ℕ) → v < r.shape.workers → Contains (r.keys v) k → Contains all k) (room : LeavesRoom r.kind r.shape.bits S all) where
+    does_asked : (a : Act) → Contains (acts_of all_made) a → DoesOneOf r.kind r.shape.bits all a
     does_asked a h =
         let it = from_acts all_made a h in
         let one = each_does it.0 it.1 in
-        subst (DoesOneOf kind z.bits all) it.2 (one.0, asked it.0.worker one.0 (workers it.0 it.1) one.1, one.2)
+        subst (DoesOneOf r.kind r.shape.bits all) it.2 (one.0, asked it.0.worker one.0 (workers it.0 it.1) one.1, one.2)
 
-    stands : StandsSo kind z opening words keep keys done told S run.before now
+    stands : MomentSpec r S run.before now
     stands =
-        let ks = keys_done kind z.bits keys all_made each_does in
+        let ks = keys_done r.kind r.shape.bits r.keys all_made each_does in
         let acts = acts_so_far shape in
         let among_all : (k : ℕ) → Contains ks.so_far k → Contains all k = λ k h. let it = ks.among k h in asked it.0.worker k (workers it.0 it.1) it.2 in
-        let phase = acts_are_a_phase kind z.bits opening S ks.so_far (acts_of all_made) layout meet (room_for_some kind z.bits S ks.so_far all among_all room) (map changes (acts_of all_made)) ks.done in
+        let phase = acts_are_a_phase r.kind r.shape.bits r.opening S ks.so_far (acts_of all_made) layout meet (room_for_some r.kind r.shape.bits S ks.so_far all among_all room) (map changes (acts_of all_made)) ks.done in
         record {
           acts = acts;
           did = did;
           so_far = ks.so_far;
           each = ks.done;
           among = λ k h. let it = ks.among k h in (it.0.worker, workers it.0 it.1, it.2);
-          layout = λ cells now_so. subst (λ (values : List ℕ). Layout values z.bits (set_after kind S ks.so_far)) (one_now z words keep (apply_acts (acts_of all_made) opening) cells acts.cells now_so) phase.0;
-          shows = λ v k mine h.
-              let reads = run.reads v ++ kept_of z (keep v) in
-              let one = done_key kind z.bits reads (done v) (own v run.before ++ own_acts_of (keep v)) (told v) (run.doing v mine).so_far k h in
-              key_shows kind z.bits opening S (set_after kind S ks.so_far) all (acts_of all_made) one.0 reads k one.1 layout meet room does_asked phase.0 (was v mine) one.2
+          layout = λ cells now_so. subst (λ (values : List ℕ). Layout values r.shape.bits (set_after r.kind S ks.so_far)) (one_now r.shape r.words r.keep (apply_acts (acts_of all_made) r.opening) cells acts.cells now_so) phase.0;
+          reflects = λ v k mine h.
+              let reads = run.reads v ++ kept_of r.shape (r.keep v) in
+              let one = done_key r.kind r.shape.bits reads (r.done v) (own v run.before ++ own_acts_of (r.keep v)) (r.told v) (run.doing v mine).so_far k h in
+              key_shows r.kind r.shape.bits r.opening S (set_after r.kind S ks.so_far) all (acts_of all_made) one.0 reads k one.1 layout meet room does_asked phase.0 (was v mine) one.2
               (λ a i. own_among_all v mine a (one.3 a i));
         }
 
 pub run_moment : RunMoment
-run_moment kind z opening words keep keys done told S all run shape layout asked room =
-    stands kind z opening words keep keys done told run S all shape layout asked room
+run_moment r S all run shape layout asked room =
+    stands r run S all shape layout asked room

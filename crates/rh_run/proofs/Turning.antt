@@ -1,9 +1,8 @@
 -- How a run starts, and how it goes on with a further round.
-use Rattle.std.proofs.Common.{◌≡◌, ℕ, ◌+◌, ◌<◌, inr, refl, sym, ap, ◌∙◌, subst, arith, Bool, List, [], ◌++◌, length, get_or, map, replicate}
+use Rattle.std.proofs.Common.{◌≡◌, ℕ, ◌+◌, ◌<◌, inr, refl, sym, ap, ◌∙◌, subst, arith, List, [], ◌++◌, length, get_or, map, replicate}
 use Rattle.std.specs.List.{slice_index}
 use Rattle.std.proofs.lemmas.List.{append-nil, get_or-map, get_or_append_left, length-map}
 use Rattle.std.proofs.lemmas.List.FromFn.{fill_by_all}
-use Rattle.rh_ledger.specs.declared.tally.Kind.{Kind}
 use Rattle.rh_tagword.specs.Word.{plain_number, tag_of}
 use Rattle.rh_world.specs.World.{World}
 use Rattle.rh_world.specs.Acts.{cells_after}
@@ -20,7 +19,7 @@ use Rattle.rh_rule.specs.Wipes.{Wiped, row_total, wiping_view}
 use Rattle.rh_rule.proofs.WipesKept.{table_starts, wipe_begins, wipe_ends}
 use Rattle.rh_acts.specs.Act.{Act, apply_acts}
 use Rattle.rh_acts.specs.Done.{IsDone, Kept}
-use Rattle.rh_acts.specs.Workers.{Made, acts_of, own}
+use Rattle.rh_acts.specs.Workers.{Made, acts_of}
 use Rattle.rh_acts.proofs.ActLemmas.{contains_none}
 use Rattle.rh_acts.proofs.OwnLemmas.{none_of_own}
 use Rattle.rh_history.specs.History.{history, kept_of, logical_cells, opening_cells, own_acts_of, value_of}
@@ -29,7 +28,7 @@ use Rattle.rh_history.proofs.Joining.{rounds_begin, rounds_follow}
 use Rattle.rh_history.proofs.Resting.{at_rest}
 use Rattle.rh_history.proofs.Values.{get_cells}
 use Rattle.rh_run.specs.Laws.{RunRounds, RunStarts, WorkerStarts, WorkerTurns}
-use Rattle.rh_run.specs.Run.{Doing, Running}
+use Rattle.rh_run.specs.Run.{ProgressInvariant, Run, RunInvariant, progress}
 use Rattle.rh_run.specs.Words.{IsWiped}
 use Rattle.rh_run.proofs.Ending.{ended, own_is}
 use Rattle.rh_run.proofs.Knowing.{nothing_held}
@@ -89,26 +88,26 @@ run_starts kind z cells keys shape long =
 -- ---- a further round
 
 pub worker_turns : WorkerTurns
-worker_turns kind z cells v keys acts reads done told is =
-    let made = acts ++ own_acts_of v in
-    let known = reads ++ kept_of z v in
+worker_turns kind z cells p is =
+    let made = p.acts ++ own_acts_of p.view in
+    let known = p.reads ++ kept_of z p.view in
     record {
-      orderly = ((rounds_begin z cells).1 v).orderly;
-      so_far = subst (λ (ks : List Kept). IsDone kind z.bits ks done (made ++ []) told) (sym (append-nil known))
-          (subst (λ (as' : List Act). IsDone kind z.bits known done as' told) (sym (append-nil made)) is.so_far);
+      orderly = ((rounds_begin z cells).1 p.view).orderly;
+      so_far = subst (λ (reads : List Kept). IsDone kind z.bits reads p.done (made ++ []) p.told) (sym (append-nil known))
+          (subst (λ (acts : List Act). IsDone kind z.bits known p.done acts p.told) (sym (append-nil made)) is.so_far);
       opened = λ o i. absurd i;
-      knows = nothing_held (record new_side { claims = v.side.claims }) v.worker refl refl;
+      knows = nothing_held (record new_side { claims = p.view.side.claims }) p.view.worker refl refl;
     }
 
-module _ (kind : Kind) (z : Shape) (opening words then cells : List ℕ) (keep : ℕ → View) (keys done : ℕ → List ℕ) (told : ℕ → List Bool) (shape : IsShape z) (some_one : 0 < z.workers) (rest : AllRest z keep) (same : (c : ℕ) → c < cell_count z → get_or words c 0 ≡ get_or cells c 0) (wiped : IsWiped z words then) (run : Running kind z opening words keep keys done told) where
+module _ (r : Run) (then cells : List ℕ) (shape : IsShape r.shape) (some_one : 0 < r.shape.workers) (rest : AllRest r.shape r.keep) (same : (c : ℕ) → c < cell_count r.shape → get_or r.words c 0 ≡ get_or cells c 0) (wiped : IsWiped r.shape r.words then) (run : RunInvariant r) where
   -- the wipe begins, and then all row words are cleared
-  begun : Wiped z words (λ v. wiping_view cells 0 (keep v))
-  begun = wipe_begins run.world z words cells keep some_one rest run.core same
+  begun : Wiped r.shape r.words (λ v. wiping_view cells 0 (r.keep v))
+  begun = wipe_begins run.world r.shape r.words cells r.keep some_one rest run.core same
 
-  cleared : Wiped z then (λ v. wiping_view cells (row_total z) (keep v))
+  cleared : Wiped r.shape then (λ v. wiping_view cells (row_total r.shape) (r.keep v))
   cleared = record {
     cells = cells;
-    cleared = row_total z;
+    cleared = row_total r.shape;
     sized = wiped.size ∙ begun.sized;
     worker = begun.worker;
     wiping = λ v mine. refl;
@@ -118,47 +117,50 @@ module _ (kind : Kind) (z : Shape) (opening words then cells : List ℕ) (keep :
     shared = record {
       claims = begun.shared.claims;
       kept = begun.shared.kept;
-      share = subst (λ (n : ℕ). Claims (opening_world z.workers z.keys n (λ c. 0)) (λ v. record new_side { claims = begun.shared.claims v })) (sym wiped.counter) begun.shared.share;
+      share = subst (λ (n : ℕ). Claims (opening_world r.shape.workers r.shape.keys n (λ c. 0)) (λ v. record new_side { claims = begun.shared.claims v })) (sym wiped.counter) begun.shared.share;
       beyond = begun.shared.beyond;
     };
   }
 
   abbrev next : ℕ → View
-  next v = round_view cells (keep v)
+  next v = round_view cells (r.keep v)
 
-  ruled : Ruled z then next
-  ruled = wipe_ends z then cells (λ v. wiping_view cells (row_total z) (keep v)) shape some_one (λ v mine. refl) (inr cleared)
+  ruled : Ruled r.shape then next
+  ruled = wipe_ends r.shape then cells (λ v. wiping_view cells (row_total r.shape) (r.keep v)) shape some_one (λ v mine. refl) (inr cleared)
 
-  goes_on_from : opening_cells ruled.0 z ≡ logical_cells run.world z
+  goes_on_from : opening_cells ruled.0 r.shape ≡ logical_cells run.world r.shape
   goes_on_from =
-      let all = ended kind z opening words keep keys done told run rest in
-      rounds_follow ruled.0 z next 0 (logical_cells run.world z) (happened ruled.0 z then next ruled.1) some_one all.size
+      let all = ended r run rest in
+      rounds_follow ruled.0 r.shape next 0 (logical_cells run.world r.shape) (happened ruled.0 r.shape then next ruled.1) some_one all.size
       (λ c inside. ap (λ u. value_of u) (sym (same c inside)) ∙ all.cells c inside)
 
   abbrev reads : ℕ → List Kept
-  reads v = run.reads v ++ kept_of z (keep v)
+  reads v = run.reads v ++ kept_of r.shape (r.keep v)
 
   abbrev made : List Made
-  made = all_made kind z opening words keep keys done told run
+  made = all_made r run
 
-  doing : (v : ℕ) → v < z.workers → Doing z kind (next v) (keys v) (own v made) (reads v) (done v) (told v)
-  doing v mine = subst (λ (acts : List Act). Doing z kind (next v) (keys v) acts (reads v) (done v) (told v)) (sym (own_is kind z opening words keep keys done told run rest v mine))
-      (worker_turns kind z cells (keep v) (keys v) (own v run.before) (run.reads v) (done v) (told v) (run.doing v mine))
+  abbrev run_then : Run
+  run_then = record r { words = then; keep = next }
 
-  turned : Running kind z opening then next keys done told
+  doing : (v : ℕ) → v < r.shape.workers → ProgressInvariant r.shape r.kind (progress run_then made reads v)
+  doing v mine = subst (λ (acts : List Act). ProgressInvariant r.shape r.kind (record (progress run_then made reads v) { acts = acts })) (sym (own_is r run rest v mine))
+      (worker_turns r.kind r.shape cells (progress r run.before run.reads v) (run.doing v mine))
+
+  turned : RunInvariant run_then
   turned = record {
     world = ruled.0;
     core = ruled.1;
     before = made;
     reads = reads;
-    meet = meet kind z opening words keep keys done told run;
-    cells = goes_on_from ∙ lead kind z opening words keep keys done told run;
-    workers = workers kind z opening words keep keys done told run;
-    acts = each_does kind z opening words keep keys done told run;
-    was = was kind z opening words keep keys done told run;
+    meet = meet r run;
+    cells = goes_on_from ∙ lead r run;
+    workers = workers r run;
+    acts = each_does r run;
+    was = was r run;
     doing = doing;
   }
 
 pub run_rounds : RunRounds
-run_rounds kind z opening words then cells keep keys done told shape some_one rest same wiped run =
-    turned kind z opening words then cells keep keys done told shape some_one rest same wiped run
+run_rounds r then cells shape some_one rest same wiped run =
+    turned r then cells shape some_one rest same wiped run

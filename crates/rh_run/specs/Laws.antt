@@ -25,87 +25,112 @@ use Rattle.rh_acts.specs.Workers.{AreOf, LeavesRoom, Made, acts_of, counted, joi
 use Rattle.rh_history.specs.History.{history, kept_of, own_acts_of, value_of}
 use Rattle.rh_run.specs.Advance.{Advances}
 use Rattle.rh_run.specs.Known.{KnowsHeld}
-use Rattle.rh_run.specs.Run.{Doing, Running, also_done, also_told}
+use Rattle.rh_run.specs.Run.{Progress, ProgressInvariant, Run, RunInvariant, also_done, also_told, progress}
 use Rattle.rh_run.specs.Words.{AreNow, IsLogicalWord, IsWiped, LeadsInside, cells_held, succeeded_now}
 use Rattle.rh_run.specs.Claimed.{FoundEnd, claimed}
 
 -- ---- how one worker goes on, by its own steps alone
 
+-- it has done nothing yet
+abbrev pub not_begun : View → (keys : List ℕ) → Progress
+not_begun v keys = record { view = v; keys = keys; acts = []; reads = []; done = []; told = [] }
+
+-- one key more, where there is an answer
+abbrev pub furthered : Progress → (next : View) → (k : ℕ) → (answer : Option Bool) → Progress
+furthered p next k answer = record p { view = next; done = also_done p.done k answer; told = also_told p.told answer }
+
+-- in a further round what it did and read is of an earlier one
+abbrev pub turned_over : Shape → (cells : List ℕ) → Progress → Progress
+turned_over z cells p = record p { view = round_view cells p.view; acts = p.acts ++ own_acts_of p.view; reads = p.reads ++ kept_of z p.view }
+
 -- It starts with nothing done.
 abbrev pub WorkerStarts : Type 0
-WorkerStarts = (kind : Kind) (z : Shape) (cells : List ℕ) (worker : ℕ) (keys : List ℕ) → Doing z kind (new_view cells worker) keys [] [] [] []
+WorkerStarts = (kind : Kind) (z : Shape) (cells : List ℕ) (worker : ℕ) (keys : List ℕ) → ProgressInvariant z kind (not_begun (new_view cells worker) keys)
 
 -- A step at one of its keys, where what the step leaves noted is sound, as each step tells its worker.
 abbrev pub WorkerSteps : Type 0
-WorkerSteps = (kind : Kind) (z : Shape) (v next : View) (keys : List ℕ) (acts : List Act) (reads : List Kept) (done : List ℕ) (told : List Bool)
-    (s : Step) (word k : ℕ) (answer : Option Bool)
-    → Allowed z v s → next ≡ noted z v s word → Sound z next → Contains keys k → Advances z kind k v next answer
-    → Doing z kind v keys acts reads done told → Doing z kind next keys acts reads (also_done done k answer) (also_told told answer)
+WorkerSteps = (kind : Kind) (z : Shape) (p : Progress) (s : Step) (word : ℕ) (next : View) (k : ℕ) (answer : Option Bool)
+    → Allowed z p.view s → next ≡ noted z p.view s word → Sound z next → Contains p.keys k → Advances z kind k p.view next answer
+    → ProgressInvariant z kind p → ProgressInvariant z kind (furthered p next k answer)
 
 -- A Claim does nothing of a key.
 abbrev pub WorkerClaims : Type 0
-WorkerClaims = (kind : Kind) (z : Shape) (v next : View) (keys : List ℕ) (acts : List Act) (reads : List Kept) (done : List ℕ) (told : List Bool)
-    (word : ℕ)
-    → Allowed z v Step.claims → next ≡ noted z v Step.claims word → Sound z next
-    → Doing z kind v keys acts reads done told → Doing z kind next keys acts reads done told
+WorkerClaims = (kind : Kind) (z : Shape) (p : Progress) (word : ℕ) (next : View)
+    → Allowed z p.view Step.claims → next ≡ noted z p.view Step.claims word → Sound z next
+    → ProgressInvariant z kind p → ProgressInvariant z kind (record p { view = next })
 
--- In a further round what it did and read is of an earlier one.
+-- A further round.
 abbrev pub WorkerTurns : Type 0
-WorkerTurns = (kind : Kind) (z : Shape) (cells : List ℕ) (v : View) (keys : List ℕ) (acts : List Act) (reads : List Kept) (done : List ℕ) (told : List Bool)
-    → Doing z kind v keys acts reads done told
-    → Doing z kind (round_view cells v) keys (acts ++ own_acts_of v) (reads ++ kept_of z v) done told
+WorkerTurns = (kind : Kind) (z : Shape) (cells : List ℕ) (p : Progress) → ProgressInvariant z kind p → ProgressInvariant z kind (turned_over z cells p)
 
 -- ---- how a run goes on
 
+-- from these cells, in a table that was just made
+abbrev pub started : Kind → Shape → (cells : List ℕ) → (keys : ℕ → List ℕ) → Run
+started kind z cells keys = record {
+  kind = kind;
+  shape = z;
+  opening = cells;
+  words = map plain_number cells ++ replicate (row_total z + 1) 0;
+  keep = new_view (map plain_number cells);
+  keys = keys;
+  done = λ v. [];
+  told = λ v. [];
+}
+
+-- a step of one worker, after which these are the words, and this is kept of the worker
+abbrev pub stepped : Run → (then : List ℕ) (who : ℕ) (next : View) → Run
+stepped r then who next = record r { words = then; keep = updated r.keep who next }
+
+-- and one key of it more, where there is an answer
+abbrev pub also_done_by : Run → (who k : ℕ) (answer : Option Bool) → Run
+also_done_by r who k answer =
+    record r { done = updated r.done who (also_done (r.done who) k answer); told = updated r.told who (also_told (r.told who) answer) }
+
 -- It starts from any cells, with nothing done.
 abbrev pub RunStarts : Type 0
-RunStarts = (kind : Kind) (z : Shape) (cells : List ℕ) (keys : ℕ → List ℕ) → IsShape z → length cells ≡ cell_count z
-    → Running kind z cells (map plain_number cells ++ replicate (row_total z + 1) 0) (new_view (map plain_number cells)) keys (λ v. []) (λ v. [])
+RunStarts = (kind : Kind) (z : Shape) (cells : List ℕ) (keys : ℕ → List ℕ) → IsShape z → length cells ≡ cell_count z → RunInvariant (started kind z cells keys)
 
 -- In a round it comes as far as its workers: it is enough that the table is ruled, and opened as one of them kept it.
 abbrev pub RunGathers : Type 0
-RunGathers = (kind : Kind) (z : Shape) (opening words then : List ℕ) (keep next : ℕ → View) (keys done more_done : ℕ → List ℕ) (told more_told : ℕ → List Bool)
-    (run : Running kind z opening words keep keys done told) (w : World) (who : ℕ)
-    → Core w z then next → who < z.workers → (next who).opening ≡ (keep who).opening
-    → ((v : ℕ) → v < z.workers → Doing z kind (next v) (keys v) (own v run.before) (run.reads v) (more_done v) (more_told v))
-    → Running kind z opening then next keys more_done more_told
+RunGathers = (r : Run) (run : RunInvariant r) (then : List ℕ) (next : ℕ → View) (done : ℕ → List ℕ) (told : ℕ → List Bool) (w : World) (who : ℕ)
+    → Core w r.shape then next → who < r.shape.workers → (next who).opening ≡ (r.keep who).opening
+    → ((v : ℕ) → v < r.shape.workers
+    → ProgressInvariant r.shape r.kind (progress (record r { words = then; keep = next; done = done; told = told }) run.before run.reads v))
+    → RunInvariant (record r { words = then; keep = next; done = done; told = told })
 
 -- A step of a worker that is at one of its keys.
 abbrev pub RunSteps : Type 0
-RunSteps = (kind : Kind) (z : Shape) (opening words then : List ℕ) (keep : ℕ → View) (keys done : ℕ → List ℕ) (told : ℕ → List Bool)
-    (who : ℕ) (s : Step) (word : ℕ) (next : View) (k : ℕ) (answer : Option Bool)
-    → IsShape z → who < z.workers → Allowed z (keep who) s → StepsTo z s words (keep who) word then next
-    → Contains (keys who) k → Advances z kind k (keep who) next answer
-    → Running kind z opening words keep keys done told
-    → Running kind z opening then (updated keep who next) keys (updated done who (also_done (done who) k answer)) (updated told who (also_told (told who) answer))
+RunSteps = (r : Run) (who : ℕ) (s : Step) (word : ℕ) (then : List ℕ) (next : View) (k : ℕ) (answer : Option Bool)
+    → IsShape r.shape → who < r.shape.workers → Allowed r.shape (r.keep who) s → StepsTo r.shape s r.words (r.keep who) word then next
+    → Contains (r.keys who) k → Advances r.shape r.kind k (r.keep who) next answer
+    → RunInvariant r → RunInvariant (also_done_by (stepped r then who next) who k answer)
 
 -- A Claim.
 abbrev pub RunClaims : Type 0
-RunClaims = (kind : Kind) (z : Shape) (opening words then : List ℕ) (keep : ℕ → View) (keys done : ℕ → List ℕ) (told : ℕ → List Bool)
-    (who word : ℕ) (next : View)
-    → IsShape z → who < z.workers → Allowed z (keep who) Step.claims → StepsTo z Step.claims words (keep who) word then next
-    → Running kind z opening words keep keys done told
-    → Running kind z opening then (updated keep who next) keys done told
+RunClaims = (r : Run) (who word : ℕ) (then : List ℕ) (next : View)
+    → IsShape r.shape → who < r.shape.workers → Allowed r.shape (r.keep who) Step.claims
+    → StepsTo r.shape Step.claims r.words (r.keep who) word then next
+    → RunInvariant r → RunInvariant (stepped r then who next)
 
 -- A further round, where all are at rest.
 abbrev pub RunRounds : Type 0
-RunRounds = (kind : Kind) (z : Shape) (opening words then cells : List ℕ) (keep : ℕ → View) (keys done : ℕ → List ℕ) (told : ℕ → List Bool)
-    → IsShape z → 0 < z.workers → AllRest z keep → ((c : ℕ) → c < cell_count z → slice_index words c ≡ slice_index cells c) → IsWiped z words then
-    → Running kind z opening words keep keys done told
-    → Running kind z opening then (λ v. round_view cells (keep v)) keys done told
+RunRounds = (r : Run) (then cells : List ℕ) → IsShape r.shape → 0 < r.shape.workers → AllRest r.shape r.keep
+    → ((c : ℕ) → c < cell_count r.shape → slice_index r.words c ≡ slice_index cells c) → IsWiped r.shape r.words then
+    → RunInvariant r → RunInvariant (record r { words = then; keep = λ v. round_view cells (r.keep v) })
 
--- two workers are alike: what is kept of them, what they have done, and what they were told
-pub record AreAlike (v w : View) (keys list done did : List ℕ) (told tells : List Bool) : Type 0 where
-  pub kept : v ≡ w
-  pub keys_are : keys ≡ list
-  pub done_are : done ≡ did
-  pub told_are : told ≡ tells
+-- worker v is the same in both
+pub record AreAlike (r s : Run) (v : ℕ) : Type 0 where
+  pub kept : r.keep v ≡ s.keep v
+  pub keys_are : r.keys v ≡ s.keys v
+  pub done_are : r.done v ≡ s.done v
+  pub told_are : r.told v ≡ s.told v
 
 -- The workers of the table alone count.
 abbrev pub RunsAlike : Type 0
-RunsAlike = (kind : Kind) (z : Shape) (opening words : List ℕ) (keep next : ℕ → View) (keys list done did : ℕ → List ℕ) (told tells : ℕ → List Bool)
-    → ((v : ℕ) → v < z.workers → AreAlike (keep v) (next v) (keys v) (list v) (done v) (did v) (told v) (tells v))
-    → Running kind z opening words keep keys done told → Running kind z opening words next list did tells
+RunsAlike = (r : Run) (keep : ℕ → View) (keys done : ℕ → List ℕ) (told : ℕ → List Bool)
+    → ((v : ℕ) → v < r.shape.workers → AreAlike r (record r { keep = keep; keys = keys; done = done; told = told }) v)
+    → RunInvariant r → RunInvariant (record r { keep = keep; keys = keys; done = done; told = told })
 
 -- ---- at each moment
 
@@ -142,76 +167,73 @@ OnlySuccessChanges = (w : World) (z : Shape) (words then : List ℕ) (keep : ℕ
     → IsShape z → Core w z words keep → who < z.workers → Allowed z (keep who) s → StepsTo z s words (keep who) word then next → (IsSuccess s word → ⊥)
     → (c was is : ℕ) → c < cell_count z → IsLogicalWord z words keep c was → IsLogicalWord z then (updated keep who next) c is → is ≡ was
 
--- the set shows that the key is done
-abbrev pub Shows : Kind → Keys → (k : ℕ) → Type 0
-Shows Insert S k = contains S k ≡ true
-Shows Remove S k = contains S k ≡ false
-Shows Ask S k = Unit {0}
+-- the set reflects that the key is done
+abbrev pub Reflects : Kind → Keys → (k : ℕ) → Type 0
+Reflects Insert S k = contains S k ≡ true
+Reflects Remove S k = contains S k ≡ false
+Reflects Ask S k = Unit {0}
 
 -- The acts so far: those of the earlier rounds, and those of this one. The former led to the cells with which this round began.
 -- The latter are the descriptors that succeeded, as control words and notes tell, each once, and those of one worker in the
 -- order in which it opened them. All together they lead to what the cells stand for.
-pub record ActsSoFar (z : Shape) (opening words : List ℕ) (keep : ℕ → View) (before now : List Made) : Type 0 where
-  pub workers : AreOf z.workers (before ++ now)
-  pub meet : AllMeet (acts_of (before ++ now)) opening
-  pub begun : (v c : ℕ) → v < z.workers → c < cell_count z → slice_index (apply_acts (acts_of before) opening) c ≡ value_of (slice_index (keep v).opening c)
-  pub succeeded : (v : ℕ) → v < z.workers → own v now ≡ succeeded_now z words (keep v)
-  pub cells : AreNow z words keep (apply_acts (acts_of (before ++ now)) opening)
+pub record ActsSoFar (r : Run) (before now : List Made) : Type 0 where
+  pub workers : AreOf r.shape.workers (before ++ now)
+  pub meet : AllMeet (acts_of (before ++ now)) r.opening
+  pub begun : (v c : ℕ) → v < r.shape.workers → c < cell_count r.shape
+      → slice_index (apply_acts (acts_of before) r.opening) c ≡ value_of (slice_index (r.keep v).opening c)
+  pub succeeded : (v : ℕ) → v < r.shape.workers → own v now ≡ succeeded_now r.shape r.words (r.keep v)
+  pub cells : AreNow r.shape r.words r.keep (apply_acts (acts_of (before ++ now)) r.opening)
 
--- A worker has done these keys, one by one: by what it read, and by its acts in their order, of which the last may be left, as
--- it has its descriptor open.
-pub record DidSo (kind : Kind) (z : Shape) (opening : List ℕ) (made : List Made) (worker : ℕ) (v : View) (done : List ℕ) (told : List Bool) : Type 0 where
+-- Worker v has done its keys one by one: by what it read, and by its acts in their order, of which the last may be left, as it
+-- has its descriptor open.
+pub record WorkerSpec (r : Run) (made : List Made) (v : ℕ) : Type 0 where
   pub acts : List Act
   pub left : List Act
   pub reads : List Kept
-  pub each : IsDone kind z.bits reads done acts told
-  pub were_true : WereTrue opening (acts_of made) reads
-  pub are_own : own worker made ≡ acts ++ left
+  pub each : IsDone r.kind r.shape.bits reads (r.done v) acts (r.told v)
+  pub were_true : WereTrue r.opening (acts_of made) reads
+  pub are_own : own v made ≡ acts ++ left
   pub one_left : length left ≤ 1
-  pub none_left : v.side.current ≡ None → left ≡ []
+  pub none_left : (r.keep v).side.current ≡ None → left ≡ []
 
 -- By these acts so far each worker has done its keys, and the cells stand for the layout of the set after the keys of the acts,
 -- in their order, each of which is done by its act, and told by whether that changes a cell. Each is a key of a worker; and
--- each key that is done shows.
-pub record StandsSo (kind : Kind) (z : Shape) (opening words : List ℕ) (keep : ℕ → View) (keys done : ℕ → List ℕ) (told : ℕ → List Bool) (S : Keys) (before now : List Made) : Type 0 where
-  pub acts : ActsSoFar z opening words keep before now
-  pub did : (v : ℕ) → v < z.workers → DidSo kind z opening (before ++ now) v (keep v) (done v) (told v)
+-- the set reflects each key that is done.
+pub record MomentSpec (r : Run) (S : Keys) (before now : List Made) : Type 0 where
+  pub acts : ActsSoFar r before now
+  pub did : (v : ℕ) → v < r.shape.workers → WorkerSpec r (before ++ now) v
   pub so_far : List ℕ
-  pub each : IsDone kind z.bits [] so_far (acts_of (before ++ now)) (map changes (acts_of (before ++ now)))
-  pub among : (k : ℕ) → Contains so_far k → (v : ℕ) × (v < z.workers) × Contains (keys v) k
-  pub layout : (cells : List ℕ) → AreNow z words keep cells → Layout cells z.bits (set_after kind S so_far)
-  pub shows : (v k : ℕ) → v < z.workers → Contains (done v) k → Shows kind (set_after kind S so_far) k
+  pub each : IsDone r.kind r.shape.bits [] so_far (acts_of (before ++ now)) (map changes (acts_of (before ++ now)))
+  pub among : (k : ℕ) → Contains so_far k → (v : ℕ) × (v < r.shape.workers) × Contains (r.keys v) k
+  pub layout : (cells : List ℕ) → AreNow r.shape r.words r.keep cells → Layout cells r.shape.bits (set_after r.kind S so_far)
+  pub reflects : (v k : ℕ) → v < r.shape.workers → Contains (r.done v) k → Reflects r.kind (set_after r.kind S so_far) k
 
 abbrev pub RunMoment : Type 0
-RunMoment = (kind : Kind) (z : Shape) (opening words : List ℕ) (keep : ℕ → View) (keys done : ℕ → List ℕ) (told : ℕ → List Bool) (S : Keys) (all : List ℕ)
-    (run : Running kind z opening words keep keys done told)
-    → IsShape z → Layout opening z.bits S
-    → ((v k : ℕ) → v < z.workers → Contains (keys v) k → Contains all k) → LeavesRoom kind z.bits S all
-    → StandsSo kind z opening words keep keys done told S run.before (history run.world)
+RunMoment = (r : Run) (S : Keys) (all : List ℕ) (run : RunInvariant r) → IsShape r.shape → Layout r.opening r.shape.bits S
+    → ((v k : ℕ) → v < r.shape.workers → Contains (r.keys v) k → Contains all k) → LeavesRoom r.kind r.shape.bits S all
+    → MomentSpec r S run.before (history run.world)
 
 -- Where keys are asked for, each is answered by whether the first set holds it: no act changes a cell.
 abbrev pub RunAnswers : Type 0
-RunAnswers = (kind : Kind) (z : Shape) (opening words : List ℕ) (keep : ℕ → View) (keys done : ℕ → List ℕ) (told : ℕ → List Bool) (S : Keys)
-    → Running kind z opening words keep keys done told → Layout opening z.bits S → kind ≡ Ask → (v : ℕ) → v < z.workers → told v ≡ looked_up S (done v)
+RunAnswers = (r : Run) (S : Keys) → RunInvariant r → Layout r.opening r.shape.bits S → r.kind ≡ Ask
+    → (v : ℕ) → v < r.shape.workers → r.told v ≡ looked_up S (r.done v)
 
 -- ---- at the end
 
 -- The workers have made what one worker makes of this list: the layout of the same set, and the same tally.
-pub record EndsSo (kind : Kind) (z : Shape) (words : List ℕ) (told : ℕ → List Bool) (S : Keys) (list : List ℕ) : Type 0 where
-  pub layout : Layout (cells_held z words) z.bits (set_after kind S list)
-  pub tally : sum_of_all (λ v. counted kind (told v)) z.workers ≡ tally_of kind S list
+pub record FinalSpec (r : Run) (S : Keys) (list : List ℕ) : Type 0 where
+  pub layout : Layout (cells_held r.shape r.words) r.shape.bits (set_after r.kind S list)
+  pub tally : sum_of_all (λ v. counted r.kind (r.told v)) r.shape.workers ≡ tally_of r.kind S list
 
 -- Where each worker has done its list, and all are at rest.
 abbrev pub RunEnds : Type 0
-RunEnds = (kind : Kind) (z : Shape) (opening words : List ℕ) (keep : ℕ → View) (keys done : ℕ → List ℕ) (told : ℕ → List Bool) (S : Keys) (pieces : List (List ℕ))
-    → Running kind z opening words keep keys done told → AllRest z keep → Layout opening z.bits S
-    → length pieces ≡ z.workers → ((v : ℕ) → v < z.workers → done v ≡ piece pieces v) → LeavesRoom kind z.bits S (joined pieces)
-    → EndsSo kind z words told S (joined pieces)
+RunEnds = (r : Run) (S : Keys) (pieces : List (List ℕ)) → RunInvariant r → AllRest r.shape r.keep → Layout r.opening r.shape.bits S
+    → length pieces ≡ r.shape.workers → ((v : ℕ) → v < r.shape.workers → r.done v ≡ piece pieces v)
+    → LeavesRoom r.kind r.shape.bits S (joined pieces) → FinalSpec r S (joined pieces)
 
 -- Where the workers have claimed a shared list to its end, and each has done the keys that it claimed.
 abbrev pub RunSharedEnds : Type 0
-RunSharedEnds = (kind : Kind) (z : Shape) (opening words : List ℕ) (keep : ℕ → View) (keys done : ℕ → List ℕ) (told : ℕ → List Bool) (S : Keys) (list : List ℕ)
-    → Running kind z opening words keep keys done told → AllRest z keep → Layout opening z.bits S
-    → 0 < z.workers → length list ≡ z.keys → ((v : ℕ) → v < z.workers → FoundEnd z (keep v))
-    → ((v : ℕ) → v < z.workers → done v ≡ map (slice_index list) (claimed z (keep v))) → LeavesRoom kind z.bits S list
-    → EndsSo kind z words told S list
+RunSharedEnds = (r : Run) (S : Keys) (list : List ℕ) → RunInvariant r → AllRest r.shape r.keep → Layout r.opening r.shape.bits S
+    → 0 < r.shape.workers → length list ≡ r.shape.keys → ((v : ℕ) → v < r.shape.workers → FoundEnd r.shape (r.keep v))
+    → ((v : ℕ) → v < r.shape.workers → r.done v ≡ map (slice_index list) (claimed r.shape (r.keep v)))
+    → LeavesRoom r.kind r.shape.bits S list → FinalSpec r S list

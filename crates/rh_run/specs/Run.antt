@@ -31,25 +31,50 @@ also_told told (Some so) = told ++ so ∷ []
 abbrev pub DoesOneOf : Kind → (b : ℕ) (keys : List ℕ) → Act → Type 0
 DoesOneOf kind b keys act = (k : ℕ) × Contains keys k × ((changes : Bool) × Does kind b k changes act)
 
--- Of a worker with these keys, who made these acts and reads in earlier rounds: what it has done by now, key by key. Each
--- descriptor that it opened does one of its keys, whether it succeeds or not; and it knows what it holds.
-pub record Doing (z : Shape) (kind : Kind) (v : View) (keys : List ℕ) (acts : List Act) (reads : List Kept) (done : List ℕ) (told : List Bool) : Type 0 where
-  pub orderly : Orderly v
-  pub so_far : IsDone kind z.bits (reads ++ kept_of z v) done (acts ++ own_acts_of v) told
-  pub opened : (o : OwnDesc) → In o v.opened → DoesOneOf kind z.bits keys (act_of o.entries)
-  pub knows : KnowsHeld v.side v.worker
+-- One worker: what is kept of it and its keys; its acts and reads of earlier rounds; the keys that it has done by now, and what
+-- it was told of each.
+pub record Progress : Type 0 where
+  pub view : View
+  pub keys : List ℕ
+  pub acts : List Act
+  pub reads : List Kept
+  pub done : List ℕ
+  pub told : List Bool
 
--- A run from these opening cells, where each worker has these keys, has done these, and was told this of them. The table is
--- ruled by a world, which goes on from where the acts of the earlier rounds led.
-pub record Running (kind : Kind) (z : Shape) (opening words : List ℕ) (keep : ℕ → View) (keys done : ℕ → List ℕ) (told : ℕ → List Bool) : Type 0 where
+-- It has done these keys one by one, by its acts and reads of all rounds. Each descriptor that it opened does one of its keys,
+-- whether it succeeds or not; and it knows what it holds.
+pub record ProgressInvariant (z : Shape) (kind : Kind) (p : Progress) : Type 0 where
+  pub orderly : Orderly p.view
+  pub so_far : IsDone kind z.bits (p.reads ++ kept_of z p.view) p.done (p.acts ++ own_acts_of p.view) p.told
+  pub opened : (o : OwnDesc) → In o p.view.opened → DoesOneOf kind z.bits p.keys (act_of o.entries)
+  pub knows : KnowsHeld p.view.side p.view.worker
+
+-- A table and its workers at one moment: the cells from which the run started, and the words of the table now; and of each
+-- worker what is kept of it, its keys, those that it has done, and what it was told of each.
+pub record Run : Type 0 where
+  pub kind : Kind
+  pub shape : Shape
+  pub opening : List ℕ
+  pub words : List ℕ
+  pub keep : ℕ → View
+  pub keys : ℕ → List ℕ
+  pub done : ℕ → List ℕ
+  pub told : ℕ → List Bool
+
+-- how far its worker v has come, of whom this is known of earlier rounds
+abbrev pub progress : Run → (before : List Made) (reads : ℕ → List Kept) (v : ℕ) → Progress
+progress r before reads v = record { view = r.keep v; keys = r.keys v; acts = own v before; reads = reads v; done = r.done v; told = r.told v }
+
+-- The table is ruled by a world, which goes on from where the acts of the earlier rounds led.
+pub record RunInvariant (r : Run) : Type 0 where
   pub world : World
-  pub core : Core world z words keep
+  pub core : Core world r.shape r.words r.keep
   -- of the earlier rounds: the acts, and what each worker read
   pub before : List Made
   pub reads : ℕ → List Kept
-  pub meet : AllMeet (acts_of before) opening
-  pub cells : opening_cells world z ≡ apply_acts (acts_of before) opening
-  pub workers : AreOf z.workers before
-  pub acts : (m : Made) → Contains before m → DoesOneOf kind z.bits (keys m.worker) m.act
-  pub was : (v : ℕ) → v < z.workers → WereTrue opening (acts_of before) (reads v)
-  pub doing : (v : ℕ) → v < z.workers → Doing z kind (keep v) (keys v) (own v before) (reads v) (done v) (told v)
+  pub meet : AllMeet (acts_of before) r.opening
+  pub cells : opening_cells world r.shape ≡ apply_acts (acts_of before) r.opening
+  pub workers : AreOf r.shape.workers before
+  pub acts : (m : Made) → Contains before m → DoesOneOf r.kind r.shape.bits (r.keys m.worker) m.act
+  pub was : (v : ℕ) → v < r.shape.workers → WereTrue r.opening (acts_of before) (reads v)
+  pub doing : (v : ℕ) → v < r.shape.workers → ProgressInvariant r.shape r.kind (progress r before reads v)

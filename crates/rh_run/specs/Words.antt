@@ -12,7 +12,7 @@ use Rattle.rh_descriptor.specs.Parts.{cell_count}
 use Rattle.rh_descriptor.specs.View.{View, own_ref}
 use Rattle.rh_descriptor.specs.Words.{cell_in, number_of}
 use Rattle.rh_descriptor.specs.Steps.{IsDesc, IsMark}
-use Rattle.rh_rule.specs.Mirrors.{HasItsRow, word_at}
+use Rattle.rh_rule.specs.Represents.{HasItsRow, word_at}
 use Rattle.rh_rule.specs.Rest.{is_noted_success}
 use Rattle.rh_rule.specs.Wipes.{row_total}
 use Rattle.rh_acts.specs.Act.{Act}

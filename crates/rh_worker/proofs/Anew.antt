@@ -5,7 +5,7 @@ use Rattle.rh_ledger.specs.declared.tally.Kind.{Kind}
 use Rattle.rh_world.specs.Sides.{KeptRead}
 use Rattle.rh_acts.specs.Done.{Kept, kept}
 use Rattle.rh_run.specs.Advance.{GoesOn}
-use Rattle.rh_layout.specs.Round.{place_after}
+use Rattle.rh_layout.specs.Round.{cell_ahead}
 use Rattle.rh_layout.specs.Order.{home_of}
 use Rattle.rh_history.specs.History.{kept_of, value_of}
 use Rattle.rh_descriptor.specs.declared.shape.Shape.{Shape}
@@ -30,8 +30,8 @@ left_off z before v k seen other n h = record { since = seen_back z k seen n ++ 
 alike : (z : Shape) (k : ℕ) (seen other : List ℕ) (n : ℕ) → ((p : ℕ) → p < n → get_or other p 0 ≡ get_or seen p 0) → seen_back z k other n ≡ seen_back z k seen n
 alike z k seen other zero same = refl
 alike z k seen other (suc n) same =
-    ap (λ (x : ℕ). kept (place_after (cell_count z) (home_of z.bits k) n) x ∷ seen_back z k other n) (same n (omega arith))
-    ∙ ap (λ (l : List Kept). kept (place_after (cell_count z) (home_of z.bits k) n) (get_or seen n 0) ∷ l) (alike z k seen other n (λ p l. same p (omega arith)))
+    ap (λ (x : ℕ). kept (cell_ahead (cell_count z) (home_of z.bits k) n) x ∷ seen_back z k other n) (same n (omega arith))
+    ∙ ap (λ (l : List Kept). kept (cell_ahead (cell_count z) (home_of z.bits k) n) (get_or seen n 0) ∷ l) (alike z k seen other n (λ p l. same p (omega arith)))
 
 pub seen_alike : (z : Shape) (before : List Kept) (v : View) (k : ℕ) (seen other : List ℕ) (n : ℕ) → ((p : ℕ) → p < n → get_or other p 0 ≡ get_or seen p 0)
     → HasRead z before v k seen n → HasRead z before v k other n
@@ -42,14 +42,14 @@ seen_alike z before v k seen other n same h = record {
 
 -- the next cell is read
 pub one_read : (z : Shape) (before : List Kept) (v next : View) (k : ℕ) (seen now : List ℕ) (n c value : ℕ) → ((p : ℕ) → p < n → get_or now p 0 ≡ get_or seen p 0) → get_or now n 0 ≡ value
-    → c ≡ place_after (cell_count z) (home_of z.bits k) n → kept_of z next ≡ kept c value ∷ kept_of z v
+    → c ≡ cell_ahead (cell_count z) (home_of z.bits k) n → kept_of z next ≡ kept c value ∷ kept_of z v
     → HasRead z before v k seen n → HasRead z before next k now (suc n)
 one_read z before v next k seen now n c value same last at read h =
     let old = seen_alike z before v k seen now n same h in
     record {
       since = old.since;
       reads = read ∙ ap (λ (ks : List Kept). kept c value ∷ ks) old.reads
-          ∙ ap (λ (x : Kept). x ∷ (seen_back z k now n ++ (old.since ++ before))) (ap (λ (a : ℕ). kept a value) at ∙ ap (λ (x : ℕ). kept (place_after (cell_count z) (home_of z.bits k) n) x) (sym last));
+          ∙ ap (λ (x : Kept). x ∷ (seen_back z k now n ++ (old.since ++ before))) (ap (λ (a : ℕ). kept a value) at ∙ ap (λ (x : ℕ). kept (cell_ahead (cell_count z) (home_of z.bits k) n) x) (sym last));
     }
 
 -- what was seen, as a list of its own

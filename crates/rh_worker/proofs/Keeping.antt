@@ -20,7 +20,7 @@ use Rattle.rh_helping.specs.Settling.{Grows}
 use Rattle.rh_helping.proofs.Growing.{clear_grows}
 use Rattle.rh_worker.specs.Worker.{HasSeen}
 use Rattle.rh_worker.specs.Makes.{Makes}
-use Rattle.rh_worker.specs.declared.sights.Sights.{Sights}
+use Rattle.rh_worker.specs.declared.scan_buffer.ScanBuffer.{ScanBuffer}
 
 pub claim_clear : (v next : View) (word : ℕ) → next ≡ with_side v (claim_side v.side word) → IsClear v → IsClear next
 claim_clear v next word is = clear_grows v next (subst (Grows v) (sym is)
@@ -51,7 +51,7 @@ stepped_makes z k descs reads t v then next m = record {
 }
 
 pub has_seen : {T : Type 0} {shows : Shape → T → View → Type 0} {does : Shape → Step → T → View → ℕ → T → View → Type 0} (z : Shape) (k : StepKind) (t : T) (v : View) (then : T) (next : View) → Makes shows does z k t v then next
-    → (key : ℕ) (s : Sights) (n : ℕ) → HasSeen z v key s n → HasSeen z next key s n
+    → (key : ℕ) (s : ScanBuffer) (n : ℕ) → HasSeen z v key s n → HasSeen z next key s n
 has_seen z k t v then next m key s n h = record { within = h.within; seen = h.seen; were_read = λ p l. m.reads _ (h.were_read p l) }
 
 -- ---- the Read of a cell

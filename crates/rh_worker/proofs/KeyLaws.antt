@@ -22,9 +22,9 @@ module _ (z : Shape) (v next : View) (kind : Kind) (k : ℕ) (f : StepFinishes v
 
 is_done : (z : Shape) (v next : View) (kind : Kind) (k : ℕ) (told : Bool) → StepFinishes v next → Advances z kind k v next (Some told) → KeyIsDone z kind k v next told
 is_done z v next kind k told f (inl g) =
-    record { acts = []; own = stays z v next kind k f g.0 ∙ sym (append-nil (own_acts_of v)); done = inr (refl, g.1) }
+    record { acts = []; own = stays z v next kind k f g.0 ∙ sym (append-nil (own_acts_of v)); done = inr record { none = refl; tells = g.1 } }
 is_done z v next kind k told f (inr s) =
-    record { acts = act_of s.own.entries ∷ []; own = f.succeeds s.own s.closes s.before; done = inl (act_of s.own.entries, refl, s.does) }
+    record { acts = act_of s.own.entries ∷ []; own = f.succeeds s.own s.closes s.before; done = inl record { act = act_of s.own.entries; only = refl; does = s.does } }
 
 after : (z : Shape) (v next : View) (kind : Kind) (k : ℕ) (done : Option Bool) → StepFinishes v next → Advances z kind k v next done → AfterStep z v next kind k done
 after z v next kind k None f a = goes_on z v next kind k f a

@@ -20,8 +20,8 @@ use Rattle.rh_helping.proofs.Owing.{open_all_noted}
 use Rattle.rh_helping.proofs.OwnRows.{entry_is}
 use Rattle.rh_worker.specs.declared.stage.Plan.{Plan}
 use Rattle.rh_worker.specs.declared.stage.Stage.TheVariants as stage
-use Rattle.rh_worker.specs.declared.sights.Sights.{Sights}
-use Rattle.rh_worker.specs.Sights.{AreFit}
+use Rattle.rh_worker.specs.declared.scan_buffer.ScanBuffer.{ScanBuffer}
+use Rattle.rh_worker.specs.ScanBuffer.{AreFit}
 use Rattle.rh_worker.specs.Worker.{IsPlanned, Stays, planned}
 
 -- ---- the entries
@@ -62,7 +62,7 @@ are_entries z es more rising fit =
 
 -- ---- the opening
 
-module _ (z : Shape) (v : View) (kind : Kind) (k : ℕ) (s : Sights) (p : Plan) (planned_is : IsPlanned z v kind k s p) (es : List Entry) (same : es ≡ planned s p) where
+module _ (z : Shape) (v : View) (kind : Kind) (k : ℕ) (s : ScanBuffer) (p : Plan) (planned_is : IsPlanned z v kind k s p) (es : List Entry) (same : es ≡ planned s p) where
   size : length es ≡ p.entries
   size = ap length same ∙ length-take-le p.entries s.entries.items planned_is.plan.within
 

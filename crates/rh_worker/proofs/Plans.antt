@@ -8,8 +8,8 @@ use Rattle.rh_tagword.specs.Word.{IsValue, plain_number, tag_of}
 use Rattle.rh_layout.specs.Key.{IsBits, IsKey, cell_of}
 use Rattle.rh_layout.specs.Order.{home_of}
 use Rattle.rh_layout.proofs.LayoutLemmas.{low_of}
-use Rattle.rh_layout.proofs.RoundLemmas.{place_below}
-use Rattle.rh_edit.specs.News.{put_in, taken_out}
+use Rattle.rh_layout.proofs.RoundLemmas.{ahead_below}
+use Rattle.rh_edit.specs.News.{inserted_at, shifted_back}
 use Rattle.rh_ledger.specs.declared.tally.Kind.{Kind}
 use Rattle.rh_ledger.specs.declared.tally.Kind.TheVariants.{Insert, Remove}
 use Rattle.rh_layout.specs.declared.entry.Entry.{Entry}
@@ -18,9 +18,9 @@ use Rattle.rh_acts.specs.KeyActs.{IsFrontAct, PutsIn, ShowsAbsent, TakesOut}
 use Rattle.rh_acts.specs.Done.{Does}
 use Rattle.rh_descriptor.specs.Words.{IsPlain}
 use Rattle.rh_history.specs.History.{act_of, value_of}
-use Rattle.rh_worker.specs.declared.sights.Decision.{Decision}
-use Rattle.rh_worker.specs.declared.sights.Decision.TheVariants.{Acts}
-use Rattle.rh_worker.specs.Sights.{AreFit, AreValued, Decides, IsPlan, worded}
+use Rattle.rh_worker.specs.declared.scan_buffer.Decision.{Decision}
+use Rattle.rh_worker.specs.declared.scan_buffer.Decision.TheVariants.{Acts}
+use Rattle.rh_worker.specs.ScanBuffer.{AreFit, AreValued, Decides, IsPlan, worded}
 use Rattle.rh_worker.proofs.Keeping.{plain_value}
 
 abbrev pub AreValues : List ℕ → Type 0
@@ -60,7 +60,7 @@ AreGood b act = (e : Entry) → Contains act e → (e.cell < 2 ^ b) × IsValue e
 front_is_good : (b k : ℕ) (act : List Entry) (olds news : List ℕ) → IsBits b → IsFrontAct (2 ^ b) (home_of b k) act olds news → AreValues olds → AreValues news → AreGood b act
 front_is_good b k act olds news fits front old new e has =
     let o = front.only e has in
-    subst (λ (x : Entry). (x.cell < 2 ^ b) × IsValue x.old × IsValue x.new) (sym o.2) (place_below (2 ^ b) (home_of b k) o.0 (omega (arith, low_of b fits k)), old o.0, new o.0)
+    subst (λ (x : Entry). (x.cell < 2 ^ b) × IsValue x.old × IsValue x.new) (sym o.2) (ahead_below (2 ^ b) (home_of b k) o.0 (omega (arith, low_of b fits k)), old o.0, new o.0)
 
 -- ---- the entries with words for their values
 
@@ -123,15 +123,15 @@ module _ (b k : ℕ) (fits : IsBits b) (seen : List ℕ) (values : AreValues see
   inside = omega arith
 
   good_in : IsKey k → PutsIn b k (take n seen) (take n entries) → AreGood b (take n entries)
-  good_in key h = front_is_good b k (take n entries) (take n seen) (put_in (cell_of k) (take n seen) h.place) fits h.front part_values
-      (values_insert (take (length (take n seen) - 1) (take n seen)) h.place (cell_of k) (values_take (length (take n seen) - 1) (take n seen) part_values) (omega arith))
+  good_in key h = front_is_good b k (take n entries) (take n seen) (inserted_at (cell_of k) (take n seen) h.offset) fits h.front part_values
+      (values_insert (take (length (take n seen) - 1) (take n seen)) h.offset (cell_of k) (values_take (length (take n seen) - 1) (take n seen) part_values) (omega arith))
 
   plan_in : IsKey k → PutsIn b k (take n seen) (take n entries) → IsPlan Insert b k (said entries n inside) (record { entries = n; changes = true })
   plan_in key h = plan_said entries n inside Insert b k true (omega (arith, part_length, h.ends)) (good_in key h) (take n seen, h)
 
   good_out : TakesOut b k (take n seen) (take n entries) → AreGood b (take n entries)
-  good_out h = front_is_good b k (take n entries) (take n seen) (taken_out (take n seen) h.place) fits h.front part_values
-      (values_insert (remove (take n seen) h.place) (length (take n seen) - 2) 0 (values_remove (take n seen) h.place part_values) (omega arith))
+  good_out h = front_is_good b k (take n entries) (take n seen) (shifted_back (take n seen) h.offset) fits h.front part_values
+      (values_insert (remove (take n seen) h.offset) (length (take n seen) - 2) 0 (values_remove (take n seen) h.offset part_values) (omega arith))
 
   plan_out : TakesOut b k (take n seen) (take n entries) → IsPlan Remove b k (said entries n inside) (record { entries = n; changes = true })
   plan_out h = plan_said entries n inside Remove b k true (omega (arith, part_length, h.ends)) (good_out h) (take n seen, h)

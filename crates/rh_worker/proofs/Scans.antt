@@ -1,7 +1,7 @@
 -- What a scan has seen, and what it tells.
 use Rattle.std.proofs.Common.{◌≡◌, ◌≢◌, None, ℕ, ◌+◌, ◌<◌, ◌≤◌, Bool, List, length, get_or, get_or-take, take, length-take-le, sym, ap, ◌∙◌, subst, ⊎_elim, arith}
 use Rattle.std.specs.List.{Contains}
-use Rattle.rh_layout.specs.Round.{place_after}
+use Rattle.rh_layout.specs.Round.{cell_ahead}
 use Rattle.rh_layout.specs.Order.{home_of}
 use Rattle.rh_ledger.specs.declared.tally.Kind.{Kind}
 use Rattle.rh_ledger.specs.declared.tally.Kind.TheVariants.{Insert, Remove, Ask}
@@ -18,32 +18,32 @@ use Rattle.rh_helping.specs.declared.looking.Looking.{Looking}
 use Rattle.rh_helping.specs.declared.looking.Looking.TheVariants as looking
 use Rattle.rh_helping.specs.Looking.{IsLooking, LooksOn}
 use Rattle.rh_run.specs.Advance.{GoesOn}
-use Rattle.rh_worker.specs.declared.sights.Sights.{Sights}
-use Rattle.rh_worker.specs.declared.sights.Decision.TheVariants.{Done}
-use Rattle.rh_worker.specs.Sights.{Decides}
+use Rattle.rh_worker.specs.declared.scan_buffer.ScanBuffer.{ScanBuffer}
+use Rattle.rh_worker.specs.declared.scan_buffer.Decision.TheVariants.{Done}
+use Rattle.rh_worker.specs.ScanBuffer.{Decides}
 use Rattle.rh_worker.specs.Worker.{HasSeen, WereRead}
 
 pub told_is : (kind : Kind) (z : Shape) (v : View) (k : ℕ) (seen : List ℕ) (entries : List Entry) (told : Bool) → length seen ≤ cell_count z → WereRead z v k seen
     → Decides kind z.bits k seen entries (Done told) → IsTold kind z.bits (kept_of z v) k told
 told_is Insert z v k seen entries told room read d =
-    let c = place_after (cell_count z) (home_of z.bits k) d.1.0 in
+    let c = cell_ahead (cell_count z) (home_of z.bits k) d.1.0 in
     (d.0, (c, subst (λ (x : ℕ). Contains (kept_of z v) (kept c x)) d.1.1.2 (read d.1.0 d.1.1.0)))
 told_is Remove z v k seen entries told room read d = absurd d
 told_is Ask z v k seen entries told room read d = record { seen = seen; room = room; read = read; tells = d }
 
-pub seen_again : (z : Shape) (v : View) (k : ℕ) (s t : Sights) (n : ℕ) → n < cell_count z → n ≤ length s.seen.items → t.seen.items ≡ s.seen.items → WereRead z v k (take n s.seen.items)
+pub seen_again : (z : Shape) (v : View) (k : ℕ) (s t : ScanBuffer) (n : ℕ) → n < cell_count z → n ≤ length s.seen.items → t.seen.items ≡ s.seen.items → WereRead z v k (take n s.seen.items)
     → HasSeen z v k t n
 seen_again z v k s t n inside within same h = record { within = inside; seen = omega (arith, ap length same, within); were_read = subst (λ (l : List ℕ). WereRead z v k (take n l)) (sym same) h }
 
-pub none_seen : (z : Shape) (v : View) (k : ℕ) (s : Sights) → 0 < cell_count z → HasSeen z v k s 0
+pub none_seen : (z : Shape) (v : View) (k : ℕ) (s : ScanBuffer) → 0 < cell_count z → HasSeen z v k s 0
 none_seen z v k s more = record { within = more; seen = omega arith; were_read = λ p l. absurd (omega arith) }
 
 -- one more cell is read
 pub more_seen : (z : Shape) (v next : View) (k n c value : ℕ) (items now : List ℕ) → ((r : Kept) → Contains (kept_of z v) r → Contains (kept_of z next) r)
     → WereRead z v k (take n items) → n ≤ length items → n < length now → ((p : ℕ) → p < n → get_or now p 0 ≡ get_or items p 0) → get_or now n 0 ≡ value
-    → c ≡ place_after (cell_count z) (home_of z.bits k) n → Contains (kept_of z next) (kept c value) → WereRead z next k (take (n + 1) now)
+    → c ≡ cell_ahead (cell_count z) (home_of z.bits k) n → Contains (kept_of z next) (kept c value) → WereRead z next k (take (n + 1) now)
 more_seen z v next k n c value items now stay before reached inside same last at read p l =
-    let is : ℕ → ℕ = place_after (cell_count z) (home_of z.bits k) in
+    let is : ℕ → ℕ = cell_ahead (cell_count z) (home_of z.bits k) in
     let size = length-take-le (n + 1) now (omega (arith, inside)) in
     let here : get_or (take (n + 1) now) p 0 ≡ get_or now p 0 = get_or-take (n + 1) now p 0 (omega (arith, size, l)) in
     ⊎_elim (λ (q : p ≡ n).

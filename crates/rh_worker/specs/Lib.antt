@@ -1,4 +1,4 @@
-pub mod Sights
+pub mod ScanBuffer
 pub mod Worker
 pub mod Reading
 pub mod Makes

@@ -1,6 +1,6 @@
 -- What was read for a key since it was begun.
 use Rattle.std.specs.Prelude.{zero, suc, ◌≡◌, ℕ, ◌⊎◌, Option, Some, None, Bool, List, [], ◌∷◌, ◌++◌, length, slice_index}
-use Rattle.rh_layout.specs.Round.{place_after}
+use Rattle.rh_layout.specs.Round.{cell_ahead}
 use Rattle.rh_layout.specs.Order.{home_of}
 use Rattle.rh_ledger.specs.declared.tally.Kind.{Kind}
 use Rattle.rh_acts.specs.Done.{Kept, kept}
@@ -9,7 +9,7 @@ use Rattle.rh_descriptor.specs.Parts.{cell_count}
 use Rattle.rh_descriptor.specs.View.{View}
 use Rattle.rh_history.specs.History.{kept_of}
 use Rattle.rh_run.specs.Advance.{GoesOn, Succeeds}
-use Rattle.rh_worker.specs.Sights.{IsDoneBy}
+use Rattle.rh_worker.specs.ScanBuffer.{IsDoneBy}
 use Rattle.rh_worker.specs.declared.stage.Stage.{Stage}
 use Rattle.rh_worker.specs.declared.stage.Stage.TheVariants as stage
 use Rattle.rh_worker.specs.declared.worker.Worker.{Worker}
@@ -17,7 +17,7 @@ use Rattle.rh_worker.specs.declared.worker.Worker.{Worker}
 -- the first n cells from the key's home on, as they were seen, the last one first
 abbrev pub seen_back : Shape → (k : ℕ) → (seen : List ℕ) → (n : ℕ) → List Kept
 seen_back z k seen zero = []
-seen_back z k seen (suc n) = kept (place_after (cell_count z) (home_of z.bits k) n) (slice_index seen n) ∷ seen_back z k seen n
+seen_back z k seen (suc n) = kept (cell_ahead (cell_count z) (home_of z.bits k) n) (slice_index seen n) ∷ seen_back z k seen n
 
 -- These were kept as read before the key was begun. Of those since, the newest are of the first n cells from its home on,
 -- in their order, and held what was seen.
@@ -35,7 +35,7 @@ seen_at (stage.Swap w n p) = 0
 
 -- what the worker sees was read anew
 abbrev pub ReadsAnew : Shape → (before : List Kept) → Worker → Type 0
-ReadsAnew z before w = HasRead z before w.side.known.view w.key w.sights.seen.items (seen_at w.stage)
+ReadsAnew z before w = HasRead z before w.side.known.view w.key w.buffer.seen.items (seen_at w.stage)
 
 -- what is told of a key that no act does, by the cells that were read in turn since it was begun
 pub record IsToldAnew (z : Shape) (before : List Kept) (v : View) (kind : Kind) (k : ℕ) (told : Bool) : Type 0 where

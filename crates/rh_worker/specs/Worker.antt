@@ -1,7 +1,7 @@
 -- What is so of a worker between two of its steps.
 use Rattle.std.specs.Prelude.{◌≡◌, ℕ, ◌<◌, ◌≤◌, ◌⊎◌, Option, Some, None, Bool, List, length, take, slice_index}
 use Rattle.std.specs.List.{Contains}
-use Rattle.rh_layout.specs.Round.{place_after}
+use Rattle.rh_layout.specs.Round.{cell_ahead}
 use Rattle.rh_layout.specs.Key.{IsKey}
 use Rattle.rh_layout.specs.Order.{home_of}
 use Rattle.rh_ledger.specs.declared.tally.Kind.{Kind}
@@ -21,11 +21,11 @@ use Rattle.rh_helping.specs.Opening.{IsOpening, kind_of_opening}
 use Rattle.rh_helping.specs.Work.{Stands, kind_of_work}
 use Rattle.rh_history.specs.History.{kept_of}
 use Rattle.rh_history.specs.OwnActs.{Closes}
-use Rattle.rh_worker.specs.Sights.{HasRoom, IsPlan}
+use Rattle.rh_worker.specs.ScanBuffer.{HasRoom, IsPlan}
 use Rattle.rh_worker.specs.declared.stage.Plan.{Plan}
 use Rattle.rh_worker.specs.declared.stage.Stage.{Stage}
 use Rattle.rh_worker.specs.declared.stage.Stage.TheVariants as stage
-use Rattle.rh_worker.specs.declared.sights.Sights.{Sights}
+use Rattle.rh_worker.specs.declared.scan_buffer.ScanBuffer.{ScanBuffer}
 use Rattle.rh_worker.specs.declared.worker.Worker.{Worker}
 
 abbrev pub kind_of_stage : Stage → StepKind
@@ -50,30 +50,30 @@ EndsAt (Some told) p = p ≡ stage.Idle
 
 -- each was read of its cell, from the key's home on
 abbrev pub WereRead : Shape → View → (k : ℕ) → (seen : List ℕ) → Type 0
-WereRead z v k seen = (p : ℕ) → p < length seen → Contains (kept_of z v) (kept (place_after (cell_count z) (home_of z.bits k) p) (slice_index seen p))
+WereRead z v k seen = (p : ℕ) → p < length seen → Contains (kept_of z v) (kept (cell_ahead (cell_count z) (home_of z.bits k) p) (slice_index seen p))
 
 -- the first n cells from the key's home on were read, and there is a next one
-pub record HasSeen (z : Shape) (v : View) (k : ℕ) (s : Sights) (n : ℕ) : Type 0 where
+pub record HasSeen (z : Shape) (v : View) (k : ℕ) (s : ScanBuffer) (n : ℕ) : Type 0 where
   pub within : n < cell_count z
   pub seen : n ≤ length s.seen.items
   pub were_read : WereRead z v k (take n s.seen.items)
 
 -- ---- an own descriptor that is to be opened: its row may be of it by now
 
-pub record IsPlanned (z : Shape) (v : View) (kind : Kind) (k : ℕ) (s : Sights) (p : Plan) : Type 0 where
+pub record IsPlanned (z : Shape) (v : View) (kind : Kind) (k : ℕ) (s : ScanBuffer) (p : Plan) : Type 0 where
   pub owns : Owns v None
   pub owes : OwesNothing v
   pub plan : IsPlan kind z.bits k s.entries.items p
   pub room : v.next_number < z.rooms.descriptors
 
 -- its entries
-abbrev pub planned : Sights → Plan → List Entry
+abbrev pub planned : ScanBuffer → Plan → List Entry
 planned s p = take p.entries s.entries.items
 
 -- ---- an own descriptor that is open, or was
 
 -- the planned one, opened with this number
-abbrev pub opened_as : (number : ℕ) → Sights → Plan → OwnDesc
+abbrev pub opened_as : (number : ℕ) → ScanBuffer → Plan → OwnDesc
 opened_as number s p = record { number = number; entries = planned s p }
 
 -- the own descriptor that was open was closed, and the worker had withdrawn it
@@ -88,7 +88,7 @@ HasNoRoom z v = (z.rooms.marks ≤ v.marks_used) ⊎ (z.rooms.descriptors ≤ v.
 
 -- ---- at each stage
 
-abbrev pub Stays : Shape → View → Kind → (k : ℕ) → Sights → Stage → Type 0
+abbrev pub Stays : Shape → View → Kind → (k : ℕ) → ScanBuffer → Stage → Type 0
 Stays z v kind k s stage.Idle = IsClear v
 Stays z v kind k s stage.Spent = IsClear v × HasNoRoom z v
 Stays z v kind k s (stage.Scan l n) = IsLooking z v l × HasSeen z v k s n
@@ -98,8 +98,13 @@ Stays z v kind k s (stage.Swap w n p) = KnowsOwn v (Some (opened_as n s p)) × S
 -- what is so of a worker at a stage
 pub record IsAt (z : Shape) (w : Worker) (p : Stage) : Type 0 where
   pub key : IsKey w.key
-  pub room : HasRoom z.bits w.sights
-  pub stays : Stays z w.side.known.view w.kind w.key w.sights p
+  pub room : HasRoom z.bits w.buffer
+  pub stays : Stays z w.side.known.view w.kind w.key w.buffer p
 
 abbrev pub IsWorker : Shape → Worker → Type 0
 IsWorker z w = IsAt z w w.stage
+
+-- it is at the same key, and does the same with it
+pub record KeepsKey (w next : Worker) : Type 0 where
+  pub kind : next.kind ≡ w.kind
+  pub key : next.key ≡ w.key

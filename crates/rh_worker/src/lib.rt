@@ -4,13 +4,13 @@
 #![tactic(auto)]
 
 mod laws;
+mod scan_buffer;
 mod scanning;
-mod sights;
 mod stage;
 mod swapping;
 mod worker;
 
 pub use laws::keys_are_done;
-pub use sights::Sights;
+pub use scan_buffer::ScanBuffer;
 pub use stage::{Plan, Stage};
 pub use worker::{Stepped, Worker};

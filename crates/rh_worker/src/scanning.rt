@@ -1,29 +1,27 @@
 //! Scanning the cells from a key's home on, one Read after the other.
 
-ghost use Rattle.std.specs.Prelude.{◌≡◌, ◌<◌, ◌≤◌, ◌++◌, ℕ, IfSome, List, None, length, take};
+ghost use Rattle.std.specs.Prelude.{◌≡◌, ◌≤◌, IfSome, List, None, length, take};
 ghost use Rattle.rh_descriptor.specs.Parts.{IsShape};
 ghost use Rattle.rh_run.specs.Advance.{Advances};
 ghost use Rattle.rh_worker.specs.Makes.{Makes};
 ghost use Rattle.rh_steps.specs.Relies.{Relies};
-ghost use Rattle.rh_worker.specs.Worker.{IsAt, IsWorker};
+ghost use Rattle.rh_worker.specs.Worker.{IsAt, IsWorker, KeepsKey};
 ghost use Rattle.rh_worker.specs.declared.stage.Stage.TheVariants as stage;
 ghost use Rattle.rh_acts.specs.Done.{IsTold, Kept};
 ghost use Rattle.rh_worker.specs.Reading.{HasRead, IsToldAnew, ReadsAnew, TellsAnew, seen_at};
 ghost use Rattle.rh_history.specs.History.{kept_of};
 ghost use Rattle.rh_helping.specs.Goal.{IsClear};
 ghost use Rattle.rh_helping.specs.Looking.{kind_of_looking};
-ghost use Rattle.rh_worker.specs.Sights.{HasRoom, IsPlan};
-ghost use Rattle.rh_worker.specs.declared.sights.Sights.{Sights};
-ghost use Rattle.rh_ledger.specs.declared.tally.Kind.{Kind};
+ghost use Rattle.rh_worker.specs.ScanBuffer.{HasRoom, IsPlan};
 ghost use Rattle.rh_worker.specs.Worker.{EndsAt, Stays, WereRead};
 ghost use Rattle.rh_descriptor.specs.Parts.{cell_count};
 ghost use Rattle.rh_layout.specs.Key.{IsKey};
 ghost use Rattle.rh_rule.specs.Sound.{Sound};
 
-use crate::sights::Decision;
+use crate::scan_buffer::Decision;
 use crate::stage::{Plan, Stage};
 use crate::worker::Worker;
-use rh_descriptor::{Shape, Side};
+use rh_descriptor::Shape;
 use rh_helping::{Looked, Looking, Opening};
 use rh_layout::home;
 use rh_probe::cell_after;
@@ -39,19 +37,17 @@ pub(crate) fn scan<T: Steps>(
     looking: Looking,
     seen: usize,
 ) -> Option<bool>
-    requires shape { IsShape shape.now }
     requires relies { Relies T.shows T.serves shape.now table.old worker.old.side.known.view }
     requires worker { IsAt shape.now worker.old (stage.Scan looking seen) }
     ensures makes { Makes T.shows T.made shape.now (kind_of_looking looking) table.old worker.old.side.known.view
         table.new worker.new.side.known.view }
     ensures worker { IsWorker shape.now worker.new }
-    ensures same_kind { worker.new.kind ≡ worker.old.kind }
-    ensures same_key { worker.new.key ≡ worker.old.key }
+    ensures keeps { KeepsKey worker.old worker.new }
     ensures advances { Advances shape.now worker.old.kind worker.old.key worker.old.side.known.view
         worker.new.side.known.view result }
     ensures ends { EndsAt result worker.new.stage }
     ensures anew { (before : List Kept) → HasRead shape.now before worker.old.side.known.view worker.old.key
-        worker.old.sights.seen.items seen → ReadsAnew shape.now before worker.new ×
+        worker.old.buffer.seen.items seen → ReadsAnew shape.now before worker.new ×
         TellsAnew shape.now before worker.old.kind worker.old.key worker.old.side.known.view
         worker.new.side.known.view result }
 {
@@ -64,7 +60,7 @@ pub(crate) fn scan<T: Steps>(
         Looked::Sees(word) => {
             // (a look ends with a plain word)
             let value = plain_value(word).unwrap();
-            worker.sights.see(seen, value);
+            worker.buffer.see(seen, value);
             decide(worker, shape, seen + 1)
         }
         Looked::Spent => {
@@ -79,25 +75,24 @@ fn decide(worker: &mut Worker, shape: &Shape, count: usize) -> Option<bool>
     requires shape { IsShape shape.now }
     requires sound { Sound shape.now worker.old.side.known.view }
     requires key { IsKey worker.old.key }
-    requires room { HasRoom shape.now.bits worker.old.sights }
+    requires room { HasRoom shape.now.bits worker.old.buffer }
     requires clear { IsClear worker.old.side.known.view }
     requires count { count ≤ cell_count shape.now }
-    requires seen { count ≤ length worker.old.sights.seen.items }
+    requires seen { count ≤ length worker.old.buffer.seen.items }
     requires were_read { WereRead shape.now worker.old.side.known.view worker.old.key
-        (take count worker.old.sights.seen.items) }
+        (take count worker.old.buffer.seen.items) }
     ensures worker { IsWorker shape.now worker.new }
     ensures same_view { worker.new.side.known.view ≡ worker.old.side.known.view }
-    ensures same_kind { worker.new.kind ≡ worker.old.kind }
-    ensures same_key { worker.new.key ≡ worker.old.key }
+    ensures keeps { KeepsKey worker.old worker.new }
     ensures ends { EndsAt result worker.new.stage }
     ensures told { IfSome result (IsTold worker.old.kind shape.now.bits
         (kept_of shape.now worker.old.side.known.view) worker.old.key) }
     ensures anew { (before : List Kept) → HasRead shape.now before worker.old.side.known.view worker.old.key
-        worker.old.sights.seen.items count → ReadsAnew shape.now before worker.new ×
+        worker.old.buffer.seen.items count → ReadsAnew shape.now before worker.new ×
         IfSome result (IsToldAnew shape.now before worker.new.side.known.view worker.old.kind worker.old.key) }
 {
     let decision = worker
-        .sights
+        .buffer
         .decide(worker.kind, shape.bits, worker.key, count);
     match decision {
         Decision::Done(answer) => {
@@ -105,7 +100,7 @@ fn decide(worker: &mut Worker, shape: &Shape, count: usize) -> Option<bool>
             Some(answer)
         }
         Decision::Acts(plan) => {
-            worker.stage = planned(shape, &worker.side, plan);
+            worker.stage = planned(worker, shape, plan);
             None
         }
         Decision::More => {
@@ -117,14 +112,15 @@ fn decide(worker: &mut Worker, shape: &Shape, count: usize) -> Option<bool>
 }
 
 /// The first step of an own descriptor, if there is a number left for it and a mark for its work.
-fn planned(shape: &Shape, side: &Side, plan: Plan) -> Stage
-    requires { Sound shape.now side.now.known.view }
-    ensures stays { (kind : Kind) → (k : ℕ) → (s : Sights) → HasRoom shape.now.bits s →
-        IsClear side.now.known.view → IsPlan kind shape.now.bits k s.entries.items plan →
-        Stays shape.now side.now.known.view kind k s result }
+fn planned(worker: &Worker, shape: &Shape, plan: Plan) -> Stage
+    requires sound { Sound shape.now worker.now.side.known.view }
+    requires clear { IsClear worker.now.side.known.view }
+    requires plan { IsPlan worker.now.kind shape.now.bits worker.now.key worker.now.buffer.entries.items plan }
+    ensures stays { Stays shape.now worker.now.side.known.view worker.now.kind worker.now.key worker.now.buffer result }
     ensures ends { EndsAt None result }
     ensures unseen { seen_at result ≡ 0 }
 {
+    let side = &worker.side;
     if side.next_number < shape.rooms.descriptors && side.marks_used < shape.rooms.marks {
         Stage::Open {
             opening: Opening::Serial,

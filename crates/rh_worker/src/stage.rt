@@ -8,7 +8,7 @@ ghost use Rattle.rh_worker.specs.declared.stage.Stage.TheVariants as stage;
 use rh_descriptor::StepKind;
 use rh_helping::{Looking, Opening, Work};
 
-/// An own descriptor that is to be opened, or is open. Its entries stand in the worker's `Sights`.
+/// An own descriptor that is to be opened, or is open. Its entries stand in the worker's `ScanBuffer`.
 #[derive(Clone, Copy)]
 pub struct Plan {
     /// How many entries it has.

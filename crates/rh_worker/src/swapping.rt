@@ -1,11 +1,10 @@
 //! An own descriptor, from its opening to its end.
 
 ghost use Rattle.std.specs.Prelude.{◌≡◌, List, None};
-ghost use Rattle.rh_descriptor.specs.Parts.{IsShape};
 ghost use Rattle.rh_run.specs.Advance.{Advances};
 ghost use Rattle.rh_worker.specs.Makes.{Makes};
 ghost use Rattle.rh_steps.specs.Relies.{Relies};
-ghost use Rattle.rh_worker.specs.Worker.{EndsAt, GivesUp, IsAt, IsWorker};
+ghost use Rattle.rh_worker.specs.Worker.{EndsAt, GivesUp, IsAt, IsWorker, KeepsKey};
 ghost use Rattle.rh_worker.specs.Reading.{HasRead, ReadsAnew};
 ghost use Rattle.rh_worker.specs.declared.stage.Stage.TheVariants as stage;
 ghost use Rattle.rh_acts.specs.Done.{Kept};
@@ -26,25 +25,23 @@ pub(crate) fn open<T: Steps>(
     opening: Opening,
     plan: Plan,
 )
-    requires shape { IsShape shape.now }
     requires relies { Relies T.shows T.serves shape.now table.old worker.old.side.known.view }
     requires worker { IsAt shape.now worker.old (stage.Open opening plan) }
     ensures makes { Makes T.shows T.made shape.now (kind_of_opening opening) table.old worker.old.side.known.view
         table.new worker.new.side.known.view }
     ensures worker { IsWorker shape.now worker.new }
-    ensures same_kind { worker.new.kind ≡ worker.old.kind }
-    ensures same_key { worker.new.key ≡ worker.old.key }
+    ensures keeps { KeepsKey worker.old worker.new }
     ensures advances { Advances shape.now worker.old.kind worker.old.key worker.old.side.known.view
         worker.new.side.known.view None }
     ensures ends { EndsAt None worker.new.stage }
     ensures anew { (before : List Kept) → HasRead shape.now before worker.old.side.known.view worker.old.key
-        worker.old.sights.seen.items 0 → ReadsAnew shape.now before worker.new }
+        worker.old.buffer.seen.items 0 → ReadsAnew shape.now before worker.new }
 {
     let desc = Ref {
         worker: worker.side.worker,
         number: worker.side.next_number,
     };
-    let entries = &worker.sights.entries[..plan.entries];
+    let entries = &worker.buffer.entries[..plan.entries];
     match opening.step(shape, table, &mut worker.side, entries) {
         Some(opening) => worker.stage = Stage::Open { opening, plan },
         None => {
@@ -67,25 +64,23 @@ pub(crate) fn swap<T: Steps>(
     number: u64,
     plan: Plan,
 ) -> Option<bool>
-    requires shape { IsShape shape.now }
     requires relies { Relies T.shows T.serves shape.now table.old worker.old.side.known.view }
     requires worker { IsAt shape.now worker.old (stage.Swap work number plan) }
     ensures makes { Makes T.shows T.made shape.now (kind_of_work work) table.old worker.old.side.known.view
         table.new worker.new.side.known.view }
     ensures worker { IsWorker shape.now worker.new }
-    ensures same_kind { worker.new.kind ≡ worker.old.kind }
-    ensures same_key { worker.new.key ≡ worker.old.key }
+    ensures keeps { KeepsKey worker.old worker.new }
     ensures advances { Advances shape.now worker.old.kind worker.old.key worker.old.side.known.view
         worker.new.side.known.view result }
     ensures ends { EndsAt result worker.new.stage }
     ensures gives_up { GivesUp worker.old.side.known.view worker.new.side.known.view →
         worker.new.stage ≡ stage.Spent }
     ensures anew { (before : List Kept) → HasRead shape.now before worker.old.side.known.view worker.old.key
-        worker.old.sights.seen.items 0 → ReadsAnew shape.now before worker.new }
+        worker.old.buffer.seen.items 0 → ReadsAnew shape.now before worker.new }
 {
     let open = OpenDesc {
         number,
-        entries: &worker.sights.entries[..plan.entries],
+        entries: &worker.buffer.entries[..plan.entries],
     };
     match work.step(shape, table, &mut worker.side, Some(open)) {
         Outcome::On(work) => {

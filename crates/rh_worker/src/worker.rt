@@ -10,14 +10,14 @@ ghost use Rattle.rh_descriptor.specs.Steps.Step.{claims};
 ghost use Rattle.rh_run.specs.Advance.{Advances};
 ghost use Rattle.rh_worker.specs.Makes.{Makes};
 ghost use Rattle.rh_steps.specs.Relies.{Relies, Went};
-ghost use Rattle.rh_worker.specs.Worker.{EndsAt, GivesUp, IsBusy, IsWorker};
+ghost use Rattle.rh_worker.specs.Worker.{EndsAt, GivesUp, IsBusy, IsWorker, KeepsKey};
 ghost use Rattle.rh_worker.specs.Reading.{ReadsAnew, TellsAnew};
 ghost use Rattle.rh_acts.specs.Done.{Kept};
 ghost use Rattle.rh_history.specs.History.{kept_of};
 ghost use Rattle.rh_helping.specs.Held.{IsHeld};
 ghost use Rattle.rh_worker.specs.declared.stage.Stage.TheVariants as stage;
 
-use crate::sights::Sights;
+use crate::scan_buffer::ScanBuffer;
 use crate::stage::Stage;
 use crate::{scanning, swapping};
 use rh_descriptor::{Ask, Shape, Side, StepKind};
@@ -38,7 +38,7 @@ pub struct Worker {
     /// What it does next.
     pub stage: Stage,
     /// What it has seen of the table for the key.
-    pub sights: Sights,
+    pub buffer: ScanBuffer,
 }
 
 /// A step that was made.
@@ -64,13 +64,13 @@ impl Worker {
         ensures kind { IfOk result (λ w. w.kind ≡ kind) }
         ensures view { IfOk result (λ w. w.side.known.view ≡ new_view cells.now worker) }
     {
-        let sights = Sights::new(alloc, shape.bits)?;
+        let buffer = ScanBuffer::new(alloc, shape.bits)?;
         Ok(Worker {
             side: Side::new(worker, cells),
             kind,
             key: 0,
             stage: Stage::Idle,
-            sights,
+            buffer,
         })
     }
 
@@ -117,7 +117,6 @@ impl Worker {
 
     /// Claims the next position in the list of keys, and answers it.
     pub fn claim<T: Steps>(&mut self, shape: &Shape, table: &mut T) -> u64
-        requires shape { IsShape shape.now }
         requires relies { Relies T.shows T.serves shape.now table.old self.old.side.known.view }
         requires worker { IsWorker shape.now self.old }
         requires idle { self.old.stage ≡ stage.Idle }
@@ -126,8 +125,7 @@ impl Worker {
             result table.new self.new.side.known.view }
         ensures worker { IsWorker shape.now self.new }
         ensures idle { self.new.stage ≡ stage.Idle }
-        ensures same_kind { self.new.kind ≡ self.old.kind }
-        ensures same_key { self.new.key ≡ self.old.key }
+        ensures keeps { KeepsKey self.old self.new }
     {
         table.make(shape, &mut self.side, Ask::Claim)
     }
@@ -139,8 +137,7 @@ impl Worker {
         ensures idle { self.old.stage ≡ stage.Idle → self.new.stage ≡ stage.Idle }
         ensures again { self.old.stage ≡ stage.Spent → IsBusy self.new.stage }
         ensures view { self.new.side.known.view ≡ round_view cells.now self.old.side.known.view }
-        ensures same_kind { self.new.kind ≡ self.old.kind }
-        ensures same_key { self.new.key ≡ self.old.key }
+        ensures keeps { KeepsKey self.old self.new }
         ensures anew { (z : Shape) → self.old.stage ≡ stage.Spent → ReadsAnew z [] self.new }
     {
         self.side.begin_round(cells);
@@ -152,15 +149,13 @@ impl Worker {
     /// Makes the next step. With the one by which it gives up a key it is spent. A key that no act does
     /// is told of by what was read since it was begun.
     pub fn step<T: Steps>(&mut self, shape: &Shape, table: &mut T) -> Stepped
-        requires shape { IsShape shape.now }
         requires relies { Relies T.shows T.serves shape.now table.old self.old.side.known.view }
         requires worker { IsWorker shape.now self.old }
         requires busy { IsBusy self.old.stage }
         ensures makes { Makes T.shows T.made shape.now result.kind table.old self.old.side.known.view
             table.new self.new.side.known.view }
         ensures worker { IsWorker shape.now self.new }
-        ensures same_kind { self.new.kind ≡ self.old.kind }
-        ensures same_key { self.new.key ≡ self.old.key }
+        ensures keeps { KeepsKey self.old self.new }
         ensures advances { Advances shape.now self.old.kind self.old.key self.old.side.known.view
             self.new.side.known.view result.done }
         ensures ends { EndsAt result.done self.new.stage }

@@ -1,4 +1,4 @@
-use Rattle.std.proofs.Common.{ℕ, ◌≤◌, List, length-take, rules, subst, sym, take, arith}
+use Rattle.std.proofs.Common.{ℕ, List, length-take, rules, subst, sym, take, arith}
 use Rattle.rh_helping.specs.declared.looking.Looking.TheVariants as looking
 use Rattle.rh_worker.specs.Worker.{Stays}
 use Rattle.rh_worker.specs.Reading.{HasRead, seen_at}
@@ -12,8 +12,8 @@ use Rattle.rh_worker.proofs.scanning.decide.Goals as goal
 pub returns-in-Done-clause-told : goal.returns-in-Done-clause-told
 returns-in-Done-clause-told c =
     let w = c.args.worker.now in
-    told_is w.kind c.args.shape.now w.side.known.view w.key (take c.args.count w.sights.seen.items) c.decide-decision.new.self.entries.items c.in-Done.answer
-    (omega (arith, length-take c.args.count w.sights.seen.items)) c.requires.were_read c.in-Done.ensures.decides
+    told_is w.kind c.args.shape.now w.side.known.view w.key (take c.args.count w.buffer.seen.items) c.decide-decision.new.self.entries.items c.in-Done.answer
+    (omega (arith, length-take c.args.count w.buffer.seen.items)) c.requires.were_read c.in-Done.ensures.decides
 
 pub returns-after-count-cells-clause-worker : goal.returns-after-count-cells-clause-worker
 returns-after-count-cells-clause-worker c =
@@ -26,7 +26,7 @@ returns-after-count-cells-clause-worker c =
       room = c.in-More.ensures.room;
       stays = subst (Stays z v w.kind w.key t) (sym c.reading-worker.ensures) (elim c.if-count-cells.branch [
         | then-count-cells b ↦ subst (λ n. Stays z v w.kind w.key t (stage.Scan looking.Read n)) (sym b.seen-is)
-            (c.requires.clear, seen_again z v w.key w.sights t c.args.count (omega arith) c.requires.seen c.in-More.ensures.seen c.requires.were_read)
+            (c.requires.clear, seen_again z v w.key w.buffer t c.args.count (omega arith) c.requires.seen c.in-More.ensures.seen c.requires.were_read)
         | else-count-cells b ↦ subst (λ n. Stays z v w.kind w.key t (stage.Scan looking.Read n)) (sym b.seen-is) (c.requires.clear, none_seen z v w.key t (search rules))
       ]);
     }
@@ -37,15 +37,15 @@ returns-in-Done-clause-anew c before h =
     let z = c.args.shape.now in
     let v = w.side.known.view in
     let within = c.requires.seen in (
-      left_off z before v w.key w.sights.seen.items _ c.args.count h,
-      record { seen = take c.args.count w.sights.seen.items; read = front_read z before v w.key w.sights.seen.items c.args.count within h; tells = c.in-Done.ensures.decides },
+      left_off z before v w.key w.buffer.seen.items _ c.args.count h,
+      record { seen = take c.args.count w.buffer.seen.items; read = front_read z before v w.key w.buffer.seen.items c.args.count within h; tells = c.in-Done.ensures.decides },
     )
 
 pub returns-in-Acts-clause-anew : goal.returns-in-Acts-clause-anew
 returns-in-Acts-clause-anew c before h =
     let w = c.args.worker.now in
     let z = c.args.shape.now in
-    (subst (HasRead z before w.side.known.view w.key _) (sym c.planned-worker.ensures.unseen) (left_off z before w.side.known.view w.key w.sights.seen.items _ c.args.count h), tt)
+    (subst (HasRead z before w.side.known.view w.key _) (sym c.planned-worker.ensures.unseen) (left_off z before w.side.known.view w.key w.buffer.seen.items _ c.args.count h), tt)
 
 pub returns-after-count-cells-clause-anew : goal.returns-after-count-cells-clause-anew
 returns-after-count-cells-clause-anew c before h =
@@ -56,7 +56,7 @@ returns-after-count-cells-clause-anew c before h =
     let same = c.in-More.ensures.seen in (
       subst (λ (p : Stage). HasRead z before v w.key t.seen.items (seen_at p)) (sym c.reading-worker.ensures) (elim c.if-count-cells.branch [
         | then-count-cells b ↦ subst (HasRead z before v w.key t.seen.items) (sym b.seen-is) (subst (λ (l : List ℕ). HasRead z before v w.key l c.args.count) (sym same) h)
-        | else-count-cells b ↦ subst (HasRead z before v w.key t.seen.items) (sym b.seen-is) (left_off z before v w.key w.sights.seen.items t.seen.items c.args.count h)
+        | else-count-cells b ↦ subst (HasRead z before v w.key t.seen.items) (sym b.seen-is) (left_off z before v w.key w.buffer.seen.items t.seen.items c.args.count h)
       ]),
       tt,
     )

@@ -1,7 +1,7 @@
-use Rattle.std.proofs.Common.{suc, ◌≡◌, ◌+◌, ◌∙◌, inl, rules, subst, sym, arith}
+use Rattle.std.proofs.Common.{suc, ◌≡◌, ◌+◌, inl, rules, subst, sym, arith}
 use Rattle.rh_layout.specs.Order.{home_of}
 use Rattle.rh_tagword.proofs.PlainWords.{value_said, value_there}
-use Rattle.rh_layout.specs.Round.{place_after}
+use Rattle.rh_layout.specs.Round.{cell_ahead}
 use Rattle.rh_descriptor.specs.Parts.{cell_count}
 use Rattle.rh_descriptor.specs.View.{View}
 use Rattle.rh_run.specs.Advance.{GoesOn}
@@ -22,7 +22,7 @@ returns-in-On-clause-worker g c =
     record {
       key = c.requires.worker.key;
       room = c.requires.worker.room;
-      stays = (c.in-On.ensures.leads, has_seen z _ _ w.side.known.view _ _ made w.key w.sights c.args.seen c.requires.worker.stays.1);
+      stays = (c.in-On.ensures.leads, has_seen z _ _ w.side.known.view _ _ made w.key w.buffer c.args.seen c.requires.worker.stays.1);
     }
 
 pub returns-in-On-clause-advances : goal.returns-in-On-clause-advances
@@ -34,7 +34,7 @@ returns-in-On-clause-anew g c before h =
     let w = c.args.worker.now in
     let z = c.args.shape.now in
     let next = c.step.new.side.known.view in
-    (none_read z before w.side.known.view next w.key w.sights.seen.items c.args.seen (kept_alike z w.side.known.view next c.in-On.ensures.made.reads) h, tt)
+    (none_read z before w.side.known.view next w.key w.buffer.seen.items c.args.seen (kept_alike z w.side.known.view next c.in-On.ensures.made.reads) h, tt)
 
 pub unwrap-value-requires : goal.unwrap-value-requires
 unwrap-value-requires g c = value_there c.plain_value.result c.in-Sees.word c.plain_value.ensures c.in-Sees.ensures.leads.1
@@ -59,12 +59,12 @@ decide-requires-clause-were_read g c =
     let next = c.step.new.side.known.view in
     let a = c.in-Sees in
     let h = c.requires.worker.stays.1 in
-    let at : c.cell_after-cell.result ≡ place_after (cell_count z) (home_of z.bits w.key) c.args.seen = cc in
+    let at : c.cell_after-cell.result ≡ cell_ahead (cell_count z) (home_of z.bits w.key) c.args.seen = cc in
     let said = value_said c.plain_value.result a.word c.unwrap-value.result c.plain_value.ensures c.unwrap-value.ensures in
     let first = read_first z v next c.cell_after-cell.result a.word v.next_number c.unwrap-value.result a.ensures.made.reads (search rules) (value_read a.word c.unwrap-value.result said) in
     let made = stepped_makes z _ _ _ _ v _ next a.ensures.made in
     let e = c.see.ensures in
-    more_seen z v next w.key c.args.seen c.cell_after-cell.result c.unwrap-value.result w.sights.seen.items c.see.new.self.seen.items made.reads h.were_read h.seen e.within e.before e.seen at (value_kept z v c.cell_after-cell.result c.unwrap-value.result next first)
+    more_seen z v next w.key c.args.seen c.cell_after-cell.result c.unwrap-value.result w.buffer.seen.items c.see.new.self.seen.items made.reads h.were_read h.seen e.within e.before e.seen at (value_kept z v c.cell_after-cell.result c.unwrap-value.result next first)
 
 pub returns-in-Sees-clause-makes : goal.returns-in-Sees-clause-makes
 returns-in-Sees-clause-makes g c =
@@ -79,12 +79,12 @@ returns-in-Sees-clause-anew g c before h =
     let v = w.side.known.view in
     let next = c.step.new.side.known.view in
     let a = c.in-Sees in
-    let at : c.cell_after-cell.result ≡ place_after (cell_count z) (home_of z.bits w.key) c.args.seen = cc in
+    let at : c.cell_after-cell.result ≡ cell_ahead (cell_count z) (home_of z.bits w.key) c.args.seen = cc in
     let said = value_said c.plain_value.result a.word c.unwrap-value.result c.plain_value.ensures c.unwrap-value.ensures in
     let first = read_first z v next c.cell_after-cell.result a.word v.next_number c.unwrap-value.result a.ensures.made.reads (search rules) (value_read a.word c.unwrap-value.result said) in
     let on = looks_on z v next c.args.looking (Sees a.word) c.requires.worker.stays.0 a.ensures.leads a.ensures.made.opened in
     let count : suc c.args.seen ≡ c.args.seen + 1 = omega arith in
-    let one = one_read z before v next w.key w.sights.seen.items c.see.new.self.seen.items c.args.seen c.cell_after-cell.result c.unwrap-value.result c.see.ensures.before c.see.ensures.seen at first h in
+    let one = one_read z before v next w.key w.buffer.seen.items c.see.new.self.seen.items c.args.seen c.cell_after-cell.result c.unwrap-value.result c.see.ensures.before c.see.ensures.seen at first h in
     let got = c.decide.ensures.anew before (subst (HasRead z before next w.key c.see.new.self.seen.items) count one) in
     (got.0, tells_anew z before w.kind w.key v _ _ (subst (GoesOn v) (sym c.decide.ensures.same_view) on) got.1)
 
@@ -93,5 +93,5 @@ returns-in-Spent-clause-anew g c before h =
     let w = c.args.worker.now in
     let z = c.args.shape.now in
     let next = c.step.new.side.known.view in
-    let same = none_read z before w.side.known.view next w.key w.sights.seen.items c.args.seen (kept_alike z w.side.known.view next c.in-Spent.ensures.made.reads) h in
-    (left_off z before next w.key w.sights.seen.items w.sights.seen.items c.args.seen same, tt)
+    let same = none_read z before w.side.known.view next w.key w.buffer.seen.items c.args.seen (kept_alike z w.side.known.view next c.in-Spent.ensures.made.reads) h in
+    (left_off z before next w.key w.buffer.seen.items w.buffer.seen.items c.args.seen same, tt)

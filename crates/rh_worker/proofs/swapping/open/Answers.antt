@@ -7,7 +7,7 @@ use Rattle.rh_worker.proofs.swapping.open.Goals as goal
 pub step-requires-clause-may : goal.step-requires-clause-may
 step-requires-clause-may g c =
     let w = c.args.worker.now in
-    may_open c.args.shape.now w.side.known.view w.kind w.key w.sights c.args.plan c.requires.worker.stays.0 _ (ap (take c.args.plan.entries) c.deref.ensures.value)
+    may_open c.args.shape.now w.side.known.view w.kind w.key w.buffer c.args.plan c.requires.worker.stays.0 _ (ap (take c.args.plan.entries) c.deref.ensures.value)
 
 pub returns-in-None-clause-worker : goal.returns-in-None-clause-worker
 returns-in-None-clause-worker g c =
@@ -18,5 +18,5 @@ returns-in-None-clause-worker g c =
     record {
       key = c.requires.worker.key;
       room = c.requires.worker.room;
-      stays = opened_stays z w.side.known.view w.kind w.key w.sights c.args.plan c.requires.worker.stays.0 _ (ap (take c.args.plan.entries) c.deref.ensures.value) _ _ _ by w.side.same_number c.in-None.ensures.leads;
+      stays = opened_stays z w.side.known.view w.kind w.key w.buffer c.args.plan c.requires.worker.stays.0 _ (ap (take c.args.plan.entries) c.deref.ensures.value) _ _ _ by w.side.same_number c.in-None.ensures.leads;
     }

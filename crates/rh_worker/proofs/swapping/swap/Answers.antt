@@ -72,23 +72,23 @@ pub returns-in-On-clause-anew : goal.returns-in-On-clause-anew
 returns-in-On-clause-anew g c before h =
     let w = c.args.worker.now in
     let z = c.args.shape.now in
-    none_read z before w.side.known.view c.step.new.side.known.view w.key w.sights.seen.items 0 (kept_alike z w.side.known.view c.step.new.side.known.view c.in-On.ensures.made.reads) h
+    none_read z before w.side.known.view c.step.new.side.known.view w.key w.buffer.seen.items 0 (kept_alike z w.side.known.view c.step.new.side.known.view c.in-On.ensures.made.reads) h
 
 pub returns-in-Closed-Succeeded-clause-anew : goal.returns-in-Closed-Succeeded-clause-anew
 returns-in-Closed-Succeeded-clause-anew g c before h =
     let w = c.args.worker.now in
     let z = c.args.shape.now in
-    none_read z before w.side.known.view c.step.new.side.known.view w.key w.sights.seen.items 0 (kept_alike z w.side.known.view c.step.new.side.known.view c.in-Closed-Succeeded.ensures.made.reads) h
+    none_read z before w.side.known.view c.step.new.side.known.view w.key w.buffer.seen.items 0 (kept_alike z w.side.known.view c.step.new.side.known.view c.in-Closed-Succeeded.ensures.made.reads) h
 
 pub returns-in-Closed-Withdrawn-clause-anew : goal.returns-in-Closed-Withdrawn-clause-anew
 returns-in-Closed-Withdrawn-clause-anew g c before h =
     let w = c.args.worker.now in
     let z = c.args.shape.now in
-    none_read z before w.side.known.view c.step.new.side.known.view w.key w.sights.seen.items 0 (kept_alike z w.side.known.view c.step.new.side.known.view c.in-Closed-Withdrawn.ensures.made.reads) h
+    none_read z before w.side.known.view c.step.new.side.known.view w.key w.buffer.seen.items 0 (kept_alike z w.side.known.view c.step.new.side.known.view c.in-Closed-Withdrawn.ensures.made.reads) h
 
 pub returns-in-Closed-Failed-clause-anew : goal.returns-in-Closed-Failed-clause-anew
 returns-in-Closed-Failed-clause-anew g c before h =
     let w = c.args.worker.now in
     let z = c.args.shape.now in
-    subst (λ (p : Stage). HasRead z before c.step.new.side.known.view w.key w.sights.seen.items (seen_at p)) (sym c.reading-worker.ensures)
-    (none_read z before w.side.known.view c.step.new.side.known.view w.key w.sights.seen.items 0 (kept_alike z w.side.known.view c.step.new.side.known.view c.in-Closed-Failed.ensures.made.reads) h)
+    subst (λ (p : Stage). HasRead z before c.step.new.side.known.view w.key w.buffer.seen.items (seen_at p)) (sym c.reading-worker.ensures)
+    (none_read z before w.side.known.view c.step.new.side.known.view w.key w.buffer.seen.items 0 (kept_alike z w.side.known.view c.step.new.side.known.view c.in-Closed-Failed.ensures.made.reads) h)

@@ -9,12 +9,12 @@ pub returns-in-Scan : goal.returns-in-Scan
 returns-in-Scan c z worker =
     let w = c.args.self.now in
     let v = w.side.known.view in
-    let stays = subst (λ (p : Stage). Stays z v w.kind w.key w.sights p) c.in-Scan.is worker.stays in
+    let stays = subst (λ (p : Stage). Stays z v w.kind w.key w.buffer p) c.in-Scan.is worker.stays in
     subst (IsHeld v) (sym c.held.ensures) (looking_held z v c.in-Scan.looking stays.0)
 
 pub returns-in-Swap : goal.returns-in-Swap
 returns-in-Swap c z worker =
     let w = c.args.self.now in
     let v = w.side.known.view in
-    let stays = subst (λ (p : Stage). Stays z v w.kind w.key w.sights p) c.in-Swap.is worker.stays in
+    let stays = subst (λ (p : Stage). Stays z v w.kind w.key w.buffer p) c.in-Swap.is worker.stays in
     subst (IsHeld v) (sym c.held-in-Swap.ensures) (work_held z v c.in-Swap.work stays.1)

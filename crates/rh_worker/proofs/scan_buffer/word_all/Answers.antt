@@ -3,7 +3,7 @@ use Rattle.std.proofs.lemmas.List.Elements.{Contains-get_or}
 use Rattle.rh_layout.specs.declared.entry.Entry.{Entry}
 use Rattle.rh_tagword.specs.Word.{IsValue}
 use Rattle.rh_worker.proofs.Plans.{nothing}
-use Rattle.rh_worker.proofs.sights.word_all.Goals as goal
+use Rattle.rh_worker.proofs.scan_buffer.word_all.Goals as goal
 
 pub plain_word-entry-requires : goal.plain_word-entry-requires
 plain_word-entry-requires c =

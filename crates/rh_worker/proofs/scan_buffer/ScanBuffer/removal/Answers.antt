@@ -1,10 +1,10 @@
 use Rattle.std.proofs.Common.{◌≡◌, ◌≤◌, List, ℕ, length, length-take, drop, sym, subst, take, arith}
 use Rattle.std.proofs.lemmas.List.{take_at}
 use Rattle.rh_ledger.specs.declared.tally.Kind.TheVariants.{Remove}
-use Rattle.rh_worker.specs.declared.sights.Decision.TheVariants.{More}
-use Rattle.rh_worker.specs.Sights.{Decides}
+use Rattle.rh_worker.specs.declared.scan_buffer.Decision.TheVariants.{More}
+use Rattle.rh_worker.specs.ScanBuffer.{Decides}
 use Rattle.rh_worker.proofs.Plans.{AreValues, decides_absent, decides_out, valued_absent, valued_out, values_take}
-use Rattle.rh_worker.proofs.sights.Sights.removal.Goals as goal
+use Rattle.rh_worker.proofs.scan_buffer.ScanBuffer.removal.Goals as goal
 
 pub plan-requires-clause-values : goal.plan-requires-clause-values
 plan-requires-clause-values c =

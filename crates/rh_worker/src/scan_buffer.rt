@@ -4,8 +4,8 @@ ghost use Rattle.std.specs.Prelude.{◌≡◌, ◌^◌, ◌<◌, ◌≤◌, ◌+
 ghost use Rattle.std.specs.Vec.{vec_capacity};
 ghost use Rattle.rh_layout.specs.Key.{IsBits, IsKey};
 ghost use Rattle.rh_tagword.specs.Word.{IsValue};
-ghost use Rattle.rh_worker.specs.Sights.{AreValued, Decides, HasRoom, worded};
-ghost use Rattle.rh_worker.specs.declared.sights.Decision.TheVariants.{Acts};
+ghost use Rattle.rh_worker.specs.ScanBuffer.{AreValued, Decides, HasRoom, worded};
+ghost use Rattle.rh_worker.specs.declared.scan_buffer.Decision.TheVariants.{Acts};
 ghost use Rattle.rh_ledger.specs.declared.tally.Kind.TheVariants.{Insert, Remove, Ask};
 
 use crate::stage::Plan;
@@ -20,7 +20,7 @@ use std::alloc::{AllocError, Global};
 /// as many as the table has cells, and grows in use as scans get longer: the memory behind is never
 /// touched.
 #[derive(Drop)]
-pub struct Sights {
+pub struct ScanBuffer {
     /// What the cells hold.
     pub seen: Vec<u64>,
     /// What they are to hold after the act.
@@ -48,14 +48,14 @@ pub enum Decision {
     More,
 }
 
-impl Sights {
+impl ScanBuffer {
     /// Room for a table of 2 to the power of `bits` cells.
-    pub(crate) fn new(alloc: Global, bits: u32) -> Result<Sights, AllocError>
+    pub(crate) fn new(alloc: Global, bits: u32) -> Result<ScanBuffer, AllocError>
         requires { IsBits bits }
         ensures { IfOk result (HasRoom bits) }
     {
         let cells = 1usize << bits;
-        Ok(Sights {
+        Ok(ScanBuffer {
             seen: Vec::with_capacity(alloc, cells)?,
             news: Vec::with_capacity(alloc, cells)?,
             entries: Vec::with_capacity(alloc, cells)?,

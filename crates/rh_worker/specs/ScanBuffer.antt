@@ -16,9 +16,9 @@ use Rattle.rh_acts.specs.Decision.{Inserts, Removes}
 use Rattle.rh_descriptor.specs.Words.{IsPlain}
 use Rattle.rh_history.specs.History.{act_of}
 use Rattle.rh_worker.specs.declared.stage.Plan.{Plan}
-use Rattle.rh_worker.specs.declared.sights.Decision.{Decision}
-use Rattle.rh_worker.specs.declared.sights.Decision.TheVariants.{Done, More, Acts}
-use Rattle.rh_worker.specs.declared.sights.Sights.{Sights}
+use Rattle.rh_worker.specs.declared.scan_buffer.Decision.{Decision}
+use Rattle.rh_worker.specs.declared.scan_buffer.Decision.TheVariants.{Done, More, Acts}
+use Rattle.rh_worker.specs.declared.scan_buffer.ScanBuffer.{ScanBuffer}
 
 -- an entry of values, with the words that say them
 abbrev pub worded : Entry → Entry
@@ -40,7 +40,7 @@ pub record IsPlan (kind : Kind) (b k : ℕ) (entries : List Entry) (p : Plan) : 
   pub fit : AreFit b (take p.entries entries)
 
 -- room for what each cell holds, and for an entry of each; of it so much was in use as the longest scan took
-pub record HasRoom (b : ℕ) (s : Sights) : Type 0 where
+pub record HasRoom (b : ℕ) (s : ScanBuffer) : Type 0 where
   pub seen : 2 ^ b ≤ vec_capacity s.seen
   pub news : 2 ^ b ≤ vec_capacity s.news
   pub entries : 2 ^ b ≤ vec_capacity s.entries

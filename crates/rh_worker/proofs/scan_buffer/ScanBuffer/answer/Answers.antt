@@ -1,8 +1,8 @@
 use Rattle.std.proofs.Common.{List, true, false, inl, inr, refl, subst, take, ℕ}
 use Rattle.rh_ledger.specs.declared.tally.Kind.TheVariants.{Ask}
-use Rattle.rh_worker.specs.declared.sights.Decision.TheVariants.{Done, More}
-use Rattle.rh_worker.specs.Sights.{Decides}
-use Rattle.rh_worker.proofs.sights.Sights.answer.Goals as goal
+use Rattle.rh_worker.specs.declared.scan_buffer.Decision.TheVariants.{Done, More}
+use Rattle.rh_worker.specs.ScanBuffer.{Decides}
+use Rattle.rh_worker.proofs.scan_buffer.ScanBuffer.answer.Goals as goal
 
 pub returns-in-Here : goal.returns-in-Here
 returns-in-Here c = subst (λ (l : List ℕ). Decides Ask c.args.bits c.args.key (take c.args.count l) c.args.self.now.entries.items (Done true))

@@ -1,10 +1,10 @@
 use Rattle.std.proofs.Common.{◌≡◌, ◌≤◌, List, ℕ, length, length-take, drop, false, refl, sym, subst, take, arith}
 use Rattle.std.proofs.lemmas.List.{take_at}
 use Rattle.rh_ledger.specs.declared.tally.Kind.TheVariants.{Insert}
-use Rattle.rh_worker.specs.declared.sights.Decision.TheVariants.{Done, More}
-use Rattle.rh_worker.specs.Sights.{Decides}
+use Rattle.rh_worker.specs.declared.scan_buffer.Decision.TheVariants.{Done, More}
+use Rattle.rh_worker.specs.ScanBuffer.{Decides}
 use Rattle.rh_worker.proofs.Plans.{AreValues, decides_in, valued_in, values_take}
-use Rattle.rh_worker.proofs.sights.Sights.insertion.Goals as goal
+use Rattle.rh_worker.proofs.scan_buffer.ScanBuffer.insertion.Goals as goal
 
 pub returns-in-Held-clause-decides : goal.returns-in-Held-clause-decides
 returns-in-Held-clause-decides c = subst (λ (l : List ℕ). Decides Insert c.args.bits c.args.key (take c.args.count l) c.args.self.now.entries.items (Done false))

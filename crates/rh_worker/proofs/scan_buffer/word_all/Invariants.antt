@@ -1,7 +1,7 @@
 use Rattle.std.proofs.Common.{◌≡◌, ◌≤◌, ℕ, get_or, length, map, take}
 use Rattle.rh_layout.specs.declared.entry.Entry.{Entry}
-use Rattle.rh_worker.specs.Sights.{worded}
-use Rattle.rh_worker.proofs.sights.word_all.Given as goal
+use Rattle.rh_worker.specs.ScanBuffer.{worded}
+use Rattle.rh_worker.proofs.scan_buffer.word_all.Given as goal
 
 abbrev pub invariant-loop-entry : goal.invariant-loop-entry
 invariant-loop-entry l = record {
