@@ -26,14 +26,15 @@ use Rattle.rh_rule.proofs.SeatsKept.{new_at, there}
 use Rattle.rh_rdcss.specs.declared.table.Table.{Table}
 use Rattle.rh_world.specs.World.{In}
 use Rattle.rh_rule.specs.Wipes.{row_total}
-use Rattle.rh_run.specs.Run.{Doing, Running}
+use Rattle.rh_run.specs.Run.{ProgressInvariant, RunInvariant}
+use Rattle.rh_run.specs.Laws.{started}
 use Rattle.rh_run.proofs.Turning.{run_starts}
 use Rattle.rh_kcas.specs.Crews.{HasAll, IsFresh, views_of}
 use Rattle.rh_worker.specs.declared.stage.Stage.{Stage}
 use Rattle.rh_phase.specs.Crew.{CanWork}
-use Rattle.rh_phase.specs.Hands.{Stands, answer, left_over}
+use Rattle.rh_phase.specs.Hands.{Stands, answer, left_over, progress_by}
 use Rattle.rh_phase.specs.Made.{AreNew, IsNew}
-use Rattle.rh_phase.specs.Rounds.{Comes, past_of}
+use Rattle.rh_phase.specs.Rounds.{Comes, past_of, phase}
 use Rattle.rh_phase.specs.declared.crew.Crew.{Crew}
 use Rattle.rh_phase.specs.declared.hand.Hand.{Hand}
 use Rattle.rh_phase.proofs.Ending.{at_or}
@@ -99,7 +100,7 @@ module _ (t : Table) (kind : Kind) (positions : ℕ) (cells keys : List ℕ) (c 
     fresh = fresh;
   }
 
-  pub comes_first : length cells ≡ cell_count t.shape → Comes t.shape kind positions cells keys (views_of c.seat) c.hands
+  pub comes_first : length cells ≡ cell_count t.shape → Comes (phase t.shape kind cells keys positions) (views_of c.seat) c.hands
   comes_first long = record {
     words = map plain_number cells ++ replicate (row_total t.shape + 1) 0;
     keep = new_view (map plain_number cells);
@@ -112,7 +113,7 @@ module _ (t : Table) (kind : Kind) (positions : ℕ) (cells keys : List ℕ) (c 
         subst (λ (k : Known). Stands t.shape keys (past_of positions run k.view.worker) h k.view) (sym (view_is r s e)) (record {
           kind_is = n.kind_is;
           answers = [];
-          doing = subst (λ (k : Kind). Doing t.shape k (new_view (map plain_number cells) r) keys (past_of positions run r).acts (past_of positions run r).reads [] []) (sym n.kind_is) (run.doing r less);
+          doing = subst (λ (k : Kind). ProgressInvariant t.shape k (progress_by keys (past_of positions run r) (new_view (map plain_number cells) r) [])) (sym n.kind_is) (run.doing r less);
           answered = record {
             claimed_are = ap (λ (p : Stage). left_over p h.position) (sym n.idle);
             counts = n.unchanged;
@@ -123,7 +124,7 @@ module _ (t : Table) (kind : Kind) (positions : ℕ) (cells keys : List ℕ) (c 
         });
   }
     where
-      run : Running kind t.shape cells (map plain_number cells ++ replicate (row_total t.shape + 1) 0) (new_view (map plain_number cells)) (λ v. keys) (λ v. []) (λ v. [])
+      run : RunInvariant (started kind t.shape cells (λ v. keys))
       run = run_starts kind t.shape cells (λ v. keys) t.fits long
 
       unmarked : (h : Hand) → IsNew t.shape kind positions h → (p : ℕ) → p < length h.found.items → slice_index_or h.found.items p false ≡ false

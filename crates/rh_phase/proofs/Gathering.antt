@@ -6,18 +6,16 @@ use Rattle.rh_ledger.specs.declared.tally.Kind.{Kind}
 use Rattle.rh_world.specs.World.{updated}
 use Rattle.rh_world.proofs.Updated.{same_nat, updated_else, updated_here}
 use Rattle.rh_descriptor.specs.declared.known.Known.{Known}
-use Rattle.rh_descriptor.specs.declared.shape.Shape.{Shape}
 use Rattle.rh_descriptor.specs.Parts.{IsShape}
 use Rattle.rh_descriptor.specs.View.{View, round_view}
 use Rattle.rh_rule.specs.Seats.{AreMade, Spans, all_views, known}
 use Rattle.rh_rule.proofs.SeatsKept.{item_at, of_map, there}
-use Rattle.rh_run.specs.Run.{Doing, Running}
+use Rattle.rh_run.specs.Run.{ProgressInvariant, RunInvariant}
 use Rattle.rh_run.specs.Words.{IsWiped}
 use Rattle.rh_run.proofs.Stepping.{run_gathers}
 use Rattle.rh_run.proofs.Turning.{run_rounds}
-use Rattle.rh_acts.specs.Workers.{own}
-use Rattle.rh_phase.specs.Hands.{Answer, Answered, Past, Stands, keys_done, told_of}
-use Rattle.rh_phase.specs.Rounds.{Comes, past_of}
+use Rattle.rh_phase.specs.Hands.{Answer, Answered, Past, Stands, keys_done, progress_by, told_of}
+use Rattle.rh_phase.specs.Rounds.{Comes, Phase, past_of, run_of}
 use Rattle.rh_phase.specs.declared.hand.Hand.{Hand}
 use Rattle.rh_phase.proofs.Wiped.{wiped_words}
 
@@ -35,94 +33,94 @@ choose P other (suc n) each =
     )
 
 -- what the worker of this number answered, and its hand
-pub record AnsweredBy (z : Shape) (kind : Kind) (positions : ℕ) (keep : ℕ → View) (hs : List Hand) (v : ℕ) (answers : List Answer) : Type 0 where
+pub record AnsweredBy (ph : Phase) (keep : ℕ → View) (hs : List Hand) (v : ℕ) (answers : List Answer) : Type 0 where
   pub hand : Hand
   pub at : get_elem? hs v ≡ some hand
-  pub kind_is : hand.worker.kind ≡ kind
-  pub long : length hand.found.items ≡ positions
-  pub answered : Answered z hand (keep v) answers
+  pub kind_is : hand.worker.kind ≡ ph.kind
+  pub long : length hand.found.items ≡ ph.positions
+  pub answered : Answered ph.shape hand (keep v) answers
 
 -- the run at the end of a round
-pub record Gathered (z : Shape) (kind : Kind) (positions : ℕ) (opening keys words : List ℕ) (keep : ℕ → View) (hs : List Hand) : Type 0 where
+pub record Gathered (ph : Phase) (words : List ℕ) (keep : ℕ → View) (hs : List Hand) : Type 0 where
   pub answers : ℕ → List Answer
-  pub run : Running kind z opening words keep (λ v. keys) (λ v. keys_done keys (answers v)) (λ v. told_of (answers v))
-  pub each : (v : ℕ) → v < z.workers → AnsweredBy z kind positions keep hs v (answers v)
+  pub run : RunInvariant (run_of ph words keep (λ v. keys_done ph.keys (answers v)) (λ v. told_of (answers v)))
+  pub each : (v : ℕ) → v < ph.shape.workers → AnsweredBy ph keep hs v (answers v)
 
-module _ (z : Shape) (kind : Kind) (positions : ℕ) (opening keys : List ℕ) (vs : List Known) (hs : List Hand) (some_one : 0 < z.workers) (spans : Spans vs 0 z.workers) (long : length hs ≡ z.workers) (comes : Comes z kind positions opening keys vs hs) (m : AreMade z vs) where
+module _ (ph : Phase) (vs : List Known) (hs : List Hand) (some_one : 0 < ph.shape.workers) (spans : Spans vs 0 ph.shape.workers) (long : length hs ≡ ph.shape.workers) (comes : Comes ph vs hs) (m : AreMade ph.shape vs) where
   abbrev past : ℕ → Past
-  past = past_of positions comes.run
+  past = past_of ph.positions comes.run
 
   -- what stands for a worker, by its number
   record StandsAt (v : ℕ) (answers : List Answer) : Type 0 where
     hand : Hand
     at : get_elem? hs v ≡ some hand
-    stands : Stands z keys (past v) hand (m.keep v)
+    stands : Stands ph.shape ph.keys (past v) hand (m.keep v)
     same : stands.answers ≡ answers
 
-  stands_at : (v : ℕ) → v < z.workers → (answers : List Answer) × StandsAt v answers
+  stands_at : (v : ℕ) → v < ph.shape.workers → (answers : List Answer) × StandsAt v answers
   stands_at v less =
       let s = item_at vs v (let l = spans.long in omega (arith, l, less)) in
       let h = item_at hs v (omega (arith, long, less)) in
       let whose : s.0.view.worker ≡ v = spans.each v s.0 s.1 ∙ zero-add v in
-      let st : Stands z keys (past v) h.0 (m.keep v) = subst (λ (x : View). Stands z keys (past v) h.0 x) (sym (m.of_view v s.0 s.1))
-      (subst (λ (w : ℕ). Stands z keys (past w) h.0 s.0.view) whose (comes.stands v s.0 h.0 s.1 h.1)) in
+      let st : Stands ph.shape ph.keys (past v) h.0 (m.keep v) = subst (λ (x : View). Stands ph.shape ph.keys (past v) h.0 x) (sym (m.of_view v s.0 s.1))
+      (subst (λ (w : ℕ). Stands ph.shape ph.keys (past w) h.0 s.0.view) whose (comes.stands v s.0 h.0 s.1 h.1)) in
       (st.answers, record { hand = h.0; at = h.1; stands = st; same = refl })
 
-  chosen : (f : ℕ → List Answer) × ((v : ℕ) → v < z.workers → StandsAt v (f v))
-  chosen = choose StandsAt [] z.workers stands_at
+  chosen : (f : ℕ → List Answer) × ((v : ℕ) → v < ph.shape.workers → StandsAt v (f v))
+  chosen = choose StandsAt [] ph.shape.workers stands_at
 
-  doing_at : (v : ℕ) (answers : List Answer) → StandsAt v answers → Doing z kind (m.keep v) keys (own v comes.run.before) (comes.run.reads v) (keys_done keys answers) (told_of answers)
+  doing_at : (v : ℕ) (answers : List Answer) → StandsAt v answers → ProgressInvariant ph.shape ph.kind (progress_by ph.keys (past v) (m.keep v) answers)
   doing_at v answers is =
-      subst (λ (l : List Answer). Doing z kind (m.keep v) keys (own v comes.run.before) (comes.run.reads v) (keys_done keys l) (told_of l)) is.same
-      (subst (λ (k : Kind). Doing z k (m.keep v) keys (own v comes.run.before) (comes.run.reads v) (keys_done keys is.stands.answers) (told_of is.stands.answers)) is.stands.kind_is is.stands.doing)
+      subst (λ (l : List Answer). ProgressInvariant ph.shape ph.kind (progress_by ph.keys (past v) (m.keep v) l)) is.same
+      (subst (λ (k : Kind). ProgressInvariant ph.shape k (progress_by ph.keys (past v) (m.keep v) is.stands.answers)) is.stands.kind_is is.stands.doing)
 
-  pub gathered : Gathered z kind positions opening keys m.words m.keep hs
+  pub gathered : Gathered ph m.words m.keep hs
   gathered = record {
     answers = chosen.0;
-    run = run_gathers kind z opening comes.words m.words comes.keep m.keep (λ v. keys) comes.done (λ v. keys_done keys (chosen.0 v)) comes.told (λ v. told_of (chosen.0 v)) comes.run m.w 0 m.core some_one
+    run = run_gathers (run_of ph comes.words comes.keep comes.done comes.told) comes.run m.words m.keep (λ v. keys_done ph.keys (chosen.0 v)) (λ v. told_of (chosen.0 v)) m.w 0 m.core some_one
         (chosen.1 0 some_one).stands.opening (λ v less. doing_at v (chosen.0 v) (chosen.1 v less));
     each = λ v less. let is = chosen.1 v less in record {
       hand = is.hand;
       at = is.at;
       kind_is = is.stands.kind_is;
       long = is.stands.long;
-      answered = subst (λ (l : List Answer). Answered z is.hand (m.keep v) l) is.same is.stands.answered;
+      answered = subst (λ (l : List Answer). Answered ph.shape is.hand (m.keep v) l) is.same is.stands.answered;
     };
   }
 
   -- the next round begins where they are
-  pub comes_on : IsShape z → (us : List Known) → us ≡ all_views (round_view m.cells) vs → Comes z kind positions opening keys us hs
+  pub comes_on : IsShape ph.shape → (us : List Known) → us ≡ all_views (round_view m.cells) vs → Comes ph us hs
   comes_on shape us is = record {
     words = then;
     keep = λ v. round_view m.cells (m.keep v);
-    done = λ v. keys_done keys (gathered.answers v);
+    done = λ v. keys_done ph.keys (gathered.answers v);
     told = λ v. told_of (gathered.answers v);
     run = run;
     stands = λ r s h e f.
         let old = of_map (λ k. known (round_view m.cells k.view)) vs r s (subst (λ (l : List Known). get_elem? l r ≡ some s) is e) in
-        let less : r < z.workers = let l = there hs r h f in omega (arith, l, long) in
+        let less : r < ph.shape.workers = let l = there hs r h f in omega (arith, l, long) in
         let by = gathered.each r less in
         let same : by.hand ≡ h = some-injective by.hand h (sym by.at ∙ f) in
         let whose : old.0.view.worker ≡ r = spans.each r old.0 old.1 ∙ zero-add r in
         let view : m.keep r ≡ old.0.view = m.of_view r old.0 old.1 in
-        subst (λ (k : Known). Stands z keys (past_of positions run k.view.worker) h k.view) (sym old.2)
-        (subst (λ (x : View). Stands z keys (past_of positions run x.worker) h (round_view m.cells x)) view
-        (subst (λ (w : ℕ). Stands z keys (past_of positions run w) h (round_view m.cells (m.keep r))) (sym (ap (λ (x : View). x.worker) view ∙ whose))
-        (subst (λ (g : Hand). Stands z keys (past_of positions run r) g (round_view m.cells (m.keep r))) same (record {
+        subst (λ (k : Known). Stands ph.shape ph.keys (past_of ph.positions run k.view.worker) h k.view) (sym old.2)
+        (subst (λ (x : View). Stands ph.shape ph.keys (past_of ph.positions run x.worker) h (round_view m.cells x)) view
+        (subst (λ (w : ℕ). Stands ph.shape ph.keys (past_of ph.positions run w) h (round_view m.cells (m.keep r))) (sym (ap (λ (x : View). x.worker) view ∙ whose))
+        (subst (λ (g : Hand). Stands ph.shape ph.keys (past_of ph.positions run r) g (round_view m.cells (m.keep r))) same (record {
           kind_is = by.kind_is;
           answers = gathered.answers r;
-          doing = subst (λ (k : Kind). Doing z k (round_view m.cells (m.keep r)) keys (own r run.before) (run.reads r) (keys_done keys (gathered.answers r)) (told_of (gathered.answers r))) (sym by.kind_is) (run.doing r less);
+          doing = subst (λ (k : Kind). ProgressInvariant ph.shape k (progress_by ph.keys (past_of ph.positions run r) (round_view m.cells (m.keep r)) (gathered.answers r))) (sym by.kind_is) (run.doing r less);
           answered = record { claimed_are = by.answered.claimed_are; counts = by.answered.counts; marks = by.answered.marks };
           opening = refl;
           long = by.long;
         }))));
   }
     where
-      wiped : (then : List ℕ) × IsWiped z m.words then
-      wiped = wiped_words z m.words m.core.mirrors.sized
+      wiped : (then : List ℕ) × IsWiped ph.shape m.words then
+      wiped = wiped_words ph.shape m.words m.core.represents.sized
 
       then : List ℕ
       then = wiped.0
 
-      run : Running kind z opening then (λ v. round_view m.cells (m.keep v)) (λ v. keys) (λ v. keys_done keys (gathered.answers v)) (λ v. told_of (gathered.answers v))
-      run = run_rounds kind z opening m.words then m.cells m.keep (λ v. keys) (λ v. keys_done keys (gathered.answers v)) (λ v. told_of (gathered.answers v)) shape some_one m.rest m.front wiped.1 gathered.run
+      run : RunInvariant (run_of ph then (λ v. round_view m.cells (m.keep v)) (λ v. keys_done ph.keys (gathered.answers v)) (λ v. told_of (gathered.answers v)))
+      run = run_rounds (run_of ph m.words m.keep (λ v. keys_done ph.keys (gathered.answers v)) (λ v. told_of (gathered.answers v))) then m.cells shape some_one m.rest m.front wiped.1 gathered.run

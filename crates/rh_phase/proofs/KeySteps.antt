@@ -19,7 +19,7 @@ use Rattle.rh_worker.specs.Worker.{EndsAt, IsBusy}
 use Rattle.rh_worker.specs.declared.stage.Stage.{Stage}
 use Rattle.rh_worker.specs.declared.stage.Stage.TheVariants as at
 use Rattle.rh_worker.proofs.KeyLaws.{keys_are_done}
-use Rattle.rh_phase.specs.Keys.{DoneSo, Furthers}
+use Rattle.rh_phase.specs.Keys.{KeySpec, Furthers}
 
 pub busy_on : (p : Stage) → EndsAt None p → (p ≡ at.Spent → ⊥) → IsBusy p
 busy_on at.Idle e s = e refl
@@ -53,12 +53,16 @@ module _ {T : Type 0} {shows : Shape → T → View → Type 0} {makes : Shape �
   finishes o = subst (StepFinishes v) (sym m.view_is) (steps_finish z v m.step m.word m.allowed (subst (Sound z) m.view_is m.trusts.knows.sound) o)
 
   -- with the step that does the key it is done, as from the first
-  pub done_so : (first : View) (kind : Kind) (k : ℕ) (told : Bool) → Orderly v → own_acts_of v ≡ own_acts_of first → TellsAnew z (kept_of z first) kind k v next (Some told) → DoneSo z kind k first next told
+  pub done_so : (first : View) (kind : Kind) (k : ℕ) (told : Bool) → Orderly v → own_acts_of v ≡ own_acts_of first → TellsAnew z (kept_of z first) kind k v next (Some told) → KeySpec z kind k first next told
   done_so first kind k told o acts tells = ⊎_elim
-      (λ (on : GoesOn v next × IsToldAnew z (kept_of z first) next kind k told). inr ((finishes o).stays (λ p e. on.0.current ∙ e) ∙ acts, on.1))
-      (λ (s : Succeeds z kind k v next told). inl (act_of s.own.entries, (finishes o).succeeds s.own s.closes s.before ∙ ap (λ (l : List Act). l ++ act_of s.own.entries ∷ []) acts, s.does))
+      (λ (on : GoesOn v next × IsToldAnew z (kept_of z first) next kind k told). inr record { own = (finishes o).stays (λ p e. on.0.current ∙ e) ∙ acts; tells = on.1 })
+      (λ (s : Succeeds z kind k v next told). inl record {
+        act = act_of s.own.entries;
+        own = (finishes o).succeeds s.own s.closes s.before ∙ ap (λ (l : List Act). l ++ act_of s.own.entries ∷ []) acts;
+        does = s.does;
+      })
       tells
 
   pub furthers : (first : View) (kind : Kind) (k : ℕ) (answer : Option Bool) → Advances z kind k v next answer → Furthers z kind k first v None → Furthers z kind k first next answer
-  furthers first kind k answer a f keys acts reads done told among is =
-      worker_steps kind z v next keys acts reads done told m.step m.word k answer m.allowed m.view_is m.trusts.knows.sound among a (f keys acts reads done told among is)
+  furthers first kind k answer a f p among is =
+      worker_steps kind z (record p { view = v }) m.step m.word next k answer m.allowed m.view_is m.trusts.knows.sound among a (f p among is)

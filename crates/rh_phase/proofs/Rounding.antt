@@ -13,7 +13,7 @@ use Rattle.rh_kcas.specs.Crews.{HasAll, IsAt, IsFresh, views_of}
 use Rattle.rh_kcas.specs.Ends.{IsWiped}
 use Rattle.rh_phase.specs.Crew.{CanWork, HaveWorked}
 use Rattle.rh_phase.specs.Hands.{HasStopped, InPairs, IsHand}
-use Rattle.rh_phase.specs.Rounds.{Comes, past_of}
+use Rattle.rh_phase.specs.Rounds.{Comes, past_of, phase}
 use Rattle.rh_phase.specs.declared.crew.Crew.{Crew}
 use Rattle.rh_phase.specs.declared.hand.Hand.{Hand}
 use Rattle.rh_phase.proofs.Gathering.{comes_on}
@@ -31,8 +31,8 @@ module _ (t : Table) (keys : List ℕ) (c then : Crew) (all : HasAll t c.seat) (
   pub worked_all : HasAll t then.seat
   worked_all = record { own = worked.crew.here.own; first = worked.first ∙ all.first; count = worked.count ∙ all.count }
 
-  pub worked_comes : (kind : Kind) (positions : ℕ) (opening : List ℕ) → Comes t.shape kind positions opening keys (views_of c.seat) c.hands → Comes t.shape kind positions opening keys (views_of then.seat) then.hands
-  worked_comes kind positions opening was = record { words = was.words; keep = was.keep; done = was.done; told = was.told; run = was.run; stands = worked.stands (past_of positions was.run) was.stands }
+  pub worked_comes : (kind : Kind) (opening : List ℕ) (positions : ℕ) → Comes (phase t.shape kind opening keys positions) (views_of c.seat) c.hands → Comes (phase t.shape kind opening keys positions) (views_of then.seat) then.hands
+  worked_comes kind opening positions was = record { words = was.words; keep = was.keep; done = was.done; told = was.told; run = was.run; stands = worked.stands (past_of positions was.run) was.stands }
 
   -- ---- and their table was wiped
 
@@ -56,6 +56,6 @@ module _ (t : Table) (keys : List ℕ) (c then : Crew) (all : HasAll t c.seat) (
       fresh = fresh;
     }
 
-    pub wiped_comes : (kind : Kind) (positions : ℕ) (opening : List ℕ) → Comes t.shape kind positions opening keys (views_of c.seat) c.hands → Comes t.shape kind positions opening keys (views_of seat) then.hands
-    wiped_comes kind positions opening was = comes_on t.shape kind positions opening keys (views_of then.seat) then.hands (all_some t then.seat worked_all) (all_spans t then.seat worked_all) (worked.crew.long ∙ worked_all.count)
-        (worked_comes kind positions opening was) wiped.made t.fits (views_of seat) wiped.views
+    pub wiped_comes : (kind : Kind) (opening : List ℕ) (positions : ℕ) → Comes (phase t.shape kind opening keys positions) (views_of c.seat) c.hands → Comes (phase t.shape kind opening keys positions) (views_of seat) then.hands
+    wiped_comes kind opening positions was = comes_on (phase t.shape kind opening keys positions) (views_of then.seat) then.hands (all_some t then.seat worked_all) (all_spans t then.seat worked_all) (worked.crew.long ∙ worked_all.count)
+        (worked_comes kind opening positions was) wiped.made t.fits (views_of seat) wiped.views

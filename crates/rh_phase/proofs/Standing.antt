@@ -15,13 +15,14 @@ use Rattle.rh_descriptor.specs.View.{View}
 use Rattle.rh_descriptor.specs.Steps.{Allowed, Step, noted}
 use Rattle.rh_rule.specs.Sound.{Sound}
 use Rattle.rh_run.specs.Claimed.{claimed}
-use Rattle.rh_run.specs.Run.{Doing}
+use Rattle.rh_run.specs.Laws.{furthered}
+use Rattle.rh_run.specs.Run.{Progress, ProgressInvariant}
 use Rattle.rh_run.proofs.Stepping.{worker_claims}
 use Rattle.rh_worker.specs.Worker.{IsBusy}
 use Rattle.rh_worker.specs.declared.stage.Stage.{Stage}
 use Rattle.rh_worker.specs.declared.stage.Stage.TheVariants as at
 use Rattle.rh_phase.specs.Keys.{Furthers}
-use Rattle.rh_phase.specs.Hands.{Answer, Past, Stands, answer, keys_done, left_over, positions_of, told_of}
+use Rattle.rh_phase.specs.Hands.{Answer, Past, Stands, answer, keys_done, left_over, positions_of, progress_by, told_of}
 use Rattle.rh_phase.specs.declared.hand.Hand.{Hand}
 
 -- ---- the positions that it claimed
@@ -105,16 +106,20 @@ counts_more answers position old new told was is = go told is more
 -- ---- how it goes on
 
 module _ (z : Shape) (keys : List ℕ) (past : Past) (h then : Hand) (v next : View) (was : Stands z keys past h v) where
-  of_kind : (k : Kind) (done : List ℕ) (told : List Bool) → k ≡ h.worker.kind → Doing z h.worker.kind next keys past.acts past.reads done told → Doing z k next keys past.acts past.reads done told
-  of_kind k done told same is = subst (λ (q : Kind). Doing z q next keys past.acts past.reads done told) (sym same) is
+  of_kind : (k : Kind) (p : Progress) → k ≡ h.worker.kind → ProgressInvariant z h.worker.kind p → ProgressInvariant z k p
+  of_kind k p same is = subst (λ (q : Kind). ProgressInvariant z q p) (sym same) is
+
+  -- with what it has done so far
+  abbrev so_far : View → Progress
+  so_far x = progress_by keys past x was.answers
 
   -- with nothing done
-  stands_with : then.worker.kind ≡ h.worker.kind → Doing z h.worker.kind next keys past.acts past.reads (keys_done keys was.answers) (told_of was.answers) → next.opening ≡ v.opening
+  stands_with : then.worker.kind ≡ h.worker.kind → ProgressInvariant z h.worker.kind (so_far next) → next.opening ≡ v.opening
       → claimed z next ≡ positions_of was.answers ++ left_over then.worker.stage then.position → then.changed ≡ h.changed → then.found.items ≡ h.found.items → Stands z keys past then next
   stands_with kind doing opening claims changed found = record {
     kind_is = kind ∙ was.kind_is;
     answers = was.answers;
-    doing = of_kind then.worker.kind (keys_done keys was.answers) (told_of was.answers) kind doing;
+    doing = of_kind then.worker.kind (so_far next) kind doing;
     answered = record {
       claimed_are = claims;
       counts = changed ∙ was.answered.counts;
@@ -126,7 +131,7 @@ module _ (z : Shape) (keys : List ℕ) (past : Past) (h then : Hand) (v next : V
 
   pub stands_still : then.worker.kind ≡ h.worker.kind → next ≡ v → left_over then.worker.stage then.position ≡ left_over h.worker.stage h.position → then.changed ≡ h.changed → then.found.items ≡ h.found.items → Stands z keys past then next
   stands_still kind same left changed found = stands_with kind
-      (subst (λ (x : View). Doing z h.worker.kind x keys past.acts past.reads (keys_done keys was.answers) (told_of was.answers)) (sym same) was.doing)
+      (subst (λ (x : View). ProgressInvariant z h.worker.kind (so_far x)) (sym same) was.doing)
       (ap (λ (x : View). x.opening) same)
       (ap (claimed z) same ∙ was.answered.claimed_are ∙ ap (λ (l : List ℕ). positions_of was.answers ++ l) (sym left)) changed found
 
@@ -138,8 +143,8 @@ module _ (z : Shape) (keys : List ℕ) (past : Past) (h then : Hand) (v next : V
     none_left : claimed z v ≡ positions_of was.answers
     none_left = was.answered.claimed_are ∙ ap (λ (p : Stage). positions_of was.answers ++ left_over p h.position) idle ∙ append-nil (positions_of was.answers)
 
-    doing_then : Doing z h.worker.kind next keys past.acts past.reads (keys_done keys was.answers) (told_of was.answers)
-    doing_then = worker_claims h.worker.kind z v next keys past.acts past.reads (keys_done keys was.answers) (told_of was.answers) word allowed view_is sound was.doing
+    doing_then : ProgressInvariant z h.worker.kind (so_far next)
+    doing_then = worker_claims h.worker.kind z (so_far v) word next allowed view_is sound was.doing
 
     pub stands_claimed : word < z.keys → left_over then.worker.stage then.position ≡ word ∷ [] → Stands z keys past then next
     stands_claimed inside left = stands_with kind doing_then (ap (λ (x : View). x.opening) view_is)
@@ -153,7 +158,7 @@ module _ (z : Shape) (keys : List ℕ) (past : Past) (h then : Hand) (v next : V
   module _ (key : ℕ) (among : Contains keys key) (is : slice_index keys h.position ≡ key) (kind : then.worker.kind ≡ h.worker.kind) (claims : next.side.claims ≡ v.side.claims) (opening : next.opening ≡ v.opening) (left : left_over h.worker.stage h.position ≡ h.position ∷ []) where
     pub stands_left : Furthers z h.worker.kind key v next None → left_over then.worker.stage then.position ≡ h.position ∷ [] → then.changed ≡ h.changed → then.found.items ≡ h.found.items → Stands z keys past then next
     stands_left furthers leaves changed found = stands_with kind
-        (furthers keys past.acts past.reads (keys_done keys was.answers) (told_of was.answers) among was.doing) opening
+        (furthers (so_far v) among was.doing) opening
         (same_claimed z v next claims ∙ was.answered.claimed_are ∙ ap (λ (l : List ℕ). positions_of was.answers ++ l) (left ∙ sym leaves)) changed found
 
     pub stands_done : (told : Bool) → Furthers z h.worker.kind key v next (Some told) → then.worker.stage ≡ at.Idle → then.changed ≡ cond told (min (h.changed + 1) (2 ^ 64 - 1)) h.changed
@@ -161,10 +166,10 @@ module _ (z : Shape) (keys : List ℕ) (past : Past) (h then : Hand) (v next : V
     stands_done told furthers idle changed found = record {
       kind_is = kind ∙ was.kind_is;
       answers = answers;
-      doing = of_kind then.worker.kind (keys_done keys answers) (told_of answers) kind
-          (subst (λ (l : List ℕ). Doing z h.worker.kind next keys past.acts past.reads l (told_of answers)) (sym keys_are)
-          (subst (λ (l : List Bool). Doing z h.worker.kind next keys past.acts past.reads (keys_done keys was.answers ++ key ∷ []) l) (sym (map_push (λ (a : Answer). a.told) was.answers (answer h.position told)))
-          (furthers keys past.acts past.reads (keys_done keys was.answers) (told_of was.answers) among was.doing)));
+      doing = of_kind then.worker.kind (progress_by keys past next answers) kind
+          (subst (λ (l : List ℕ). ProgressInvariant z h.worker.kind (record (progress_by keys past next answers) { done = l })) (sym keys_are)
+          (subst (λ (l : List Bool). ProgressInvariant z h.worker.kind (record (furthered (so_far v) next key (Some told)) { told = l })) (sym (map_push (λ (a : Answer). a.told) was.answers (answer h.position told)))
+          (furthers (so_far v) among was.doing)));
       answered = record {
         claimed_are = same_claimed z v next claims ∙ was.answered.claimed_are ∙ ap (λ (l : List ℕ). positions_of was.answers ++ l) left ∙ sym (map_push (λ (a : Answer). a.position) was.answers (answer h.position told))
             ∙ sym (append-nil (positions_of answers)) ∙ ap (λ (p : Stage). positions_of answers ++ left_over p then.position) (sym idle);

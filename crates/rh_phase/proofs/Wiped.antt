@@ -6,7 +6,7 @@ use Rattle.std.proofs.Math.Seq.{get_or-append_seam}
 use Rattle.rh_descriptor.specs.declared.shape.Shape.{Shape}
 use Rattle.rh_descriptor.specs.declared.shape.Part.TheVariants as part
 use Rattle.rh_descriptor.specs.Parts.{cell_count, word_count}
-use Rattle.rh_rule.specs.Mirrors.{word_at}
+use Rattle.rh_rule.specs.Represents.{word_at}
 use Rattle.rh_rule.specs.Wipes.{row_total}
 use Rattle.rh_run.specs.Words.{IsWiped}
 

@@ -13,8 +13,8 @@ use Rattle.rh_descriptor.specs.declared.known.Known.{Known}
 use Rattle.rh_descriptor.specs.declared.shape.Shape.{Shape}
 use Rattle.rh_descriptor.specs.View.{View}
 use Rattle.rh_run.specs.Claimed.{FoundEnd, claimed}
-use Rattle.rh_run.specs.Run.{Doing}
-use Rattle.rh_worker.specs.Sights.{HasRoom}
+use Rattle.rh_run.specs.Run.{Progress, ProgressInvariant}
+use Rattle.rh_worker.specs.ScanBuffer.{HasRoom}
 use Rattle.rh_worker.specs.declared.stage.Stage.{Stage}
 use Rattle.rh_worker.specs.declared.stage.Stage.TheVariants as stage
 use Rattle.rh_phase.specs.declared.hand.Hand.{Hand}
@@ -37,7 +37,7 @@ pub record HasClaimed (z : Shape) (h : Hand) (v : View) : Type 0 where
 -- it has room for any key, and where it is at one, this is a key of the list
 pub record IsHand (z : Shape) (keys : List ℕ) (h : Hand) (v : View) : Type 0 where
   pub key : IsKey h.worker.key
-  pub room : HasRoom z.bits h.worker.sights
+  pub room : HasRoom z.bits h.worker.buffer
   pub within : IsAtKey h → h.position < length keys
   pub at : IsAtKey h → slice_index keys h.position ≡ h.worker.key
   pub claims : HasClaimed z h v
@@ -90,11 +90,16 @@ pub record Past : Type 0 where
   pub acts : List Act
   pub reads : List Kept
 
+-- how far the worker has come with a list of keys, by these answers
+abbrev pub progress_by : (keys : List ℕ) → Past → View → List Answer → Progress
+progress_by keys past v answers =
+    record { view = v; keys = keys; acts = past.acts; reads = past.reads; done = keys_done keys answers; told = told_of answers }
+
 -- The worker has come as far as its hand says.
 pub record Stands (z : Shape) (keys : List ℕ) (past : Past) (h : Hand) (v : View) : Type 0 where
   pub kind_is : h.worker.kind ≡ past.kind
   pub answers : List Answer
-  pub doing : Doing z h.worker.kind v keys past.acts past.reads (keys_done keys answers) (told_of answers)
+  pub doing : ProgressInvariant z h.worker.kind (progress_by keys past v answers)
   pub answered : Answered z h v answers
   pub opening : v.opening ≡ past.opening
   pub long : length h.found.items ≡ past.positions

@@ -2,7 +2,7 @@
 use Rattle.std.specs.Prelude.{◌≡◌, ◌≢◌, ℕ, ◌^◌, ◌<◌, ◌≤◌, false, All, List, length, replicate, slice_index}
 use Rattle.std.specs.FinSet.{contains}
 use Rattle.rh_layout.specs.Key.{IsKey}
-use Rattle.rh_layout.specs.Layout.{Keys, Layout}
+use Rattle.rh_layout.specs.Layout.{Keys, Layout, keys_of}
 use Rattle.rh_ledger.specs.declared.tally.Kind.{Kind}
 use Rattle.rh_ledger.specs.declared.tally.Kind.TheVariants.{Ask}
 use Rattle.rh_ledger.specs.Phase.{set_after, tally_of}
@@ -10,9 +10,9 @@ use Rattle.rh_acts.specs.Workers.{tally_by}
 use Rattle.rh_descriptor.specs.declared.limits.TheConstants.{MAX_ROOM, MAX_WORKERS}
 use Rattle.rh_descriptor.specs.declared.shape.Rooms.{Rooms}
 use Rattle.rh_descriptor.specs.declared.shape.Shape.{Shape}
-use Rattle.rh_worker.specs.Sights.{HasRoom}
+use Rattle.rh_worker.specs.ScanBuffer.{HasRoom}
 use Rattle.rh_worker.specs.declared.stage.Stage.TheVariants as stage
-use Rattle.rh_phase.specs.Rounds.{all_changed, is_marked}
+use Rattle.rh_phase.specs.Rounds.{Phase, all_changed, is_marked}
 use Rattle.rh_phase.specs.declared.hand.Hand.{Hand}
 
 -- so many workers a table may have, and a phase needs
@@ -31,7 +31,7 @@ pub record IsNew (z : Shape) (kind : Kind) (positions : ℕ) (h : Hand) : Type 0
   pub idle : h.worker.stage ≡ stage.Idle
   pub kind_is : h.worker.kind ≡ kind
   pub key : IsKey h.worker.key
-  pub room : HasRoom z.bits h.worker.sights
+  pub room : HasRoom z.bits h.worker.buffer
   pub to_claim : h.ended ≡ false
   pub unchanged : h.changed ≡ 0
   pub unmarked : h.found.items ≡ replicate positions false
@@ -41,10 +41,14 @@ pub record AreNew (z : Shape) (kind : Kind) (positions : ℕ) (hs : List Hand) :
   pub long : length hs ≡ z.workers
   pub each : All (IsNew z kind positions) hs
 
--- Of cells that hold these keys the phase made the layout of the set that is meant. The hands have counted what came of it, and
--- marked the positions whose keys were found.
-pub record HasMade (bits : ℕ) (kind : Kind) (positions : ℕ) (S : Keys) (keys values : List ℕ) (hs : List Hand) : Type 0 where
-  pub layout : Layout values bits (set_after kind S keys)
-  pub few : kind ≢ Ask → all_changed hs < 2 ^ 64
-  pub tally : kind ≢ Ask → tally_by kind (length keys) (all_changed hs) ≡ tally_of kind S keys
-  pub found : kind ≡ Ask → (p : ℕ) → p < length keys → p < positions → is_marked hs p ≡ contains S (slice_index keys p)
+-- the set that the cells held at the start
+abbrev pub first_set : Phase → Keys
+first_set ph = keys_of ph.opening
+
+-- These values are the layout of the set that is meant. The hands have counted what came of the phase, and marked the positions
+-- whose keys were found.
+pub record HasMade (ph : Phase) (values : List ℕ) (hs : List Hand) : Type 0 where
+  pub layout : Layout values ph.shape.bits (set_after ph.kind (first_set ph) ph.keys)
+  pub few : ph.kind ≢ Ask → all_changed hs < 2 ^ 64
+  pub tally : ph.kind ≢ Ask → tally_by ph.kind (length ph.keys) (all_changed hs) ≡ tally_of ph.kind (first_set ph) ph.keys
+  pub found : ph.kind ≡ Ask → (p : ℕ) → p < length ph.keys → p < ph.positions → is_marked hs p ≡ contains (first_set ph) (slice_index ph.keys p)

@@ -8,26 +8,49 @@ use Rattle.rh_descriptor.specs.View.{View}
 use Rattle.rh_kcas.specs.Crews.{HasAll, IsQuiet, views_of}
 use Rattle.rh_rdcss.specs.declared.table.Table.{Table}
 use Rattle.rh_rule.specs.Seats.{InView}
-use Rattle.rh_run.specs.Run.{Running}
+use Rattle.rh_run.specs.Run.{Run, RunInvariant}
 use Rattle.rh_phase.specs.Crew.{IsCrew}
 use Rattle.rh_phase.specs.Hands.{AllStand, IsFinished, Past}
 use Rattle.rh_phase.specs.declared.crew.Crew.{Crew}
 use Rattle.rh_phase.specs.declared.hand.Hand.{Hand}
 
--- what a run has of its rounds before this one
-abbrev pub past_of : {kind : Kind} {z : Shape} {opening words : List ℕ} {keep : ℕ → View} {keys done : ℕ → List ℕ} {told : ℕ → List Bool}
-    → (positions : ℕ) → Running kind z opening words keep keys done told → (v : ℕ) → Past
-past_of {kind = kind} {keep = keep} positions run v = record { kind = kind; positions = positions; opening = (keep v).opening; acts = own v run.before; reads = run.reads v }
+-- What a phase is about: its kind, the cells from which it starts, the list that all workers share, and how many positions of
+-- that may be marked.
+pub record Phase : Type 0 where
+  pub kind : Kind
+  pub shape : Shape
+  pub opening : List ℕ
+  pub keys : List ℕ
+  pub positions : ℕ
 
--- At the begin of the round there was a run from these opening cells, in which each worker had the list. From it on each has
--- come as far as its hand says, in which so many positions may be marked.
-pub record Comes (z : Shape) (kind : Kind) (positions : ℕ) (opening keys : List ℕ) (vs : List Known) (hs : List Hand) : Type 0 where
+abbrev pub phase : Shape → Kind → (opening keys : List ℕ) (positions : ℕ) → Phase
+phase z kind opening keys positions = record { kind = kind; shape = z; opening = opening; keys = keys; positions = positions }
+
+-- its run, where each worker has the list
+abbrev pub run_of : Phase → (words : List ℕ) (keep : ℕ → View) (done : ℕ → List ℕ) (told : ℕ → List Bool) → Run
+run_of ph words keep done told = record {
+  kind = ph.kind;
+  shape = ph.shape;
+  opening = ph.opening;
+  words = words;
+  keep = keep;
+  keys = λ v. ph.keys;
+  done = done;
+  told = told;
+}
+
+-- what a run has of its rounds before this one
+abbrev pub past_of : {r : Run} → (positions : ℕ) → RunInvariant r → (v : ℕ) → Past
+past_of {r = r} positions run v = record { kind = r.kind; positions = positions; opening = (r.keep v).opening; acts = own v run.before; reads = run.reads v }
+
+-- At the begin of the round there was a run of this phase. From it on each worker has come as far as its hand says.
+pub record Comes (ph : Phase) (vs : List Known) (hs : List Hand) : Type 0 where
   pub words : List ℕ
   pub keep : ℕ → View
   pub done : ℕ → List ℕ
   pub told : ℕ → List Bool
-  pub run : Running kind z opening words keep (λ v. keys) done told
-  pub stands : AllStand z keys (past_of positions run) vs hs
+  pub run : RunInvariant (run_of ph words keep done told)
+  pub stands : AllStand ph.shape ph.keys (past_of ph.positions run) vs hs
 
 -- All workers of the table have done all keys that they claimed, and found the end of the list. They came so far from where
 -- they were.
@@ -36,8 +59,8 @@ pub record HaveDone (t : Table) (keys : List ℕ) (c then : Crew) : Type 0 where
   pub all : HasAll t then.seat
   pub quiet : InView IsQuiet (views_of then.seat)
   pub finished : All IsFinished then.hands
-  pub comes : (kind : Kind) (positions : ℕ) (opening : List ℕ)
-      → Comes t.shape kind positions opening keys (views_of c.seat) c.hands → Comes t.shape kind positions opening keys (views_of then.seat) then.hands
+  pub comes : (kind : Kind) (opening : List ℕ) (positions : ℕ) → Comes (phase t.shape kind opening keys positions) (views_of c.seat) c.hands
+      → Comes (phase t.shape kind opening keys positions) (views_of then.seat) then.hands
 
 -- ---- what all hands say
 

@@ -7,7 +7,7 @@ use Rattle.rh_steps.specs.Relies.{Trusts}
 use Rattle.rh_worker.specs.Worker.{IsWorker}
 use Rattle.rh_worker.specs.declared.stage.Stage.TheVariants as stage
 use Rattle.rh_worker.specs.declared.worker.Worker.{Worker}
-use Rattle.rh_phase.specs.Keys.{DoneSo}
+use Rattle.rh_phase.specs.Keys.{KeySpec}
 
 -- It is at rest, and what is kept of it says that it did the key, and what it is told of it.
 pub record HasDone (here : OnTable) (w : Worker) (told : Bool) : Type 0 where
@@ -15,4 +15,4 @@ pub record HasDone (here : OnTable) (w : Worker) (told : Bool) : Type 0 where
   pub worker : IsWorker here.table.now.shape w
   pub idle : w.stage ≡ stage.Idle
   pub before : View
-  pub so : DoneSo here.table.now.shape w.kind w.key before w.side.known.view told
+  pub so : KeySpec here.table.now.shape w.kind w.key before w.side.known.view told

@@ -2,16 +2,15 @@
 
 ghost use Rattle.std.specs.Prelude.{◌≡◌, All, IfNone, IfSome, IsTrue, false, length};
 ghost use Rattle.rh_layout.specs.Key.{IsKey};
-ghost use Rattle.rh_descriptor.specs.Parts.{IsShape};
 ghost use Rattle.rh_history.specs.History.{kept_of, own_acts_of};
 ghost use Rattle.rh_history.specs.OwnActs.{Orderly};
 ghost use Rattle.rh_helping.specs.Goal.{IsClear};
 ghost use Rattle.rh_phase.specs.Hands.{HasStopped, IsHand, Past, Stands};
-ghost use Rattle.rh_phase.specs.Keys.{DoneSo, Furthers};
+ghost use Rattle.rh_phase.specs.Keys.{KeySpec, Furthers};
 ghost use Rattle.rh_rdcss.specs.Sits.{Sits, Stays};
 ghost use Rattle.rh_steps.specs.Relies.{Trusts};
 ghost use Rattle.rh_worker.specs.Reading.{ReadsAnew};
-ghost use Rattle.rh_worker.specs.Worker.{HasNoRoom, IsBusy, IsWorker};
+ghost use Rattle.rh_worker.specs.Worker.{HasNoRoom, IsBusy, IsWorker, KeepsKey};
 ghost use Rattle.rh_worker.specs.declared.stage.Stage.TheVariants as stage;
 
 use crate::gate::Gate;
@@ -29,7 +28,6 @@ pub fn do_key<R: Wait>(
     here: &mut OnTable,
     worker: &mut Worker,
 ) -> Option<bool>
-    requires shape { IsShape shape.now }
     requires trusts { Trusts Sits shape.now here.old worker.old.side.known.view }
     requires worker { IsWorker shape.now worker.old }
     requires busy { IsBusy worker.old.stage }
@@ -38,8 +36,7 @@ pub fn do_key<R: Wait>(
     ensures trusts { Trusts Sits shape.now here.new worker.new.side.known.view }
     ensures stays { Stays here.old here.new }
     ensures worker { IsWorker shape.now worker.new }
-    ensures same_kind { worker.new.kind ≡ worker.old.kind }
-    ensures same_key { worker.new.key ≡ worker.old.key }
+    ensures keeps { KeepsKey worker.old worker.new }
     ensures same_worker { worker.new.side.known.view.worker ≡ worker.old.side.known.view.worker }
     ensures orderly { Orderly worker.new.side.known.view }
     ensures claims { worker.new.side.known.view.side.claims ≡ worker.old.side.known.view.side.claims }
@@ -47,7 +44,7 @@ pub fn do_key<R: Wait>(
     ensures furthers { Furthers shape.now worker.old.kind worker.old.key
         worker.old.side.known.view worker.new.side.known.view result }
     ensures done { IfSome result (λ told. (worker.new.stage ≡ stage.Idle)
-        × DoneSo shape.now worker.old.kind worker.old.key
+        × KeySpec shape.now worker.old.kind worker.old.key
         worker.old.side.known.view worker.new.side.known.view told) }
     ensures spent { IfNone result ((worker.new.stage ≡ stage.Spent)
         × HasNoRoom shape.now worker.new.side.known.view
@@ -77,7 +74,6 @@ pub(crate) fn do_keys<R: Wait, G: Gate>(
     keys: &[u64],
     gate: &G,
 )
-    requires shape { IsShape shape.now }
     requires trusts { Trusts Sits shape.now here.old hand.old.worker.side.known.view }
     requires clear { IsClear hand.old.worker.side.known.view }
     requires orderly { Orderly hand.old.worker.side.known.view }
@@ -117,7 +113,6 @@ fn next_key<G: Gate>(
     keys: &[u64],
     gate: &G,
 ) -> bool
-    requires shape { IsShape shape.now }
     requires trusts { Trusts Sits shape.now here.old hand.old.worker.side.known.view }
     requires clear { IsClear hand.old.worker.side.known.view }
     requires orderly { Orderly hand.old.worker.side.known.view }

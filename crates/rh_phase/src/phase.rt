@@ -8,6 +8,7 @@ ghost use Rattle.rh_ledger.specs.Phase.{looked_up, most_added, set_after, tally_
 ghost use Rattle.rh_acts.specs.Workers.{tally_by};
 ghost use Rattle.rh_descriptor.specs.Parts.{IsShape};
 ghost use Rattle.rh_phase.specs.Made.{HasMade, IsRooms, IsWorkers};
+ghost use Rattle.rh_phase.specs.Rounds.{phase};
 
 use crate::crew::{AllStart, Crew, Starts};
 use crate::gate::Gate;
@@ -168,7 +169,7 @@ fn carry_out<R: Threads + Wait + Sync, G: Gate + Sync, S: Starts + Sync>(
     requires keys { All IsKey keys.now }
     requires layout { IsLayout shape.bits cells.old }
     requires room { set.len (keys_of cells.old) + most_added kind keys.now < 2 ^ shape.bits }
-    ensures made { IfOk result (HasMade shape.bits kind positions (keys_of cells.old) keys.now cells.new) }
+    ensures made { IfOk result (HasMade (phase shape kind cells.old keys.now positions) cells.new) }
     ensures unchanged { OnErr result (cells.new ≡ cells.old) }
 {
     let Ok(hands) = new_hands(alloc, &shape, kind, positions) else {

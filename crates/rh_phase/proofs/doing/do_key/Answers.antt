@@ -5,7 +5,7 @@ use Rattle.rh_run.specs.Advance.{Advances}
 use Rattle.rh_worker.specs.Reading.{TellsAnew}
 use Rattle.rh_worker.specs.Worker.{EndsAt, Stays}
 use Rattle.rh_rdcss.proofs.Lending.{stays_first, stays_on}
-use Rattle.rh_phase.specs.Keys.{DoneSo}
+use Rattle.rh_phase.specs.Keys.{KeySpec}
 use Rattle.rh_phase.proofs.KeySteps.{after, busy_on, done_so, furthers, same_opening, same_worker}
 use Rattle.rh_phase.proofs.doing.do_key.Goals as goal
 
@@ -21,7 +21,7 @@ loop-init g c = record {
   orderly = c.requires.orderly;
   claims = refl;
   opening = refl;
-  furthers = λ keys acts reads done told among is. is;
+  furthers = λ p among is. is;
   acts = refl;
   anew = c.requires.anew;
 }
@@ -58,8 +58,8 @@ returns-in-Some-done-clause-done g c =
     let e = c.step-done.ensures in
     let tells = subst (λ (o : Option Bool). TellsAnew z (kept_of z first) w.kind w.key w.side.known.view next.side.known.view o) c.in-Some-done.is (e.anew (kept_of z first) h.anew).1 in (
       subst (λ (o : Option Bool). EndsAt o next.stage) c.in-Some-done.is e.ends,
-      subst (λ (q : Kind). DoneSo z q c.args.worker.now.key first next.side.known.view c.in-Some-done.told) h.kind
-          (subst (λ (n : ℕ). DoneSo z w.kind n first next.side.known.view c.in-Some-done.told) h.key
+      subst (λ (q : Kind). KeySpec z q c.args.worker.now.key first next.side.known.view c.in-Some-done.told) h.kind
+          (subst (λ (n : ℕ). KeySpec z w.kind n first next.side.known.view c.in-Some-done.told) h.key
           (done_so z _ _ w.side.known.view _ next.side.known.view e.makes first w.kind w.key c.in-Some-done.told h.orderly h.acts tells)),
     )
 
@@ -95,7 +95,7 @@ returns-then-is_spent-clause-spent g c =
     let a = subst (λ (o : Option Bool). Advances z w.kind w.key w.side.known.view next.side.known.view o) c.in-None-done.is e.advances in
     let spent = c.if-is_spent.ensures.0 refl in (
       spent,
-      (subst (Stays z next.side.known.view next.kind next.key next.sights) spent e.worker.stays).1,
+      (subst (Stays z next.side.known.view next.kind next.key next.buffer) spent e.worker.stays).1,
       (after z _ _ _ _ _ e.makes w.kind w.key None a h.orderly).1 ∙ h.acts,
     )
 
@@ -112,8 +112,8 @@ loop-preserved g c =
       stays = stays_on _ _ _ h.stays e.makes.steps;
       worker = e.worker;
       busy = busy_on next.stage (subst (λ (o : Option Bool). EndsAt o next.stage) c.in-None-done.is e.ends) (λ s. true≢false (sym (c.if-is_spent.ensures.1 s)));
-      kind = e.same_kind ∙ h.kind;
-      key = e.same_key ∙ h.key;
+      kind = e.keeps.kind ∙ h.kind;
+      key = e.keeps.key ∙ h.key;
       who = same_worker _ _ _ _ _ _ e.makes ∙ h.who;
       orderly = f.0;
       claims = e.makes.claims ∙ h.claims;

@@ -42,7 +42,7 @@ returns-then-keys-position-clause-stands g c past was =
     let z = c.args.shape.now in
     let idle : c.args.hand.now.worker.stage ≡ stage.Idle = ⊎_elim (λ i. i) (λ s. absurd (true≢false (sym (c.if-is_spent.ensures.1 s)))) c.requires.stopped in
     let may = may_claim z c.args.hand.now.worker.side.known.view c.requires.clear c.requires.trusts.knows (c.requires.hand.claims.below c.if-hand.false) in
-    stands_ended z c.args.keys.now past c.args.hand.now _ c.args.hand.now.worker.side.known.view _ was c.claim-position.result may e.view_is e.trusts.knows.sound c.claim-position.ensures.same_kind idle refl refl
+    stands_ended z c.args.keys.now past c.args.hand.now _ c.args.hand.now.worker.side.known.view _ was c.claim-position.result may e.view_is e.trusts.knows.sound c.claim-position.ensures.keeps.kind idle refl refl
     (let l = c.requires.keys.0 in omega (arith, c.if-keys-position.true, l))
     (ap (λ (p : Stage). left_over p c.args.hand.now.position) c.claim-position.ensures.idle)
 
@@ -81,7 +81,7 @@ returns-clause-stands g c past was =
     let inside : c.claim-position.result < length keys = omega (arith, c.if-keys-position.false) in
     let idle : c.args.hand.now.worker.stage ≡ stage.Idle = ⊎_elim (λ i. i) (λ s. absurd (true≢false (sym (c.if-is_spent.ensures.1 s)))) c.requires.stopped in
     let may = may_claim z view c.requires.clear c.requires.trusts.knows (c.requires.hand.claims.below c.if-hand.false) in
-    stands_claimed z keys past c.args.hand.now _ view _ was c.claim-position.result may (b.same_view ∙ e.view_is) (subst (Sound z) (sym b.same_view) e.trusts.knows.sound) (b.same_kind ∙ c.claim-position.ensures.same_kind) idle refl refl
+    stands_claimed z keys past c.args.hand.now _ view _ was c.claim-position.result may (b.same_view ∙ e.view_is) (subst (Sound z) (sym b.same_view) e.trusts.knows.sound) (b.same_kind ∙ c.claim-position.ensures.keeps.kind) idle refl refl
     (let l = c.requires.keys.0 in omega (arith, inside, l))
     (left_at_key _ c.claim-position.result (busy_at_key _ b.busy))
 

@@ -6,7 +6,7 @@ use Rattle.rh_descriptor.specs.declared.shape.Shape.{Shape}
 use Rattle.rh_rule.specs.Seats.{first_view}
 use Rattle.rh_kcas.specs.Crews.{views_of}
 use Rattle.rh_phase.specs.Made.{AreNew, HasMade}
-use Rattle.rh_phase.specs.Rounds.{Comes}
+use Rattle.rh_phase.specs.Rounds.{Comes, phase}
 use Rattle.rh_phase.specs.declared.crew.Crew.{Crew}
 use Rattle.rh_phase.proofs.Beginning.{can_begin, comes_first, few_changed, is_value, leaves_room, small}
 use Rattle.rh_phase.proofs.Ending.{has_made}
@@ -40,13 +40,13 @@ returns-clause-made g c =
     let h = c.in-Ok-rounds.ensures.done in
     let list : t.shape.keys ≡ length keys = ap (λ (y : Shape). y.keys) e.shape ∙ c.requires.list in
     let bits : t.shape.bits ≡ z.bits = ap (λ (y : Shape). y.bits) e.shape in
-    let comes : Comes t.shape kind positions cells keys (views_of then.seat) then.hands = h.comes kind positions cells
+    let comes : Comes (phase t.shape kind cells keys positions) (views_of then.seat) then.hands = h.comes kind cells positions
     (comes_first t kind positions cells keys crew e.all e.fresh
     (subst (λ (y : Shape). views_of crew.seat ≡ first_view y (map plain_number cells)) (sym e.shape) e.views)
     (subst (λ (y : Shape). AreNew y kind positions crew.hands) (sym e.shape) c.in-Ok.ensures)
     list c.requires.keys (c.requires.layout.size ∙ ap (λ (b : ℕ). 2 ^ b) (sym bits))) in
-    subst (λ (b : ℕ). HasMade b kind positions (keys_of cells) keys c.close.new.cells then.hands) bits
-    (has_made t.shape kind positions cells keys (views_of then.seat) then.hands c.close.new.cells (all_some t then.seat h.all) (all_spans t then.seat h.all) (h.crew.long ∙ h.all.count)
+    subst (λ (y : Shape). HasMade (phase y kind cells keys positions) c.close.new.cells then.hands) e.shape
+    (has_made (phase t.shape kind cells keys positions) (views_of then.seat) then.hands c.close.new.cells (all_some t then.seat h.all) (all_spans t then.seat h.all) (h.crew.long ∙ h.all.count)
     comes c.close.ensures list h.finished h.crew.hands
     (subst (λ (b : ℕ). Layout cells b (keys_of cells)) (sym bits) c.requires.layout)
     (subst (λ (b : ℕ). LeavesRoom kind b (keys_of cells) keys) (sym bits) (leaves_room kind z.bits (keys_of cells) keys c.requires.room))
