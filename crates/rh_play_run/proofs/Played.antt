@@ -6,7 +6,7 @@ use Rattle.rh_ledger.specs.declared.tally.Kind.{Kind}
 use Rattle.rh_ledger.specs.Phase.{set_after, tally_of}
 use Rattle.rh_descriptor.specs.declared.shape.Shape.{Shape}
 use Rattle.rh_turns.specs.Game.{AllFinished, Game}
-use Rattle.rh_player.specs.Made.{MadeSoFar, TalliesSo, held_first}
+use Rattle.rh_player.specs.Made.{MadeSoFar, TallySpec, held_first}
 use Rattle.std.specs.Io.KnownBytes.{Appends}
 use Rattle.rh_ledger.specs.declared.tally.Tally.{Tally}
 use Rattle.rh_files.specs.Counting.{AppendsFront}
@@ -87,10 +87,10 @@ stand : (g : Game) (finished : Bool) → (IsTrue finished ↔ AllFinished g) →
 stand g true tells = tells.0 refl
 stand g false tells = λ all. let no : false ≡ true = tells.1 all in absurd cc
 
-pub closed : (g : Game) (empty first text : List ℕ) (tally : Tally) (finished : Bool) → tally ≡ tally_so_far g → TalliesSo g tally → (IsTrue finished ↔ AllFinished g)
+pub closed : (g : Game) (empty first text : List ℕ) (tally : Tally) (finished : Bool) → tally ≡ tally_so_far g → TallySpec g tally → (IsTrue finished ↔ AllFinished g)
     → empty ≡ [] → first ≡ empty ++ tally_line tally → text ≡ first ++ end_line finished → ClosesWith g text
 closed g empty first text tally finished counts so tells none one two =
-    (finished, stand g finished tells, closing_text empty first text tally finished none one two ∙ ap (λ (t : Tally). closing t finished) counts, subst (TalliesSo g) counts so)
+    (finished, stand g finished tells, closing_text empty first text tally finished none one two ∙ ap (λ (t : Tally). closing t finished) counts, subst (TallySpec g) counts so)
 
 pub closed_finished : (g : Game) (empty first text : List ℕ) (tally whole : Tally) (finished : Bool) → (AllFinished g → tally ≡ whole) → (IsTrue finished ↔ AllFinished g)
     → empty ≡ [] → first ≡ empty ++ tally_line tally → text ≡ first ++ end_line finished → AllFinished g → text ≡ closing whole true

@@ -8,7 +8,7 @@ use Rattle.rh_turns.specs.Game.{AllFinished, Game}
 use Rattle.rh_player.specs.declared.fault.PlayFault.{PlayFault}
 use Rattle.rh_player.specs.declared.fault.PlayFault.TheVariants as start
 use Rattle.rh_acts.specs.Workers.{tally_by}
-use Rattle.rh_player.specs.Made.{MadeSoFar, TalliesSo, changed_count, done_count}
+use Rattle.rh_player.specs.Made.{MadeSoFar, TallySpec, changed_count, done_count}
 use Rattle.rh_files.specs.Counting.{AppendsFront}
 use Rattle.rh_files.specs.Dump.{dump_text}
 use Rattle.rh_play.specs.declared.fault.PlayTextFault.{PlayTextFault}
@@ -38,7 +38,7 @@ closing tally finished = tally_line tally ++ end_line finished
 
 -- what is counted so far, which is the tallies of the workers, and whether all workers are finished
 abbrev pub ClosesWith : Game → (text : List ℕ) → Type 0
-ClosesWith g text = (finished : Bool) × IsAllFinished g finished × (text ≡ closing (tally_so_far g) finished) × TalliesSo g (tally_so_far g)
+ClosesWith g text = (finished : Bool) × IsAllFinished g finished × (text ≡ closing (tally_so_far g) finished) × TallySpec g (tally_so_far g)
 
 -- The cells that are dumped stand for what the workers have made.
 pub record Ends (bits : ℕ) (g : Game) (text : List ℕ) : Type 0 where

@@ -12,8 +12,8 @@ use Rattle.rh_turns.specs.declared.hand.Hand.{Hand}
 use Rattle.rh_turns.specs.declared.hand.Share.{Share}
 use Rattle.rh_turns.specs.declared.hand.Share.TheVariants.{Piece, Claims}
 use Rattle.rh_turns.specs.Hands.{IsClaiming, keys_for, keys_in}
-use Rattle.rh_turns.specs.Game.{ArePieces, Game, IsDoneAt, Plays, at_hand, done_at, keys_at, positions_at}
-use Rattle.rh_turns.specs.Laws.{TellsSo}
+use Rattle.rh_turns.specs.Game.{ArePieces, Game, IsDoneAt, Plays, at_hand, done_at, keys_at, positions_at, shares_of}
+use Rattle.rh_turns.specs.Laws.{OutcomeSpec}
 use Rattle.rh_turns.proofs.Apart.{end_of, first_of, piece_within}
 use Rattle.rh_turns.proofs.AtHands.{at_hand_is}
 use Rattle.rh_turns.proofs.Ended.{plays_ends}
@@ -82,10 +82,10 @@ module _ (g : Game) (plays : Plays g) (asks : g.kind ≡ Ask) where
       (λ (not : IsDoneAt g position → ⊥). subst (IsAnswer (held_first g) (slice_index g.keys position) (IsDoneAt g position)) (sym (is ∙ asked g position asks ∙ tells.unanswered position not)) not)
       (done_or_not g position)
     where
-      tells : TellsSo g plays.told
+      tells : OutcomeSpec g plays.told
       tells = plays_tells g plays
 
-  module _ (worker position : ℕ) (told : Option Bool) (is : told ≡ told_of g worker position) (inside : worker < length g.hands) (are : ArePieces 0 g.hands (length g.keys)) where
+  module _ (worker position : ℕ) (told : Option Bool) (is : told ≡ told_of g worker position) (inside : worker < length g.hands) (are : ArePieces 0 (shares_of g.hands) (length g.keys)) where
     abbrev h : Hand
     h = get_or g.hands worker (some_hand g plays)
 
@@ -142,7 +142,7 @@ module _ (g : Game) (plays : Plays g) (asks : g.kind ≡ Ask) where
 
   pub answer_piece : (worker position : ℕ) (told : Option Bool) → told ≡ told_of g worker position → is_shared g ≡ false → worker < length g.hands
       → IsAnswer (held_first g) (slice_index (keys_at g worker) position) (position < length (done_at g worker)) told
-  answer_piece worker position told is not_shared inside = ⊎_elim (λ (are : ArePieces 0 g.hands (length g.keys)). in_pieces worker position told is inside are)
+  answer_piece worker position told is not_shared inside = ⊎_elim (λ (are : ArePieces 0 (shares_of g.hands) (length g.keys)). in_pieces worker position told is inside are)
       (λ (all : All IsClaiming g.hands). absurd (not_claimed g plays not_shared all)) plays.dealt
 
 -- ---- at the end
@@ -160,7 +160,7 @@ module _ (g : Game) (plays : Plays g) where
       h : Hand
       h = get_or g.hands worker (some_hand g plays)
 
-      by_piece : ArePieces 0 g.hands (length g.keys) → told ≡ Some (get_or (looked_up (held_first g) (keys_at g worker)) position false)
+      by_piece : ArePieces 0 (shares_of g.hands) (length g.keys) → told ≡ Some (get_or (looked_up (held_first g) (keys_at g worker)) position false)
       by_piece are =
           let r = piece_within 0 g.hands (length g.keys) are worker (some_hand g plays) inside in
           let first : ℕ = r.0 in

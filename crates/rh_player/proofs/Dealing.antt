@@ -5,12 +5,11 @@ use Rattle.std.specs.Global.{Global}
 use Rattle.std.proofs.lemmas.Bool.{cases_lt}
 use Rattle.std.proofs.lemmas.List.{ext_get_or, flat_map_more, get_or_append_left, get_or-append-add, get_or-take, get_or_at, get_or_default, length-append, length-take, take_more}
 use Rattle.std.proofs.lemmas.List.FromFn.{get_or-map-range_with_len, length-map-range_with_len}
-use Rattle.rh_turns.specs.declared.hand.Hand.{Hand}
 use Rattle.rh_turns.specs.declared.hand.Share.{Share}
 use Rattle.rh_turns.specs.declared.hand.Share.TheVariants.{Piece}
 use Rattle.rh_turns.specs.Hands.{keys_in}
 use Rattle.rh_turns.specs.Game.{ArePieces}
-use Rattle.rh_player.specs.SetUp.{AreDealt, AreParts, shares_of}
+use Rattle.rh_player.specs.SetUp.{AreDealt}
 use Rattle.rh_player.specs.Start.{joined}
 
 -- ---- the keys of a part
@@ -38,15 +37,15 @@ last_part keys piece end is = part_is (keys ++ piece) (length keys) end piece (o
 
 -- ---- one piece more
 
-pub parts_more : (from : ℕ) (shares : List Share) (mid end : ℕ) → AreParts from shares mid → mid ≤ end → AreParts from (shares ++ Piece mid end ∷ []) end
+pub parts_more : (from : ℕ) (shares : List Share) (mid end : ℕ) → ArePieces from shares mid → mid ≤ end → ArePieces from (shares ++ Piece mid end ∷ []) end
 parts_more from [] mid end are high = (end, ap (λ (n : ℕ). Piece n end) (sym are), omega (arith, are, high), refl)
 parts_more from (s ∷ ss) mid end are high = (are.0, are.1, are.2, parts_more are.0 ss mid end are.3 high)
 
-parts_up : (from : ℕ) (shares : List Share) (count : ℕ) → AreParts from shares count → from ≤ count
+parts_up : (from : ℕ) (shares : List Share) (count : ℕ) → ArePieces from shares count → from ≤ count
 parts_up from [] count are = omega (arith, are)
 parts_up from (s ∷ ss) count are = let rest = parts_up are.0 ss count are.3 in omega (arith, rest, are.2)
 
-part_of : (from : ℕ) (shares : List Share) (count : ℕ) → AreParts from shares count → (v : ℕ) (d : Share) → v < length shares
+part_of : (from : ℕ) (shares : List Share) (count : ℕ) → ArePieces from shares count → (v : ℕ) (d : Share) → v < length shares
     → (first end : ℕ) × (get_or shares v d ≡ Piece first end) × (first ≤ end) × (end ≤ count)
 part_of from [] count are v d inside = absurd (omega (arith, inside))
 part_of from (s ∷ ss) count are zero d inside = (from, are.0, are.1, are.2, parts_up are.0 ss count are.3)
@@ -57,7 +56,7 @@ joined_more pieces i d inside =
     flat_map_more (λ (piece : Vec ℕ Global). piece.items) [] (take i pieces) (get_or pieces i d) ∙ ap joined (sym (take_more pieces i d inside))
 
 pub dealt_more : (pieces : List (Vec ℕ Global)) (keys : List ℕ) (shares : List Share) (i end : ℕ) (piece : Vec ℕ Global) → i < length pieces → get_or pieces i piece ≡ piece
-    → AreParts 0 shares (length keys) → AreDealt keys shares (take i pieces) → end ≡ length keys + length piece.items
+    → ArePieces 0 shares (length keys) → AreDealt keys shares (take i pieces) → end ≡ length keys + length piece.items
     → AreDealt (keys ++ piece.items) (shares ++ Piece (length keys) end ∷ []) (take (i + 1) pieces)
 dealt_more pieces keys shares i end piece inside is are dealt last =
     let long : length (take i pieces) ≡ i = length-take i pieces ∙ omega (arith, inside) in
@@ -84,22 +83,16 @@ dealt_more pieces keys shares i end piece inside is are dealt last =
 
 -- the keys of the next piece are put behind the others
 pub dealt_next : (pieces : List (Vec ℕ Global)) (keys : List ℕ) (shares : List Share) (i : ℕ) (piece : Vec ℕ Global) → i < length pieces → piece ≡ get_or pieces i piece
-    → keys ≡ joined (take i pieces) → AreParts 0 shares (length keys) → AreDealt keys shares (take i pieces)
+    → keys ≡ joined (take i pieces) → ArePieces 0 shares (length keys) → AreDealt keys shares (take i pieces)
     → (first end : ℕ) (now : List ℕ) (more : List Share) → first ≡ length keys → now ≡ keys ++ piece.items → end ≡ length now → more ≡ shares ++ Piece first end ∷ []
-    → (now ≡ joined (take (i + 1) pieces)) × AreParts 0 more (length now) × AreDealt now more (take (i + 1) pieces)
+    → (now ≡ joined (take (i + 1) pieces)) × ArePieces 0 more (length now) × AreDealt now more (take (i + 1) pieces)
 dealt_next pieces keys shares i piece inside is keys_are parts dealt first end now more first_is now_is end_is more_is =
     let size : length (keys ++ piece.items) ≡ length keys + length piece.items = length-append keys piece.items in
     let last : end ≡ length keys + length piece.items = end_is ∙ ap length now_is ∙ size in
     let more_are : more ≡ shares ++ Piece (length keys) end ∷ [] = more_is ∙ ap (λ (n : ℕ). shares ++ Piece n end ∷ []) first_is in (
       now_is ∙ ap (λ (ks : List ℕ). ks ++ piece.items) keys_are ∙ ap (λ (x : Vec ℕ Global). joined (take i pieces) ++ x.items) is ∙ joined_more pieces i piece inside,
-      subst (λ (ss : List Share). AreParts 0 ss (length now)) (sym more_are) (subst (λ (n : ℕ). AreParts 0 (shares ++ Piece (length keys) end ∷ []) n) end_is
+      subst (λ (ss : List Share). ArePieces 0 ss (length now)) (sym more_are) (subst (λ (n : ℕ). ArePieces 0 (shares ++ Piece (length keys) end ∷ []) n) end_is
           (parts_more 0 shares (length keys) end parts (omega (arith, last)))),
       subst (λ (ks : List ℕ). AreDealt ks more (take (i + 1) pieces)) (sym now_is) (subst (λ (ss : List Share). AreDealt (keys ++ piece.items) ss (take (i + 1) pieces)) (sym more_are)
           (dealt_more pieces keys shares i end piece inside (sym is) parts dealt last)),
     )
-
--- ---- of the workers
-
-pub hands_have_pieces : (from : ℕ) (hs : List Hand) (count : ℕ) → AreParts from (shares_of hs) count → ArePieces from hs count
-hands_have_pieces from [] count are = are
-hands_have_pieces from (h ∷ hs) count are = (are.0, are.1, are.2, hands_have_pieces are.0 hs count are.3)

@@ -16,10 +16,10 @@ use Rattle.rh_acts.specs.Workers.{LeavesRoom}
 use Rattle.rh_turns.specs.declared.hand.Hand.{Hand}
 use Rattle.rh_turns.specs.declared.hand.Share.{Share}
 use Rattle.rh_turns.specs.declared.hand.Share.TheVariants.{Claims}
-use Rattle.rh_turns.specs.Game.{Game}
+use Rattle.rh_turns.specs.Hands.{IsNew}
+use Rattle.rh_turns.specs.Game.{ArePieces, Game, shares_of}
 use Rattle.rh_turns.specs.Laws.{Starts, WillClaim}
-use Rattle.rh_player.specs.SetUp.{AreNew, AreParts, AreShares, ClaimsAll, IsNewHand, shares_of}
-use Rattle.rh_player.proofs.Dealing.{hands_have_pieces}
+use Rattle.rh_player.specs.SetUp.{AreNew, AreShares, ClaimsAll}
 
 -- a cell of a layout holds a value
 pub is_value : (bits : ℕ) (cells : List ℕ) (c : ℕ) → IsLayout bits cells → c < length cells → IsValue (slice_index cells c)
@@ -44,17 +44,17 @@ module _ (kind : Kind) (z : Shape) (words : List ℕ) (shares : List Share) (han
   more_shares =
       map-append (λ (x : Hand). x.share) hands (h ∷ []) ∙ (λ i. before i ++ share_is i ∷ []) ∙ sym (take_more shares n h.share inside)
 
-  more_new : AreNew kind z words hands → IsNewHand kind z words n h → AreNew kind z words (hands ++ h ∷ [])
+  more_new : AreNew kind z words hands → IsNew kind z words n h → AreNew kind z words (hands ++ h ∷ [])
   more_new new now v other less =
       let long : length (hands ++ h ∷ []) ≡ length hands + 1 = length-append hands (h ∷ []) in
       ⊎_elim
-      (λ (earlier : v < length hands). subst (IsNewHand kind z words v) (sym (get_or_append_left hands (h ∷ []) other v earlier)) (new v other earlier))
+      (λ (earlier : v < length hands). subst (IsNew kind z words v) (sym (get_or_append_left hands (h ∷ []) other v earlier)) (new v other earlier))
       (λ (here : length hands ≤ v).
       let now_is : v ≡ n = omega (arith, here, less, long, size) in
-      subst (λ (m : ℕ). IsNewHand kind z words m (get_or (hands ++ h ∷ []) m other)) (sym now_is)
-      (subst (IsNewHand kind z words n) (sym (get_or_at hands h [] other n size)) now)) (cases_lt v (length hands))
+      subst (λ (m : ℕ). IsNew kind z words m (get_or (hands ++ h ∷ []) m other)) (sym now_is)
+      (subst (IsNew kind z words n) (sym (get_or_at hands h [] other n size)) now)) (cases_lt v (length hands))
 
-  pub next_hands : AreNew kind z words hands → IsNewHand kind z words n h → (now : List Hand) → now ≡ hands ++ h ∷ [] → (shares_of now ≡ take (n + 1) shares) × AreNew kind z words now
+  pub next_hands : AreNew kind z words hands → IsNew kind z words n h → (now : List Hand) → now ≡ hands ++ h ∷ [] → (shares_of now ≡ take (n + 1) shares) × AreNew kind z words now
   next_hands new one now is = (ap shares_of is ∙ more_shares, subst (AreNew kind z words) (sym is) (more_new new one))
 
 -- what is so of no answer is so of None alone
@@ -109,6 +109,6 @@ module _ (kind : Kind) (z : Shape) (cells keys : List ℕ) (shares : List Share)
           changed = h.changed;
         };
     dealt = ⊎_elim
-        (λ (parts : AreParts 0 shares (length keys)). inl (hands_have_pieces 0 hands (length keys) (subst (λ (ss : List Share). AreParts 0 ss (length keys)) (sym shares_are) parts)))
+        (λ (parts : ArePieces 0 shares (length keys)). inl (subst (λ (ss : List Share). ArePieces 0 ss (length keys)) (sym shares_are) parts))
         (λ (all_claim : (z.keys ≡ length keys) × All ClaimsAll shares). inr (all_claim.0, will_claim shares hands shares_are all_claim.1)) dealt;
   }

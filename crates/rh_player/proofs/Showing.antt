@@ -1,6 +1,6 @@
 -- What a player shows of the cells and of the answers.
 use Rattle.std.proofs.Common.{◌≡◌, ℕ, ◌+◌, ◌/◌, ◌^◌, ◌<◌, ⊎_elim, refl, sym, ap, ◌∙◌, subst, arith, Option, Some, None, Bool, true, false, true≢false, List, length, set, get_or}
-use Rattle.std.specs.Prelude.{slice_index}
+use Rattle.std.specs.Prelude.{IsSome, slice_index}
 use Rattle.std.proofs.lemmas.Bool.{cases_eq}
 use Rattle.std.proofs.lemmas.List.{get_or-set_other, get_or-set_same}
 use Rattle.rh_tagword.specs.declared.limits.TheConstants.{PLAIN, TAG_BITS}
@@ -44,6 +44,10 @@ all_now g plays cells size each =
 abbrev is_some : {A : Type 0} → Option A → Bool
 is_some None = false
 is_some (Some a) = true
+
+pub is_there : {A : Type 0} (o : Option A) → (o ≡ None → ⊥) → IsSome o
+is_there None none = absurd (none refl)
+is_there (Some a) none = refl
 
 -- a word of a cell is one that can be told
 pub is_word : (g : Game) → Plays g → (c : ℕ) → c < cell_count g.shape → word_in (slice_index g.words c) ≡ None → ⊥

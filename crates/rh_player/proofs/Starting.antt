@@ -19,11 +19,11 @@ use Rattle.rh_acts.specs.Workers.{LeavesRoom}
 use Rattle.rh_turns.specs.declared.hand.Hand.{Hand}
 use Rattle.rh_turns.specs.declared.hand.Share.{Share}
 use Rattle.rh_turns.specs.Hands.{keys_in}
-use Rattle.rh_turns.specs.Game.{Game, keys_at}
+use Rattle.rh_turns.specs.Game.{Game, keys_at, shares_of}
 use Rattle.rh_turns.proofs.AtHands.{at_hand_is, first_of_all}
 use Rattle.rh_player.specs.declared.fault.PlayFault.{PlayFault}
 use Rattle.rh_player.specs.declared.fault.PlayFault.TheVariants.{NotALayout, NoRoom, BadWorkers, BadKey, Memory}
-use Rattle.rh_player.specs.SetUp.{AreDealt, shares_of}
+use Rattle.rh_player.specs.SetUp.{AreDealt}
 use Rattle.rh_player.specs.Start.{IsRooms, Makes, Refuses, are_keys, joined, shape_for, start_fault, table_fault, then_keys}
 use Rattle.rh_player.proofs.Dealing.{joined_more}
 use Rattle.rh_player.proofs.Room.{leaves_room}

@@ -17,14 +17,14 @@ use Rattle.rh_turns.specs.declared.hand.Hand.{Hand}
 use Rattle.rh_turns.specs.declared.hand.Share.{Share}
 use Rattle.rh_turns.specs.declared.hand.Share.TheVariants.{Piece, Claims}
 use Rattle.rh_turns.specs.Hands.{IsClaiming, IsShare, positions, view_of}
-use Rattle.rh_turns.specs.Game.{AllFinished, ArePieces, Game, Plays, changed_at, done_at, keep, positions_at}
+use Rattle.rh_turns.specs.Game.{AllFinished, ArePieces, Game, Plays, changed_at, done_at, keep, positions_at, shares_of}
 use Rattle.rh_turns.proofs.Apart.{end_of, first_of, piece_within}
 use Rattle.rh_turns.proofs.AtHands.{at_hand_is}
 use Rattle.rh_turns.proofs.Ended.{plays_ends}
 use Rattle.rh_turns.proofs.Playing.{done_claimed, in_hands, kept_at, plays_moment, some_hand}
 use Rattle.rh_turns.proofs.Telling.{positions_counted, told_size}
 use Rattle.rh_player.proofs.Showing.{so_far}
-use Rattle.rh_player.specs.Made.{TalliesSo, changed_count, cut, done_count, held_first, total}
+use Rattle.rh_player.specs.Made.{TallySpec, changed_count, cut, done_count, held_first, total}
 
 -- one worker more
 total_more : (f : Hand → ℕ) (hs : List Hand) (i : ℕ) (d : Hand) → i < length hs → total (map f (take (suc i) hs)) ≡ total (map f (take i hs)) + f (get_or hs i d)
@@ -82,7 +82,7 @@ sum_is kind f c done changed hs d are (suc n) few =
 -- ---- sums of all workers
 
 -- those of pieces that follow one another are no longer than the list
-pieces_hold : (f : Hand → ℕ) (low : ℕ) (hs : List Hand) (count : ℕ) → ArePieces low hs count → ((v : ℕ) (d : Hand) → v < length hs → first_of (get_or hs v d).share + f (get_or hs v d) ≤ end_of (get_or hs v d).share)
+pieces_hold : (f : Hand → ℕ) (low : ℕ) (hs : List Hand) (count : ℕ) → ArePieces low (shares_of hs) count → ((v : ℕ) (d : Hand) → v < length hs → first_of (get_or hs v d).share + f (get_or hs v d) ≤ end_of (get_or hs v d).share)
     → total (map f hs) + low ≤ count
 pieces_hold f low [] count are each = omega (arith, are)
 pieces_hold f low (h ∷ hs) count are each =
@@ -123,7 +123,7 @@ module _ (g : Game) (plays : Plays g) where
   done_few : (v : ℕ) (d : Hand) (s : Share) → v < length g.hands → (get_or g.hands v d).share ≡ s → IsShare g.shape g.keys (get_or g.hands v d) s
   done_few v d s inside is = subst (IsShare g.shape g.keys (get_or g.hands v d)) is (plays.hands v d inside).share
 
-  few_pieces : ArePieces 0 g.hands (length g.keys) → done_count g ≤ length g.keys
+  few_pieces : ArePieces 0 (shares_of g.hands) (length g.keys) → done_count g ≤ length g.keys
   few_pieces are =
       let all = pieces_hold (λ h. length (positions g.shape h)) 0 g.hands (length g.keys) are (λ v d inside.
       let r = piece_within 0 g.hands (length g.keys) are v d inside in
@@ -184,7 +184,7 @@ module _ (g : Game) (plays : Plays g) where
       (length g.hands) (omega arith))
       ∙ ap (sum_of_all (λ v. tally_by g.kind (done v) (changed v))) plays.workers
 
-  pub tallies : TalliesSo g (tally_by g.kind (done_count g) (changed_count g))
+  pub tallies : TallySpec g (tally_by g.kind (done_count g) (changed_count g))
   tallies =
       let moment = plays_moment g plays in
       record {

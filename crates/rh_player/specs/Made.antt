@@ -8,13 +8,13 @@ use Rattle.rh_ledger.specs.Phase.{looked_up}
 use Rattle.rh_ledger.specs.declared.tally.Tally.{Tally}
 use Rattle.rh_acts.specs.Act.{changes}
 use Rattle.rh_acts.specs.Workers.{Made, counted, how_many, sum_of_all}
-use Rattle.rh_run.specs.Laws.{StandsSo}
+use Rattle.rh_run.specs.Laws.{MomentSpec}
 use Rattle.rh_run.specs.Words.{AreNow}
 use Rattle.rh_turns.specs.declared.hand.Share.{Share}
 use Rattle.rh_turns.specs.declared.hand.Share.TheVariants.{Piece, Claims}
 use Rattle.rh_turns.specs.Hands.{positions}
-use Rattle.rh_turns.specs.Game.{AllFinished, Game, at_hand, done_at, keep, keys_at}
-use Rattle.rh_turns.specs.Laws.{TellsSo}
+use Rattle.rh_turns.specs.Game.{AllFinished, Game, at_hand, keep, run_of}
+use Rattle.rh_turns.specs.Laws.{OutcomeSpec}
 
 -- the set that the cells held when the player was made
 abbrev pub held_first : Game → Keys
@@ -26,10 +26,10 @@ pub record SoFar (g : Game) : Type 0 where
   pub before : List Made
   pub now : List Made
   pub told : ℕ → List Bool
-  pub stands : StandsSo g.kind g.shape g.opening g.words (keep g) (keys_at g) (done_at g) told (held_first g) before now
-  pub tells : TellsSo g told
+  pub stands : MomentSpec (run_of g told) (held_first g) before now
+  pub tells : OutcomeSpec g told
 
--- At each moment: the cells stand for the layout of the first set changed by the acts so far, and each key that is done shows.
+-- At each moment: the cells stand for the layout of the first set changed by the acts so far, and the set reflects each key that is done.
 abbrev pub MadeSoFar : Game → (cells : List ℕ) → Type 0
 MadeSoFar g cells = AreNow g.shape g.words (keep g) cells × SoFar g
 
@@ -37,7 +37,7 @@ MadeSoFar g cells = AreNow g.shape g.words (keep g) cells × SoFar g
 
 -- At each moment the tallies of all workers are summed up, each of what the worker was told of its keys so far. Where keys are
 -- added or removed, these are as many as the acts that change a cell, among those by which it has done its keys.
-pub record TalliesSo (g : Game) (t : Tally) : Type 0 where
+pub record TallySpec (g : Game) (t : Tally) : Type 0 where
   pub so_far : SoFar g
   pub sums : t ≡ sum_of_all (λ v. counted g.kind (so_far.told v)) g.shape.workers
   pub changed : g.kind ≢ Ask → (v : ℕ) → (mine : v < g.shape.workers) → how_many (so_far.told v) ≡ count_by changes (so_far.stands.did v mine).acts

@@ -8,16 +8,16 @@ use Rattle.rh_worker.specs.Worker.{HasNoRoom}
 use Rattle.rh_turns.specs.declared.hand.Hand.{Hand}
 use Rattle.rh_turns.specs.declared.turning.Turn.{Turn}
 use Rattle.rh_turns.specs.declared.turning.Turn.TheVariants.{Did, Finished, Spent, NoSuchWorker}
-use Rattle.rh_turns.specs.Hands.{IsFinished, IsSpent, TurnsOn}
+use Rattle.rh_turns.specs.Hands.{IsFinished, IsSpent, TurnsOn, moment}
 use Rattle.rh_turns.specs.Game.{Game, keep}
-use Rattle.rh_turns.specs.Laws.{Begins, begun, hand, turned}
+use Rattle.rh_turns.specs.Laws.{Begins, begun, hand, moment_of, turned}
 
 -- This worker made one step of this kind, and nothing else changed.
 pub record Steps (g : Game) (who : ℕ) (k : StepKind) (next : Game) : Type 0 where
   pub worker : who < length g.hands
   pub stepped : Hand
-  pub next_is : next ≡ turned g who next.words next.answers stepped
-  pub turns : (other : Hand) → TurnsOn g.shape g.keys g.words g.answers (hand g who other) (Did k) next.words next.answers stepped
+  pub next_is : next ≡ turned g who (moment next.words next.answers stepped)
+  pub turns : (other : Hand) → TurnsOn g.shape g.keys (moment_of g who other) (Did k) (moment next.words next.answers stepped)
 
 -- Where no step is made nothing changes.
 abbrev pub Turned : Game → (who : ℕ) → Turn → Game → Type 0

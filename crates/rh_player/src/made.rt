@@ -8,7 +8,7 @@ ghost use Rattle.rh_descriptor.specs.Parts.{cell_count};
 ghost use Rattle.rh_tagword.specs.Word.{word_in};
 ghost use Rattle.rh_acts.specs.Workers.{tally_by};
 ghost use Rattle.rh_turns.specs.Game.{AllFinished, IsDoneAt, done_at, keys_at};
-ghost use Rattle.rh_player.specs.Made.{AnswersAll, IsAnswer, MadeSoFar, TalliesSo, changed_count};
+ghost use Rattle.rh_player.specs.Made.{AnswersAll, IsAnswer, MadeSoFar, TallySpec, changed_count};
 ghost use Rattle.rh_player.specs.Made.{done_count, held_first, is_shared, told_at, told_of};
 
 use crate::player::Player;
@@ -41,16 +41,14 @@ impl Player {
         requires { cell < cell_count self.now.shape }
         ensures { word_in (slice_index self.now.words cell) ≡ Some result }
     {
-        match unpack(self.words[cell]) {
-            Some(word) => word,
-            None => Word::Empty,
-        }
+        // (each word of a cell is one of these)
+        unpack(self.words[cell]).unwrap()
     }
 
     /// What is counted of the keys that are done: how many they are, and of how many of them it was
     /// told that they were added, removed or found.
     pub fn tally(&self) -> Tally
-        ensures so_far { TalliesSo self.now result }
+        ensures so_far { TallySpec self.now result }
         ensures counts { result ≡ tally_by self.now.kind (done_count self.now) (changed_count self.now) }
         ensures finished { AllFinished self.now →
             result ≡ tally_after self.now.kind (held_first self.now) self.now.keys }

@@ -20,7 +20,7 @@ use Rattle.rh_turns.specs.declared.hand.Hand.{Hand}
 use Rattle.rh_turns.specs.declared.hand.Share.{Share}
 use Rattle.rh_turns.specs.declared.hand.Share.TheVariants.{Piece, Claims}
 use Rattle.rh_turns.specs.Hands.{IsClaiming, IsHand, IsShare, positions, positions_of, view_of}
-use Rattle.rh_turns.specs.Game.{ArePieces, at_hand}
+use Rattle.rh_turns.specs.Game.{ArePieces, at_hand, shares_of}
 use Rattle.rh_turns.proofs.AtHands.{at_hand_is}
 
 -- ---- the pieces
@@ -41,7 +41,7 @@ pub piece_not_claims : (s : Share) → IsPiece s → (last : ℕ) (ended : Bool)
 piece_not_claims s piece last ended e = subst IsPiece e piece
 
 -- each worker has one, which begins no earlier than this
-pub piece_at : (low : ℕ) (hs : List Hand) (count : ℕ) → ArePieces low hs count → (v : ℕ) (d : Hand) → v < length hs
+pub piece_at : (low : ℕ) (hs : List Hand) (count : ℕ) → ArePieces low (shares_of hs) count → (v : ℕ) (d : Hand) → v < length hs
     → IsPiece (get_or hs v d).share × (low ≤ first_of (get_or hs v d).share)
 piece_at low [] count are v d l = absurd (omega (arith, l))
 piece_at low (h ∷ hs) count are zero d l = (subst IsPiece (sym are.1) tt, let same : first_of h.share ≡ low = ap first_of are.1 in omega (arith, same))
@@ -50,18 +50,18 @@ piece_at low (h ∷ hs) count are (suc v) d l =
     (r.0, omega (arith, r.1, are.2))
 
 -- they begin no later than they end
-pub up_to : (low : ℕ) (hs : List Hand) (count : ℕ) → ArePieces low hs count → low ≤ count
+pub up_to : (low : ℕ) (hs : List Hand) (count : ℕ) → ArePieces low (shares_of hs) count → low ≤ count
 up_to low [] count are = omega (arith, are)
 up_to low (h ∷ hs) count are = let rest = up_to are.0 hs count are.3 in omega (arith, rest, are.2)
 
 -- the piece of each worker lies within the list
-pub piece_within : (low : ℕ) (hs : List Hand) (count : ℕ) → ArePieces low hs count → (v : ℕ) (d : Hand) → v < length hs
+pub piece_within : (low : ℕ) (hs : List Hand) (count : ℕ) → ArePieces low (shares_of hs) count → (v : ℕ) (d : Hand) → v < length hs
     → (first end : ℕ) × ((get_or hs v d).share ≡ Piece first end) × (first ≤ end) × (end ≤ count)
 piece_within low [] count are v d l = absurd (omega (arith, l))
 piece_within low (h ∷ hs) count are zero d l = (low, are.0, are.1, are.2, up_to are.0 hs count are.3)
 piece_within low (h ∷ hs) count are (suc v) d l = piece_within are.0 hs count are.3 v d (omega (arith, l))
 
-in_order : (low : ℕ) (hs : List Hand) (count : ℕ) → ArePieces low hs count → (u v : ℕ) (d : Hand) → u < v → v < length hs
+in_order : (low : ℕ) (hs : List Hand) (count : ℕ) → ArePieces low (shares_of hs) count → (u v : ℕ) (d : Hand) → u < v → v < length hs
     → end_of (get_or hs u d).share ≤ first_of (get_or hs v d).share
 in_order low [] count are u v d less l = absurd (omega (arith, l))
 in_order low (h ∷ hs) count are u zero d less l = absurd (omega (arith, less))
@@ -72,14 +72,14 @@ in_order low (h ∷ hs) count are zero (suc v) d less l =
 in_order low (h ∷ hs) count are (suc u) (suc v) d less l = in_order are.0 hs count are.3 u v d (omega (arith, less)) (omega (arith, l))
 
 -- a position is in one piece alone
-pub in_one_piece : (hs : List Hand) (count : ℕ) → ArePieces 0 hs count → (u v : ℕ) (d : Hand) → u < length hs → v < length hs → (p : ℕ)
+pub in_one_piece : (hs : List Hand) (count : ℕ) → ArePieces 0 (shares_of hs) count → (u v : ℕ) (d : Hand) → u < length hs → v < length hs → (p : ℕ)
     → (first_of (get_or hs u d).share ≤ p) × (p < end_of (get_or hs u d).share) → (first_of (get_or hs v d).share ≤ p) × (p < end_of (get_or hs v d).share) → u ≡ v
 in_one_piece hs count are u v d lu lv p a b = ⊎_elim
     (λ (less : u < v). let order = in_order 0 hs count are u v d less lv in absurd (omega (arith, order, a.1, b.0)))
     (λ (most : v ≤ u). ⊎_elim (λ (less : v < u). let order = in_order 0 hs count are v u d less lu in absurd (omega (arith, order, b.1, a.0))) (λ (least : u ≤ v). omega (arith, most, least)) (cases_lt v u)) (cases_lt u v)
 
 -- another worker with the same piece
-pub pieces_set : (low : ℕ) (hs : List Hand) (count who : ℕ) (d next : Hand) → who < length hs → next.share ≡ (get_or hs who d).share → ArePieces low hs count → ArePieces low (set hs who next) count
+pub pieces_set : (low : ℕ) (hs : List Hand) (count who : ℕ) (d next : Hand) → who < length hs → next.share ≡ (get_or hs who d).share → ArePieces low (shares_of hs) count → ArePieces low (shares_of (set hs who next)) count
 pieces_set low [] count who d next l same are = are
 pieces_set low (h ∷ hs) count zero d next l same are = (are.0, same ∙ are.1, are.2, are.3)
 pieces_set low (h ∷ hs) count (suc who) d next l same are = (are.0, are.1, are.2, pieces_set are.0 hs count who d next (omega (arith, l)) same are.3)
@@ -118,7 +118,7 @@ module _ (z : Shape) (kind : Kind) (keys words : List ℕ) (hands : List Hand) (
   claims_are : (v : ℕ) → v < z.workers → (view_of (hand v)).side.claims ≡ (core.side v).claims
   claims_are v mine = ap (λ (x : View). x.side.claims) (sym (at_hand_is view_of (new_view [] 0) hands v d (inside v mine))) ∙ ap (λ (s : Side). s.claims) (told.kept v mine)
 
-  module _ (are : ArePieces 0 hands (length keys)) where
+  module _ (are : ArePieces 0 (shares_of hands) (length keys)) where
     of_piece : (v i : ℕ) → v < z.workers → i < length (positions z (hand v)) → (get_or (positions z (hand v)) i 0 ≡ first_of (hand v).share + i) × (first_of (hand v).share + i < end_of (hand v).share)
     of_piece v i mine l = in_piece z keys (hand v) (hand v).share i (piece_at 0 hands (length keys) are v d (inside v mine)).0 (all v d (inside v mine)).share l
 
@@ -157,13 +157,13 @@ module _ (z : Shape) (kind : Kind) (keys words : List ℕ) (hands : List Hand) (
     claims_apart : (u v i j : ℕ) → u < z.workers → v < z.workers → i < length (positions z (hand u)) → j < length (positions z (hand v)) → get_or (positions z (hand u)) i 0 ≡ get_or (positions z (hand v)) j 0 → u ≡ v
     claims_apart u v i j yours mine li lj e = told.shared.one_worker u v (get_or (positions z (hand u)) i 0) (it_claims u i yours li) (subst (λ (n : ℕ). In n (core.side v).claims) (sym e) (it_claims v j mine lj))
 
-  module _ (dealt : ArePieces 0 hands (length keys) ⊎ All IsClaiming hands) where
+  module _ (dealt : ArePieces 0 (shares_of hands) (length keys) ⊎ All IsClaiming hands) where
     once : (v i j : ℕ) → v < z.workers → i < length (positions z (hand v)) → j < length (positions z (hand v)) → get_or (positions z (hand v)) i 0 ≡ get_or (positions z (hand v)) j 0 → i ≡ j
-    once v i j mine li lj e = ⊎_elim (λ (are : ArePieces 0 hands (length keys)). pieces_once are v i j mine li lj e) (λ (are : All IsClaiming hands). claims_once are v i j mine li lj e) dealt
+    once v i j mine li lj e = ⊎_elim (λ (are : ArePieces 0 (shares_of hands) (length keys)). pieces_once are v i j mine li lj e) (λ (are : All IsClaiming hands). claims_once are v i j mine li lj e) dealt
 
     one_worker : (u v i j : ℕ) → u < z.workers → v < z.workers → i < length (positions z (hand u)) → j < length (positions z (hand v)) → get_or (positions z (hand u)) i 0 ≡ get_or (positions z (hand v)) j 0 → u ≡ v
     one_worker u v i j yours mine li lj e = ⊎_elim
-        (λ (are : ArePieces 0 hands (length keys)). ⊎_elim
+        (λ (are : ArePieces 0 (shares_of hands) (length keys)). ⊎_elim
         (λ (less : u < v). absurd (pieces_apart are u v i j less yours mine li lj e))
         (λ (most : v ≤ u). ⊎_elim (λ (less : v < u). absurd (pieces_apart are v u j i less mine yours lj li (sym e))) (λ (least : u ≤ v). omega (arith, most, least)) (cases_lt v u)) (cases_lt u v))
         (λ (are : All IsClaiming hands). claims_apart are u v i j yours mine li lj e) dealt

@@ -15,7 +15,7 @@ use Rattle.rh_descriptor.specs.View.{View, new_view}
 use Rattle.rh_rule.specs.Rest.{AllRest}
 use Rattle.rh_acts.specs.Workers.{LeavesRoom, counted, joined, piece, sum_of_all, tally_by}
 use Rattle.rh_run.specs.Claimed.{FoundEnd, claimed}
-use Rattle.rh_run.specs.Laws.{EndsSo}
+use Rattle.rh_run.specs.Laws.{FinalSpec}
 use Rattle.rh_run.specs.Words.{cells_held}
 use Rattle.rh_run.proofs.Ending.{held_now, run_ends, same_sums}
 use Rattle.rh_run.proofs.Sharing.{claims_at, claims_size, run_shared_ends, shared_out}
@@ -23,7 +23,7 @@ use Rattle.rh_turns.specs.declared.hand.Hand.{Hand}
 use Rattle.rh_turns.specs.declared.hand.Share.{Share}
 use Rattle.rh_turns.specs.declared.hand.Share.TheVariants.{Piece, Claims}
 use Rattle.rh_turns.specs.Hands.{IsAtEnd, IsClaiming, IsHand, IsIdle, IsShare, done_keys, keys_for, keys_in, positions, positions_of, view_of}
-use Rattle.rh_turns.specs.Game.{AllFinished, ArePieces, Game, IsDoneAt, Plays, at_hand, changed_at, done_at, keep, keys_at, positions_at}
+use Rattle.rh_turns.specs.Game.{AllFinished, ArePieces, Game, IsDoneAt, Plays, at_hand, changed_at, done_at, keep, positions_at, run_of, shares_of}
 use Rattle.rh_turns.specs.Laws.{EndsWith}
 use Rattle.rh_turns.proofs.AtHands.{at_hand_is}
 use Rattle.rh_turns.proofs.Apart.{IsPiece, end_of, first_of, piece_at, up_to}
@@ -59,18 +59,18 @@ module _ (keys : List ℕ) where
       ∙ sym (map-append (slice_index keys) (range_with_len first (mid - first)) (range_with_len (first + (mid - first)) (end - mid)))
       ∙ ap (map (slice_index keys)) (sym (ranges_join first (mid - first) (end - mid))) ∙ ap (keys_at_positions first) (sym all)
 
-  pieces_join : (low : ℕ) (hs : List Hand) (count : ℕ) → ArePieces low hs count → joined (map (keys_for keys) hs) ≡ keys_at_positions low (count - low)
+  pieces_join : (low : ℕ) (hs : List Hand) (count : ℕ) → ArePieces low (shares_of hs) count → joined (map (keys_for keys) hs) ≡ keys_at_positions low (count - low)
   pieces_join low [] count are = let none : zero ≡ count - low = omega (arith, are) in ap (keys_at_positions low) none
   pieces_join low (h ∷ hs) count are =
       (λ i. keys_in keys (are.1 i) ++ pieces_join are.0 hs count are.3 i) ∙ parts_join low are.0 count are.2 (up_to are.0 hs count are.3)
 
-  pub pieces_are : (hs : List Hand) → ArePieces 0 hs (length keys) → joined (map (keys_for keys) hs) ≡ keys
+  pub pieces_are : (hs : List Hand) → ArePieces 0 (shares_of hs) (length keys) → joined (map (keys_for keys) hs) ≡ keys
   pieces_are hs are =
       let whole : length keys - 0 ≡ length keys = omega arith in
       pieces_join 0 hs (length keys) are ∙ ap (keys_at_positions 0) whole ∙ sym (fill_by_all (slice_index keys) keys (length keys) 0 refl (λ k l. refl))
 
 -- a position of the list is in the piece of a worker
-in_some_piece : (low : ℕ) (hs : List Hand) (count : ℕ) → ArePieces low hs count → (p : ℕ) (d : Hand) → low ≤ p → p < count
+in_some_piece : (low : ℕ) (hs : List Hand) (count : ℕ) → ArePieces low (shares_of hs) count → (p : ℕ) (d : Hand) → low ≤ p → p < count
     → (v : ℕ) × (v < length hs) × (first_of (get_or hs v d).share ≤ p) × (p < end_of (get_or hs v d).share)
 in_some_piece low [] count are p d least inside = absurd (omega (arith, are, least, inside))
 in_some_piece low (h ∷ hs) count are p d least inside = ⊎_elim
@@ -127,7 +127,7 @@ module _ (g : Game) (plays : Plays g) (finished : AllFinished g) where
   ended v mine = finished v (some_hand g plays) (in_hands g plays v mine)
 
   -- each worker counts its keys as it was told of them
-  tally_is : {list : List ℕ} → EndsSo g.kind z g.words plays.told S list → sum_of_all (λ v. tally_by g.kind (length (positions_at g v)) (changed_at g v)) z.workers ≡ tally_of g.kind S list
+  tally_is : {list : List ℕ} → FinalSpec (run_of g plays.told) S list → sum_of_all (λ v. tally_by g.kind (length (positions_at g v)) (changed_at g v)) z.workers ≡ tally_of g.kind S list
   tally_is ends =
       same_sums (λ v. tally_by g.kind (length (positions_at g v)) (changed_at g v)) (λ v. counted g.kind (plays.told v)) z.workers
       (λ v mine i. tally_by g.kind (sym (told_size g plays v mine) i) (plays.changed v mine i)) ∙ ends.tally
@@ -137,7 +137,7 @@ module _ (g : Game) (plays : Plays g) (finished : AllFinished g) where
   answer_is asks p inside done = (plays_tells g plays).answers asks p done ∙ ap Some (sym (get_or-map (contains S) g.keys p 0 false inside))
 
   -- each worker has a piece
-  module _ (are : ArePieces 0 g.hands (length g.keys)) where
+  module _ (are : ArePieces 0 (shares_of g.hands) (length g.keys)) where
     abbrev pieces : List (List ℕ)
     pieces = map (keys_for g.keys) g.hands
 
@@ -156,8 +156,8 @@ module _ (g : Game) (plays : Plays g) (finished : AllFinished g) where
     joined_is : joined pieces ≡ g.keys
     joined_is = pieces_are g.keys g.hands are
 
-    by_pieces : EndsSo g.kind z g.words plays.told S (joined pieces)
-    by_pieces = run_ends g.kind z g.opening g.words (keep g) (keys_at g) (done_at g) plays.told S pieces plays.running rest plays.opening
+    by_pieces : FinalSpec (run_of g plays.told) S (joined pieces)
+    by_pieces = run_ends (run_of g plays.told) S pieces plays.running rest plays.opening
         (length-map g.hands (keys_for g.keys) ∙ plays.workers) all_done (subst (λ (l : List ℕ). LeavesRoom g.kind z.bits S l) (sym joined_is) plays.room)
 
     answers_pieces : g.kind ≡ Ask → (p : ℕ) → p < length g.keys → slice_index_or g.answers p None ≡ Some (slice_index_or (looked_up S g.keys) p false)
@@ -176,7 +176,7 @@ module _ (g : Game) (plays : Plays g) (finished : AllFinished g) where
 
     ends_pieces : EndsWith g
     ends_pieces = record {
-      now = held_now g.kind z g.opening g.words (keep g) (keys_at g) (done_at g) plays.told plays.running rest plays.shape;
+      now = held_now (run_of g plays.told) plays.running rest plays.shape;
       layout = subst (λ (l : List ℕ). Layout (cells_held z g.words) z.bits (set_after g.kind S l)) joined_is by_pieces.layout;
       tally = tally_is by_pieces ∙ ap (tally_of g.kind S) joined_is;
       answers = answers_pieces;
@@ -202,8 +202,8 @@ module _ (g : Game) (plays : Plays g) (finished : AllFinished g) where
     all_claimed_done : (v : ℕ) → v < z.workers → done_at g v ≡ map (slice_index g.keys) (claimed z (keep g v))
     all_claimed_done v mine = at_v (done_keys z g.keys) [] v mine ∙ ap (map (slice_index g.keys)) ((of_claims v mine).0 ∙ ap (claimed z) (sym (kept_is v mine)))
 
-    by_claims : EndsSo g.kind z g.words plays.told S g.keys
-    by_claims = run_shared_ends g.kind z g.opening g.words (keep g) (keys_at g) (done_at g) plays.told S g.keys plays.running rest plays.opening
+    by_claims : FinalSpec (run_of g plays.told) S g.keys
+    by_claims = run_shared_ends (run_of g plays.told) S g.keys plays.running rest plays.opening
         plays.some (sym (of_claims 0 plays.some).3) found all_claimed_done plays.room
 
     answers_claims : g.kind ≡ Ask → (p : ℕ) → p < length g.keys → slice_index_or g.answers p None ≡ Some (slice_index_or (looked_up S g.keys) p false)
@@ -222,7 +222,7 @@ module _ (g : Game) (plays : Plays g) (finished : AllFinished g) where
 
     ends_claims : EndsWith g
     ends_claims = record {
-      now = held_now g.kind z g.opening g.words (keep g) (keys_at g) (done_at g) plays.told plays.running rest plays.shape;
+      now = held_now (run_of g plays.told) plays.running rest plays.shape;
       layout = by_claims.layout;
       tally = tally_is by_claims;
       answers = answers_claims;

@@ -20,7 +20,7 @@ abbrev pub made : Shape → Step → Words → View → ℕ → Words → View �
 made z s t v word then next = StepsTo z s t.items v word then.items next
 
 pub relies_so : (z : Shape) (t : Words) (v : View) → Relies Shows Serves z t.items v → Relies shows serves z t v
-relies_so z t v r = record { now = record { knows = r.now.knows; rows = r.now.rows }; may = r.may }
+relies_so z t v r = record { now = record { shape = r.now.shape; knows = r.now.knows; rows = r.now.rows }; may = r.may }
 
 pub makes_so : (z : Shape) (k : StepKind) (t : Words) (v : View) (then : Words) (next : View) → Makes shows made z k t v then next → Makes Shows StepsTo z k t.items v then.items next
 makes_so z k t v then next m = record {
@@ -30,7 +30,7 @@ makes_so z k t v then next m = record {
   allowed = m.allowed;
   view_is = m.view_is;
   steps = m.steps;
-  trusts = record { knows = m.trusts.knows; rows = m.trusts.rows };
+  trusts = record { shape = m.trusts.shape; knows = m.trusts.knows; rows = m.trusts.rows };
   claims = m.claims;
   reads = m.reads;
 }

@@ -18,7 +18,7 @@ use Rattle.rh_descriptor.specs.Parts.{cell_count, word_count}
 use Rattle.rh_descriptor.specs.View.{View, new_view}
 use Rattle.rh_descriptor.specs.Words.{IsPlain}
 use Rattle.rh_rule.specs.Core.{Core}
-use Rattle.rh_rule.specs.Mirrors.{IsCell}
+use Rattle.rh_rule.specs.Represents.{IsCell}
 use Rattle.rh_rule.specs.Rest.{AllRest}
 use Rattle.rh_rule.proofs.Telling.{tells}
 use Rattle.rh_steps.specs.Relies.{Relies, Serves, Shows}
@@ -29,14 +29,14 @@ use Rattle.rh_worker.specs.declared.stage.Stage.{Stage}
 use Rattle.rh_run.specs.Claimed.{claimed}
 use Rattle.rh_run.proofs.Saying.{logical_words, words_lead_inside}
 use Rattle.rh_run.proofs.Standing.{run_moment}
-use Rattle.rh_run.specs.Laws.{StandsSo}
+use Rattle.rh_run.specs.Laws.{MomentSpec}
 use Rattle.rh_history.specs.History.{history}
 use Rattle.rh_turns.specs.declared.hand.Hand.{Hand}
 use Rattle.rh_turns.specs.declared.hand.Share.{Share}
 use Rattle.rh_turns.specs.declared.hand.Share.TheVariants.{Piece, Claims}
 use Rattle.rh_turns.specs.Hands.{HasClaimed, HasNext, IsFinished, IsHand, IsIdle, IsShare, IsSpent, keys_for, keys_in, position_of, positions, view_of}
 use Rattle.rh_turns.specs.Readable.{AreWorkers, IsReadable}
-use Rattle.rh_turns.specs.Game.{AllStopped, Game, Plays, keep, keys_at, done_at}
+use Rattle.rh_turns.specs.Game.{AllStopped, Game, Plays, keep, keys_at, run_of}
 use Rattle.rh_turns.proofs.AtHands.{at_hand_is, first_of_all}
 
 -- ---- how many keys are done
@@ -99,8 +99,8 @@ next_among keys (Claims last ended) done next within = Contains-get_or keys last
 -- ---- a worker that stopped
 
 module _ (z : Shape) (h : Hand) (worker : IsWorker z h.worker) where
-  stays_at : (p : Stage) → h.worker.stage ≡ p → Stays z (view_of h) h.worker.kind h.worker.key h.worker.sights p
-  stays_at p e = subst (λ (q : Stage). Stays z (view_of h) h.worker.kind h.worker.key h.worker.sights q) e worker.stays
+  stays_at : (p : Stage) → h.worker.stage ≡ p → Stays z (view_of h) h.worker.kind h.worker.key h.worker.buffer p
+  stays_at p e = subst (λ (q : Stage). Stays z (view_of h) h.worker.kind h.worker.key h.worker.buffer q) e worker.stays
 
   stopped_clear : IsFinished h ⊎ IsSpent h → IsClear (view_of h)
   stopped_clear o = ⊎_elim (λ (f : IsFinished h). stays_at _ f.0) (λ (s : IsSpent h). (stays_at _ s).0) o
@@ -122,13 +122,13 @@ module _ (w : World) (z : Shape) (words : List ℕ) (keep : ℕ → View) (core 
   stands_plain c v (plain u) e is so = subst IsPlain so is
   stands_plain c v (mark x) e is so =
       let opened = core.rule.rows.used x (core.rule.rows.marks c x e).used in
-      subst IsPlain so ((core.mirrors.rows.entries (w.mark_desc x) opened.0).plain_olds (w.mark_entry x) opened.1)
+      subst IsPlain so ((core.represents.rows.entries (w.mark_desc x) opened.0).plain_olds (w.mark_entry x) opened.1)
   stands_plain c v (desc d) e is so =
-      let row = core.mirrors.rows.entries d (core.rule.rows.descs c d e).opened in
+      let row = core.represents.rows.entries d (core.rule.rows.descs c d e).opened in
       subst IsPlain so.value (plain_value (w.control d) (w.old d so.entry) (w.new d so.entry) (row.plain_olds so.entry so.within) (row.plain_news so.entry so.within))
 
   pub cells_plain : (c : ℕ) → c < cell_count z → IsPlain (cells_after w w.act_count c)
-  cells_plain c inside = stands_plain c (cells_after w w.act_count c) (w.cell c) refl (core.mirrors.cells.standing c inside) ((tells w z words keep core).order.now c)
+  cells_plain c inside = stands_plain c (cells_after w w.act_count c) (w.cell c) refl (core.represents.cells.standing c inside) ((tells w z words keep core).order.now c)
 
 -- ---- a game
 
@@ -158,14 +158,14 @@ module _ (g : Game) (plays : Plays g) where
       subst IsFalling (sym (ap (λ (s : Side). s.claims) (told.kept v mine))) (told.shared.once v)
 
   pub plays_sized : length g.words ≡ word_count z
-  plays_sized = plays.running.core.mirrors.sized
+  plays_sized = plays.running.core.represents.sized
 
   pub plays_workers : AreWorkers g.hands
   plays_workers = record {
     each = λ v d l. (z, (plays.hands v d l).worker);
     numbered = λ v d l.
         let mine : v < z.workers = omega (arith, l, plays.workers) in
-        ap (λ (x : View). x.worker) (sym (kept_at v mine d)) ∙ (plays.running.core.mirrors.kept v mine).worker;
+        ap (λ (x : View). x.worker) (sym (kept_at v mine d)) ∙ (plays.running.core.represents.kept v mine).worker;
   }
 
   -- each worker may take a turn
@@ -180,7 +180,7 @@ module _ (g : Game) (plays : Plays g) where
   -- where all have stopped all are at rest
   pub plays_stopped : AllStopped g → AllRest z (keep g)
   plays_stopped stopped = record {
-    still = λ v mine. (plays.running.core.mirrors.kept v mine).still;
+    still = λ v mine. (plays.running.core.represents.kept v mine).still;
     rest = λ v mine.
         let h : Hand = get_or g.hands v some_hand in
         subst (λ (x : View). AtRest x.side) (sym (kept_at v mine some_hand))
@@ -203,5 +203,5 @@ module _ (g : Game) (plays : Plays g) where
       (subst (λ (l : List ℕ). Contains l k) (at_hand_is (keys_for g.keys) [] g.hands v some_hand (in_hands v mine)) has)
 
   -- at each moment the cells stand for the layout of the set after some of the keys
-  pub plays_moment : StandsSo g.kind z g.opening g.words (keep g) (keys_at g) (done_at g) plays.told (keys_of g.opening) plays.running.before (history plays.running.world)
-  plays_moment = run_moment g.kind z g.opening g.words (keep g) (keys_at g) (done_at g) plays.told (keys_of g.opening) g.keys plays.running plays.shape plays.opening keys_among plays.room
+  pub plays_moment : MomentSpec (run_of g plays.told) (keys_of g.opening) plays.running.before (history plays.running.world)
+  plays_moment = run_moment (run_of g plays.told) (keys_of g.opening) g.keys plays.running plays.shape plays.opening keys_among plays.room

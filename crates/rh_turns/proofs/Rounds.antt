@@ -12,7 +12,7 @@ use Rattle.rh_worker.specs.declared.stage.Stage.{Stage}
 use Rattle.rh_worker.specs.declared.stage.Stage.TheVariants as stage
 use Rattle.rh_run.specs.Claimed.{claimed}
 use Rattle.rh_run.specs.Laws.{AreAlike}
-use Rattle.rh_run.specs.Run.{Running}
+use Rattle.rh_run.specs.Run.{Run, RunInvariant}
 use Rattle.rh_run.specs.Words.{IsWiped}
 use Rattle.rh_run.proofs.Alike.{runs_alike}
 use Rattle.rh_run.proofs.Turning.{run_rounds}
@@ -20,7 +20,7 @@ use Rattle.rh_turns.specs.declared.hand.Hand.{Hand}
 use Rattle.rh_turns.specs.declared.hand.Share.{Share}
 use Rattle.rh_turns.specs.declared.hand.Share.TheVariants.{Piece, Claims}
 use Rattle.rh_turns.specs.Hands.{IsAtKey, IsClaiming, IsFinished, IsHand, IsIdle, IsShare, IsSpent, done_keys, keys_for, keys_in, position_now, position_of, positions, positions_of, view_of}
-use Rattle.rh_turns.specs.Game.{AllStopped, ArePieces, Game, IsDealt, Plays, at_hand, done_at, keep, keys_at, positions_at}
+use Rattle.rh_turns.specs.Game.{AllStopped, ArePieces, Game, IsDealt, Plays, at_hand, done_at, keep, keys_at, positions_at, run_of, shares_of}
 use Rattle.rh_turns.specs.Laws.{Begins, begun}
 use Rattle.rh_turns.proofs.AtHands.{at_hand_is}
 use Rattle.rh_turns.proofs.Playing.{in_hands, plays_stopped, some_hand}
@@ -90,7 +90,7 @@ module _ (z : Shape) (kind : Kind) (keys cells : List ℕ) (h next : Hand) (begi
 
 -- ---- all of them
 
-pieces_alike : (low : ℕ) (hs ks : List Hand) (count : ℕ) → length ks ≡ length hs → ((v : ℕ) (d : Hand) → v < length hs → (get_or ks v d).share ≡ (get_or hs v d).share) → ArePieces low hs count → ArePieces low ks count
+pieces_alike : (low : ℕ) (hs ks : List Hand) (count : ℕ) → length ks ≡ length hs → ((v : ℕ) (d : Hand) → v < length hs → (get_or ks v d).share ≡ (get_or hs v d).share) → ArePieces low (shares_of hs) count → ArePieces low (shares_of ks) count
 pieces_alike low [] [] count size same are = are
 pieces_alike low [] (k ∷ ks) count size same are = absurd (omega (arith, size))
 pieces_alike low (h ∷ hs) [] count size same are = absurd (omega (arith, size))
@@ -123,7 +123,11 @@ module _ (g : Game) (plays : Plays g) (stopped : AllStopped g) (then cells : Lis
   positions_are : (v : ℕ) → v < z.workers → positions_at g v ≡ positions_at game v
   positions_are v mine = was (positions z) [] v mine ∙ sym (positions_same z g.kind g.keys cells (get_or g.hands v d) (get_or hands v d) (of v mine)) ∙ now (positions z) [] v mine
 
-  alike : (v : ℕ) → v < z.workers → AreAlike (round_view cells (keep g v)) (keep game v) (keys_at g v) (keys_at game v) (done_at g v) (done_at game v) (plays.told v) (plays.told v)
+  -- the run after the wipe
+  abbrev after : Run
+  after = record (run_of g plays.told) { words = then; keep = λ v. round_view cells (keep g v) }
+
+  alike : (v : ℕ) → v < z.workers → AreAlike after (record after { keep = keep game; keys = keys_at game; done = done_at game }) v
   alike v mine = record {
     kept = ap (round_view cells) (was view_of (new_view [] 0) v mine) ∙ sym (of v mine).view ∙ now view_of (new_view [] 0) v mine;
     keys_are = was (keys_for g.keys) [] v mine ∙ ap (keys_in g.keys) (sym (of v mine).share) ∙ now (keys_for g.keys) [] v mine;
@@ -132,15 +136,15 @@ module _ (g : Game) (plays : Plays g) (stopped : AllStopped g) (then cells : Lis
     told_are = refl;
   }
 
-  running : Running g.kind z g.opening then (keep game) (keys_at game) (done_at game) plays.told
-  running = runs_alike g.kind z g.opening then (λ v. round_view cells (keep g v)) (keep game) (keys_at g) (keys_at game) (done_at g) (done_at game) plays.told plays.told alike
-      (run_rounds g.kind z g.opening g.words then cells (keep g) (keys_at g) (done_at g) plays.told plays.shape plays.some (plays_stopped g plays stopped) same wiped plays.running)
+  running : RunInvariant (run_of game plays.told)
+  running = runs_alike after (keep game) (keys_at game) (done_at game) plays.told alike
+      (run_rounds (run_of g plays.told) then cells plays.shape plays.some (plays_stopped g plays stopped) same wiped plays.running)
 
   share_same : (v : ℕ) (e : Hand) → v < length g.hands → (get_or hands v e).share ≡ (get_or g.hands v e).share
   share_same v e l = (begins v e l).share
 
   dealt : IsDealt game
-  dealt = ⊎_elim (λ (are : ArePieces 0 g.hands (length g.keys)). inl (pieces_alike 0 g.hands hands (length g.keys) size share_same are))
+  dealt = ⊎_elim (λ (are : ArePieces 0 (shares_of g.hands) (length g.keys)). inl (pieces_alike 0 g.hands hands (length g.keys) size share_same are))
       (λ (are : All IsClaiming g.hands). inr (All-from_get_or IsClaiming hands d (λ v l.
       let here : v < length g.hands = omega (arith, l, size) in
       let c = are v d here in (c.0, c.1, share_same v d here ∙ c.2)))) plays.dealt

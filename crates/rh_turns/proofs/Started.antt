@@ -1,22 +1,21 @@
 -- A game that is started is in play.
-use Rattle.std.proofs.Common.{◌≡◌, ℕ, zero, suc, ◌+◌, ◌<◌, inl, inr, ⊎_elim, sym, refl, ap, ◌∙◌, subst, arith, Bool, false, true≢false, Option, None, List, [], ◌++◌, length, map, replicate, get_or}
+use Rattle.std.proofs.Common.{◌≡◌, ℕ, zero, suc, ◌<◌, inl, inr, ⊎_elim, sym, refl, ap, ◌∙◌, subst, arith, Bool, false, true≢false, Option, None, List, [], length, map, replicate, get_or}
 use Rattle.std.specs.Prelude.{slice_index, All}
 use Rattle.std.proofs.lemmas.List.{length-replicate}
 use Rattle.rh_tagword.specs.Word.{plain_number}
 use Rattle.rh_world.specs.World.{In}
 use Rattle.rh_descriptor.specs.declared.shape.Shape.{Shape}
 use Rattle.rh_descriptor.specs.View.{View, new_view}
-use Rattle.rh_rule.specs.Wipes.{row_total}
 use Rattle.rh_run.specs.Claimed.{claimed}
-use Rattle.rh_run.specs.Laws.{AreAlike}
-use Rattle.rh_run.specs.Run.{Running}
+use Rattle.rh_run.specs.Laws.{AreAlike, started}
+use Rattle.rh_run.specs.Run.{Run, RunInvariant}
 use Rattle.rh_run.proofs.Alike.{runs_alike}
 use Rattle.rh_run.proofs.Turning.{run_starts}
 use Rattle.rh_turns.specs.declared.hand.Hand.{Hand}
 use Rattle.rh_turns.specs.declared.hand.Share.{Share}
 use Rattle.rh_turns.specs.declared.hand.Share.TheVariants.{Piece, Claims}
 use Rattle.rh_turns.specs.Hands.{IsHand, IsShare, done_keys, positions_of, view_of}
-use Rattle.rh_turns.specs.Game.{ArePieces, Game, IsDealt, Plays, at_hand, done_at, keep, keys_at}
+use Rattle.rh_turns.specs.Game.{ArePieces, Game, IsDealt, Plays, at_hand, done_at, keep, keys_at, run_of, shares_of}
 use Rattle.rh_turns.specs.Laws.{Starts, WillClaim}
 use Rattle.rh_turns.proofs.AtHands.{at_hand_is, first_of_all}
 use Rattle.rh_turns.proofs.Apart.{piece_within}
@@ -54,7 +53,7 @@ module _ (g : Game) (starts : Starts g) where
       let h : Hand = get_or g.hands v e in
       let new = starts.hands v e mine in
       ⊎_elim
-      (λ (are : ArePieces 0 g.hands (length g.keys)).
+      (λ (are : ArePieces 0 (shares_of g.hands) (length g.keys)).
       let r = piece_within 0 g.hands (length g.keys) are v e (inside v mine) in
       subst (IsShare z g.keys h) (sym r.2) (omega (arith, r.3, new.done), r.4, inl new.idle))
       (λ (are : (z.keys ≡ length g.keys) × All WillClaim g.hands).
@@ -87,7 +86,11 @@ module _ (g : Game) (starts : Starts g) where
       go (Piece first end) = refl
       go (Claims last ended) = refl
 
-  alike : (v : ℕ) → v < z.workers → AreAlike (new_view words v) (keep g v) (keys_at g v) (keys_at g v) [] (done_at g v) [] []
+  -- the run of a table that was just made
+  abbrev first : Run
+  first = started g.kind z g.opening (keys_at g)
+
+  alike : (v : ℕ) → v < z.workers → AreAlike first (record first { keep = keep g; done = done_at g }) v
   alike v mine =
       let new = starts.hands v d mine in
       record {
@@ -97,13 +100,12 @@ module _ (g : Game) (starts : Starts g) where
         told_are = refl;
       }
 
-  running : Running g.kind z g.opening g.words (keep g) (keys_at g) (done_at g) (λ v. [])
-  running = subst (λ (l : List ℕ). Running g.kind z g.opening l (keep g) (keys_at g) (done_at g) (λ v. [])) (sym starts.words)
-      (runs_alike g.kind z g.opening (words ++ replicate (row_total z + 1) 0) (new_view words) (keep g) (keys_at g) (keys_at g) (λ v. []) (done_at g) (λ v. []) (λ v. []) alike
-      (run_starts g.kind z g.opening (keys_at g) starts.shape starts.opening.size))
+  running : RunInvariant (run_of g (λ v. []))
+  running = subst (λ (l : List ℕ). RunInvariant (record (run_of g (λ v. [])) { words = l })) (sym starts.words)
+      (runs_alike first (keep g) (keys_at g) (done_at g) (λ v. []) alike (run_starts g.kind z g.opening (keys_at g) starts.shape starts.opening.size))
 
   dealt : IsDealt g
-  dealt = ⊎_elim (λ (are : ArePieces 0 g.hands (length g.keys)). inl are)
+  dealt = ⊎_elim (λ (are : ArePieces 0 (shares_of g.hands) (length g.keys)). inl are)
       (λ (are : (z.keys ≡ length g.keys) × All WillClaim g.hands). inr (λ k e l. let c = are.1 k e l in (c.0, false, c.1))) starts.dealt
 
   pub plays_start : Plays g

@@ -16,8 +16,8 @@ use Rattle.rh_turns.specs.declared.hand.Hand.{Hand}
 use Rattle.rh_turns.specs.declared.hand.Share.{Share}
 use Rattle.rh_turns.specs.declared.hand.Share.TheVariants.{Piece, Claims}
 use Rattle.rh_turns.specs.Hands.{IsShare, done_keys, positions, positions_of, view_of}
-use Rattle.rh_turns.specs.Game.{ArePieces, Game, IsDoneAt, Plays, done_at, keep, keys_at, positions_at}
-use Rattle.rh_turns.specs.Laws.{TellsSo}
+use Rattle.rh_turns.specs.Game.{ArePieces, Game, IsDoneAt, Plays, done_at, positions_at, run_of, shares_of}
+use Rattle.rh_turns.specs.Laws.{OutcomeSpec}
 use Rattle.rh_turns.proofs.Apart.{end_of, first_of, in_one_piece, in_piece, piece_at}
 use Rattle.rh_turns.proofs.AtHands.{at_hand_is}
 use Rattle.rh_turns.proofs.Playing.{done_claimed, hand_of, in_hands, some_hand}
@@ -55,7 +55,7 @@ module _ (g : Game) (plays : Plays g) where
       let size : length (plays.told v) ≡ length (positions_at g v) = told_size v mine in
       let positions : List ℕ = positions_at g v in
       let long : length (map (slice_index g.keys) positions) ≡ length positions = length-map positions (slice_index g.keys) in
-      let answers = run_answers g.kind z g.opening g.words (keep g) (keys_at g) (done_at g) plays.told S plays.running plays.opening asks v mine ∙ ap (looked_up S) (done_are v mine) in
+      let answers = run_answers (run_of g plays.told) S plays.running plays.opening asks v mine ∙ ap (looked_up S) (done_are v mine) in
       plays.answered v j mine (omega (arith, inside, size))
       ∙ ap Some (
       ap (λ (l : List Bool). slice_index_or l j false) answers
@@ -67,7 +67,7 @@ module _ (g : Game) (plays : Plays g) where
   told_at_position asks p done =
       subst (λ (q : ℕ). slice_index_or g.answers q None ≡ Some (contains S (slice_index g.keys q))) done.4 (told_so asks done.0 done.1 done.2 done.3)
 
-  pub plays_tells : TellsSo g plays.told
+  pub plays_tells : OutcomeSpec g plays.told
   plays_tells = record { counts = done_counted; changed = plays.changed; stands = plays.answered; answers = told_at_position; unanswered = plays.unanswered }
 
 -- ---- whether a key is done
@@ -101,7 +101,7 @@ done_or_not g p = find_among (positions_at g) g.shape.workers p
 
 -- ---- in a piece the first keys are done
 
-module _ (g : Game) (plays : Plays g) (are : ArePieces 0 g.hands (length g.keys)) where
+module _ (g : Game) (plays : Plays g) (are : ArePieces 0 (shares_of g.hands) (length g.keys)) where
   abbrev hand : (v : ℕ) → Hand
   hand v = get_or g.hands v (some_hand g plays)
 

@@ -17,8 +17,8 @@ use Rattle.rh_descriptor.specs.View.{View, new_view}
 use Rattle.rh_descriptor.specs.Steps.{Allowed, Step, StepsTo}
 use Rattle.rh_run.specs.Advance.{Advances}
 use Rattle.rh_run.specs.Claimed.{claimed}
-use Rattle.rh_run.specs.Laws.{AreAlike}
-use Rattle.rh_run.specs.Run.{Running, also_done, also_told}
+use Rattle.rh_run.specs.Laws.{AreAlike, also_done_by, stepped}
+use Rattle.rh_run.specs.Run.{Run, RunInvariant, also_done, also_told}
 use Rattle.rh_run.proofs.Alike.{runs_alike}
 use Rattle.rh_run.proofs.Stepping.{run_claims, run_steps}
 use Rattle.rh_turns.specs.declared.hand.Hand.{Hand}
@@ -26,9 +26,9 @@ use Rattle.rh_turns.specs.declared.hand.Share.{Share}
 use Rattle.rh_turns.specs.declared.hand.Share.TheVariants.{Piece, Claims}
 use Rattle.rh_turns.specs.declared.turning.Turn.{Turn}
 use Rattle.rh_turns.specs.declared.turning.Turn.TheVariants.{Did, Finished, Spent, NoSuchWorker}
-use Rattle.rh_turns.specs.Hands.{ClaimsOn, IsClaiming, IsHand, IsIdle, IsShare, StepsOn, TurnsOn, answered, counted, done_keys, keys_for, keys_in, position_now, position_of, positions, positions_of, view_of}
-use Rattle.rh_turns.specs.Game.{ArePieces, Game, IsDealt, IsDoneAt, Plays, at_hand, changed_at, done_at, keep, keys_at, positions_at}
-use Rattle.rh_turns.specs.Laws.{turned}
+use Rattle.rh_turns.specs.Hands.{ClaimsOn, IsClaiming, IsHand, IsIdle, IsShare, Moment, StepsOn, TurnsOn, answered, counted, done_keys, keys_for, keys_in, moment, position_now, position_of, positions, positions_of, view_of}
+use Rattle.rh_turns.specs.Game.{ArePieces, Game, IsDealt, IsDoneAt, Plays, at_hand, changed_at, done_at, keep, keys_at, positions_at, run_of, shares_of}
+use Rattle.rh_turns.specs.Laws.{moment_of, turned}
 use Rattle.rh_turns.proofs.AtHands.{at_hand_is, at_hand_set}
 use Rattle.rh_turns.proofs.Apart.{apart, piece_at, piece_not_claims, pieces_set}
 use Rattle.rh_turns.proofs.Playing.{done_claimed, hand_of, in_hands, kept_at, next_among}
@@ -139,15 +139,15 @@ stands_more answers at told position so j size within was other inside =
 -- ---- the game
 
 dealt_then : (g : Game) (who : ℕ) (d next : Hand) → who < length g.hands → next.share ≡ (get_or g.hands who d).share → IsDealt g
-    → ArePieces 0 (set g.hands who next) (length g.keys) ⊎ All IsClaiming (set g.hands who next)
+    → ArePieces 0 (shares_of (set g.hands who next)) (length g.keys) ⊎ All IsClaiming (set g.hands who next)
 dealt_then g who d next l same dealt = ⊎_elim
-    (λ (are : ArePieces 0 g.hands (length g.keys)). inl (pieces_set 0 g.hands (length g.keys) who d next l same are))
+    (λ (are : ArePieces 0 (shares_of g.hands) (length g.keys)). inl (pieces_set 0 g.hands (length g.keys) who d next l same are))
     (λ (are : All IsClaiming g.hands). let c = are who d l in inr (All-set IsClaiming g.hands who next (c.0, c.1, same ∙ c.2) are)) dealt
 
 claiming_then : (g : Game) (who : ℕ) (d next : Hand) → who < length g.hands → IsClaiming (get_or g.hands who d) → IsClaiming next → IsDealt g
-    → ArePieces 0 (set g.hands who next) (length g.keys) ⊎ All IsClaiming (set g.hands who next)
+    → ArePieces 0 (shares_of (set g.hands who next)) (length g.keys) ⊎ All IsClaiming (set g.hands who next)
 claiming_then g who d next l was is dealt = ⊎_elim
-    (λ (are : ArePieces 0 g.hands (length g.keys)). absurd (piece_not_claims (get_or g.hands who d).share (piece_at 0 g.hands (length g.keys) are who d l).0 was.0 was.1 was.2))
+    (λ (are : ArePieces 0 (shares_of g.hands) (length g.keys)). absurd (piece_not_claims (get_or g.hands who d).share (piece_at 0 g.hands (length g.keys) are who d l).0 was.0 was.1 was.2))
     (λ (are : All IsClaiming g.hands). inr (All-set IsClaiming g.hands who next is are)) dealt
 
 pub same_as_was : {A : Type 0} (f : ℕ → A) (k : ℕ) (a : A) → f k ≡ a → (v : ℕ) → f v ≡ updated f k a v
@@ -161,7 +161,7 @@ module _ (g : Game) (plays : Plays g) (who : ℕ) (mine : who < g.shape.workers)
   h = get_or g.hands who d
 
   abbrev game : Game
-  game = turned g who then answers next
+  game = turned g who (moment then answers next)
 
   is : who < length g.hands
   is = in_hands g plays who mine
@@ -261,7 +261,11 @@ module _ (g : Game) (plays : Plays g) (who : ℕ) (mine : who < g.shape.workers)
     abbrev told : ℕ → List Bool
     told = updated plays.told who (also_told (plays.told who) answer)
 
-    alike : (v : ℕ) → v < z.workers → AreAlike (updated (keep g) who (view_of next) v) (keep game v) (keys_at g v) (keys_at game v) (updated (done_at g) who (done_keys z g.keys next) v) (done_at game v) (told v) (told v)
+    -- the run after the turn, worker by worker as it was but for this one
+    abbrev after : Run
+    after = record (stepped (run_of g plays.told) then who (view_of next)) { done = updated (done_at g) who (done_keys z g.keys next); told = told }
+
+    alike : (v : ℕ) → v < z.workers → AreAlike after (record after { keep = keep game; keys = keys_at game; done = done_at game }) v
     alike v l = record {
       kept = at_then view_of (new_view [] 0) v;
       keys_are = same_as_was (keys_at g) who (keys_for g.keys next) (at_who (keys_for g.keys) [] ∙ sym share) v ∙ at_then (keys_for g.keys) [] v;
@@ -269,9 +273,9 @@ module _ (g : Game) (plays : Plays g) (who : ℕ) (mine : who < g.shape.workers)
       told_are = refl;
     }
 
-    module _ (run : Running g.kind z g.opening then (updated (keep g) who (view_of next)) (keys_at g) (updated (done_at g) who (done_keys z g.keys next)) told) where
-      running : Running g.kind z g.opening then (keep game) (keys_at game) (done_at game) told
-      running = runs_alike g.kind z g.opening then (updated (keep g) who (view_of next)) (keep game) (keys_at g) (keys_at game) (updated (done_at g) who (done_keys z g.keys next)) (done_at game) told told alike run
+    module _ (run : RunInvariant after) where
+      running : RunInvariant (run_of game told)
+      running = runs_alike after (keep game) (keys_at game) (done_at game) told alike run
 
       size_then : length (set g.hands who next) ≡ z.workers
       size_then = length-set g.hands who next ∙ plays.workers
@@ -320,28 +324,28 @@ module _ (g : Game) (plays : Plays g) (who : ℕ) (mine : who < g.shape.workers)
           same_size None = refl
           same_size (Some so) = length-set g.answers (position_now h) (Some so)
 
-  by_step : (k : StepKind) → StepsOn z g.keys k g.words g.answers h then answers next → IsHand z g.kind g.keys next → Plays game
+  by_step : (k : StepKind) → StepsOn z g.keys k (moment g.words g.answers h) (moment then answers next) → IsHand z g.kind g.keys next → Plays game
   by_step k s hand =
       let was : IsHand z g.kind g.keys h = hand_of g plays who mine d in
       let key : ℕ = slice_index g.keys (position_now h) in
       let kept : view_of h ≡ keep g who = sym (kept_at g plays who mine d) in
       let positions_are : positions z next ≡ also_at (positions z h) (position_now h) s.done = positions_then z g.keys h next s.makes.claims s.done s.share was.share hand.share s.counts in
       let done : also_done (done_at g who) key s.done ≡ done_keys z g.keys next = ap (λ (l : List ℕ). also_done l key s.done) (at_who (done_keys z g.keys) []) ∙ keys_then z g.keys h next s.done positions_are in
-      let run = run_steps g.kind z g.opening g.words then (keep g) (keys_at g) (done_at g) plays.told who s.makes.step s.makes.word (view_of next) key s.done plays.shape mine
+      let run = run_steps (run_of g plays.told) who s.makes.step s.makes.word then (view_of next) key s.done plays.shape mine
       (subst (λ (x : View). Allowed z x s.makes.step) kept s.makes.allowed)
       (subst (λ (x : View). StepsTo z s.makes.step g.words x s.makes.word then (view_of next)) kept s.makes.steps)
       (subst (λ (l : List ℕ). Contains l key) (sym (at_who (keys_for g.keys) [])) (next_among g.keys h.share h.done s.next_key s.within))
       (subst (λ (x : View). Advances z g.kind key x (view_of next) s.done) kept (subst (λ (k : Kind). Advances z k key (view_of h) (view_of next) s.done) was.kind_is s.advances))
       plays.running in
       plays_then s.done (ap (keys_in g.keys) s.share) positions_are s.counts hand (dealt_then g who d next is s.share plays.dealt)
-      (subst (λ (l : List ℕ). Running g.kind z g.opening then (updated (keep g) who (view_of next)) (keys_at g) (updated (done_at g) who l) (updated plays.told who (also_told (plays.told who) s.done))) done run)
+      (subst (λ (l : List ℕ). RunInvariant (record (also_done_by (stepped (run_of g plays.told) then who (view_of next)) who key s.done) { done = updated (done_at g) who l })) done run)
       (fits s.done s.within) s.told_is
     where
       fits : (answer : Option Bool) → position_now h < length g.keys → Fits answer
       fits None within = tt
       fits (Some so) within = within
 
-  by_claim : ClaimsOn z g.words g.answers h then answers next → IsHand z g.kind g.keys next → Plays game
+  by_claim : ClaimsOn z (moment g.words g.answers h) (moment then answers next) → IsHand z g.kind g.keys next → Plays game
   by_claim c hand =
       let was : IsHand z g.kind g.keys h = hand_of g plays who mine d in
       let kept : view_of h ≡ keep g who = sym (kept_at g plays who mine d) in
@@ -352,13 +356,13 @@ module _ (g : Game) (plays : Plays g) (who : ℕ) (mine : who < g.shape.workers)
       let positions_are : positions z next ≡ positions z h =
       ap (λ (s : Share). positions_of z s (view_of next) next.done) share_then ∙ ap (λ (n : ℕ). take n (claimed z (view_of next))) c.counts.0
       ∙ first_stay z (view_of h) (view_of next) c.word (ap (λ (x : View). x.side.claims) c.steps.view_is) h.done most ∙ sym (ap (λ (s : Share). positions_of z s (view_of h) h.done) share) in
-      let run = run_claims g.kind z g.opening g.words then (keep g) (keys_at g) (done_at g) plays.told who c.word (view_of next) plays.shape mine
+      let run = run_claims (run_of g plays.told) who c.word then (view_of next) plays.shape mine
       (subst (λ (x : View). Allowed z x Step.claims) kept c.allowed)
       (subst (λ (x : View). StepsTo z Step.claims g.words x c.word then (view_of next)) kept c.steps) plays.running in
       let done : done_at g who ≡ done_keys z g.keys next = at_who (done_keys z g.keys) [] ∙ sym (ap (map (slice_index g.keys)) positions_are) in
       plays_then None keys_are positions_are c.counts hand (claiming_then g who d next is c.claiming.0 c.claiming.1 plays.dealt)
-      (subst (λ (t : ℕ → List Bool). Running g.kind z g.opening then (updated (keep g) who (view_of next)) (keys_at g) (updated (done_at g) who (done_keys z g.keys next)) t) (λ i v. same_as_was plays.told who (plays.told who) refl v i)
-      (subst (λ (l : ℕ → List ℕ). Running g.kind z g.opening then (updated (keep g) who (view_of next)) (keys_at g) l plays.told) (λ i v. same_as_was (done_at g) who (done_keys z g.keys next) done v i) run))
+      (subst (λ (t : ℕ → List Bool). RunInvariant (record (stepped (run_of g plays.told) then who (view_of next)) { done = updated (done_at g) who (done_keys z g.keys next); told = t })) (λ i v. same_as_was plays.told who (plays.told who) refl v i)
+      (subst (λ (l : ℕ → List ℕ). RunInvariant (record (stepped (run_of g plays.told) then who (view_of next)) { done = l })) (λ i v. same_as_was (done_at g) who (done_keys z g.keys next) done v i) run))
       tt c.told_is
 
   -- nothing is changed
@@ -367,11 +371,11 @@ module _ (g : Game) (plays : Plays g) (who : ℕ) (mine : who < g.shape.workers)
       let hands_are : set g.hands who next ≡ g.hands = ap (set g.hands who) hand_is ∙ set-get_or g.hands who d in
       subst Plays (λ i. record g { words = sym words_are i; answers = sym answers_are i; hands = sym hands_are i }) plays
 
-pub plays_turn : (g : Game) → Plays g → (who : ℕ) → who < g.shape.workers → (d : Hand) (turn : Turn) (then : List ℕ) (told : List (Option Bool)) (next : Hand)
-    → TurnsOn g.shape g.keys g.words g.answers (get_or g.hands who d) turn then told next → IsHand g.shape g.kind g.keys next → Plays (turned g who then told next)
-plays_turn g plays who mine d (Did k) then told next turns hand = ⊎_elim
-    (λ (s : StepsOn g.shape g.keys k g.words g.answers (get_or g.hands who d) then told next). by_step g plays who mine d next then told k s hand)
-    (λ c. by_claim g plays who mine d next then told c.1 hand) turns
-plays_turn g plays who mine d Finished then told next turns hand = by_nothing g plays who mine d next then told turns.0 turns.1 turns.2
-plays_turn g plays who mine d Spent then told next turns hand = by_nothing g plays who mine d next then told turns.0 turns.1 turns.2
-plays_turn g plays who mine d NoSuchWorker then told next turns hand = absurd turns
+pub plays_turn : (g : Game) → Plays g → (who : ℕ) → who < g.shape.workers → (d : Hand) (turn : Turn) (next : Moment)
+    → TurnsOn g.shape g.keys (moment_of g who d) turn next → IsHand g.shape g.kind g.keys next.hand → Plays (turned g who next)
+plays_turn g plays who mine d (Did k) next turns hand = ⊎_elim
+    (λ (s : StepsOn g.shape g.keys k (moment_of g who d) next). by_step g plays who mine d next.hand next.words next.answers k s hand)
+    (λ c. by_claim g plays who mine d next.hand next.words next.answers c.1 hand) turns
+plays_turn g plays who mine d Finished next turns hand = by_nothing g plays who mine d next.hand next.words next.answers turns.0.0 turns.0.1 turns.0.2
+plays_turn g plays who mine d Spent next turns hand = by_nothing g plays who mine d next.hand next.words next.answers turns.0.0 turns.0.1 turns.0.2
+plays_turn g plays who mine d NoSuchWorker next turns hand = absurd turns

@@ -1,5 +1,5 @@
 -- A player, as its calls see it: the table, the keys, and the workers with what each has done of them.
-use Rattle.std.specs.Prelude.{zero, suc, ◌≡◌, ℕ, ◌<◌, ◌≤◌, ◌⊎◌, Option, Some, None, Bool, false, List, [], ◌∷◌, length, slice_index, slice_index_or, All}
+use Rattle.std.specs.Prelude.{zero, suc, ◌≡◌, ℕ, ◌<◌, ◌≤◌, ◌⊎◌, Option, Some, None, Bool, false, List, [], ◌∷◌, length, map, slice_index, slice_index_or, All}
 use Rattle.rh_layout.specs.Key.{IsKey}
 use Rattle.rh_layout.specs.Layout.{IsLayout, keys_of}
 use Rattle.rh_ledger.specs.declared.tally.Kind.{Kind}
@@ -7,8 +7,9 @@ use Rattle.rh_descriptor.specs.declared.shape.Shape.{Shape}
 use Rattle.rh_descriptor.specs.Parts.{IsShape}
 use Rattle.rh_descriptor.specs.View.{View, new_view}
 use Rattle.rh_acts.specs.Workers.{LeavesRoom, how_many}
-use Rattle.rh_run.specs.Run.{Running}
+use Rattle.rh_run.specs.Run.{Run, RunInvariant}
 use Rattle.rh_turns.specs.declared.hand.Hand.{Hand}
+use Rattle.rh_turns.specs.declared.hand.Share.{Share}
 use Rattle.rh_turns.specs.declared.hand.Share.TheVariants.{Piece}
 use Rattle.rh_turns.specs.Hands.{IsClaiming, IsFinished, IsHand, IsSpent, done_keys, keys_for, positions, view_of}
 
@@ -44,20 +45,36 @@ positions_at g = at_hand (positions g.shape) [] g.hands
 abbrev pub changed_at : Game → (v : ℕ) → ℕ
 changed_at g = at_hand (λ h. h.changed) 0 g.hands
 
+-- how far all have come, where each was told this of its keys
+abbrev pub run_of : Game → (told : ℕ → List Bool) → Run
+run_of g told = record {
+  kind = g.kind;
+  shape = g.shape;
+  opening = g.opening;
+  words = g.words;
+  keep = keep g;
+  keys = keys_at g;
+  done = done_at g;
+  told = told;
+}
+
 -- a worker has done the key at this position of the list
 abbrev pub IsDoneAt : Game → (position : ℕ) → Type 0
 IsDoneAt g p = (v j : ℕ) × (v < g.shape.workers) × (j < length (positions_at g v)) × (slice_index (positions_at g v) j ≡ p)
 
 -- ---- how the keys are dealt
 
--- the pieces follow one another in the list of all keys, from this position to its end
-abbrev pub ArePieces : (from : ℕ) → List Hand → (count : ℕ) → Type 0
+-- the shares are pieces that follow one another in a list, from this position to its end
+abbrev pub ArePieces : (from : ℕ) → List Share → (count : ℕ) → Type 0
 ArePieces from [] count = from ≡ count
-ArePieces from (h ∷ hs) count = (end : ℕ) × (h.share ≡ Piece from end) × (from ≤ end) × ArePieces end hs count
+ArePieces from (s ∷ ss) count = (end : ℕ) × (s ≡ Piece from end) × (from ≤ end) × ArePieces end ss count
+
+abbrev pub shares_of : List Hand → List Share
+shares_of hands = map (λ h. h.share) hands
 
 -- each worker has a piece, or all share the list
 abbrev pub IsDealt : Game → Type 0
-IsDealt g = ArePieces 0 g.hands (length g.keys) ⊎ All IsClaiming g.hands
+IsDealt g = ArePieces 0 (shares_of g.hands) (length g.keys) ⊎ All IsClaiming g.hands
 
 -- ---- what is so of it between two calls
 
@@ -73,7 +90,7 @@ pub record Plays (g : Game) : Type 0 where
   pub dealt : IsDealt g
   -- what the workers were told of the keys that they have done
   pub told : ℕ → List Bool
-  pub running : Running g.kind g.shape g.opening g.words (keep g) (keys_at g) (done_at g) told
+  pub running : RunInvariant (run_of g told)
   pub changed : (v : ℕ) → v < g.shape.workers → changed_at g v ≡ how_many (told v)
   pub answered : (v j : ℕ) → v < g.shape.workers → j < length (told v)
       → slice_index_or g.answers (slice_index (positions_at g v) j) None ≡ Some (slice_index_or (told v) j false)

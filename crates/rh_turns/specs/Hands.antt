@@ -6,7 +6,7 @@ use Rattle.rh_world.specs.World.{In}
 use Rattle.rh_descriptor.specs.declared.shape.Shape.{Shape}
 use Rattle.rh_descriptor.specs.declared.steps.StepKind.{StepKind}
 use Rattle.rh_descriptor.specs.declared.steps.StepKind.TheVariants as kind
-use Rattle.rh_descriptor.specs.View.{View}
+use Rattle.rh_descriptor.specs.View.{View, new_view}
 use Rattle.rh_descriptor.specs.Steps.{Allowed, Step, StepsTo}
 use Rattle.rh_worker.specs.Makes.{Makes}
 use Rattle.rh_steps.specs.Relies.{Shows}
@@ -106,6 +106,15 @@ pub record IsHand (z : Shape) (kind : Kind) (keys : List ℕ) (h : Hand) : Type 
   pub key : IsIdle h ⊎ IsAtKey keys h
   pub some : h.changed ≤ h.done
 
+-- it has no key done, nor claimed, in a table whose cells have these words
+pub record IsNew (kind : Kind) (z : Shape) (words : List ℕ) (v : ℕ) (h : Hand) : Type 0 where
+  pub worker : IsWorker z h.worker
+  pub kind_is : h.worker.kind ≡ kind
+  pub idle : IsIdle h
+  pub view : view_of h ≡ new_view words v
+  pub done : h.done ≡ 0
+  pub changed : h.changed ≡ 0
+
 -- ---- a turn of it
 
 -- what it has counted once it is told of a key
@@ -117,33 +126,45 @@ abbrev pub answered : (answers : List (Option Bool)) → (position : ℕ) → Op
 answered answers position None = answers
 answered answers position (Some told) = set answers position (Some told)
 
+-- what a turn may change: the words of the table, the answers, and the worker whose turn it is
+pub record Moment : Type 0 where
+  pub words : List ℕ
+  pub answers : List (Option Bool)
+  pub hand : Hand
+
+abbrev pub moment : (words : List ℕ) (answers : List (Option Bool)) (hand : Hand) → Moment
+moment words answers hand = record { words = words; answers = answers; hand = hand }
+
 -- One step of this kind on the next key of a worker that is not spent; the key is done by it or is not. With the step that
 -- closes a descriptor which the worker had withdrawn it is spent.
-pub record StepsOn (z : Shape) (keys : List ℕ) (k : StepKind) (words : List ℕ) (answers : List (Option Bool)) (h : Hand) (then : List ℕ) (told : List (Option Bool)) (next : Hand) : Type 0 where
-  pub unspent : IsSpent h → ⊥
-  pub next_key : HasNext h.share h.done
-  pub within : position_now h < length keys
-  pub makes : Makes Shows StepsTo z k words (view_of h) then (view_of next)
+pub record StepsOn (z : Shape) (keys : List ℕ) (k : StepKind) (m next : Moment) : Type 0 where
+  pub unspent : IsSpent m.hand → ⊥
+  pub next_key : HasNext m.hand.share m.hand.done
+  pub within : position_now m.hand < length keys
+  pub makes : Makes Shows StepsTo z k m.words (view_of m.hand) next.words (view_of next.hand)
   pub done : Option Bool
-  pub advances : Advances z h.worker.kind (slice_index keys (position_now h)) (view_of h) (view_of next) done
-  pub gives_up : GivesUp (view_of h) (view_of next) → IsSpent next
-  pub share : next.share ≡ h.share
-  pub counts : counted h done next
-  pub told_is : told ≡ answered answers (position_now h) done
+  pub advances : Advances z m.hand.worker.kind (slice_index keys (position_now m.hand)) (view_of m.hand) (view_of next.hand) done
+  pub gives_up : GivesUp (view_of m.hand) (view_of next.hand) → IsSpent next.hand
+  pub share : next.hand.share ≡ m.hand.share
+  pub counts : counted m.hand done next.hand
+  pub told_is : next.answers ≡ answered m.answers (position_now m.hand) done
 
 -- One Claim of a worker that is at no key.
-pub record ClaimsOn (z : Shape) (words : List ℕ) (answers : List (Option Bool)) (h : Hand) (then : List ℕ) (told : List (Option Bool)) (next : Hand) : Type 0 where
-  pub idle : IsIdle h
+pub record ClaimsOn (z : Shape) (m next : Moment) : Type 0 where
+  pub idle : IsIdle m.hand
   pub word : ℕ
-  pub allowed : Allowed z (view_of h) Step.claims
-  pub steps : StepsTo z Step.claims words (view_of h) word then (view_of next)
-  pub claiming : IsClaiming h × IsClaiming next
-  pub counts : (next.done ≡ h.done) × (next.changed ≡ h.changed)
-  pub told_is : told ≡ answers
+  pub allowed : Allowed z (view_of m.hand) Step.claims
+  pub steps : StepsTo z Step.claims m.words (view_of m.hand) word next.words (view_of next.hand)
+  pub claiming : IsClaiming m.hand × IsClaiming next.hand
+  pub counts : (next.hand.done ≡ m.hand.done) × (next.hand.changed ≡ m.hand.changed)
+  pub told_is : next.answers ≡ m.answers
 
-abbrev pub TurnsOn : Shape → (keys words : List ℕ) (answers : List (Option Bool)) (h : Hand) → Turn → (then : List ℕ) (told : List (Option Bool)) (next : Hand) → Type 0
-TurnsOn z keys words answers h (Did k) then told next =
-    StepsOn z keys k words answers h then told next ⊎ ((k ≡ kind.Claim) × ClaimsOn z words answers h then told next)
-TurnsOn z keys words answers h Finished then told next = (then ≡ words) × (told ≡ answers) × (next ≡ h) × IsFinished h
-TurnsOn z keys words answers h Spent then told next = (then ≡ words) × (told ≡ answers) × (next ≡ h) × IsSpent h × HasNoRoom z (view_of h)
-TurnsOn z keys words answers h NoSuchWorker then told next = ⊥
+-- Nothing was changed.
+abbrev pub IsSame : (m next : Moment) → Type 0
+IsSame m next = (next.words ≡ m.words) × (next.answers ≡ m.answers) × (next.hand ≡ m.hand)
+
+abbrev pub TurnsOn : Shape → (keys : List ℕ) → (m : Moment) → Turn → (next : Moment) → Type 0
+TurnsOn z keys m (Did k) next = StepsOn z keys k m next ⊎ ((k ≡ kind.Claim) × ClaimsOn z m next)
+TurnsOn z keys m Finished next = IsSame m next × IsFinished m.hand
+TurnsOn z keys m Spent next = IsSame m next × IsSpent m.hand × HasNoRoom z (view_of m.hand)
+TurnsOn z keys m NoSuchWorker next = ⊥

@@ -1,6 +1,6 @@
 -- What the laws of this crate say: what is so of a game, and that each call of a player keeps it. A worker is named by its
 -- number; beyond the last one there is any other.
-use Rattle.std.specs.Prelude.{◌≡◌, ℕ, ◌+◌, ◌<◌, ◌≤◌, ◌⊎◌, Option, Some, None, Bool, false, List, ◌++◌, length, map, replicate, set, slice_index, slice_index_or, All}
+use Rattle.std.specs.Prelude.{◌≡◌, ℕ, ◌+◌, ◌<◌, ◌≤◌, ◌⊎◌, Some, None, Bool, false, List, ◌++◌, length, map, replicate, set, slice_index, slice_index_or, All}
 use Rattle.std.specs.FinSet.{contains}
 use Rattle.rh_layout.specs.Key.{IsKey}
 use Rattle.rh_layout.specs.Layout.{IsLayout, Layout, keys_of}
@@ -9,35 +9,26 @@ use Rattle.rh_ledger.specs.Phase.{looked_up, set_after, tally_of}
 use Rattle.rh_tagword.specs.Word.{plain_number}
 use Rattle.rh_descriptor.specs.declared.shape.Shape.{Shape}
 use Rattle.rh_descriptor.specs.Parts.{IsShape, cell_count}
-use Rattle.rh_descriptor.specs.View.{new_view, round_view}
+use Rattle.rh_descriptor.specs.View.{round_view}
 use Rattle.rh_rule.specs.Rest.{AllRest}
 use Rattle.rh_rule.specs.Wipes.{row_total}
 use Rattle.rh_acts.specs.Workers.{LeavesRoom, how_many, sum_of_all, tally_by}
 use Rattle.rh_steps.specs.Relies.{Relies, Serves, Shows}
 use Rattle.rh_worker.specs.Worker.{IsBusy, IsWorker}
 use Rattle.rh_history.specs.History.{history}
-use Rattle.rh_run.specs.Laws.{StandsSo}
+use Rattle.rh_run.specs.Laws.{MomentSpec}
 use Rattle.rh_run.specs.Words.{AreNow, IsWiped, cells_held}
 use Rattle.rh_turns.specs.declared.hand.Hand.{Hand}
 use Rattle.rh_turns.specs.declared.hand.Share.TheVariants.{Claims}
 use Rattle.rh_turns.specs.declared.turning.Turn.{Turn}
-use Rattle.rh_turns.specs.Hands.{IsHand, IsIdle, IsSpent, TurnsOn, view_of}
+use Rattle.rh_turns.specs.Hands.{IsHand, IsIdle, IsNew, IsSpent, Moment, TurnsOn, moment, view_of}
 use Rattle.rh_turns.specs.Readable.{IsReadable}
-use Rattle.rh_turns.specs.Game.{AllFinished, AllStopped, ArePieces, Game, IsDoneAt, Plays, changed_at, done_at, keep, keys_at, positions_at}
+use Rattle.rh_turns.specs.Game.{AllFinished, AllStopped, ArePieces, Game, IsDoneAt, Plays, changed_at, keep, positions_at, run_of, shares_of}
 
 abbrev pub hand : Game → (v : ℕ) (other : Hand) → Hand
 hand g v other = slice_index_or g.hands v other
 
 -- ---- a start
-
--- a worker that has no key done, nor claimed
-pub record IsNew (g : Game) (v : ℕ) (h : Hand) : Type 0 where
-  pub worker : IsWorker g.shape h.worker
-  pub kind_is : h.worker.kind ≡ g.kind
-  pub idle : IsIdle h
-  pub view : view_of h ≡ new_view (map plain_number g.opening) v
-  pub done : h.done ≡ 0
-  pub changed : h.changed ≡ 0
 
 -- it has found no end of the list
 abbrev pub WillClaim : Hand → Type 0
@@ -45,7 +36,7 @@ WillClaim h = (last : ℕ) × (h.share ≡ Claims last false)
 
 -- the pieces follow one another, or all will claim their keys
 abbrev pub IsNewlyDealt : Game → Type 0
-IsNewlyDealt g = ArePieces 0 g.hands (length g.keys) ⊎ ((g.shape.keys ≡ length g.keys) × All WillClaim g.hands)
+IsNewlyDealt g = ArePieces 0 (shares_of g.hands) (length g.keys) ⊎ ((g.shape.keys ≡ length g.keys) × All WillClaim g.hands)
 
 pub record Starts (g : Game) : Type 0 where
   pub shape : IsShape g.shape
@@ -56,7 +47,7 @@ pub record Starts (g : Game) : Type 0 where
   pub keys : All IsKey g.keys
   pub words : g.words ≡ map plain_number g.opening ++ replicate (row_total g.shape + 1) 0
   pub answers : g.answers ≡ replicate (length g.keys) None
-  pub hands : (v : ℕ) (d : Hand) → v < g.shape.workers → IsNew g v (hand g v d)
+  pub hands : (v : ℕ) (d : Hand) → v < g.shape.workers → IsNew g.kind g.shape (map plain_number g.opening) v (hand g v d)
   pub dealt : IsNewlyDealt g
 
 abbrev pub StartsPlay : Type 0
@@ -69,13 +60,17 @@ abbrev pub MayTurn : Type 0
 MayTurn = (g : Game) → Plays g → (v : ℕ) (other : Hand) → v < g.shape.workers
     → Relies Shows Serves g.shape g.words (view_of (hand g v other)) × IsHand g.shape g.kind g.keys (hand g v other) × ((hand g v other).done ≤ length g.keys)
 
+-- what a turn of this worker may change
+abbrev pub moment_of : Game → (who : ℕ) (other : Hand) → Moment
+moment_of g who other = moment g.words g.answers (hand g who other)
+
 -- the game after a turn
-abbrev pub turned : Game → (who : ℕ) → (then : List ℕ) (told : List (Option Bool)) (next : Hand) → Game
-turned g who then told next = record g { words = then; answers = told; hands = set g.hands who next }
+abbrev pub turned : Game → (who : ℕ) (next : Moment) → Game
+turned g who next = record g { words = next.words; answers = next.answers; hands = set g.hands who next.hand }
 
 abbrev pub TurnsKeep : Type 0
-TurnsKeep = (g : Game) → Plays g → (who : ℕ) → who < g.shape.workers → (other : Hand) (turn : Turn) (then : List ℕ) (told : List (Option Bool)) (next : Hand)
-    → TurnsOn g.shape g.keys g.words g.answers (hand g who other) turn then told next → IsHand g.shape g.kind g.keys next → Plays (turned g who then told next)
+TurnsKeep = (g : Game) → Plays g → (who : ℕ) → who < g.shape.workers → (other : Hand) (turn : Turn) (next : Moment)
+    → TurnsOn g.shape g.keys (moment_of g who other) turn next → IsHand g.shape g.kind g.keys next.hand → Plays (turned g who next)
 
 -- ---- a round
 
@@ -106,7 +101,7 @@ RoundsKeep = (g : Game) → Plays g → AllStopped g → AllRest g.shape (keep g
 
 -- What is counted of the keys that are done, and what stands at their positions, where each worker was told this of its keys.
 -- Where keys are asked for, it is told of each whether the first set holds it; of a key that is not done nothing is told.
-pub record TellsSo (g : Game) (told : ℕ → List Bool) : Type 0 where
+pub record OutcomeSpec (g : Game) (told : ℕ → List Bool) : Type 0 where
   pub counts : (v : ℕ) (d : Hand) → v < g.shape.workers → length (positions_at g v) ≡ (hand g v d).done
   pub changed : (v : ℕ) → v < g.shape.workers → changed_at g v ≡ how_many (told v)
   pub stands : (v j : ℕ) → v < g.shape.workers → j < length (told v)
@@ -115,12 +110,11 @@ pub record TellsSo (g : Game) (told : ℕ → List Bool) : Type 0 where
   pub unanswered : (p : ℕ) → (IsDoneAt g p → ⊥) → slice_index_or g.answers p None ≡ None
 
 -- At each moment the words tell what the cells stand for: the layout of the set after the keys of the acts so far, in their
--- order. By these acts each worker has done its keys, and was told of each; and each key that is done shows in the set.
+-- order. By these acts each worker has done its keys, and was told of each; and the set reflects each key that is done.
 abbrev pub MadeSoFar : Type 0
 MadeSoFar = (g : Game) → (plays : Plays g) → ((c : ℕ) → c < cell_count g.shape → IsReadable g.shape g.words (keep g) c)
-    × StandsSo g.kind g.shape g.opening g.words (keep g) (keys_at g) (done_at g) plays.told (keys_of g.opening)
-    plays.running.before (history plays.running.world)
-    × TellsSo g plays.told
+    × MomentSpec (run_of g plays.told) (keys_of g.opening) plays.running.before (history plays.running.world)
+    × OutcomeSpec g plays.told
 
 -- Where all keys are done, the cells, the tally and the answers are those of one worker that does the whole list.
 pub record EndsWith (g : Game) : Type 0 where

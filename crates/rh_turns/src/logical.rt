@@ -4,7 +4,7 @@ ghost use Rattle.std.specs.Prelude.{◌≡◌, ◌<◌, ◌≤◌, ℕ, Some, le
 ghost use Rattle.rh_descriptor.specs.Parts.{IsShape, cell_count, word_count};
 ghost use Rattle.rh_descriptor.specs.Words.{ref_of};
 ghost use Rattle.rh_descriptor.specs.Steps.{IsDesc};
-ghost use Rattle.rh_rule.specs.Mirrors.{word_at};
+ghost use Rattle.rh_rule.specs.Represents.{word_at};
 ghost use Rattle.rh_run.specs.Words.{DescLeads, IsLogicalWord, MarkIsFor, MarkStandsFor, StandsFor, entry_for};
 ghost use Rattle.rh_turns.specs.Readable.{AreWorkers, HasHolder, HasNoted, IsReadable, IsValueOf, views_of};
 ghost use Rattle.rh_descriptor.specs.declared.shape.Part.TheVariants as part;
@@ -13,7 +13,7 @@ ghost use Rattle.rh_world.specs.World.{Ref as Reference};
 
 use crate::hand::Hand;
 use rh_descriptor::{Part, Ref, Shape};
-use rh_helping::{Met, what_stands};
+use rh_helping::{CellContent, what_stands};
 use rh_tagword::{State, pack_control, plain_value};
 
 /// What the cell stands for, as a value: what it holds itself, the old value of a mark's entry, or the
@@ -42,9 +42,9 @@ fn logical_word(shape: &Shape, words: &[u64], hands: &[Hand], cell: usize) -> u6
 {
     let word = words[cell];
     match what_stands(word) {
-        Met::Value => word,
-        Met::Mark(mark) => marked_word(hands, mark),
-        Met::Desc(desc) => described_word(shape, words, hands, desc, cell),
+        CellContent::Value => word,
+        CellContent::Mark(mark) => marked_word(hands, mark),
+        CellContent::Desc(desc) => described_word(shape, words, hands, desc, cell),
     }
 }
 

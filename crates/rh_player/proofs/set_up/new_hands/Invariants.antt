@@ -1,5 +1,6 @@
 use Rattle.std.proofs.Common.{◌≡◌, take}
-use Rattle.rh_player.specs.SetUp.{AreNew, shares_of}
+use Rattle.rh_turns.specs.Game.{shares_of}
+use Rattle.rh_player.specs.SetUp.{AreNew}
 use Rattle.rh_player.proofs.set_up.new_hands.Given as goal
 
 abbrev pub invariant-loop-number : goal.invariant-loop-number

@@ -10,7 +10,7 @@ returns-in-Some-clause-hand c =
     let idle = subst (λ (d : Option Bool). EndsAt d c.step-stepped.new.self.stage) c.in-Some.is c.step-stepped.ensures.ends in
     record {
       worker = c.step-stepped.ensures.worker;
-      kind_is = c.step-stepped.ensures.same_kind ∙ c.requires.hand.kind_is;
+      kind_is = c.step-stepped.ensures.keeps.kind ∙ c.requires.hand.kind_is;
       share = share_done c.args.shape.now c.args.keys.now c.args.hand.now _ c.requires.busy c.step-stepped.ensures.makes.claims c.args.hand.now.share refl refl refl idle c.requires.hand.share;
       key = inl idle;
       some = byte_small c.in-Some.told c.from.result c.args.hand.now.changed c.args.hand.now.done c.from.ensures c.requires.hand.some;
@@ -21,9 +21,9 @@ returns-in_default-clause-hand c =
     let busy = subst (λ (d : Option Bool). EndsAt d c.step-stepped.new.self.stage) c.in_default.is c.step-stepped.ensures.ends in
     record {
       worker = c.step-stepped.ensures.worker;
-      kind_is = c.step-stepped.ensures.same_kind ∙ c.requires.hand.kind_is;
+      kind_is = c.step-stepped.ensures.keeps.kind ∙ c.requires.hand.kind_is;
       share = share_same c.args.shape.now c.args.keys.now c.args.hand.now _ c.requires.busy c.step-stepped.ensures.makes.claims c.args.hand.now.share refl refl refl busy c.requires.hand.share;
-      key = inr (key_same c.args.shape.now c.args.keys.now c.args.hand.now _ c.requires.busy c.step-stepped.ensures.makes.claims refl refl c.step-stepped.ensures.same_key
+      key = inr (key_same c.args.shape.now c.args.keys.now c.args.hand.now _ c.requires.busy c.step-stepped.ensures.makes.claims refl refl c.step-stepped.ensures.keeps.key
           (at_key c.args.keys.now c.args.hand.now c.requires.busy c.requires.hand.key));
       some = c.requires.hand.some;
     }

@@ -3,7 +3,7 @@ use Rattle.std.proofs.lemmas.List.{take_all}
 use Rattle.rh_turns.specs.declared.hand.Hand.{Hand}
 use Rattle.rh_turns.specs.Game.{Game, Plays}
 use Rattle.rh_acts.specs.Workers.{tally_by}
-use Rattle.rh_player.specs.Made.{TalliesSo, cut, total}
+use Rattle.rh_player.specs.Made.{TallySpec, cut, total}
 use Rattle.rh_player.proofs.Totals.{counted_next, counts_exactly, done_is, tallies, tally_ends}
 use Rattle.rh_player.proofs.player.Player.tally.Goals as goal
 
@@ -32,7 +32,7 @@ returns-clause-counts c =
 pub returns-clause-so_far : goal.returns-clause-so_far
 returns-clause-so_far c =
     let g = c.args.self.now in
-    subst (TalliesSo g) (sym (returns-clause-counts c)) (tallies g (subst Plays c.self.view_is c.self.invariant))
+    subst (TallySpec g) (sym (returns-clause-counts c)) (tallies g (subst Plays c.self.view_is c.self.invariant))
 
 pub returns-clause-finished : goal.returns-clause-finished
 returns-clause-finished c = λ finished. returns-clause-counts c ∙ tally_ends c.args.self.now (subst Plays c.self.view_is c.self.invariant) finished
