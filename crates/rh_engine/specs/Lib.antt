@@ -7,4 +7,5 @@ pub use Rattle.rh_shelf.specs.Shelf
 pub use Rattle.rh_shelf.specs.Kinds
 pub use Rattle.rh_phase.specs.Made
 pub use Rattle.rh_planner.specs.Meaning
+pub use Rattle.rh_planner.specs.Environment
 pub use Rattle.rh_planner.specs.Ends

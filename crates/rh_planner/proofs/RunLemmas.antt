@@ -1,5 +1,5 @@
 -- A script step by step.
-use Rattle.std.proofs.Common.{◌≡◌, ◌∙◌, ap, sym, subst, refl, arith, false, ℕ, zero, suc, ◌+◌, ◌<◌, ◌≤◌, List, [], ◌∷◌, ◌++◌, length, take, drop, get_or, append_assoc, append-nil, Option, Some, Result, Ok, Err}
+use Rattle.std.proofs.Common.{◌≡◌, ◌∙◌, ap, sym, subst, refl, arith, false, ℕ, zero, suc, ◌+◌, ◌<◌, ◌≤◌, List, [], ◌∷◌, ◌++◌, length, take, drop, get_or, append_assoc, append-nil, Some, Result, Ok, Err}
 use Rattle.std.proofs.Common.{slice_index_or, take-append-drop}
 use Rattle.std.proofs.lemmas.List.{take_all, take_more, length-append, length-map}
 use Rattle.std.proofs.lemmas.Grind.{flat_map-append}
@@ -23,11 +23,10 @@ use Rattle.rh_planner.specs.declared.key_lists.KeyList.{KeyList}
 use Rattle.rh_planner.specs.Files.{HasFiles, given_files}
 use Rattle.rh_planner.specs.KeyLists.{paths_of}
 use Rattle.rh_planner.specs.Meaning.{◌>>=◌, ScriptState, Outcome, at_line, keys_in, meaning, outcome_of, size_for, start, table_in}
-use Rattle.rh_files.specs.Counting.{Rose}
-use Rattle.rh_planner.specs.Outside.{IsOutside}
-use Rattle.rh_planner.specs.Ends.{Done, EndsBy, LeavesFiles, SaysAll, Stopped}
+use Rattle.rh_planner.specs.Environment.{Environment}
+use Rattle.rh_planner.specs.Ends.{Done, EndsBy, LeavesFiles, SaysAll, Stopped, step_in}
 use Rattle.rh_planner.specs.Steps.{HasList, IsApart, ListsStand, Named, StepDone, names_of, world_of}
-use Rattle.rh_planner.specs.Reached.{CarriedOut, Reached}
+use Rattle.rh_planner.specs.Reached.{CarriedOut, Moment, Reached}
 use Rattle.rh_planner.proofs.FileLemmas.{given_file}
 use Rattle.rh_planner.proofs.ListLemmas.{place_inside}
 
@@ -126,30 +125,30 @@ planned_long given (s ∷ steps) = ap suc (planned_long (given ++ given_by s.ins
 
 -- ---- the loop over the plan
 
-module _ (files : Files) (before : List Numbered) (step : Numbered) (set after : Held) (lists lists' : List KeyList) (was now : Option Files) (old middle new : Option (List ℕ)) (so_far : Reached files was before set lists old middle) where
+module _ (files : Files) (before : List Numbered) (step : Numbered) (old : Environment) (now next : Moment) (so_far : Reached files before old now) where
   abbrev world : ScriptState
-  world = world_of set so_far.done.named so_far.done.made
+  world = world_of now.set so_far.done.named so_far.done.made
 
-  reached_more : (did : StepDone (outcome_of world step.instruction) now after lists' middle new) → paths_of lists' ≡ paths_of lists ++ file_of step.instruction → Reached files now (before ++ step ∷ []) after lists' old new
+  reached_more : (did : StepDone (step_in world step.instruction now.environment next.environment) next.set next.lists) → paths_of next.lists ≡ paths_of now.lists ++ file_of step.instruction → Reached files (before ++ step ∷ []) old next
   reached_more did paths = record {
     done = record {
       named = did.named;
       made = did.files;
       accounts = so_far.done.accounts ++ did.account ∷ [];
       text = so_far.done.text ++ did.told.0;
-      means = meaning_more (start files) before step world so_far.done.accounts (world_of after did.named did.files, did.account) so_far.done.means did.is;
+      means = meaning_more (start files) before step world so_far.done.accounts (world_of next.set did.named did.files, did.account) so_far.done.means did.is;
       has = did.has;
       says = says_more so_far.done.accounts so_far.done.text did.account did.told.0 so_far.done.says did.told.1;
-      written = Appends-trans old middle new so_far.done.text did.told.0 so_far.done.written did.told.2;
+      written = Appends-trans old.text now.environment.text next.environment.text so_far.done.text did.told.0 so_far.done.written did.told.2;
     };
     stand = did.stand;
-    names = names_after world step.instruction (world_of after did.named did.files, did.account) did.is ∙ ap (λ l. l ++ given_by step.instruction) so_far.names ∙ sym (names_more before step);
+    names = names_after world step.instruction (world_of next.set did.named did.files, did.account) did.is ∙ ap (λ l. l ++ given_by step.instruction) so_far.names ∙ sym (names_more before step);
     paths = paths ∙ ap (λ l. l ++ file_of step.instruction) so_far.paths ∙ sym (files_more before step);
   }
 
-pub reached_start : (files : Files) (now : Option Files) (set : Held) (lists : List KeyList) (old : Option (List ℕ)) → now ≡ Some files → set.keys ≡ finset.empty → set.bits ≡ MIN_BITS → lists ≡ [] → Reached files now [] set lists old old
+pub reached_start : (files : Files) (old : Environment) (set : Held) (lists : List KeyList) → old.files ≡ Some files → set.keys ≡ finset.empty → set.bits ≡ MIN_BITS → lists ≡ [] → Reached files [] old (record { set = set; lists = lists; environment = old })
 unfolding meaning names_in files_in
-reached_start files now set lists old known keys bits none = record {
+reached_start files old set lists known keys bits none = record {
   done = record {
     named = [];
     made = given_files files;
@@ -158,9 +157,9 @@ reached_start files now set lists old known keys bits none = record {
     means = λ i. Ok (record { held = sym keys i; bits = sym bits i; lists = []; files = given_files files }, []);
     has = subst (HasFiles (given_files files)) (sym known) (λ path. given_file (files path));
     says = refl;
-    written = Appends-nil old;
+    written = Appends-nil old.text;
   };
-  stand = subst (λ l. ListsStand now l []) (sym none) tt;
+  stand = subst (λ l. ListsStand old.files l []) (sym none) tt;
   names = refl;
   paths = ap paths_of none;
 }
@@ -248,22 +247,23 @@ more_lists steps i step said n m more is so_far grown =
     let now : length (names_in (take (i + 1) steps)) ≡ length (names_in (take i steps) ++ given_by step.instruction) = ap length (ap names_in more ∙ names_more (take i steps) step) in
     omega (arith, both, same, now, so_far, grown)
 
-module _ (files : Files) (steps : List Numbered) (i : ℕ) (step : PlannedStep) (set : Held) (lists : List KeyList) (was : Option Files) (old middle : Option (List ℕ)) (here : StepAt steps i step) (so_far : Reached files was (take i steps) set lists old middle) where
+module _ (files : Files) (steps : List Numbered) (i : ℕ) (step : PlannedStep) (old : Environment) (now : Moment) (here : StepAt steps i step) (so_far : Reached files (take i steps) old now) where
   abbrev world_here : ScriptState
-  world_here = world_of set so_far.done.named so_far.done.made
+  world_here = world_of now.set so_far.done.named so_far.done.made
 
   pub its_number : number_after (names_of so_far.done.named) (task_as step.task).0 ≡ (task_as step.task).1
   its_number = subst (λ given. number_after given (task_as step.task).0 ≡ (task_as step.task).1) (sym so_far.names) here.number
 
-  pub goes_on : (after : Held) (lists' : List KeyList) (now : Option Files) (new : Option (List ℕ)) → StepDone (outcome_of world_here (task_as step.task).0) now after lists' middle new → paths_of lists' ≡ paths_of lists ++ file_of (task_as step.task).0 → Reached files now (take (i + 1) steps) after lists' old new
-  goes_on after lists' now new did paths =
-      let its = subst (λ said. StepDone (outcome_of world_here said) now after lists' middle new) here.said did in
-      let its_paths = subst (λ said. paths_of lists' ≡ paths_of lists ++ file_of said) here.said paths in
-      subst (λ l. Reached files now l after lists' old new) (sym here.more) (reached_more files (take i steps) here.numbered set after lists lists' was now old middle new so_far its its_paths)
+  pub goes_on : (next : Moment) → StepDone (step_in world_here (task_as step.task).0 now.environment next.environment) next.set next.lists → paths_of next.lists ≡ paths_of now.lists ++ file_of (task_as step.task).0 → Reached files (take (i + 1) steps) old next
+  goes_on next did paths =
+      let its = subst (λ said. StepDone (step_in world_here said now.environment next.environment) next.set next.lists) here.said did in
+      let its_paths = subst (λ said. paths_of next.lists ≡ paths_of now.lists ++ file_of said) here.said paths in
+      subst (λ l. Reached files l old next) (sym here.more) (reached_more files (take i steps) here.numbered old now next so_far its its_paths)
 
-  pub stops_here : (now : Option Files) (n m k starts starts' begun : ℕ) (new : Option (List ℕ)) (cause : Cause) → k ≡ n → begun ≡ starts → EndsBy (outcome_of world_here (task_as step.task).0) (IsOutside (task_as step.task).0 (Rose k m) (Rose begun starts')) middle new cause × LeavesFiles (outcome_of world_here (task_as step.task).0) (task_as step.task).0 so_far.done.made now cause
-      → Stopped files now (Rose n m) (Rose starts starts') steps old new (record { line = step.line; cause = cause })
-  stops_here now n m k starts starts' begun new cause same as_begun ends = record {
+  pub stops_here : (new : Environment) (cause : Cause) → now.environment.failures ≡ old.failures → now.environment.refused_starts ≡ old.refused_starts
+      → EndsBy (step_in world_here (task_as step.task).0 now.environment new) cause × LeavesFiles (step_in world_here (task_as step.task).0 now.environment new) so_far.done.made cause
+      → Stopped files steps old new (record { line = step.line; cause = cause })
+  stops_here new cause fine started ends = record {
     before = take i steps;
     step = here.numbered;
     after = drop (i + 1) steps;
@@ -274,24 +274,24 @@ module _ (files : Files) (steps : List Numbered) (i : ℕ) (step : PlannedStep) 
     text = so_far.done.text;
     means = so_far.done.means;
     says = so_far.done.says;
-    middle = middle;
+    middle = now.environment;
     written = so_far.done.written;
-    ends = subst (λ f. EndsBy (outcome_of world_here here.numbered.instruction) (IsOutside here.numbered.instruction (Rose f m) (Rose starts starts')) middle new cause) same
-        (subst (λ f. EndsBy (outcome_of world_here here.numbered.instruction) (IsOutside here.numbered.instruction (Rose k m) (Rose f starts')) middle new cause) as_begun
-        (subst (λ said. EndsBy (outcome_of world_here said) (IsOutside said (Rose k m) (Rose begun starts')) middle new cause) here.said ends.0));
-    files_now = subst (λ said. LeavesFiles (outcome_of world_here said) said so_far.done.made now cause) here.said ends.1;
+    fine = fine;
+    started = started;
+    ends = subst (λ said. EndsBy (step_in world_here said now.environment new) cause) here.said ends.0;
+    files_now = subst (λ said. LeavesFiles (step_in world_here said now.environment new) so_far.done.made cause) here.said ends.1;
   }
 
-pub all_carried_out : (files : Files) (now : Option Files) (items : List PlannedStep) (steps : List Numbered) (i : ℕ) (set : Held) (lists : List KeyList) (old new : Option (List ℕ)) → map planned_as items ≡ plan_of steps → length items ≤ i → Reached files now (take i steps) set lists old new → CarriedOut files now steps set old new
-all_carried_out files now items steps i set lists old new planned ended so_far =
+pub all_carried_out : (files : Files) (items : List PlannedStep) (steps : List Numbered) (i : ℕ) (old : Environment) (now : Moment) → map planned_as items ≡ plan_of steps → length items ≤ i → Reached files (take i steps) old now → CarriedOut files steps now.set old now.environment
+all_carried_out files items steps i old now planned ended so_far =
     let all : take i steps ≡ steps = take_all i steps (omega (arith, all_planned items steps planned, ended)) in
-    subst (λ l. CarriedOut files now l set old new) all so_far.done
+    subst (λ l. CarriedOut files l now.set old now.environment) all so_far.done
 
 pub steps_of_plan : (planned : List Planned) (steps : List Numbered) → planned ≡ plan_of steps → length planned ≡ length steps
 steps_of_plan planned steps is = ap length is ∙ planned_long [] steps
 
-pub all_done : (files : Files) (now : Option Files) (steps : List Numbered) (set : Held) (old new : Option (List ℕ)) (commands held bits : ℕ) → CarriedOut files now steps set old new → commands ≡ length steps → held ≡ finset.len set.keys → bits ≡ set.bits → Done files now steps old new (record { commands = commands; held = held; bits = bits })
-all_done files now steps set old new commands held bits carried many held_is bits_is = record {
+pub all_done : (files : Files) (steps : List Numbered) (set : Held) (old new : Environment) (commands held bits : ℕ) → CarriedOut files steps set old new → commands ≡ length steps → held ≡ finset.len set.keys → bits ≡ set.bits → Done files steps old new (record { commands = commands; held = held; bits = bits })
+all_done files steps set old new commands held bits carried many held_is bits_is = record {
   world = world_of set carried.named carried.made;
   accounts = carried.accounts;
   text = carried.text;

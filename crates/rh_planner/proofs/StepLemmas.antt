@@ -1,7 +1,6 @@
 -- How a step ends.
-use Rattle.std.proofs.Common.{◌≡◌, ◌∙◌, ap, subst, sym, refl, arith, ℕ, true, false, inl, inr, List, [], ◌∷◌, ◌++◌, length, Option, Some, None, Result, Ok, Err}
+use Rattle.std.proofs.Common.{◌≡◌, ◌∙◌, ap, sym, refl, arith, ℕ, true, false, inl, inr, List, [], ◌∷◌, ◌++◌, length, Option, Some, None, Result, Ok, Err}
 use Rattle.std.specs.FinSet as set
-use Rattle.std.proofs.KnownBytes.{Appends-nil}
 use Rattle.rh_edit.specs.Held.{Held}
 use Rattle.rh_layout.specs.Layout.{Keys}
 use Rattle.rh_ledger.specs.declared.tally.Kind.{Kind}
@@ -18,7 +17,7 @@ use Rattle.rh_planner.specs.declared.fault.Cause.{Cause}
 use Rattle.rh_planner.specs.declared.fault.Cause.TheVariants.{Write}
 use Rattle.rh_planner.specs.Meaning.{◌>>=◌, ScriptState, Outcome, adds, drops, keeps, flips, keys_in, restores, snapshots, table_in, uses}
 use Rattle.rh_planner.specs.Commands.{Added, Dropped, Kept, Flipped}
-use Rattle.rh_planner.specs.Ends.{EndsBy, RefusedBy, TellsFront}
+use Rattle.rh_planner.specs.Ends.{RefusedBy, TellsFront}
 use Rattle.rh_planner.specs.Steps.{Named, world_of}
 use Rattle.rh_planner.specs.declared.key_lists.KeyList.{KeyList}
 use Rattle.rh_planner.specs.KeyLists.{Stands}
@@ -32,18 +31,15 @@ all_read Ask S (k ∷ keys) = omega (arith, all_read Ask S keys)
 
 -- ---- refusals
 
-module _ (outside : Cause → Type 0) (old : Option (List ℕ)) (cause : Cause) where
-  pub step_refused : {Y : Type 0} (said : Result Y Cause) (make : Y → Outcome) → RefusedBy said outside cause → EndsBy (said >>= make) outside old old cause
-  step_refused said make (inl is) = inl (Appends-nil old, inl (ap (λ r. r >>= make) is))
-  step_refused said make (inr out) = inl (Appends-nil old, inr out)
-
-  pub found_refused : {Y : Type 0} (found said : Result Y Cause) (make : Y → Outcome) → found ≡ said → RefusedBy found outside cause → EndsBy (said >>= make) outside old old cause
-  found_refused found said make same refused = step_refused said make (subst (λ r. RefusedBy r outside cause) same refused)
+module _ (outside : Cause → Type 0) (cause : Cause) where
+  pub found_refused : {Y : Type 0} (found said : Result Y Cause) (make : Y → Outcome) → found ≡ said → RefusedBy found outside cause → RefusedBy (said >>= make) outside cause
+  found_refused found said make same (inl is) = inl (ap (λ r. r >>= make) (sym same ∙ is))
+  found_refused found said make same (inr out) = inr out
 
   -- a step that nothing refuses but what comes from outside
-  pub none_refused : {Y : Type 0} (found : Result Y Cause) (y : Y) (outcome : Outcome) → found ≡ Ok y → RefusedBy found outside cause → EndsBy outcome outside old old cause
+  pub none_refused : {Y : Type 0} (found : Result Y Cause) (y : Y) (outcome : Outcome) → found ≡ Ok y → RefusedBy found outside cause → RefusedBy outcome outside cause
   none_refused found y outcome is (inl said) = let none : Ok y ≡ Err cause = sym is ∙ said in absurd cc
-  none_refused found y outcome is (inr out) = inl (Appends-nil old, inr out)
+  none_refused found y outcome is (inr out) = inr out
 
 pub not_told : (outcome : Outcome) (old new : Option (List ℕ)) (after : ScriptState) (account : Account) (text : List ℕ) → outcome ≡ Ok (after, account) → Says account text → AppendsFront old new text
     → (Write ≡ Write) × (done : ScriptState × Account) × (outcome ≡ Ok done) × TellsFront done.1 old new

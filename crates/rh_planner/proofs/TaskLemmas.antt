@@ -17,14 +17,11 @@ use Rattle.rh_planner.specs.Files.{Bytes, File, FileMap, HasFiles, Sealed}
 use Rattle.rh_planner.specs.KeyLists.{Stands}
 use Rattle.rh_planner.specs.Meaning.{◌>>=◌, ScriptState, Outcome, keys_in, keys_or_cause, list_of, outcome_of, size_for, size_or_cause, table_in, table_or_cause}
 use Rattle.rh_planner.specs.Outside.{IsOutside}
-use Rattle.rh_planner.specs.Ends.{EndsBy, LeavesFiles, LeavesOthers}
+use Rattle.rh_planner.specs.Ends.{EndsBy, LeavesFiles, LeavesOthers, Step, step_in}
+use Rattle.rh_planner.specs.Environment.{Environment}
+use Rattle.rh_files.specs.Counting.{Rose}
 use Rattle.rh_planner.specs.Steps.{ListsStand, Named, PlainEnds, StateEnds, StepEnds, names_of, world_of}
 use Rattle.rh_planner.proofs.ListLemmas.{stands_at}
-
--- a step that left the lists as they were
-pub step_plain : (outcome : Outcome) (outside : Cause → Type 0) (files : FileMap) (now : Option Files) (set : Held) (lists : List KeyList) (named : Named) (old new : Option (List ℕ)) (r : Result (Unit {0}) Cause) → StepEnds outcome outside (world_of set named files) old new r → ListsStand now lists named → PlainEnds outcome outside files now set lists old new r
-step_plain outcome outside files now set lists named old new (Ok x) step stand = (named, step.0, step.1, stand, step.2)
-step_plain outcome outside files now set lists named old new (Err cause) step stand = step
 
 -- ---- a command that puts no file
 
@@ -122,35 +119,38 @@ others_left Dump files now plain has = has
 others_left (Snapshot path) files now plain has = absurd plain
 others_left (Restore path) files now plain has = has
 
-module _ (w : ScriptState) (said : Instruction) (now : Option Files) (plain : IsPlain said) (has : HasFiles w.files now) where
-  made_none : (done : ScriptState × Account) → outcome_of w said ≡ Ok done → HasFiles done.0.files now
-  made_none done is = subst (λ files. HasFiles files now) (sym (files_stay w said plain) ∙ ap (files_in w.files) is) has
+module _ (w : ScriptState) (said : Instruction) (plain : IsPlain said) (before after : Environment) (same : after.files ≡ before.files) (has : HasFiles w.files before.files) where
+  abbrev step : Step
+  step = step_in w said before after
 
-  module _ (failed refused : Type 0) (old new : Option (List ℕ)) where
-    abbrev outside : Cause → Type 0
-    outside = IsOutside said failed refused
+  still_has : HasFiles w.files after.files
+  still_has = subst (HasFiles w.files) (sym same) has
 
-    left_by : (cause : Cause) → EndsBy (outcome_of w said) outside old new cause → LeavesFiles (outcome_of w said) said w.files now cause
-    left_by causes.Write (inl (written, inl is)) = absurd (never_write w said is)
-    left_by causes.Write (inl (written, inr out)) = absurd (never_outside said failed refused out)
-    left_by causes.Write (inr (is_write, done, is, told)) = (done, is, made_none done is)
-    left_by _ ends = others_left said w.files now plain has
+  made_none : (done : ScriptState × Account) → outcome_of w said ≡ Ok done → HasFiles done.0.files after.files
+  made_none done is = subst (λ files. HasFiles files after.files) (sym (files_stay w said plain) ∙ ap (files_in w.files) is) still_has
 
-    plain_state : (set : Held) (lists : List KeyList) (r : Result (Unit {0}) Cause) → PlainEnds (outcome_of w said) outside w.files now set lists old new r → StateEnds (outcome_of w said) said failed refused w.files now set lists old new r
-    plain_state set lists (Ok x) step = record { named = step.0; files = w.files; account = step.1; is = step.2; stand = step.3; has = has; told = step.4 }
-    plain_state set lists (Err cause) step = (step, left_by cause step)
+  left_by : (cause : Cause) → EndsBy step cause → LeavesFiles step w.files cause
+  left_by causes.Write (inl (written, inl is)) = absurd (never_write w said is)
+  left_by causes.Write (inl (written, inr out)) = absurd (never_outside said (Rose before.failures after.failures) (Rose before.refused_starts after.refused_starts) out)
+  left_by causes.Write (inr (is_write, done, is, told)) = (done, is, made_none done is)
+  left_by _ ends = others_left said w.files after.files plain still_has
 
-pub plain_now : (w : ScriptState) (said : Instruction) → IsPlain said → (before now : Option Files) (set : Held) (lists : List KeyList) (failed refused : Type 0) (old new : Option (List ℕ)) (r : Result (Unit {0}) Cause) → now ≡ before → HasFiles w.files before → PlainEnds (outcome_of w said) (IsOutside said failed refused) w.files before set lists old new r
-    → StateEnds (outcome_of w said) said failed refused w.files now set lists old new r
-plain_now w said plain before now set lists failed refused old new r same has step =
-    subst (λ files. StateEnds (outcome_of w said) said failed refused w.files files set lists old new r) (sym same) (plain_state w said before plain has failed refused old new set lists r step)
+  pub plain_state : (set : Held) (lists : List KeyList) (r : Result (Unit {0}) Cause) → PlainEnds step w.files set lists r → StateEnds step w.files set lists r
+  plain_state set lists (Ok x) ends = record {
+    named = ends.0;
+    files = w.files;
+    account = ends.1;
+    is = ends.2;
+    stand = subst (λ files. ListsStand files lists ends.0) (sym same) ends.3;
+    has = still_has;
+    told = ends.4;
+  }
+  plain_state set lists (Err cause) ends = (ends, left_by cause ends)
 
--- a step that did not use the shelf, whose files are known
-pub still_now : (w : ScriptState) (said : Instruction) → IsPlain said → (now : Option Files) (named : Named) (set : Held) (lists lists' : List KeyList) (failed refused : Type 0) (old new : Option (List ℕ)) (r : Result (Unit {0}) Cause) → HasFiles w.files now → ListsStand now lists named
-    → ((known : Files) → ListsStand (Some known) lists named → PlainEnds (outcome_of w said) (IsOutside said failed refused) w.files (Some known) set lists' old new r) → StateEnds (outcome_of w said) said failed refused w.files now set lists' old new r
-still_now w said plain None named set lists lists' failed refused old new r has stand step = absurd has
-still_now w said plain (Some known) named set lists lists' failed refused old new r has stand step =
-    plain_state w said (Some known) plain has failed refused old new set lists' r (step known stand)
+  -- where it left the lists as they were
+  pub lists_stay : (set : Held) (lists : List KeyList) (named : Named) (r : Result (Unit {0}) Cause) → StepEnds step (world_of set named w.files) r → ListsStand before.files lists named → StateEnds step w.files set lists r
+  lists_stay set lists named (Ok x) ends stand = plain_state set lists (Ok x) (named, ends.0, ends.1, stand, ends.2)
+  lists_stay set lists named (Err cause) ends stand = plain_state set lists (Err cause) ends
 
 -- the list that a task names
 pub list_at : (lists : List KeyList) (named : Named) (now : Option Files) (name : List ℕ) (i : ℕ) (list : KeyList) → ListsStand now lists named → position_of name (names_of named) ≡ Some i → list ≡ slice_index_or lists i list → Stands now list (list_of name named)

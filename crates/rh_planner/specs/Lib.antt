@@ -4,6 +4,7 @@ pub mod Files
 pub mod Meaning
 pub mod Found
 pub mod Outside
+pub mod Environment
 pub mod Ends
 pub mod KeyLists
 pub mod Commands

@@ -3,7 +3,6 @@ use Rattle.std.specs.Prelude.{◌≡◌, ℕ, ◌<◌, false, List, [], ◌∷�
 use Rattle.rh_edit.specs.Held.{Held}
 use Rattle.rh_report.specs.Account.{Account}
 use Rattle.rh_shelf.specs.Shelf.{Files}
-use Rattle.rh_script.specs.Instruction.{Instruction}
 use Rattle.rh_script.specs.Names.{is_given}
 use Rattle.rh_script.specs.declared.task.Task.{Task}
 use Rattle.rh_script.specs.declared.task.Task.TheVariants as tasks
@@ -11,9 +10,8 @@ use Rattle.rh_planner.specs.declared.fault.Cause.{Cause}
 use Rattle.rh_planner.specs.declared.key_lists.KeyList.{KeyList}
 use Rattle.rh_planner.specs.KeyLists.{Stands, paths_of}
 use Rattle.rh_planner.specs.Files.{FileMap, HasFiles}
-use Rattle.rh_planner.specs.Meaning.{ScriptState, Outcome}
-use Rattle.rh_planner.specs.Outside.{IsOutside}
-use Rattle.rh_planner.specs.Ends.{EndsBy, LeavesFiles, Tells}
+use Rattle.rh_planner.specs.Meaning.{ScriptState}
+use Rattle.rh_planner.specs.Ends.{EndsBy, LeavesFiles, Step, Tells}
 
 -- the names of lists, each with its keys
 abbrev pub Named : Type 0
@@ -33,30 +31,30 @@ abbrev pub names_of : Named → List (List ℕ)
 names_of lists = map (λ named. named.0) lists
 
 -- A step made this world of that which it found, and told its account; or it was refused, or could not be told.
-abbrev pub StepEnds : Outcome → (outside : Cause → Type 0) → ScriptState → Option (List ℕ) → Option (List ℕ) → Result (Unit {0}) Cause → Type 0
-StepEnds outcome outside after old new r =
-    MatchResult r (λ _. (account : Account) × (outcome ≡ Ok (after, account)) × Tells account old new) (EndsBy outcome outside old new)
+abbrev pub StepEnds : Step → (made : ScriptState) → Result (Unit {0}) Cause → Type 0
+StepEnds step made r =
+    MatchResult r (λ _. (account : Account) × (step.outcome ≡ Ok (made, account)) × Tells account step.before.text step.after.text) (EndsBy step)
 
 -- A step that puts no file made this set and these lists of the world that it found, and told its account; or it was
 -- refused, or could not be told.
-abbrev pub PlainEnds : Outcome → (outside : Cause → Type 0) → FileMap → (now : Option Files) → Held → List KeyList → Option (List ℕ) → Option (List ℕ) → Result (Unit {0}) Cause → Type 0
-PlainEnds outcome outside files now set lists old new r =
-    MatchResult r (λ _. (named : Named) × (account : Account) × (outcome ≡ Ok (world_of set named files, account)) × ListsStand now lists named × Tells account old new) (EndsBy outcome outside old new)
+abbrev pub PlainEnds : Step → (found : FileMap) → Held → List KeyList → Result (Unit {0}) Cause → Type 0
+PlainEnds step found set lists r =
+    MatchResult r (λ _. (named : Named) × (account : Account) × (step.outcome ≡ Ok (world_of set named found, account)) × ListsStand step.before.files lists named × Tells account step.before.text step.after.text) (EndsBy step)
 
 -- A step made this set, these lists and the files that the shelf has now, and told its account.
-pub record StepDone (outcome : Outcome) (now : Option Files) (set : Held) (lists : List KeyList) (old new : Option (List ℕ)) : Type 0 where
+pub record StepDone (step : Step) (set : Held) (lists : List KeyList) : Type 0 where
   pub named : Named
   pub files : FileMap
   pub account : Account
-  pub is : outcome ≡ Ok (world_of set named files, account)
-  pub stand : ListsStand now lists named
-  pub has : HasFiles files now
-  pub told : Tells account old new
+  pub is : step.outcome ≡ Ok (world_of set named files, account)
+  pub stand : ListsStand step.after.files lists named
+  pub has : HasFiles files step.after.files
+  pub told : Tells account step.before.text step.after.text
 
 -- Any step ends so; or it was refused, or could not be told, and this is what it left of the files.
-abbrev pub StateEnds : Outcome → Instruction → (failed refused : Type 0) → FileMap → (now : Option Files) → Held → List KeyList → Option (List ℕ) → Option (List ℕ) → Result (Unit {0}) Cause → Type 0
-StateEnds outcome said failed refused files now set lists old new r =
-    MatchResult r (λ _. StepDone outcome now set lists old new) (λ cause. EndsBy outcome (IsOutside said failed refused) old new cause × LeavesFiles outcome said files now cause)
+abbrev pub StateEnds : Step → (found : FileMap) → Held → List KeyList → Result (Unit {0}) Cause → Type 0
+StateEnds step found set lists r =
+    MatchResult r (λ _. StepDone step set lists) (λ cause. EndsBy step cause × LeavesFiles step found cause)
 
 -- the list of a task is among so many
 abbrev pub HasList : Task → ℕ → Type 0

@@ -22,7 +22,7 @@ pub enum Cause {
     /// The snapshot is refused, or could not be read. Never want of memory.
     #[error(transparent)]
     Snap(SnapFault),
-    /// The key file is not the one that `use` read.
+    /// The list has another number of keys than before, or of those that are chosen.
     #[error("key file has changed")]
     Changed,
     /// No table is large enough.

@@ -11,6 +11,7 @@ ghost use Rattle.rh_script.specs.Script.{steps_of};
 ghost use Rattle.rh_script.specs.Tasks.{planned_of};
 ghost use Rattle.rh_shelf.specs.Shelf.{Files};
 ghost use Rattle.rh_planner.specs.Ends.{Ends};
+ghost use Rattle.rh_planner.specs.Environment.{environment};
 ghost use Rattle.rh_planner.specs.Reached.{AllEnds};
 
 use crate::fault::{Cause, RunFault};
@@ -45,10 +46,11 @@ pub fn run<T: Threads + Wait + Sync, S: Shelf, N: Runner, W: Write>(
     writer: &mut Counted<W>,
 ) -> Result<Report, RunFault>
     ensures meant { (files : Files) → S.files shelf.old ≡ Some files →
-        Ends files (S.files shelf.new) (Rose (S.failures shelf.old) (S.failures shelf.new))
-        (Rose (N.refused_starts runner.old) (N.refused_starts runner.new))
-        (steps_of script.now) (W.contents (inner_of writer.old)) (W.contents (inner_of writer.new))
-        result }
+        Ends files (steps_of script.now)
+        (environment (S.files shelf.old) (S.failures shelf.old) (N.refused_starts runner.old)
+        (W.contents (inner_of writer.old)))
+        (environment (S.files shelf.new) (S.failures shelf.new) (N.refused_starts runner.new)
+        (W.contents (inner_of writer.new))) result }
     ensures missing { IfErr result (λ fault. fault.cause ≡ Cause.Missing →
         S.files shelf.old ≡ None → Rose (S.failures shelf.old) (S.failures shelf.new)) }
     ensures put { IfErr result (λ fault. fault.cause ≡ Cause.Put →
@@ -58,11 +60,11 @@ pub fn run<T: Threads + Wait + Sync, S: Shelf, N: Runner, W: Write>(
     ensures write { IfErr result (λ fault. fault.cause ≡ Cause.Write →
         Rose (failures_of writer.old) (failures_of writer.new)) }
 {
-    let Ok((plan, mut set)) = begin(alloc, script) else {
+    let Ok((plan, empty)) = begin(alloc, script) else {
         let (line, cause) = (0, Cause::Memory);
         return Err(RunFault { line, cause });
     };
-    carry_out_all(rt, alloc, shelf, runner, writer, &mut set, &plan)?;
+    let set = carry_out_all(rt, alloc, shelf, runner, writer, empty, &plan)?;
     Ok(Report {
         commands: plan.len() as u64,
         held: set.len() as u64,
@@ -82,24 +84,26 @@ fn begin(alloc: Global, script: &Script) -> Result<(Plan<'_>, SeqSet), AllocErro
     Ok((plan, set))
 }
 
-/// Carries out the steps of a plan, from an empty set on.
+/// Carries out the steps of a plan, from an empty set on, and gives the set that they made.
 fn carry_out_all<T: Threads + Wait + Sync, S: Shelf, N: Runner, W: Write>(
     rt: &T,
     alloc: Global,
     shelf: &mut S,
     runner: &mut N,
     writer: &mut Counted<W>,
-    set: &mut SeqSet,
+    mut set: SeqSet,
     plan: &Plan<'_>,
-) -> Result<(), RunFault>
+) -> Result<SeqSet, RunFault>
     requires planned { (steps : List Numbered) × (planned_of plan.now ≡ plan_of steps) }
-    requires keys { set.old.keys ≡ finset.empty }
-    requires bits { set.old.bits ≡ MIN_BITS }
+    requires keys { set.keys ≡ finset.empty }
+    requires bits { set.bits ≡ MIN_BITS }
     ensures meant { (files : Files) (steps : List Numbered) → S.files shelf.old ≡ Some files →
         planned_of plan.now ≡ plan_of steps → SnapshotsAreNew steps →
-        AllEnds files (S.files shelf.new) (Rose (S.failures shelf.old) (S.failures shelf.new))
-        (Rose (N.refused_starts runner.old) (N.refused_starts runner.new)) steps set.new
-        (W.contents (inner_of writer.old)) (W.contents (inner_of writer.new)) result }
+        AllEnds files steps
+        (environment (S.files shelf.old) (S.failures shelf.old) (N.refused_starts runner.old)
+        (W.contents (inner_of writer.old)))
+        (environment (S.files shelf.new) (S.failures shelf.new) (N.refused_starts runner.new)
+        (W.contents (inner_of writer.new))) result }
     ensures missing { IfErr result (λ fault. fault.cause ≡ Cause.Missing →
         S.files shelf.old ≡ None → Rose (S.failures shelf.old) (S.failures shelf.new)) }
     ensures put { IfErr result (λ fault. fault.cause ≡ Cause.Put →
@@ -112,11 +116,11 @@ fn carry_out_all<T: Threads + Wait + Sync, S: Shelf, N: Runner, W: Write>(
     let mut lists = Vec::new(alloc);
     for step in plan.steps() {
         let task = &step.task;
-        let told = carry_out(rt, alloc, shelf, runner, writer, set, &mut lists, task);
+        let told = carry_out(rt, alloc, shelf, runner, writer, &mut set, &mut lists, task);
         if let Err(cause) = told {
             let line = step.line;
             return Err(RunFault { line, cause });
         }
     }
-    Ok(())
+    Ok(set)
 }

@@ -3,18 +3,18 @@
 ghost use Rattle.std.specs.Prelude.{◌≡◌, ◌≢◌, ◌+◌, ℕ, false, List, [], ◌∷◌, ◌++◌, Some, IfErr, OnOk};
 ghost use Rattle.std.specs.Prelude.{length};
 ghost use Rattle.rh_edit.specs.Held.{Held};
-ghost use Rattle.rh_files.specs.Counting.{Rose, failures_of, inner_of};
+ghost use Rattle.rh_files.specs.Counting.{failures_of, inner_of};
 ghost use Rattle.rh_script.specs.Instruction.{Use, Add, Drop, Ask, Keep, Flip, Save, Clear, Dump};
 ghost use Rattle.rh_script.specs.Instruction.{Snapshot, Restore};
 ghost use Rattle.rh_script.specs.Names.{is_given};
 ghost use Rattle.rh_shelf.specs.Shelf.{Files};
 ghost use Rattle.rh_planner.specs.declared.key_lists.KeyList.{KeyList};
-ghost use Rattle.rh_planner.specs.Ends.{KeepsRunner, KeepsShelf, LeavesShelf};
+ghost use Rattle.rh_planner.specs.Ends.{KeepsRunner, KeepsShelf, KeepsWriter, LeavesShelf};
+ghost use Rattle.rh_planner.specs.Environment.{Environment, environment};
 ghost use Rattle.rh_planner.specs.Files.{FileMap, HasFiles};
 ghost use Rattle.rh_planner.specs.KeyLists.{Stands, paths_of};
 ghost use Rattle.rh_planner.specs.Meaning.{adds, asks, clears, drops, dumps, flips, keeps, restores};
 ghost use Rattle.rh_planner.specs.Meaning.{saves, snapshots, uses};
-ghost use Rattle.rh_planner.specs.Outside.{IsOutside};
 ghost use Rattle.rh_planner.specs.Steps.{ListsStand, Named, PlainEnds, StateEnds, StepEnds, world_of};
 
 use crate::commands::{add, ask, drop_keys, flip, keep, saved, use_file};
@@ -48,19 +48,20 @@ pub(crate) fn add_step<T: Threads + Wait + Sync, S: Shelf, N: Runner, W: Write>(
 ) -> Result<(), Cause>
     ensures step { (lists : Named) (files : FileMap) (keys : List ℕ) →
         Stands (S.files shelf.old) list.now keys →
-        StepEnds (adds (world_of set.old lists files) name.now keys)
-        (IsOutside (Add name.now) (Rose (S.failures shelf.old) (S.failures shelf.new))
-        (Rose (N.refused_starts runner.old) (N.refused_starts runner.new)))
-        (world_of set.new lists files)
-        (W.contents (inner_of writer.old)) (W.contents (inner_of writer.new)) result }
+        StepEnds (record {
+          said = Add name.now;
+          outcome = adds (world_of set.old lists files) name.now keys;
+          before = environment (S.files shelf.old) (S.failures shelf.old)
+              (N.refused_starts runner.old) (W.contents (inner_of writer.old));
+          after = environment (S.files shelf.new) (S.failures shelf.new)
+              (N.refused_starts runner.new) (W.contents (inner_of writer.new));
+        }) (world_of set.new lists files) result }
     ensures unchanged { IfErr result (λ cause. cause ≢ Cause.Write → set.new ≡ set.old) }
     ensures shelf { KeepsShelf (S.files shelf.old) (S.files shelf.new) (S.failures shelf.old)
         (S.failures shelf.new) result }
     ensures runner { KeepsRunner (N.refused_starts runner.old) (N.refused_starts runner.new)
         result }
-    ensures write { IfErr result (λ cause. cause ≡ Cause.Write →
-        Rose (failures_of writer.old) (failures_of writer.new)) }
-    ensures written { OnOk result (failures_of writer.new ≡ failures_of writer.old) }
+    ensures writer { KeepsWriter (failures_of writer.old) (failures_of writer.new) result }
 {
     let tally = add(rt, alloc, shelf, runner, set, list)?;
     let (held, bits) = (set.len() as u64, set.bits());
@@ -81,19 +82,20 @@ pub(crate) fn drop_step<T: Threads + Wait + Sync, S: Shelf, N: Runner, W: Write>
 ) -> Result<(), Cause>
     ensures step { (lists : Named) (files : FileMap) (keys : List ℕ) →
         Stands (S.files shelf.old) list.now keys →
-        StepEnds (drops (world_of set.old lists files) name.now keys)
-        (IsOutside (Drop name.now) (Rose (S.failures shelf.old) (S.failures shelf.new))
-        (Rose (N.refused_starts runner.old) (N.refused_starts runner.new)))
-        (world_of set.new lists files)
-        (W.contents (inner_of writer.old)) (W.contents (inner_of writer.new)) result }
+        StepEnds (record {
+          said = Drop name.now;
+          outcome = drops (world_of set.old lists files) name.now keys;
+          before = environment (S.files shelf.old) (S.failures shelf.old)
+              (N.refused_starts runner.old) (W.contents (inner_of writer.old));
+          after = environment (S.files shelf.new) (S.failures shelf.new)
+              (N.refused_starts runner.new) (W.contents (inner_of writer.new));
+        }) (world_of set.new lists files) result }
     ensures unchanged { IfErr result (λ cause. cause ≢ Cause.Write → set.new ≡ set.old) }
     ensures shelf { KeepsShelf (S.files shelf.old) (S.files shelf.new) (S.failures shelf.old)
         (S.failures shelf.new) result }
     ensures runner { KeepsRunner (N.refused_starts runner.old) (N.refused_starts runner.new)
         result }
-    ensures write { IfErr result (λ cause. cause ≡ Cause.Write →
-        Rose (failures_of writer.old) (failures_of writer.new)) }
-    ensures written { OnOk result (failures_of writer.new ≡ failures_of writer.old) }
+    ensures writer { KeepsWriter (failures_of writer.old) (failures_of writer.new) result }
 {
     let tally = drop_keys(rt, alloc, shelf, runner, set, list)?;
     let (held, bits) = (set.len() as u64, set.bits());
@@ -114,18 +116,19 @@ pub(crate) fn ask_step<T: Threads + Wait + Sync, S: Shelf, N: Runner, W: Write>(
 ) -> Result<(), Cause>
     ensures step { (lists : Named) (files : FileMap) (keys : List ℕ) →
         Stands (S.files shelf.old) list.now keys →
-        StepEnds (asks (world_of set.now lists files) name.now keys)
-        (IsOutside (Ask name.now) (Rose (S.failures shelf.old) (S.failures shelf.new))
-        (Rose (N.refused_starts runner.old) (N.refused_starts runner.new)))
-        (world_of set.now lists files)
-        (W.contents (inner_of writer.old)) (W.contents (inner_of writer.new)) result }
+        StepEnds (record {
+          said = Ask name.now;
+          outcome = asks (world_of set.now lists files) name.now keys;
+          before = environment (S.files shelf.old) (S.failures shelf.old)
+              (N.refused_starts runner.old) (W.contents (inner_of writer.old));
+          after = environment (S.files shelf.new) (S.failures shelf.new)
+              (N.refused_starts runner.new) (W.contents (inner_of writer.new));
+        }) (world_of set.now lists files) result }
     ensures shelf { KeepsShelf (S.files shelf.old) (S.files shelf.new) (S.failures shelf.old)
         (S.failures shelf.new) result }
     ensures runner { KeepsRunner (N.refused_starts runner.old) (N.refused_starts runner.new)
         result }
-    ensures write { IfErr result (λ cause. cause ≡ Cause.Write →
-        Rose (failures_of writer.old) (failures_of writer.new)) }
-    ensures written { OnOk result (failures_of writer.new ≡ failures_of writer.old) }
+    ensures writer { KeepsWriter (failures_of writer.old) (failures_of writer.new) result }
 {
     let answers = ask(rt, alloc, shelf, runner, set, list)?;
     write_asked(writer, name, &answers)?;
@@ -145,19 +148,20 @@ pub(crate) fn keep_step<T: Threads + Wait + Sync, S: Shelf, N: Runner, W: Write>
 ) -> Result<(), Cause>
     ensures step { (lists : Named) (files : FileMap) (keys : List ℕ) →
         Stands (S.files shelf.old) list.now keys →
-        StepEnds (keeps (world_of set.old lists files) name.now keys)
-        (IsOutside (Keep name.now) (Rose (S.failures shelf.old) (S.failures shelf.new))
-        (Rose (N.refused_starts runner.old) (N.refused_starts runner.new)))
-        (world_of set.new lists files)
-        (W.contents (inner_of writer.old)) (W.contents (inner_of writer.new)) result }
+        StepEnds (record {
+          said = Keep name.now;
+          outcome = keeps (world_of set.old lists files) name.now keys;
+          before = environment (S.files shelf.old) (S.failures shelf.old)
+              (N.refused_starts runner.old) (W.contents (inner_of writer.old));
+          after = environment (S.files shelf.new) (S.failures shelf.new)
+              (N.refused_starts runner.new) (W.contents (inner_of writer.new));
+        }) (world_of set.new lists files) result }
     ensures unchanged { IfErr result (λ cause. cause ≢ Cause.Write → set.new ≡ set.old) }
     ensures shelf { KeepsShelf (S.files shelf.old) (S.files shelf.new) (S.failures shelf.old)
         (S.failures shelf.new) result }
     ensures runner { KeepsRunner (N.refused_starts runner.old) (N.refused_starts runner.new)
         result }
-    ensures write { IfErr result (λ cause. cause ≡ Cause.Write →
-        Rose (failures_of writer.old) (failures_of writer.new)) }
-    ensures written { OnOk result (failures_of writer.new ≡ failures_of writer.old) }
+    ensures writer { KeepsWriter (failures_of writer.old) (failures_of writer.new) result }
 {
     let found = keep(rt, alloc, shelf, runner, set, list)?;
     let (held, bits) = (set.len() as u64, set.bits());
@@ -178,19 +182,20 @@ pub(crate) fn flip_step<T: Threads + Wait + Sync, S: Shelf, N: Runner, W: Write>
 ) -> Result<(), Cause>
     ensures step { (lists : Named) (files : FileMap) (keys : List ℕ) →
         Stands (S.files shelf.old) list.now keys →
-        StepEnds (flips (world_of set.old lists files) name.now keys)
-        (IsOutside (Flip name.now) (Rose (S.failures shelf.old) (S.failures shelf.new))
-        (Rose (N.refused_starts runner.old) (N.refused_starts runner.new)))
-        (world_of set.new lists files)
-        (W.contents (inner_of writer.old)) (W.contents (inner_of writer.new)) result }
+        StepEnds (record {
+          said = Flip name.now;
+          outcome = flips (world_of set.old lists files) name.now keys;
+          before = environment (S.files shelf.old) (S.failures shelf.old)
+              (N.refused_starts runner.old) (W.contents (inner_of writer.old));
+          after = environment (S.files shelf.new) (S.failures shelf.new)
+              (N.refused_starts runner.new) (W.contents (inner_of writer.new));
+        }) (world_of set.new lists files) result }
     ensures unchanged { IfErr result (λ cause. cause ≢ Cause.Write → set.new ≡ set.old) }
     ensures shelf { KeepsShelf (S.files shelf.old) (S.files shelf.new) (S.failures shelf.old)
         (S.failures shelf.new) result }
     ensures runner { KeepsRunner (N.refused_starts runner.old) (N.refused_starts runner.new)
         result }
-    ensures write { IfErr result (λ cause. cause ≡ Cause.Write →
-        Rose (failures_of writer.old) (failures_of writer.new)) }
-    ensures written { OnOk result (failures_of writer.new ≡ failures_of writer.old) }
+    ensures writer { KeepsWriter (failures_of writer.old) (failures_of writer.new) result }
 {
     let (out, into) = flip(rt, alloc, shelf, runner, set, list)?;
     let (held, bits) = (set.len() as u64, set.bits());
@@ -207,21 +212,23 @@ pub(crate) fn use_step<'a, S: Shelf, W: Write>(
     name: &str,
     path: &'a str,
 ) -> Result<(), Cause>
-    ensures step { (set : Held) (named : Named) (files : FileMap) →
+    ensures step { (set : Held) (named : Named) (files : FileMap) (starts : ℕ) →
         HasFiles files (S.files shelf.old) → ListsStand (S.files shelf.old) lists.old.items named →
-        PlainEnds (uses (world_of set named files) name.now path.now)
-        (IsOutside (Use name.now path.now) (Rose (S.failures shelf.old) (S.failures shelf.new)) ⊥)
-        files (S.files shelf.old) set lists.new.items
-        (W.contents (inner_of writer.old)) (W.contents (inner_of writer.new)) result }
+        PlainEnds (record {
+          said = Use name.now path.now;
+          outcome = uses (world_of set named files) name.now path.now;
+          before = environment (S.files shelf.old) (S.failures shelf.old) starts
+              (W.contents (inner_of writer.old));
+          after = environment (S.files shelf.new) (S.failures shelf.new) starts
+              (W.contents (inner_of writer.new));
+        }) files set lists.new.items result }
     ensures more { OnOk result (length lists.new.items ≡ length lists.old.items + 1) }
     ensures paths { OnOk result
         (paths_of lists.new.items ≡ paths_of lists.old.items ++ path.now ∷ []) }
     ensures shelf { KeepsShelf (S.files shelf.old) (S.files shelf.new) (S.failures shelf.old)
         (S.failures shelf.new) result }
     ensures no_thread { IfErr result (λ cause. cause ≡ Cause.NoThread → ⊥) }
-    ensures write { IfErr result (λ cause. cause ≡ Cause.Write →
-        Rose (failures_of writer.old) (failures_of writer.new)) }
-    ensures written { OnOk result (failures_of writer.new ≡ failures_of writer.old) }
+    ensures writer { KeepsWriter (failures_of writer.old) (failures_of writer.new) result }
 {
     let count = use_file(alloc, shelf, path)?;
     let source = Source::Path(path);
@@ -238,16 +245,17 @@ pub(crate) fn save_step<W: Write>(
     lists: &mut Vec<KeyList<'_>>,
     name: &str,
 ) -> Result<(), Cause>
-    ensures step { (named : Named) (files : FileMap) (now : Files) →
-        ListsStand (Some now) lists.old.items named →
-        PlainEnds (saves (world_of set.now named files) name.now) (IsOutside (Save name.now) ⊥ ⊥)
-        files (Some now) set.now lists.new.items
-        (W.contents (inner_of writer.old)) (W.contents (inner_of writer.new)) result }
+    ensures step { (named : Named) (files : FileMap) (here : Environment) (known : Files) →
+        here.files ≡ Some known → ListsStand here.files lists.old.items named →
+        PlainEnds (record {
+          said = Save name.now;
+          outcome = saves (world_of set.now named files) name.now;
+          before = record here { text = W.contents (inner_of writer.old) };
+          after = record here { text = W.contents (inner_of writer.new) };
+        }) files set.now lists.new.items result }
     ensures more { OnOk result (length lists.new.items ≡ length lists.old.items + 1) }
     ensures paths { OnOk result (paths_of lists.new.items ≡ paths_of lists.old.items) }
-    ensures write { IfErr result (λ cause. cause ≡ Cause.Write →
-        Rose (failures_of writer.old) (failures_of writer.new)) }
-    ensures written { OnOk result (failures_of writer.new ≡ failures_of writer.old) }
+    ensures writer { KeepsWriter (failures_of writer.old) (failures_of writer.new) result }
     ensures not_missing { IfErr result (λ cause. cause ≡ Cause.Missing → ⊥) }
     ensures not_put { IfErr result (λ cause. cause ≡ Cause.Put → ⊥) }
     ensures no_thread { IfErr result (λ cause. cause ≡ Cause.NoThread → ⊥) }
@@ -265,14 +273,15 @@ pub(crate) fn clear_step<W: Write>(
     writer: &mut Counted<W>,
     set: &mut SeqSet,
 ) -> Result<(), Cause>
-    ensures step { (lists : Named) (files : FileMap) →
-        StepEnds (clears (world_of set.old lists files)) (IsOutside Clear ⊥ ⊥)
-        (world_of set.new lists files)
-        (W.contents (inner_of writer.old)) (W.contents (inner_of writer.new)) result }
+    ensures step { (lists : Named) (files : FileMap) (here : Environment) →
+        StepEnds (record {
+          said = Clear;
+          outcome = clears (world_of set.old lists files);
+          before = record here { text = W.contents (inner_of writer.old) };
+          after = record here { text = W.contents (inner_of writer.new) };
+        }) (world_of set.new lists files) result }
     ensures unchanged { IfErr result (λ cause. cause ≢ Cause.Write → set.new ≡ set.old) }
-    ensures write { IfErr result (λ cause. cause ≡ Cause.Write →
-        Rose (failures_of writer.old) (failures_of writer.new)) }
-    ensures written { OnOk result (failures_of writer.new ≡ failures_of writer.old) }
+    ensures writer { KeepsWriter (failures_of writer.old) (failures_of writer.new) result }
     ensures not_missing { IfErr result (λ cause. cause ≡ Cause.Missing → ⊥) }
     ensures not_put { IfErr result (λ cause. cause ≡ Cause.Put → ⊥) }
     ensures no_thread { IfErr result (λ cause. cause ≡ Cause.NoThread → ⊥) }
@@ -283,15 +292,15 @@ pub(crate) fn clear_step<W: Write>(
 }
 
 /// `dump`: the table is told.
-
 pub(crate) fn dump_step<W: Write>(writer: &mut Counted<W>, set: &SeqSet) -> Result<(), Cause>
-    ensures step { (lists : Named) (files : FileMap) →
-        StepEnds (dumps (world_of set.now lists files)) (IsOutside Dump ⊥ ⊥)
-        (world_of set.now lists files)
-        (W.contents (inner_of writer.old)) (W.contents (inner_of writer.new)) result }
-    ensures write { IfErr result (λ cause. cause ≡ Cause.Write →
-        Rose (failures_of writer.old) (failures_of writer.new)) }
-    ensures written { OnOk result (failures_of writer.new ≡ failures_of writer.old) }
+    ensures step { (lists : Named) (files : FileMap) (here : Environment) →
+        StepEnds (record {
+          said = Dump;
+          outcome = dumps (world_of set.now lists files);
+          before = record here { text = W.contents (inner_of writer.old) };
+          after = record here { text = W.contents (inner_of writer.new) };
+        }) (world_of set.now lists files) result }
+    ensures writer { KeepsWriter (failures_of writer.old) (failures_of writer.new) result }
     ensures not_missing { IfErr result (λ cause. cause ≡ Cause.Missing → ⊥) }
     ensures not_put { IfErr result (λ cause. cause ≡ Cause.Put → ⊥) }
     ensures no_thread { IfErr result (λ cause. cause ≡ Cause.NoThread → ⊥) }
@@ -308,18 +317,21 @@ pub(crate) fn snapshot_step<S: Shelf, W: Write>(
     set: &SeqSet,
     path: &str,
 ) -> Result<(), Cause>
-    ensures step { (lists : List KeyList) (named : Named) (files : FileMap) →
+    ensures step { (lists : List KeyList) (named : Named) (files : FileMap) (starts : ℕ) →
         HasFiles files (S.files shelf.old) → ListsStand (S.files shelf.old) lists named →
         is_given path.now (paths_of lists) ≡ false →
-        StateEnds (snapshots (world_of set.now named files) path.now) (Snapshot path.now)
-        (Rose (S.failures shelf.old) (S.failures shelf.new)) ⊥ files (S.files shelf.new) set.now lists
-        (W.contents (inner_of writer.old)) (W.contents (inner_of writer.new)) result }
+        StateEnds (record {
+          said = Snapshot path.now;
+          outcome = snapshots (world_of set.now named files) path.now;
+          before = environment (S.files shelf.old) (S.failures shelf.old) starts
+              (W.contents (inner_of writer.old));
+          after = environment (S.files shelf.new) (S.failures shelf.new) starts
+              (W.contents (inner_of writer.new));
+        }) files set.now lists result }
     ensures shelf { LeavesShelf (S.files shelf.old) (S.files shelf.new) (S.failures shelf.old)
         (S.failures shelf.new) result }
     ensures no_thread { IfErr result (λ cause. cause ≡ Cause.NoThread → ⊥) }
-    ensures write { IfErr result (λ cause. cause ≡ Cause.Write →
-        Rose (failures_of writer.old) (failures_of writer.new)) }
-    ensures written { OnOk result (failures_of writer.new ≡ failures_of writer.old) }
+    ensures writer { KeepsWriter (failures_of writer.old) (failures_of writer.new) result }
 {
     put_snapshot(alloc, shelf, path, set)?;
     write_sealed(writer, path, set.len() as u64, set.bits())?;
@@ -334,18 +346,21 @@ pub(crate) fn restore_step<S: Shelf, W: Write>(
     set: &mut SeqSet,
     path: &str,
 ) -> Result<(), Cause>
-    ensures step { (lists : Named) (files : FileMap) → HasFiles files (S.files shelf.old) →
-        StepEnds (restores (world_of set.old lists files) path.now)
-        (IsOutside (Restore path.now) (Rose (S.failures shelf.old) (S.failures shelf.new)) ⊥)
-        (world_of set.new lists files)
-        (W.contents (inner_of writer.old)) (W.contents (inner_of writer.new)) result }
+    ensures step { (lists : Named) (files : FileMap) (starts : ℕ) →
+        HasFiles files (S.files shelf.old) →
+        StepEnds (record {
+          said = Restore path.now;
+          outcome = restores (world_of set.old lists files) path.now;
+          before = environment (S.files shelf.old) (S.failures shelf.old) starts
+              (W.contents (inner_of writer.old));
+          after = environment (S.files shelf.new) (S.failures shelf.new) starts
+              (W.contents (inner_of writer.new));
+        }) (world_of set.new lists files) result }
     ensures unchanged { IfErr result (λ cause. cause ≢ Cause.Write → set.new ≡ set.old) }
     ensures shelf { KeepsShelf (S.files shelf.old) (S.files shelf.new) (S.failures shelf.old)
         (S.failures shelf.new) result }
     ensures no_thread { IfErr result (λ cause. cause ≡ Cause.NoThread → ⊥) }
-    ensures write { IfErr result (λ cause. cause ≡ Cause.Write →
-        Rose (failures_of writer.old) (failures_of writer.new)) }
-    ensures written { OnOk result (failures_of writer.new ≡ failures_of writer.old) }
+    ensures writer { KeepsWriter (failures_of writer.old) (failures_of writer.new) result }
 {
     *set = restored(alloc, shelf, path)?;
     write_restored(writer, path, set.len() as u64, set.bits())?;

@@ -1,14 +1,14 @@
 //! The steps of a plan.
 
 ghost use Rattle.std.specs.Prelude.{◌≡◌, ◌≢◌, ◌+◌, ◌++◌, IfErr, OnOk, length};
-ghost use Rattle.rh_files.specs.Counting.{Rose, failures_of, inner_of};
+ghost use Rattle.rh_files.specs.Counting.{failures_of, inner_of};
 ghost use Rattle.rh_script.specs.Names.{file_of, given_by};
 ghost use Rattle.rh_script.specs.Plan.{number_after};
 ghost use Rattle.rh_script.specs.Tasks.{task_as};
-ghost use Rattle.rh_planner.specs.Ends.{KeepsRunner, LeavesShelf};
+ghost use Rattle.rh_planner.specs.Ends.{KeepsRunner, KeepsWriter, LeavesShelf, step_in};
+ghost use Rattle.rh_planner.specs.Environment.{environment};
 ghost use Rattle.rh_planner.specs.Files.{FileMap, HasFiles};
 ghost use Rattle.rh_planner.specs.KeyLists.{paths_of};
-ghost use Rattle.rh_planner.specs.Meaning.{outcome_of};
 ghost use Rattle.rh_planner.specs.Steps.{HasList, IsApart, ListsStand, Named, StateEnds};
 ghost use Rattle.rh_planner.specs.Steps.{names_of, world_of};
 
@@ -45,11 +45,11 @@ pub(crate) fn carry_out<'a, T: Threads + Wait + Sync, S: Shelf, N: Runner, W: Wr
         ListsStand (S.files shelf.old) lists.old.items named →
         number_after (names_of named) (task_as task.now).0 ≡ (task_as task.now).1 →
         IsApart task.now lists.old.items →
-        StateEnds (outcome_of (world_of set.old named files) (task_as task.now).0)
-        (task_as task.now).0 (Rose (S.failures shelf.old) (S.failures shelf.new))
-        (Rose (N.refused_starts runner.old) (N.refused_starts runner.new))
-        files (S.files shelf.new) set.new lists.new.items
-        (W.contents (inner_of writer.old)) (W.contents (inner_of writer.new)) result }
+        StateEnds (step_in (world_of set.old named files) (task_as task.now).0
+        (environment (S.files shelf.old) (S.failures shelf.old) (N.refused_starts runner.old)
+        (W.contents (inner_of writer.old)))
+        (environment (S.files shelf.new) (S.failures shelf.new) (N.refused_starts runner.new)
+        (W.contents (inner_of writer.new)))) files set.new lists.new.items result }
     ensures lists { OnOk result (length lists.new.items
         ≡ length lists.old.items + length (given_by (task_as task.now).0)) }
     ensures paths { OnOk result (paths_of lists.new.items
@@ -59,9 +59,7 @@ pub(crate) fn carry_out<'a, T: Threads + Wait + Sync, S: Shelf, N: Runner, W: Wr
         (S.failures shelf.new) result }
     ensures runner { KeepsRunner (N.refused_starts runner.old) (N.refused_starts runner.new)
         result }
-    ensures write { IfErr result (λ cause. cause ≡ Cause.Write →
-        Rose (failures_of writer.old) (failures_of writer.new)) }
-    ensures written { OnOk result (failures_of writer.new ≡ failures_of writer.old) }
+    ensures writer { KeepsWriter (failures_of writer.old) (failures_of writer.new) result }
 {
     match *task {
         Task::Use { name, path, .. } => use_step(alloc, shelf, writer, lists, name, path),

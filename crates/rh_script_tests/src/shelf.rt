@@ -15,7 +15,7 @@ fn a_shelf_gives_what_was_put(rt: HostRuntime) -> Result<(), Fail> {
     let mut shelf = two_files(rt.alloc())?;
     let mut bytes = [b'-'; 6];
     for (text, many, read) in [(b"one", 3, b"one---"), (b"six", 3, b"six---")] {
-        // Put again, it stands inplace of what stood there.
+        // Put again, it stands in place of what stood there.
         shelf.put(rt.alloc(), "a", text)?;
         let mut reader = shelf.fetch(rt.alloc(), "a")?;
         assert_eq!(rt; reader.read(&mut bytes).ok(), Some(many));

@@ -57,7 +57,7 @@ pub trait Shelf {
         ensures fine { OnOk result (failures self.new ≡ failures self.old) }
         ensures same_files { files self.new ≡ files self.old };
 
-    /// Puts the bytes at the path, inplace of what stood there. After a fault that path alone is
+    /// Puts the bytes at the path, in place of what stood there. After a fault that path alone is
     /// in doubt. Never `Missing`.
     fn put(&mut self, alloc: Global, path: &str, bytes: &[u8]) -> Result<(), ShelfFault>
         ensures put { OnOk result (Puts (files self.old) (files self.new) path.now bytes.now) }

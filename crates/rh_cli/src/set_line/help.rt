@@ -14,7 +14,7 @@ Exit status:
   0  done
   1  the input was refused
   2  the command line was refused
-  3  out of memory
+  3  out of memory, or a thread could not be started
   4  the output or a snapshot could not be written";
 
 /// The command `dump`, in a line.
@@ -101,7 +101,7 @@ what there is, in this order:
   held KEY ..    the keys that the table holds at first, or none
   rooms D M      a worker has D descriptors and M marks in a round; may be left out
   work KEY ..    the keys of a worker, or none: a line for each of 1 to 16 workers, from worker 0 on
-  share W KEY .. the keys that W workers share, inplace of all lines `work`
+  share W KEY .. the keys that W workers share, in place of all lines `work`
 
 Then comes any number of these, in any order:
   turn W N       N turns of worker W: in each it makes a step, if it has one left

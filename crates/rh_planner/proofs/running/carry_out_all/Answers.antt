@@ -18,7 +18,7 @@ loop-step-init g c = record {
   started = refl;
   written = refl;
   many = λ steps planned. ap length c.new-lists.ensures.items;
-  reached = λ files steps known planned fresh. reached_start files (g.S.Shelf.files c.args.shelf.now) c.args.set.now c.new-lists.result.items _ known c.requires.keys c.requires.bits c.new-lists.ensures.items;
+  reached = λ files steps known planned fresh. reached_start files _ c.args.set c.new-lists.result.items known c.requires.keys c.requires.bits c.new-lists.ensures.items;
 }
 
 pub returns-in-Err-clause-meant : goal.returns-in-Err-clause-meant
@@ -27,8 +27,8 @@ returns-in-Err-clause-meant g c files steps known planned fresh =
     let here = step_at c.steps-step-items.result.now steps i _ (c.steps-step-items.ensures ∙ planned) c.loop-step-test.true in
     let so_far = c.loop-step.invariant.reached files steps known planned fresh in
     let apart = is_apart c.loop-step.lists.items steps i _ fresh here so_far.paths in
-    let ends = c.in-Err.ensures.step so_far.done.named so_far.done.made so_far.done.has so_far.stand (its_number files steps i _ _ _ _ _ _ here so_far) apart in
-    stops_here files steps i _ _ _ _ _ _ here so_far _ _ _ _ _ _ _ _ _ c.loop-step.invariant.fine c.loop-step.invariant.started ends
+    let ends = c.in-Err.ensures.step so_far.done.named so_far.done.made so_far.done.has so_far.stand (its_number files steps i _ _ _ here so_far) apart in
+    stops_here files steps i _ _ _ here so_far _ _ c.loop-step.invariant.fine c.loop-step.invariant.started ends
 
 pub loop-step-preserved : goal.loop-step-preserved
 loop-step-preserved g c =
@@ -37,7 +37,7 @@ loop-step-preserved g c =
       still_unknown = λ unknown. c.in_default.ensures.shelf.still_unknown (c.loop-step.invariant.still_unknown unknown);
       fine = c.in_default.ensures.shelf.fine ∙ c.loop-step.invariant.fine;
       started = c.in_default.ensures.runner.fine ∙ c.loop-step.invariant.started;
-      written = c.in_default.ensures.written ∙ c.loop-step.invariant.written;
+      written = c.in_default.ensures.writer.fine ∙ c.loop-step.invariant.written;
       many = λ steps planned.
           let here = step_at c.steps-step-items.result.now steps i _ (c.steps-step-items.ensures ∙ planned) c.loop-step-test.true in
           more_lists steps i here.numbered _ _ _ here.more here.said (c.loop-step.invariant.many steps planned) c.in_default.ensures.lists;
@@ -45,10 +45,10 @@ loop-step-preserved g c =
           let here = step_at c.steps-step-items.result.now steps i _ (c.steps-step-items.ensures ∙ planned) c.loop-step-test.true in
           let so_far = c.loop-step.invariant.reached files steps known planned fresh in
           let apart = is_apart c.loop-step.lists.items steps i _ fresh here so_far.paths in
-          let did = c.in_default.ensures.step so_far.done.named so_far.done.made so_far.done.has so_far.stand (its_number files steps i _ _ _ _ _ _ here so_far) apart in
-          goes_on files steps i _ _ _ _ _ _ here so_far _ _ _ _ did c.in_default.ensures.paths;
+          let did = c.in_default.ensures.step so_far.done.named so_far.done.made so_far.done.has so_far.stand (its_number files steps i _ _ _ here so_far) apart in
+          goes_on files steps i _ _ _ here so_far _ did c.in_default.ensures.paths;
     }
 
 pub returns-clause-meant : goal.returns-clause-meant
 returns-clause-meant g c files steps known planned fresh =
-    all_carried_out files _ c.steps-step-items.result.now steps c.loop-step.step-index _ _ _ _ (c.steps-step-items.ensures ∙ planned) c.loop-step-test.false (c.loop-step.invariant.reached files steps known planned fresh)
+    all_carried_out files c.steps-step-items.result.now steps c.loop-step.step-index _ _ (c.steps-step-items.ensures ∙ planned) c.loop-step-test.false (c.loop-step.invariant.reached files steps known planned fresh)

@@ -4,6 +4,7 @@ use Rattle.rh_script.specs.Names.{SnapshotsAreNew, names_in}
 use Rattle.rh_script.specs.Plan.{plan_of}
 use Rattle.rh_script.specs.Tasks.{planned_of}
 use Rattle.rh_shelf.specs.Shelf.{Files}
+use Rattle.rh_planner.specs.Environment.{environment}
 use Rattle.rh_planner.specs.Reached.{Reached}
 use Rattle.rh_planner.proofs.running.carry_out_all.Given as goal
 
@@ -14,5 +15,10 @@ invariant-loop-step g l = record {
   started : g.N.Runner.refused_starts l.runner ≡ g.N.Runner.refused_starts l.fn.runner;
   written : l.writer.failures ≡ l.fn.writer.failures;
   many : (steps : List Numbered) → planned_of l.fn.plan ≡ plan_of steps → length l.lists.items ≡ length (names_in (take l.step-index steps));
-  reached : (files : Files) (steps : List Numbered) → g.S.Shelf.files l.fn.shelf ≡ Some files → planned_of l.fn.plan ≡ plan_of steps → SnapshotsAreNew steps → Reached files (g.S.Shelf.files l.shelf) (take l.step-index steps) l.set l.lists.items (g.W.Write.contents l.fn.writer.inner) (g.W.Write.contents l.writer.inner);
+  reached : (files : Files) (steps : List Numbered) → g.S.Shelf.files l.fn.shelf ≡ Some files → planned_of l.fn.plan ≡ plan_of steps → SnapshotsAreNew steps
+      → Reached files (take l.step-index steps) (environment (g.S.Shelf.files l.fn.shelf) (g.S.Shelf.failures l.fn.shelf) (g.N.Runner.refused_starts l.fn.runner) (g.W.Write.contents l.fn.writer.inner)) (record {
+        set = l.set;
+        lists = l.lists.items;
+        environment = environment (g.S.Shelf.files l.shelf) (g.S.Shelf.failures l.shelf) (g.N.Runner.refused_starts l.runner) (g.W.Write.contents l.writer.inner);
+      });
 }

@@ -1,4 +1,5 @@
-use Rattle.std.proofs.Common.{◌≡◌, ◌∙◌, inr, refl, sym, Ok}
+use Rattle.std.proofs.Common.{◌≡◌, ◌∙◌, inl, inr, refl, sym, Ok}
+use Rattle.std.proofs.KnownBytes.{Appends-nil}
 use Rattle.std.proofs.lemmas.Result.{err_from_is_err_and}
 use Rattle.rh_files.specs.Counting.{Rose}
 use Rattle.rh_script.specs.Instruction.{Ask}
@@ -16,7 +17,7 @@ returns-in_err-answers-clause-step g c lists files keys stands =
     let known = known_stands _ _ keys stands in
     let failed : Type 0 = Rose (g.S.Shelf.failures c.args.shelf.now) (g.S.Shelf.failures c.ask.new.shelf) in
     let refused : Type 0 = Rose (g.N.Runner.refused_starts c.args.runner.now) (g.N.Runner.refused_starts c.ask.new.runner) in
-    rw (p.1, p.2) (none_refused (IsOutside (Ask c.args.name.now) failed refused) _ _ _ keys _ (stands_again known.0 _ keys known.2) (c.in_err-answers.ensures.refused known.0 known.1))
+    rw (p.1, p.2) (inl (Appends-nil _, none_refused (IsOutside (Ask c.args.name.now) failed refused) _ _ keys _ (stands_again known.0 _ keys known.2) (c.in_err-answers.ensures.refused known.0 known.1)))
 
 pub returns-in_err-write_asked-clause-step : goal.returns-in_err-write_asked-clause-step
 returns-in_err-write_asked-clause-step g c lists files keys stands =

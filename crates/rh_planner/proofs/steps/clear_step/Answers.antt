@@ -6,6 +6,6 @@ use Rattle.rh_planner.proofs.StepLemmas.{not_told}
 use Rattle.rh_planner.proofs.steps.clear_step.Goals as goal
 
 pub returns-in_err-write_cleared-clause-step : goal.returns-in_err-write_cleared-clause-step
-returns-in_err-write_cleared-clause-step g c lists files =
+returns-in_err-write_cleared-clause-step g c lists files here =
     let p = err_from_is_err_and c.from_residual-in_err-write_cleared.result c.from_residual-in_err-write_cleared.ensures.1 in
     rw (p.1, p.2) (inr (not_told _ _ _ (world_of c.in_ok-set.field-0 lists files) Cleared _ (λ i. Ok (record (world_of c.args.set.now lists files) { held = sym c.in_ok-set.ensures.keys i; bits = sym c.in_ok-set.ensures.bits i }, Cleared)) refl c.in_err-write_cleared.ensures.text))

@@ -1,4 +1,5 @@
-use Rattle.std.proofs.Common.{◌≡◌, ◌∙◌, inr, refl, sym, rules}
+use Rattle.std.proofs.Common.{◌≡◌, ◌∙◌, inl, inr, refl, sym, rules}
+use Rattle.std.proofs.KnownBytes.{Appends-nil}
 use Rattle.std.proofs.lemmas.Result.{err_from_is_err_and}
 use Rattle.rh_files.specs.Counting.{Rose}
 use Rattle.rh_script.specs.Instruction.{Restore}
@@ -9,15 +10,15 @@ use Rattle.rh_planner.proofs.StepLemmas.{found_refused, not_told, restores_is}
 use Rattle.rh_planner.proofs.steps.restore_step.Goals as goal
 
 pub returns-in_err-set-clause-step : goal.returns-in_err-set-clause-step
-returns-in_err-set-clause-step g c lists files has =
+returns-in_err-set-clause-step g c lists files starts has =
     let p = err_from_is_err_and c.from_residual.result c.from_residual.ensures.1 in
     let known = known_files files (g.S.Shelf.files c.args.shelf.now) has in
     let same = same_table files (g.S.Shelf.files c.args.shelf.now) known.0 known.1 has c.args.path.now in
     let failed : Type 0 = Rose (g.S.Shelf.failures c.args.shelf.now) (g.S.Shelf.failures c.restored.new.shelf) in
-    rw (p.1, p.2) (found_refused (IsOutside (Restore c.args.path.now) failed ⊥) _ _ _ _ _ same (c.in_err-set.ensures.refused known.0 known.1))
+    rw (p.1, p.2) (inl (Appends-nil _, found_refused (IsOutside (Restore c.args.path.now) failed (Rose starts starts)) _ _ _ _ same (c.in_err-set.ensures.refused known.0 known.1)))
 
 pub returns-in_err-write_restored-clause-step : goal.returns-in_err-write_restored-clause-step
-returns-in_err-write_restored-clause-step g c lists files has =
+returns-in_err-write_restored-clause-step g c lists files starts has =
     let p = err_from_is_err_and c.from_residual-in_err-write_restored.result c.from_residual-in_err-write_restored.ensures.1 in
     let known = known_files files (g.S.Shelf.files c.args.shelf.now) has in
     let same = same_table files (g.S.Shelf.files c.args.shelf.now) known.0 known.1 has c.args.path.now in
@@ -27,7 +28,7 @@ returns-in_err-write_restored-clause-step g c lists files has =
     rw (p.1, p.2) (inr (not_told _ _ _ _ _ _ (restores_is c.args.set.now new lists files c.args.path.now _ _ (sym same ∙ c.in_ok-set.ensures.restored known.0 known.1) held bits) refl c.in_err-write_restored.ensures.text))
 
 pub returns-clause-step : goal.returns-clause-step
-returns-clause-step g c lists files has =
+returns-clause-step g c lists files starts has =
     let known = known_files files (g.S.Shelf.files c.args.shelf.now) has in
     let same = same_table files (g.S.Shelf.files c.args.shelf.now) known.0 known.1 has c.args.path.now in
     let new = c.in_ok-set.field-0 in

@@ -7,7 +7,7 @@ use Rattle.rh_planner.proofs.StepLemmas.{not_told, snapshots_is}
 use Rattle.rh_planner.proofs.steps.snapshot_step.Goals as goal
 
 pub returns-in_err-write_sealed-clause-step : goal.returns-in_err-write_sealed-clause-step
-returns-in_err-write_sealed-clause-step g c lists named files has stand apart =
+returns-in_err-write_sealed-clause-step g c lists named files starts has stand apart =
     let p = err_from_is_err_and c.from_residual-in_err-write_sealed.result c.from_residual-in_err-write_sealed.ensures.1 in
     let path = c.args.path.now in
     let put = c.in_ok-put_snapshot.ensures.put in
@@ -18,7 +18,7 @@ returns-in_err-write_sealed-clause-step g c lists named files has stand apart =
     rw (p.1, p.2) (inr (not_told _ _ _ _ _ _ is refl c.in_err-write_sealed.ensures.text), (_, is, there))
 
 pub returns-clause-step : goal.returns-clause-step
-returns-clause-step g c lists named files has stand apart =
+returns-clause-step g c lists named files starts has stand apart =
     let path = c.args.path.now in
     let put = c.in_ok-put_snapshot.ensures.put in
     let held : c.len.result ≡ set.len c.args.set.now.keys = search rules in

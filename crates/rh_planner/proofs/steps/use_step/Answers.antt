@@ -1,4 +1,5 @@
-use Rattle.std.proofs.Common.{◌≡◌, ◌∙◌, ◌∷◌, ◌++◌, [], inr, refl, sym, subst, rules, Some}
+use Rattle.std.proofs.Common.{◌≡◌, ◌∙◌, ◌∷◌, ◌++◌, [], inl, inr, refl, sym, subst, rules, Some}
+use Rattle.std.proofs.KnownBytes.{Appends-nil}
 use Rattle.std.proofs.lemmas.Result.{err_from_is_err_and}
 use Rattle.rh_files.specs.Counting.{Rose}
 use Rattle.rh_script.specs.Instruction.{Use}
@@ -13,16 +14,16 @@ use Rattle.rh_planner.proofs.StepLemmas.{found_refused, not_told, uses_is}
 use Rattle.rh_planner.proofs.steps.use_step.Goals as goal
 
 pub returns-in_err-count-clause-step : goal.returns-in_err-count-clause-step
-returns-in_err-count-clause-step g c set named files has stand =
+returns-in_err-count-clause-step g c set named files starts has stand =
     let p = err_from_is_err_and c.from_residual.result c.from_residual.ensures.1 in
     let path = c.args.path.now in
     let known = known_files files (g.S.Shelf.files c.args.shelf.now) has in
     let same = same_keys files (g.S.Shelf.files c.args.shelf.now) known.0 known.1 has path in
     let failed : Type 0 = Rose (g.S.Shelf.failures c.args.shelf.now) (g.S.Shelf.failures c.use_file.new.shelf) in
-    rw (p.1, p.2) (found_refused (IsOutside (Use c.args.name.now c.args.path.now) failed ⊥) _ _ _ _ _ same (c.in_err-count.ensures.refused known.0 known.1))
+    rw (p.1, p.2) (inl (Appends-nil _, found_refused (IsOutside (Use c.args.name.now c.args.path.now) failed (Rose starts starts)) _ _ _ _ same (c.in_err-count.ensures.refused known.0 known.1)))
 
 pub returns-in_err-write_used-clause-step : goal.returns-in_err-write_used-clause-step
-returns-in_err-write_used-clause-step g c set named files has stand =
+returns-in_err-write_used-clause-step g c set named files starts has stand =
     let p = err_from_is_err_and c.from_residual-in_err-write_used.result c.from_residual-in_err-write_used.ensures.1 in
     let path = c.args.path.now in
     let known = known_files files (g.S.Shelf.files c.args.shelf.now) has in
@@ -31,7 +32,7 @@ returns-in_err-write_used-clause-step g c set named files has stand =
     rw (p.1, p.2) (inr (not_told _ _ _ _ _ _ (uses_is set named files c.args.name.now path used.0 c.in_ok-count.count (sym same ∙ used.1) used.2) refl c.in_err-write_used.ensures.text))
 
 pub returns-clause-step : goal.returns-clause-step
-returns-clause-step g c set named files has stand =
+returns-clause-step g c set named files starts has stand =
     let name = c.args.name.now in
     let path = c.args.path.now in
     let before = g.S.Shelf.files c.args.shelf.now in
