@@ -1,6 +1,6 @@
 -- The kinds of step on the words of a table: when a worker may make one, which word it touches, what becomes of the word,
--- and what the worker notes. Each is the swap, store, load or increment of one word. The swaps are those of Harris,
--- Fraser and Pratt 2002; that each worker places marks of its own, and Claims, are this project's.
+-- and what the worker notes. Each is one load, store or exchange, compare-and-swap or increment of one word. The swaps are
+-- those of Harris, Fraser and Pratt 2002; that each worker places marks of its own, and Claims, are this project's.
 use Rattle.std.specs.Prelude.{zero, suc, ◌≡◌, ℕ, ◌+◌, ◌<◌, ◌≤◌, ◌%◌, ◌^◌, ◌==◌, ◌&&◌, ◌||◌, ◌⊎◌, Option, Some, None, Bool, true, false, cond, List, [], ◌∷◌, ◌++◌, length, slice_index, slice_set}
 use Rattle.rh_world.specs.World.{Ref, Control, In, is_ref}
 use Rattle.rh_world.specs.World.Control.{unused, undecided, succeeded, withdrawn, failed}

@@ -1,4 +1,4 @@
--- What a worker's seat keeps of it: what it has done and knows, its own rows, and how far a wipe is.
+-- What is kept of a worker: what it has done and knows, its own rows, and how far a wipe is.
 use Rattle.std.specs.Prelude.{ℕ, Option, None, List, []}
 use Rattle.rh_world.specs.World.{Ref}
 use Rattle.rh_world.specs.Sides.{Side, new_side}

@@ -7,8 +7,8 @@ pub const MAX_WORKERS: usize = 16;
 /// for more serial numbers.
 pub const MAX_ROOM: u64 = (1 << 56) - 1;
 
-/// How many words a worker's descriptor row has before its entries: the control, the serial number,
-/// and the number of the entries.
+/// How many words of a worker's descriptor row come before the entries: the control, the serial
+/// number and the length.
 pub const HEAD_WORDS: usize = 3;
 
 /// How many words an entry has: its cell, and its old and its new value.

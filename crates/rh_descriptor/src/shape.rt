@@ -61,7 +61,7 @@ pub enum Part {
     MarkEntry { worker: usize },
     /// What a worker tells the owner of a descriptor: the entry at which it decided that it failed.
     Note { worker: usize, owner: usize },
-    /// How many places of the list of keys were claimed.
+    /// How many Claims were made.
     Counter,
 }
 

@@ -1,4 +1,5 @@
-//! The state of one worker.
+//! The state of one worker. When it runs it has its number, its counts and a control; what it has done
+//! and knows is kept for contracts alone.
 
 ghost use Rattle.std.specs.Prelude.{◌≡◌};
 ghost use Rattle.rh_descriptor.specs.Asks.{step_of};

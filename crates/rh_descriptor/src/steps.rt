@@ -11,7 +11,7 @@ use crate::side::Side;
 use crate::words::{desc_word, mark_word};
 use rh_tagword::{State, pack_control};
 
-/// The kinds of step. Each is one load, one store, one compare-and-swap or one increment of one word.
+/// The kinds of step. Each is one load, store or exchange, compare-and-swap or increment of one word.
 #[derive(Clone, Copy, Debug, PartialEq, Eq)]
 pub enum StepKind {
     Write,
@@ -32,7 +32,7 @@ pub enum Ask {
         part: Part,
         word: u64,
     },
-    /// Open of the next own descriptor, which has so many entries, inplace of the last one.
+    /// Open of the next own descriptor, which has so many entries, in place of the last one.
     Open {
         entries: usize,
     },

@@ -20,7 +20,6 @@ use std::io::Read;
 /// How many keys are read at once: their bytes are a part, which lies on the stack.
 pub const PART_KEYS: usize = 4_096;
 
-/// The bytes of a part.
 const PART_BYTES: usize = 8 * PART_KEYS;
 
 /// The index of the first key that the version does not allow, where the first of all has this one.

@@ -21,7 +21,6 @@ const RHK1: u32 = 0x5248_4b31;
 
 const RHK2: u32 = 0x5248_4b32;
 
-/// Fills the buffer.
 fn read_bytes<R: Read>(reader: &mut Counted<R>, buf: &mut [u8]) -> Result<(), KeyFault>
     ensures known { Reads (R.remaining reader.old.inner) (R.remaining reader.new.inner)
         (bytes_at (length buf.new)) (always buf.new) result }

@@ -7,7 +7,7 @@ ghost use Rattle.rh_layout.specs.declared.limits.TheConstants.{MAX_BITS};
 
 use rh_layout::MAX_BITS;
 
-/// A table holds at most `LOAD_NUMERATOR` keys for each `LOAD_DENOMINATOR` of its cells.
+/// Growing leaves at most `LOAD_NUMERATOR` keys for each `LOAD_DENOMINATOR` of its cells.
 pub const LOAD_NUMERATOR: u64 = 3;
 
 /// The cells that `LOAD_NUMERATOR` keys may fill.

@@ -26,7 +26,7 @@ IsLooking z v looking.Read = IsClear v
 IsLooking z v (looking.Settle s) = IsClear v × IsSettling v s
 IsLooking z v (looking.Help w) = KnowsOwn v None × Stands z v w
 
--- what is kept as read after a step: a plain word that is seen, before all that was kept
+-- what is kept as read after a step: a plain word that is seen, in front of all that was kept: the newest stands first
 abbrev pub reads_after : View → (c : ℕ) → Looked → List KeptRead
 reads_after v c (On l) = v.side.reads
 reads_after v c (Sees word) = record { cell = c; word = word; acts = 0; next_number = v.next_number } ∷ v.side.reads

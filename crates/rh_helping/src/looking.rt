@@ -37,7 +37,6 @@ pub enum Looked {
 }
 
 impl Looking {
-    /// The kind of the step.
     pub fn kind(&self) -> StepKind
         ensures { result ≡ kind_of_looking self.now }
     {

@@ -1,4 +1,5 @@
-//! Opening an own descriptor: its row is written word by word, and then its control is set.
+//! Opening an own descriptor: its row is written word by word, and then its control is swapped
+//! from that of the last descriptor.
 
 ghost use Rattle.std.specs.Prelude.{◌≡◌, ◌<◌, length};
 ghost use Rattle.rh_descriptor.specs.Asks.{step_of};
@@ -28,7 +29,6 @@ pub enum Opening {
 }
 
 impl Opening {
-    /// The kind of the step.
     pub fn kind(&self) -> StepKind
         ensures { result ≡ kind_of_opening self.now }
     {

@@ -57,7 +57,6 @@ pub enum Settling {
 }
 
 impl Settling {
-    /// The kind of the step.
     pub fn kind(&self) -> StepKind
         ensures { result ≡ kind_of_settling self.now }
     {

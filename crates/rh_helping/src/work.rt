@@ -116,7 +116,6 @@ pub enum Outcome {
 }
 
 impl Work {
-    /// The kind of the step.
     pub fn kind(&self) -> StepKind
         ensures { result ≡ kind_of_work self.now }
     {

@@ -16,7 +16,7 @@ use Rattle.rh_history.specs.History.{value_of}
 use Rattle.rh_history.specs.Rounds.{IsFresh, RoundsBegin, RoundsFollow, RoundsJoin}
 use Rattle.rh_history.proofs.Values.{get_cells}
 
--- ---- the begin of a round
+-- ---- the start of a round
 
 fresh : (z : Shape) (cells : List ℕ) (v : View) → IsFresh z (round_view cells v)
 fresh z cells v = record {

@@ -81,7 +81,7 @@ module _ (z : Shape) (slots id : ℕ) (me : Me NoSlot (List Known)) (shape : IsS
       renews : (cells : List ℕ) (v : View) → IsWiping cells (row_total z) v → round_view cells v ≡ renewed v
       renews cells v is = λ i. round_view (kept_cells (sym is i)) v
 
--- ---- from the begin to the end
+-- ---- from the start to the end
 
 pub cleared_on : (vs us : List Known) (cells : List ℕ) (n : ℕ) → us ≡ all_views (wiping_view cells n) vs → all_views (with_cleared (n + 1)) us ≡ all_views (wiping_view cells (n + 1)) vs
 cleared_on vs us cells n is = ap (all_views (with_cleared (n + 1))) is ∙ all_twice (with_cleared (n + 1)) (wiping_view cells n) (wiping_view cells (n + 1)) (λ v. refl) vs

@@ -86,7 +86,7 @@ pub record HasHelped (z : Shape) (d : Ref) (v next : View) : Type 0 where
   pub noted : HasNoted v next
   pub decided_so : IsNotedOver next d ⊎ (z.rooms.marks ≤ next.marks_used)
 
--- Of a cell a plain word is kept as read, before all that was kept; or none, and no mark is left.
+-- Of a cell a plain word is kept as read, in front of all that was kept: the newest stands first; or none, and no mark is left.
 abbrev pub IsSeen : Shape → (c : ℕ) → (v next : View) → Option ℕ → Type 0
 IsSeen z c v next None = (next.side.reads ≡ v.side.reads) × (z.rooms.marks ≤ next.marks_used)
 IsSeen z c v next (Some word) = IsPlain word

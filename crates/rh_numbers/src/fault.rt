@@ -17,7 +17,7 @@ pub enum TextFault {
     OutOfRange { line: u64 },
     #[error("more than {} keys", MAX_KEYS)]
     TooMany,
-    /// The text has `MAX_BYTES` or more, and no fault was met before.
+    /// The text has `MAX_BYTES` bytes or more, and no fault was met before.
     #[error("text too long")]
     TooLong,
     #[error("read failed")]

@@ -81,8 +81,8 @@ pub record Answered (z : Shape) (h : Hand) (v : View) (answers : List Answer) : 
   pub counts : h.changed ≡ min (how_many (told_of answers)) (2 ^ 64 - 1)
   pub marks : (p : ℕ) → p < length h.found.items → (slice_index_or h.found.items p false ≡ true) ↔ Contains answers (answer p true)
 
--- the kind of the phase, how many positions may be marked, and of the rounds before this one: the cells at their end, and what the
--- worker did and read in them
+-- the kind of the phase, how many positions may be marked, and of the rounds before this one: the cells at their end, and
+-- what the worker did and read in them
 pub record Past : Type 0 where
   pub kind : Kind
   pub positions : ℕ

@@ -43,7 +43,7 @@ run_of ph words keep done told = record {
 abbrev pub past_of : {r : Run} → (positions : ℕ) → RunInvariant r → (v : ℕ) → Past
 past_of {r = r} positions run v = record { kind = r.kind; positions = positions; opening = (r.keep v).opening; acts = own v run.before; reads = run.reads v }
 
--- At the begin of the round there was a run of this phase. From it on each worker has come as far as its hand says.
+-- At the start of the round there was a run of this phase. From it on each worker has come as far as its hand says.
 pub record Comes (ph : Phase) (vs : List Known) (hs : List Hand) : Type 0 where
   pub words : List ℕ
   pub keep : ℕ → View

@@ -21,7 +21,7 @@ pub trait Starts {
 
     ghost allows: { Self → ℕ → Bool };
 
-    /// Whether that of the half may be whose first worker this is.
+    /// Whether the half whose first worker this is may have a thread.
     fn allowed(&self, worker: usize) -> bool
         ensures { result ≡ allows self.now worker };
 }
@@ -43,7 +43,7 @@ impl Starts for AllStart {
 /// Why a thread was not started.
 #[derive(Clone, Copy, Debug, PartialEq, Eq)]
 pub(crate) enum Refused {
-    /// That of the half whose first worker this is may not be.
+    /// The half whose first worker this is may have none.
     NotAllowed { worker: usize },
     /// The system refused it.
     NotStarted,

@@ -68,7 +68,8 @@ TurnOfEach zero from g before some next = (some ≡ before) × (next ≡ g)
 TurnOfEach (suc count) from g before some next =
     (made : Turn) × (mid : Game) × Turned g from made mid × TurnOfEach count (from + 1) mid (before || makes_step made) some next
 
--- Passes over all workers, up to the first in which no turn makes a step: so many at most, and where that is not enough so many turns of one more.
+-- Passes over all workers, up to the first in which no turn makes a step: so many at most, and where that is not enough so
+-- many turns of one more.
 unfoldable pub Rests : (passes more : ℕ) → Game → Game → Type 0
 Rests zero more g next = (some : Bool) × TurnOfEach more 0 g false some next
 Rests (suc passes) more g next =

@@ -1,7 +1,7 @@
 //! What a scan for a key tells.
 
-/// What consecutive cells from a key's home on tell of the key. Places count from the first of
-/// them.
+/// What consecutive cells from a key's home on tell of the key. Offsets count from the first
+/// of them.
 #[derive(Clone, Copy, Debug, PartialEq, Eq)]
 pub enum Look {
     /// The key stands at this offset.

@@ -208,7 +208,6 @@ pub fn write_flipped<W: Write>(
     write_texts(writer, &texts)
 }
 
-/// `clear`.
 pub fn write_cleared<W: Write>(writer: &mut Counted<W>) -> Result<(), WriteFault>
     ensures text { Writes (W.contents (inner_of writer.old)) (W.contents (inner_of writer.new))
         cleared_text result }

@@ -1,5 +1,4 @@
--- How the words of a table, and what is kept of its workers, represent a world. Only here does a part of the world have an
--- index.
+-- How the words of a table, and what is kept of its workers, represent a world.
 use Rattle.std.specs.Prelude.{suc, ◌≡◌, ℕ, ◌<◌, ◌≤◌, ◌⊎◌, Some, None, List, map, length, slice_index}
 use Rattle.rh_world.specs.World.{Ref, Cell, Control, World, IsOpened, IsUsed, IsFalling, In}
 use Rattle.rh_world.specs.World.Cell.{plain, mark, desc}

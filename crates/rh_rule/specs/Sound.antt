@@ -28,7 +28,7 @@ pub record OwnRow (v : View) (d : Ref) : Type 0 where
   pub olds : (e : ℕ) → e < length own.entries → row_word v.written (entry_row e 1) ≡ (entry_of own.entries e).old
   pub news : (e : ℕ) → e < length own.entries → row_word v.written (entry_row e 2) ≡ (entry_of own.entries e).new
 
--- what is noted of a worker's view
+-- what is so of the notes in a worker's view
 pub record Sound (z : Shape) (v : View) : Type 0 where
   -- its own numbers lie within the room
   pub descs_used : v.next_number ≤ z.rooms.descriptors

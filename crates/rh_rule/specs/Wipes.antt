@@ -1,5 +1,5 @@
--- The start of a table, and a wipe, by which a new round begins: it sets all row words to 0, one by one. From its begin to
--- its end the rule says only that the cells are plain and are those of its begin, and that so many row words are cleared.
+-- The start of a table, and a wipe, by which a new round begins: it sets all row words to 0, one by one. From its start to
+-- its end the rule says only that the cells are plain and are those of its start, and that so many row words are cleared.
 use Rattle.std.specs.Prelude.{◌≡◌, ℕ, ◌+◌, ◌*◌, ◌<◌, ◌≤◌, ◌⊎◌, Some, List, [], ◌++◌, length, replicate, slice_index, slice_set}
 use Rattle.rh_world.specs.World.{World}
 use Rattle.rh_world.specs.Sides.{new_side}

@@ -5,8 +5,8 @@ ghost use Rattle.rh_rule.specs.Rest.{Tells, Rests};
 ghost use Rattle.rh_rule.specs.Sound.{ViewsAreSound, StepsFind};
 ghost use Rattle.rh_rule.specs.Wipes.{TableStarts, WipeBegins, WipeStores, WipeEnds};
 
-/// Each allowed step of any worker keeps the rule of the table, whatever the number of workers, and
-/// takes its world to the next one.
+/// Each allowed step of any worker keeps the rule of the table, for up to 16 workers, and takes its
+/// world to the next one.
 pub fn each_step_keeps()
     ensures { EachStepKeeps }
 {}
@@ -36,7 +36,7 @@ pub fn table_starts()
     ensures { TableStarts }
 {}
 
-/// A wipe keeps the rule, from its begin to its end.
+/// A wipe keeps the rule, from its start to its end.
 pub fn a_wipe_keeps()
     ensures begins { WipeBegins }
     ensures stores { WipeStores }

@@ -239,7 +239,7 @@ module _ (w : World) (z : Shape) (words : List ℕ) (keep : ℕ → View) (shape
   holder : (c : ℕ) (d : Ref) → w.cell c ≡ desc d → (HasItsRow z words d → ⊥) → (v : ℕ) × (v < z.workers) × Holds (keep v).side v d c
   holder c d stands gone =
       let is = rule.rows.descs c d stands in
-      ⊎_elim (λ opener. absurd (row_gone z shape words keep w side rule m d.worker (worker_of d is.opened) d is.opened gone opener.current))
+      ⊎_elim (λ owner. absurd (row_gone z shape words keep w side rule m d.worker (worker_of d is.opened) d is.opened gone owner.current))
       (⊎_elim (placer_holds d is.entry c is.here) (debtor_holds d c)) is.owed
 
   -- ---- where the words lead

@@ -35,7 +35,7 @@ impl State {
     }
 }
 
-/// The number of a control: the serial number of the descriptor that has the row, and its state.
+/// The number of a control: the serial number of the worker's newest opened descriptor, and its state.
 pub fn pack_control(serial: u64, state: State) -> u64
     requires { IsControl serial state }
     ensures number { result ≡ control_number serial state }

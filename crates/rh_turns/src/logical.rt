@@ -106,8 +106,8 @@ fn word_in_row(shape: &Shape, words: &[u64], desc: Ref, cell: usize) -> u64
     value
 }
 
-/// As the worker knows it that holds it in this cell: a descriptor that succeeded is held by none once
-/// its row has gone on.
+/// As the worker knows it that holds it in this cell: a descriptor that succeeded stands in no cell
+/// once its row has gone on.
 fn word_held(hands: &[Hand], desc: Ref, cell: usize) -> u64
     requires workers { AreWorkers hands.now }
     requires held { HasHolder (length hands.now) (views_of hands.now) (ref_of desc) cell }

@@ -9,12 +9,12 @@ use Rattle.rh_world.specs.Notes.{HoldsIn, Note, part_of}
 use Rattle.rh_world.specs.Notes.Part.{of_acts}
 use Rattle.rh_world.specs.Later.{Later}
 use Rattle.rh_world.specs.Sides.{Side, open_side, place_side}
-use Rattle.rh_world.specs.Rows.{ByOpener, Rows}
+use Rattle.rh_world.specs.Rows.{ByOwner, Rows}
 use Rattle.rh_world.specs.Acts.{Acts}
 use Rattle.rh_world.specs.Moves.{Entries, cell_world, claim_world, decide_world, open_world, place_world, succeed_world}
 use Rattle.rh_world.proofs.Conditions.{OpensNext, PlacesNext}
 use Rattle.rh_world.proofs.Laters.{later_cell, later_claim, later_decide, later_open, later_place, later_succeed}
-use Rattle.rh_world.proofs.RowsKept.{by_side, field_same, opener_same}
+use Rattle.rh_world.proofs.RowsKept.{by_side, field_same, owner_same}
 use Rattle.rh_world.proofs.Stays.{acts_note_stays}
 use Rattle.rh_world.proofs.Updated.{decided_opened, ref_path, same_nat, some_not_none, undecided_open, updated_at, updated_else, updated_here, updated_ref_at, updated_ref_here}
 
@@ -85,9 +85,9 @@ module _ (w v : World) (l : Later w v) where
   pub acts_stay : (side side' : ℕ → Side) → Rows w side
       → ((u : ℕ) (n : Note) → In n (side' u).notes → In n (side u).notes) → v.act_count ≡ w.act_count
       → ((d : Ref) → v.control d ≡ succeeded → w.control d ≡ succeeded)
-      → ((c : ℕ) → IsLogical v c (w.logical w.act_count c)) → ((d : Ref) (e : ℕ) → ByOpener side d e → ByOpener side' d e)
+      → ((c : ℕ) → IsLogical v c (w.logical w.act_count c)) → ((d : Ref) (e : ℕ) → ByOwner side d e → ByOwner side' d e)
       → Acts w side → Acts v side'
-  acts_stay side side' rows fewer same no_new now openers a =
+  acts_stay side side' rows fewer same no_new now owners a =
       let old : (i : ℕ) → i < v.act_count → i < w.act_count = λ i h. omega arith in
       record {
         made = λ d q. let m = a.made d (no_new d q) in let h : m.0 < w.act_count = m.1 in (m.0, omega arith, l.act m.0 h ∙ m.2);
@@ -106,7 +106,7 @@ module _ (w v : World) (l : Later w v) where
             let before : w.control d ≡ succeeded = no_new d s in
             let o = succeeded_opened _ before in
             let t = a.standing c d (⊎_elim (λ stood. stood) (λ fails. absurd (fails s)) (l.came c d o here)) before in
-            record { entry = t.entry; within = subst (λ (n : ℕ). t.entry < n) (sym (l.size d o)) t.within; here = l.target d t.entry o ∙ t.here; owed = openers d t.entry t.owed };
+            record { entry = t.entry; within = subst (λ (n : ℕ). t.entry < n) (sym (l.size d o)) t.within; here = l.target d t.entry o ∙ t.here; owed = owners d t.entry t.owed };
         notes = λ u n h p. acts_note_stays w v side rows l n p (a.notes u n (fewer u n h) p);
       }
 
@@ -116,9 +116,9 @@ same_notes side who s e u n h = subst (λ (z : List Note). In n z) (field_same s
 
 -- a side alone changes
 pub acts_side : (w : World) (side : ℕ → Side) (who : ℕ) (s : Side)
-    → ((d : Ref) (e : ℕ) → e < w.size d → w.cell (w.target d e) ≡ desc d → ByOpener side d e → ByOpener (updated side who s) d e)
+    → ((d : Ref) (e : ℕ) → e < w.size d → w.cell (w.target d e) ≡ desc d → ByOwner side d e → ByOwner (updated side who s) d e)
     → ((n : Note) → In n s.notes → part_of n ≡ of_acts → HoldsIn w n) → Acts w side → Acts w (updated side who s)
-acts_side w side who s openers notes a = record {
+acts_side w side who s owners notes a = record {
   made = a.made;
   succeeded = a.succeeded;
   ordered = a.ordered;
@@ -126,7 +126,7 @@ acts_side w side who s openers notes a = record {
   now = a.now;
   standing = λ c d here is.
       let t = a.standing c d here is in
-      record { entry = t.entry; within = t.within; here = t.here; owed = openers d t.entry t.within (ap w.cell t.here ∙ here) t.owed };
+      record { entry = t.entry; within = t.within; here = t.here; owed = owners d t.entry t.within (ap w.cell t.here ∙ here) t.owed };
   notes = by_side side who s (λ (u : ℕ) (t : Side). (n : Note) → In n t.notes → part_of n ≡ of_acts → HoldsIn w n) notes (λ u n. a.notes u);
 }
 
@@ -197,7 +197,7 @@ acts_place w side x d e rows can a =
     (ap (λ (f : Ref). w.old f (v.mark_entry x)) (updated_ref_here w.mark_desc x x d refl) ∙ (ap (λ (n : ℕ). w.old d n) (updated_ref_here w.mark_entry x x e refl) ∙ (s ∙ ap (λ (i : ℕ). w.logical w.act_count i) (sym p.0)))))
     (λ p. subst (λ (k : Cell). StandsFor v j k (w.logical w.act_count j)) (sym p.1)
     (stands_for_stay w v l side j (w.logical w.act_count j) (w.cell j) rows refl (λ f e q. q) (a.now j)))
-    (updated_at w.cell c j (mark x))) (opener_same side x.worker (place_side (side x.worker) x.number) refl refl) a
+    (updated_at w.cell c j (mark x))) (owner_same side x.worker (place_side (side x.worker) x.number) refl refl) a
 
 pub acts_decide : (w : World) (side : ℕ → Side) (d : Ref) (r : Control) → Rows w side → w.control d ≡ undecided
     → IsDecided r → r ≢ succeeded → Acts w side → Acts (decide_world w d r) side

@@ -7,7 +7,7 @@ use Rattle.rh_world.specs.World.Control.{failed, succeeded, undecided, unused, w
 use Rattle.rh_world.specs.Logical.{IsLogical, StandsFor, changed_by}
 use Rattle.rh_world.specs.Notes.{IsPrefix}
 use Rattle.rh_world.specs.Sides.{Side, new_side}
-use Rattle.rh_world.specs.Rows.{ByDebt, ByOpener, ByPlacer, Rows}
+use Rattle.rh_world.specs.Rows.{ByDebt, ByOwner, ByPlacer, Rows}
 use Rattle.rh_world.specs.Acts.{Acts, cells_after}
 use Rattle.rh_world.specs.Prefixes.{FailedAt, Prefixes}
 use Rattle.rh_world.specs.Claims.{Claims, ends_found, found_end}
@@ -136,7 +136,7 @@ rest_plain w side r rest c = go (w.cell c) refl (r.acts.now c)
     go (plain u) e s = ap plain s
     go (mark x) e s = absurd (some_not_none x.number (sym (r.rows.marks c x e).owed ∙ (rest x.worker).settled))
     go (desc d) e s = ⊎_elim
-        (λ (o : ByOpener side d (r.rows.descs c d e).entry). absurd (some_not_none d.number (sym o.current ∙ (rest d.worker).closed)))
+        (λ (o : ByOwner side d (r.rows.descs c d e).entry). absurd (some_not_none d.number (sym o.current ∙ (rest d.worker).closed)))
         (λ p. ⊎_elim
         (λ (o : ByPlacer w side d (r.rows.descs c d e).entry). absurd (some_not_none o.who.number (sym o.unsettled ∙ (rest o.who.worker).settled)))
         (λ (o : ByDebt side d c). absurd (subst (In (record { desc = d; cell = c })) (rest o.who).paid o.debt)) p) (r.rows.descs c d e).owed

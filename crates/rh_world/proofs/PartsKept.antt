@@ -8,7 +8,7 @@ use Rattle.rh_world.specs.Notes.{HoldsIn, IsMismatch, Note, part_of}
 use Rattle.rh_world.specs.Notes.Part.{of_acts, of_prefixes}
 use Rattle.rh_world.specs.Later.{Steady}
 use Rattle.rh_world.specs.Sides.{Side, claim_side, close_side, forget_side, note_side, open_side, paid_side, place_side, read_side, release_side, settle_side}
-use Rattle.rh_world.specs.Rows.{ByOpener, Rows}
+use Rattle.rh_world.specs.Rows.{ByOwner, Rows}
 use Rattle.rh_world.specs.Prefixes.{Prefixes}
 use Rattle.rh_world.specs.Moves.{Entries, cell_world, claim_world, decide_world, open_world, place_world, released_cell, succeed_world}
 use Rattle.rh_world.proofs.ActsKept.{acts_claim, acts_decide, acts_demote, acts_open, acts_place, acts_promote, acts_release, acts_side, acts_succeed, same_notes}
@@ -16,8 +16,8 @@ use Rattle.rh_world.proofs.Conditions.{OpensNext, PlacesNext}
 use Rattle.rh_world.proofs.Laters.{steady_cell, steady_claim, steady_decide, steady_place, steady_succeed}
 use Rattle.rh_world.proofs.Partly.{Noted, Partly}
 use Rattle.rh_world.proofs.PrefixesKept.{failing, prefixes_fail, prefixes_open, prefixes_read, prefixes_side, prefixes_stay}
-use Rattle.rh_world.proofs.RowsKept.{field_same, opener_same, rows_claim, rows_decide, rows_demote, rows_promote, rows_release, rows_succeed}
-use Rattle.rh_world.proofs.SidesKept.{opener_closed, opener_released, rows_closed, rows_forget, rows_note, rows_open, rows_paid, rows_place, rows_reads, rows_released, rows_settle}
+use Rattle.rh_world.proofs.RowsKept.{field_same, owner_same, rows_claim, rows_decide, rows_demote, rows_promote, rows_release, rows_succeed}
+use Rattle.rh_world.proofs.SidesKept.{owner_closed, owner_released, rows_closed, rows_forget, rows_note, rows_open, rows_paid, rows_place, rows_reads, rows_released, rows_settle}
 use Rattle.rh_world.proofs.Stays.{prefixes_note_stays}
 use Rattle.rh_world.proofs.Updated.{some_not_none, updated_at, updated_else, updated_here, updated_ref_at}
 
@@ -130,15 +130,15 @@ module _ (A P : Type 0) where
 
   -- a side alone, with no note more
   parts_side : (w : World) (side : ℕ → Side) (who : ℕ) (s : Side)
-      → ((d : Ref) (e : ℕ) → e < w.size d → w.cell (w.target d e) ≡ desc d → ByOpener side d e → ByOpener (updated side who s) d e)
+      → ((d : Ref) (e : ℕ) → e < w.size d → w.cell (w.target d e) ≡ desc d → ByOwner side d e → ByOwner (updated side who s) d e)
       → s.notes ≡ (side who).notes
       → s.reads ≡ (side who).reads → ((p : ℕ) → s.current ≡ Some p → (side who).current ≡ Some p)
       → Rows w (updated side who s) → Partly A P w side → Partly A P w (updated side who s)
-  parts_side w side who s openers notes reads current rows r =
+  parts_side w side who s owners notes reads current rows r =
       let same : (n : Note) → In n s.notes → In n (side who).notes = λ n h. subst (λ (z : List Note). In n z) notes h in
       record {
         rows = rows;
-        acts = λ a. acts_side w side who s openers (λ n h. (r.acts a).notes who n (same n h)) (r.acts a);
+        acts = λ a. acts_side w side who s owners (λ n h. (r.acts a).notes who n (same n h)) (r.acts a);
         prefixes = λ a p. prefixes_side w side who s r.rows reads current (λ n h. (r.prefixes a p).notes who n (same n h)) (r.prefixes a p);
       }
 
@@ -149,39 +149,39 @@ module _ (A P : Type 0) where
         λ Q new old m h. ⊎_elim (λ (e : m ≡ n). subst Q (sym e) new) (λ i. old m i) h in
         record {
           rows = rows_note w side who r.rows n t.rows;
-          acts = λ a. acts_side w side who (note_side (side who) n) (λ d e lt here. opener_same side who (note_side (side who) n) refl refl d e) (more (λ m. part_of m ≡ of_acts → HoldsIn w m) (t.acts a) ((r.acts a).notes who)) (r.acts a);
+          acts = λ a. acts_side w side who (note_side (side who) n) (λ d e lt here. owner_same side who (note_side (side who) n) refl refl d e) (more (λ m. part_of m ≡ of_acts → HoldsIn w m) (t.acts a) ((r.acts a).notes who)) (r.acts a);
           prefixes = λ a p. prefixes_side w side who (note_side (side who) n) r.rows refl (λ q h. h) (more (λ m. part_of m ≡ of_prefixes → HoldsIn w m) (t.prefixes a p) ((r.prefixes a p).notes who)) (r.prefixes a p);
         }
 
     pub parts_settle : (x : Ref) (c : ℕ) → x.worker ≡ who → (side who).unsettled ≡ Some x.number
         → w.target (w.mark_desc x) (w.mark_entry x) ≡ c → ((j : ℕ) → w.cell j ≢ mark x)
         → Partly A P w (updated side who (settle_side (side who) (w.mark_desc x) c))
-    parts_settle x c own open_mark here gone = parts_side w side who (settle_side (side who) (w.mark_desc x) c) (λ f i lt h. opener_same side who (settle_side (side who) (w.mark_desc x) c) refl refl f i) refl refl (λ p h. h) (rows_settle w side who r.rows x c own open_mark here gone) r
+    parts_settle x c own open_mark here gone = parts_side w side who (settle_side (side who) (w.mark_desc x) c) (λ f i lt h. owner_same side who (settle_side (side who) (w.mark_desc x) c) refl refl f i) refl refl (λ p h. h) (rows_settle w side who r.rows x c own open_mark here gone) r
 
     pub parts_forget : (d : Ref) → w.control d ≡ undecided → Partly A P w (updated side who (forget_side (side who) d))
-    parts_forget d und = parts_side w side who (forget_side (side who) d) (λ f i lt h. opener_same side who (forget_side (side who) d) refl refl f i) refl refl (λ p h. h) (rows_forget w side who r.rows d und) r
+    parts_forget d und = parts_side w side who (forget_side (side who) d) (λ f i lt h. owner_same side who (forget_side (side who) d) refl refl f i) refl refl (λ p h. h) (rows_forget w side who r.rows d und) r
 
     pub parts_paid : (d : Ref) (c : ℕ) → w.cell c ≢ desc d → Partly A P w (updated side who (paid_side (side who) d c))
-    parts_paid d c gone = parts_side w side who (paid_side (side who) d c) (λ f i lt h. opener_same side who (paid_side (side who) d c) refl refl f i) refl refl (λ p h. h) (rows_paid w side who r.rows d c gone) r
+    parts_paid d c gone = parts_side w side who (paid_side (side who) d c) (λ f i lt h. owner_same side who (paid_side (side who) d c) refl refl f i) refl refl (λ p h. h) (rows_paid w side who r.rows d c gone) r
 
     pub parts_released : (d : Ref) (e : ℕ) → d.worker ≡ who → (side who).current ≡ Some d.number
         → IsDecided (w.control d) → w.cell (w.target d e) ≢ desc d
         → Partly A P w (updated side who (release_side (side who) e))
-    parts_released d e own here dec gone = parts_side w side who (release_side (side who) e) (λ f i lt h. opener_released w side who d e own here gone f i h) refl refl (λ p h. h) (rows_released w side who r.rows d e own here dec gone) r
+    parts_released d e own here dec gone = parts_side w side who (release_side (side who) e) (λ f i lt h. owner_released w side who d e own here gone f i h) refl refl (λ p h. h) (rows_released w side who r.rows d e own here dec gone) r
 
     pub parts_closed : (d : Ref) → d.worker ≡ who → (side who).current ≡ Some d.number → IsDecided (w.control d)
         → ((e : ℕ) → e < w.size d → In e (side who).released)
         → Partly A P w (updated side who (close_side (side who)))
-    parts_closed d own here dec all = parts_side w side who (close_side (side who)) (λ f i lt h. opener_closed w side who d own here all f i lt) refl refl (λ p h. absurd (some_not_none p (sym h))) (rows_closed w side who r.rows d own here dec all) r
+    parts_closed d own here dec all = parts_side w side who (close_side (side who)) (λ f i lt h. owner_closed w side who d own here all f i lt) refl refl (λ p h. absurd (some_not_none p (sym h))) (rows_closed w side who r.rows d own here dec all) r
 
     pub parts_claimed : (n : ℕ) → Partly A P w (updated side who (claim_side (side who) n))
-    parts_claimed n = parts_side w side who (claim_side (side who) n) (λ f i lt h. opener_same side who (claim_side (side who) n) refl refl f i) refl refl (λ p h. h) (rows_reads w side who r.rows (side who).reads (claim_side (side who) n).claims) r
+    parts_claimed n = parts_side w side who (claim_side (side who) n) (λ f i lt h. owner_same side who (claim_side (side who) n) refl refl f i) refl refl (λ p h. h) (rows_reads w side who r.rows (side who).reads (claim_side (side who) n).claims) r
 
     pub parts_read : (c u : ℕ) → (side who).current ≡ None → w.cell c ≡ plain u
         → Partly A P w (updated side who (read_side (side who) c u w.act_count (w.next_number who)))
     parts_read c u closed here = record {
       rows = rows_reads w side who r.rows (read_side (side who) c u w.act_count (w.next_number who)).reads (side who).claims;
-      acts = λ a. acts_side w side who (read_side (side who) c u w.act_count (w.next_number who)) (λ d e lt f. opener_same side who (read_side (side who) c u w.act_count (w.next_number who)) refl refl d e) ((r.acts a).notes who) (r.acts a);
+      acts = λ a. acts_side w side who (read_side (side who) c u w.act_count (w.next_number who)) (λ d e lt f. owner_same side who (read_side (side who) c u w.act_count (w.next_number who)) refl refl d e) ((r.acts a).notes who) (r.acts a);
       prefixes = λ a p. prefixes_read w side who c u r.rows (r.acts a) closed here (r.prefixes a p);
     }
 

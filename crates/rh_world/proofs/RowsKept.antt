@@ -5,7 +5,7 @@ use Rattle.rh_world.specs.World.Cell.{desc, mark, plain}
 use Rattle.rh_world.specs.World.Control.{succeeded, undecided, unused}
 use Rattle.rh_world.specs.Later.{Steady}
 use Rattle.rh_world.specs.Sides.{Debt, Side}
-use Rattle.rh_world.specs.Rows.{ByDebt, ByOpener, ByPlacer, DescInCell, Opened, Owed, Owing, Rows}
+use Rattle.rh_world.specs.Rows.{ByDebt, ByOwner, ByPlacer, DescInCell, Opened, Owed, Owing, Rows}
 use Rattle.rh_world.specs.Moves.{cell_world, claim_world, decide_world, succeed_world}
 use Rattle.rh_world.proofs.Laters.{steady_cell, steady_claim, steady_decide, steady_succeed}
 use Rattle.rh_world.proofs.Stays.{rows_note_stays}
@@ -21,10 +21,10 @@ module _ (side : ℕ → Side) (who : ℕ) (s : Side) where
   pub field_same : {B : Type 0} (g : Side → B) → g s ≡ g (side who) → (u : ℕ) → g (updated side who s u) ≡ g (side u)
   field_same g e u = by_side (λ (x : ℕ) (t : Side). g t ≡ g (side x)) e (λ x n. refl) u
 
--- what is owed by an opener stays so where its Side has the same open and released
-pub opener_same : (side : ℕ → Side) (who : ℕ) (s : Side) → s.current ≡ (side who).current → s.released ≡ (side who).released
-    → (d : Ref) (e : ℕ) → ByOpener side d e → ByOpener (updated side who s) d e
-opener_same side who s current released d e b = record {
+-- what is owed by an owner stays so where its Side has the same open and released
+pub owner_same : (side : ℕ → Side) (who : ℕ) (s : Side) → s.current ≡ (side who).current → s.released ≡ (side who).released
+    → (d : Ref) (e : ℕ) → ByOwner side d e → ByOwner (updated side who s) d e
+owner_same side who s current released d e b = record {
   current = field_same side who s (λ (t : Side). t.current) current d.worker ∙ b.current;
   unreleased = λ r. b.unreleased (subst (In e) (field_same side who s (λ (t : Side). t.released) released d.worker) r);
 }
@@ -36,7 +36,7 @@ module _ (w v : World) (side side' : ℕ → Side) (l : Steady w v) where
       → ((u : ℕ) (q : Debt) → In q (side u).debts → In q (side' u).debts)
       → (d : Ref) (e c : ℕ) → Owed w side d e c → Owed v side' d e c
   owed_stay owing current released unsettled debts d e c o = ⊎_elim
-      (λ (b : ByOpener side d e). inl record { current = current d.worker d.number b.current; unreleased = λ r. b.unreleased (released d.worker d.number e b.current r) })
+      (λ (b : ByOwner side d e). inl record { current = current d.worker d.number b.current; unreleased = λ r. b.unreleased (released d.worker d.number e b.current r) })
       (λ p. inr (⊎_elim
       (λ (b : ByPlacer w side d e). let h = owing.unsettled b.who b.unsettled in inl record { who = b.who; unsettled = unsettled b.who.worker b.who.number b.unsettled; mark_desc = l.mark_desc b.who h ∙ b.mark_desc; mark_entry = l.mark_entry b.who h ∙ b.mark_entry })
       (λ (b : ByDebt side d c). inr record { who = b.who; debt = debts b.who record { desc = d; cell = c } b.debt }) p)) o

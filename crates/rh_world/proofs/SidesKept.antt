@@ -6,7 +6,7 @@ use Rattle.rh_world.specs.World.Control.{undecided, unused}
 use Rattle.rh_world.specs.Notes.{HoldsIn, Note, part_of}
 use Rattle.rh_world.specs.Notes.Part.{of_rows}
 use Rattle.rh_world.specs.Sides.{Debt, KeptRead, Side, close_side, forget_side, note_side, open_side, paid_side, place_side, release_side, settle_side}
-use Rattle.rh_world.specs.Rows.{ByDebt, ByOpener, ByPlacer, MarkInCell, Opened, Owed, Rows}
+use Rattle.rh_world.specs.Rows.{ByDebt, ByOwner, ByPlacer, MarkInCell, Opened, Owed, Rows}
 use Rattle.rh_world.specs.Moves.{Entries, open_world, place_world}
 use Rattle.rh_world.proofs.Conditions.{OpensNext, PlacesNext}
 use Rattle.rh_world.proofs.Laters.{steady_open, steady_place, steady_same}
@@ -83,7 +83,7 @@ module _ (w : World) (side : ℕ → Side) (who : ℕ) (rows : Rows w side) wher
       rows_side w side who s rows (opened_same w side who s rows refl refl) (λ m h. absurd (some_not_none m (sym h)))
       (λ j y e p. absurd (gone j (e ∙ ap mark (this y p (ap (λ (u : ℕ). (side u).unsettled) (sym p) ∙ (rows.marks j y e).owed)))))
       (λ j d e h a b o. ⊎_elim
-      (λ (q : ByOpener side d e). inl record {
+      (λ (q : ByOwner side d e). inl record {
         current = field_same side who s (λ (t : Side). t.current) refl d.worker ∙ q.current;
         unreleased = λ r. q.unreleased (subst (In e) (field_same side who s (λ (t : Side). t.released) refl d.worker) r);
       })
@@ -108,21 +108,21 @@ module _ (w : World) (side : ℕ → Side) (who : ℕ) (rows : Rows w side) wher
 
   -- fewer debts, where what stands in a cell keeps another
   pub rows_debts : (keep : Debt → Bool)
-      → ((c : ℕ) (d : Ref) (e : ℕ) → w.cell c ≡ desc d → In (record { desc = d; cell = c }) (side who).debts → (keep (record { desc = d; cell = c }) ≡ true) ⊎ ByOpener side d e)
+      → ((c : ℕ) (d : Ref) (e : ℕ) → w.cell c ≡ desc d → In (record { desc = d; cell = c }) (side who).debts → (keep (record { desc = d; cell = c }) ≡ true) ⊎ ByOwner side d e)
       → Rows w (updated side who (record (side who) { debts = filter keep (side who).debts }))
   rows_debts keep spared =
       let s : Side = record (side who) { debts = filter keep (side who).debts } in
       rows_side w side who s rows (opened_same w side who s rows refl refl) (λ m h. h)
       (λ c x e p. ap (λ (u : ℕ). (side u).unsettled) (sym p) ∙ (rows.marks c x e).owed)
       (λ j d e h a b o.
-      let opener : ByOpener side d e → Owed w (updated side who s) d e j = λ q. inl record {
+      let owner : ByOwner side d e → Owed w (updated side who s) d e j = λ q. inl record {
         current = field_same side who s (λ (t : Side). t.current) refl d.worker ∙ q.current;
         unreleased = λ r. q.unreleased (subst (In e) (field_same side who s (λ (t : Side). t.released) refl d.worker) r);
-      } in ⊎_elim opener
+      } in ⊎_elim owner
       (λ p. ⊎_elim
       (λ (q : ByPlacer w side d e). inr (inl record { who = q.who; unsettled = field_same side who s (λ (t : Side). t.unsettled) refl q.who.worker ∙ q.unsettled; mark_desc = q.mark_desc; mark_entry = q.mark_entry }))
       (λ (q : ByDebt side d j). by_side side who s (λ (u : ℕ) (t : Side). (updated side who s u ≡ t) → In (record { desc = d; cell = j }) (side u).debts → Owed w (updated side who s) d e j)
-      (λ z i. ⊎_elim (λ k. inr (inr record { who = who; debt = subst (λ (t : Side). In (record { desc = d; cell = j }) t.debts) (sym z) (in_filtered keep record { desc = d; cell = j } (side who).debts k i) })) opener (spared j d e h i))
+      (λ z i. ⊎_elim (λ k. inr (inr record { who = who; debt = subst (λ (t : Side). In (record { desc = d; cell = j }) t.debts) (sym z) (in_filtered keep record { desc = d; cell = j } (side who).debts k i) })) owner (spared j d e h i))
       (λ u n z i. inr (inr record { who = u; debt = subst (λ (t : Side). In (record { desc = d; cell = j }) t.debts) (sym z) i })) q.who refl q.debt) p) o)
       (rows.notes who)
     where
@@ -137,10 +137,10 @@ module _ (w : World) (side : ℕ → Side) (who : ℕ) (rows : Rows w side) wher
           over true x xs h = inr h
           over false x xs h = h
 
--- what an opener owes but for entry e of its open descriptor d, which does not stand there, it owes after that is released
-pub opener_released : (w : World) (side : ℕ → Side) (who : ℕ) (d : Ref) (e : ℕ) → d.worker ≡ who → (side who).current ≡ Some d.number → w.cell (w.target d e) ≢ desc d
-    → (f : Ref) (i : ℕ) → w.cell (w.target f i) ≡ desc f → ByOpener side f i → ByOpener (updated side who (release_side (side who) e)) f i
-opener_released w side who d e own at_work gone f i here b =
+-- what an owner owes but for entry e of its open descriptor d, which does not stand there, it owes after that is released
+pub owner_released : (w : World) (side : ℕ → Side) (who : ℕ) (d : Ref) (e : ℕ) → d.worker ≡ who → (side who).current ≡ Some d.number → w.cell (w.target d e) ≢ desc d
+    → (f : Ref) (i : ℕ) → w.cell (w.target f i) ≡ desc f → ByOwner side f i → ByOwner (updated side who (release_side (side who) e)) f i
+owner_released w side who d e own at_work gone f i here b =
     let s : Side = release_side (side who) e in
     record {
       current = field_same side who s (λ (t : Side). t.current) refl f.worker ∙ b.current;
@@ -154,10 +154,10 @@ opener_released w side who d e own at_work gone f i here b =
     }
 
 -- and after it is closed, all its entries released
-pub opener_closed : (w : World) (side : ℕ → Side) (who : ℕ) (d : Ref) → d.worker ≡ who → (side who).current ≡ Some d.number
+pub owner_closed : (w : World) (side : ℕ → Side) (who : ℕ) (d : Ref) → d.worker ≡ who → (side who).current ≡ Some d.number
     → ((e : ℕ) → e < w.size d → In e (side who).released)
-    → (f : Ref) (i : ℕ) → i < w.size f → ByOpener side f i → ByOpener (updated side who (close_side (side who))) f i
-opener_closed w side who d own at_work all f i lt b =
+    → (f : Ref) (i : ℕ) → i < w.size f → ByOwner side f i → ByOwner (updated side who (close_side (side who))) f i
+owner_closed w side who d own at_work all f i lt b =
     let s : Side = close_side (side who) in
     ⊎_elim
     (λ (p : f.worker ≡ who).
@@ -169,7 +169,7 @@ opener_closed w side who d own at_work all f i lt b =
     (same_nat f.worker who)
 
 module _ (w : World) (side : ℕ → Side) (who : ℕ) (rows : Rows w side) where
-  -- the control of d was read as undecided: its opener owes it
+  -- the control of d was read as undecided: its owner owes it
   pub rows_forget : (d : Ref) → w.control d ≡ undecided → Rows w (updated side who (forget_side (side who) d))
   rows_forget d und = rows_debts w side who rows (λ q. not (is_ref q.desc d))
       (λ c f e h i. ⊎_elim
@@ -212,7 +212,7 @@ module _ (w : World) (side : ℕ → Side) (who : ℕ) (rows : Rows w side) wher
       (λ m h. h)
       (λ c x q p. ap (λ (u : ℕ). (side u).unsettled) (sym p) ∙ (rows.marks c x q).owed)
       (λ j f i h a b o. ⊎_elim
-      (λ (q : ByOpener side f i). inl (opener_released w side who d e own at_work gone f i (ap w.cell b ∙ h) q))
+      (λ (q : ByOwner side f i). inl (owner_released w side who d e own at_work gone f i (ap w.cell b ∙ h) q))
       (λ p. inr (⊎_elim
       (λ (q : ByPlacer w side f i). inl record { who = q.who; unsettled = field_same side who s (λ (t : Side). t.unsettled) refl q.who.worker ∙ q.unsettled; mark_desc = q.mark_desc; mark_entry = q.mark_entry })
       (λ (q : ByDebt side f j). inr record { who = q.who; debt = subst (λ (l : List Debt). In (record { desc = f; cell = j }) l) (sym (field_same side who s (λ (t : Side). t.debts) refl q.who)) q.debt }) p)) o)
@@ -240,7 +240,7 @@ module _ (w : World) (side : ℕ → Side) (who : ℕ) (rows : Rows w side) wher
       (λ m h. h)
       (λ c x q p. ap (λ (u : ℕ). (side u).unsettled) (sym p) ∙ (rows.marks c x q).owed)
       (λ j f i h a b o. ⊎_elim
-      (λ (q : ByOpener side f i). inl (opener_closed w side who d own at_work all f i a q))
+      (λ (q : ByOwner side f i). inl (owner_closed w side who d own at_work all f i a q))
       (λ p. inr (⊎_elim
       (λ (q : ByPlacer w side f i). inl record { who = q.who; unsettled = field_same side who s (λ (t : Side). t.unsettled) refl q.who.worker ∙ q.unsettled; mark_desc = q.mark_desc; mark_entry = q.mark_entry })
       (λ (q : ByDebt side f j). inr record { who = q.who; debt = subst (λ (l : List Debt). In (record { desc = f; cell = j }) l) (sym (field_same side who s (λ (t : Side). t.debts) refl q.who)) q.debt }) p)) o)

@@ -8,17 +8,17 @@ use Rattle.rh_world.specs.Logical.{IsLogical, Takes, changed_by}
 use Rattle.rh_world.specs.Notes.{Note, HoldsIn, part_of}
 use Rattle.rh_world.specs.Notes.Part.{of_acts}
 use Rattle.rh_world.specs.Sides.{Side}
-use Rattle.rh_world.specs.Rows.{ByOpener}
+use Rattle.rh_world.specs.Rows.{ByOwner}
 
--- an entry of d for this cell is not released yet by its opener
+-- an entry of d for this cell is not released yet by its owner
 pub record IsUnreleased (w : World) (side : ℕ → Side) (d : Ref) (c : ℕ) : Type 0 where
   pub entry : ℕ
   pub within : entry < w.size d
   pub here : w.target d entry ≡ c
-  pub owed : ByOpener side d entry
+  pub owed : ByOwner side d entry
 
 pub record Acts (w : World) (side : ℕ → Side) : Type 0 where
-  -- a descriptor that succeeded stands in a cell only until its opener has released it there
+  -- a descriptor that succeeded stands in a cell only until its owner has released it there
   pub standing : (c : ℕ) (d : Ref) → w.cell c ≡ desc d → w.control d ≡ succeeded → IsUnreleased w side d c
   -- the acts are the descriptors that succeeded, those of one worker in the order of their numbers
   pub made : (d : Ref) → w.control d ≡ succeeded → (i : ℕ) × (i < w.act_count) × (w.act i ≡ d)

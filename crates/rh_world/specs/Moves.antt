@@ -11,7 +11,7 @@ use Rattle.rh_world.specs.Notes.{Note, HoldsIn}
 use Rattle.rh_world.specs.Notes.Note.{known, size_is, target_is, old_is, new_is, desc_is, which_is, decided, over, passed, failed_at, found, may_promote, may_demote, held, mismatch}
 use Rattle.rh_world.specs.Sides.{Side, is_number, note_side, open_side, place_side, settle_side, forget_side, paid_side, release_side, close_side, read_side, claim_side}
 
--- the entries that an own row has when it is opened
+-- the entries of a descriptor that is opened
 pub record Entries : Type 0 where
   pub size : ℕ
   pub target : ℕ → ℕ
@@ -19,8 +19,9 @@ pub record Entries : Type 0 where
   pub new : ℕ → ℕ
 
 pub data Move : Type 0 where
-  -- Write or Read of a row's word: the worker learns what the row says, by one word or by several read before. A row that is not opened yet, and a mark that was
-  -- not placed, are no part of the world: what was written there is noted with the Open or the Place.
+  -- Write or Read of a row's word: the worker learns what the row says, by one word or by several read before. A descriptor
+  -- that is not opened yet, and a mark that was not placed, are no part of the world: what was written there is noted with
+  -- the Open or the Place.
   learns : List Note → Move
   -- Open
   opens : Entries → Move
@@ -90,7 +91,7 @@ MayDecide s who d succeeded = (n : ℕ) × In (size_is d n) s.notes × ((e : ℕ
 MayDecide s who d withdrawn = d.worker ≡ who
 MayDecide s who d (failed e by) = (by ≡ who) × ((n : ℕ) × In (mismatch d e n) s.notes)
 
--- The worker knows how d is decided, or that it is and that its opener has gone on.
+-- The worker knows how d is decided, or that it is and that its owner has gone on.
 abbrev pub KnowsOver : Side → Ref → Type 0
 KnowsOver s d = ((k : Control) × In (decided d k) s.notes) ⊎ (In (over d) s.notes × In (passed d) s.notes)
 
@@ -103,7 +104,7 @@ pub record MayClaim (w : World) (s : Side) (who : ℕ) : Type 0 where
 -- A Read of a mark's control needs the mark found before, so that it comes after it. A Settle is allowed with a mark that
 -- was found in that cell, where the worker placed it or met it; and to its descriptor only if that was read as undecided
 -- after that, else only if it was read as decided. A Decide also asks that d is known as opened, since only
--- then is there a control to swap. A Release asks that d is known as decided, and how; or that it is, and that its opener
+-- then is there a control to swap. A Release asks that d is known as decided, and how; or that it is, and that its owner
 -- has gone on: then it stands in a cell only if it did not succeed, and the old value is put there.
 abbrev pub IsAllowed : World → (ℕ → Side) → (who : ℕ) → Move → Type 0
 IsAllowed w side who (learns ns) = (n : Note) → In n ns → IsRowNote n × HoldsIn w n

@@ -11,7 +11,7 @@ pub data Note : Type 0 where
   size_is : Ref → ℕ → Note
   target_is old_is new_is : Ref → ℕ → ℕ → Note
   decided : Ref → Control → Note
-  -- that it was decided, and not how; that its opener has gone on to a later one, so that it stands in no cell if it
+  -- that it was decided, and not how; that its owner has gone on to a later one, so that it stands in no cell if it
   -- succeeded; at which entry it failed
   over passed : Ref → Note
   failed_at : Ref → ℕ → Note

@@ -16,8 +16,8 @@ pub record Opened (w : World) (side : ℕ → Side) : Type 0 where
   pub last : (d f : Ref) → (side d.worker).current ≡ Some d.number → f.worker ≡ d.worker → IsOpened (w.control f) → f.number ≤ d.number
   pub released : (d : Ref) (e : ℕ) → (side d.worker).current ≡ Some d.number → In e (side d.worker).released → IsDecided (w.control d)
 
--- Entry e of d, whose cell is c, is owed: by its opener until it released it,
-pub record ByOpener (side : ℕ → Side) (d : Ref) (e : ℕ) : Type 0 where
+-- Entry e of d, whose cell is c, is owed: by its owner until it released it,
+pub record ByOwner (side : ℕ → Side) (d : Ref) (e : ℕ) : Type 0 where
   pub current : (side d.worker).current ≡ Some d.number
   pub unreleased : In e (side d.worker).released → ⊥
 
@@ -34,7 +34,7 @@ pub record ByDebt (side : ℕ → Side) (d : Ref) (c : ℕ) : Type 0 where
   pub debt : In (record { desc = d; cell = c }) (side who).debts
 
 abbrev pub Owed : World → (ℕ → Side) → (d : Ref) → (e c : ℕ) → Type 0
-Owed w side d e c = ByOpener side d e ⊎ (ByPlacer w side d e ⊎ ByDebt side d c)
+Owed w side d e c = ByOwner side d e ⊎ (ByPlacer w side d e ⊎ ByDebt side d c)
 
 -- a mark that stands in cell c: it was placed there, and its placer has not settled it
 pub record MarkInCell (w : World) (side : ℕ → Side) (c : ℕ) (x : Ref) : Type 0 where

@@ -53,7 +53,7 @@ place_side s m = record s { unsettled = Some m }
 abbrev pub settle_side : Side → Ref → (c : ℕ) → Side
 settle_side s d c = record s { unsettled = None; debts = record { desc = d; cell = c } ∷ s.debts }
 
--- the control of d was read as undecided: its opener owes it now
+-- the control of d was read as undecided: its owner owes it now
 abbrev pub forget_side : Side → Ref → Side
 forget_side s d = record s { debts = filter (λ q. not (is_ref q.desc d)) s.debts }
 
