@@ -4,7 +4,7 @@
 //! that the script means, whichever the runner is.
 //!
 //! ```text
-//! let mut shelf = MemShelf::new(alloc);                     // or a `Shelf` of your own
+//! let mut shelf = MemShelf::new(alloc);                     // or `FileShelf::new(rt)`, or a `Shelf` of your own
 //! shelf.put(alloc, "a.keys", &file)?;
 //! let script = parse(alloc, b"use a a.keys\nadd a\ndump\n")?;
 //! let mut writer = Counted::new(Vec::new(alloc));           // or any other `Write`
@@ -19,5 +19,5 @@ pub use rh_phase::Threads;
 pub use rh_planner::{Cause, Report, RunFault, run};
 pub use rh_runner::{PhaseFault, Runner, Single};
 pub use rh_script::{Plan, Script, ScriptFault, ScriptFaultKind, parse, plan};
-pub use rh_shelf::{MemShelf, Shelf, ShelfFault};
+pub use rh_shelf::{FileShelf, MemShelf, Shelf, ShelfFault};
 pub use rh_snapshot::SnapFault;

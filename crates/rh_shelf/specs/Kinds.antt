@@ -1,4 +1,4 @@
--- The shelves in memory.
+-- The shelves in memory, and that of real files.
 use Rattle.std.specs.Prelude.{List, ℕ, ◌+◌, min, ◌==◌, if◌then◌else◌, Option, Some, option_map, Vec}
 use Rattle.std.specs.Global.{Global}
 use Rattle.std.specs.BTreeMap.{get_by_text}
@@ -6,6 +6,7 @@ use Rattle.rh_files.specs.Counting.{last_count}
 use Rattle.rh_shelf.specs.Shelf.{Files}
 use Rattle.rh_shelf.specs.declared.memory.MemShelf.{MemShelf}
 use Rattle.rh_shelf.specs.declared.faulty.FaultyShelf.{FaultyShelf}
+use Rattle.rh_shelf.specs.declared.file.FileShelf.{FileShelf}
 use Rattle.rh_shelf.specs.declared.faulty.ShelfFailure.{ShelfFailure}
 use Rattle.rh_shelf.specs.declared.faulty.ShelfFailure.TheVariants.{Call, Read}
 
@@ -16,6 +17,10 @@ files_of s path = option_map (λ bytes. bytes.items) (get_by_text s.files path)
 -- the bytes of a vector
 abbrev pub known_bytes : Vec ℕ Global → Option (List ℕ)
 known_bytes v = Some v.items
+
+-- how often a real file could not be opened or written
+abbrev pub failed_files : {F : Type 0} → FileShelf F → ℕ
+failed_files s = s.failures
 
 -- ---- the shelf that fails once
 

@@ -2,9 +2,11 @@
 #![tactic(auto)]
 
 mod faulty;
+mod file;
 mod memory;
 mod shelf;
 
 pub use faulty::{FaultyShelf, ShelfFailure};
+pub use file::FileShelf;
 pub use memory::MemShelf;
 pub use shelf::{Shelf, ShelfFault};

@@ -4,7 +4,6 @@
 ghost use Rattle.std.specs.Prelude.{◌≡◌};
 ghost use Rattle.rhset.specs.Endings.{ending_by};
 
-mod file_shelf;
 mod input;
 mod script;
 mod status;

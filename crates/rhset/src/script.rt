@@ -4,7 +4,6 @@ ghost use Rattle.std.specs.Prelude.{◌≡◌, ◌⊎◌, IfErr, IfOk, IfSome, t
 ghost use Rattle.rh_phase.specs.Made.{IsWorkers};
 ghost use Rattle.rhset.specs.declared.script.TheConstants.{MAX_BYTES};
 
-use crate::file_shelf::FileShelf;
 use crate::input::open;
 use crate::status::Fault;
 use rh_cli::ProgramFault;
@@ -13,6 +12,7 @@ use rh_phase::Threads;
 use rh_planner::run;
 use rh_runner::{Runner, Single};
 use rh_script::{MAX_LINE_BYTES, MAX_LINES, parse};
+use rh_shelf::FileShelf;
 use std::alloc::Global;
 use std::fs::Files;
 use std::io::{self, BufReader, BufWriter, ErrorKind, Read, Write};

@@ -2,8 +2,9 @@
 
 ghost use Rattle.std.specs.Prelude.{◌≡◌, ◌⊎◌};
 ghost use Rattle.rh_files.specs.Counting.{Rose};
+ghost use Rattle.rh_shelf.specs.Kinds.{failed_files};
 
-use rh_shelf::{Shelf, ShelfFault};
+use crate::shelf::{Shelf, ShelfFault};
 use std::alloc::Global;
 use std::fs::{self, Files, OpenFile};
 use std::io::{self, BufReader, ErrorKind, Write};
@@ -15,7 +16,8 @@ const BESIDE: &str = ".rhset-part-";
 /// How many names are tried for it: a run that was cut may have left some.
 const NAMES: u32 = 100;
 
-/// Real files. It tells no bytes, and counts the files that it could not open or write.
+/// Real files: a path is one of the system's, from the current folder on. No contract tells what bytes
+/// stand there; the files that could not be opened or written are counted.
 #[derive(Drop)]
 pub struct FileShelf<'a, F> {
     files: &'a F,
@@ -23,13 +25,16 @@ pub struct FileShelf<'a, F> {
 }
 
 impl<'a, F> FileShelf<'a, F> {
-    pub fn new(files: &'a F) -> FileShelf<'a, F> {
+    /// A shelf over these files, which has not failed yet.
+    pub fn new(files: &'a F) -> FileShelf<'a, F>
+        ensures { failed_files result ≡ 0 }
+    {
         FileShelf { files, failures: 0 }
     }
 }
 
 impl<F> FileShelf<'_, F> {
-    // Want of memory, or else this fault, which is counted.
+    /// Want of memory, or else this fault, which is counted.
     fn fault_of(&mut self, error: &io::Error, fault: ShelfFault) -> ShelfFault
         ensures { (result ≡ ShelfFault.Memory)
             ⊎ ((result ≡ fault) × Rose self.old.failures self.new.failures) }
@@ -49,7 +54,7 @@ impl<F: Files> Shelf for FileShelf<'_, F> {
 
     ghost files = { λ _. None };
 
-    ghost failures = { λ s. s.failures };
+    ghost failures = { failed_files };
 
     fn fetch(&mut self, alloc: Global, path: &str) -> Result<BufReader<F::File>, ShelfFault> {
         match fs::open(self.files, path) {
@@ -68,7 +73,7 @@ impl<F: Files> Shelf for FileShelf<'_, F> {
     }
 }
 
-// Where it fails, the new file is removed again, as far as that can be done.
+/// Where it fails, the new file is removed again, as far as that can be done.
 fn put_whole<F: Files>(alloc: Global, files: &F, path: &str, bytes: &[u8]) -> io::Result<()> {
     let (file, beside) = create_beside(alloc, files, path)?;
     let written = write_whole(file, bytes).and_then(|()| fs::rename(files, &beside, path));
@@ -78,7 +83,7 @@ fn put_whole<F: Files>(alloc: Global, files: &F, path: &str, bytes: &[u8]) -> io
     written
 }
 
-// A new file beside the path, and its path. A file that is there already is left as it is.
+/// A new file beside the path, and its path. A file that is there already is left as it is.
 fn create_beside<F: Files>(alloc: Global, files: &F, path: &str) -> io::Result<(F::File, String)> {
     for number in 0..NAMES {
         let Ok(beside) = format!(in alloc; "{path}{BESIDE}{number}") else {
@@ -93,7 +98,7 @@ fn create_beside<F: Files>(alloc: Global, files: &F, path: &str) -> io::Result<(
     Err(io::Error::from(ErrorKind::AlreadyExists))
 }
 
-// The bytes are on the disk once this is done.
+/// The bytes are on the disk once this is done.
 fn write_whole<T: Write + OpenFile + Drop>(mut file: T, bytes: &[u8]) -> io::Result<()> {
     file.write_all(bytes)?;
     file.sync_all()
