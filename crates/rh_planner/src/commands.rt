@@ -108,8 +108,7 @@ pub(crate) fn drop_keys<T: Threads + Wait + Sync, S: Shelf, N: Runner>(
 {
     let mut reader = open_list(alloc, shelf, list)?;
     let mut keys = keys_again(&mut reader, list.count)?;
-    let bits = set.bits();
-    let mut cells = copied(alloc, set.cells())?;
+    let (bits, mut cells) = copied(alloc, set)?;
     let tally = change_all(rt, alloc, runner, Kind::Remove, bits, &mut cells, &mut keys)?;
     *set = SeqSet::from_cells(bits, cells);
     Ok(tally)
@@ -306,8 +305,8 @@ fn without_listed<T: Threads + Wait + Sync, S: Shelf, N: Runner>(
 {
     let mut reader = open_list(alloc, shelf, list)?;
     let mut keys = keys_again(&mut reader, list.count)?;
-    let (bits, old) = (set.bits(), set.cells());
-    let mut cells = copied(alloc, old)?;
+    let (bits, mut cells) = copied(alloc, set)?;
+    let old = set.cells();
     let (removed, absent) = remove_and_count_absent(
         rt, alloc, runner, bits, old, &mut cells, &mut keys,
     )?;

@@ -29,15 +29,19 @@ pub(crate) fn grown(alloc: Global, set: &SeqSet, more: u64) -> Result<(u32, Vec<
         return Err(Cause::TooLarge);
     };
     if size == set.bits() {
-        return Ok((size, copied(alloc, set.cells())?));
+        return Ok(copied(alloc, set)?);
     }
     Ok((size, grow(alloc, set.bits(), set.cells(), size)?))
 }
 
-pub(crate) fn copied(alloc: Global, cells: &[u64]) -> Result<Vec<u64>, AllocError>
-    ensures { IfOk result (λ copy. copy.items ≡ cells.now) }
+/// A copy of the set's table as it is, and its bits.
+pub(crate) fn copied(alloc: Global, set: &SeqSet) -> Result<(u32, Vec<u64>), AllocError>
+    ensures bits { IfOk result (λ t. t.0 ≡ set.now.bits) }
+    ensures layout { IfOk result (λ t. IsLayout t.0 t.1.items) }
+    ensures keys { IfOk result (λ t. keys_of t.1.items ≡ set.now.keys) }
+    ensures room { IfOk result (λ t. finset.len set.now.keys < 2 ^ t.0) }
 {
-    let mut copy = Vec::new(alloc);
-    copy.extend_from_slice(cells)?;
-    Ok(copy)
+    let mut cells = Vec::new(alloc);
+    cells.extend_from_slice(set.cells())?;
+    Ok((set.bits(), cells))
 }

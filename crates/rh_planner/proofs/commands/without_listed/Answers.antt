@@ -1,4 +1,4 @@
-use Rattle.std.proofs.Common.{◌≡◌, ◌∙◌, ◌^◌, ◌<◌, ap, false, length, rules}
+use Rattle.std.proofs.Common.{◌∙◌, ◌^◌, ◌<◌, ap, arith, false, length}
 use Rattle.std.proofs.lemmas.Result.{err_from_is_err_and}
 use Rattle.rh_files.specs.Counting.{Rose}
 use Rattle.rh_planner.specs.Found.{count_again, keys_found}
@@ -13,17 +13,16 @@ use Rattle.rh_planner.proofs.commands.without_listed.Goals as goal
 pub from_cells-requires-clause-free : goal.from_cells-requires-clause-free
 from_cells-requires-clause-free g c =
     let done = c.in_ok-removed.ensures.done in
-    let old = c.in_ok-cells.cells.items in
-    let room : set.len (keys_of old) < 2 ^ c.bits-bits.result = search rules in
-    free_after_dropping c.bits-bits.result done.0 old c.remove_and_count_absent.new.cells.items c.in_ok-removed.removed done.2 room
+    let old = c.in_ok-bits.cells.items in
+    let room : set.len (keys_of old) < 2 ^ c.in_ok-bits.bits = omega (arith, c.in_ok-bits.ensures.room, ap (λ S. set.len S) c.in_ok-bits.ensures.keys) in
+    free_after_dropping c.in_ok-bits.bits done.0 old c.remove_and_count_absent.new.cells.items c.in_ok-removed.removed done.2 room
 
 pub returns-clause-dropped : goal.returns-clause-dropped
 returns-clause-dropped g c =
-    let done = c.in_ok-removed.ensures.done in
-    let same : keys_of c.in_ok-cells.cells.items ≡ c.args.set.now.keys = ap keys_of c.in_ok-cells.ensures ∙ c.cells-old.ensures.keys in (
+    let done = c.in_ok-removed.ensures.done in (
       done.0,
       gave _ _ _ _ _ done.0 c.in_ok-reader.ensures.opened c.in_ok-keys.ensures.coming done.1 c.in_ok-keys.ensures.left,
-      dropped _ _ _ _ _ _ c.from_cells.result same c.from_cells.ensures.bits c.from_cells.ensures.keys done.2 c.bits-bits.ensures.bits,
+      dropped _ _ _ _ _ _ c.from_cells.result c.in_ok-bits.ensures.keys c.from_cells.ensures.bits c.from_cells.ensures.keys done.2 c.in_ok-bits.ensures.bits,
       done.3 ∙ ap (λ (S : Keys). length (chosen false S done.0)) c.cells-old.ensures.keys,
     )
 
