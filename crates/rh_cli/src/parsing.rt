@@ -1,7 +1,8 @@
 //! What the two command lines have alike: the program before its commands, and reading the words.
 
-ghost use Rattle.std.specs.Prelude.{◌≡◌, [], IfOk, IfErr, true};
-ghost use Rattle.clap.specs.Words.{app_of, fault_of, is_simple_and_free};
+ghost use Rattle.std.specs.Prelude.{◌≡◌, [], IfOk, IfErr, IsOkAnd, true};
+ghost use Rattle.clap.specs.Simple.{new_app};
+ghost use Rattle.clap.specs.Words.{AddsSubcommand, app_of, fault_of, is_simple_and_free};
 ghost use Rattle.clap.specs.Words.{subcommand_of, subcommand_rows_of};
 ghost use Rattle.rh_cli.specs.Faults.{IsOneOf};
 ghost use Rattle.rh_cli.specs.Words.{program_app, texts_of};
@@ -22,13 +23,38 @@ pub fn program_command<'a>(
 ) -> Result<Command<'a>, AllocError>
     ensures { IfOk result (λ c. app_of c ≡ program_app name.now) }
 {
-    Command::new(alloc, name)
+    described(alloc, name, about, long_about, statuses)
         .version(VERSION)
-        .about(about)
-        .long_about(long_about)
-        .after_help(statuses)
         .subcommand_required(true)
         .bin_name(name)
+}
+
+/// A command of this name that takes nothing yet, with the texts that `-h` and `--help` print of it.
+pub fn described<'a>(
+    alloc: Global,
+    name: &'a str,
+    about: &'a str,
+    long_about: &'a str,
+    after_help: &'a str,
+) -> Command<'a>
+    ensures { app_of result ≡ new_app name.now }
+{
+    Command::new(alloc, name)
+        .about(about)
+        .long_about(long_about)
+        .after_help(after_help)
+}
+
+/// The command with one more subcommand, where that could be made.
+pub fn with_subcommand<'a>(
+    command: Command<'a>,
+    subcommand: Result<Command<'a>, AllocError>,
+) -> Result<Command<'a>, AllocError>
+    ensures { IfOk result (λ c. IsOkAnd subcommand.entry (λ s. AddsSubcommand command.entry s c)) }
+{
+    // With this `?` at the callers, each of them would drop a command there, once for each
+    // subcommand; a step that may drop one makes a proof dear.
+    command.subcommand(subcommand?)
 }
 
 /// What the command finds in the words.

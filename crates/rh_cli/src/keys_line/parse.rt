@@ -11,7 +11,7 @@ ghost use Rattle.rh_cli.specs.Words.{Finds, texts_of};
 use super::asked::Line;
 use super::help;
 use crate::fault::LineFault;
-use crate::parsing::{parsed, program_command};
+use crate::parsing::{described, parsed, program_command, with_subcommand};
 use clap::{Arg, ArgAction, ArgMatches, Command};
 use std::alloc::{AllocError, Global};
 
@@ -51,34 +51,40 @@ fn list_asked(given: &ArgMatches<'_>) -> Line
 fn command<'a>(alloc: Global) -> Result<Command<'a>, AllocError>
     ensures { IfOk result (λ c. app_of c ≡ rhkeys_app) }
 {
-    program_command(
+    let program = program_command(
         alloc,
         NAME,
         help::PROGRAM,
         help::PROGRAM_AT_LENGTH,
         help::STATUSES,
-    )?
-    .subcommand(pack_command(alloc))?
-    .subcommand(list_command(alloc)?)
+    )?;
+    let with_pack = program.subcommand(pack_command(alloc))?;
+    with_subcommand(with_pack, list_command(alloc))
 }
 
 fn pack_command<'a>(alloc: Global) -> Command<'a>
     ensures { app_of result ≡ pack_app }
 {
-    Command::new(alloc, "pack")
-        .about(help::PACK)
-        .long_about(help::PACK_AT_LENGTH)
-        .after_help(help::PACK_FORMATS)
+    described(
+        alloc,
+        "pack",
+        help::PACK,
+        help::PACK_AT_LENGTH,
+        help::PACK_FORMATS,
+    )
 }
 
 fn list_command<'a>(alloc: Global) -> Result<Command<'a>, AllocError>
     ensures { IfOk result (λ c. app_of c ≡ list_app) }
 {
-    Command::new(alloc, "list")
-        .about(help::LIST)
-        .long_about(help::LIST_AT_LENGTH)
-        .after_help(help::LIST_FORMATS)
-        .arg(snapshot_arg(alloc))
+    described(
+        alloc,
+        "list",
+        help::LIST,
+        help::LIST_AT_LENGTH,
+        help::LIST_FORMATS,
+    )
+    .arg(snapshot_arg(alloc))
 }
 
 fn snapshot_arg<'a>(alloc: Global) -> Arg<'a>

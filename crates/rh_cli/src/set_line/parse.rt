@@ -13,7 +13,7 @@ use super::asked::Line;
 use super::help;
 use crate::fault::LineFault;
 use crate::limits::MAX_WORKERS;
-use crate::parsing::{parsed, program_command};
+use crate::parsing::{described, parsed, program_command, with_subcommand};
 use clap::{Arg, ArgAction, ArgMatches, Command, value_parser};
 use std::alloc::{AllocError, Global};
 
@@ -88,35 +88,35 @@ fn workers(given: &ArgMatches<'_>) -> usize
 fn command<'a>(alloc: Global) -> Result<Command<'a>, AllocError>
     ensures { IfOk result (λ c. app_of c ≡ rhset_app) }
 {
-    program_command(
+    let program = program_command(
         alloc,
         NAME,
         help::PROGRAM,
         help::PROGRAM_AT_LENGTH,
         help::STATUSES,
-    )?
-    .subcommand(dump_command(alloc))?
-    .subcommand(run_command(alloc)?)?
-    .subcommand(play_command(alloc)?)?
-    .subcommand(check_command(alloc)?)
+    )?;
+    let with_dump = program.subcommand(dump_command(alloc))?;
+    let with_run = with_subcommand(with_dump, run_command(alloc))?;
+    let with_play = with_subcommand(with_run, play_command(alloc))?;
+    with_subcommand(with_play, check_command(alloc))
 }
 
 fn dump_command<'a>(alloc: Global) -> Command<'a>
     ensures { app_of result ≡ dump_app }
 {
-    Command::new(alloc, "dump")
-        .about(help::DUMP)
-        .long_about(help::DUMP_AT_LENGTH)
-        .after_help(help::DUMP_FORMATS)
+    described(
+        alloc,
+        "dump",
+        help::DUMP,
+        help::DUMP_AT_LENGTH,
+        help::DUMP_FORMATS,
+    )
 }
 
 fn run_command<'a>(alloc: Global) -> Result<Command<'a>, AllocError>
     ensures { IfOk result (λ c. app_of c ≡ run_app) }
 {
-    Command::new(alloc, "run")
-        .about(help::RUN)
-        .long_about(help::RUN_AT_LENGTH)
-        .after_help(help::SCRIPTS)
+    described(alloc, "run", help::RUN, help::RUN_AT_LENGTH, help::SCRIPTS)
         .arg(workers_arg(alloc))?
         .arg(path_arg(alloc, "script", "SCRIPT", help::SCRIPT))
 }
@@ -124,21 +124,22 @@ fn run_command<'a>(alloc: Global) -> Result<Command<'a>, AllocError>
 fn play_command<'a>(alloc: Global) -> Result<Command<'a>, AllocError>
     ensures { IfOk result (λ c. app_of c ≡ play_app) }
 {
-    Command::new(alloc, "play")
-        .about(help::PLAY)
-        .long_about(help::PLAY_AT_LENGTH)
-        .after_help(help::PLAYS)
-        .arg(path_arg(alloc, "file", "FILE", help::FILE))
+    let file = path_arg(alloc, "file", "FILE", help::FILE);
+    described(alloc, "play", help::PLAY, help::PLAY_AT_LENGTH, help::PLAYS).arg(file)
 }
 
 fn check_command<'a>(alloc: Global) -> Result<Command<'a>, AllocError>
     ensures { IfOk result (λ c. app_of c ≡ check_app) }
 {
-    Command::new(alloc, "check")
-        .about(help::CHECK)
-        .long_about(help::CHECK_AT_LENGTH)
-        .after_help(help::CHECK_FORMATS)
-        .arg(path_arg(alloc, "snapshot", "SNAPSHOT", help::SNAPSHOT))
+    let snapshot = path_arg(alloc, "snapshot", "SNAPSHOT", help::SNAPSHOT);
+    described(
+        alloc,
+        "check",
+        help::CHECK,
+        help::CHECK_AT_LENGTH,
+        help::CHECK_FORMATS,
+    )
+    .arg(snapshot)
 }
 
 fn workers_arg<'a>(alloc: Global) -> Arg<'a>
