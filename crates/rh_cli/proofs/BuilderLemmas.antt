@@ -9,8 +9,12 @@ pub app_with_subcommand : (old sub new : Command) (above below : App) → AddsSu
 app_with_subcommand old sub new above below adds old_is sub_is plain =
     adds.shape (plain_fields sub (ap (λ (a : App). a.top.is_plain) sub_is ∙ plain)).globals ∙ ap₂ with_subcommand old_is (ap (λ (a : App). a.top) sub_is)
 
--- the same, where the subcommand may not have been made
-pub app_with_made : {E : Type 0} (old : Command) (made : Result Command E) (new : Command) (above below : App) → IsOkAnd made (λ sub. AddsSubcommand old sub new)
-    → app_of old ≡ above → IfOk made (λ sub. app_of sub ≡ below) → below.top.is_plain ≡ true → app_of new ≡ with_subcommand above below.top
-app_with_made old (Ok sub) new above below adds old_is sub_is plain = app_with_subcommand old sub new above below adds old_is sub_is plain
-app_with_made old (Err e) new above below adds old_is sub_is plain = absurd adds
+-- the same, where each of the three may not have been made
+pub made_with_subcommand : {E : Type 0} (old sub new : Result Command E) (above below : App)
+    → IfOk new (λ c. IsOkAnd old (λ o. IsOkAnd sub (λ s. AddsSubcommand o s c)))
+    → IfOk old (λ o. app_of o ≡ above) → IfOk sub (λ s. app_of s ≡ below) → below.top.is_plain ≡ true
+    → IfOk new (λ c. app_of c ≡ with_subcommand above below.top)
+made_with_subcommand (Ok old) (Ok sub) (Ok new) above below adds old_is sub_is plain = app_with_subcommand old sub new above below adds old_is sub_is plain
+made_with_subcommand (Ok old) (Err e) (Ok new) above below adds old_is sub_is plain = absurd adds
+made_with_subcommand (Err e) sub (Ok new) above below adds old_is sub_is plain = absurd adds
+made_with_subcommand old sub (Err e) above below adds old_is sub_is plain = tt

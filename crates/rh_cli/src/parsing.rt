@@ -45,16 +45,17 @@ pub fn described<'a>(
         .after_help(after_help)
 }
 
-/// The command with one more subcommand, where that could be made.
+/// The command with one more subcommand, where both could be made.
 pub fn with_subcommand<'a>(
-    command: Command<'a>,
+    command: Result<Command<'a>, AllocError>,
     subcommand: Result<Command<'a>, AllocError>,
 ) -> Result<Command<'a>, AllocError>
-    ensures { IfOk result (λ c. IsOkAnd subcommand.entry (λ s. AddsSubcommand command.entry s c)) }
+    ensures { IfOk result (λ c. IsOkAnd command.entry
+        (λ old. IsOkAnd subcommand.entry (λ sub. AddsSubcommand old sub c))) }
 {
-    // With this `?` at the callers, each of them would drop a command there, once for each
+    // With these `?` at the callers, each of them would drop a command there, once for each
     // subcommand; a step that may drop one makes a proof dear.
-    command.subcommand(subcommand?)
+    command?.subcommand(subcommand?)
 }
 
 /// What the command finds in the words.

@@ -57,8 +57,8 @@ fn command<'a>(alloc: Global) -> Result<Command<'a>, AllocError>
         help::PROGRAM,
         help::PROGRAM_AT_LENGTH,
         help::STATUSES,
-    )?;
-    let with_pack = program.subcommand(pack_command(alloc))?;
+    );
+    let with_pack = with_subcommand(program, Ok(pack_command(alloc)));
     with_subcommand(with_pack, list_command(alloc))
 }
 

@@ -94,10 +94,10 @@ fn command<'a>(alloc: Global) -> Result<Command<'a>, AllocError>
         help::PROGRAM,
         help::PROGRAM_AT_LENGTH,
         help::STATUSES,
-    )?;
-    let with_dump = program.subcommand(dump_command(alloc))?;
-    let with_run = with_subcommand(with_dump, run_command(alloc))?;
-    let with_play = with_subcommand(with_run, play_command(alloc))?;
+    );
+    let with_dump = with_subcommand(program, Ok(dump_command(alloc)));
+    let with_run = with_subcommand(with_dump, run_command(alloc));
+    let with_play = with_subcommand(with_run, play_command(alloc));
     with_subcommand(with_play, check_command(alloc))
 }
 
