@@ -20,7 +20,7 @@ fn is_mistake(alloc: Global, words: &[&str]) -> Result<bool, Fail> {
     }
 }
 
-const COMMANDS: [(&[&str], Line); 3] = [
+const COMMANDS: &[(&[&str], Line)] = &[
     (&["pack"], Line::Pack),
     (&["list"], Line::List { snapshot: false }),
     (&["list", "--snapshot"], Line::List { snapshot: true }),
@@ -28,46 +28,48 @@ const COMMANDS: [(&[&str], Line); 3] = [
 
 #[test]
 fn words_are_commands(rt: HostRuntime) -> Result<(), Fail> {
-    for (words, command) in COMMANDS {
+    for &(words, command) in COMMANDS {
         let asked = line_of(rt.alloc(), words)?.map_err(|_| "refused")?;
         assert_eq!(rt; asked, command, "{words:?}");
     }
     Ok(())
 }
 
+const MISTAKES: &[&[&str]] = &[
+    &[],
+    &["unpack"],
+    &["pack", "extra"],
+    &["pack", "--snapshot"],
+    &["list", "extra"],
+    &["list", "--snapshot", "extra"],
+    &["list", "--snapshot=true"],
+    &["list", "--snapshot", "--snapshot"],
+    &["--snapshot"],
+    &["--snapshot", "list"],
+];
+
 #[test]
 fn other_words_are_refused(rt: HostRuntime) -> Result<(), Fail> {
-    let refused: [&[&str]; 10] = [
-        &[],
-        &["unpack"],
-        &["pack", "extra"],
-        &["pack", "--snapshot"],
-        &["list", "extra"],
-        &["list", "--snapshot", "extra"],
-        &["list", "--snapshot=true"],
-        &["list", "--snapshot", "--snapshot"],
-        &["--snapshot"],
-        &["--snapshot", "list"],
-    ];
-    for words in refused {
+    for &words in MISTAKES {
         assert!(rt; is_mistake(rt.alloc(), words)?, "{words:?}");
     }
     Ok(())
 }
 
+const HELP: &[&[&str]] = &[
+    &["--help"],
+    &["-h"],
+    &["help", "pack"],
+    &["pack", "--help"],
+    &["help", "list"],
+    &["list", "-h"],
+    &["list", "--snapshot", "--help"],
+    &["--version"],
+];
+
 #[test]
 fn help_and_version_are_no_mistake(rt: HostRuntime) -> Result<(), Fail> {
-    let asked: [&[&str]; 8] = [
-        &["--help"],
-        &["-h"],
-        &["help", "pack"],
-        &["pack", "--help"],
-        &["help", "list"],
-        &["list", "-h"],
-        &["list", "--snapshot", "--help"],
-        &["--version"],
-    ];
-    for words in asked {
+    for &words in HELP {
         assert!(rt; !is_mistake(rt.alloc(), words)?, "{words:?}");
     }
     Ok(())

@@ -63,17 +63,18 @@ fn dump_is_a_command(rt: HostRuntime) -> Result<(), Fail> {
     Ok(())
 }
 
+const RUNS: &[&[&str]] = &[
+    &["run", "s"],
+    &["run", "--workers", "1", "s"],
+    &["run", "--workers=1", "s"],
+    &["run", "s", "--workers", "+1"],
+    &["run", "--workers=001", "s"],
+    &["run", "--", "s"],
+];
+
 #[test]
 fn run_is_a_command(rt: HostRuntime) -> Result<(), Fail> {
-    let asked: [&[&str]; 6] = [
-        &["run", "s"],
-        &["run", "--workers", "1", "s"],
-        &["run", "--workers=1", "s"],
-        &["run", "s", "--workers", "+1"],
-        &["run", "--workers=001", "s"],
-        &["run", "--", "s"],
-    ];
-    for words in asked {
+    for &words in RUNS {
         let (workers, script) = run_of(rt.alloc(), words)?.ok_or("no run")?;
         assert!(rt; workers == 1 && script.as_str() == "s", "{words:?}");
     }
@@ -98,85 +99,89 @@ fn a_script_may_have_any_name(rt: HostRuntime) -> Result<(), Fail> {
     Ok(())
 }
 
+const PLAYS: &[(&[&str], &str)] = &[
+    (&["play", "f"], "f"),
+    (&["play", "--", "-f"], "-f"),
+    (&["play", "play"], "play"),
+    (&["play", ""], ""),
+];
+
 #[test]
 fn play_is_a_command(rt: HostRuntime) -> Result<(), Fail> {
-    let asked: [(&[&str], &str); 4] = [
-        (&["play", "f"], "f"),
-        (&["play", "--", "-f"], "-f"),
-        (&["play", "play"], "play"),
-        (&["play", ""], ""),
-    ];
-    for (words, name) in asked {
+    for &(words, name) in PLAYS {
         let file = play_of(rt.alloc(), words)?.ok_or("no play")?;
         assert!(rt; file.as_str() == name, "{words:?}");
     }
     Ok(())
 }
 
+const CHECKS: &[(&[&str], &str)] = &[
+    (&["check", "s"], "s"),
+    (&["check", "--", "-s"], "-s"),
+    (&["check", "check"], "check"),
+    (&["check", ""], ""),
+];
+
 #[test]
 fn check_is_a_command(rt: HostRuntime) -> Result<(), Fail> {
-    let asked: [(&[&str], &str); 4] = [
-        (&["check", "s"], "s"),
-        (&["check", "--", "-s"], "-s"),
-        (&["check", "check"], "check"),
-        (&["check", ""], ""),
-    ];
-    for (words, name) in asked {
+    for &(words, name) in CHECKS {
         let snapshot = check_of(rt.alloc(), words)?.ok_or("no check")?;
         assert!(rt; snapshot.as_str() == name, "{words:?}");
     }
     Ok(())
 }
 
+const MISTAKES: &[&[&str]] = &[
+    &[],
+    &["dumb"],
+    &["dump", "extra"],
+    &["dump", "--workers", "1"],
+    &["--what"],
+    &["run"],
+    &["run", "--workers", "1"],
+    &["run", "--workers", "17", "s"],
+    &["run", "--workers", "0", "s"],
+    &["run", "--workers", "x", "s"],
+    &["run", "--workers=", "s"],
+    &["run", "--workers=1", "--workers=1", "s"],
+    &["run", "a", "b"],
+    &["play"],
+    &["play", "a", "b"],
+    &["play", "--workers", "1", "a"],
+    &["check"],
+    &["check", "a", "b"],
+    &["check", "--workers", "1", "a"],
+];
+
 #[test]
 fn other_words_are_refused(rt: HostRuntime) -> Result<(), Fail> {
-    let refused: [&[&str]; 19] = [
-        &[],
-        &["dumb"],
-        &["dump", "extra"],
-        &["dump", "--workers", "1"],
-        &["--what"],
-        &["run"],
-        &["run", "--workers", "1"],
-        &["run", "--workers", "17", "s"],
-        &["run", "--workers", "0", "s"],
-        &["run", "--workers", "x", "s"],
-        &["run", "--workers=", "s"],
-        &["run", "--workers=1", "--workers=1", "s"],
-        &["run", "a", "b"],
-        &["play"],
-        &["play", "a", "b"],
-        &["play", "--workers", "1", "a"],
-        &["check"],
-        &["check", "a", "b"],
-        &["check", "--workers", "1", "a"],
-    ];
-    for words in refused {
+    for &words in MISTAKES {
         let error = told_of(rt.alloc(), words)?.ok_or("not refused")?;
         assert!(rt; error.use_stderr(), "{words:?}");
     }
     Ok(())
 }
 
+const HELP: &[&[&str]] = &[
+    &["--help"],
+    &["-h"],
+    &["help", "dump"],
+    &["dump", "--help"],
+    &["help", "run"],
+    &["run", "--help"],
+    &["run", "-h", "s"],
+    &["help", "play"],
+    &["play", "--help"],
+    &["play", "-h"],
+    &["help", "check"],
+    &["check", "--help"],
+    &["check", "-h"],
+    &["--version"],
+];
+
 #[test]
 fn help_and_version_are_no_mistake(rt: HostRuntime) -> Result<(), Fail> {
-    let asked: [&[&str]; 14] = [
-        &["--help"],
-        &["-h"],
-        &["help", "dump"],
-        &["dump", "--help"],
-        &["help", "run"],
-        &["run", "--help"],
-        &["run", "-h", "s"],
-        &["help", "play"],
-        &["play", "--help"],
-        &["play", "-h"],
-        &["help", "check"],
-        &["check", "--help"],
-        &["check", "-h"],
-        &["--version"],
-    ];
-    for words in asked {
+    for &words in HELP {
         let error = told_of(rt.alloc(), words)?.ok_or("not answered")?;
         assert!(rt; !error.use_stderr(), "{words:?}");
     }

@@ -39,7 +39,7 @@ fn dump_of(alloc: Global, bytes: &[u8]) -> Result<Vec<u8>, Option<DumpFault>> {
 }
 
 // The keys in the order in which they are added, and the lines of the dump.
-const DUMPS: [(&[u8; 4], &[u64], &str); 9] = [
+const DUMPS: &[(&[u8; 4], &[u64], &str)] = &[
     (OLD, &[], "table 3 0\nend\n"),
     (OLD, &[17, 1, 9], THREE_DUMP),
     (NEW, &[17, 1, 9], THREE_DUMP),
@@ -69,7 +69,7 @@ const DUMPS: [(&[u8; 4], &[u64], &str); 9] = [
 
 #[test]
 fn keys_become_a_dump(rt: HostRuntime) -> Result<(), Fail> {
-    for (magic, keys, text) in DUMPS {
+    for &(magic, keys, text) in DUMPS {
         let bytes = key_file(rt.alloc(), magic, keys)?;
         let written = dump_of(rt.alloc(), &bytes).map_err(|_| "refused")?;
         assert_eq!(rt; written.as_slice(), text.as_bytes(), "of {keys:?}");
@@ -78,7 +78,7 @@ fn keys_become_a_dump(rt: HostRuntime) -> Result<(), Fail> {
 }
 
 // So many keys, from 1 on, and the first line of the dump.
-const SIZES: [(u64, &str); 3] = [
+const SIZES: &[(u64, &str)] = &[
     (49_152, "table 16 49152\n"),
     (49_153, "table 17 49153\n"),
     (196_608, "table 18 196608\n"),
@@ -86,7 +86,7 @@ const SIZES: [(u64, &str); 3] = [
 
 #[test]
 fn a_table_has_the_least_bits(rt: HostRuntime) -> Result<(), Fail> {
-    for (count, line) in SIZES {
+    for &(count, line) in SIZES {
         let keys: Vec<u64> = (1..count + 1).collect(rt.alloc())?;
         let bytes = key_file(rt.alloc(), NEW, &keys)?;
         let written = dump_of(rt.alloc(), &bytes).map_err(|_| "refused")?;
@@ -101,7 +101,7 @@ fn a_table_has_the_least_bits(rt: HostRuntime) -> Result<(), Fail> {
     Ok(())
 }
 
-const REFUSED: [(&[u8], KeyFault); 9] = [
+const REFUSED: &[(&[u8], KeyFault)] = &[
     (b"RHK", KeyFault::Short),
     (b"RHKX", KeyFault::NotKeys),
     (b"RHK1\0\0\0\0\0\x0f\x42\x41", KeyFault::TooMany),
@@ -133,7 +133,7 @@ const REFUSED: [(&[u8], KeyFault); 9] = [
 
 #[test]
 fn other_bytes_write_nothing(rt: HostRuntime) {
-    for (bytes, fault) in REFUSED {
+    for &(bytes, fault) in REFUSED {
         assert_eq!(rt;
             dump_of(rt.alloc(), bytes).err(),
             Some(Some(DumpFault::Keys(fault)))
@@ -240,7 +240,7 @@ fn each_write_fails(rt: HostRuntime) -> Result<(), Fail> {
 }
 
 // A removal shifts back what stood behind the key, up to an empty cell or a key at home.
-const REMOVALS: [(&[u64], u64, &str); 2] = [
+const REMOVALS: &[(&[u64], u64, &str)] = &[
     (
         &[8, 16, 5, 21],
         8,
@@ -255,7 +255,7 @@ const REMOVALS: [(&[u64], u64, &str); 2] = [
 
 #[test]
 fn a_removal_is_dumped(rt: HostRuntime) -> Result<(), Fail> {
-    for (keys, removed, text) in REMOVALS {
+    for &(keys, removed, text) in REMOVALS {
         assert!(rt; keys.len() < 8 && keys.iter().all(|key| *key < 100) && removed < 100);
         let mut set = SeqSet::from_keys(rt.alloc(), 3, keys)?;
         assert!(rt; set.remove(removed));

@@ -11,7 +11,7 @@ fn all_keys(alloc: Global, bytes: &[u8]) -> Result<Vec<u64>, KeyFault> {
     read_keys(alloc, &mut Counted::new(bytes))
 }
 
-const ACCEPTED: [(&[u8], &[u64]); 7] = [
+const ACCEPTED: &[(&[u8], &[u64])] = &[
     (&THREE_KEYS, &[17, 1, 9]),
     (b"RHK1\0\0\0\0\0\0\0\0", &[]),
     (b"RHK2\0\0\0\0\0\0\0\0", &[]),
@@ -32,13 +32,13 @@ const ACCEPTED: [(&[u8], &[u64]); 7] = [
 
 #[test]
 fn key_files_are_read(rt: HostRuntime) -> Result<(), Fail> {
-    for (bytes, keys) in ACCEPTED {
+    for &(bytes, keys) in ACCEPTED {
         assert_eq!(rt; all_keys(rt.alloc(), bytes)?.as_slice(), keys);
     }
     Ok(())
 }
 
-const REFUSED: [(&[u8], KeyFault); 12] = [
+const REFUSED: &[(&[u8], KeyFault)] = &[
     (b"", KeyFault::Short),
     (b"RHK", KeyFault::Short),
     (b"RHKX", KeyFault::NotKeys),
@@ -70,7 +70,7 @@ const REFUSED: [(&[u8], KeyFault); 12] = [
 
 #[test]
 fn other_bytes_are_refused(rt: HostRuntime) {
-    for (bytes, fault) in REFUSED {
+    for &(bytes, fault) in REFUSED {
         assert_eq!(rt; all_keys(rt.alloc(), bytes).err(), Some(fault));
     }
     for n in 0..THREE_KEYS.len() {

@@ -7,7 +7,7 @@ fn numbers_of(alloc: Global, text: &[u8]) -> Result<Vec<u64>, TextFault> {
     read_numbers(alloc, &mut Counted::new(text))
 }
 
-const ACCEPTED: [(&[u8], &[u64]); 16] = [
+const ACCEPTED: &[(&[u8], &[u64])] = &[
     (b"", &[]),
     (b"\n", &[]),
     (b"17\n1\n9\n", &[17, 1, 9]),
@@ -31,13 +31,13 @@ const ACCEPTED: [(&[u8], &[u64]); 16] = [
 
 #[test]
 fn texts_are_read(rt: HostRuntime) -> Result<(), Fail> {
-    for (text, keys) in ACCEPTED {
+    for &(text, keys) in ACCEPTED {
         assert_eq!(rt; numbers_of(rt.alloc(), text)?.as_slice(), keys, "{text:?}");
     }
     Ok(())
 }
 
-const NOT_A_KEY: [(&[u8], u64); 20] = [
+const NOT_A_KEY: &[(&[u8], u64)] = &[
     (b"+1\n", 1),
     (b"-1\n", 1),
     (b"1 2\n", 1),
@@ -62,7 +62,7 @@ const NOT_A_KEY: [(&[u8], u64); 20] = [
 
 #[test]
 fn what_is_no_number_is_refused_at_its_line(rt: HostRuntime) {
-    for (text, line) in NOT_A_KEY {
+    for &(text, line) in NOT_A_KEY {
         assert_eq!(rt;
             numbers_of(rt.alloc(), text).err(),
             Some(TextFault::NotAKey { line }),
@@ -71,7 +71,7 @@ fn what_is_no_number_is_refused_at_its_line(rt: HostRuntime) {
     }
 }
 
-const OUT_OF_RANGE: [(&[u8], u64); 6] = [
+const OUT_OF_RANGE: &[(&[u8], u64)] = &[
     (b"4611686018427387903\n", 1),
     (b"1\n\n18446744073709551615\n", 3),
     (b"18446744073709551616\r\n", 1),
@@ -82,7 +82,7 @@ const OUT_OF_RANGE: [(&[u8], u64); 6] = [
 
 #[test]
 fn a_number_above_the_greatest_key_is_refused_at_its_line(rt: HostRuntime) {
-    for (text, line) in OUT_OF_RANGE {
+    for &(text, line) in OUT_OF_RANGE {
         assert_eq!(rt;
             numbers_of(rt.alloc(), text).err(),
             Some(TextFault::OutOfRange { line }),

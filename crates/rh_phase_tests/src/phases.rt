@@ -14,7 +14,7 @@ const NOTHING: Tally = Tally {
 const WORKERS: [usize; 5] = [1, 2, 5, 8, 16];
 
 // The kind of a phase on the keys 1, 9 and 17 at 3 bits, its keys, its tally, and the cells after it.
-const PHASES: [(Kind, &[u64], Tally, [u64; 8]); 4] = [
+const PHASES: &[(Kind, &[u64], Tally, [u64; 8])] = &[
     (
         Kind::Insert,
         &[9, 3, 3],
@@ -51,7 +51,7 @@ const PHASES: [(Kind, &[u64], Tally, [u64; 8]); 4] = [
 #[test]
 fn phases_of_several_workers(rt: HostRuntime) -> Result<(), Fail> {
     for workers in WORKERS {
-        for (kind, keys, tally, after) in PHASES {
+        for &(kind, keys, tally, after) in PHASES {
             assert!(rt; 0 < workers && workers <= 16);
             assert!(rt; keys.iter().all(|key| *key < 100) && keys.len() < 4 && kind != Kind::Ask);
             let set = SeqSet::from_keys(rt.alloc(), 3, &[1, 9, 17])?;

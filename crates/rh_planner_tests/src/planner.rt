@@ -5,7 +5,9 @@ use rh_script::parse;
 use rh_shelf::{MemShelf, Shelf, ShelfFault};
 use rh_snapshot::SnapFault;
 use std::alloc::Global;
+use std::fmt::Debug;
 use std::io::Cursor;
+use std::process::Abort;
 use std::sync::Wait;
 use std::test::*;
 use std::thread::Threads;
@@ -41,7 +43,7 @@ const SCRIPT: &str = "\
     use a a.keys\nuse b b.keys\nuse c c.keys\nadd a\nask c\nflip b\nflip b\nkeep b\ndump\n";
 
 // What each line of the script tells, and where its text begins and ends is by line.
-const TOLD: [&str; 9] = [
+const TOLD: &[&str] = &[
     "use a 3\n",
     "use b 2\n",
     "use c 3\n",
@@ -62,35 +64,50 @@ fn told_before(alloc: Global, told: &[&str], line: u64) -> Result<Vec<u8>, Fail>
     Ok(text)
 }
 
+// What a script told, and how it ended.
+type Told = (Vec<u8>, Result<Report, RunFault>);
+
 // What a script tells over these files, and how it ends.
 fn run_over(
     rt: &(impl Threads + Wait + Sync + AllocGlobal),
-    shelf: &mut MemShelf,
+    shelf: &mut impl Shelf,
     script: &str,
-) -> Result<(Vec<u8>, Result<Report, RunFault>), Fail> {
+) -> Result<Told, Fail> {
     let script = parse(rt.alloc(), script.as_bytes())?;
     let mut writer = Counted::new(Vec::new(rt.alloc()));
     let outcome = run(rt, rt.alloc(), &script, shelf, &mut Single, &mut writer);
     Ok((writer.into_inner(), outcome))
 }
 
+// The script told this text and ended by this fault; `case` says which script it was.
+fn assert_told(
+    rt: &impl Abort,
+    told: &Told,
+    text: &[u8],
+    fault: Option<RunFault>,
+    case: &impl Debug,
+) {
+    assert_eq!(rt; told.0.as_slice(), text, "{case:?}");
+    assert_eq!(rt; told.1.err(), fault, "{case:?}");
+}
+
 #[test]
 fn a_script_is_carried_out(rt: HostRuntime) -> Result<(), Fail> {
     let mut shelf = three_files(rt.alloc())?;
-    let (text, outcome) = run_over(&rt, &mut shelf, SCRIPT)?;
-    let whole = told_before(rt.alloc(), &TOLD, 10)?;
-    assert_eq!(rt; text.as_slice(), whole.as_slice());
+    let told = run_over(&rt, &mut shelf, SCRIPT)?;
+    let whole = told_before(rt.alloc(), TOLD, 10)?;
+    assert_told(&rt, &told, &whole, None, &SCRIPT);
     let report = Report {
         commands: 9,
         held: 0,
         bits: 3,
     };
-    assert_eq!(rt; outcome, Ok(report));
+    assert_eq!(rt; told.1, Ok(report));
     Ok(())
 }
 
 // The keys of a file `k`, a script, and what it tells, worked out by hand from the homes.
-const SMALL: [(&[u64], &str, &str); 5] = [
+const SMALL: &[(&[u64], &str, &str)] = &[
     (
         &[1, 1, 1, 1, 1, 1, 1],
         "use a k\nadd a\ndump\n",
@@ -120,12 +137,11 @@ const SMALL: [(&[u64], &str, &str); 5] = [
 
 #[test]
 fn small_scripts(rt: HostRuntime) -> Result<(), Fail> {
-    for (keys, script, expected) in SMALL {
+    for &(keys, script, expected) in SMALL {
         let mut shelf = MemShelf::new(rt.alloc());
         put_keys(rt.alloc(), &mut shelf, "k", keys)?;
-        let (text, outcome) = run_over(&rt, &mut shelf, script)?;
-        assert_eq!(rt; text.as_slice(), expected.as_bytes(), "{script}");
-        assert!(rt; outcome.is_ok());
+        let told = run_over(&rt, &mut shelf, script)?;
+        assert_told(&rt, &told, expected.as_bytes(), None, &script);
     }
     Ok(())
 }
@@ -137,16 +153,16 @@ fn keep_makes_the_table_small(rt: HostRuntime) -> Result<(), Fail> {
     put_keys(rt.alloc(), &mut shelf, "a", &[1, 2, 3, 4, 5, 6, 7])?;
     put_keys(rt.alloc(), &mut shelf, "b", &[1, 2])?;
     let script = "use a a\nuse b b\nadd a\ndump\nkeep b\ndump\n";
-    let (text, _) = run_over(&rt, &mut shelf, script)?;
+    let told = run_over(&rt, &mut shelf, script)?;
     let expected = "use a 7\nuse b 2\nadd a read 7 added 7 held 7 bits 4\n\
         table 4 7\n1 5 0\n3 2 0\n5 7 0\n7 4 0\n9 1 0\n11 6 0\n13 3 0\nend\n\
         keep b read 2 found 2 held 2 bits 3\ntable 3 2\n1 2 0\n4 1 0\nend\n";
-    assert_eq!(rt; text.as_slice(), expected.as_bytes());
+    assert_told(&rt, &told, expected.as_bytes(), None, &script);
     Ok(())
 }
 
 // How many keys, from 1 on, the script, the text, and the line and the cause of its end.
-const LARGE: [(u64, &str, &str, Option<(u64, Cause)>); 4] = [
+const LARGE: &[(u64, &str, &str, Option<(u64, Cause)>)] = &[
     (
         10_000,
         "use k k\nadd k\nflip k\n",
@@ -176,19 +192,24 @@ const LARGE: [(u64, &str, &str, Option<(u64, Cause)>); 4] = [
 
 #[test]
 fn large_lists(rt: HostRuntime) -> Result<(), Fail> {
-    for (many, script, expected, end) in LARGE {
+    for &(many, script, expected, end) in LARGE {
         let mut keys = Vec::new(rt.alloc());
         for key in 1..=many {
             keys.push(key)?;
         }
         let mut shelf = MemShelf::new(rt.alloc());
         put_keys(rt.alloc(), &mut shelf, "k", &keys)?;
-        let (text, outcome) = run_over(&rt, &mut shelf, script)?;
-        assert_eq!(rt; text.as_slice(), expected.as_bytes(), "{many}");
+        let told = run_over(&rt, &mut shelf, script)?;
         let fault = end.map(|(line, cause)| RunFault { line, cause });
-        assert_eq!(rt; outcome.err(), fault, "{many}");
+        assert_told(&rt, &told, expected.as_bytes(), fault, &many);
     }
     Ok(())
+}
+
+fn lines_of_ones(text: &[u8], digits: usize) -> usize {
+    let lines = text.split(|b| *b == b'\n');
+    let lines = lines.filter(|line| line.len() == digits && line.iter().all(|b| *b == b'1'));
+    lines.count()
 }
 
 // A line of 64 digits for each 64 keys, and one for what is left.
@@ -202,15 +223,13 @@ fn answers_stand_64_on_a_line(rt: HostRuntime) -> Result<(), Fail> {
     put_keys(rt.alloc(), &mut shelf, "k", &keys)?;
     let (text, _) = run_over(&rt, &mut shelf, "use k k\nadd k\nask k\n")?;
     for (digits, lines) in [(64, 156), (16, 1)] {
-        let told = text.split(|b| *b == b'\n');
-        let told = told.filter(|line| line.len() == digits && line.iter().all(|b| *b == b'1'));
-        assert_eq!(rt; told.count(), lines, "{digits}");
+        assert_eq!(rt; lines_of_ones(&text, digits), lines, "{digits}");
     }
     Ok(())
 }
 
 // Files that are refused: their bytes after the magic, and why.
-const REFUSED: [(&[u8], KeyFault); 5] = [
+const REFUSED: &[(&[u8], KeyFault)] = &[
     (b"RHK", KeyFault::Short),
     (b"RHKX", KeyFault::NotKeys),
     (b"RHK2\0\0\0\0\0\x0f\x42\x41", KeyFault::TooMany),
@@ -223,18 +242,17 @@ const REFUSED: [(&[u8], KeyFault); 5] = [
 
 #[test]
 fn files_that_are_refused(rt: HostRuntime) -> Result<(), Fail> {
-    for (bytes, fault) in REFUSED {
+    for &(bytes, fault) in REFUSED {
         let mut shelf = three_files(rt.alloc())?;
         shelf.put(rt.alloc(), "x", bytes)?;
-        let (text, outcome) = run_over(&rt, &mut shelf, "use a a.keys\n\nuse x x\ndump\n")?;
-        assert_eq!(rt; text.as_slice(), b"use a 3\n".as_slice());
+        let told = run_over(&rt, &mut shelf, "use a a.keys\n\nuse x x\ndump\n")?;
         let cause = Cause::Keys(fault);
-        assert_eq!(rt; outcome, Err(RunFault { line: 3, cause }));
+        let end = RunFault { line: 3, cause };
+        assert_told(&rt, &told, b"use a 3\n", Some(end), &fault);
     }
-    let (text, outcome) = run_over(&rt, &mut MemShelf::new(rt.alloc()), "use a x\n")?;
-    assert!(rt; text.is_empty());
+    let told = run_over(&rt, &mut MemShelf::new(rt.alloc()), "use a x\n")?;
     let cause = Cause::Missing;
-    assert_eq!(rt; outcome, Err(RunFault { line: 1, cause }));
+    assert_told(&rt, &told, b"", Some(RunFault { line: 1, cause }), &cause);
     Ok(())
 }
 

@@ -130,7 +130,7 @@ fn chosen_keys_of_a_long_list(rt: HostRuntime) -> Result<(), Fail> {
 
 // Each row: whether the keys are wanted that are there, how many an earlier reading found, and what
 // comes of the list 9, 3, 3, 17 in the table of 1, 9 and 17.
-const CHOICES: [(bool, u64, Result<Tally, ListFault>); 5] = [
+const CHOICES: &[(bool, u64, Result<Tally, ListFault>)] = &[
     (false, 1, Err(ListFault::Changed)),
     (
         false,
@@ -150,7 +150,7 @@ const CHOICES: [(bool, u64, Result<Tally, ListFault>); 5] = [
 fn chosen_keys_of_a_short_list(rt: HostRuntime) -> Result<(), Fail> {
     let old = SeqSet::from_keys(rt.alloc(), 3, &[1, 9, 17])?;
     assert!(rt; old.bits() == 3);
-    for (wanted, many, told) in CHOICES {
+    for &(wanted, many, told) in CHOICES {
         let set = SeqSet::from_keys(rt.alloc(), 3, &[1, 9, 17])?;
         assert!(rt; set.len() < 4 && many < 4);
         let mut cells = set.into_cells();

@@ -12,7 +12,7 @@ const NOTHING: Tally = Tally {
 };
 
 // The kind of a phase on the keys 1, 9 and 17 at 3 bits, its keys, its tally, and the cells after it.
-const PHASES: [(Kind, &[u64], Tally, [u64; 8]); 3] = [
+const PHASES: &[(Kind, &[u64], Tally, [u64; 8])] = &[
     (
         Kind::Insert,
         &[9, 3, 3],
@@ -38,7 +38,7 @@ const PHASES: [(Kind, &[u64], Tally, [u64; 8]); 3] = [
 
 #[test]
 fn phases_of_one_worker(rt: HostRuntime) -> Result<(), Fail> {
-    for (kind, keys, tally, after) in PHASES {
+    for &(kind, keys, tally, after) in PHASES {
         assert!(rt; keys.iter().all(|key| *key < 100) && keys.len() < 4 && kind != Kind::Ask);
         let set = SeqSet::from_keys(rt.alloc(), 3, &[1, 9, 17])?;
         assert!(rt; set.len() < 4);

@@ -174,7 +174,7 @@ fn any_numbers_are_read(rt: HostRuntime) -> Result<(), Fail> {
 
 // Texts, and the lines of their faults.
 #[rattlefmt::skip]
-const BAD_LINES: [(&[u8], u64); 39] = [
+const BAD_LINES: &[(&[u8], u64)] = &[
     (b"", 1),
     (b"\n", 2),
     (b"# nothing\n", 2),
@@ -218,7 +218,7 @@ const BAD_LINES: [(&[u8], u64); 39] = [
 
 #[test]
 fn the_first_faulty_line_is_answered(rt: HostRuntime) {
-    for (text, line) in BAD_LINES {
+    for &(text, line) in BAD_LINES {
         let kind = PlayTextKind::BadLine;
         assert_eq!(rt;
             parse_play(rt.alloc(), text).err(),

@@ -96,7 +96,7 @@ const QUESTIONS: (&str, &str) = (
 table 3 3\n4 1 0\n5 9 1\n6 17 2\nend\nread 2 added 0 removed 0 found 1\nfinished\n",
 );
 
-const PLAYS: [(&str, &str); 11] = [
+const PLAYS: &[(&str, &str)] = &[
     HELPING,
     LATE_PROMOTION,
     STALE_HELPER,
@@ -112,7 +112,7 @@ const PLAYS: [(&str, &str); 11] = [
 
 #[test]
 fn a_play_prints_its_text(rt: HostRuntime) -> Result<(), Fail> {
-    for (play, text) in PLAYS {
+    for &(play, text) in PLAYS {
         let written = played(rt.alloc(), play.as_bytes()).map_err(|_| "refused")?;
         assert_eq!(rt; written.as_slice(), text.as_bytes(), "of {play}");
     }
@@ -122,7 +122,7 @@ fn a_play_prints_its_text(rt: HostRuntime) -> Result<(), Fail> {
 const SEVENTEEN: &str = "play ask\nbits 3\nheld\nwork\nwork\nwork\nwork\nwork\nwork\nwork\nwork\n\
 work\nwork\nwork\nwork\nwork\nwork\nwork\nwork\nwork 4611686018427387903\n";
 
-const NOT_BEGUN: [(&str, PlayFault); 9] = [
+const NOT_BEGUN: &[(&str, PlayFault)] = &[
     // A key held, one too many of them, and both.
     (
         "play ask\nbits 3\nheld 4611686018427387903\nwork\n",
@@ -162,7 +162,7 @@ const NOT_BEGUN: [(&str, PlayFault); 9] = [
 
 #[test]
 fn a_play_that_cannot_begin_writes_nothing(rt: HostRuntime) {
-    for (play, fault) in NOT_BEGUN {
+    for &(play, fault) in NOT_BEGUN {
         assert_eq!(rt;
             played(rt.alloc(), play.as_bytes()).err(),
             Some(Some(PlayRunFault::Start(fault))),
@@ -171,11 +171,11 @@ fn a_play_that_cannot_begin_writes_nothing(rt: HostRuntime) {
     }
 }
 
-const NOT_PLAYS: [(&str, u64); 3] = [("", 1), ("play insert\nbits 2\n", 2), ("# held\nplay\n", 2)];
+const NOT_PLAYS: &[(&str, u64)] = &[("", 1), ("play insert\nbits 2\n", 2), ("# held\nplay\n", 2)];
 
 #[test]
 fn another_text_writes_nothing(rt: HostRuntime) -> Result<(), Fail> {
-    for (text, line) in NOT_PLAYS {
+    for &(text, line) in NOT_PLAYS {
         let kind = PlayTextKind::BadLine;
         assert_eq!(rt;
             played(rt.alloc(), text.as_bytes()).err(),
@@ -219,7 +219,7 @@ fn many_removals(
 }
 
 // A pass of sixteen workers takes sixteen turns, also where one worker alone makes steps.
-const LIMITS: [(usize, usize, &str, &str); 2] = [
+const LIMITS: &[(usize, usize, &str, &str)] = &[
     (800, 15, "\nrest\nrest\n", "rest limit\nrest finished\n"),
     (
         12_600,
@@ -231,7 +231,7 @@ const LIMITS: [(usize, usize, &str, &str); 2] = [
 
 #[test]
 fn no_order_takes_more_than_a_million_turns(rt: HostRuntime) -> Result<(), Fail> {
-    for (count, others, schedule, lines) in LIMITS {
+    for &(count, others, schedule, lines) in LIMITS {
         let text = many_removals(rt.alloc(), count, others, schedule.as_bytes())?;
         let written = played(rt.alloc(), &text).map_err(|_| "refused")?;
         let end = format!(in rt.alloc();
@@ -292,7 +292,7 @@ fn each_write_fails(rt: HostRuntime) -> Result<(), Fail> {
     Err("each write failed".into())
 }
 
-const FAULT_TEXTS: [(PlayRunFault, &str); 5] = [
+const FAULT_TEXTS: &[(PlayRunFault, &str)] = &[
     (PlayRunFault::Read, "read failed"),
     (
         PlayRunFault::Text(PlayTextFault {
@@ -311,7 +311,7 @@ const FAULT_TEXTS: [(PlayRunFault, &str); 5] = [
 
 #[test]
 fn faults_have_their_texts(rt: HostRuntime) -> Result<(), Fail> {
-    for (fault, text) in FAULT_TEXTS {
+    for &(fault, text) in FAULT_TEXTS {
         let told = format!(in rt.alloc(); "{fault}")?;
         assert_eq!(rt; told.as_str(), text);
     }

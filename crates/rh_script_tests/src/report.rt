@@ -31,7 +31,7 @@ fn each_command_has_its_line(rt: HostRuntime) -> Result<(), Fail> {
 
 const THREE_ANSWERS: &str = "ask c read 3 found 2\n101\n";
 
-const ANSWERS: [(&[bool], &str); 5] = [
+const ANSWERS: &[(&[bool], &str)] = &[
     (&[], "ask c read 0 found 0\n"),
     (&[true, false, true], THREE_ANSWERS),
     (
@@ -55,7 +55,7 @@ const ANSWERS: [(&[bool], &str); 5] = [
 
 #[test]
 fn answers_have_64_on_a_line(rt: HostRuntime) -> Result<(), Fail> {
-    for (answers, text) in ANSWERS {
+    for &(answers, text) in ANSWERS {
         let mut writer = Counted::new(Vec::new(rt.alloc()));
         write_asked(&mut writer, "c", answers)?;
         assert_eq!(rt; writer.into_inner().as_slice(), text.as_bytes());

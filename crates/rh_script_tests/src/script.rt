@@ -1,9 +1,10 @@
 use rh_script::*;
+use std::process::Abort;
 use std::test::*;
 
-// The words of a command.
-fn words(command: &Command) -> [&str; 3] {
-    match command {
+// The line of a step, and the words of its command.
+fn words(step: &Step) -> (u64, [&str; 3]) {
+    let words = match &step.command {
         Command::Use { name, path } => ["use", name.as_str(), path.as_str()],
         Command::Add { name } => ["add", name.as_str(), ""],
         Command::Drop { name } => ["drop", name.as_str(), ""],
@@ -15,14 +16,15 @@ fn words(command: &Command) -> [&str; 3] {
         Command::Dump => ["dump", "", ""],
         Command::Snapshot { path } => ["snapshot", path.as_str(), ""],
         Command::Restore { path } => ["restore", path.as_str(), ""],
-    }
+    };
+    (step.line, words)
 }
 
 const ALL_COMMANDS: &[u8] =
     b"use a a.keys\nadd a\ndrop a\nask a\nkeep a\nflip a\nsave b\nclear\ndump\n\
 snapshot Some_Path.1\nrestore /a=b\n";
 
-const ALL_WORDS: [(u64, [&str; 3]); 11] = [
+const ALL_WORDS: &[(u64, [&str; 3])] = &[
     (1, ["use", "a", "a.keys"]),
     (2, ["add", "a", ""]),
     (3, ["drop", "a", ""]),
@@ -36,21 +38,23 @@ const ALL_WORDS: [(u64, [&str; 3]); 11] = [
     (11, ["restore", "/a=b", ""]),
 ];
 
-#[test]
-fn each_command_is_read(rt: HostRuntime) -> Result<(), Fail> {
-    let script = parse(rt.alloc(), ALL_COMMANDS)?;
+fn assert_words(rt: &impl Abort, script: &Script) {
     assert_eq!(rt; script.len(), 11);
     assert!(rt; !script.is_empty());
-    for (step, (line, wanted)) in script.steps().iter().zip(&ALL_WORDS) {
-        assert_eq!(rt; step.line, *line);
-        assert_eq!(rt; words(&step.command), *wanted);
+    for (step, wanted) in script.steps().iter().zip(ALL_WORDS) {
+        assert_eq!(rt; words(step), *wanted);
     }
+}
+
+#[test]
+fn each_command_is_read(rt: HostRuntime) -> Result<(), Fail> {
+    assert_words(&rt, &parse(rt.alloc(), ALL_COMMANDS)?);
     Ok(())
 }
 
 // Scripts, and the lines of their commands.
 #[rattlefmt::skip]
-const LINES: [(&[u8], &[u64]); 21] = [
+const LINES: &[(&[u8], &[u64])] = &[
     (b"", &[]),
     (b"\n", &[]),
     (b"\n\n", &[]),
@@ -75,20 +79,23 @@ const LINES: [(&[u8], &[u64]); 21] = [
     (b"save x\nsnapshot x\nuse y y\nsnapshot a\nsave a", &[1, 2, 3, 4, 5]),
 ];
 
+fn assert_lines(rt: &impl Abort, script: &Script, lines: &[u64]) {
+    assert_eq!(rt; script.len(), lines.len());
+    for (step, line) in script.steps().iter().zip(lines) {
+        assert_eq!(rt; step.line, *line);
+    }
+}
+
 #[test]
 fn commands_stand_on_their_lines(rt: HostRuntime) -> Result<(), Fail> {
-    for (text, lines) in LINES {
-        let script = parse(rt.alloc(), text)?;
-        assert_eq!(rt; script.len(), lines.len());
-        for (step, line) in script.steps().iter().zip(lines) {
-            assert_eq!(rt; step.line, *line);
-        }
+    for &(text, lines) in LINES {
+        assert_lines(&rt, &parse(rt.alloc(), text)?, lines);
     }
     Ok(())
 }
 
 #[rattlefmt::skip]
-const FAULTS: [(&[u8], u64, ScriptFaultKind); 52] = [
+const FAULTS: &[(&[u8], u64, ScriptFaultKind)] = &[
     (b"grow", 1, ScriptFaultKind::BadCommand),
     (b"\n#\ngrow a", 3, ScriptFaultKind::BadCommand),
     (b"snapshots s", 1, ScriptFaultKind::BadCommand),
@@ -146,7 +153,7 @@ const FAULTS: [(&[u8], u64, ScriptFaultKind); 52] = [
 
 #[test]
 fn the_first_fault_is_answered(rt: HostRuntime) {
-    for (text, line, kind) in FAULTS {
+    for &(text, line, kind) in FAULTS {
         assert_eq!(rt;
             parse(rt.alloc(), text).err(),
             Some(ScriptFault { line, kind })
@@ -190,9 +197,9 @@ fn scripts_have_a_limit(rt: HostRuntime) -> Result<(), Fail> {
 const MIXED: &[u8] = b"use a a.keys\n# two lists\nuse b b.keys\nadd a\ndrop b\nask a\n\n\
 save c\nkeep c\nflip b\nclear\ndump\nuse d d.keys\nask d\nsnapshot s.snap\nuse e a.keys\nrestore s.snap\n";
 
-// The words of a task, and the number of its list.
-fn tasked<'a>(task: &Task<'a>) -> ([&'a str; 3], Option<usize>) {
-    match *task {
+// The line of a step, the words of its task, and the number of its list.
+fn planned<'a>(step: &PlannedStep<'a>) -> (u64, [&'a str; 3], Option<usize>) {
+    let (words, list) = match step.task {
         Task::Use { list, name, path } => (["use", name, path], Some(list)),
         Task::Add { list, name } => (["add", name, ""], Some(list)),
         Task::Drop { list, name } => (["drop", name, ""], Some(list)),
@@ -204,10 +211,11 @@ fn tasked<'a>(task: &Task<'a>) -> ([&'a str; 3], Option<usize>) {
         Task::Dump => (["dump", "", ""], None),
         Task::Snapshot { path } => (["snapshot", path, ""], None),
         Task::Restore { path } => (["restore", path, ""], None),
-    }
+    };
+    (step.line, words, list)
 }
 
-const MIXED_PLAN: [(u64, [&str; 3], Option<usize>); 15] = [
+const MIXED_PLAN: &[(u64, [&str; 3], Option<usize>)] = &[
     (1, ["use", "a", "a.keys"], Some(0)),
     (3, ["use", "b", "b.keys"], Some(1)),
     (4, ["add", "a", ""], Some(0)),
@@ -225,18 +233,18 @@ const MIXED_PLAN: [(u64, [&str; 3], Option<usize>); 15] = [
     (17, ["restore", "s.snap", ""], None),
 ];
 
+fn assert_plan(rt: &impl Abort, plan: &Plan<'_>, wanted: &[(u64, [&str; 3], Option<usize>)]) {
+    assert_eq!(rt; plan.len(), wanted.len());
+    assert!(rt; !plan.is_empty());
+    for (step, wanted) in plan.steps().iter().zip(wanted) {
+        assert_eq!(rt; planned(step), *wanted);
+    }
+}
+
 #[test]
 fn lists_are_numbered(rt: HostRuntime) -> Result<(), Fail> {
     let script = parse(rt.alloc(), MIXED)?;
-    let planned = plan(rt.alloc(), &script)?;
-    assert_eq!(rt; planned.len(), 15);
-    assert!(rt; !planned.is_empty());
-    for (step, (line, wanted, number)) in planned.steps().iter().zip(&MIXED_PLAN) {
-        let (words, list) = tasked(&step.task);
-        assert_eq!(rt; step.line, *line);
-        assert_eq!(rt; words, *wanted);
-        assert_eq!(rt; list, *number);
-    }
+    assert_plan(&rt, &plan(rt.alloc(), &script)?, MIXED_PLAN);
     Ok(())
 }
 
@@ -252,7 +260,7 @@ fn a_script_without_commands_has_an_empty_plan(rt: HostRuntime) -> Result<(), Fa
 
 #[test]
 fn faults_can_be_printed(rt: HostRuntime) -> Result<(), Fail> {
-    for (kind, text) in [
+    for &(kind, text) in &[
         (ScriptFaultKind::TooLong, "line 7: too long"),
         (ScriptFaultKind::BadCommand, "line 7: bad command"),
         (ScriptFaultKind::BadName, "line 7: bad name"),

@@ -86,7 +86,7 @@ const EXCHANGED: [u8; 109] = *b"RHS2\x03\0\0\0\0\0\0\0\x04\
     \x30\x1c\x24\x3c\x91\x3c\xed\x9e\x59\xbf\xcd\x7c\x25\x39\x99\x87\
     \x4c\x1f\x90\xa3\x54\x06\x8c\x7d\x35\x42\x8a\xc4\x97\x37\x5d\x25";
 
-const REFUSED: [(&[u8], SnapFault); 7] = [
+const REFUSED: &[(&[u8], SnapFault)] = &[
     (b"RHS", SnapFault::Short),
     (b"RHK2\0\0\0\0\0\0\0\0", SnapFault::NotSnapshot),
     (b"RHS1\x02", SnapFault::BadBits),
@@ -98,7 +98,7 @@ const REFUSED: [(&[u8], SnapFault); 7] = [
 
 #[test]
 fn other_bytes_write_nothing(rt: HostRuntime) -> Result<(), Fail> {
-    for (bytes, fault) in REFUSED {
+    for &(bytes, fault) in REFUSED {
         assert_eq!(rt;
             line_of(rt.alloc(), bytes).err(),
             Some(Some(CheckFault::Snap(fault)))

@@ -37,7 +37,7 @@ const KEY_0: [u8; 109] = *b"RHS2\x03\0\0\0\0\0\0\0\x01\
     \x20\xb6\xd7\xb0\x97\x2e\x83\xd6\xc9\x76\xd5\xa5\xa4\xef\x73\xb8";
 
 // The bytes, what they hold, and the second version of it.
-const TABLES: [(&[u8; 109], u64, [u64; 8], &[u8; 109]); 4] = [
+const TABLES: &[(&[u8; 109], u64, [u64; 8], &[u8; 109])] = &[
     (&SECOND, 3, THREE_CELLS, &SECOND),
     (&FIRST, 3, THREE_CELLS, &SECOND),
     (&EMPTY, 0, [0, 0, 0, 0, 0, 0, 0, 0], &EMPTY),
@@ -46,7 +46,7 @@ const TABLES: [(&[u8; 109], u64, [u64; 8], &[u8; 109]); 4] = [
 
 #[test]
 fn tables_are_read_and_written(rt: HostRuntime) -> Result<(), Fail> {
-    for (bytes, count, cells, second) in TABLES {
+    for &(bytes, count, cells, second) in TABLES {
         let table = read_snapshot(rt.alloc(), &mut Counted::new(bytes.as_slice()))?;
         let mut out = b"before".to_vec(rt.alloc())?;
         write_snapshot(table.bits, &table.cells, &mut out)?;
@@ -88,7 +88,7 @@ const FULL: [u64; 8] = [6, 3, 8, 5, 2, 7, 4, 9];
 const FULL_KEYS: [u64; 8] = [5, 2, 7, 4, 1, 6, 3, 8];
 
 // 2^62 is the cell of 2^62 - 1, which would have home 5; the greatest number would have home 3.
-const NO_TABLES: [(&[u8; 4], u64, [u64; 8]); 11] = [
+const NO_TABLES: &[(&[u8; 4], u64, [u64; 8])] = &[
     (b"RHS2", 4, [22, 17, 6, 0, 0, 0, 0, 9]),
     (b"RHS1", 4, [21, 16, 5, 0, 0, 0, 0, 8]),
     (b"RHS2", 3, ROUND_THE_END),
@@ -120,7 +120,7 @@ fn sealed_bytes_are_tested(rt: HostRuntime) -> Result<(), Fail> {
         let table = table_of(rt.alloc(), &bytes)?;
         assert_eq!(rt; table.cells.first().copied(), Some((1 << 62) - 1));
     }
-    for (magic, count, numbers) in NO_TABLES {
+    for &(magic, count, numbers) in NO_TABLES {
         let mut bytes = sealed(rt.alloc(), magic, count, &numbers)?;
         let fault = table_of(rt.alloc(), &bytes).err();
         assert_eq!(rt;

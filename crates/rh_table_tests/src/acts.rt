@@ -9,14 +9,14 @@ const NOTHING: Entry = Entry {
 
 // At 3 bits 1, 9, 17 and 22 have home 4, and 8, 16 and 21 home 7. A cell holds its key plus 1. Of each
 // case: the key, what is seen from its home on, and of each entry the cell, the old and the new value.
-const INSERTIONS: [(u64, &[u64], &[(usize, u64, u64)]); 3] = [
+const INSERTIONS: &[(u64, &[u64], &[(usize, u64, u64)])] = &[
     (9, &[2, 0, 0], &[(4, 2, 2), (5, 0, 10)]),
     (9, &[2, 18, 0], &[(4, 2, 2), (5, 18, 10), (6, 0, 18)]),
     (16, &[9, 22, 0], &[(0, 22, 17), (1, 0, 22), (7, 9, 9)]),
 ];
 
 // 8, 16, 21 and 5, whose home is 0, stand in the cells 7, 0, 1 and 2.
-const REMOVALS: [(u64, &[u64], &[(usize, u64, u64)]); 2] = [
+const REMOVALS: &[(u64, &[u64], &[(usize, u64, u64)])] = &[
     (
         9,
         &[2, 10, 18, 0],
@@ -29,7 +29,7 @@ const REMOVALS: [(u64, &[u64], &[(usize, u64, u64)]); 2] = [
     ),
 ];
 
-const ABSENCES: [(u64, &[u64], &[(usize, u64, u64)]); 2] = [
+const ABSENCES: &[(u64, &[u64], &[(usize, u64, u64)])] = &[
     (
         22,
         &[2, 10, 18, 0],
@@ -48,7 +48,7 @@ fn are(entries: &[Entry], expected: &[(usize, u64, u64)]) -> bool {
 
 #[test]
 fn entries_put_a_key_in(rt: HostRuntime) {
-    for (key, seen, expected) in INSERTIONS {
+    for &(key, seen, expected) in INSERTIONS {
         let mut entries = [NOTHING; 8];
         assert!(rt; key < 100 && seen.len() < 8);
         let asked = insert_entries(3, key, seen, &mut [0; 8], &mut entries);
@@ -59,7 +59,7 @@ fn entries_put_a_key_in(rt: HostRuntime) {
 
 #[test]
 fn entries_take_a_key_out(rt: HostRuntime) {
-    for (key, seen, expected) in REMOVALS {
+    for &(key, seen, expected) in REMOVALS {
         let mut entries = [NOTHING; 8];
         assert!(rt; key < 100 && seen.len() < 8);
         let asked = remove_entries(3, key, seen, &mut [0; 8], &mut entries);
@@ -70,7 +70,7 @@ fn entries_take_a_key_out(rt: HostRuntime) {
 
 #[test]
 fn entries_show_that_a_key_is_absent(rt: HostRuntime) {
-    for (key, seen, expected) in ABSENCES {
+    for &(key, seen, expected) in ABSENCES {
         let mut entries = [NOTHING; 8];
         assert!(rt; key < 100 && seen.len() < 8);
         let asked = remove_entries(3, key, seen, &mut [0; 8], &mut entries);

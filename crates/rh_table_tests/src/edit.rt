@@ -3,7 +3,7 @@ use std::test::Fail;
 
 // Tables of 3 bits: the keys that are added, the one that is then removed, and the cells after it.
 // A cell holds its key plus 1.
-const REMOVALS: [(&[u64], u64, [u64; 8]); 3] = [
+const REMOVALS: &[(&[u64], u64, [u64; 8])] = &[
     (&[8, 16, 5, 21], 8, [22, 6, 0, 0, 0, 0, 0, 17]),
     (&[1, 9, 17, 6, 14, 3], 9, [4, 0, 0, 0, 2, 18, 7, 15]),
     (&[1, 9, 17], 2, [0, 0, 0, 0, 2, 10, 18, 0]),
@@ -11,7 +11,7 @@ const REMOVALS: [(&[u64], u64, [u64; 8]); 3] = [
 
 #[test]
 fn a_removal_shifts_back(rt: HostRuntime) -> Result<(), Fail> {
-    for (keys, removed, cells) in REMOVALS {
+    for &(keys, removed, cells) in REMOVALS {
         let mut set = SeqSet::new(rt.alloc(), 3)?;
         for key in keys {
             assert!(rt; set.bits() == 3 && set.len() < 7 && *key < 100);

@@ -1,7 +1,7 @@
 use rh_layout::*;
 
 // The homes at 3 bits, worked out by hand from the multiplier.
-const HOMES: [(usize, &[u64]); 8] = [
+const HOMES: &[(usize, &[u64])] = &[
     (0, &[0, 5, 13]),
     (1, &[2, 10]),
     (2, &[7, 15]),
@@ -14,7 +14,7 @@ const HOMES: [(usize, &[u64]); 8] = [
 
 #[test]
 fn homes_at_three_bits(rt: HostRuntime) {
-    for (cell, keys) in HOMES {
+    for &(cell, keys) in HOMES {
         for key in keys {
             assert_eq!(rt; home(3, *key), cell, "of {key}");
         }

@@ -1,7 +1,7 @@
 use rh_tagword::*;
 
 // Words with their numbers, worked out by hand.
-const WORDS: [(Word, u64); 9] = [
+const WORDS: &[(Word, u64)] = &[
     (Word::Empty, 0),
     (Word::Key(0), 4),
     (Word::Key(17), 72),
@@ -45,7 +45,7 @@ const WORDS: [(Word, u64); 9] = [
 
 #[test]
 fn words_have_their_numbers(rt: HostRuntime) {
-    for (word, number) in WORDS {
+    for &(word, number) in WORDS {
         assert_eq!(rt; pack(word), number, "of {word:?}");
         assert_eq!(rt; unpack(number), Some(word), "of {number}");
     }
@@ -69,7 +69,7 @@ fn plain_words_say_what_a_cell_holds(rt: HostRuntime) {
 }
 
 // Controls with their numbers and whether they are decided.
-const CONTROLS: [(u64, State, u64, bool); 7] = [
+const CONTROLS: &[(u64, State, u64, bool)] = &[
     (0, State::Unused, 0, false),
     (0, State::Undecided, 1, false),
     (0, State::Succeeded, 2, true),
@@ -86,7 +86,7 @@ const CONTROLS: [(u64, State, u64, bool); 7] = [
 
 #[test]
 fn controls_have_their_numbers(rt: HostRuntime) {
-    for (serial, state, number, decided) in CONTROLS {
+    for &(serial, state, number, decided) in CONTROLS {
         assert_eq!(rt;
             pack_control(serial, state),
             number,

@@ -1,5 +1,4 @@
 use super::*;
-use std::process::Abort;
 
 // A shelf that gives one file after the other, at whatever path.
 #[derive(Drop)]
@@ -38,19 +37,9 @@ fn ends_at(
     told: &str,
     end: RunFault,
 ) -> Result<(), Fail> {
-    let parsed = parse(rt.alloc(), script.as_bytes())?;
-    let mut writer = Counted::new(Vec::new(rt.alloc()));
     let mut shelf = ChangingShelf { files, fetched: 0 };
-    let outcome = run(
-        rt,
-        rt.alloc(),
-        &parsed,
-        &mut shelf,
-        &mut Single,
-        &mut writer,
-    );
-    assert_eq!(rt; outcome, Err(end), "{script}");
-    assert_eq!(rt; writer.into_inner().as_slice(), told.as_bytes(), "{script}");
+    let ran = run_over(rt, &mut shelf, script)?;
+    assert_told(rt, &ran, told.as_bytes(), Some(end), &script);
     Ok(())
 }
 
@@ -75,7 +64,7 @@ const BAD_KEY: Cause = Cause::Keys(KeyFault::BadKey { index: 1 });
 
 // What a list of the key 5 alone gives at the next fetch, and the cause: the header comes first,
 // then the count, then the keys.
-const AT_THE_SECOND_FETCH: [(&[u8], Cause); 4] = [
+const AT_THE_SECOND_FETCH: &[(&[u8], Cause)] = &[
     (NO_LIST, NOT_KEYS),
     (b"RHK2\0\0\0\0\0\0\0", Cause::Keys(KeyFault::Short)),
     (NO_KEY, Cause::Changed),
@@ -84,7 +73,7 @@ const AT_THE_SECOND_FETCH: [(&[u8], Cause); 4] = [
 
 #[test]
 fn a_list_that_changes(rt: HostRuntime) -> Result<(), Fail> {
-    for (file, cause) in AT_THE_SECOND_FETCH {
+    for &(file, cause) in AT_THE_SECOND_FETCH {
         let end = RunFault { line: 2, cause };
         for script in [
             "use k k\nadd k\n",
@@ -101,7 +90,7 @@ fn a_list_that_changes(rt: HostRuntime) -> Result<(), Fail> {
 
 // The key 5 is held. The files of the first reading and of the second, and how they end: more
 // places that are found, fewer, another count, or a fault.
-const KEPT: [(&[u8], &[u8], Cause); 6] = [
+const KEPT: &[(&[u8], &[u8], Cause)] = &[
     (FIVE_BAD, FIVE_TWICE, BAD_KEY),
     (FIVE_SIX, FIVE_TWICE, Cause::Changed),
     (FIVE_TWICE, FIVE_SIX, Cause::Changed),
@@ -110,7 +99,7 @@ const KEPT: [(&[u8], &[u8], Cause); 6] = [
     (FIVE_TWICE, NO_LIST, NOT_KEYS),
 ];
 
-const FLIPPED: [(&[u8], &[u8], Cause); 6] = [
+const FLIPPED: &[(&[u8], &[u8], Cause)] = &[
     (FIVE_BAD, FIVE_SIX, BAD_KEY),
     (FIVE_SIX, SIX_SEVEN, Cause::Changed),
     (FIVE_SIX, FIVE_TWICE, Cause::Changed),
@@ -126,7 +115,7 @@ fn a_list_that_changes_between_two_readings(rt: HostRuntime) -> Result<(), Fail>
         ("use k k\nadd k\nkeep k\n", KEPT),
         ("use k k\nadd k\nflip k\n", FLIPPED),
     ] {
-        for (first, second, cause) in readings {
+        for &(first, second, cause) in readings {
             let files = [FIVE_TWICE, FIVE_TWICE, first, second];
             let end = RunFault { line: 3, cause };
             ends_at(&rt, &files, script, told, end)?;

@@ -1,7 +1,6 @@
 use super::*;
 use rh_files::{FaultyWriter, Refusal};
 use rh_shelf::{FaultyShelf, ShelfFailure};
-use std::process::Abort;
 
 // What a command asks of the shelf: a list of some keys, to take a snapshot, or to give one of 8
 // cells.
@@ -47,10 +46,10 @@ impl Asked {
 
 // Scripts, what each line tells, and what the lines ask of the shelf in turn; `flip` and `keep`
 // fetch twice.
-const SCRIPTS: [(&str, &[&str], &[(u64, Asked)]); 2] = [
+const SCRIPTS: &[(&str, &[&str], &[(u64, Asked)])] = &[
     (
         SCRIPT,
-        &TOLD,
+        TOLD,
         &[
             (1, Asked::List),
             (2, Asked::List),
@@ -92,24 +91,10 @@ fn fails_at(
     failure: ShelfFailure,
     end: RunFault,
 ) -> Result<(), Fail> {
-    let script = parse(rt.alloc(), script.as_bytes())?;
     let mut shelf = FaultyShelf::new(three_files(rt.alloc())?, failure);
-    let mut writer = Counted::new(Vec::new(rt.alloc()));
-    let outcome = run(
-        rt,
-        rt.alloc(),
-        &script,
-        &mut shelf,
-        &mut Single,
-        &mut writer,
-    );
-    let expected = told_before(rt.alloc(), told, end.line)?;
-    assert_eq!(rt; outcome, Err(end), "{failure:?}");
-    assert_eq!(rt;
-        writer.into_inner().as_slice(),
-        expected.as_slice(),
-        "{failure:?}"
-    );
+    let ran = run_over(rt, &mut shelf, script)?;
+    let before = told_before(rt.alloc(), told, end.line)?;
+    assert_told(rt, &ran, &before, Some(end), &failure);
     if end.cause == Cause::Put {
         let found = shelf.fetch(rt.alloc(), "s").err();
         assert_eq!(rt; found, Some(ShelfFault::Missing));
@@ -119,7 +104,7 @@ fn fails_at(
 
 #[test]
 fn each_call_and_each_read_fails(rt: HostRuntime) -> Result<(), Fail> {
-    for (script, told, calls) in SCRIPTS {
+    for &(script, told, calls) in SCRIPTS {
         let mut reader = 0_u64;
         for (call, (line, asked)) in (1..).zip(calls) {
             let line = *line;
@@ -137,6 +122,18 @@ fn each_call_and_each_read_fails(rt: HostRuntime) -> Result<(), Fail> {
     Ok(())
 }
 
+// What the commands before this line tell is written whole, and of what the next ones tell nothing.
+fn is_cut_in(alloc: Global, told: &[&str], text: &[u8], line: u64) -> Result<bool, Fail> {
+    let whole = told_before(alloc, told, u64::MAX)?;
+    let before = told_before(alloc, told, line)?;
+    let with = told_before(alloc, told, line.saturating_add(1))?;
+    Ok(whole.starts_with(text) && text.starts_with(&before) && text.len() < with.len())
+}
+
+fn is_whole(alloc: Global, told: &[&str], text: &[u8]) -> Result<bool, Fail> {
+    Ok(text == told_before(alloc, told, u64::MAX)?.as_slice())
+}
+
 // How the script ends where its write of this number is refused; whether it met that write.
 fn write_fails(
     rt: &(impl Threads + Wait + Sync + Abort + AllocGlobal),
@@ -150,7 +147,6 @@ fn write_fails(
         Refusal::TakesNothing
     };
     let script = parse(rt.alloc(), script.as_bytes())?;
-    let whole = told_before(rt.alloc(), told, u64::MAX)?;
     let mut writer = Counted::new(FaultyWriter::new(rt.alloc(), n, refusal));
     let mut shelf = three_files(rt.alloc())?;
     let outcome = run(
@@ -163,24 +159,17 @@ fn write_fails(
     );
     let text = writer.get_ref().text();
     let Err(fault) = outcome else {
-        assert_eq!(rt; text, whole.as_slice());
+        assert!(rt; is_whole(rt.alloc(), told, text)?);
         return Ok(false);
     };
     assert_eq!(rt; fault.cause, Cause::Write, "at {n}");
-    // What the commands before told is whole, and what the next ones tell is not there.
-    let before = told_before(rt.alloc(), told, fault.line)?;
-    let with = told_before(rt.alloc(), told, fault.line.saturating_add(1))?;
-    assert!(rt; whole.starts_with(text), "at {n}");
-    assert!(rt;
-        text.starts_with(&before) && text.len() < with.len(),
-        "at {n}"
-    );
+    assert!(rt; is_cut_in(rt.alloc(), told, text, fault.line)?, "at {n}");
     Ok(true)
 }
 
 #[test]
 fn each_write_fails(rt: HostRuntime) -> Result<(), Fail> {
-    for (script, told, _) in SCRIPTS {
+    for &(script, told, _) in SCRIPTS {
         let mut failed = 0;
         for n in 1..200 {
             if write_fails(&rt, script, told, n)? {

@@ -22,7 +22,7 @@ fn old_and_keys(alloc: Global) -> Result<MemShelf, Fail> {
 }
 
 // Scripts over a snapshot of the first version and a key file of seven times 1, and what they tell.
-const SCRIPTS: [(&str, &str); 6] = [
+const SCRIPTS: &[(&str, &str)] = &[
     (
         "snapshot s\nrestore s\ndump\n",
         "snapshot s held 0 bits 3\nrestore s held 0 bits 3\ntable 3 0\nend\n",
@@ -60,11 +60,10 @@ const SCRIPTS: [(&str, &str); 6] = [
 
 #[test]
 fn tables_are_put_and_restored(rt: HostRuntime) -> Result<(), Fail> {
-    for (script, expected) in SCRIPTS {
+    for &(script, expected) in SCRIPTS {
         let mut shelf = old_and_keys(rt.alloc())?;
-        let (text, outcome) = run_over(&rt, &mut shelf, script)?;
-        assert_eq!(rt; text.as_slice(), expected.as_bytes(), "{script}");
-        assert!(rt; outcome.is_ok());
+        let told = run_over(&rt, &mut shelf, script)?;
+        assert_told(&rt, &told, expected.as_bytes(), None, &script);
     }
     Ok(())
 }
@@ -90,7 +89,7 @@ fn the_second_version_is_put(rt: HostRuntime) -> Result<(), Fail> {
 }
 
 // Files that are no snapshot, and why.
-const REFUSED: [(&[u8], SnapFault); 4] = [
+const REFUSED: &[(&[u8], SnapFault)] = &[
     (b"RHS", SnapFault::Short),
     (b"RHK2\0\0\0\0\0\0\0\0", SnapFault::NotSnapshot),
     (b"RHS2\x13", SnapFault::BadBits),
@@ -107,14 +106,12 @@ fn snapshots_that_are_refused(rt: HostRuntime) -> Result<(), Fail> {
     for (bytes, fault) in REFUSED.iter().chain(&changed) {
         let mut shelf = old_and_keys(rt.alloc())?;
         shelf.put(rt.alloc(), "x", bytes)?;
-        let (text, outcome) = run_over(&rt, &mut shelf, script)?;
-        assert_eq!(rt; text.as_slice(), told.as_slice());
+        let ran = run_over(&rt, &mut shelf, script)?;
         let cause = Cause::Snap(*fault);
-        assert_eq!(rt; outcome, Err(RunFault { line: 4, cause }));
+        assert_told(&rt, &ran, told, Some(RunFault { line: 4, cause }), fault);
     }
-    let (text, outcome) = run_over(&rt, &mut old_and_keys(rt.alloc())?, script)?;
-    assert_eq!(rt; text.as_slice(), told.as_slice());
+    let ran = run_over(&rt, &mut old_and_keys(rt.alloc())?, script)?;
     let cause = Cause::Missing;
-    assert_eq!(rt; outcome, Err(RunFault { line: 4, cause }));
+    assert_told(&rt, &ran, told, Some(RunFault { line: 4, cause }), &cause);
     Ok(())
 }
