@@ -1,6 +1,7 @@
 use rh_commands::*;
 use rh_edit::SeqSet;
-use rh_files::{Counted, FaultyReader, FaultyWriter, KeyFault, Refusal, write_dump};
+use rh_faulty::{FaultyReader, FaultyWriter, Refusal};
+use rh_files::{Counted, KeyFault, write_dump};
 use rh_layout::is_layout;
 use std::alloc::{AllocError, Global};
 use std::test::Fail;

@@ -1,3 +1,4 @@
+use rh_faulty::{FaultyReader, FaultyWriter, Refusal};
 use rh_files::*;
 use rh_layout::is_layout;
 use std::alloc::Global;

@@ -6,5 +6,4 @@ pub mod Limits
 pub mod Source
 pub mod Stream
 pub mod Dump
-pub mod Faulty
 pub mod HeldKeys

@@ -1,4 +1,5 @@
-use rh_files::{Counted, FaultyReader, FaultyWriter, Refusal, WriteFault};
+use rh_faulty::{FaultyReader, FaultyWriter, Refusal};
+use rh_files::{Counted, WriteFault};
 use rh_numbers::*;
 use std::alloc::{AllocError, Global};
 use std::test::*;

@@ -1,4 +1,5 @@
-use rh_files::{Counted, FaultyReader, FaultyWriter, KeyFault, Refusal};
+use rh_faulty::{FaultyReader, FaultyWriter, Refusal};
+use rh_files::{Counted, KeyFault};
 use rh_numbers::TextFault;
 use rh_packing::*;
 use rh_snapshot::SnapFault;

@@ -19,14 +19,15 @@ use Rattle.rh_snapshot.specs.Snapshot.{spelling}
 use Rattle.rh_snapshot.proofs.Grammar.{file_given, second_file}
 use Rattle.rh_script.specs.Names.{is_given}
 use Rattle.rh_shelf.specs.Shelf.{Files, Puts, with_file}
-use Rattle.rh_planner.specs.declared.key_lists.KeyList.{KeyList}
-use Rattle.rh_planner.specs.declared.key_lists.Source.{Source}
-use Rattle.rh_planner.specs.declared.key_lists.Source.TheVariants.{Path, Memory}
-use Rattle.rh_planner.specs.Commands.{IsSnapshotOf}
-use Rattle.rh_planner.specs.Found.{keys_found, table_found}
+use Rattle.rh_operations.specs.declared.key_lists.KeyList.{KeyList}
+use Rattle.rh_operations.specs.declared.key_lists.Source.{Source}
+use Rattle.rh_operations.specs.declared.key_lists.Source.TheVariants.{Path, Memory}
+use Rattle.rh_operations.specs.Operations.{IsSnapshotOf}
+use Rattle.rh_operations.specs.Found.{keys_found, table_found}
 use Rattle.rh_planner.specs.Files.{Bytes, File, FileMap, HasFiles, IsFile, Sealed, with_snapshot}
-use Rattle.rh_planner.specs.KeyLists.{Stands, bytes_at as bytes_in, path_of, paths_of}
-use Rattle.rh_planner.specs.Meaning.{keys_in, keys_or_cause, table_in, table_or_cause}
+use Rattle.rh_operations.specs.KeyLists.{Stands, bytes_at as bytes_in, path_of, paths_of}
+use Rattle.rh_operations.specs.Found.{keys_or_cause, table_or_cause}
+use Rattle.rh_planner.specs.Meaning.{keys_in, table_in}
 use Rattle.rh_planner.specs.Steps.{ListsStand, Named}
 
 -- ---- before the first command

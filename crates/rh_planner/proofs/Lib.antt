@@ -1,18 +1,12 @@
 -- Each step of a script has an outcome, by the meaning of its command. The proofs show for each kind of step that the
 -- run ends in that outcome, and join the steps to the script.
--- SizeLemmas: the size of a table, as a number that is enough and least, and as a function.
--- CommandLemmas: room in a table after a phase, and why a command is refused.
 -- FileLemmas: the files of a script's world, and what stands at the paths of a shelf.
 -- ListLemmas: the lists that have a name.
--- AgainLemmas: a list that is read again: its keys, or why it is refused.
 -- StepLemmas: how a step ends.
 -- TaskLemmas: from a step to what is left of the script's state.
 -- RunLemmas: a script step by step.
 
-pub mod AgainLemmas
 pub mod FileLemmas
-pub mod SizeLemmas
-pub mod CommandLemmas
 pub mod StepLemmas
 pub mod ListLemmas
 pub mod TaskLemmas

@@ -15,10 +15,11 @@ use Rattle.rh_files.specs.Source as source
 use Rattle.rh_files.proofs.Grammar.{file_given}
 use Rattle.rh_shelf.specs.Shelf.{Files}
 use Rattle.rh_script.specs.Plan.{position_of}
-use Rattle.rh_planner.specs.declared.key_lists.KeyList.{KeyList}
-use Rattle.rh_planner.specs.KeyLists.{Stands, path_of, paths_of}
-use Rattle.rh_planner.specs.Found.{keys_found}
-use Rattle.rh_planner.specs.Meaning.{keys_or_cause, list_of}
+use Rattle.rh_operations.specs.declared.key_lists.KeyList.{KeyList}
+use Rattle.rh_operations.specs.KeyLists.{Stands, path_of, paths_of}
+use Rattle.rh_operations.specs.Found.{keys_found}
+use Rattle.rh_operations.specs.Found.{keys_or_cause}
+use Rattle.rh_planner.specs.Meaning.{list_of}
 use Rattle.rh_planner.specs.Steps.{ListsStand, Named, names_of}
 
 pub one_more_stands : (files : Option Files) (lists : List KeyList) (named : Named) (list : KeyList) (name keys : List ℕ) → ListsStand files lists named → Stands files list keys → ListsStand files (lists ++ list ∷ []) (named ++ (name, keys) ∷ [])
@@ -65,17 +66,6 @@ pub stands_at : (files : Option Files) (lists : List KeyList) (named : Named) (n
 stands_at files lists named name i d stand is =
     let at = place_is name (names_of named) i is in
     subst (λ j. Stands files (get_or lists j d) (list_of name named)) at.0 (stands_from files name d lists named stand at.1)
-
--- ---- a list in memory
-
-pub spelled_in_memory : (keys saved old new : List ℕ) → old ≡ [] → new ≡ old ++ spelling Second keys → All IsKey keys → length keys < 2 ^ MAX_BITS → keys ≡ saved → keys_found (Some new) ≡ Ok saved
-spelled_in_memory keys saved old new none written in_range few same =
-    let file : KeyFile Second new keys = record {
-      spelled = written ∙ ap (λ (l : List ℕ). l ++ spelling Second keys) none;
-      few = omega (arith, few);
-      in_range = λ k d inside. (omega arith, in_range k d inside);
-    } in
-    ap (λ r. keys_or_cause (source.keys_in r)) (file_given Second new keys file) ∙ ap (λ (k : List ℕ). Ok k) same
 
 -- ---- the paths of lists
 

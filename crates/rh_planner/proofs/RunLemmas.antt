@@ -17,12 +17,14 @@ use Rattle.rh_script.specs.Instruction.{Instruction, Numbered, Use, Add, Drop, A
 use Rattle.rh_script.specs.Names.{SnapshotsAreNew, file_of, files_in, given_by, is_given, names_in}
 use Rattle.rh_script.specs.Plan.{Planned, number_after, plan_of, planned_after}
 use Rattle.rh_shelf.specs.Shelf.{Files}
-use Rattle.rh_planner.specs.declared.fault.Cause.{Cause}
+use Rattle.rh_operations.specs.declared.cause.Cause.{Cause}
 use Rattle.rh_planner.specs.declared.fault.RunFault.{RunFault}
-use Rattle.rh_planner.specs.declared.key_lists.KeyList.{KeyList}
+use Rattle.rh_operations.specs.declared.key_lists.KeyList.{KeyList}
 use Rattle.rh_planner.specs.Files.{HasFiles, given_files}
-use Rattle.rh_planner.specs.KeyLists.{paths_of}
-use Rattle.rh_planner.specs.Meaning.{◌>>=◌, ScriptState, Outcome, at_line, keys_in, meaning, outcome_of, size_for, start, table_in}
+use Rattle.rh_operations.specs.KeyLists.{paths_of}
+use Rattle.rh_operations.specs.Sequence.{◌>>=◌}
+use Rattle.rh_operations.specs.Size.{size_for}
+use Rattle.rh_planner.specs.Meaning.{ScriptState, Outcome, at_line, keys_in, meaning, outcome_of, start, table_in}
 use Rattle.rh_planner.specs.Environment.{Environment}
 use Rattle.rh_planner.specs.Ends.{Done, EndsBy, LeavesFiles, SaysAll, Stopped, step_in}
 use Rattle.rh_planner.specs.Steps.{HasList, IsApart, ListsStand, Named, StepDone, names_of, world_of}

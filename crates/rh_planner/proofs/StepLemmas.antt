@@ -13,14 +13,16 @@ use Rattle.rh_shelf.specs.Shelf.{Files}
 use Rattle.rh_planner.specs.Files.{FileMap, with_snapshot}
 use Rattle.rh_report.specs.Account.{Account, Says}
 use Rattle.rh_report.specs.Account as accounts
-use Rattle.rh_planner.specs.declared.fault.Cause.{Cause}
-use Rattle.rh_planner.specs.declared.fault.Cause.TheVariants.{Write}
-use Rattle.rh_planner.specs.Meaning.{◌>>=◌, ScriptState, Outcome, adds, drops, keeps, flips, keys_in, restores, snapshots, table_in, uses}
-use Rattle.rh_planner.specs.Commands.{Added, Dropped, Kept, Flipped}
-use Rattle.rh_planner.specs.Ends.{RefusedBy, TellsFront}
+use Rattle.rh_operations.specs.declared.cause.Cause.{Cause}
+use Rattle.rh_operations.specs.declared.cause.Cause.TheVariants.{Write}
+use Rattle.rh_operations.specs.Sequence.{◌>>=◌}
+use Rattle.rh_planner.specs.Meaning.{ScriptState, Outcome, adds, drops, keeps, flips, keys_in, restores, snapshots, table_in, uses}
+use Rattle.rh_operations.specs.Operations.{Added, Dropped, Kept, Flipped}
+use Rattle.rh_operations.specs.Refusals.{RefusedBy}
+use Rattle.rh_planner.specs.Ends.{TellsFront}
 use Rattle.rh_planner.specs.Steps.{Named, world_of}
-use Rattle.rh_planner.specs.declared.key_lists.KeyList.{KeyList}
-use Rattle.rh_planner.specs.KeyLists.{Stands}
+use Rattle.rh_operations.specs.declared.key_lists.KeyList.{KeyList}
+use Rattle.rh_operations.specs.KeyLists.{Stands}
 
 -- the tally counts the keys of the list as read
 pub all_read : (kind : Kind) (S : Keys) (keys : List ℕ) → (tally_of kind S keys).read ≡ length keys

@@ -10,12 +10,15 @@ use Rattle.rh_snapshot.specs.Reading.{file_table}
 use Rattle.rh_shelf.specs.Shelf.{Files}
 use Rattle.rh_script.specs.Instruction.{Instruction, Use, Add, Drop, Ask, Keep, Flip, Save, Clear, Dump, Snapshot, Restore}
 use Rattle.rh_script.specs.Plan.{position_of}
-use Rattle.rh_planner.specs.declared.fault.Cause.{Cause}
-use Rattle.rh_planner.specs.declared.fault.Cause.TheVariants as causes
-use Rattle.rh_planner.specs.declared.key_lists.KeyList.{KeyList}
+use Rattle.rh_operations.specs.declared.cause.Cause.{Cause}
+use Rattle.rh_operations.specs.declared.cause.Cause.TheVariants as causes
+use Rattle.rh_operations.specs.declared.key_lists.KeyList.{KeyList}
 use Rattle.rh_planner.specs.Files.{Bytes, File, FileMap, HasFiles, Sealed}
-use Rattle.rh_planner.specs.KeyLists.{Stands}
-use Rattle.rh_planner.specs.Meaning.{◌>>=◌, ScriptState, Outcome, keys_in, keys_or_cause, list_of, outcome_of, size_for, size_or_cause, table_in, table_or_cause}
+use Rattle.rh_operations.specs.KeyLists.{Stands}
+use Rattle.rh_operations.specs.Found.{keys_or_cause, table_or_cause}
+use Rattle.rh_operations.specs.Sequence.{◌>>=◌}
+use Rattle.rh_operations.specs.Size.{size_for, size_or_cause}
+use Rattle.rh_planner.specs.Meaning.{ScriptState, Outcome, keys_in, list_of, outcome_of, table_in}
 use Rattle.rh_planner.specs.Outside.{IsOutside}
 use Rattle.rh_planner.specs.Ends.{EndsBy, LeavesFiles, LeavesOthers, Step, step_in}
 use Rattle.rh_planner.specs.Environment.{Environment}

@@ -1,13 +1,14 @@
 -- How the run of a script ends.
-use Rattle.std.specs.Prelude.{◌≡◌, ◌≢◌, ℕ, ◌⊎◌, List, [], ◌∷◌, ◌++◌, length, Option, Some, None, Result, Ok, Err, OnOk, IfErr}
+use Rattle.std.specs.Prelude.{◌≡◌, ℕ, ◌⊎◌, List, [], ◌∷◌, ◌++◌, length, Option, Some, None, Result, Ok, Err, OnOk, IfErr}
 use Rattle.std.specs.FinSet as set
 use Rattle.std.specs.Io.KnownBytes.{Appends}
 use Rattle.rh_files.specs.Counting.{AppendsFront, Rose}
 use Rattle.rh_script.specs.Instruction.{Instruction, Numbered, Snapshot}
 use Rattle.rh_shelf.specs.Shelf.{Files}
 use Rattle.rh_report.specs.Account.{Account, Says}
-use Rattle.rh_planner.specs.declared.fault.Cause.{Cause}
-use Rattle.rh_planner.specs.declared.fault.Cause.TheVariants.{Missing, Changed, Memory, NoThread, Put, Write}
+use Rattle.rh_operations.specs.declared.cause.Cause.{Cause}
+use Rattle.rh_operations.specs.declared.cause.Cause.TheVariants.{Missing, Memory, Put, Write}
+use Rattle.rh_operations.specs.Refusals.{RefusedBy}
 use Rattle.rh_planner.specs.declared.fault.RunFault.{RunFault}
 use Rattle.rh_planner.specs.declared.report.Report.{Report}
 use Rattle.rh_planner.specs.Files.{FileMap, HasFiles, HasOthers}
@@ -20,35 +21,12 @@ abbrev pub SaysAll : List Account → List ℕ → Type 0
 SaysAll [] text = text ≡ []
 SaysAll (account ∷ accounts) text = (first : List ℕ) × (rest : List ℕ) × Says account first × SaysAll accounts rest × (text ≡ first ++ rest)
 
--- a cause that the meaning has, or one from outside
-abbrev pub RefusedBy : {Y : Type 0} → Result Y Cause → (outside : Cause → Type 0) → Cause → Type 0
-RefusedBy said outside cause = (said ≡ Err cause) ⊎ outside cause
-
--- A list that was chosen from before is read again: `Changed` comes also where it is not one of which as many positions
--- are chosen.
-abbrev pub RefusedAgain : Result (List ℕ) Cause → (chosen : List ℕ → List ℕ) → (many : ℕ) → (outside : Cause → Type 0) → Cause → Type 0
-RefusedAgain said chosen many outside cause =
-    RefusedBy said outside cause ⊎ ((cause ≡ Changed) × ((keys : List ℕ) → said ≡ Ok keys → length (chosen keys) ≢ many))
-
--- What a command that puts no file leaves of a shelf: it gives the same files; it did not fail where the command was
--- carried out; and where its files are not known, it failed if one was missing.
-pub record KeepsShelf {X : Type 0} (files files' : Option Files) (failures failures' : ℕ) (r : Result X Cause) : Type 0 where
-  pub same_files : files' ≡ files
-  pub fine : OnOk r (failures' ≡ failures)
-  pub missing : IfErr r (λ cause. cause ≡ Missing → files ≡ None → Rose failures failures')
-  pub not_put : IfErr r (λ cause. cause ≡ Put → ⊥)
-
 -- What any command leaves of a shelf. It failed where it did not take a file.
 pub record LeavesShelf {X : Type 0} (files files' : Option Files) (failures failures' : ℕ) (r : Result X Cause) : Type 0 where
   pub still_unknown : files ≡ None → files' ≡ None
   pub fine : OnOk r (failures' ≡ failures)
   pub missing : IfErr r (λ cause. cause ≡ Missing → files ≡ None → Rose failures failures')
   pub put : IfErr r (λ cause. cause ≡ Put → Rose failures failures')
-
--- What a command leaves of a runner: no thread was refused where it was carried out, and one was where that is the cause.
-pub record KeepsRunner {X : Type 0} (starts starts' : ℕ) (r : Result X Cause) : Type 0 where
-  pub fine : OnOk r (starts' ≡ starts)
-  pub thread : IfErr r (λ cause. cause ≡ NoThread → Rose starts starts')
 
 -- What a command leaves of a writer: no write failed where it was carried out, and one did where that is the cause.
 pub record KeepsWriter {X : Type 0} (failures failures' : ℕ) (r : Result X Cause) : Type 0 where

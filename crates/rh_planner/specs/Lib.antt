@@ -1,12 +1,7 @@
-pub mod Size
-pub mod Causes
 pub mod Files
 pub mod Meaning
-pub mod Found
 pub mod Outside
 pub mod Environment
 pub mod Ends
-pub mod KeyLists
-pub mod Commands
 pub mod Steps
 pub mod Reached

@@ -11,11 +11,8 @@ use Rattle.rh_edit.specs.Held.{Held}
 use Rattle.rh_edit.specs.Rising.{rising_keys}
 use Rattle.rh_ledger.specs.declared.tally.Kind.TheVariants.{Insert, Remove}
 use Rattle.rh_ledger.specs.Phase.{set_after, tally_of, looked_up}
-use Rattle.rh_files.specs.declared.fault.KeyFault.{KeyFault}
 use Rattle.rh_files.specs.declared.fault.KeyFault.TheVariants.{NotKeys}
 use Rattle.rh_files.specs.Source.{keys_of_file}
-use Rattle.rh_snapshot.specs.declared.fault.SnapFault.{SnapFault}
-use Rattle.rh_snapshot.specs.Snapshot.{Table}
 use Rattle.rh_snapshot.specs.Reading.{file_table}
 use Rattle.rh_runner.specs.Lists.{chosen}
 use Rattle.rh_script.specs.Instruction.{Instruction, Numbered}
@@ -23,11 +20,13 @@ use Rattle.rh_script.specs.Instruction as instructions
 use Rattle.rh_shelf.specs.Shelf.{Files}
 use Rattle.rh_report.specs.Account.{Account, Used, Added, Dropped, Asked, Kept, Flipped, Saved, Cleared, Dumped, Restored}
 use Rattle.rh_report.specs.Account as accounts
-use Rattle.rh_planner.specs.declared.fault.Cause.{Cause}
-use Rattle.rh_planner.specs.declared.fault.Cause.TheVariants as causes
-use Rattle.rh_planner.specs.declared.fault.Cause.TheVariants.{Missing, TooLarge}
+use Rattle.rh_operations.specs.declared.cause.Cause.{Cause}
+use Rattle.rh_operations.specs.declared.cause.Cause.TheVariants as causes
+use Rattle.rh_operations.specs.declared.cause.Cause.TheVariants.{Missing}
+use Rattle.rh_operations.specs.Found.{keys_or_cause, table_or_cause}
+use Rattle.rh_operations.specs.Sequence.{◌>>=◌}
+use Rattle.rh_operations.specs.Size.{size_for}
 use Rattle.rh_planner.specs.declared.fault.RunFault.{RunFault}
-use Rattle.rh_planner.specs.Size.{capacity}
 use Rattle.rh_planner.specs.Files.{File, FileMap, Bytes, Sealed, given_files, with_snapshot}
 
 -- what there is between two commands: the keys that are held, the bits of their table, the lists by their names in the
@@ -48,18 +47,8 @@ list_of name lists = unwrap_or (lookup (λ other. bytes_eq other name) lists) []
 
 -- ---- what a command makes, or why it is refused
 
--- one step, and then the next
-infixl 10 ◌>>=◌
-abbrev pub ◌>>=◌ : {A B E : Type 0} → Result A E → (A → Result B E) → Result B E
-(Ok x) >>= f = f x
-(Err e) >>= f = Err e
-
 abbrev pub Outcome : Type 0
 Outcome = Result (ScriptState × Account) Cause
-
-abbrev pub keys_or_cause : Result (List ℕ) KeyFault → Result (List ℕ) Cause
-keys_or_cause (Ok keys) = Ok keys
-keys_or_cause (Err fault) = Err (causes.Keys fault)
 
 -- the keys of the file at a path, or why it has none; a snapshot is no key file
 abbrev pub keys_in : Option File → Result (List ℕ) Cause
@@ -67,23 +56,11 @@ keys_in None = Err Missing
 keys_in (Some (Bytes bytes)) = keys_or_cause (keys_of_file bytes)
 keys_in (Some (Sealed table)) = Err (causes.Keys NotKeys)
 
-abbrev pub table_or_cause : Result (Table × List ℕ) SnapFault → Result Held Cause
-table_or_cause (Ok read) = Ok (record { bits = read.0.bits; keys = keys_of read.0.cells })
-table_or_cause (Err fault) = Err (causes.Snap fault)
-
 -- the table of the snapshot at a path, or why there is none
 abbrev pub table_in : Option File → Result Held Cause
 table_in None = Err Missing
 table_in (Some (Bytes bytes)) = table_or_cause (file_table bytes)
 table_in (Some (Sealed table)) = Ok table
-
-abbrev pub size_or_cause : Option ℕ → Result ℕ Cause
-size_or_cause (Some size) = Ok size
-size_or_cause None = Err TooLarge
-
--- the least size from `bits` on of a table that n keys fit, or why there is none
-abbrev pub size_for : (bits n : ℕ) → Result ℕ Cause
-size_for bits n = size_or_cause (capacity bits n)
 
 -- the list has a name from now on
 abbrev pub named : ScriptState → (name keys : List ℕ) → ScriptState

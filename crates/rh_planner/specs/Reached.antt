@@ -7,8 +7,8 @@ use Rattle.rh_script.specs.Instruction.{Numbered}
 use Rattle.rh_script.specs.Names.{files_in, names_in}
 use Rattle.rh_shelf.specs.Shelf.{Files}
 use Rattle.rh_planner.specs.declared.fault.RunFault.{RunFault}
-use Rattle.rh_planner.specs.declared.key_lists.KeyList.{KeyList}
-use Rattle.rh_planner.specs.KeyLists.{paths_of}
+use Rattle.rh_operations.specs.declared.key_lists.KeyList.{KeyList}
+use Rattle.rh_operations.specs.KeyLists.{paths_of}
 use Rattle.rh_planner.specs.Files.{FileMap, HasFiles}
 use Rattle.rh_planner.specs.Meaning.{meaning, start}
 use Rattle.rh_planner.specs.Ends.{SaysAll, Stopped}

@@ -6,9 +6,9 @@ use Rattle.rh_shelf.specs.Shelf.{Files}
 use Rattle.rh_script.specs.Names.{is_given}
 use Rattle.rh_script.specs.declared.task.Task.{Task}
 use Rattle.rh_script.specs.declared.task.Task.TheVariants as tasks
-use Rattle.rh_planner.specs.declared.fault.Cause.{Cause}
-use Rattle.rh_planner.specs.declared.key_lists.KeyList.{KeyList}
-use Rattle.rh_planner.specs.KeyLists.{Stands, paths_of}
+use Rattle.rh_operations.specs.declared.cause.Cause.{Cause}
+use Rattle.rh_operations.specs.declared.key_lists.KeyList.{KeyList}
+use Rattle.rh_operations.specs.KeyLists.{Stands, paths_of}
 use Rattle.rh_planner.specs.Files.{FileMap, HasFiles}
 use Rattle.rh_planner.specs.Meaning.{ScriptState}
 use Rattle.rh_planner.specs.Ends.{EndsBy, LeavesFiles, Step, Tells}

@@ -1,42 +1,7 @@
 //! Why a run ends early.
 
-ghost use Rattle.std.specs.Prelude.{◌≡◌};
-ghost use Rattle.rh_planner.specs.declared.fault.Cause.TheVariants.{Memory, Write};
-ghost use Rattle.rh_planner.specs.Causes.{of_keys, of_list, of_snapshot};
-
-use rh_files::{KeyFault, WriteFault};
-use rh_runner::{ListFault, PhaseFault};
-use rh_snapshot::SnapFault;
-use std::alloc::{AllocError, AllocFailed};
+use rh_operations::Cause;
 use thiserror::Error;
-
-/// Why a command was not carried out.
-#[derive(Clone, Copy, Debug, PartialEq, Eq, Error)]
-pub enum Cause {
-    /// There is no file at the path, or it cannot be opened.
-    #[error("cannot open the file")]
-    Missing,
-    /// The key file is refused, or could not be read. Never want of memory.
-    #[error(transparent)]
-    Keys(KeyFault),
-    /// The snapshot is refused, or could not be read. Never want of memory.
-    #[error(transparent)]
-    Snap(SnapFault),
-    /// The list has another number of keys than before, or of those that are chosen.
-    #[error("key file has changed")]
-    Changed,
-    /// No table is large enough.
-    #[error("table too large")]
-    TooLarge,
-    #[error("out of memory")]
-    Memory,
-    #[error("cannot start a worker")]
-    NoThread,
-    #[error("cannot write the snapshot")]
-    Put,
-    #[error("cannot write the output")]
-    Write,
-}
 
 /// The cause that ended a run, and the line of its command. Lines are numbered from 1; 0 is before
 /// the first.
@@ -45,63 +10,4 @@ pub enum Cause {
 pub struct RunFault {
     pub line: u64,
     pub cause: Cause,
-}
-
-impl From<KeyFault> for Cause {
-    ghost from_gives = { λ fault cause. cause ≡ of_keys fault };
-
-    fn from(fault: KeyFault) -> Cause {
-        match fault {
-            KeyFault::Memory => Cause::Memory,
-            other => Cause::Keys(other),
-        }
-    }
-}
-
-impl From<SnapFault> for Cause {
-    ghost from_gives = { λ fault cause. cause ≡ of_snapshot fault };
-
-    fn from(fault: SnapFault) -> Cause {
-        match fault {
-            SnapFault::Memory => Cause::Memory,
-            other => Cause::Snap(other),
-        }
-    }
-}
-
-impl From<ListFault> for Cause {
-    ghost from_gives = { λ fault cause. cause ≡ of_list fault };
-
-    fn from(fault: ListFault) -> Cause {
-        match fault {
-            ListFault::Keys(fault) => Cause::from(fault),
-            ListFault::Changed => Cause::Changed,
-            ListFault::Phase(PhaseFault::Memory) => Cause::Memory,
-            ListFault::Phase(PhaseFault::NoThread) => Cause::NoThread,
-        }
-    }
-}
-
-impl From<WriteFault> for Cause {
-    ghost from_gives = { λ _ cause. cause ≡ Write };
-
-    fn from(_fault: WriteFault) -> Cause {
-        Cause::Write
-    }
-}
-
-impl From<AllocError> for Cause {
-    ghost from_gives = { λ _ cause. cause ≡ Memory };
-
-    fn from(_error: AllocError) -> Cause {
-        Cause::Memory
-    }
-}
-
-impl<T: Drop> From<AllocFailed<T>> for Cause {
-    ghost from_gives = { λ _ cause. cause ≡ Memory };
-
-    fn from(_error: AllocFailed<T>) -> Cause {
-        Cause::Memory
-    }
 }

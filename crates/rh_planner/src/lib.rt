@@ -1,17 +1,13 @@
 //! What a script does, and its run.
 #![tactic(auto)]
 
-mod commands;
 mod fault;
-mod key_lists;
-mod opening;
 mod report;
 mod running;
-mod size;
-mod snapshots;
 mod steps;
 mod tasks;
 
-pub use fault::{Cause, RunFault};
+pub use fault::RunFault;
 pub use report::Report;
+pub use rh_operations::Cause;
 pub use running::run;

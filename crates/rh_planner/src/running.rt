@@ -14,12 +14,13 @@ ghost use Rattle.rh_planner.specs.Ends.{Ends};
 ghost use Rattle.rh_planner.specs.Environment.{environment};
 ghost use Rattle.rh_planner.specs.Reached.{AllEnds};
 
-use crate::fault::{Cause, RunFault};
+use crate::fault::RunFault;
 use crate::report::Report;
 use crate::tasks::carry_out;
 use rh_edit::SeqSet;
 use rh_files::Counted;
 use rh_layout::MIN_BITS;
+use rh_operations::Cause;
 use rh_runner::Runner;
 use rh_script::{Plan, Script, plan};
 use rh_shelf::Shelf;

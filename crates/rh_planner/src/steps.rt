@@ -8,22 +8,23 @@ ghost use Rattle.rh_script.specs.Instruction.{Use, Add, Drop, Ask, Keep, Flip, S
 ghost use Rattle.rh_script.specs.Instruction.{Snapshot, Restore};
 ghost use Rattle.rh_script.specs.Names.{is_given};
 ghost use Rattle.rh_shelf.specs.Shelf.{Files};
-ghost use Rattle.rh_planner.specs.declared.key_lists.KeyList.{KeyList};
-ghost use Rattle.rh_planner.specs.Ends.{KeepsRunner, KeepsShelf, KeepsWriter, LeavesShelf};
+ghost use Rattle.rh_operations.specs.declared.key_lists.KeyList.{KeyList};
+ghost use Rattle.rh_operations.specs.Leaves.{KeepsRunner, KeepsShelf};
+ghost use Rattle.rh_planner.specs.Ends.{KeepsWriter, LeavesShelf};
 ghost use Rattle.rh_planner.specs.Environment.{Environment, environment};
 ghost use Rattle.rh_planner.specs.Files.{FileMap, HasFiles};
-ghost use Rattle.rh_planner.specs.KeyLists.{Stands, paths_of};
+ghost use Rattle.rh_operations.specs.KeyLists.{Stands, paths_of};
 ghost use Rattle.rh_planner.specs.Meaning.{adds, asks, clears, drops, dumps, flips, keeps, restores};
 ghost use Rattle.rh_planner.specs.Meaning.{saves, snapshots, uses};
 ghost use Rattle.rh_planner.specs.Steps.{ListsStand, Named, PlainEnds, StateEnds, StepEnds, world_of};
 
-use crate::commands::{add, ask, drop_keys, flip, keep, saved, use_file};
-use crate::fault::Cause;
-use crate::key_lists::{KeyList, Source};
-use crate::snapshots::{put_snapshot, restored};
 use rh_edit::SeqSet;
 use rh_files::{Counted, write_dump};
 use rh_layout::MIN_BITS;
+use rh_operations::{
+    Cause, KeyList, Source, add, ask, drop_keys, flip, keep, put_snapshot, restored, saved,
+    use_file,
+};
 use rh_report::{
     write_added, write_asked, write_cleared, write_dropped, write_flipped, write_kept,
     write_restored, write_saved, write_sealed, write_used,

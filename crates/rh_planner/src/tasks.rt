@@ -5,21 +5,21 @@ ghost use Rattle.rh_files.specs.Counting.{failures_of, inner_of};
 ghost use Rattle.rh_script.specs.Names.{file_of, given_by};
 ghost use Rattle.rh_script.specs.Plan.{number_after};
 ghost use Rattle.rh_script.specs.Tasks.{task_as};
-ghost use Rattle.rh_planner.specs.Ends.{KeepsRunner, KeepsWriter, LeavesShelf, step_in};
+ghost use Rattle.rh_operations.specs.Leaves.{KeepsRunner};
+ghost use Rattle.rh_planner.specs.Ends.{KeepsWriter, LeavesShelf, step_in};
 ghost use Rattle.rh_planner.specs.Environment.{environment};
 ghost use Rattle.rh_planner.specs.Files.{FileMap, HasFiles};
-ghost use Rattle.rh_planner.specs.KeyLists.{paths_of};
+ghost use Rattle.rh_operations.specs.KeyLists.{paths_of};
 ghost use Rattle.rh_planner.specs.Steps.{HasList, IsApart, ListsStand, Named, StateEnds};
 ghost use Rattle.rh_planner.specs.Steps.{names_of, world_of};
 
-use crate::fault::Cause;
-use crate::key_lists::KeyList;
 use crate::steps::{
     add_step, ask_step, clear_step, drop_step, dump_step, flip_step, keep_step, restore_step,
     save_step, snapshot_step, use_step,
 };
 use rh_edit::SeqSet;
 use rh_files::Counted;
+use rh_operations::{Cause, KeyList};
 use rh_runner::Runner;
 use rh_script::Task;
 use rh_shelf::Shelf;

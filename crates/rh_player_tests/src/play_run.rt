@@ -1,4 +1,5 @@
-use rh_files::{Counted, FaultyReader, FaultyWriter, Refusal};
+use rh_faulty::{FaultyReader, FaultyWriter, Refusal};
+use rh_files::Counted;
 use rh_play::{MAX_TEXT_BYTES, PlayTextFault, PlayTextKind};
 use rh_play_run::*;
 use rh_player::PlayFault;

@@ -1,4 +1,5 @@
-use rh_files::{Counted, FaultyWriter, Refusal, WriteFault};
+use rh_faulty::{FaultyWriter, Refusal};
+use rh_files::{Counted, WriteFault};
 use rh_report::*;
 use std::test::*;
 

@@ -1,3 +1,4 @@
+use rh_faulty::{FaultyShelf, ShelfFailure};
 use rh_shelf::*;
 use std::alloc::Global;
 use std::io::Read;

@@ -1,56 +1,14 @@
--- The shelves in memory, and that of real files.
-use Rattle.std.specs.Prelude.{List, ℕ, ◌+◌, min, ◌==◌, if◌then◌else◌, Option, Some, option_map, Vec}
-use Rattle.std.specs.Global.{Global}
+-- The shelf in memory, and that of real files.
+use Rattle.std.specs.Prelude.{ℕ, option_map}
 use Rattle.std.specs.BTreeMap.{get_by_text}
-use Rattle.rh_files.specs.Counting.{last_count}
 use Rattle.rh_shelf.specs.Shelf.{Files}
 use Rattle.rh_shelf.specs.declared.memory.MemShelf.{MemShelf}
-use Rattle.rh_shelf.specs.declared.faulty.FaultyShelf.{FaultyShelf}
 use Rattle.rh_shelf.specs.declared.file.FileShelf.{FileShelf}
-use Rattle.rh_shelf.specs.declared.faulty.ShelfFailure.{ShelfFailure}
-use Rattle.rh_shelf.specs.declared.faulty.ShelfFailure.TheVariants.{Call, Read}
 
 -- the files of a shelf in memory
 abbrev pub files_of : MemShelf → Files
 files_of s path = option_map (λ bytes. bytes.items) (get_by_text s.files path)
 
--- the bytes of a vector
-abbrev pub known_bytes : Vec ℕ Global → Option (List ℕ)
-known_bytes v = Some v.items
-
 -- how often a real file could not be opened or written
 abbrev pub failed_files : {F : Type 0} → FileShelf F → ℕ
 failed_files s = s.failures
-
--- ---- the shelf that fails once
-
-abbrev pub shelf_of : FaultyShelf → MemShelf
-shelf_of s = s.shelf
-
-abbrev pub failure_of : FaultyShelf → ShelfFailure
-failure_of s = s.failure
-
--- how often the shelf was called
-abbrev pub calls_of : FaultyShelf → ℕ
-calls_of s = s.calls
-
--- the number of the next call
-abbrev pub next_call : FaultyShelf → ℕ
-next_call s = min (s.calls + 1) last_count
-
--- how many readers the shelf gave
-abbrev pub readers_of : FaultyShelf → ℕ
-readers_of s = s.readers
-
--- the number of the next reader
-abbrev pub next_reader : FaultyShelf → ℕ
-next_reader s = min (s.readers + 1) last_count
-
--- how often the shelf itself failed
-abbrev pub failures_in : FaultyShelf → ℕ
-failures_in s = s.failures
-
--- the number of the read that fails, of the reader of this number; 0 where none does
-abbrev pub read_that_fails : ShelfFailure → ℕ → ℕ
-read_that_fails (Call n) given = 0
-read_that_fails (Read reader read) given = if reader == given then read else 0

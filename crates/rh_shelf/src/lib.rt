@@ -1,12 +1,10 @@
 //! Where the files of a script stand.
 #![tactic(auto)]
 
-mod faulty;
 mod file;
 mod memory;
 mod shelf;
 
-pub use faulty::{FaultyShelf, ShelfFailure};
 pub use file::FileShelf;
 pub use memory::MemShelf;
 pub use shelf::{Shelf, ShelfFault};

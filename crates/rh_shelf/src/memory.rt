@@ -27,7 +27,7 @@ impl MemShelf {
     }
 
     /// The bytes of the path, as a vector of their own.
-    pub(crate) fn copy_of(&self, alloc: Global, path: &str) -> Result<Vec<u8>, ShelfFault>
+    pub fn copy_of(&self, alloc: Global, path: &str) -> Result<Vec<u8>, ShelfFault>
         ensures found { IfOk result (λ v. files_of self.now path.now ≡ Some v.items) }
         ensures missing { IsErrOf result ShelfFault.Missing →
             files_of self.now path.now ≡ None }

@@ -1,5 +1,6 @@
 use rh_commands::*;
-use rh_files::{Counted, FaultyReader, FaultyWriter, Refusal};
+use rh_faulty::{FaultyReader, FaultyWriter, Refusal};
+use rh_files::Counted;
 use rh_snapshot::SnapFault;
 use std::alloc::{AllocError, Global};
 use std::test::Fail;

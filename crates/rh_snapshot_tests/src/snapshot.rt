@@ -1,4 +1,5 @@
-use rh_files::{Counted, FaultyReader};
+use rh_faulty::FaultyReader;
+use rh_files::Counted;
 use rh_snapshot::*;
 use sha2::{Digest, Sha256};
 use std::alloc::{AllocError, Global};

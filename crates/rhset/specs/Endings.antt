@@ -6,8 +6,8 @@ use Rattle.rh_script.specs.declared.fault.ScriptFaultKind.{ScriptFaultKind}
 use Rattle.rh_script.specs.declared.fault.ScriptFaultKind.TheVariants as kinds
 use Rattle.rh_snapshot.specs.declared.fault.SnapFault.{SnapFault}
 use Rattle.rh_snapshot.specs.declared.fault.SnapFault.TheVariants as snap
-use Rattle.rh_planner.specs.declared.fault.Cause.{Cause}
-use Rattle.rh_planner.specs.declared.fault.Cause.TheVariants as causes
+use Rattle.rh_operations.specs.declared.cause.Cause.{Cause}
+use Rattle.rh_operations.specs.declared.cause.Cause.TheVariants as causes
 use Rattle.rh_play.specs.declared.fault.PlayTextKind.{PlayTextKind}
 use Rattle.rh_play.specs.declared.fault.PlayTextKind.TheVariants as texts
 use Rattle.rh_player.specs.declared.fault.PlayFault.{PlayFault}

@@ -1,6 +1,5 @@
 use super::*;
-use rh_files::{FaultyWriter, Refusal};
-use rh_shelf::{FaultyShelf, ShelfFailure};
+use rh_faulty::{FaultyShelf, FaultyWriter, Refusal, ShelfFailure};
 
 // What a command asks of the shelf: a list of some keys, to take a snapshot, or to give one of 8
 // cells.

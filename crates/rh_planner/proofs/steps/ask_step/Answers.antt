@@ -7,7 +7,7 @@ use Rattle.rh_ledger.specs.Phase.{looked_up}
 use Rattle.rh_report.specs.Account.{Asked}
 use Rattle.rh_planner.specs.Steps.{world_of}
 use Rattle.rh_planner.specs.Outside.{IsOutside}
-use Rattle.rh_planner.proofs.AgainLemmas.{given, known_stands, stands_again}
+use Rattle.rh_operations.proofs.AgainLemmas.{given, known_stands, stands_again}
 use Rattle.rh_planner.proofs.StepLemmas.{none_refused, not_told}
 use Rattle.rh_planner.proofs.steps.ask_step.Goals as goal
 

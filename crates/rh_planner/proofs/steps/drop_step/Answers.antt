@@ -4,9 +4,9 @@ use Rattle.std.proofs.lemmas.Result.{err_from_is_err_and}
 use Rattle.rh_files.specs.Counting.{Rose}
 use Rattle.rh_script.specs.Instruction.{Drop}
 use Rattle.std.specs.FinSet as set
-use Rattle.rh_planner.specs.Commands.{Dropped}
+use Rattle.rh_operations.specs.Operations.{Dropped}
 use Rattle.rh_planner.specs.Outside.{IsOutside}
-use Rattle.rh_planner.proofs.AgainLemmas.{given, known_stands, stands_again}
+use Rattle.rh_operations.proofs.AgainLemmas.{given, known_stands, stands_again}
 use Rattle.rh_planner.proofs.StepLemmas.{drops_is, none_refused, not_told}
 use Rattle.rh_planner.proofs.steps.drop_step.Goals as goal
 

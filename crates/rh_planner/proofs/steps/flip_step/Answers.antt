@@ -4,9 +4,9 @@ use Rattle.std.proofs.lemmas.Result.{err_from_is_err_and}
 use Rattle.rh_files.specs.Counting.{Rose}
 use Rattle.rh_script.specs.Instruction.{Flip}
 use Rattle.std.specs.FinSet as set
-use Rattle.rh_planner.specs.Commands.{Flipped}
+use Rattle.rh_operations.specs.Operations.{Flipped}
 use Rattle.rh_planner.specs.Outside.{IsOutside}
-use Rattle.rh_planner.proofs.AgainLemmas.{flip_again, given_twice, known_stands}
+use Rattle.rh_operations.proofs.AgainLemmas.{flip_again, given_twice, known_stands}
 use Rattle.rh_planner.proofs.StepLemmas.{flips_is, not_told, found_refused}
 use Rattle.rh_planner.proofs.steps.flip_step.Goals as goal
 

@@ -4,9 +4,9 @@ use Rattle.std.proofs.lemmas.Result.{err_from_is_err_and}
 use Rattle.rh_files.specs.Counting.{Rose}
 use Rattle.rh_script.specs.Instruction.{Keep}
 use Rattle.std.specs.FinSet as set
-use Rattle.rh_planner.specs.Commands.{Kept}
+use Rattle.rh_operations.specs.Operations.{Kept}
 use Rattle.rh_planner.specs.Outside.{IsOutside}
-use Rattle.rh_planner.proofs.AgainLemmas.{keep_again, given, known_stands}
+use Rattle.rh_operations.proofs.AgainLemmas.{keep_again, given, known_stands}
 use Rattle.rh_planner.proofs.StepLemmas.{keeps_is, list_count, not_told, found_refused}
 use Rattle.rh_planner.proofs.steps.keep_step.Goals as goal
 

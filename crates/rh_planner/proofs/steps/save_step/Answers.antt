@@ -3,7 +3,7 @@ use Rattle.std.proofs.lemmas.List.{append-nil}
 use Rattle.std.proofs.lemmas.Result.{err_from_is_err_and}
 use Rattle.rh_edit.specs.Rising.{rising_keys}
 use Rattle.rh_report.specs.Account.{Saved}
-use Rattle.rh_planner.specs.KeyLists.{Stands, paths_of}
+use Rattle.rh_operations.specs.KeyLists.{Stands, paths_of}
 use Rattle.rh_planner.specs.Steps.{ListsStand, world_of}
 use Rattle.rh_planner.proofs.ListLemmas.{one_more_stands, paths_more}
 use Rattle.rh_planner.proofs.StepLemmas.{not_told}

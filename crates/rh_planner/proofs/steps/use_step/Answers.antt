@@ -4,9 +4,9 @@ use Rattle.std.proofs.lemmas.Result.{err_from_is_err_and}
 use Rattle.rh_files.specs.Counting.{Rose}
 use Rattle.rh_script.specs.Instruction.{Use}
 use Rattle.rh_planner.specs.Outside.{IsOutside}
-use Rattle.rh_planner.specs.declared.key_lists.KeyList.{KeyList}
-use Rattle.rh_planner.specs.declared.key_lists.Source.TheVariants.{Path}
-use Rattle.rh_planner.specs.KeyLists.{Stands}
+use Rattle.rh_operations.specs.declared.key_lists.KeyList.{KeyList}
+use Rattle.rh_operations.specs.declared.key_lists.Source.TheVariants.{Path}
+use Rattle.rh_operations.specs.KeyLists.{Stands}
 use Rattle.rh_planner.specs.Steps.{ListsStand}
 use Rattle.rh_planner.proofs.FileLemmas.{known_files, same_keys}
 use Rattle.rh_planner.proofs.ListLemmas.{one_more_stands, paths_more}

@@ -1,0 +1,141 @@
+//! A shelf in memory that fails once.
+
+ghost use Rattle.std.specs.Prelude.{◌≡◌, ◌≢◌, ◌⊎◌, ◌↔◌, Some, IfOk, IsErrOf, IsTrue};
+ghost use Rattle.std.specs.Prelude.{OnErr, OnOk};
+ghost use Rattle.std.specs.Bool.{OnFalse, OnTrue};
+ghost use Rattle.rh_files.specs.Counting.{Rose};
+ghost use Rattle.rh_shelf.specs.Kinds.{files_of};
+ghost use Rattle.rh_shelf.specs.Shelf.{Finds, InDoubt, Lacks, Puts};
+ghost use Rattle.rh_faulty.specs.Shelf.{shelf_of, failure_of, calls_of, next_call, readers_of};
+ghost use Rattle.rh_faulty.specs.Shelf.{next_reader, failures_in, known_bytes, read_that_fails};
+ghost use Rattle.rh_faulty.specs.Streams.{fails_in, rest_of};
+
+use crate::reader::FaultyReader;
+use rh_shelf::{MemShelf, Shelf, ShelfFault};
+use std::alloc::Global;
+
+/// Which call fails. Calls are counted from 1, and so are readers and the reads of each.
+#[derive(Clone, Copy, Debug, PartialEq, Eq)]
+pub enum ShelfFailure {
+    /// The shelf's call of this number, of `fetch` and `put` together.
+    Call(u64),
+    /// A read of the reader of this number among those that the shelf gave.
+    Read { reader: u64, read: u64 },
+}
+
+/// A shelf in memory of which one call fails once, or one read of one of its readers. It counts its
+/// own failures.
+#[derive(Drop)]
+pub struct FaultyShelf {
+    shelf: MemShelf,
+    failure: ShelfFailure,
+    calls: u64,
+    readers: u64,
+    failures: u64,
+}
+
+impl FaultyShelf {
+    pub fn new(shelf: MemShelf, failure: ShelfFailure) -> FaultyShelf
+        ensures shelf { shelf_of result ≡ shelf }
+        ensures failure { failure_of result ≡ failure }
+        ensures no_call { calls_of result ≡ 0 }
+        ensures no_reader { readers_of result ≡ 0 }
+        ensures no_failure { failures_in result ≡ 0 }
+    {
+        FaultyShelf {
+            shelf,
+            failure,
+            calls: 0,
+            readers: 0,
+            failures: 0,
+        }
+    }
+
+    /// Counts a call, and its failure where it is to fail.
+    fn fails_now(&mut self) -> bool
+        ensures counts { calls_of self.new ≡ next_call self.old }
+        ensures fails { IsTrue result
+            ↔ (failure_of self.old ≡ ShelfFailure.Call (next_call self.old)) }
+        ensures told { OnTrue result (Rose (failures_in self.old) (failures_in self.new)) }
+        ensures fine { OnFalse result (failures_in self.new ≡ failures_in self.old) }
+        ensures same_failure { failure_of self.new ≡ failure_of self.old }
+        ensures same_readers { readers_of self.new ≡ readers_of self.old }
+        ensures same_shelf { shelf_of self.new ≡ shelf_of self.old }
+    {
+        self.calls = self.calls.saturating_add(1);
+        let fails = self.failure == ShelfFailure::Call(self.calls);
+        if fails {
+            self.failures = self.failures.saturating_add(1);
+        }
+        fails
+    }
+}
+
+impl Shelf for FaultyShelf {
+    type Reader = FaultyReader<Vec<u8>>;
+
+    ghost files = { λ s. Some (files_of (shelf_of s)) };
+
+    ghost failures = { failures_in };
+
+    fn fetch(&mut self, alloc: Global, path: &str) -> Result<FaultyReader<Vec<u8>>, ShelfFault>
+        ensures found { IfOk result (λ r.
+            Finds (Some (files_of (shelf_of self.old))) path.now (rest_of known_bytes r)) }
+        ensures missing { IsErrOf result ShelfFault.Missing →
+            Lacks (Some (files_of (shelf_of self.old))) path.now
+            ⊎ Rose (failures_in self.old) (failures_in self.new) }
+        ensures no_write { IsErrOf result ShelfFault.Write → ⊥ }
+        ensures fine { OnOk result (failures_in self.new ≡ failures_in self.old) }
+        ensures same_files { files_of (shelf_of self.new) ≡ files_of (shelf_of self.old) }
+
+        // Which call fails, and which reader.
+        ensures counts { calls_of self.new ≡ next_call self.old }
+        ensures fails { failure_of self.old ≡ ShelfFailure.Call (next_call self.old) →
+            IsErrOf result ShelfFault.Missing }
+        ensures fails_once { failure_of self.old ≢ ShelfFailure.Call (next_call self.old) →
+            failures_in self.new ≡ failures_in self.old }
+        ensures given { OnOk result (readers_of self.new ≡ next_reader self.old) }
+        ensures not_given { OnErr result (readers_of self.new ≡ readers_of self.old) }
+        ensures reader { IfOk result (λ r.
+            fails_in r ≡ read_that_fails (failure_of self.old) (next_reader self.old)) }
+        ensures same_failure { failure_of self.new ≡ failure_of self.old }
+    {
+        if self.fails_now() {
+            return Err(ShelfFault::Missing);
+        }
+        let bytes = self.shelf.copy_of(alloc, path)?;
+        self.readers = self.readers.saturating_add(1);
+        let fails_at = match self.failure {
+            ShelfFailure::Read { reader, read } if reader == self.readers => read,
+            _ => 0,
+        };
+        Ok(FaultyReader::new(bytes, fails_at))
+    }
+
+    fn put(&mut self, alloc: Global, path: &str, bytes: &[u8]) -> Result<(), ShelfFault>
+        ensures put { OnOk result (Puts (Some (files_of (shelf_of self.old)))
+            (Some (files_of (shelf_of self.new))) path.now bytes.now) }
+        ensures doubt { OnErr result (InDoubt (Some (files_of (shelf_of self.old)))
+            (Some (files_of (shelf_of self.new))) path.now) }
+        ensures refused { OnErr result (files_of (shelf_of self.new)
+            ≡ files_of (shelf_of self.old)) }
+        ensures write { IsErrOf result ShelfFault.Write →
+            Rose (failures_in self.old) (failures_in self.new) }
+        ensures not_missing { IsErrOf result ShelfFault.Missing → ⊥ }
+        ensures fine { OnOk result (failures_in self.new ≡ failures_in self.old) }
+
+        // Which call fails.
+        ensures counts { calls_of self.new ≡ next_call self.old }
+        ensures fails { failure_of self.old ≡ ShelfFailure.Call (next_call self.old) →
+            IsErrOf result ShelfFault.Write }
+        ensures fails_once { failure_of self.old ≢ ShelfFailure.Call (next_call self.old) →
+            failures_in self.new ≡ failures_in self.old }
+        ensures same_readers { readers_of self.new ≡ readers_of self.old }
+        ensures same_failure { failure_of self.new ≡ failure_of self.old }
+    {
+        if self.fails_now() {
+            return Err(ShelfFault::Write);
+        }
+        self.shelf.put(alloc, path, bytes)
+    }
+}

@@ -1,0 +1,192 @@
+-- A list that is read again: its keys, or why it is refused.
+use Rattle.std.proofs.Common.{◌≡◌, ◌∙◌, ap, sym, subst, refl, ℕ, ◌+◌, inl, inr, Bool, true, List, length, Option, Some, None, Result, Ok, Err}
+use Rattle.std.proofs.lemmas.Bool.{eq-eqb}
+use Rattle.rh_files.specs.declared.version.Version.{Version}
+use Rattle.rh_files.specs.declared.fault.KeyFault.{KeyFault}
+use Rattle.rh_files.specs.declared.fault.KeyFault.TheVariants as faults
+use Rattle.rh_files.specs.Counting.{Rose}
+use Rattle.rh_files.specs.Reading.{Fails, file_keys, header_at}
+use Rattle.rh_files.specs.Source.{AllCome, Coming, ComesFrom, FaultComes, keys_of_file}
+use Rattle.rh_files.proofs.Coming.{counts}
+use Rattle.rh_runner.specs.declared.runner.PhaseFault.TheVariants as phase_faults
+use Rattle.rh_runner.specs.declared.fault.ListFault.{ListFault}
+use Rattle.rh_runner.specs.declared.fault.ListFault.TheVariants as list_faults
+use Rattle.rh_runner.specs.Lists.{Refused, RefusedFor, Took, chosen}
+use Rattle.std.specs.FinSet as set
+use Rattle.rh_edit.specs.Held.{Held}
+use Rattle.rh_layout.specs.Layout.{Keys}
+use Rattle.rh_layout.specs.declared.limits.TheConstants.{MIN_BITS}
+use Rattle.rh_shelf.specs.Shelf.{Files}
+use Rattle.rh_operations.specs.declared.cause.Cause.{Cause}
+use Rattle.rh_operations.specs.declared.cause.Cause.TheVariants as causes
+use Rattle.rh_operations.specs.declared.key_lists.KeyList.{KeyList}
+use Rattle.rh_operations.specs.declared.key_lists.Source.{Source}
+use Rattle.rh_operations.specs.Causes.{of_keys, of_list}
+use Rattle.rh_operations.specs.Refusals.{RefusedAgain, RefusedBy}
+use Rattle.rh_operations.specs.Found.{count_again, count_or_cause, header_count, keys_again, keys_found, still}
+use Rattle.rh_operations.specs.KeyLists.{Gave, Opens, Stands, bytes_at}
+use Rattle.rh_operations.specs.Operations.{flipped_most, size_to_add, size_to_flip, size_to_keep}
+use Rattle.rh_operations.specs.Found.{keys_or_cause}
+use Rattle.rh_operations.specs.Sequence.{◌>>=◌}
+use Rattle.rh_operations.specs.Size.{size_for}
+use Rattle.rh_operations.specs.Refusals.{ListFails, MemoryFails, PhaseFails}
+
+-- ---- what a reading gave
+
+pub gave : (files : Option Files) (list : KeyList) (bytes : Option (List ℕ)) (coming : Coming) (left : ℕ) (keys : List ℕ) → Opens files list.source bytes → ComesFrom bytes coming → Took coming left keys → left ≡ list.count → Gave files list keys
+gave None list bytes coming left keys opens comes took noted = took.long ∙ noted
+gave (Some files) list bytes coming left keys opens comes took noted =
+    let known : ComesFrom (Some opens.0) coming = subst (λ b. ComesFrom b coming) opens.2 comes in
+    let all : keys_of_file opens.0 ≡ Ok keys = subst (λ c. AllCome c keys) known took.came in
+    (ap keys_found opens.1 ∙ ap keys_or_cause all, took.long ∙ noted)
+
+-- a list whose file is known gives its keys
+pub its_keys : (files : Option Files) (list : KeyList) (keys given : List ℕ) → Stands files list keys → Gave files list given → given ≡ keys
+its_keys None list keys given stands gave = absurd stands
+its_keys (Some files) list keys given stands gave =
+    ap (λ (r : Result (List ℕ) Cause). elim r [ Ok k ↦ k | Err e ↦ given ]) (sym gave.0 ∙ stands.0)
+
+pub known_stands : (files : Option Files) (list : KeyList) (keys : List ℕ) → Stands files list keys → (known : Files) × (files ≡ Some known) × Stands (Some known) list keys
+known_stands None list keys stands = absurd stands
+known_stands (Some files) list keys stands = (files, refl, stands)
+
+-- ---- what a list that stands gives again
+
+header_of_keys : (bytes keys : List ℕ) (read : Result ((Version × ℕ) × List ℕ) KeyFault) → header_at bytes ≡ read → keys_of_file bytes ≡ Ok keys → count_or_cause read ≡ Ok (length keys)
+unfolding file_keys
+header_of_keys bytes keys (Ok header) is all =
+    ap (λ (n : ℕ). Ok n) (sym (counts header.0.0 header.0.1 (Some bytes) (Some header.1) is keys all))
+header_of_keys bytes keys (Err fault) is all = let none : Err fault ≡ Ok keys = rw is at all in absurd cc
+
+the_keys : (said : Result (List ℕ) KeyFault) (keys : List ℕ) → keys_or_cause said ≡ Ok keys → said ≡ Ok keys
+the_keys (Ok k) keys h = ap (λ (r : Result (List ℕ) Cause). elim r [ Ok x ↦ Ok x | Err e ↦ Ok k ]) h
+the_keys (Err e) keys h = absurd cc
+
+still_noted : (noted count : ℕ) → count ≡ noted → still noted count ≡ Ok count
+still_noted noted count is = rw (eq-eqb count noted is) refl
+
+pub count_stands : (found : Option (List ℕ)) (keys : List ℕ) (noted : ℕ) → keys_found found ≡ Ok keys → length keys ≡ noted → count_again noted found ≡ Ok (length keys)
+count_stands None keys noted is many = absurd cc
+count_stands (Some bytes) keys noted is many =
+    ap (λ r. r >>= still noted) (header_of_keys bytes keys (header_at bytes) refl (the_keys (keys_of_file bytes) keys is))
+    ∙ still_noted noted (length keys) many
+
+pub stands_again : (files : Files) (list : KeyList) (keys : List ℕ) → Stands (Some files) list keys → keys_again list.count (bytes_at files list.source) ≡ Ok keys
+stands_again files list keys stands =
+    ap (λ r. r >>= (λ _. keys_found (bytes_at files list.source))) (count_stands (bytes_at files list.source) keys list.count stands.0 stands.1) ∙ stands.0
+
+-- so what is said of them is said of its keys
+pub given : (P : List ℕ → Type 0) (files : Option Files) (list : KeyList) (keys : List ℕ) → Stands files list keys → (given : List ℕ) × Gave files list given × P given → P keys
+given P files list keys stands (some, gave, said) = subst P (its_keys files list keys some stands gave) said
+
+pub given_twice : (P : List ℕ → List ℕ → Type 0) (files : Option Files) (list : KeyList) (keys : List ℕ) → Stands files list keys → (first : List ℕ) × (second : List ℕ) × Gave files list first × Gave files list second × P first second → P keys keys
+given_twice P files list keys stands (first, second, gave, gave', said) =
+    subst (P keys) (its_keys files list keys second stands gave') (subst (λ k. P k second) (its_keys files list keys first stands gave) said)
+
+as_it_was : {A : Type 0} (r : Result A Cause) → (r >>= (λ x. Ok x)) ≡ r
+as_it_was (Ok x) = refl
+as_it_was (Err e) = refl
+
+module _ (files : Files) (list : KeyList) (keys : List ℕ) (stands : Stands (Some files) list keys) (table : Held) where
+  pub add_again : size_to_add table list.count (bytes_at files list.source) ≡ size_for table.bits (set.len table.keys + length keys)
+  add_again =
+      ap (λ r. r >>= (λ count. size_for table.bits (set.len table.keys + count) >>= (λ size. keys_found (bytes_at files list.source) >>= (λ _. Ok size)))) (count_stands (bytes_at files list.source) keys list.count stands.0 stands.1)
+      ∙ ap (λ r. size_for table.bits (set.len table.keys + length keys) >>= (λ size. r >>= (λ _. Ok size))) stands.0
+      ∙ as_it_was (size_for table.bits (set.len table.keys + length keys))
+
+  pub keep_again : size_to_keep table list.count (bytes_at files list.source) ≡ size_for MIN_BITS (length (chosen true table.keys keys))
+  keep_again = ap (λ r. r >>= (λ k. size_for MIN_BITS (length (chosen true table.keys k)))) (stands_again files list keys stands)
+
+  pub flip_again : size_to_flip table list.count (bytes_at files list.source) ≡ size_for table.bits (flipped_most table.keys keys)
+  flip_again = ap (λ r. r >>= (λ k. size_for table.bits (flipped_most table.keys k))) (stands_again files list keys stands)
+
+-- ---- refusals
+
+pub list_fails : (failed refused : Type 0) (cause : Cause) → ListFails failed cause → PhaseFails failed refused cause
+list_fails failed refused causes.NoThread h = absurd h
+list_fails failed refused _ h = h
+
+pub memory_fails : (failed refused : Type 0) (cause : Cause) → MemoryFails cause → PhaseFails failed refused cause
+memory_fails failed refused causes.Memory h = tt
+memory_fails failed refused _ h = absurd h
+
+none_failed : (failed : Type 0) (cause : Cause) → ListFails ⊥ cause → ListFails failed cause
+none_failed failed causes.Missing h = absurd h
+none_failed failed _ h = h
+
+module _ {A B : Type 0} (first : Result A Cause) (then : A → Result B Cause) (cause : Cause) where
+  pub first_refused : (outside wider : Cause → Type 0) → (outside cause → wider cause) → RefusedBy first outside cause → RefusedBy (first >>= then) wider cause
+  first_refused outside wider widen (inl is) = inl (ap (λ r. r >>= then) is)
+  first_refused outside wider widen (inr out) = inr (widen out)
+
+  pub later_refused : (failed refused : Type 0) (x : A) → first ≡ Ok x → RefusedBy (then x) (PhaseFails failed refused) cause → RefusedBy (first >>= then) (PhaseFails failed refused) cause
+  later_refused failed refused x is (inl said) = inl (ap (λ r. r >>= then) is ∙ said)
+  later_refused failed refused x is (inr out) = inr out
+
+keys_fault : (bytes : List ℕ) (fault : KeyFault) (failed refused : Type 0) → Fails fault (keys_of_file bytes) → RefusedBy (keys_found (Some bytes)) (PhaseFails failed refused) (of_keys fault)
+keys_fault bytes faults.Read failed refused h = inr tt
+keys_fault bytes faults.Memory failed refused h = inr tt
+keys_fault bytes faults.NotKeys failed refused h = inl (ap keys_or_cause h)
+keys_fault bytes faults.Short failed refused h = inl (ap keys_or_cause h)
+keys_fault bytes faults.TooMany failed refused h = inl (ap keys_or_cause h)
+keys_fault bytes (faults.BadKey index) failed refused h = inl (ap keys_or_cause h)
+keys_fault bytes faults.Long failed refused h = inl (ap keys_or_cause h)
+
+-- the list was not opened
+pub not_opened : {B : Type 0} (found : Option (List ℕ)) (noted : ℕ) (then : ℕ → Result B Cause) (failed refused : Type 0) (cause : Cause) → RefusedBy (header_count found) (ListFails failed) cause → RefusedBy (count_again noted found >>= then) (PhaseFails failed refused) cause
+not_opened found noted then failed refused cause h =
+    first_refused (count_again noted found) then cause (ListFails failed) (PhaseFails failed refused) (list_fails failed refused cause)
+    (first_refused (header_count found) (still noted) cause (ListFails failed) (ListFails failed) (λ out. out) h)
+
+-- A list that was opened, from a source, where the files are known.
+module _ (files : Option Files) (known : Files) (is : files ≡ Some known) (source : Source) (bytes : Option (List ℕ)) (noted : ℕ) (opens : Opens files source bytes) where
+  abbrev opened : Opens (Some known) source bytes
+  opened = subst (λ f. Opens f source bytes) is opens
+
+  pub not_again : {B : Type 0} (then : ℕ → Result B Cause) (failed refused : Type 0) (cause : Cause) → ((b : List ℕ) → bytes ≡ Some b → RefusedBy (count_again noted (Some b)) (ListFails ⊥) cause) → RefusedBy (count_again noted (bytes_at known source) >>= then) (PhaseFails failed refused) cause
+  not_again then failed refused cause why =
+      let said = subst (λ found. RefusedBy (count_again noted found) (ListFails ⊥) cause) (sym opened.1) (why opened.0 opened.2) in
+      first_refused (count_again noted (bytes_at known source)) then cause (ListFails ⊥) (PhaseFails failed refused) (λ out. list_fails failed refused cause (none_failed failed cause out)) said
+
+  pub is_again : ((b : List ℕ) → bytes ≡ Some b → count_again noted (Some b) ≡ Ok noted) → count_again noted (bytes_at known source) ≡ Ok noted
+  is_again again = ap (count_again noted) opened.1 ∙ again opened.0 opened.2
+
+  module _ (coming : Coming) (comes : ComesFrom bytes coming) where
+    coming_is : coming ≡ Some (keys_of_file opened.0)
+    coming_is = let known : ComesFrom (Some opened.0) coming = subst (λ b. ComesFrom b coming) opened.2 comes in known
+
+    fault_comes : (fault : KeyFault) (failed refused : Type 0) → FaultComes coming fault → RefusedBy (keys_found (bytes_at known source)) (PhaseFails failed refused) (of_keys fault)
+    fault_comes fault failed refused h =
+        subst (λ found. RefusedBy (keys_found found) (PhaseFails failed refused) (of_keys fault)) (sym opened.1)
+        (keys_fault opened.0 fault failed refused (subst (λ c. FaultComes c fault) coming_is h))
+
+    pub rest_refused : (failed : Type 0) (n m : ℕ) (e : ListFault) → Refused coming n m e → RefusedBy (keys_found (bytes_at known source)) (PhaseFails failed (Rose n m)) (of_list e)
+    rest_refused failed n m (list_faults.Keys fault) h = fault_comes fault failed (Rose n m) h
+    rest_refused failed n m list_faults.Changed h = absurd h
+    rest_refused failed n m (list_faults.Phase phase_faults.Memory) h = inr tt
+    rest_refused failed n m (list_faults.Phase phase_faults.NoThread) h = inr h
+
+    -- at the second reading of a list that was chosen from
+    pub again_refused : (failed : Type 0) (wanted : Bool) (S : Keys) (many n m : ℕ) (e : ListFault) → count_again noted (bytes_at known source) ≡ Ok noted → RefusedFor coming wanted S many n m e
+        → RefusedAgain (keys_again noted (bytes_at known source)) (chosen wanted S) many (PhaseFails failed (Rose n m)) (of_list e)
+    again_refused failed wanted S many n m (list_faults.Keys fault) again h =
+        inl (later_refused (count_again noted (bytes_at known source)) (λ _. keys_found (bytes_at known source)) (of_keys fault) failed (Rose n m) noted again (fault_comes fault failed (Rose n m) h))
+    again_refused failed wanted S many n m list_faults.Changed again h = inr (
+      refl,
+      λ keys is.
+          let all : keys_found (bytes_at known source) ≡ Ok keys = sym (ap (λ r. r >>= (λ _. keys_found (bytes_at known source))) again) ∙ is in
+          h keys (coming_is ∙ ap (λ r. Some r) (the_keys (keys_of_file opened.0) keys (ap keys_found (sym opened.1) ∙ all))),
+    )
+    again_refused failed wanted S many n m (list_faults.Phase phase_faults.Memory) again h = inl (inr tt)
+    again_refused failed wanted S many n m (list_faults.Phase phase_faults.NoThread) again h = inl (inr h)
+
+-- the same list again is refused by what comes from outside alone
+pub same_again : (said : Result (List ℕ) Cause) (keys : List ℕ) (chosen : List ℕ → List ℕ) (many : ℕ) (failed refused : Type 0) (cause : Cause) → said ≡ Ok keys → length (chosen keys) ≡ many → RefusedAgain said chosen many (PhaseFails failed refused) cause → PhaseFails failed refused cause
+same_again said keys chosen many failed refused cause is as_many (inl (inl why)) = let none : Ok keys ≡ Err cause = sym is ∙ why in absurd cc
+same_again said keys chosen many failed refused cause is as_many (inl (inr out)) = out
+same_again said keys chosen many failed refused cause is as_many (inr changed) = absurd (changed.1 keys is as_many)
+
+-- what a later part of a command met outside, the command met
+pub met_later : (a b now c d now' : ℕ) (cause : Cause) → b ≡ a → d ≡ c → PhaseFails (Rose b now) (Rose d now') cause → PhaseFails (Rose a now) (Rose c now') cause
+met_later a b now c d now' cause same same' h =
+    subst (λ n. PhaseFails (Rose n now) (Rose c now') cause) same (subst (λ n. PhaseFails (Rose b now) (Rose n now') cause) same' h)

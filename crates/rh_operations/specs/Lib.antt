@@ -1,0 +1,8 @@
+pub mod Causes
+pub mod Sequence
+pub mod Size
+pub mod Found
+pub mod Refusals
+pub mod Leaves
+pub mod KeyLists
+pub mod Operations

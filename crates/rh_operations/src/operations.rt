@@ -1,0 +1,334 @@
+//! What the commands do with the set that is held and with the lists.
+
+ghost use Rattle.std.specs.Prelude.{◌≡◌, ◌+◌, ◌^◌, ◌<◌, ℕ, true, false, List, [], Some, Ok};
+ghost use Rattle.std.specs.Prelude.{IfOk, IfErr, OnErr, OnOk, length};
+ghost use Rattle.std.specs.FinSet as finset;
+ghost use Rattle.rh_files.specs.Counting.{Rose};
+ghost use Rattle.rh_shelf.specs.Shelf.{Files};
+ghost use Rattle.rh_ledger.specs.Phase.{looked_up};
+ghost use Rattle.rh_runner.specs.Lists.{Ran, chosen};
+ghost use Rattle.rh_ledger.specs.declared.tally.Kind.TheVariants.{Insert};
+ghost use Rattle.rh_layout.specs.Layout.{IsLayout, keys_of};
+ghost use Rattle.rh_layout.specs.declared.limits.TheConstants.{MIN_BITS};
+ghost use Rattle.rh_edit.specs.Rising.{rising_keys};
+ghost use Rattle.rh_operations.specs.Leaves.{KeepsRunner, KeepsShelf};
+ghost use Rattle.rh_operations.specs.Refusals.{RefusedAgain, RefusedBy};
+ghost use Rattle.rh_operations.specs.Found.{keys_again, keys_found};
+ghost use Rattle.rh_operations.specs.KeyLists.{Gave, Stands, bytes_at, path_of};
+ghost use Rattle.rh_operations.specs.Operations.{Added, Dropped, Flipped, Kept};
+ghost use Rattle.rh_operations.specs.Operations.{size_to_add, size_to_flip, size_to_keep};
+ghost use Rattle.rh_operations.specs.Refusals.{ListFails, PhaseFails};
+
+use crate::cause::Cause;
+use crate::key_lists::{KeyList, Source};
+use crate::opening::{fetched, keys_again, open_list};
+use crate::size::{copied, grown};
+use rh_edit::SeqSet;
+use rh_files::{Counted, open_keys, write_keys};
+use rh_layout::MIN_BITS;
+use rh_ledger::{Kind, Tally};
+use rh_runner::{
+    Runner, ask_all, change_all, count_chosen, insert_chosen, read_through, remove_and_count_absent,
+};
+use rh_shelf::Shelf;
+use std::alloc::Global;
+use std::sync::Wait;
+use std::thread::Threads;
+
+/// How many keys the file at the path has. It is read to its end.
+pub fn use_file<S: Shelf>(alloc: Global, shelf: &mut S, path: &str) -> Result<u64, Cause>
+    ensures used { (files : Files) → S.files shelf.old ≡ Some files → IfOk result (λ count.
+        (keys : List ℕ) × (keys_found (files path.now) ≡ Ok keys) × (length keys ≡ count)) }
+    ensures refused { (files : Files) → S.files shelf.old ≡ Some files → IfErr result
+        (RefusedBy (keys_found (files path.now))
+        (ListFails (Rose (S.failures shelf.old) (S.failures shelf.new)))) }
+    ensures shelf { KeepsShelf (S.files shelf.old) (S.files shelf.new) (S.failures shelf.old)
+        (S.failures shelf.new) result }
+    ensures no_thread { IfErr result (λ cause. cause ≡ Cause.NoThread → ⊥) }
+    ensures no_write { IfErr result (λ cause. cause ≡ Cause.Write → ⊥) }
+{
+    let mut reader = Counted::new(fetched(alloc, shelf, path)?);
+    let mut keys = open_keys(&mut reader)?;
+    let count = keys.count();
+    read_through(&mut keys)?;
+    Ok(count)
+}
+
+/// Adds the keys of the list to the set, in a table that has grown for them.
+pub fn add<T: Threads + Wait + Sync, S: Shelf, N: Runner>(
+    rt: &T,
+    alloc: Global,
+    shelf: &mut S,
+    runner: &mut N,
+    set: &mut SeqSet,
+    list: &KeyList<'_>,
+) -> Result<Tally, Cause>
+    ensures added { IfOk result (λ told. (keys : List ℕ) × Gave (S.files shelf.old) list.now keys
+        × Added keys set.old set.new told) }
+    ensures refused { (files : Files) → S.files shelf.old ≡ Some files → IfErr result
+        (RefusedBy (size_to_add set.old list.now.count (bytes_at files list.now.source))
+        (PhaseFails (Rose (S.failures shelf.old) (S.failures shelf.new))
+        (Rose (N.refused_starts runner.old) (N.refused_starts runner.new)))) }
+    ensures unchanged { OnErr result (set.new ≡ set.old) }
+    ensures shelf { KeepsShelf (S.files shelf.old) (S.files shelf.new) (S.failures shelf.old)
+        (S.failures shelf.new) result }
+    ensures runner { KeepsRunner (N.refused_starts runner.old) (N.refused_starts runner.new)
+        result }
+    ensures no_write { IfErr result (λ cause. cause ≡ Cause.Write → ⊥) }
+{
+    let count = list.count;
+    let mut reader = open_list(alloc, shelf, list)?;
+    let mut keys = keys_again(&mut reader, count)?;
+    let (bits, mut cells) = grown(alloc, set, count)?;
+    let tally = change_all(rt, alloc, runner, Kind::Insert, bits, &mut cells, &mut keys)?;
+    *set = SeqSet::from_cells(bits, cells);
+    Ok(tally)
+}
+
+/// Takes the keys of the list out of the set.
+pub fn drop_keys<T: Threads + Wait + Sync, S: Shelf, N: Runner>(
+    rt: &T,
+    alloc: Global,
+    shelf: &mut S,
+    runner: &mut N,
+    set: &mut SeqSet,
+    list: &KeyList<'_>,
+) -> Result<Tally, Cause>
+    ensures dropped { IfOk result (λ told. (keys : List ℕ) × Gave (S.files shelf.old) list.now keys
+        × Dropped keys set.old set.new told) }
+    ensures refused { (files : Files) → S.files shelf.old ≡ Some files → IfErr result
+        (RefusedBy (keys_again list.now.count (bytes_at files list.now.source))
+        (PhaseFails (Rose (S.failures shelf.old) (S.failures shelf.new))
+        (Rose (N.refused_starts runner.old) (N.refused_starts runner.new)))) }
+    ensures unchanged { OnErr result (set.new ≡ set.old) }
+    ensures shelf { KeepsShelf (S.files shelf.old) (S.files shelf.new) (S.failures shelf.old)
+        (S.failures shelf.new) result }
+    ensures runner { KeepsRunner (N.refused_starts runner.old) (N.refused_starts runner.new)
+        result }
+    ensures no_write { IfErr result (λ cause. cause ≡ Cause.Write → ⊥) }
+{
+    let mut reader = open_list(alloc, shelf, list)?;
+    let mut keys = keys_again(&mut reader, list.count)?;
+    let (bits, mut cells) = copied(alloc, set)?;
+    let tally = change_all(rt, alloc, runner, Kind::Remove, bits, &mut cells, &mut keys)?;
+    *set = SeqSet::from_cells(bits, cells);
+    Ok(tally)
+}
+
+/// Looks the keys of the list up.
+pub fn ask<T: Threads + Wait + Sync, S: Shelf, N: Runner>(
+    rt: &T,
+    alloc: Global,
+    shelf: &mut S,
+    runner: &mut N,
+    set: &SeqSet,
+    list: &KeyList<'_>,
+) -> Result<Vec<bool>, Cause>
+    ensures asked { IfOk result (λ answers. (keys : List ℕ) × Gave (S.files shelf.old) list.now keys
+        × (answers.items ≡ looked_up set.now.keys keys)) }
+    ensures refused { (files : Files) → S.files shelf.old ≡ Some files → IfErr result
+        (RefusedBy (keys_again list.now.count (bytes_at files list.now.source))
+        (PhaseFails (Rose (S.failures shelf.old) (S.failures shelf.new))
+        (Rose (N.refused_starts runner.old) (N.refused_starts runner.new)))) }
+    ensures shelf { KeepsShelf (S.files shelf.old) (S.files shelf.new) (S.failures shelf.old)
+        (S.failures shelf.new) result }
+    ensures runner { KeepsRunner (N.refused_starts runner.old) (N.refused_starts runner.new)
+        result }
+    ensures no_write { IfErr result (λ cause. cause ≡ Cause.Write → ⊥) }
+{
+    let mut reader = open_list(alloc, shelf, list)?;
+    let mut keys = keys_again(&mut reader, list.count)?;
+    Ok(ask_all(rt, alloc, runner, set.bits(), set.cells(), &mut keys)?)
+}
+
+/// Keeps of the set the keys of the list alone, in a table of the least size for them, and answers
+/// how many positions of the list they have. The list is read twice.
+pub fn keep<T: Threads + Wait + Sync, S: Shelf, N: Runner>(
+    rt: &T,
+    alloc: Global,
+    shelf: &mut S,
+    runner: &mut N,
+    set: &mut SeqSet,
+    list: &KeyList<'_>,
+) -> Result<u64, Cause>
+    ensures kept { IfOk result (λ found. (keys : List ℕ) × Gave (S.files shelf.old) list.now keys
+        × Kept keys set.old set.new found) }
+    ensures refused { (files : Files) → S.files shelf.old ≡ Some files → IfErr result
+        (RefusedBy (size_to_keep set.old list.now.count (bytes_at files list.now.source))
+        (PhaseFails (Rose (S.failures shelf.old) (S.failures shelf.new))
+        (Rose (N.refused_starts runner.old) (N.refused_starts runner.new)))) }
+    ensures unchanged { OnErr result (set.new ≡ set.old) }
+    ensures shelf { KeepsShelf (S.files shelf.old) (S.files shelf.new) (S.failures shelf.old)
+        (S.failures shelf.new) result }
+    ensures runner { KeepsRunner (N.refused_starts runner.old) (N.refused_starts runner.new)
+        result }
+    ensures no_write { IfErr result (λ cause. cause ≡ Cause.Write → ⊥) }
+{
+    let found = count_found(rt, alloc, shelf, runner, set, list)?;
+    let empty = SeqSet::new(alloc, MIN_BITS)?;
+    let (bits, mut cells) = grown(alloc, &empty, found)?;
+    insert_listed(
+        rt, alloc, shelf, runner, true, found, set, bits, &mut cells, list,
+    )?;
+    *set = SeqSet::from_cells(bits, cells);
+    Ok(found)
+}
+
+/// How many positions of the list have a key of the set.
+fn count_found<T: Threads + Wait + Sync, S: Shelf, N: Runner>(
+    rt: &T,
+    alloc: Global,
+    shelf: &mut S,
+    runner: &mut N,
+    set: &SeqSet,
+    list: &KeyList<'_>,
+) -> Result<u64, Cause>
+    ensures found { IfOk result (λ found. (keys : List ℕ) × Gave (S.files shelf.old) list.now keys
+        × (found ≡ length (chosen true set.now.keys keys))) }
+    ensures refused { (files : Files) → S.files shelf.old ≡ Some files → IfErr result
+        (RefusedBy (keys_again list.now.count (bytes_at files list.now.source))
+        (PhaseFails (Rose (S.failures shelf.old) (S.failures shelf.new))
+        (Rose (N.refused_starts runner.old) (N.refused_starts runner.new)))) }
+    ensures shelf { KeepsShelf (S.files shelf.old) (S.files shelf.new) (S.failures shelf.old)
+        (S.failures shelf.new) result }
+    ensures runner { KeepsRunner (N.refused_starts runner.old) (N.refused_starts runner.new)
+        result }
+    ensures no_write { IfErr result (λ cause. cause ≡ Cause.Write → ⊥) }
+{
+    let mut reader = open_list(alloc, shelf, list)?;
+    let mut keys = keys_again(&mut reader, list.count)?;
+    let (bits, cells) = (set.bits(), set.cells());
+    Ok(count_chosen(rt, alloc, runner, true, bits, cells, &mut keys)?)
+}
+
+/// Inserts into the cells those keys of the list that the set holds, or where `wanted` is false,
+/// those that it does not hold. `many` is how many positions an earlier reading chose.
+fn insert_listed<T: Threads + Wait + Sync, S: Shelf, N: Runner>(
+    rt: &T,
+    alloc: Global,
+    shelf: &mut S,
+    runner: &mut N,
+    wanted: bool,
+    many: u64,
+    set: &SeqSet,
+    bits: u32,
+    cells: &mut Vec<u64>,
+    list: &KeyList<'_>,
+) -> Result<Tally, Cause>
+    requires layout { IsLayout bits cells.old.items }
+    requires room { finset.len (keys_of cells.old.items) + many < 2 ^ bits }
+    ensures layout { OnOk result (IsLayout bits cells.new.items) }
+    ensures free { OnOk result (finset.len (keys_of cells.new.items) < 2 ^ bits) }
+    ensures inserted { IfOk result (λ told. (keys : List ℕ) × Gave (S.files shelf.old) list.now keys
+        × (length (chosen wanted set.now.keys keys) ≡ many)
+        × Ran Insert bits (chosen wanted set.now.keys keys) cells.old.items cells.new.items told) }
+    ensures refused { (files : Files) → S.files shelf.old ≡ Some files → IfErr result
+        (RefusedAgain (keys_again list.now.count (bytes_at files list.now.source))
+        (chosen wanted set.now.keys) many
+        (PhaseFails (Rose (S.failures shelf.old) (S.failures shelf.new))
+        (Rose (N.refused_starts runner.old) (N.refused_starts runner.new)))) }
+    ensures shelf { KeepsShelf (S.files shelf.old) (S.files shelf.new) (S.failures shelf.old)
+        (S.failures shelf.new) result }
+    ensures runner { KeepsRunner (N.refused_starts runner.old) (N.refused_starts runner.new)
+        result }
+    ensures no_write { IfErr result (λ cause. cause ≡ Cause.Write → ⊥) }
+{
+    let mut reader = open_list(alloc, shelf, list)?;
+    let mut keys = keys_again(&mut reader, list.count)?;
+    Ok(insert_chosen(
+        rt,
+        alloc,
+        runner,
+        wanted,
+        many,
+        set.bits(),
+        set.cells(),
+        bits,
+        cells,
+        &mut keys,
+    )?)
+}
+
+/// Takes the keys of the list that the set holds out of it, and adds the others, in a table that
+/// has grown for those; answers what was counted of the two. The list is read twice.
+pub fn flip<T: Threads + Wait + Sync, S: Shelf, N: Runner>(
+    rt: &T,
+    alloc: Global,
+    shelf: &mut S,
+    runner: &mut N,
+    set: &mut SeqSet,
+    list: &KeyList<'_>,
+) -> Result<(Tally, Tally), Cause>
+    ensures flipped { IfOk result (λ told. (first : List ℕ) × (second : List ℕ)
+        × Gave (S.files shelf.old) list.now first × Gave (S.files shelf.old) list.now second
+        × Flipped first second set.old set.new told) }
+    ensures refused { (files : Files) → S.files shelf.old ≡ Some files → IfErr result
+        (RefusedBy (size_to_flip set.old list.now.count (bytes_at files list.now.source))
+        (PhaseFails (Rose (S.failures shelf.old) (S.failures shelf.new))
+        (Rose (N.refused_starts runner.old) (N.refused_starts runner.new)))) }
+    ensures unchanged { OnErr result (set.new ≡ set.old) }
+    ensures shelf { KeepsShelf (S.files shelf.old) (S.files shelf.new) (S.failures shelf.old)
+        (S.failures shelf.new) result }
+    ensures runner { KeepsRunner (N.refused_starts runner.old) (N.refused_starts runner.new)
+        result }
+    ensures no_write { IfErr result (λ cause. cause ≡ Cause.Write → ⊥) }
+{
+    let (rest, removed, absent) = without_listed(rt, alloc, shelf, runner, set, list)?;
+    let (bits, mut cells) = grown(alloc, &rest, absent)?;
+    let added = insert_listed(
+        rt, alloc, shelf, runner, false, absent, set, bits, &mut cells, list,
+    )?;
+    *set = SeqSet::from_cells(bits, cells);
+    Ok((removed, added))
+}
+
+/// A copy of the set without the keys of the list, what was counted, and how many positions of the
+/// list have a key that the set does not hold.
+fn without_listed<T: Threads + Wait + Sync, S: Shelf, N: Runner>(
+    rt: &T,
+    alloc: Global,
+    shelf: &mut S,
+    runner: &mut N,
+    set: &SeqSet,
+    list: &KeyList<'_>,
+) -> Result<(SeqSet, Tally, u64), Cause>
+    ensures dropped { IfOk result (λ r. (keys : List ℕ) × Gave (S.files shelf.old) list.now keys
+        × Dropped keys set.now r.0 r.1 × (r.2 ≡ length (chosen false set.now.keys keys))) }
+    ensures refused { (files : Files) → S.files shelf.old ≡ Some files → IfErr result
+        (RefusedBy (keys_again list.now.count (bytes_at files list.now.source))
+        (PhaseFails (Rose (S.failures shelf.old) (S.failures shelf.new))
+        (Rose (N.refused_starts runner.old) (N.refused_starts runner.new)))) }
+    ensures shelf { KeepsShelf (S.files shelf.old) (S.files shelf.new) (S.failures shelf.old)
+        (S.failures shelf.new) result }
+    ensures runner { KeepsRunner (N.refused_starts runner.old) (N.refused_starts runner.new)
+        result }
+    ensures no_write { IfErr result (λ cause. cause ≡ Cause.Write → ⊥) }
+{
+    let mut reader = open_list(alloc, shelf, list)?;
+    let mut keys = keys_again(&mut reader, list.count)?;
+    let (bits, mut cells) = copied(alloc, set)?;
+    let old = set.cells();
+    let (removed, absent) = remove_and_count_absent(
+        rt, alloc, runner, bits, old, &mut cells, &mut keys,
+    )?;
+    Ok((SeqSet::from_cells(bits, cells), removed, absent))
+}
+
+/// The keys of the set, in rising order, as a list whose key file stands in memory.
+pub fn saved<'a>(alloc: Global, set: &SeqSet) -> Result<KeyList<'a>, Cause>
+    ensures saved { (files : Files) →
+        IfOk result (λ list. Stands (Some files) list (rising_keys set.now.keys)) }
+    ensures count { IfOk result (λ list. list.count ≡ finset.len set.now.keys) }
+    ensures no_path { IfOk result (λ list. path_of list.source ≡ []) }
+    ensures memory { IfErr result (λ cause. cause ≡ Cause.Memory) }
+{
+    let keys = set.sorted_keys(alloc)?;
+    let mut file = Counted::new(Vec::new(alloc));
+    let Ok(()) = write_keys(&keys, &mut file) else {
+        return Err(Cause::Memory);
+    };
+    Ok(KeyList {
+        source: Source::Memory(file.into_inner()),
+        count: keys.len() as u64,
+    })
+}

@@ -1,0 +1,68 @@
+//! Snapshots of the table on a shelf.
+
+ghost use Rattle.std.specs.Prelude.{◌≡◌, ℕ, List, Some, Ok, IfErr, IfOk, OnErr, OnOk};
+ghost use Rattle.rh_files.specs.Counting.{Rose};
+ghost use Rattle.rh_shelf.specs.Shelf.{Files, InDoubt, Puts};
+ghost use Rattle.rh_operations.specs.Operations.{IsSnapshotOf};
+ghost use Rattle.rh_operations.specs.Leaves.{KeepsShelf};
+ghost use Rattle.rh_operations.specs.Refusals.{RefusedBy};
+ghost use Rattle.rh_operations.specs.Found.{table_found};
+ghost use Rattle.rh_operations.specs.Refusals.{PutFails, RestoreFails};
+
+use crate::cause::Cause;
+use crate::opening::fetched;
+use rh_edit::SeqSet;
+use rh_files::Counted;
+use rh_shelf::{Shelf, ShelfFault};
+use rh_snapshot::{read_snapshot, write_snapshot};
+use std::alloc::Global;
+
+/// Puts a snapshot of the set's table under the path.
+pub fn put_snapshot<S: Shelf>(
+    alloc: Global,
+    shelf: &mut S,
+    path: &str,
+    set: &SeqSet,
+) -> Result<(), Cause>
+    ensures put { OnOk result ((bytes : List ℕ) × IsSnapshotOf set.now bytes
+        × Puts (S.files shelf.old) (S.files shelf.new) path.now bytes) }
+    ensures doubt { OnErr result (InDoubt (S.files shelf.old) (S.files shelf.new) path.now) }
+    ensures refused { IfErr result
+        (PutFails (Rose (S.failures shelf.old) (S.failures shelf.new))) }
+    ensures fine { OnOk result (S.failures shelf.new ≡ S.failures shelf.old) }
+{
+    let bytes = sealed(alloc, set)?;
+    match shelf.put(alloc, path, &bytes) {
+        Ok(()) => Ok(()),
+        Err(ShelfFault::Write) => Err(Cause::Put),
+        Err(ShelfFault::Memory) => Err(Cause::Memory),
+        Err(ShelfFault::Missing) => unreachable!(),
+    }
+}
+
+/// The snapshot of the set's table.
+fn sealed(alloc: Global, set: &SeqSet) -> Result<Vec<u8>, Cause>
+    ensures sealed { IfOk result (λ bytes. IsSnapshotOf set.now bytes.items) }
+    ensures memory { IfErr result (λ cause. cause ≡ Cause.Memory) }
+{
+    let mut bytes = Vec::new(alloc);
+    write_snapshot(set.bits(), set.cells(), &mut bytes)?;
+    Ok(bytes)
+}
+
+/// The table of the snapshot at the path.
+pub fn restored<S: Shelf>(alloc: Global, shelf: &mut S, path: &str) -> Result<SeqSet, Cause>
+    ensures restored { (files : Files) → S.files shelf.old ≡ Some files →
+        IfOk result (λ set. table_found (files path.now) ≡ Ok set) }
+    ensures refused { (files : Files) → S.files shelf.old ≡ Some files → IfErr result
+        (RefusedBy (table_found (files path.now))
+        (RestoreFails (Rose (S.failures shelf.old) (S.failures shelf.new)))) }
+    ensures shelf { KeepsShelf (S.files shelf.old) (S.files shelf.new) (S.failures shelf.old)
+        (S.failures shelf.new) result }
+    ensures no_thread { IfErr result (λ cause. cause ≡ Cause.NoThread → ⊥) }
+    ensures no_write { IfErr result (λ cause. cause ≡ Cause.Write → ⊥) }
+{
+    let mut reader = Counted::new(fetched(alloc, shelf, path)?);
+    let snapshot = read_snapshot(alloc, &mut reader)?;
+    Ok(SeqSet::from_cells(snapshot.bits, snapshot.cells))
+}
