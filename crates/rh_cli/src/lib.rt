@@ -1,4 +1,4 @@
-//! The command lines of the two programs, and how a program ends.
+//! The command lines of the two programs, their streams, and how a program ends.
 #![tactic(auto)]
 
 mod fault;
@@ -8,8 +8,10 @@ mod parsing;
 mod program;
 pub mod set_line;
 mod status;
+mod streams;
 
 pub use fault::LineFault;
 pub use limits::MAX_WORKERS;
 pub use program::{answer, words};
 pub use status::{ProgramFault, Status};
+pub use streams::{buffered_reader, buffered_writer, write_out};

@@ -12,7 +12,7 @@ use crate::version::Version;
 use std::io::Read;
 
 /// Whether a stream goes on, and if not what it answers from now on.
-#[derive(Clone, Copy, Debug, PartialEq, Eq)]
+#[derive(Clone, Copy)]
 pub(crate) enum State {
     Open,
     Ended,

@@ -41,7 +41,7 @@ impl Starts for AllStart {
 }
 
 /// Why a thread was not started.
-#[derive(Clone, Copy, Debug, PartialEq, Eq)]
+#[derive(Clone, Copy)]
 pub(crate) enum Refused {
     /// The half whose first worker this is may have none.
     NotAllowed { worker: usize },

@@ -7,7 +7,7 @@ use crate::schedule::Step;
 use rh_ledger::Kind;
 
 /// The lines without their words.
-#[derive(Clone, Copy, Debug)]
+#[derive(Clone, Copy)]
 pub(crate) enum Verb {
     Play,
     Bits,

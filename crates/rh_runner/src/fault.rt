@@ -2,6 +2,7 @@
 
 use crate::runner::PhaseFault;
 use rh_files::KeyFault;
+use std::alloc::AllocError;
 use thiserror::Error;
 
 /// Why a phase over a whole list was not carried out.
@@ -35,5 +36,17 @@ impl From<PhaseFault> for ListFault {
 
     fn from(fault: PhaseFault) -> ListFault {
         ListFault::Phase(fault)
+    }
+}
+
+impl From<AllocError> for ListFault {
+    ghost use Rattle.std.specs.Prelude.{◌≡◌};
+    ghost use Rattle.rh_runner.specs.declared.fault.ListFault.TheVariants.{Phase};
+    ghost use Rattle.rh_runner.specs.declared.runner.PhaseFault.TheVariants.{Memory};
+
+    ghost from_gives = { λ _ given. given ≡ Phase Memory };
+
+    fn from(_error: AllocError) -> ListFault {
+        ListFault::Phase(PhaseFault::Memory)
     }
 }

@@ -8,10 +8,10 @@ ghost use Rattle.rh_ledger.specs.Phase.{looked_up};
 ghost use Rattle.rh_runner.specs.Lists.{Took, Ran, Refused, may_add};
 
 use crate::fault::ListFault;
-use crate::runner::{PhaseFault, Runner};
+use crate::runner::Runner;
 use rh_files::{KeyFault, KeySource};
 use rh_ledger::{Kind, Tally, joined};
-use std::alloc::Global;
+use std::alloc::{AllocError, Global};
 use std::sync::Wait;
 use std::thread::Threads;
 
@@ -23,12 +23,11 @@ pub const BATCH: usize = 4_096;
 pub const PHASE: usize = 196_608;
 
 /// Room for the keys of a phase over a list of which so many are to come.
-pub(crate) fn phase_room(alloc: Global, left: u64) -> Result<Vec<u64>, PhaseFault>
+pub(crate) fn phase_room(alloc: Global, left: u64) -> Result<Vec<u64>, AllocError>
     ensures some { IfOk result (λ room. 0 < length room.items) }
-    ensures fault { IfErr result (λ fault. fault ≡ PhaseFault.Memory) }
 {
     let long = left.min(PHASE as u64).max(1) as usize;
-    vec![in alloc; 0; long].map_err(|_| PhaseFault::Memory)
+    vec![in alloc; 0; long]
 }
 
 pub(crate) const NONE_YET: Tally = Tally {
@@ -104,7 +103,7 @@ pub fn ask_all<T: Threads + Wait + Sync, N: Runner, K: KeySource>(
     ensures fine { OnOk result (N.refused_starts runner.new ≡ N.refused_starts runner.old) }
 {
     let many = keys.left();
-    let mut found = Vec::with_capacity(alloc, many as usize).map_err(|_| PhaseFault::Memory)?;
+    let mut found = Vec::with_capacity(alloc, many as usize)?;
     let mut room = phase_room(alloc, many)?;
     let batch = room.as_mut_slice();
     loop {
@@ -113,8 +112,6 @@ pub fn ask_all<T: Threads + Wait + Sync, N: Runner, K: KeySource>(
             return Ok(found);
         }
         let answers = runner.ask(rt, alloc, bits, cells, &batch[..n])?;
-        found
-            .extend_from_slice(&answers)
-            .map_err(|_| PhaseFault::Memory)?;
+        found.extend_from_slice(&answers)?;
     }
 }

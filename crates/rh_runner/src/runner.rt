@@ -9,7 +9,7 @@ ghost use Rattle.rh_files.specs.Counting.{Rose};
 ghost use Rattle.rh_ledger.specs.Phase.{set_after, tally_of, looked_up, most_added};
 
 use rh_ledger::{Kind, Tally};
-use std::alloc::Global;
+use std::alloc::{AllocError, Global};
 use std::sync::Wait;
 use std::thread::Threads;
 use thiserror::Error;
@@ -21,6 +21,16 @@ pub enum PhaseFault {
     Memory,
     #[error("cannot start a worker")]
     NoThread,
+}
+
+impl From<AllocError> for PhaseFault {
+    ghost use Rattle.rh_runner.specs.declared.runner.PhaseFault.TheVariants.{Memory};
+
+    ghost from_gives = { λ _ fault. fault ≡ Memory };
+
+    fn from(_error: AllocError) -> PhaseFault {
+        PhaseFault::Memory
+    }
 }
 
 /// Carries out phases on the cells of a table, with the meaning of one worker that takes the keys

@@ -48,7 +48,7 @@ impl Runner for Single {
         cells: &[u64],
         keys: &[u64],
     ) -> Result<Vec<bool>, PhaseFault> {
-        let mut found = Vec::with_capacity(alloc, keys.len()).map_err(|_| PhaseFault::Memory)?;
+        let mut found = Vec::with_capacity(alloc, keys.len())?;
         for key in keys {
             let there = find(bits, cells, *key).is_some();
             found.push_reserved(there);

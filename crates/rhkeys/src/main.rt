@@ -7,12 +7,14 @@ ghost use Rattle.rhkeys.specs.Endings.{ending_by};
 mod status;
 
 use rh_cli::keys_line::{Line, line};
-use rh_cli::{LineFault, ProgramFault, Status, answer, words};
+use rh_cli::{
+    LineFault, ProgramFault, Status, answer, buffered_reader, buffered_writer, words, write_out,
+};
 use rh_files::Counted;
 use rh_packing::{list_keys, list_snapshot, pack};
 use status::Fault;
 use std::env::Env;
-use std::io::{self, BufReader, BufWriter, Write};
+use std::io;
 use std::process::ExitCode;
 
 fn main(rt: HostRuntime) -> ExitCode {
@@ -36,33 +38,33 @@ fn carry_out(rt: &(impl Env + Input + Print + Eprint + AllocGlobal)) -> Result<S
 
 // Packs the text on standard input to standard output. It is read in parts, with no other buffer.
 fn pack_streams(rt: &(impl Input + Print + AllocGlobal)) -> Result<Status, Fault> {
-    let output = BufWriter::new(rt.alloc(), io::writer(rt)).map_err(|_| ProgramFault::Memory)?;
+    let output = buffered_writer(rt.alloc(), io::writer(rt))?;
     let mut reader = Counted::new(rt.reader());
     let mut writer = Counted::new(output);
-    pack(rt.alloc(), &mut reader, &mut writer).map_err(Fault::Pack)?;
-    writer.flush().map_err(|_| ProgramFault::Write)?;
+    pack(rt.alloc(), &mut reader, &mut writer)?;
+    write_out(&mut writer)?;
     Ok(Status::Done)
 }
 
 // Lists the key file on standard input to standard output. Both go through a buffer.
 fn list_streams(rt: &(impl Input + Print + AllocGlobal)) -> Result<Status, Fault> {
-    let input = BufReader::new(rt.alloc(), rt.reader()).map_err(|_| ProgramFault::Memory)?;
-    let output = BufWriter::new(rt.alloc(), io::writer(rt)).map_err(|_| ProgramFault::Memory)?;
+    let input = buffered_reader(rt.alloc(), rt.reader())?;
+    let output = buffered_writer(rt.alloc(), io::writer(rt))?;
     let mut reader = Counted::new(input);
     let mut writer = Counted::new(output);
-    list_keys(rt.alloc(), &mut reader, &mut writer).map_err(Fault::List)?;
-    writer.flush().map_err(|_| ProgramFault::Write)?;
+    list_keys(rt.alloc(), &mut reader, &mut writer)?;
+    write_out(&mut writer)?;
     Ok(Status::Done)
 }
 
 // Lists the keys of the snapshot on standard input. Both streams go through a buffer.
 fn list_held(rt: &(impl Input + Print + AllocGlobal)) -> Result<Status, Fault> {
-    let input = BufReader::new(rt.alloc(), rt.reader()).map_err(|_| ProgramFault::Memory)?;
-    let output = BufWriter::new(rt.alloc(), io::writer(rt)).map_err(|_| ProgramFault::Memory)?;
+    let input = buffered_reader(rt.alloc(), rt.reader())?;
+    let output = buffered_writer(rt.alloc(), io::writer(rt))?;
     let mut reader = Counted::new(input);
     let mut writer = Counted::new(output);
-    list_snapshot(rt.alloc(), &mut reader, &mut writer).map_err(Fault::Held)?;
-    writer.flush().map_err(|_| ProgramFault::Write)?;
+    list_snapshot(rt.alloc(), &mut reader, &mut writer)?;
+    write_out(&mut writer)?;
     Ok(Status::Done)
 }
 

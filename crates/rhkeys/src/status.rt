@@ -13,11 +13,11 @@ pub enum Fault {
     #[error(transparent)]
     Program(#[from] ProgramFault),
     #[error(transparent)]
-    Pack(PackFault),
+    Pack(#[from] PackFault),
     #[error(transparent)]
-    List(ListFault),
+    List(#[from] ListFault),
     #[error(transparent)]
-    Held(HeldFault),
+    Held(#[from] HeldFault),
 }
 
 impl Fault {

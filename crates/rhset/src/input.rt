@@ -7,8 +7,11 @@ use std::io::ErrorKind;
 
 /// The file at the path, opened to be read.
 pub fn open<F: Files>(files: &F, path: &str) -> Result<F::File, Fault> {
-    fs::open(files, path).map_err(|error| match error.kind() {
-        ErrorKind::OutOfMemory => Fault::Program(ProgramFault::Memory),
-        _ => Fault::Open,
-    })
+    match fs::open(files, path) {
+        Ok(file) => Ok(file),
+        Err(error) => Err(match error.kind() {
+            ErrorKind::OutOfMemory => Fault::Program(ProgramFault::Memory),
+            _ => Fault::Open,
+        }),
+    }
 }

@@ -10,7 +10,9 @@ mod status;
 
 use input::open;
 use rh_cli::set_line::{Line, line};
-use rh_cli::{LineFault, ProgramFault, Status, answer, words};
+use rh_cli::{
+    LineFault, ProgramFault, Status, answer, buffered_reader, buffered_writer, words, write_out,
+};
 use rh_commands::{check_snapshot, dump_keys};
 use rh_files::Counted;
 use rh_play_run::run_play;
@@ -18,7 +20,7 @@ use script::run_script;
 use status::Fault;
 use std::env::Env;
 use std::fs::Files;
-use std::io::{self, BufReader, BufWriter, Write};
+use std::io;
 use std::process::ExitCode;
 use std::sync::Wait;
 use std::thread::Threads;
@@ -50,36 +52,36 @@ fn carry_out(
 
 // Dumps the keys on standard input to standard output. Both go through a buffer.
 fn dump_streams(rt: &(impl Input + Print + AllocGlobal)) -> Result<Status, Fault> {
-    let input = BufReader::new(rt.alloc(), rt.reader()).map_err(|_| ProgramFault::Memory)?;
-    let output = BufWriter::new(rt.alloc(), io::writer(rt)).map_err(|_| ProgramFault::Memory)?;
+    let input = buffered_reader(rt.alloc(), rt.reader())?;
+    let output = buffered_writer(rt.alloc(), io::writer(rt))?;
     let mut reader = Counted::new(input);
     let mut writer = Counted::new(output);
-    dump_keys(rt.alloc(), &mut reader, &mut writer).map_err(Fault::Dump)?;
-    writer.flush().map_err(|_| ProgramFault::Write)?;
+    dump_keys(rt.alloc(), &mut reader, &mut writer)?;
+    write_out(&mut writer)?;
     Ok(Status::Done)
 }
 
 // Runs the play at the path and writes what it prints to standard output. Both go through a buffer.
 fn play_file(rt: &(impl Files + Print + AllocGlobal), path: &str) -> Result<Status, Fault> {
     let file = open(rt, path)?;
-    let input = BufReader::new(rt.alloc(), file).map_err(|_| ProgramFault::Memory)?;
-    let output = BufWriter::new(rt.alloc(), io::writer(rt)).map_err(|_| ProgramFault::Memory)?;
+    let input = buffered_reader(rt.alloc(), file)?;
+    let output = buffered_writer(rt.alloc(), io::writer(rt))?;
     let mut reader = Counted::new(input);
     let mut writer = Counted::new(output);
-    run_play(rt.alloc(), &mut reader, &mut writer).map_err(Fault::Play)?;
-    writer.flush().map_err(|_| ProgramFault::Write)?;
+    run_play(rt.alloc(), &mut reader, &mut writer)?;
+    write_out(&mut writer)?;
     Ok(Status::Done)
 }
 
 // Writes the line of the snapshot at the path to standard output. Both go through a buffer.
 fn check_file(rt: &(impl Files + Print + AllocGlobal), path: &str) -> Result<Status, Fault> {
     let file = open(rt, path)?;
-    let input = BufReader::new(rt.alloc(), file).map_err(|_| ProgramFault::Memory)?;
-    let output = BufWriter::new(rt.alloc(), io::writer(rt)).map_err(|_| ProgramFault::Memory)?;
+    let input = buffered_reader(rt.alloc(), file)?;
+    let output = buffered_writer(rt.alloc(), io::writer(rt))?;
     let mut reader = Counted::new(input);
     let mut writer = Counted::new(output);
-    check_snapshot(rt.alloc(), &mut reader, &mut writer).map_err(Fault::Check)?;
-    writer.flush().map_err(|_| ProgramFault::Write)?;
+    check_snapshot(rt.alloc(), &mut reader, &mut writer)?;
+    write_out(&mut writer)?;
     Ok(Status::Done)
 }
 

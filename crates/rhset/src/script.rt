@@ -6,7 +6,7 @@ ghost use Rattle.rhset.specs.declared.script.TheConstants.{MAX_BYTES};
 
 use crate::input::open;
 use crate::status::Fault;
-use rh_cli::ProgramFault;
+use rh_cli::{ProgramFault, buffered_writer, write_out};
 use rh_files::Counted;
 use rh_phase::Threads;
 use rh_planner::run;
@@ -15,7 +15,7 @@ use rh_script::{MAX_LINE_BYTES, MAX_LINES, parse};
 use rh_shelf::FileShelf;
 use std::alloc::Global;
 use std::fs::Files;
-use std::io::{self, BufReader, BufWriter, ErrorKind, Read, Write};
+use std::io::{self, ErrorKind, Read};
 use std::sync::Wait;
 use std::thread;
 
@@ -43,15 +43,15 @@ fn run_by<N: Runner>(
     path: &str,
 ) -> Result<(), Fault> {
     let text = script_text(rt, path)?;
-    let script = parse(rt.alloc(), &text).map_err(Fault::Script)?;
-    let output = BufWriter::new(rt.alloc(), io::writer(rt)).map_err(|_| ProgramFault::Memory)?;
+    let script = parse(rt.alloc(), &text)?;
+    let output = buffered_writer(rt.alloc(), io::writer(rt))?;
     let mut writer = Counted::new(output);
     let mut shelf = FileShelf::new(rt);
     let told = run(rt, rt.alloc(), &script, &mut shelf, runner, &mut writer);
     // What the commands before a fault told is written too.
-    let flushed = writer.flush();
-    told.map_err(Fault::Run)?;
-    flushed.map_err(|_| Fault::Program(ProgramFault::Write))
+    let written = write_out(&mut writer);
+    told?;
+    Ok(written?)
 }
 
 fn script_text(rt: &(impl Files + AllocGlobal), path: &str) -> Result<Vec<u8>, Fault> {

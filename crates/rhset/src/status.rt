@@ -24,15 +24,15 @@ pub enum Fault {
     #[error("read failed")]
     Read,
     #[error(transparent)]
-    Dump(DumpFault),
+    Dump(#[from] DumpFault),
     #[error(transparent)]
-    Check(CheckFault),
+    Check(#[from] CheckFault),
     #[error(transparent)]
-    Script(ScriptFault),
+    Script(#[from] ScriptFault),
     #[error(transparent)]
-    Run(RunFault),
+    Run(#[from] RunFault),
     #[error(transparent)]
-    Play(PlayRunFault),
+    Play(#[from] PlayRunFault),
 }
 
 impl Fault {
