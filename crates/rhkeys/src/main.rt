@@ -42,7 +42,7 @@ fn pack_streams(rt: &(impl Input + Print + AllocGlobal)) -> Result<Status, Fault
     let mut reader = Counted::new(rt.reader());
     let mut writer = Counted::new(output);
     pack(rt.alloc(), &mut reader, &mut writer)?;
-    write_out(&mut writer)?;
+    write_out(&mut writer.into_inner())?;
     Ok(Status::Done)
 }
 
@@ -53,7 +53,7 @@ fn list_streams(rt: &(impl Input + Print + AllocGlobal)) -> Result<Status, Fault
     let mut reader = Counted::new(input);
     let mut writer = Counted::new(output);
     list_keys(rt.alloc(), &mut reader, &mut writer)?;
-    write_out(&mut writer)?;
+    write_out(&mut writer.into_inner())?;
     Ok(Status::Done)
 }
 
@@ -64,7 +64,7 @@ fn list_held(rt: &(impl Input + Print + AllocGlobal)) -> Result<Status, Fault> {
     let mut reader = Counted::new(input);
     let mut writer = Counted::new(output);
     list_snapshot(rt.alloc(), &mut reader, &mut writer)?;
-    write_out(&mut writer)?;
+    write_out(&mut writer.into_inner())?;
     Ok(Status::Done)
 }
 

@@ -57,7 +57,7 @@ fn dump_streams(rt: &(impl Input + Print + AllocGlobal)) -> Result<Status, Fault
     let mut reader = Counted::new(input);
     let mut writer = Counted::new(output);
     dump_keys(rt.alloc(), &mut reader, &mut writer)?;
-    write_out(&mut writer)?;
+    write_out(&mut writer.into_inner())?;
     Ok(Status::Done)
 }
 
@@ -69,7 +69,7 @@ fn play_file(rt: &(impl Files + Print + AllocGlobal), path: &str) -> Result<Stat
     let mut reader = Counted::new(input);
     let mut writer = Counted::new(output);
     run_play(rt.alloc(), &mut reader, &mut writer)?;
-    write_out(&mut writer)?;
+    write_out(&mut writer.into_inner())?;
     Ok(Status::Done)
 }
 
@@ -81,7 +81,7 @@ fn check_file(rt: &(impl Files + Print + AllocGlobal), path: &str) -> Result<Sta
     let mut reader = Counted::new(input);
     let mut writer = Counted::new(output);
     check_snapshot(rt.alloc(), &mut reader, &mut writer)?;
-    write_out(&mut writer)?;
+    write_out(&mut writer.into_inner())?;
     Ok(Status::Done)
 }
 

@@ -49,7 +49,7 @@ fn run_by<N: Runner>(
     let mut shelf = FileShelf::new(rt);
     let told = run(rt, rt.alloc(), &script, &mut shelf, runner, &mut writer);
     // What the commands before a fault told is written too.
-    let written = write_out(&mut writer);
+    let written = write_out(&mut writer.into_inner());
     told?;
     Ok(written?)
 }
