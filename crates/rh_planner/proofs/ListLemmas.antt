@@ -1,24 +1,15 @@
 -- The lists that have a name.
-use Rattle.std.proofs.Common.{◌≡◌, ◌∙◌, ap, sym, subst, arith, ℕ, suc, ◌+◌, ◌^◌, ◌<◌, inl, inr, Bool, List, [], ◌∷◌, ◌++◌, length, get_or, Option, Some, None, Ok}
+use Rattle.std.proofs.Common.{◌≡◌, ◌∙◌, ap, sym, subst, arith, ℕ, suc, ◌+◌, ◌<◌, inl, inr, Bool, List, [], ◌∷◌, ◌++◌, length, get_or, Option, Some, None}
 use Rattle.std.specs.Prelude.{nat_lt, unwrap_or}
 use Rattle.std.proofs.lemmas.Grind.{flat_map-append}
 use Rattle.std.proofs.lemmas.List.{append-nil}
 use Rattle.std.specs.List.{position_or_len}
 use Rattle.std.specs.Str.{bytes_eq}
 use Rattle.std.proofs.lemmas.Bool.{cases_Bool, ltb-true}
-use Rattle.std.specs.Prelude.{All}
-use Rattle.rh_layout.specs.Key.{IsKey}
-use Rattle.rh_layout.specs.declared.limits.TheConstants.{MAX_BITS}
-use Rattle.rh_files.specs.declared.version.Version.TheVariants.{Second}
-use Rattle.rh_files.specs.KeyFile.{KeyFile, spelling}
-use Rattle.rh_files.specs.Source as source
-use Rattle.rh_files.proofs.Grammar.{file_given}
 use Rattle.rh_shelf.specs.Shelf.{Files}
 use Rattle.rh_script.specs.Plan.{position_of}
 use Rattle.rh_operations.specs.declared.key_lists.KeyList.{KeyList}
 use Rattle.rh_operations.specs.KeyLists.{Stands, path_of, paths_of}
-use Rattle.rh_operations.specs.Found.{keys_found}
-use Rattle.rh_operations.specs.Found.{keys_or_cause}
 use Rattle.rh_planner.specs.Meaning.{list_of}
 use Rattle.rh_planner.specs.Steps.{ListsStand, Named, names_of}
 

@@ -5,7 +5,7 @@ use Rattle.std.specs.Prelude.{ℕ, ◌+◌, true, false, List, [], ◌∷◌, �
 use Rattle.std.specs.FinSet as set
 use Rattle.std.specs.Str.{bytes_eq}
 use Rattle.std.specs.Map.{lookup}
-use Rattle.rh_layout.specs.Layout.{Keys, keys_of}
+use Rattle.rh_layout.specs.Layout.{Keys}
 use Rattle.rh_layout.specs.declared.limits.TheConstants.{MIN_BITS}
 use Rattle.rh_edit.specs.Held.{Held}
 use Rattle.rh_edit.specs.Rising.{rising_keys}
