@@ -123,7 +123,7 @@ fn glue(table: &Table, left: Crew, right: Crew) -> Crew
 /// Has each worker do keys, in threads that fork in halves: the first half works on this thread, the
 /// others on a new one, and so on in each half. Where a start is refused, those that were started are
 /// waited for.
-pub(crate) fn work_all<R: Threads + Wait + Sync, G: Gate + Sync, S: Starts + Sync>(
+pub(crate) fn run<R: Threads + Wait + Sync, G: Gate + Sync, S: Starts + Sync>(
     rt: &R,
     table: &Table,
     crew: Crew,
@@ -161,11 +161,11 @@ pub(crate) fn work_all<R: Threads + Wait + Sync, G: Gate + Sync, S: Starts + Syn
                 move || -> Result<Crew, Refused>
                     requires { IsSync R.row × IsSync G.row × IsSync S.row × CanWork table.now keys.now right }
                     ensures { IfOk result (HaveWorked table.entry.now keys.entry.now right) × IfErr result (RefusedBy (S.allows starts.entry.now)) }
-                { work_all(rt, table, right, keys, gate, starts) },
+                { run(rt, table, right, keys, gate, starts) },
             );
             match started {
                 Ok(child) => {
-                    let mine = work_all(rt, table, left, keys, gate, starts);
+                    let mine = run(rt, table, left, keys, gate, starts);
                     let theirs = child.join(rt);
                     Ok((mine?, theirs?))
                 }

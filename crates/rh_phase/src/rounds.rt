@@ -6,7 +6,7 @@ ghost use Rattle.rh_phase.specs.Crew.{CanWork, RefusedBy};
 ghost use Rattle.rh_phase.specs.Hands.{IsFinished};
 ghost use Rattle.rh_phase.specs.Rounds.{HaveDone};
 
-use crate::crew::{Crew, Refused, Starts, work_all};
+use crate::crew::{Crew, Refused, Starts, run};
 use crate::gate::Gate;
 use crate::hand::Hand;
 use rh_kcas::{Table, wipe};
@@ -30,7 +30,7 @@ pub(crate) fn rounds<R: Threads + Wait + Sync, G: Gate + Sync, S: Starts + Sync>
 {
     let mut crew = crew;
     for _ in rt.forever() {
-        crew = work_all(rt, table, crew, keys, gate, starts)?;
+        crew = run(rt, table, crew, keys, gate, starts)?;
         if are_finished(&crew.hands) {
             return Ok(crew);
         }

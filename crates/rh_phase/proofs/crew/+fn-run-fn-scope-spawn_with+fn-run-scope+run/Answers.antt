@@ -1,5 +1,5 @@
 use Rattle.rh_phase.proofs.Crews.{all_worked}
-use Rattle.rh_phase.proofs.crew.+fn-work_all-fn-scope-spawn_with+fn-work_all-scope+work_all.Goals as goal
+use Rattle.rh_phase.proofs.crew.+fn-run-fn-scope-spawn_with+fn-run-scope+run.Goals as goal
 
 pub returns-clause-worked : goal.returns-clause-worked
 returns-clause-worked g t c =
