@@ -1,14 +1,17 @@
 use rh_edit::SeqSet;
-use rh_files::HeldKeys;
-use rh_layout::is_layout;
+use rh_files::{HeldKeys, KeySource};
 use rh_ledger::{Kind, Tally};
 use rh_runner::*;
-use std::alloc::{AllocError, Global};
+use std::alloc::Global;
+use std::process::Abort;
 use std::sync::Wait;
-use std::test::Fail;
+use std::test::*;
 use std::thread::Threads;
 
 mod batches;
+
+// The bits of a table that takes a long list.
+const BITS: u32 = 18;
 
 const NOTHING: Tally = Tally {
     read: 0,
@@ -18,7 +21,7 @@ const NOTHING: Tally = Tally {
 };
 
 // The keys from 1 to 200,000: more than one phase has.
-fn many_keys(alloc: Global) -> Result<Vec<u64>, AllocError> {
+fn many_keys(alloc: Global) -> Result<Vec<u64>, Fail> {
     let mut keys = vec![in alloc; 0; 200_000]?;
     for (i, key) in keys.iter_mut().enumerate() {
         *key = i as u64 + 1;
@@ -26,112 +29,180 @@ fn many_keys(alloc: Global) -> Result<Vec<u64>, AllocError> {
     Ok(keys)
 }
 
+fn list_of<'a>(rt: &impl Abort, keys: &'a [u64]) -> HeldKeys<'a> {
+    assert!(rt; keys.iter().all(|key| *key <= 200_000));
+    HeldKeys::new(keys)
+}
+
+fn table_of(rt: &(impl Abort + AllocGlobal), keys: &[u64]) -> Result<SeqSet, Fail> {
+    assert!(rt; keys.len() <= 200_000 && keys.iter().all(|key| *key <= 200_000));
+    Ok(SeqSet::from_keys(rt.alloc(), BITS, keys)?)
+}
+
+// A small table of 1, 9 and 17.
+fn three_keys(alloc: Global) -> Result<SeqSet, Fail> {
+    Ok(SeqSet::from_keys(alloc, 3, &[1, 9, 17])?)
+}
+
+// What a change of the table of these keys told, and the cells after it.
+type Changed = (Result<Tally, ListFault>, Vec<u64>);
+
+fn change(
+    rt: &(impl Threads + Wait + Sync + Abort + AllocGlobal),
+    runner: &mut impl Runner,
+    kind: Kind,
+    held: &[u64],
+    list: &mut impl KeySource,
+) -> Result<Changed, Fail> {
+    let set = table_of(rt, held)?;
+    assert!(rt; set.bits() == BITS && set.len() < 10 && list.left() <= 200_000);
+    assert!(rt; kind != Kind::Ask);
+    let mut cells = set.into_cells();
+    let told = change_all(rt, rt.alloc(), runner, kind, BITS, &mut cells, list);
+    Ok((told, cells))
+}
+
+// Which keys of a list are in the table of 1, 9 and 17.
+fn look_up(
+    rt: &(impl Threads + Wait + Sync + Abort + AllocGlobal),
+    runner: &mut impl Runner,
+    list: &mut impl KeySource,
+) -> Result<Result<Vec<bool>, ListFault>, Fail> {
+    let set = three_keys(rt.alloc())?;
+    let (alloc, bits, cells) = (rt.alloc(), set.bits(), set.cells());
+    Ok(ask_all(rt, alloc, runner, bits, cells, list))
+}
+
+// How many keys of a list are in the table of 1, 9 and 17, or are not.
+fn count(
+    rt: &(impl Threads + Wait + Sync + Abort + AllocGlobal),
+    runner: &mut impl Runner,
+    wanted: bool,
+    list: &mut impl KeySource,
+) -> Result<Result<u64, ListFault>, Fail> {
+    let set = three_keys(rt.alloc())?;
+    let (alloc, bits, cells) = (rt.alloc(), set.bits(), set.cells());
+    Ok(count_chosen(rt, alloc, runner, wanted, bits, cells, list))
+}
+
+// Inserts the keys of a list that are in the table of 1, 9 and 17, or are not, which an earlier
+// reading found to be so many.
+fn insert(
+    rt: &(impl Threads + Wait + Sync + Abort + AllocGlobal),
+    wanted: bool,
+    many: u64,
+    held: &[u64],
+    list: &mut impl KeySource,
+) -> Result<Changed, Fail> {
+    let set = table_of(rt, held)?;
+    assert!(rt; set.bits() == BITS && set.len() < 10 && many <= 200_000);
+    let mut cells = set.into_cells();
+    let old = three_keys(rt.alloc())?;
+    let (alloc, runner) = (rt.alloc(), &mut Single);
+    let (bits, old) = (old.bits(), old.cells());
+    let told = insert_chosen(
+        rt, alloc, runner, wanted, many, bits, old, BITS, &mut cells, list,
+    );
+    Ok((told, cells))
+}
+
+// Removes the keys of a list, and counts those that another table does not hold.
+fn remove(
+    rt: &(impl Threads + Wait + Sync + Abort + AllocGlobal),
+    old: &[u64],
+    held: &[u64],
+    list: &mut impl KeySource,
+) -> Result<(Result<(Tally, u64), ListFault>, Vec<u64>), Fail> {
+    let old = table_of(rt, old)?;
+    let set = table_of(rt, held)?;
+    assert!(rt; old.bits() == BITS && set.bits() == BITS);
+    let mut cells = set.into_cells();
+    let (alloc, old) = (rt.alloc(), old.cells());
+    let told = remove_and_count_absent(rt, alloc, &mut Single, BITS, old, &mut cells, list);
+    Ok((told, cells))
+}
+
+// The cells are those of the table of these keys.
+fn assert_holds(rt: &(impl Abort + AllocGlobal), cells: &[u64], keys: &[u64]) -> Result<(), Fail> {
+    assert!(rt; cells == table_of(rt, keys)?.cells());
+    Ok(())
+}
+
 #[test]
 fn a_long_list_changes_a_table(rt: HostRuntime) -> Result<(), Fail> {
     let keys = many_keys(rt.alloc())?;
-    assert!(rt; keys.len() == 200_000 && keys.iter().all(|key| *key <= 200_000));
-    let set = SeqSet::new(rt.alloc(), 18)?;
-    assert!(rt; set.len() == 0);
-    let mut cells = set.into_cells();
-    assert!(rt; is_layout(18, &cells));
-    let mut list = HeldKeys::new(&keys);
-    let told = change_all(
-        &rt,
-        rt.alloc(),
-        &mut Single,
-        Kind::Insert,
-        18,
-        &mut cells,
-        &mut list,
-    )?;
-    assert_eq!(rt;
-        told,
-        Tally {
-            read: 200_000,
-            added: 200_000,
-            ..NOTHING
-        }
-    );
-    let all = SeqSet::from_keys(rt.alloc(), 18, &keys)?;
-    assert_eq!(rt; cells.as_slice(), all.cells());
-    Ok(())
+    let mut list = list_of(&rt, &keys);
+    let (told, cells) = change(&rt, &mut Single, Kind::Insert, &[], &mut list)?;
+    let tally = Tally {
+        read: 200_000,
+        added: 200_000,
+        ..NOTHING
+    };
+    assert_eq!(rt; told, Ok(tally));
+    assert_holds(&rt, &cells, &keys)
 }
 
 #[test]
 fn a_long_list_is_looked_up(rt: HostRuntime) -> Result<(), Fail> {
     let keys = many_keys(rt.alloc())?;
-    assert!(rt; keys.len() == 200_000 && keys.iter().all(|key| *key <= 200_000));
-    let set = SeqSet::from_keys(rt.alloc(), 3, &[1, 9, 17])?;
-    assert!(rt; set.bits() == 3);
-    let mut list = HeldKeys::new(&keys);
-    let found = ask_all(&rt, rt.alloc(), &mut Single, 3, set.cells(), &mut list)?;
+    let found = look_up(&rt, &mut Single, &mut list_of(&rt, &keys))??;
     assert_eq!(rt; found.len(), 200_000);
-    assert_eq!(rt; found.iter().position(|there| *there), Some(0));
-    assert_eq!(rt; found.iter().filter(|there| **there).count(), 3);
-    for (wanted, many) in [(true, 3), (false, 199_997)] {
-        let mut list = HeldKeys::new(&keys);
-        let told = count_chosen(
-            &rt,
-            rt.alloc(),
-            &mut Single,
-            wanted,
-            3,
-            set.cells(),
-            &mut list,
-        )?;
-        assert_eq!(rt; told, many);
-    }
-    assert_eq!(rt; read_through(&mut HeldKeys::new(&keys)), Ok(()));
+    assert!(rt;
+        found
+            .iter()
+            .zip(1..)
+            .all(|(there, key)| *there == [1, 9, 17].contains(&key))
+    );
     Ok(())
 }
 
-// The old table holds 1, 9 and 17.
+#[test]
+fn the_found_of_a_long_list_are_counted(rt: HostRuntime) -> Result<(), Fail> {
+    let keys = many_keys(rt.alloc())?;
+    for (wanted, many) in [(true, 3), (false, 199_997)] {
+        let told = count(&rt, &mut Single, wanted, &mut list_of(&rt, &keys))?;
+        assert_eq!(rt; told, Ok(many));
+    }
+    Ok(())
+}
+
+#[test]
+fn a_long_list_is_read_through(rt: HostRuntime) -> Result<(), Fail> {
+    let keys = many_keys(rt.alloc())?;
+    assert_eq!(rt; read_through(&mut list_of(&rt, &keys)), Ok(()));
+    Ok(())
+}
+
+const CHANGED: Result<Tally, ListFault> = Err(ListFault::Changed);
+
+// How many of the long list an earlier reading found, and what comes of it.
+const MANY_CHOICES: &[(u64, Result<Tally, ListFault>)] = &[
+    (199_996, CHANGED),
+    (
+        199_997,
+        Ok(Tally {
+            read: 199_997,
+            added: 199_997,
+            ..NOTHING
+        }),
+    ),
+    (199_998, CHANGED),
+];
+
 #[test]
 fn chosen_keys_of_a_long_list(rt: HostRuntime) -> Result<(), Fail> {
     let keys = many_keys(rt.alloc())?;
-    assert!(rt; keys.len() == 200_000 && keys.iter().all(|key| *key <= 200_000));
-    let old = SeqSet::from_keys(rt.alloc(), 3, &[1, 9, 17])?;
-    assert!(rt; old.bits() == 3);
-    for (many, told) in [
-        (199_996, Err(ListFault::Changed)),
-        (
-            199_997,
-            Ok(Tally {
-                read: 199_997,
-                added: 199_997,
-                ..NOTHING
-            }),
-        ),
-        (199_998, Err(ListFault::Changed)),
-    ] {
-        let set = SeqSet::new(rt.alloc(), 18)?;
-        assert!(rt; set.len() == 0 && many < 200_000);
-        let mut cells = set.into_cells();
-        assert!(rt; is_layout(18, &cells));
-        let mut list = HeldKeys::new(&keys);
-        assert_eq!(rt;
-            insert_chosen(
-                &rt,
-                rt.alloc(),
-                &mut Single,
-                false,
-                many,
-                3,
-                old.cells(),
-                18,
-                &mut cells,
-                &mut list,
-            ),
-            told
-        );
+    for &(many, told) in MANY_CHOICES {
+        let (found, _) = insert(&rt, false, many, &[], &mut list_of(&rt, &keys))?;
+        assert_eq!(rt; found, told);
     }
     Ok(())
 }
 
 // Each row: whether the keys are wanted that are there, how many an earlier reading found, and what
 // comes of the list 9, 3, 3, 17 in the table of 1, 9 and 17.
-const CHOICES: &[(bool, u64, Result<Tally, ListFault>)] = &[
-    (false, 1, Err(ListFault::Changed)),
+const FEW_CHOICES: &[(bool, u64, Result<Tally, ListFault>)] = &[
+    (false, 1, CHANGED),
     (
         false,
         2,
@@ -141,72 +212,32 @@ const CHOICES: &[(bool, u64, Result<Tally, ListFault>)] = &[
             ..NOTHING
         }),
     ),
-    (false, 3, Err(ListFault::Changed)),
+    (false, 3, CHANGED),
     (true, 2, Ok(Tally { read: 2, ..NOTHING })),
-    (true, 0, Err(ListFault::Changed)),
+    (true, 0, CHANGED),
 ];
 
 #[test]
 fn chosen_keys_of_a_short_list(rt: HostRuntime) -> Result<(), Fail> {
-    let old = SeqSet::from_keys(rt.alloc(), 3, &[1, 9, 17])?;
-    assert!(rt; old.bits() == 3);
-    for &(wanted, many, told) in CHOICES {
-        let set = SeqSet::from_keys(rt.alloc(), 3, &[1, 9, 17])?;
-        assert!(rt; set.len() < 4 && many < 4);
-        let mut cells = set.into_cells();
-        assert!(rt; is_layout(3, &cells));
-        let mut list = HeldKeys::new(&[9, 3, 3, 17]);
-        assert_eq!(rt;
-            insert_chosen(
-                &rt,
-                rt.alloc(),
-                &mut Single,
-                wanted,
-                many,
-                3,
-                old.cells(),
-                3,
-                &mut cells,
-                &mut list,
-            ),
-            told
-        );
+    for &(wanted, many, told) in FEW_CHOICES {
+        let mut list = list_of(&rt, &[9, 3, 3, 17]);
+        let (found, _) = insert(&rt, wanted, many, &[1, 9, 17], &mut list)?;
+        assert_eq!(rt; found, told);
     }
     Ok(())
 }
 
-// 3 is in cell 7 of the table of 1, 3, 9 and 17, and 9 in cell 5, before 17.
 #[test]
 fn keys_are_removed_and_the_absent_counted(rt: HostRuntime) -> Result<(), Fail> {
-    let old = SeqSet::from_keys(rt.alloc(), 3, &[1, 9, 17])?;
-    assert!(rt; old.bits() == 3);
-    let set = SeqSet::from_keys(rt.alloc(), 3, &[1, 9, 17, 3])?;
-    assert!(rt; set.len() < 8);
-    let mut cells = set.into_cells();
-    assert!(rt; is_layout(3, &cells));
-    let mut list = HeldKeys::new(&[9, 3, 3, 9]);
-    let told = remove_and_count_absent(
-        &rt,
-        rt.alloc(),
-        &mut Single,
-        3,
-        old.cells(),
-        &mut cells,
-        &mut list,
-    )?;
-    assert_eq!(rt;
-        told,
-        (
-            Tally {
-                read: 4,
-                removed: 2,
-                ..NOTHING
-            },
-            2
-        )
-    );
-    assert_eq!(rt; cells.as_slice(), [0, 0, 0, 0, 2, 18, 0, 0].as_slice());
-    Ok(())
+    let mut list = list_of(&rt, &[9, 3, 3, 9]);
+    let (told, cells) = remove(&rt, &[1, 9, 17], &[1, 9, 17, 3], &mut list)?;
+    let tally = Tally {
+        read: 4,
+        removed: 2,
+        ..NOTHING
+    };
+    assert_eq!(rt; told, Ok((tally, 2)));
+    assert_holds(&rt, &cells, &[1, 17])
 }
 
 // It is refused memory for each change, and the start of a thread for each look-up.
@@ -245,38 +276,15 @@ impl Runner for Refusing {
 
 #[test]
 fn faults_of_the_runner_are_told(rt: HostRuntime) -> Result<(), Fail> {
-    let set = SeqSet::from_keys(rt.alloc(), 3, &[1, 9, 17])?;
-    assert!(rt; set.bits() == 3 && set.len() < 4);
-    let no_thread = ListFault::Phase(PhaseFault::NoThread);
     let mut refusing = Refusing { refused: 0 };
-    let mut list = HeldKeys::new(&[9, 3]);
-    let cells = set.cells();
-    let asked = ask_all(&rt, rt.alloc(), &mut refusing, 3, cells, &mut list);
-    assert_eq!(rt; asked.map(|_| ()), Err(no_thread));
-    let mut list = HeldKeys::new(&[9, 3]);
-    let counted = count_chosen(
-        &rt,
-        rt.alloc(),
-        &mut refusing,
-        true,
-        3,
-        set.cells(),
-        &mut list,
-    );
-    assert_eq!(rt; counted, Err(no_thread));
-    let mut cells = set.into_cells();
-    assert!(rt; is_layout(3, &cells));
-    let mut list = HeldKeys::new(&[9, 3]);
-    let changed = change_all(
-        &rt,
-        rt.alloc(),
-        &mut refusing,
-        Kind::Remove,
-        3,
-        &mut cells,
-        &mut list,
-    );
-    assert_eq!(rt; changed, Err(ListFault::Phase(PhaseFault::Memory)));
+    let list = list_of(&rt, &[9, 3]);
+    let no_thread = ListFault::Phase(PhaseFault::NoThread);
+    let asked = look_up(&rt, &mut refusing, &mut { list })?;
+    assert_eq!(rt; asked.err(), Some(no_thread));
+    let counted = count(&rt, &mut refusing, true, &mut { list })?;
+    assert_eq!(rt; counted.err(), Some(no_thread));
+    let (told, _) = change(&rt, &mut refusing, Kind::Remove, &[9], &mut { list })?;
+    assert_eq!(rt; told.err(), Some(ListFault::Phase(PhaseFault::Memory)));
     Ok(())
 }
 

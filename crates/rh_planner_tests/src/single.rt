@@ -1,8 +1,10 @@
 use rh_edit::SeqSet;
-use rh_layout::is_layout;
 use rh_ledger::{Kind, Tally};
 use rh_runner::*;
-use std::test::Fail;
+use std::process::Abort;
+use std::sync::Wait;
+use std::test::*;
+use std::thread::Threads;
 
 const NOTHING: Tally = Tally {
     read: 0,
@@ -36,15 +38,24 @@ const PHASES: &[(Kind, &[u64], Tally, [u64; 8])] = &[
     (Kind::Insert, &[], NOTHING, [0, 0, 0, 0, 2, 10, 18, 0]),
 ];
 
+// What a phase told, and the cells after it.
+fn phase(
+    rt: &(impl Threads + Wait + Sync + Abort + AllocGlobal),
+    kind: Kind,
+    keys: &[u64],
+) -> Result<(Tally, Vec<u64>), Fail> {
+    assert!(rt; keys.iter().all(|key| *key < 100) && keys.len() < 4 && kind != Kind::Ask);
+    let set = SeqSet::from_keys(rt.alloc(), 3, &[1, 9, 17])?;
+    assert!(rt; set.bits() == 3 && set.len() < 4);
+    let mut cells = set.into_cells();
+    let told = Single.change(rt, rt.alloc(), kind, 3, &mut cells, keys)?;
+    Ok((told, cells))
+}
+
 #[test]
 fn phases_of_one_worker(rt: HostRuntime) -> Result<(), Fail> {
     for &(kind, keys, tally, after) in PHASES {
-        assert!(rt; keys.iter().all(|key| *key < 100) && keys.len() < 4 && kind != Kind::Ask);
-        let set = SeqSet::from_keys(rt.alloc(), 3, &[1, 9, 17])?;
-        assert!(rt; set.len() < 4);
-        let mut cells = set.into_cells();
-        assert!(rt; is_layout(3, &cells));
-        let told = Single.change(&rt, rt.alloc(), kind, 3, &mut cells, keys)?;
+        let (told, cells) = phase(&rt, kind, keys)?;
         assert_eq!(rt; told, tally);
         assert_eq!(rt; cells.as_slice(), after.as_slice());
     }
@@ -54,9 +65,9 @@ fn phases_of_one_worker(rt: HostRuntime) -> Result<(), Fail> {
 #[test]
 fn look_ups_of_one_worker(rt: HostRuntime) -> Result<(), Fail> {
     let set = SeqSet::from_keys(rt.alloc(), 3, &[1, 9, 17])?;
-    assert!(rt; set.bits() == 3);
-    let found = Single.ask(&rt, rt.alloc(), 3, set.cells(), &[1, 2, 9])?;
+    let (bits, cells) = (set.bits(), set.cells());
+    let found = Single.ask(&rt, rt.alloc(), bits, cells, &[1, 2, 9])?;
     assert_eq!(rt; found.as_slice(), [true, false, true].as_slice());
-    assert!(rt; Single.ask(&rt, rt.alloc(), 3, set.cells(), &[])?.is_empty());
+    assert!(rt; Single.ask(&rt, rt.alloc(), bits, cells, &[])?.is_empty());
     Ok(())
 }

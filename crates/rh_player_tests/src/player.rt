@@ -15,6 +15,8 @@ const TWO_KEYS: [u64; 8] = [0, 0, 0, 0, 2, 10, 0, 0];
 
 const A_KEY_TOO_LARGE: u64 = (1 << 62) - 1;
 
+const DID_READ: Turn = Turn::Did(StepKind::Read);
+
 fn pieces(rt: &HostRuntime, keys: &[&[u64]]) -> Result<Vec<Vec<u64>>, Fail> {
     let mut pieces = Vec::new(rt.alloc());
     for piece in keys {
@@ -35,6 +37,15 @@ fn shown(player: &Player) -> [u64; 8] {
         player.logical(&mut cells);
     }
     cells
+}
+
+/// The word of a cell, in a table of 3 bits.
+fn raw(player: &Player, cell: usize) -> Word {
+    if player.bits() == 3 && cell < 8 {
+        player.raw(cell)
+    } else {
+        Word::Empty
+    }
 }
 
 /// So many turns of a worker, or fewer where one makes no step; how many made a step.
@@ -58,46 +69,67 @@ fn why_not(rt: &HostRuntime, cells: &[u64], keys: &[&[u64]]) -> Result<Option<Pl
     )
 }
 
+// Cells, the keys of each worker, and why no play starts with them.
+const STARTS: &[(&[u64], &[&[u64]], Option<PlayFault>)] = &[
+    (
+        &[22, 17, 6, 0, 0, 0, 0, 9],
+        &[],
+        Some(PlayFault::NotALayout),
+    ),
+    (&[0; 7], &[&[1]], Some(PlayFault::NotALayout)),
+    (
+        &NO_KEYS,
+        &[&[1, 2, 3, 4, 5, 6, 7, 8]],
+        Some(PlayFault::NoRoom),
+    ),
+    (&NO_KEYS, &[&[1, 2, 3, 4, 5, 6, 7]], None),
+    (
+        &FOUR_KEYS,
+        &[&[A_KEY_TOO_LARGE], &[1, 2, 3]],
+        Some(PlayFault::NoRoom),
+    ),
+    (&NO_KEYS, &[], Some(PlayFault::BadWorkers)),
+    (&NO_KEYS, &[&[A_KEY_TOO_LARGE]], Some(PlayFault::BadKey)),
+    (&NO_KEYS, &[&[0, A_KEY_TOO_LARGE - 1], &[]], None),
+];
+
 #[test]
 fn a_start_is_refused_by_its_first_fault(rt: HostRuntime) -> Result<(), Fail> {
-    let no_layout = [22, 17, 6, 0, 0, 0, 0, 9];
-    let bad: &[u64] = &[A_KEY_TOO_LARGE];
-    let many: &[u64] = &[1, 2, 3, 4, 5, 6, 7, 8];
-    assert_eq!(rt; why_not(&rt, &no_layout, &[])?, Some(PlayFault::NotALayout));
-    assert_eq!(rt;
-        why_not(&rt, &NO_KEYS[..7], &[&[1]])?,
-        Some(PlayFault::NotALayout)
-    );
-    assert_eq!(rt; why_not(&rt, &NO_KEYS, &[many])?, Some(PlayFault::NoRoom));
-    assert_eq!(rt; why_not(&rt, &NO_KEYS, &[&many[..7]])?, None);
-    assert_eq!(rt;
-        why_not(&rt, &FOUR_KEYS, &[bad, &many[..3]])?,
-        Some(PlayFault::NoRoom)
-    );
-    assert_eq!(rt; why_not(&rt, &NO_KEYS, &[])?, Some(PlayFault::BadWorkers));
-    assert_eq!(rt; why_not(&rt, &NO_KEYS, &[bad])?, Some(PlayFault::BadKey));
-    assert_eq!(rt;
-        why_not(&rt, &NO_KEYS, &[&[0, A_KEY_TOO_LARGE - 1], &[]])?,
-        None
-    );
-    for workers in [0, 17] {
-        let shared = Player::share(rt.alloc(), 3, &NO_KEYS, Kind::Ask, workers, bad);
-        assert!(rt; matches!(shared, Err(PlayFault::BadWorkers)));
+    for &(cells, keys, fault) in STARTS {
+        assert_eq!(rt; why_not(&rt, cells, keys)?, fault);
     }
-    let shared = Player::share(rt.alloc(), 3, &NO_KEYS, Kind::Ask, 16, bad);
-    assert!(rt; matches!(shared, Err(PlayFault::BadKey)));
+    Ok(())
+}
+
+#[test]
+fn a_shared_start_is_refused_by_its_first_fault(rt: HostRuntime) -> Result<(), Fail> {
+    for (workers, fault) in [
+        (0, PlayFault::BadWorkers),
+        (17, PlayFault::BadWorkers),
+        (16, PlayFault::BadKey),
+    ] {
+        let list = &[A_KEY_TOO_LARGE];
+        let shared = Player::share(rt.alloc(), 3, &NO_KEYS, Kind::Ask, workers, list);
+        assert_eq!(rt; shared.err(), Some(fault), "{workers}");
+    }
     Ok(())
 }
 
 #[test]
 fn one_worker_adds_a_key_in_seventeen_turns(rt: HostRuntime) -> Result<(), Fail> {
     let mut player = player(&rt, &NO_KEYS, Kind::Insert, &[&[9, 9]])?;
-    assert_eq!(rt; player.turn(0), Turn::Did(StepKind::Read));
-    assert_eq!(rt; turns(&mut player, 0, 15), 15);
-    assert_eq!(rt; player.tally().read, 0);
-    assert_eq!(rt; player.turn(0), Turn::Did(StepKind::Release));
-    assert_eq!(rt; player.tally().added, 1);
-    assert_eq!(rt; player.turn(0), Turn::Did(StepKind::Read));
+    let first = player.turn(0);
+    let next = turns(&mut player, 0, 15);
+    let before = player.tally();
+    let last = player.turn(0);
+    let after = player.tally();
+    let ends = [player.turn(0), player.turn(0), player.turn(1)];
+    assert_eq!(rt;
+        (first, next, last),
+        (DID_READ, 15, Turn::Did(StepKind::Release))
+    );
+    assert_eq!(rt; (before.read, after.added), (0, 1));
+    assert_eq!(rt; ends, [DID_READ, Turn::Finished, Turn::NoSuchWorker]);
     let tally = Tally {
         read: 2,
         added: 1,
@@ -106,11 +138,10 @@ fn one_worker_adds_a_key_in_seventeen_turns(rt: HostRuntime) -> Result<(), Fail>
     };
     assert_eq!(rt; player.tally(), tally);
     assert!(rt; player.all_finished());
-    assert_eq!(rt; player.turn(0), Turn::Finished);
-    assert_eq!(rt; player.turn(1), Turn::NoSuchWorker);
-    assert_eq!(rt; player.bits(), 3);
-    assert_eq!(rt; player.raw(4), Word::Key(9));
-    assert_eq!(rt; player.raw(5), Word::Empty);
+    assert_eq!(rt;
+        (raw(&player, 4), raw(&player, 5)),
+        (Word::Key(9), Word::Empty)
+    );
     assert_eq!(rt; shown(&player), [0, 0, 0, 0, 10, 0, 0, 0]);
     Ok(())
 }
@@ -119,27 +150,19 @@ fn one_worker_adds_a_key_in_seventeen_turns(rt: HostRuntime) -> Result<(), Fail>
 fn a_mark_and_a_descriptor_stand_for_the_old_value(rt: HostRuntime) -> Result<(), Fail> {
     let mut player = player(&rt, &NO_KEYS, Kind::Insert, &[&[9], &[1]])?;
     for _ in 0..100 {
-        if player.bits() == 3 && player.raw(4) != Word::Empty {
+        if raw(&player, 4) != Word::Empty {
             break;
         }
         player.turn(0);
     }
-    assert_eq!(rt; player.bits(), 3);
-    let mark = Word::Mark {
-        worker: 0,
-        number: 0,
-    };
-    assert_eq!(rt; player.raw(4), mark);
-    assert_eq!(rt; shown(&player), NO_KEYS);
-    assert_eq!(rt; turns(&mut player, 0, 2), 2);
-    let desc = Word::Desc {
-        worker: 0,
-        number: 0,
-    };
-    assert_eq!(rt; player.bits(), 3);
-    assert_eq!(rt; player.raw(4), desc);
-    assert_eq!(rt; shown(&player), NO_KEYS);
-    assert_eq!(rt; turns(&mut player, 1, 1000), 47);
+    let (worker, number) = (0, 0);
+    let placed = (raw(&player, 4), shown(&player));
+    let settled = turns(&mut player, 0, 2);
+    let promoted = (raw(&player, 4), shown(&player));
+    let helped = turns(&mut player, 1, 1000);
+    assert_eq!(rt; placed, (Word::Mark { worker, number }, NO_KEYS));
+    assert_eq!(rt; promoted, (Word::Desc { worker, number }, NO_KEYS));
+    assert_eq!(rt; (settled, helped), (2, 47));
     assert_eq!(rt; shown(&player), TWO_KEYS);
     assert!(rt; !player.all_finished());
     Ok(())
@@ -203,37 +226,42 @@ fn a_round_begins_where_no_step_is_left(rt: HostRuntime) -> Result<(), Fail> {
     Ok(())
 }
 
+// The answers to the first two keys of each of two workers, and to the first of no worker.
+fn answers(player: &Player) -> [Option<bool>; 5] {
+    [(0, 0), (0, 1), (1, 0), (1, 1), (2, 0)].map(|(worker, place)| player.answer(worker, place))
+}
+
 #[test]
 fn what_is_asked_for_is_answered_at_its_place(rt: HostRuntime) -> Result<(), Fail> {
     let mut player = player(&rt, &FOUR_KEYS, Kind::Ask, &[&[21, 9], &[8]])?;
-    assert_eq!(rt; player.answer(0, 0), None);
+    let (yes, no) = (Some(true), Some(false));
+    assert_eq!(rt; answers(&player), [None; 5]);
     turns(&mut player, 0, 1000);
-    assert_eq!(rt; player.answer(0, 0), Some(true));
-    assert_eq!(rt; player.answer(0, 1), Some(false));
-    assert_eq!(rt; player.answer(1, 0), None);
+    assert_eq!(rt; answers(&player), [yes, no, None, None, None]);
     turns(&mut player, 1, 1000);
-    assert_eq!(rt; player.answer(1, 0), Some(true));
-    assert_eq!(rt; player.answer(0, 2), None);
-    assert_eq!(rt; player.answer(2, 0), None);
-    assert_eq!(rt; player.answer_at(0), None);
+    assert_eq!(rt; answers(&player), [yes, no, yes, None, None]);
+    assert_eq!(rt; (player.answer(0, 2), player.answer_at(0)), (None, None));
     assert_eq!(rt; player.tally().found, 2);
     Ok(())
+}
+
+fn shared_answers(player: &Player) -> [Option<bool>; 4] {
+    [0, 1, 2, 3].map(|place| player.answer_at(place))
 }
 
 #[test]
 fn a_shared_list_is_claimed_key_by_key(rt: HostRuntime) -> Result<(), Fail> {
     let mut player = Player::share(rt.alloc(), 3, &FOUR_KEYS, Kind::Ask, 2, &[21, 9, 8])?;
-    assert_eq!(rt; player.turn(1), Turn::Did(StepKind::Claim));
+    let (yes, no) = (Some(true), Some(false));
+    let claim = player.turn(1);
     turns(&mut player, 0, 1000);
-    assert_eq!(rt; player.turn(0), Turn::Finished);
+    let end = player.turn(0);
+    assert_eq!(rt; [claim, end], [Turn::Did(StepKind::Claim), Turn::Finished]);
+    assert_eq!(rt; shared_answers(&player), [None, no, yes, None]);
     assert!(rt; !player.all_finished());
-    assert_eq!(rt; player.answer_at(0), None);
-    assert_eq!(rt; player.answer_at(1), Some(false));
-    assert_eq!(rt; player.answer_at(2), Some(true));
     turns(&mut player, 1, 1000);
+    assert_eq!(rt; shared_answers(&player), [yes, no, yes, None]);
     assert!(rt; player.all_finished());
-    assert_eq!(rt; player.answer_at(0), Some(true));
-    assert_eq!(rt; player.answer_at(3), None);
     assert_eq!(rt; player.answer(0, 0), None);
     Ok(())
 }

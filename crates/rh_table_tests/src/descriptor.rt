@@ -1,3 +1,5 @@
+ghost use Rattle.std.specs.Prelude.{◌<◌};
+
 use rh_descriptor::*;
 use rh_tagword::State;
 use std::test::*;
@@ -13,28 +15,42 @@ const SHAPE: Shape = Shape {
     },
 };
 
+// The places of a worker's words that are no entry's.
+fn row(worker: usize) -> [usize; 8]
+    requires { worker < 2 }
+{
+    [
+        SHAPE.index(Part::Control { worker }),
+        SHAPE.index(Part::Serial { worker }),
+        SHAPE.index(Part::Length { worker }),
+        SHAPE.index(Part::MarkSerial { worker }),
+        SHAPE.index(Part::MarkDesc { worker }),
+        SHAPE.index(Part::MarkEntry { worker }),
+        SHAPE.index(Part::Note { worker, owner: 0 }),
+        SHAPE.index(Part::Note { worker, owner: 1 }),
+    ]
+}
+
+fn entry(worker: usize, entry: usize) -> [usize; 3]
+    requires worker { worker < 2 }
+    requires entry { entry < 8 }
+{
+    [
+        SHAPE.index(Part::EntryCell { worker, entry }),
+        SHAPE.index(Part::EntryOld { worker, entry }),
+        SHAPE.index(Part::EntryNew { worker, entry }),
+    ]
+}
+
 #[test]
-fn each_part_has_its_place(rt: HostRuntime) -> Result<(), Fail> {
-    assert_eq!(rt; SHAPE.cells(), 8);
-    assert_eq!(rt; SHAPE.words(), 73);
-    assert_eq!(rt; SHAPE.index(Part::Cell(7)), 7);
-    for (worker, first) in [(0, 8), (1, 40)] {
-        assert_eq!(rt; SHAPE.index(Part::Control { worker }), first);
-        assert_eq!(rt; SHAPE.index(Part::Serial { worker }), first + 1);
-        assert_eq!(rt; SHAPE.index(Part::Length { worker }), first + 2);
-        assert_eq!(rt; SHAPE.index(Part::MarkSerial { worker }), first + 27);
-        assert_eq!(rt; SHAPE.index(Part::MarkDesc { worker }), first + 28);
-        assert_eq!(rt; SHAPE.index(Part::MarkEntry { worker }), first + 29);
-        assert_eq!(rt; SHAPE.index(Part::Note { worker, owner: 0 }), first + 30);
-        assert_eq!(rt; SHAPE.index(Part::Note { worker, owner: 1 }), first + 31);
-    }
-    for (worker, entry, first) in [(0, 0, 11), (0, 7, 32), (1, 0, 43), (1, 7, 64)] {
-        assert_eq!(rt; SHAPE.index(Part::EntryCell { worker, entry }), first);
-        assert_eq!(rt; SHAPE.index(Part::EntryOld { worker, entry }), first + 1);
-        assert_eq!(rt; SHAPE.index(Part::EntryNew { worker, entry }), first + 2);
-    }
-    assert_eq!(rt; SHAPE.index(Part::Counter), 72);
-    Ok(())
+fn each_part_has_its_place(rt: HostRuntime) {
+    assert_eq!(rt; [SHAPE.cells(), SHAPE.words()], [8, 73]);
+    let ends = [SHAPE.index(Part::Cell(7)), SHAPE.index(Part::Counter)];
+    assert_eq!(rt; ends, [7, 72]);
+    assert_eq!(rt; row(0), [8, 9, 10, 35, 36, 37, 38, 39]);
+    assert_eq!(rt; row(1), [40, 41, 42, 67, 68, 69, 70, 71]);
+    assert_eq!(rt; [entry(0, 0), entry(0, 7)], [[11, 12, 13], [32, 33, 34]]);
+    assert_eq!(rt; [entry(1, 0), entry(1, 7)], [[43, 44, 45], [64, 65, 66]]);
 }
 
 // The largest table of all.
@@ -143,7 +159,7 @@ fn one_worker_changes_one_cell(rt: HostRuntime) -> Result<(), Fail> {
     make_step(&SHAPE, &mut words, &mut side, write);
     let place = Ask::Place { piece, old: 0 };
     assert_eq!(rt; make_step(&SHAPE, &mut words, &mut side, place), 0);
-    assert_eq!(rt; words[4], 1);
+    let marked = words[4];
     let mark = Ref {
         worker: 0,
         number: 0,
@@ -160,7 +176,7 @@ fn one_worker_changes_one_cell(rt: HostRuntime) -> Result<(), Fail> {
         old: None,
     };
     assert_eq!(rt; make_step(&SHAPE, &mut words, &mut side, settle), 1);
-    assert_eq!(rt; words[4], 2);
+    let promoted = words[4];
     let state = State::Succeeded;
     let decide = Ask::Decide { desc, state };
     assert_eq!(rt; make_step(&SHAPE, &mut words, &mut side, decide), 1);
@@ -170,11 +186,9 @@ fn one_worker_changes_one_cell(rt: HostRuntime) -> Result<(), Fail> {
         value: 8,
     };
     assert_eq!(rt; make_step(&SHAPE, &mut words, &mut side, release), 2);
-    assert_eq!(rt; words[4], 8);
-    let read = Ask::Read(Reading::Cell(4));
-    assert_eq!(rt; make_step(&SHAPE, &mut words, &mut side, read), 8);
-    assert_eq!(rt; side.marks_used, 1);
+    let used = side.marks_used;
     side.begin_round(&words[..8]);
-    assert_eq!(rt; side.marks_used, 0);
+    assert_eq!(rt; [used, side.marks_used], [1, 0]);
+    assert_eq!(rt; [marked, promoted, words[4]], [1, 2, 8]);
     Ok(())
 }
