@@ -4,6 +4,7 @@ use rh_faulty::{FaultyReader, FaultyWriter, Refusal};
 use rh_files::{Counted, KeyFault, write_dump};
 use rh_layout::is_layout;
 use std::alloc::{AllocError, Global};
+use std::io::Read;
 use std::test::Fail;
 
 const OLD: &[u8; 4] = b"RHK1";
@@ -27,16 +28,20 @@ fn key_file(alloc: Global, magic: &[u8; 4], keys: &[u64]) -> Result<Vec<u8>, All
     Ok(bytes)
 }
 
-// The dump of these bytes, or its fault where nothing was written.
-fn dump_of(alloc: Global, bytes: &[u8]) -> Result<Vec<u8>, Option<DumpFault>> {
+// The dump of what is read, or its fault where nothing was written.
+fn dump_by(alloc: Global, reader: &mut Counted<impl Read>) -> Result<Vec<u8>, Option<DumpFault>> {
     let mut writer = Counted::new(Vec::new(alloc));
-    let outcome = dump_keys(alloc, &mut Counted::new(bytes), &mut writer);
+    let outcome = dump_keys(alloc, reader, &mut writer);
     let written = writer.into_inner();
     match outcome {
         Ok(()) => Ok(written),
         Err(fault) if written.is_empty() => Err(Some(fault)),
         Err(_) => Err(None),
     }
+}
+
+fn dump_of(alloc: Global, bytes: &[u8]) -> Result<Vec<u8>, Option<DumpFault>> {
+    dump_by(alloc, &mut Counted::new(bytes))
 }
 
 // The keys in the order in which they are added, and the lines of the dump.
@@ -194,50 +199,40 @@ fn each_bit_is_changed(rt: HostRuntime) {
 
 #[test]
 fn each_read_fails(rt: HostRuntime) -> Result<(), Fail> {
-    for n in 1..1000 {
+    // The header has two, the part of the keys one, and the end one.
+    for n in 1..5u64 {
         let mut reader = Counted::new(FaultyReader::new(THREE_KEYS.as_slice(), n));
-        let mut writer = Counted::new(Vec::new(rt.alloc()));
-        let outcome = dump_keys(rt.alloc(), &mut reader, &mut writer);
-        let written = writer.into_inner();
-        if reader.failures() == 0 {
-            // No read was left to fail: the header has two, the part of the keys one, and the end one.
-            assert_eq!(rt; n, 2 + 1 + 1 + 1);
-            assert_eq!(rt; outcome, Ok(()));
-            assert_eq!(rt; written.as_slice(), THREE_DUMP.as_bytes());
-            return Ok(());
-        }
-        assert_eq!(rt; outcome, Err(DumpFault::Keys(KeyFault::Read)), "at {n}");
-        assert!(rt; written.is_empty(), "at {n}");
+        let fault = dump_by(rt.alloc(), &mut reader).err();
+        let read = DumpFault::Keys(KeyFault::Read);
+        assert_eq!(rt; (fault, reader.failures()), (Some(Some(read)), 1), "at {n}");
     }
-    Err("each read failed".into())
+    let mut reader = Counted::new(FaultyReader::new(THREE_KEYS.as_slice(), 5));
+    let written = dump_by(rt.alloc(), &mut reader).map_err(|_| "refused")?;
+    assert_eq!(rt; reader.failures(), 0);
+    assert_eq!(rt; written.as_slice(), THREE_DUMP.as_bytes());
+    Ok(())
 }
 
 #[test]
-fn each_write_fails(rt: HostRuntime) -> Result<(), Fail> {
-    for n in 1..1000 {
-        let refusal = if n % 2 == 0 {
-            Refusal::Error
-        } else {
-            Refusal::TakesNothing
-        };
-        let mut writer = Counted::new(FaultyWriter::new(rt.alloc(), n, refusal));
-        let outcome = dump_keys(
-            rt.alloc(),
-            &mut Counted::new(THREE_KEYS.as_slice()),
-            &mut writer,
-        );
-        let text = writer.get_ref().text();
-        if writer.failures() == 0 {
-            // No write was left to fail: the head has 5 pieces, each line 6, and the end one.
-            assert_eq!(rt; n, 5 + 3 * 6 + 1 + 1);
-            assert_eq!(rt; outcome, Ok(()));
-            assert_eq!(rt; text, THREE_DUMP.as_bytes());
-            return Ok(());
+fn each_write_fails(rt: HostRuntime) {
+    for refusal in [Refusal::Error, Refusal::TakesNothing] {
+        // The head has five pieces, each line six, and the end one.
+        for n in 1..26u64 {
+            let mut writer = Counted::new(FaultyWriter::new(rt.alloc(), n, refusal));
+            let mut reader = Counted::new(THREE_KEYS.as_slice());
+            let outcome = dump_keys(rt.alloc(), &mut reader, &mut writer);
+            let fault = (n < 25).then_some(DumpFault::Write);
+            let failures = u64::from(n < 25);
+            assert_eq!(rt;
+                (outcome.err(), writer.failures()),
+                (fault, failures),
+                "at {n}"
+            );
+            let text = writer.get_ref().text();
+            assert!(rt; THREE_DUMP.as_bytes().starts_with(text), "at {n}");
+            assert_eq!(rt; text.len() == THREE_DUMP.len(), n == 25, "at {n}");
         }
-        assert_eq!(rt; outcome, Err(DumpFault::Write), "at {n}");
-        assert!(rt; THREE_DUMP.as_bytes().starts_with(text), "at {n}");
     }
-    Err("each write failed".into())
 }
 
 // A removal shifts back what stood behind the key, up to an empty cell or a key at home.

@@ -2,6 +2,8 @@ use rh_faulty::{FaultyReader, FaultyWriter, Refusal};
 use rh_files::*;
 use rh_layout::is_layout;
 use std::alloc::Global;
+use std::io::Read;
+use std::process::Abort;
 use std::test::*;
 
 // The keys 17, 1 and 9.
@@ -122,27 +124,31 @@ fn keys_come_in_batches(rt: HostRuntime) -> Result<(), Fail> {
     Ok(())
 }
 
-#[test]
-fn a_fault_ends_the_stream(rt: HostRuntime) -> Result<(), Fail> {
+// The next three batches of two keys end by this fault.
+fn assert_ended(rt: &impl Abort, stream: &mut KeyStream<'_, impl Read>, fault: KeyFault) {
     let mut batch = [0; 2];
+    for _ in 0..3u32 {
+        assert_eq!(rt; stream.next_batch(&mut batch).err(), Some(fault));
+    }
+}
+
+#[test]
+fn a_bad_key_ends_the_stream(rt: HostRuntime) -> Result<(), Fail> {
     let mut reader = Counted::new(
         b"RHK1\0\0\0\0\0\0\0\x03\0\0\0\0\0\0\0\0\0\0\0\0\0\0\0\x01\0\0\0\0\0\0\0\x02".as_slice(),
     );
     let mut stream = open_keys(&mut reader)?;
-    for _ in 0..3u32 {
-        assert_eq!(rt;
-            stream.next_batch(&mut batch).err(),
-            Some(KeyFault::BadKey { index: 0 })
-        );
-    }
+    assert_ended(&rt, &mut stream, KeyFault::BadKey { index: 0 });
     // The batch of two keys was taken.
     assert_eq!(rt; reader.get_ref().len(), 8);
+    Ok(())
+}
 
+#[test]
+fn a_failed_read_ends_the_stream(rt: HostRuntime) -> Result<(), Fail> {
     let mut reader = Counted::new(FaultyReader::new(FIVE_KEYS, 3));
     let mut stream = open_keys(&mut reader)?;
-    for _ in 0..3u32 {
-        assert_eq!(rt; stream.next_batch(&mut batch).err(), Some(KeyFault::Read));
-    }
+    assert_ended(&rt, &mut stream, KeyFault::Read);
     assert_eq!(rt; reader.failures(), 1);
     Ok(())
 }

@@ -4,6 +4,9 @@ use rh_numbers::TextFault;
 use rh_packing::*;
 use rh_snapshot::SnapFault;
 use std::alloc::Global;
+use std::fmt::Debug;
+use std::io::Read;
+use std::process::Abort;
 use std::test::*;
 
 const TEXT: &[u8] = b"17\n1\n9\n";
@@ -20,41 +23,51 @@ const SNAPSHOT: &[u8] = b"RHS2\x03\0\0\0\0\0\0\0\x03\
 
 const RISING: &[u8] = b"1\n9\n17\n";
 
-// A command, and what it writes before a fault, if any came.
-type Outcome<E> = (Vec<u8>, Result<(), E>);
+// What a command writes, and how it ends.
+type Told<E> = (Vec<u8>, Result<(), E>);
 
-fn packed(alloc: Global, text: &[u8]) -> Outcome<PackFault> {
+fn packed(alloc: Global, reader: &mut Counted<impl Read>) -> Told<PackFault> {
     let mut writer = Counted::new(Vec::new(alloc));
-    let outcome = pack(alloc, &mut Counted::new(text), &mut writer);
+    let outcome = pack(alloc, reader, &mut writer);
     (writer.into_inner(), outcome)
 }
 
-fn listed(alloc: Global, file: &[u8]) -> Outcome<ListFault> {
+fn listed(alloc: Global, reader: &mut Counted<impl Read>) -> Told<ListFault> {
     let mut writer = Counted::new(Vec::new(alloc));
-    let outcome = list_keys(alloc, &mut Counted::new(file), &mut writer);
+    let outcome = list_keys(alloc, reader, &mut writer);
     (writer.into_inner(), outcome)
 }
 
-fn listed_held(alloc: Global, snapshot: &[u8]) -> Outcome<HeldFault> {
+fn listed_held(alloc: Global, reader: &mut Counted<impl Read>) -> Told<HeldFault> {
     let mut writer = Counted::new(Vec::new(alloc));
-    let outcome = list_snapshot(alloc, &mut Counted::new(snapshot), &mut writer);
+    let outcome = list_snapshot(alloc, reader, &mut writer);
     (writer.into_inner(), outcome)
+}
+
+// The command wrote these bytes, or nothing where it ends by this fault.
+fn assert_told<E: PartialEq + Debug + Copy>(
+    rt: &impl Abort,
+    told: &Told<E>,
+    bytes: &[u8],
+    fault: Option<E>,
+) {
+    let bytes = if fault.is_some() { b"" } else { bytes };
+    assert_eq!(rt; told.0.as_slice(), bytes);
+    assert_eq!(rt; told.1.err(), fault);
 }
 
 #[test]
 fn there_and_back(rt: HostRuntime) {
-    let (file, outcome) = packed(rt.alloc(), b"# keys\n 17\r\n\n1 \n009");
-    assert_eq!(rt; outcome, Ok(()));
-    assert_eq!(rt; file.as_slice(), FILE);
-    let (text, outcome) = listed(rt.alloc(), &file);
-    assert_eq!(rt; outcome, Ok(()));
-    assert_eq!(rt; text.as_slice(), TEXT);
-    let (again, outcome) = packed(rt.alloc(), &text);
-    assert_eq!(rt; outcome, Ok(()));
-    assert_eq!(rt; again.as_slice(), FILE);
-    let (text, outcome) = listed_held(rt.alloc(), SNAPSHOT);
-    assert_eq!(rt; outcome, Ok(()));
-    assert_eq!(rt; text.as_slice(), RISING);
+    let alloc = rt.alloc();
+    let text = b"# keys\n 17\r\n\n1 \n009".as_slice();
+    let file = packed(alloc, &mut Counted::new(text));
+    assert_told(&rt, &file, FILE, None);
+    let text = listed(alloc, &mut Counted::new(file.0.as_slice()));
+    assert_told(&rt, &text, TEXT, None);
+    let again = packed(alloc, &mut Counted::new(text.0.as_slice()));
+    assert_told(&rt, &again, FILE, None);
+    let held = listed_held(alloc, &mut Counted::new(SNAPSHOT));
+    assert_told(&rt, &held, RISING, None);
 }
 
 #[test]
@@ -63,94 +76,99 @@ fn refused_bytes_write_nothing(rt: HostRuntime) {
         (b"1\n2x\n".as_slice(), TextFault::NotAKey { line: 2 }),
         (b"4611686018427387903", TextFault::OutOfRange { line: 1 }),
     ] {
-        let (written, outcome) = packed(rt.alloc(), text);
-        assert_eq!(rt; outcome, Err(PackFault::Text(fault)));
-        assert!(rt; written.is_empty());
+        let told = packed(rt.alloc(), &mut Counted::new(text));
+        assert_told(&rt, &told, b"", Some(PackFault::Text(fault)));
     }
     for (file, fault) in [
         (SNAPSHOT, KeyFault::NotKeys),
         (&FILE[..35], KeyFault::Short),
     ] {
-        let (written, outcome) = listed(rt.alloc(), file);
-        assert_eq!(rt; outcome, Err(ListFault::Keys(fault)));
-        assert!(rt; written.is_empty());
+        let told = listed(rt.alloc(), &mut Counted::new(file));
+        assert_told(&rt, &told, b"", Some(ListFault::Keys(fault)));
     }
     for (snapshot, fault) in [
         (FILE, SnapFault::NotSnapshot),
         (&SNAPSHOT[..108], SnapFault::Short),
     ] {
-        let (written, outcome) = listed_held(rt.alloc(), snapshot);
-        assert_eq!(rt; outcome, Err(HeldFault::Snap(fault)));
-        assert!(rt; written.is_empty());
+        let told = listed_held(rt.alloc(), &mut Counted::new(snapshot));
+        assert_told(&rt, &told, b"", Some(HeldFault::Snap(fault)));
     }
 }
 
+// The text and its end.
 #[test]
-fn each_read_fails(rt: HostRuntime) {
-    let alloc = rt.alloc();
-    // The text and its end.
+fn each_read_of_a_text_fails(rt: HostRuntime) {
     for n in 1..4u64 {
         let mut reader = Counted::new(FaultyReader::new(TEXT, n));
-        let mut writer = Counted::new(Vec::new(alloc));
-        let outcome = pack(alloc, &mut reader, &mut writer);
-        let fault = PackFault::Text(TextFault::Read);
-        assert_eq!(rt; outcome, if n < 3 { Err(fault) } else { Ok(()) }, "at {n}");
+        let told = packed(rt.alloc(), &mut reader);
+        let fault = (n < 3).then_some(PackFault::Text(TextFault::Read));
+        assert_told(&rt, &told, FILE, fault);
         assert_eq!(rt; reader.failures(), u64::from(n < 3));
-        assert_eq!(rt; writer.into_inner().is_empty(), n < 3);
-    }
-    // The magic, the count, the part of the keys and the end.
-    for n in 1..6u64 {
-        let mut reader = Counted::new(FaultyReader::new(FILE, n));
-        let mut writer = Counted::new(Vec::new(alloc));
-        let outcome = list_keys(alloc, &mut reader, &mut writer);
-        let fault = ListFault::Keys(KeyFault::Read);
-        assert_eq!(rt; outcome, if n < 5 { Err(fault) } else { Ok(()) }, "at {n}");
-        assert_eq!(rt; writer.into_inner().is_empty(), n < 5);
-    }
-    // The magic, the bits, the count, each cell, the seal and the end.
-    for n in 1..15u64 {
-        let mut reader = Counted::new(FaultyReader::new(SNAPSHOT, n));
-        let mut writer = Counted::new(Vec::new(alloc));
-        let outcome = list_snapshot(alloc, &mut reader, &mut writer);
-        let fault = HeldFault::Snap(SnapFault::Read);
-        assert_eq!(rt; outcome, if n < 14 { Err(fault) } else { Ok(()) }, "at {n}");
-        assert_eq!(rt; writer.into_inner().is_empty(), n < 14);
     }
 }
 
+// The magic, the count, the part of the keys and the end.
 #[test]
-fn each_write_fails(rt: HostRuntime) {
-    let alloc = rt.alloc();
+fn each_read_of_a_key_file_fails(rt: HostRuntime) {
+    for n in 1..6u64 {
+        let mut reader = Counted::new(FaultyReader::new(FILE, n));
+        let told = listed(rt.alloc(), &mut reader);
+        let fault = (n < 5).then_some(ListFault::Keys(KeyFault::Read));
+        assert_told(&rt, &told, TEXT, fault);
+        assert_eq!(rt; reader.failures(), u64::from(n < 5));
+    }
+}
+
+// The magic, the bits, the count, each cell, the seal and the end.
+#[test]
+fn each_read_of_a_snapshot_fails(rt: HostRuntime) {
+    for n in 1..15u64 {
+        let mut reader = Counted::new(FaultyReader::new(SNAPSHOT, n));
+        let told = listed_held(rt.alloc(), &mut reader);
+        let fault = (n < 14).then_some(HeldFault::Snap(SnapFault::Read));
+        assert_told(&rt, &told, RISING, fault);
+        assert_eq!(rt; reader.failures(), u64::from(n < 14));
+    }
+}
+
+// The command ended by this fault, and wrote a part of these bytes before.
+fn assert_cut<E: PartialEq + Debug + Copy>(
+    rt: &impl Abort,
+    writer: &Counted<FaultyWriter>,
+    bytes: &[u8],
+    outcome: Result<(), E>,
+    fault: Option<E>,
+) {
+    assert_eq!(rt; outcome.err(), fault);
+    assert!(rt; bytes.starts_with(writer.get_ref().text()));
+}
+
+// The magic, the count and three keys.
+#[test]
+fn each_write_of_a_key_file_fails(rt: HostRuntime) {
     for refusal in [Refusal::Error, Refusal::TakesNothing] {
-        // The magic, the count and three keys.
         for n in 1..7u64 {
-            let mut writer = Counted::new(FaultyWriter::new(alloc, n, refusal));
-            let outcome = pack(alloc, &mut Counted::new(TEXT), &mut writer);
-            assert_eq!(rt;
-                outcome.err(),
-                (n < 6).then_some(PackFault::Write),
-                "at {n}"
-            );
-            assert!(rt; FILE.starts_with(writer.get_ref().text()), "at {n}");
+            let mut writer = Counted::new(FaultyWriter::new(rt.alloc(), n, refusal));
+            let outcome = pack(rt.alloc(), &mut Counted::new(TEXT), &mut writer);
+            let fault = (n < 6).then_some(PackFault::Write);
+            assert_cut(&rt, &writer, FILE, outcome, fault);
         }
-        // Two for each number.
+    }
+}
+
+// Two for each number.
+#[test]
+fn each_write_of_numbers_fails(rt: HostRuntime) {
+    for refusal in [Refusal::Error, Refusal::TakesNothing] {
         for n in 1..8u64 {
-            let mut writer = Counted::new(FaultyWriter::new(alloc, n, refusal));
-            let outcome = list_keys(alloc, &mut Counted::new(FILE), &mut writer);
-            assert_eq!(rt;
-                outcome.err(),
-                (n < 7).then_some(ListFault::Write),
-                "at {n}"
-            );
-            assert!(rt; TEXT.starts_with(writer.get_ref().text()), "at {n}");
-            let mut writer = Counted::new(FaultyWriter::new(alloc, n, refusal));
-            let outcome = list_snapshot(alloc, &mut Counted::new(SNAPSHOT), &mut writer);
-            assert_eq!(rt;
-                outcome.err(),
-                (n < 7).then_some(HeldFault::Write),
-                "at {n}"
-            );
-            assert!(rt; RISING.starts_with(writer.get_ref().text()), "at {n}");
+            let mut writer = Counted::new(FaultyWriter::new(rt.alloc(), n, refusal));
+            let outcome = list_keys(rt.alloc(), &mut Counted::new(FILE), &mut writer);
+            let fault = (n < 7).then_some(ListFault::Write);
+            assert_cut(&rt, &writer, TEXT, outcome, fault);
+            let mut writer = Counted::new(FaultyWriter::new(rt.alloc(), n, refusal));
+            let outcome = list_snapshot(rt.alloc(), &mut Counted::new(SNAPSHOT), &mut writer);
+            let fault = (n < 7).then_some(HeldFault::Write);
+            assert_cut(&rt, &writer, RISING, outcome, fault);
         }
     }
 }

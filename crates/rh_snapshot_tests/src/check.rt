@@ -3,7 +3,9 @@ use rh_faulty::{FaultyReader, FaultyWriter, Refusal};
 use rh_files::Counted;
 use rh_snapshot::SnapFault;
 use std::alloc::{AllocError, Global};
-use std::test::Fail;
+use std::io::Read;
+use std::process::Abort;
+use std::test::*;
 
 // The keys 1, 9 and 17 at 3 bits, in either version.
 const SECOND: [u8; 109] = *b"RHS2\x03\0\0\0\0\0\0\0\x03\
@@ -24,16 +26,20 @@ const SECOND_LINE: &str = "bits 3 held 3 seal \
 const FIRST_LINE: &str = "bits 3 held 3 seal \
     a370ef487b1f29bed72d7ccebe19717366e41a11c5632a5b277204de96c7ed09\n";
 
-// The line of these bytes, or their fault where nothing was written.
-fn line_of(alloc: Global, bytes: &[u8]) -> Result<Vec<u8>, Option<CheckFault>> {
+// The line of what is read, or its fault where nothing was written.
+fn line_by(alloc: Global, reader: &mut Counted<impl Read>) -> Result<Vec<u8>, Option<CheckFault>> {
     let mut writer = Counted::new(Vec::new(alloc));
-    let outcome = check_snapshot(alloc, &mut Counted::new(bytes), &mut writer);
+    let outcome = check_snapshot(alloc, reader, &mut writer);
     let written = writer.into_inner();
     match outcome {
         Ok(()) => Ok(written),
         Err(fault) if written.is_empty() => Err(Some(fault)),
         Err(_) => Err(None),
     }
+}
+
+fn line_of(alloc: Global, bytes: &[u8]) -> Result<Vec<u8>, Option<CheckFault>> {
+    line_by(alloc, &mut Counted::new(bytes))
 }
 
 #[test]
@@ -97,36 +103,29 @@ const REFUSED: &[(&[u8], SnapFault)] = &[
     (&EXCHANGED, SnapFault::NotALayout),
 ];
 
+// The bytes are refused by this fault, and nothing is written.
+fn assert_refused(rt: &(impl Abort + AllocGlobal), bytes: &[u8], fault: SnapFault) {
+    let found = line_of(rt.alloc(), bytes).err();
+    assert_eq!(rt; found, Some(Some(CheckFault::Snap(fault))), "{bytes:?}");
+}
+
 #[test]
 fn other_bytes_write_nothing(rt: HostRuntime) -> Result<(), Fail> {
     for &(bytes, fault) in REFUSED {
-        assert_eq!(rt;
-            line_of(rt.alloc(), bytes).err(),
-            Some(Some(CheckFault::Snap(fault)))
-        );
+        assert_refused(&rt, bytes, fault);
     }
     for whole in [SECOND, FIRST] {
-        assert_eq!(rt;
-            line_of(rt.alloc(), &whole[..108]).err(),
-            Some(Some(CheckFault::Snap(SnapFault::Short)))
-        );
+        assert_refused(&rt, &whole[..108], SnapFault::Short);
         let mut longer = whole.to_vec(rt.alloc())?;
         longer.push(0)?;
-        assert_eq!(rt;
-            line_of(rt.alloc(), &longer).err(),
-            Some(Some(CheckFault::Snap(SnapFault::Long)))
-        );
+        assert_refused(&rt, &longer, SnapFault::Long);
         // A bit of a cell, and one of the seal.
         for place in [52, 108usize] {
             let mut bytes = whole;
             if let Some(byte) = bytes.get_mut(place) {
                 *byte ^= 1;
             }
-            assert_eq!(rt;
-                line_of(rt.alloc(), &bytes).err(),
-                Some(Some(CheckFault::Snap(SnapFault::Damaged))),
-                "at {place}"
-            );
+            assert_refused(&rt, &bytes, SnapFault::Damaged);
         }
     }
     Ok(())
@@ -134,23 +133,18 @@ fn other_bytes_write_nothing(rt: HostRuntime) -> Result<(), Fail> {
 
 #[test]
 fn each_read_fails(rt: HostRuntime) -> Result<(), Fail> {
-    for n in 1..1000 {
+    // The magic, the bits, the count, each cell, the seal and the end.
+    for n in 1..14u64 {
         let mut reader = Counted::new(FaultyReader::new(SECOND.as_slice(), n));
-        let mut writer = Counted::new(Vec::new(rt.alloc()));
-        let outcome = check_snapshot(rt.alloc(), &mut reader, &mut writer);
-        let written = writer.into_inner();
-        if reader.failures() == 0 {
-            // No read was left to fail: the magic, the bits, the count, each cell, the seal and the
-            // end have one each.
-            assert_eq!(rt; n, 3 + 8 + 1 + 1 + 1);
-            assert_eq!(rt; outcome, Ok(()));
-            assert_eq!(rt; written.as_slice(), SECOND_LINE.as_bytes());
-            return Ok(());
-        }
-        assert_eq!(rt; outcome, Err(CheckFault::Snap(SnapFault::Read)), "at {n}");
-        assert!(rt; written.is_empty(), "at {n}");
+        let fault = line_by(rt.alloc(), &mut reader).err();
+        let read = CheckFault::Snap(SnapFault::Read);
+        assert_eq!(rt; (fault, reader.failures()), (Some(Some(read)), 1), "at {n}");
     }
-    Err("each read failed".into())
+    let mut reader = Counted::new(FaultyReader::new(SECOND.as_slice(), 14));
+    let written = line_by(rt.alloc(), &mut reader).map_err(|_| "refused")?;
+    assert_eq!(rt; reader.failures(), 0);
+    assert_eq!(rt; written.as_slice(), SECOND_LINE.as_bytes());
+    Ok(())
 }
 
 #[test]

@@ -3,6 +3,7 @@ use rh_files::Counted;
 use rh_snapshot::*;
 use sha2::{Digest, Sha256};
 use std::alloc::{AllocError, Global};
+use std::process::Abort;
 use std::test::*;
 
 fn table_of(alloc: Global, bytes: &[u8]) -> Result<Snapshot, SnapFault> {
@@ -46,15 +47,22 @@ const TABLES: &[(&[u8; 109], u64, [u64; 8], &[u8; 109])] = &[
 ];
 
 #[test]
-fn tables_are_read_and_written(rt: HostRuntime) -> Result<(), Fail> {
-    for &(bytes, count, cells, second) in TABLES {
+fn tables_are_read(rt: HostRuntime) -> Result<(), Fail> {
+    for &(bytes, count, cells, _) in TABLES {
+        let table = table_of(rt.alloc(), bytes)?;
+        assert_eq!(rt; (table.bits, table.count), (3, count));
+        assert_eq!(rt; table.cells.as_slice(), cells.as_slice());
+        assert_eq!(rt; table.seal.as_slice(), &bytes[77..]);
+    }
+    Ok(())
+}
+
+#[test]
+fn tables_are_written_in_the_second_version(rt: HostRuntime) -> Result<(), Fail> {
+    for &(bytes, _, _, second) in TABLES {
         let table = read_snapshot(rt.alloc(), &mut Counted::new(bytes.as_slice()))?;
         let mut out = b"before".to_vec(rt.alloc())?;
         write_snapshot(table.bits, &table.cells, &mut out)?;
-        assert_eq!(rt; table.bits, 3);
-        assert_eq!(rt; table.count, count);
-        assert_eq!(rt; table.cells.as_slice(), cells.as_slice());
-        assert_eq!(rt; table.seal.as_slice(), &bytes[77..]);
         assert_eq!(rt; out.len(), 115);
         assert_eq!(rt; &out[..6], b"before".as_slice());
         assert_eq!(rt; &out[6..], second.as_slice());
@@ -105,7 +113,7 @@ const NO_TABLES: &[(&[u8; 4], u64, [u64; 8])] = &[
 ];
 
 #[test]
-fn sealed_bytes_are_tested(rt: HostRuntime) -> Result<(), Fail> {
+fn sealed_tables_are_read(rt: HostRuntime) -> Result<(), Fail> {
     for (magic, numbers) in [
         (b"RHS2", ROUND_THE_END),
         (b"RHS1", [16, 21, 5, 0, 0, 0, 0, 8]),
@@ -115,62 +123,72 @@ fn sealed_bytes_are_tested(rt: HostRuntime) -> Result<(), Fail> {
         assert_eq!(rt; table.count, 4);
         assert_eq!(rt; table.cells.as_slice(), ROUND_THE_END.as_slice());
     }
-    // The greatest key, 2^62 - 2, has home 0.
+    Ok(())
+}
+
+// The greatest key, 2^62 - 2, has home 0.
+#[test]
+fn the_greatest_key_is_read(rt: HostRuntime) -> Result<(), Fail> {
     for (magic, number) in [(b"RHS2", (1 << 62) - 1), (b"RHS1", (1 << 62) - 2)] {
         let bytes = sealed(rt.alloc(), magic, 1, &[number, 0, 0, 0, 0, 0, 0, 0])?;
         let table = table_of(rt.alloc(), &bytes)?;
         assert_eq!(rt; table.cells.first().copied(), Some((1 << 62) - 1));
     }
+    Ok(())
+}
+
+// The bytes are refused by this fault.
+fn assert_refused(rt: &(impl Abort + AllocGlobal), bytes: &[u8], fault: SnapFault) {
+    let found = table_of(rt.alloc(), bytes).err();
+    assert_eq!(rt; found, Some(fault), "{bytes:?}");
+}
+
+#[test]
+fn sealed_bytes_that_are_no_layout_are_refused(rt: HostRuntime) -> Result<(), Fail> {
     for &(magic, count, numbers) in NO_TABLES {
         let mut bytes = sealed(rt.alloc(), magic, count, &numbers)?;
-        let fault = table_of(rt.alloc(), &bytes).err();
-        assert_eq!(rt;
-            fault,
-            Some(SnapFault::NotALayout),
-            "{count} of {numbers:?}"
-        );
-
+        assert_refused(&rt, &bytes, SnapFault::NotALayout);
         // A byte more, which is found after the cells, and a bit of the seal, found before them.
         bytes.push(0)?;
-        assert_eq!(rt;
-            table_of(rt.alloc(), &bytes).err(),
-            Some(SnapFault::NotALayout)
-        );
-        assert!(rt; bytes.len() == 110);
-        bytes[108] ^= 1;
-        assert_eq!(rt;
-            table_of(rt.alloc(), &bytes).err(),
-            Some(SnapFault::Damaged)
-        );
+        assert_refused(&rt, &bytes, SnapFault::NotALayout);
+        if let Some(byte) = bytes.get_mut(108) {
+            *byte ^= 1;
+        }
+        assert_refused(&rt, &bytes, SnapFault::Damaged);
     }
     Ok(())
 }
 
 #[test]
-fn other_bytes_are_refused(rt: HostRuntime) -> Result<(), Fail> {
+fn bytes_that_end_early_or_go_on_are_refused(rt: HostRuntime) -> Result<(), Fail> {
     for whole in [FIRST, SECOND] {
         for n in 0..whole.len() {
-            let fault = table_of(rt.alloc(), &whole[..n]).err();
-            assert_eq!(rt; fault, Some(SnapFault::Short), "at {n}");
+            assert_refused(&rt, &whole[..n], SnapFault::Short);
         }
         let mut longer = whole.to_vec(rt.alloc())?;
         longer.push(0)?;
-        assert_eq!(rt; table_of(rt.alloc(), &longer).err(), Some(SnapFault::Long));
-    }
-    for (bytes, fault) in [
-        (b"RHS3\x03".as_slice(), SnapFault::NotSnapshot),
-        (b"RHK2\x03", SnapFault::NotSnapshot),
-        (b"RHS1\x02", SnapFault::BadBits),
-        (b"RHS1\x11", SnapFault::BadBits),
-        (b"RHS2\x02", SnapFault::BadBits),
-        (b"RHS2\x13", SnapFault::BadBits),
-        (b"RHS1\x10\0\0\0\0\0\0\0\0", SnapFault::Short),
-        (b"RHS2\x11\0\0\0\0\0\0\0\0", SnapFault::Short),
-        (b"RHS2\x12\0\0\0\0\0\0\0\0", SnapFault::Short),
-    ] {
-        assert_eq!(rt; table_of(rt.alloc(), bytes).err(), Some(fault), "{bytes:?}");
+        assert_refused(&rt, &longer, SnapFault::Long);
     }
     Ok(())
+}
+
+const REFUSED: &[(&[u8], SnapFault)] = &[
+    (b"RHS3\x03", SnapFault::NotSnapshot),
+    (b"RHK2\x03", SnapFault::NotSnapshot),
+    (b"RHS1\x02", SnapFault::BadBits),
+    (b"RHS1\x11", SnapFault::BadBits),
+    (b"RHS2\x02", SnapFault::BadBits),
+    (b"RHS2\x13", SnapFault::BadBits),
+    (b"RHS1\x10\0\0\0\0\0\0\0\0", SnapFault::Short),
+    (b"RHS2\x11\0\0\0\0\0\0\0\0", SnapFault::Short),
+    (b"RHS2\x12\0\0\0\0\0\0\0\0", SnapFault::Short),
+];
+
+#[test]
+fn other_bytes_are_refused(rt: HostRuntime) {
+    for &(bytes, fault) in REFUSED {
+        assert_refused(&rt, bytes, fault);
+    }
 }
 
 #[test]
