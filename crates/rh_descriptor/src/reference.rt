@@ -4,7 +4,7 @@ ghost use Rattle.std.specs.Prelude.{◌≡◌, ◌<◌};
 ghost use Rattle.rh_descriptor.specs.Parts.{IsShape, word_count};
 ghost use Rattle.rh_descriptor.specs.Steps.{IsRead, index_read};
 
-use crate::shape::{Part, Shape};
+use crate::shape::Shape;
 
 /// A mark or a descriptor: its worker, and its serial number among that worker's. Both count from 0.
 #[derive(Clone, Copy, Debug, PartialEq, Eq)]
@@ -65,43 +65,20 @@ impl Reading {
     {
         match self {
             Reading::Word(index) => index,
-            Reading::Cell(cell) => shape.index(Part::Cell(cell)),
-            Reading::Control(desc) | Reading::MarkControl { desc, .. } => shape.index(
-                Part::Control {
-                    worker: desc.worker,
-                },
+            Reading::Cell(cell) => cell,
+            Reading::Control(desc) | Reading::MarkControl { desc, .. } => shape.row_word(
+                desc.worker,
+                0,
             ),
-            Reading::Serial(desc) => shape.index(Part::Serial {
-                worker: desc.worker,
-            }),
-            Reading::Length(desc) => shape.index(Part::Length {
-                worker: desc.worker,
-            }),
-            Reading::EntryCell { desc, entry } => shape.index(Part::EntryCell {
-                worker: desc.worker,
-                entry,
-            }),
-            Reading::EntryOld { desc, entry } => shape.index(Part::EntryOld {
-                worker: desc.worker,
-                entry,
-            }),
-            Reading::EntryNew { desc, entry } => shape.index(Part::EntryNew {
-                worker: desc.worker,
-                entry,
-            }),
-            Reading::MarkSerial(mark) => shape.index(Part::MarkSerial {
-                worker: mark.worker,
-            }),
-            Reading::MarkDesc(mark) => shape.index(Part::MarkDesc {
-                worker: mark.worker,
-            }),
-            Reading::MarkEntry(mark) => shape.index(Part::MarkEntry {
-                worker: mark.worker,
-            }),
-            Reading::Reason { desc, decider } => shape.index(Part::Note {
-                worker: decider,
-                owner: desc.worker,
-            }),
+            Reading::Serial(desc) => shape.row_word(desc.worker, 1),
+            Reading::Length(desc) => shape.row_word(desc.worker, 2),
+            Reading::EntryCell { desc, entry } => shape.entry_word(desc.worker, entry, 0),
+            Reading::EntryOld { desc, entry } => shape.entry_word(desc.worker, entry, 1),
+            Reading::EntryNew { desc, entry } => shape.entry_word(desc.worker, entry, 2),
+            Reading::MarkSerial(mark) => shape.mark_word(mark.worker, 0),
+            Reading::MarkDesc(mark) => shape.mark_word(mark.worker, 1),
+            Reading::MarkEntry(mark) => shape.mark_word(mark.worker, 2),
+            Reading::Reason { desc, decider } => shape.note_word(decider, desc.worker),
         }
     }
 }

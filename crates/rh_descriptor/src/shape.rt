@@ -68,9 +68,11 @@ pub enum Part {
 impl Shape {
     ghost use Rattle.rh_descriptor.specs.declared.limits.TheConstants.{HEAD_WORDS, MARK_WORDS, WORDS_PER_ENTRY};
     ghost use Rattle.rh_descriptor.specs.Parts.{IsPart, IsShape, cell_count, entry_words, index_of};
-    ghost use Rattle.rh_descriptor.specs.Parts.{entry_row, row_count, row_index, word_count};
+    ghost use Rattle.rh_descriptor.specs.Parts.{entry_row, mark_row, note_row, row_count, row_index, word_count};
+    ghost use Rattle.rh_descriptor.specs.declared.shape.Part.TheVariants.{Counter};
 
     /// How many cells there are.
+    #[inline(always)]
     pub fn cells(&self) -> usize
         requires { IsShape self.now }
         ensures { result ≡ cell_count self.now }
@@ -79,6 +81,7 @@ impl Shape {
     }
 
     /// How many words the table has.
+    #[inline(always)]
     pub fn words(&self) -> usize
         requires { IsShape self.now }
         ensures { result ≡ word_count self.now }
@@ -87,6 +90,7 @@ impl Shape {
     }
 
     // How many words the entries of a row have: a descriptor has at most one for each cell.
+    #[inline(always)]
     fn entry_words(&self) -> usize
         requires { IsShape self.now }
         ensures { result ≡ entry_words self.now }
@@ -95,6 +99,7 @@ impl Shape {
     }
 
     // How many words the rows of one worker have.
+    #[inline(always)]
     fn rows(&self) -> usize
         requires { IsShape self.now }
         ensures { result ≡ row_count self.now }
@@ -118,23 +123,17 @@ impl Shape {
             Part::EntryCell { worker, entry } => self.entry_word(worker, entry, 0),
             Part::EntryOld { worker, entry } => self.entry_word(worker, entry, 1),
             Part::EntryNew { worker, entry } => self.entry_word(worker, entry, 2),
-            Part::MarkSerial { worker } => self.row_word(worker, HEAD_WORDS + self.entry_words()),
-            Part::MarkDesc { worker } => self.row_word(worker, HEAD_WORDS + self.entry_words() + 1),
-            Part::MarkEntry { worker } => self.row_word(
-                worker,
-                HEAD_WORDS + self.entry_words() + 2,
-            ),
-            Part::Note { worker, owner } => self.row_word(
-                worker,
-                HEAD_WORDS + self.entry_words() + MARK_WORDS + owner,
-            ),
-            Part::Counter => self.cells() + self.workers * self.rows(),
+            Part::MarkSerial { worker } => self.mark_word(worker, 0),
+            Part::MarkDesc { worker } => self.mark_word(worker, 1),
+            Part::MarkEntry { worker } => self.mark_word(worker, 2),
+            Part::Note { worker, owner } => self.note_word(worker, owner),
+            Part::Counter => self.counter(),
         }
     }
 
     #[tactic(auto, using(crate::proofs::IndexLemmas::entry_inside))]
     #[inline(always)]
-    fn entry_word(&self, worker: usize, entry: usize, word: usize) -> usize
+    pub(crate) fn entry_word(&self, worker: usize, entry: usize, word: usize) -> usize
         requires shape { IsShape self.now }
         requires worker { worker < self.now.workers }
         requires entry { entry < cell_count self.now }
@@ -146,7 +145,38 @@ impl Shape {
     }
 
     #[inline(always)]
-    fn row_word(&self, worker: usize, row: usize) -> usize
+    pub(crate) fn mark_word(&self, worker: usize, word: usize) -> usize
+        requires shape { IsShape self.now }
+        requires worker { worker < self.now.workers }
+        requires word { word < MARK_WORDS }
+        ensures value { result ≡ row_index self.now worker (mark_row self.now word) }
+        ensures within { result < word_count self.now }
+    {
+        self.row_word(worker, HEAD_WORDS + self.entry_words() + word)
+    }
+
+    #[inline(always)]
+    pub(crate) fn note_word(&self, worker: usize, owner: usize) -> usize
+        requires shape { IsShape self.now }
+        requires worker { worker < self.now.workers }
+        requires owner { owner < self.now.workers }
+        ensures value { result ≡ row_index self.now worker (note_row self.now owner) }
+        ensures within { result < word_count self.now }
+    {
+        self.row_word(worker, HEAD_WORDS + self.entry_words() + MARK_WORDS + owner)
+    }
+
+    #[inline(always)]
+    pub(crate) fn counter(&self) -> usize
+        requires shape { IsShape self.now }
+        ensures value { result ≡ index_of self.now Counter }
+        ensures within { result < word_count self.now }
+    {
+        self.cells() + self.workers * self.rows()
+    }
+
+    #[inline(always)]
+    pub(crate) fn row_word(&self, worker: usize, row: usize) -> usize
         requires shape { IsShape self.now }
         requires worker { worker < self.now.workers }
         requires row { row < row_count self.now }

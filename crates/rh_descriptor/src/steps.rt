@@ -85,17 +85,13 @@ impl Ask {
     {
         match *self {
             Ask::Write { part, .. } => shape.index(part),
-            Ask::Open { .. } => shape.index(Part::Control {
-                worker: side.worker,
-            }),
+            Ask::Open { .. } => shape.row_word(side.worker, 0),
             Ask::Read(reading) => reading.index(shape),
             Ask::Place { piece, .. } | Ask::Settle { piece, .. } | Ask::Release { piece, .. } => {
-                shape.index(Part::Cell(piece.cell))
+                piece.cell
             }
-            Ask::Decide { desc, .. } => shape.index(Part::Control {
-                worker: desc.worker,
-            }),
-            Ask::Claim => shape.index(Part::Counter),
+            Ask::Decide { desc, .. } => shape.row_word(desc.worker, 0),
+            Ask::Claim => shape.counter(),
         }
     }
 
@@ -144,6 +140,7 @@ impl Ask {
 }
 
 /// Makes the step on a slice of words, and answers the word that was found.
+#[inline(always)]
 pub fn make_step(shape: &Shape, words: &mut [u64], side: &mut Side, ask: Ask) -> u64
     requires shape { IsShape shape.now }
     requires sized { length words.old ≡ word_count shape.now }
@@ -160,6 +157,7 @@ pub fn make_step(shape: &Shape, words: &mut [u64], side: &mut Side, ask: Ask) ->
 
 impl Effect {
     /// The word after, by the word before.
+    #[inline(always)]
     fn on(self, word: u64) -> u64
         ensures { result ≡ changed self word }
     {

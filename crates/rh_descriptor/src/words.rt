@@ -11,6 +11,7 @@ use crate::shape::Shape;
 use rh_tagword::{State, Word, pack, pack_control};
 
 /// The word that refers to a mark of the table.
+#[inline(always)]
 pub fn mark_word(shape: &Shape, mark: Ref) -> u64
     requires shape { IsShape shape.now }
     requires mark { IsMark shape.now (ref_of mark) }
@@ -24,6 +25,7 @@ pub fn mark_word(shape: &Shape, mark: Ref) -> u64
 }
 
 /// The word that refers to a descriptor of the table.
+#[inline(always)]
 pub fn desc_word(shape: &Shape, desc: Ref) -> u64
     requires shape { IsShape shape.now }
     requires desc { IsDesc shape.now (ref_of desc) }
@@ -37,6 +39,7 @@ pub fn desc_word(shape: &Shape, desc: Ref) -> u64
 }
 
 /// The control of a descriptor after a swap of it from undecided to this state that found this word.
+#[inline(always)]
 pub fn decided_word(desc: Ref, state: State, word: u64) -> u64
     requires { IsControl desc.number state }
     ensures { result ≡ decided_word (ref_of desc) (control_of state) word }

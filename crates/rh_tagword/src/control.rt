@@ -25,6 +25,7 @@ pub enum State {
 
 impl State {
     /// Whether the swap is over. It stays as it is from then on.
+    #[inline(always)]
     pub fn is_decided(self) -> bool
         ensures { result ≡ is_decided self }
     {
@@ -36,6 +37,7 @@ impl State {
 }
 
 /// The number of a control: the serial number of the worker's newest opened descriptor, and its state.
+#[inline(always)]
 pub fn pack_control(serial: u64, state: State) -> u64
     requires { IsControl serial state }
     ensures number { result ≡ control_number serial state }
@@ -45,6 +47,7 @@ pub fn pack_control(serial: u64, state: State) -> u64
 }
 
 /// The serial number and the state of a control, or `None` where the number is no control.
+#[inline(always)]
 pub fn unpack_control(number: u64) -> Option<(u64, State)>
     ensures control { result ≡ control_in number }
     ensures none { IsNone result ↔ (((WITHDRAWN < number % 2 ^ STATE_BITS) × (number % 2 ^ STATE_BITS < FAILED))
@@ -69,6 +72,7 @@ pub fn unpack_control(number: u64) -> Option<(u64, State)>
     Some((serial, state))
 }
 
+#[inline(always)]
 fn state_number(state: State) -> u64
     requires { IsState state }
     ensures { result ≡ state_number state }

@@ -24,6 +24,7 @@ pub enum Word {
 }
 
 /// The number of a word.
+#[inline(always)]
 pub fn pack(word: Word) -> u64
     requires { IsWord word }
     ensures number { result ≡ word_number word }
@@ -38,6 +39,7 @@ pub fn pack(word: Word) -> u64
 }
 
 /// The word of a number, or `None` where the number has the tag of no word.
+#[inline(always)]
 pub fn unpack(word: u64) -> Option<Word>
     ensures word { result ≡ word_in word }
     ensures none { IsNone result ↔ (tag_of word ≡ unused_tag) }
@@ -55,6 +57,7 @@ pub fn unpack(word: u64) -> Option<Word>
 }
 
 /// The number of the word that says what a cell holds: 0 for an empty one, else the key plus 1.
+#[inline(always)]
 pub fn plain_word(value: u64) -> u64
     requires { IsValue value }
     ensures { result ≡ plain_number value }
@@ -63,6 +66,7 @@ pub fn plain_word(value: u64) -> u64
 }
 
 /// What a cell with this word holds, or `None` where the word does not say it.
+#[inline(always)]
 pub fn plain_value(word: u64) -> Option<u64>
     ensures { MatchOption result (is_plain word ≡ false)
         (λ value. IsValue value × (word ≡ plain_number value)) }
@@ -70,6 +74,7 @@ pub fn plain_value(word: u64) -> Option<u64>
     (word & TAG_MASK == PLAIN).then_some(word >> TAG_BITS)
 }
 
+#[inline(always)]
 fn tagged_ref(worker: u64, number: u64, tag: u64) -> u64
     requires reference { IsRef worker number }
     requires tag { tag < 2 ^ TAG_BITS }
