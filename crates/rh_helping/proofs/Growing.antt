@@ -10,7 +10,7 @@ use Rattle.rh_descriptor.specs.View.{OwnDesc, View, Written, own_ref}
 use Rattle.rh_descriptor.specs.Words.{control_of, ref_of}
 use Rattle.rh_descriptor.specs.Steps.{IsKnown, entry_of, row_word}
 use Rattle.rh_helping.specs.declared.goal.Task.{Task}
-use Rattle.rh_helping.specs.declared.goal.Goal.{Goal}
+use Rattle.rh_helping.specs.Next.{Goal}
 use Rattle.rh_helping.specs.declared.goal.Owed.{Owed}
 use Rattle.rh_helping.specs.Goal.{HasGone, HasReason, HasReleased, IsAllNoted, IsClear, IsForeign, IsMet, IsOpenOf, KnowsGoal, KnowsOwn, KnowsTask, OwesNothing, OwesOne, Owns, Releases, ReleasesOther, ReleasesOwn, StandsAt, open_number}
 use Rattle.rh_helping.specs.Settling.{FailsNone, Grows, Keeps}

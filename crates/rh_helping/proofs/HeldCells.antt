@@ -7,14 +7,11 @@ use Rattle.rh_world.specs.Notes.Note.{desc_is, found, old_is, size_is, target_is
 use Rattle.rh_descriptor.specs.declared.shape.Shape.{Shape}
 use Rattle.rh_descriptor.specs.View.{View, own_ref}
 use Rattle.rh_descriptor.specs.Words.{ref_of}
-use Rattle.rh_helping.specs.declared.goal.Goal.{Goal}
+use Rattle.rh_helping.specs.Next.{Goal, Looking, Placed, Work}
 use Rattle.rh_helping.specs.declared.goal.Owed.{Owed}
-use Rattle.rh_helping.specs.declared.goal.Placed.{Placed}
 use Rattle.rh_helping.specs.declared.goal.Task.{Task}
-use Rattle.rh_helping.specs.declared.looking.Looking.{Looking}
-use Rattle.rh_helping.specs.declared.looking.Looking.TheVariants as looking
-use Rattle.rh_helping.specs.declared.work.Work.{Work}
-use Rattle.rh_helping.specs.declared.work.Work.TheVariants as work
+use Rattle.rh_helping.specs.Next.{Looking as looking}
+use Rattle.rh_helping.specs.Next.{Work as work}
 use Rattle.rh_helping.specs.Goal.{KnowsGoal, KnowsTask, OwesNothing, OwesOne, StandsAt, owed_of}
 use Rattle.rh_helping.specs.Held.{IsHeld, KnowsOld, held_by, held_in}
 use Rattle.rh_helping.specs.Looking.{IsLooking}
@@ -85,7 +82,7 @@ work_held z v (work.Recheck g promoted) h = swapped_held v g promoted h
 work_held z v (work.Note t) h = none_held v (subst (OwesAs v t) h.undecided h.at.owes)
 work_held z v (work.Fail t) h = none_held v (subst (OwesAs v t) h.0.undecided h.0.at.owes)
 work_held z v (work.Succeed t) h = none_held v h.3
-work_held z v (work.Withdraw n) h = none_held v h.0
+work_held z v (work.Withdraw d) h = none_held v h.0
 work_held z v (work.Reason t by) h = task_held v t t.state refl h.0.task h.0.owes
 work_held z v (work.Release g) h = released_held v (ref_of g.task.desc) g.task.entry g.task.size g.task.owed h.0.task.size h.2.settled h.2.owes
 work_held z v (work.GiveBack o) h = (record { work = h.work; cell = h.cell; old = h.old }, inr (h.settled, h.owes))

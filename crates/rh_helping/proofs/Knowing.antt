@@ -7,7 +7,7 @@ use Rattle.rh_descriptor.specs.View.{View}
 use Rattle.rh_descriptor.specs.Words.{ref_of}
 use Rattle.rh_descriptor.specs.Steps.{Allowed, IsDesc, IsKnown, IsStep, Step}
 use Rattle.rh_helping.specs.declared.goal.Task.{Task}
-use Rattle.rh_helping.specs.declared.goal.Goal.{Goal}
+use Rattle.rh_helping.specs.Next.{Goal}
 use Rattle.rh_helping.specs.Goal.{KnowsGoal, KnowsTask}
 use Rattle.rh_steps.specs.Relies.{Knows}
 use Rattle.rh_helping.proofs.Growing.{stands_known}

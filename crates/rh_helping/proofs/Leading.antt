@@ -2,7 +2,7 @@
 use Rattle.std.proofs.Common.{◌≡◌, Option, sym, subst}
 use Rattle.rh_descriptor.specs.declared.shape.Shape.{Shape}
 use Rattle.rh_descriptor.specs.View.{OwnDesc, View}
-use Rattle.rh_helping.specs.declared.work.Outcome.{Outcome}
+use Rattle.rh_helping.specs.Next.{Outcome}
 use Rattle.rh_helping.specs.Work.{Leads}
 
 pub lead : (z : Shape) (next said : View) (opens : Option OwnDesc) (o : Outcome) → next ≡ said → Leads z said opens o → Leads z next opens o

@@ -14,11 +14,11 @@ use Rattle.rh_descriptor.specs.Parts.{cell_count}
 use Rattle.rh_descriptor.specs.Steps.{Allowed, Step, noted, with_side}
 use Rattle.rh_rule.specs.Represents.{IsCell}
 use Rattle.rh_steps.specs.Relies.{Knows}
-use Rattle.rh_helping.specs.declared.looking.Looked.{Looked}
-use Rattle.rh_helping.specs.declared.looking.Looked.TheVariants.{On, Sees}
-use Rattle.rh_helping.specs.declared.looking.Looking.TheVariants as looking
-use Rattle.rh_helping.specs.declared.settling.Settling.TheVariants as settling
-use Rattle.rh_helping.specs.declared.work.Work.TheVariants as work
+use Rattle.rh_helping.specs.Next.{Looked}
+use Rattle.rh_helping.specs.Next.Looked.{On, Sees}
+use Rattle.rh_helping.specs.Next.{Looking as looking}
+use Rattle.rh_helping.specs.Next.{Settles as settling}
+use Rattle.rh_helping.specs.Next.{Work as work}
 use Rattle.rh_helping.specs.Goal.{IsClear}
 use Rattle.rh_helping.specs.Looking.{LooksOn, reads_after}
 use Rattle.rh_helping.specs.Settling.{Grows}

@@ -12,7 +12,7 @@ use Rattle.rh_descriptor.specs.View.{View}
 use Rattle.rh_descriptor.specs.Words.{control_of, ref_of}
 use Rattle.rh_descriptor.specs.Steps.{mark_control_read}
 use Rattle.rh_rule.specs.Sound.{ControlTells}
-use Rattle.rh_helping.specs.declared.settling.Settling.TheVariants.{Old, Settle}
+use Rattle.rh_helping.specs.Next.Settles.{Old, Settle}
 use Rattle.rh_helping.specs.Goal.{OwesNothing}
 use Rattle.rh_helping.specs.CellContent.{state_said}
 use Rattle.rh_helping.specs.Settling.{FailsNone, Grows, IsFound, IsSettling}

@@ -9,7 +9,7 @@ use Rattle.rh_world.specs.Sides.{Debt}
 use Rattle.rh_world.proofs.Updated.{ref_path, same_nat, some_injective, some_not_none}
 use Rattle.rh_descriptor.specs.View.{OwnDesc, View, own_ref}
 use Rattle.rh_descriptor.specs.Words.{ref_of}
-use Rattle.rh_helping.specs.declared.goal.Goal.{Goal}
+use Rattle.rh_helping.specs.Next.{Goal}
 use Rattle.rh_helping.specs.declared.goal.Owed.{Owed}
 use Rattle.rh_helping.specs.declared.goal.Task.{Task}
 use Rattle.rh_helping.specs.Goal.{HasGone, HasReleased, IsAllNoted, IsForeign, IsNewest, KnowsOwn, OwesNothing, OwesOne, Releases, ReleasesOther, ReleasesOwn, StandsAt, debt_of, open_number, owed_of}

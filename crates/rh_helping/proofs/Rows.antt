@@ -13,7 +13,7 @@ use Rattle.rh_descriptor.specs.declared.reference.Reading.TheVariants as reading
 use Rattle.rh_descriptor.specs.View.{Raw, RawRow, RowWord, View}
 use Rattle.rh_descriptor.specs.Words.{ref_of}
 use Rattle.rh_descriptor.specs.Steps.{Allowed, Step, desc_row_said, gone_noted, rows_said, serial_read, with_side}
-use Rattle.rh_helping.specs.declared.goal.Goal.{Goal}
+use Rattle.rh_helping.specs.Next.{Goal}
 use Rattle.rh_helping.specs.declared.goal.Task.{Task}
 use Rattle.rh_helping.specs.Goal.{HasReadRow, KnowsGoal}
 use Rattle.rh_steps.specs.Relies.{Knows}

@@ -7,10 +7,9 @@ use Rattle.rh_descriptor.specs.View.{View, own_ref}
 use Rattle.rh_descriptor.specs.Words.{ref_of}
 use Rattle.rh_helping.specs.Goal.{debt_of, owed_of}
 use Rattle.rh_helping.specs.declared.goal.Owed.{Owed}
-use Rattle.rh_helping.specs.declared.looking.Looking.{Looking}
-use Rattle.rh_helping.specs.declared.looking.Looking.TheVariants as looking
-use Rattle.rh_helping.specs.declared.work.Work.{Work}
-use Rattle.rh_helping.specs.declared.work.Work.TheVariants as work
+use Rattle.rh_helping.specs.Next.{Looking, Work}
+use Rattle.rh_helping.specs.Next.{Looking as looking}
+use Rattle.rh_helping.specs.Next.{Work as work}
 
 abbrev pub held_by : Work → Option Owed
 held_by (work.Control d) = None
@@ -32,7 +31,7 @@ held_by (work.Recheck g promoted) = Some (owed_of g)
 held_by (work.Note t) = None
 held_by (work.Fail t) = None
 held_by (work.Succeed t) = None
-held_by (work.Withdraw n) = None
+held_by (work.Withdraw d) = None
 held_by (work.Reason t by) = t.owed
 held_by (work.Release g) = g.task.owed
 held_by (work.GiveBack o) = Some o

@@ -8,10 +8,9 @@ use Rattle.rh_descriptor.specs.declared.steps.StepKind.{StepKind}
 use Rattle.rh_descriptor.specs.declared.steps.StepKind.TheVariants as kind
 use Rattle.rh_descriptor.specs.View.{View}
 use Rattle.rh_descriptor.specs.Words.{IsPlain, ref_of}
-use Rattle.rh_helping.specs.declared.looking.Looking.{Looking}
-use Rattle.rh_helping.specs.declared.looking.Looking.TheVariants as looking
-use Rattle.rh_helping.specs.declared.looking.Looked.{Looked}
-use Rattle.rh_helping.specs.declared.looking.Looked.TheVariants.{On, Sees, Spent}
+use Rattle.rh_helping.specs.Next.{Looked, Looking}
+use Rattle.rh_helping.specs.Next.{Looking as looking}
+use Rattle.rh_helping.specs.Next.Looked.{On, Sees, Spent}
 use Rattle.rh_helping.specs.Goal.{IsClear, KnowsOwn}
 use Rattle.rh_helping.specs.Settling.{EndsSettling, IsSettling, kind_of_settling}
 use Rattle.rh_helping.specs.Work.{ReleasesLast, Stands, desc_of, kind_of_work}

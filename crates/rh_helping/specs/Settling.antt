@@ -14,8 +14,8 @@ use Rattle.rh_descriptor.specs.View.RowWord.{old_word}
 use Rattle.rh_descriptor.specs.Words.{ref_of}
 use Rattle.rh_descriptor.specs.Steps.{MaySettle}
 use Rattle.rh_helping.specs.Goal.{HasReadRow}
-use Rattle.rh_helping.specs.declared.settling.Settling.{Settling}
-use Rattle.rh_helping.specs.declared.settling.Settling.TheVariants as settling
+use Rattle.rh_helping.specs.Next.{Settles}
+use Rattle.rh_helping.specs.Next.{Settles as settling}
 
 -- More is noted.
 pub record Keeps (v next : View) : Type 0 where
@@ -40,7 +40,7 @@ pub record Grows (v next : View) : Type 0 where
   pub unsettled : next.side.unsettled ≡ v.side.unsettled
   pub debts : next.side.debts ≡ v.side.debts
 
-abbrev pub kind_of_settling : Settling → StepKind
+abbrev pub kind_of_settling : Settles → StepKind
 kind_of_settling (settling.Desc x c) = kind.Read
 kind_of_settling (settling.Entry x c u) = kind.Read
 kind_of_settling (settling.Serial x c u e) = kind.Read
@@ -59,7 +59,7 @@ pub record IsFound (v : View) (x : Reference) (p : Piece) : Type 0 where
 abbrev pub HasRead : View → Reference → MarkWord → Type 0
 HasRead v x u = In (record { mark = ref_of x; word = u }) v.raw
 
-abbrev pub IsSettling : View → Settling → Type 0
+abbrev pub IsSettling : View → Settles → Type 0
 IsSettling v (settling.Desc x c) = In (found (ref_of x) c) v.side.notes
 IsSettling v (settling.Entry x c u) = In (found (ref_of x) c) v.side.notes × HasRead v x (desc_word u)
 IsSettling v (settling.Serial x c u e) = In (found (ref_of x) c) v.side.notes × HasRead v x (desc_word u) × HasRead v x (entry_word e)
@@ -70,7 +70,7 @@ IsSettling v (settling.Settle x p old) = IsFound v x p × MaySettle v (ref_of x)
 
 -- The mark is left once it is settled, or where its row has gone on, and then nothing is noted of it, or that of its
 -- descriptor.
-abbrev pub EndsSettling : (v next : View) → Settling → Type 0
+abbrev pub EndsSettling : (v next : View) → Settles → Type 0
 EndsSettling v next (settling.Desc x c) = ⊥
 EndsSettling v next (settling.Entry x c u) = ⊥
 EndsSettling v next (settling.Serial x c u e) = next.side ≡ v.side
@@ -80,6 +80,6 @@ EndsSettling v next (settling.OldSerial x p old) = In (passed (ref_of p.desc)) n
 EndsSettling v next (settling.Settle x p old) = Unit {0}
 
 -- what the step leads to: the next one, or none where the mark is left
-abbrev pub LeadsOn : (v next : View) → Settling → Option Settling → Type 0
+abbrev pub LeadsOn : (v next : View) → Settles → Option Settles → Type 0
 LeadsOn v next s None = EndsSettling v next s
 LeadsOn v next s (Some on) = IsSettling next on

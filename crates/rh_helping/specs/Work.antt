@@ -15,15 +15,12 @@ use Rattle.rh_descriptor.specs.View.RowWord.{cell_word, length_word, new_word, o
 use Rattle.rh_descriptor.specs.Words.{desc_number, ref_of}
 use Rattle.rh_descriptor.specs.Steps.{HasSerial, IsKnown, row_word}
 use Rattle.rh_helping.specs.declared.goal.Task.{Task}
-use Rattle.rh_helping.specs.declared.goal.Goal.{Goal}
+use Rattle.rh_helping.specs.Next.{Goal, Outcome, Placed, Work}
 use Rattle.rh_helping.specs.declared.goal.Owed.{Owed}
-use Rattle.rh_helping.specs.declared.goal.Placed.{Placed}
-use Rattle.rh_helping.specs.declared.work.Work.{Work}
-use Rattle.rh_helping.specs.declared.work.Work.TheVariants as work
-use Rattle.rh_helping.specs.declared.work.Outcome.{Outcome}
-use Rattle.rh_helping.specs.declared.work.Outcome.TheVariants.{On, Over, Closed, Spent}
-use Rattle.rh_helping.specs.declared.work.Ended.{Ended}
-use Rattle.rh_helping.specs.declared.work.Ended.TheVariants as ended
+use Rattle.rh_helping.specs.Next.{Work as work}
+use Rattle.rh_helping.specs.Next.Outcome.{On, Over, Closed, Spent}
+use Rattle.rh_helping.specs.declared.machine.Ended.{Ended}
+use Rattle.rh_helping.specs.declared.machine.Ended.TheVariants as ended
 use Rattle.rh_helping.specs.Goal.{GivesBack, HasGone, HasReadRow, HasReason, IsForeign, IsMet, IsNewest, KnowsGoal, KnowsOwn, KnowsTask, OwesNothing, Releases, debt_of, owed_of}
 use Rattle.rh_helping.specs.Settling.{IsSettling, kind_of_settling}
 
@@ -47,7 +44,7 @@ kind_of_work (work.Recheck g promoted) = kind.Read
 kind_of_work (work.Note t) = kind.Write
 kind_of_work (work.Fail t) = kind.Decide
 kind_of_work (work.Succeed t) = kind.Decide
-kind_of_work (work.Withdraw n) = kind.Decide
+kind_of_work (work.Withdraw d) = kind.Decide
 kind_of_work (work.Reason t by) = kind.Read
 kind_of_work (work.Release g) = kind.Release
 kind_of_work (work.GiveBack o) = kind.Release
@@ -99,6 +96,12 @@ failed_by Undecided = None
 failed_by Succeeded = None
 failed_by Withdrawn = None
 failed_by (Failed by) = Some by
+
+-- it is the own open descriptor, and it failed by this decider
+pub record HasFailedOwn (v : View) (t : Task) (by : ℕ) : Type 0 where
+  pub failed : t.state ≡ Failed by
+  pub own : t.desc.worker ≡ v.worker
+  pub opened : v.side.current ≡ Some t.desc.number
 
 -- a goal for which the next own mark can be placed
 pub record CanTry (z : Shape) (v : View) (g : Goal) : Type 0 where
@@ -175,8 +178,8 @@ Stands z v (work.Recheck g promoted) = IsSwapped v g promoted
 Stands z v (work.Note t) = Mismatches v t
 Stands z v (work.Fail t) = Mismatches v t × (row_word v.written (note_row z t.desc.worker) ≡ t.entry)
 Stands z v (work.Succeed t) = KnowsTask v t × (t.entry ≡ t.size) × (t.state ≡ Undecided) × OwesNothing v
-Stands z v (work.Withdraw n) = OwesNothing v × (v.side.current ≡ Some n) × (z.rooms.marks ≤ v.marks_used)
-Stands z v (work.Reason t by) = Begins v t × (t.state ≡ Failed by) × (t.desc.worker ≡ v.worker) × (v.side.current ≡ Some t.desc.number)
+Stands z v (work.Withdraw d) = OwesNothing v × (d.worker ≡ v.worker) × (v.side.current ≡ Some d.number) × (z.rooms.marks ≤ v.marks_used)
+Stands z v (work.Reason t by) = Begins v t × HasFailedOwn v t by
 Stands z v (work.Release g) = KnowsGoal v g × IsOver g.task.state × Releases v g.task × HasReason v g.task
 Stands z v (work.GiveBack o) = GivesBack v o
 
@@ -231,7 +234,7 @@ desc_of (work.Recheck g promoted) = g.task.desc
 desc_of (work.Note t) = t.desc
 desc_of (work.Fail t) = t.desc
 desc_of (work.Succeed t) = t.desc
-desc_of (work.Withdraw n) = record { worker = 0; number = n }
+desc_of (work.Withdraw d) = d
 desc_of (work.Reason t by) = t.desc
 desc_of (work.Release g) = g.task.desc
 desc_of (work.GiveBack o) = o.piece.desc

@@ -1,7 +1,6 @@
-//! What a worker goes about: a descriptor, its own or another's, and an entry of it.
+//! What a worker goes about: a descriptor, its own or another's, and how far it has come there.
 
 ghost use Rattle.std.specs.Prelude.{◌≡◌, ◌<◌, ◌+◌, None};
-ghost use Rattle.rh_helping.specs.Goal.{owed_of};
 
 use rh_descriptor::{Piece, Ref};
 use rh_layout::Entry;
@@ -40,42 +39,9 @@ pub struct Task {
     pub reason: Option<u64>,
 }
 
-/// The next entry of a task.
-#[derive(Clone, Copy)]
-pub struct Goal {
-    pub task: Task,
-    pub cell: usize,
-    /// The word that the entry is to find in the cell.
-    pub old: u64,
-    /// The word that it is to put there.
-    pub new: u64,
-}
-
-/// An own mark that was placed for a goal.
-#[derive(Clone, Copy)]
-pub struct Placed {
-    pub goal: Goal,
-    pub mark: Ref,
-}
-
-impl Goal {
-    /// Its cell, as one that the worker owes.
-    pub(crate) fn owed(self) -> Owed
-        ensures { result ≡ owed_of self }
-    {
-        Owed {
-            piece: Piece {
-                desc: self.task.desc,
-                entry: self.task.entry,
-                cell: self.cell,
-            },
-            old: self.old,
-        }
-    }
-}
-
 impl Task {
     /// A descriptor that stands so, at its first entry, where no cell is owed.
+    #[inline(always)]
     pub(crate) fn new(desc: Ref, size: usize, state: State) -> Task
         ensures { result ≡ record { desc = desc; size = size; state = state; entry = 0; owed = None; reason = None } }
     {
@@ -90,6 +56,7 @@ impl Task {
     }
 
     /// The same descriptor, decided so: its entries are to be released from the first one on.
+    #[inline(always)]
     pub(crate) fn decided(self, state: State, owed: Option<Owed>) -> Task
         ensures { result ≡ record { desc = self.desc; size = self.size; state = state; entry = 0; owed = owed; reason = None } }
     {
@@ -103,6 +70,7 @@ impl Task {
     }
 
     /// The same descriptor, at the entry after this one.
+    #[inline(always)]
     pub(crate) fn after(self) -> Task
         requires { self.entry < self.size }
         ensures { result ≡ record { desc = self.desc; size = self.size; state = self.state; entry = self.entry + 1; owed = self.owed; reason = self.reason } }

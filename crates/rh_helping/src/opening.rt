@@ -29,6 +29,7 @@ pub enum Opening {
 }
 
 impl Opening {
+    #[inline(always)]
     pub fn kind(&self) -> StepKind
         ensures { result ≡ kind_of_opening self.now }
     {
@@ -40,6 +41,7 @@ impl Opening {
 
     /// Makes the step for a descriptor of these entries, and answers the next one, or none where it
     /// was opened: it has the number that is counted before the first of the steps.
+    #[inline(always)]
     pub fn step<T: Steps>(
         self,
         shape: &Shape,
@@ -61,6 +63,7 @@ impl Opening {
         self.next(entries)
     }
 
+    #[inline(always)]
     fn ask(self, shape: &Shape, side: &Side, entries: &[Entry]) -> Ask
         requires shape { IsShape shape.now }
         requires may { MayOpen shape.now side.now.known.view entries.now }
@@ -96,6 +99,7 @@ impl Opening {
     }
 
     /// The next step. All words of an entry are written before the next one.
+    #[inline(always)]
     fn next(self, entries: &[Entry]) -> Option<Opening>
         ensures { result ≡ after_opening (length entries.now) self }
     {

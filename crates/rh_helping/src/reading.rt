@@ -10,6 +10,7 @@ use rh_tagword::{State, Word, unpack, unpack_control};
 
 /// How a descriptor stands by this word, its worker's control; or none where the worker has gone on to
 /// a later one.
+#[inline(always)]
 pub fn state_told(desc: Ref, word: u64) -> Option<State>
     requires { IsControlWord word }
     ensures { option_map control_of result ≡ state_said desc.number word }
@@ -32,6 +33,7 @@ pub enum CellContent {
 }
 
 /// What a cell with this word holds.
+#[inline(always)]
 pub fn what_stands(word: u64) -> CellContent
     ensures { cell_met result word ≡ cell_in word }
 {
@@ -50,6 +52,7 @@ pub fn what_stands(word: u64) -> CellContent
 
 /// The descriptor that a word refers to.
 #[tactic(auto, using(crate::proofs::Refers::refers))]
+#[inline(always)]
 pub fn named_desc(word: u64) -> Option<Ref>
     ensures { option_map ref_of result ≡ desc_in word }
 {

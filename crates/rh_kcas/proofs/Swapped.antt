@@ -1,8 +1,8 @@
 -- What an own descriptor that was opened and carried out makes of a worker at rest.
 use Rattle.std.proofs.Common.{◌≡◌, ℕ, ◌≤◌, cond, Bool, true, false, List, ◌∷◌, refl, sym, ap, ◌∙◌, subst}
 use Rattle.rh_layout.specs.declared.entry.Entry.{Entry}
-use Rattle.rh_helping.specs.declared.work.Ended.{Ended}
-use Rattle.rh_helping.specs.declared.work.Ended.TheVariants.{Succeeded, Withdrawn, Failed}
+use Rattle.rh_helping.specs.declared.machine.Ended.{Ended}
+use Rattle.rh_helping.specs.declared.machine.Ended.TheVariants.{Succeeded, Withdrawn, Failed}
 use Rattle.rh_helping.specs.Work.{HasEnded}
 use Rattle.rh_world.specs.World.{Control, In, Ref}
 use Rattle.rh_world.specs.World.Control.{failed, succeeded, withdrawn}

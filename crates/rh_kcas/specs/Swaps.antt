@@ -11,8 +11,8 @@ use Rattle.rh_descriptor.specs.View.{OwnDesc, View, own_ref}
 use Rattle.rh_descriptor.specs.Steps.{Step, noted}
 use Rattle.rh_descriptor.specs.Words.{IsPlain}
 use Rattle.rh_rule.specs.Rest.{made}
-use Rattle.rh_helping.specs.declared.work.Ended.{Ended}
-use Rattle.rh_helping.specs.declared.work.Ended.TheVariants as ended
+use Rattle.rh_helping.specs.declared.machine.Ended.{Ended}
+use Rattle.rh_helping.specs.declared.machine.Ended.TheVariants as ended
 use Rattle.rh_helping.specs.Goal.{IsClear, KnowsOwn, OwesNothing, StandsAt}
 use Rattle.rh_helping.specs.Opening.{next_desc}
 use Rattle.rh_helping.specs.Work.{HasEnded}

@@ -12,7 +12,7 @@ ghost use Rattle.rh_rule.specs.Rest.{made};
 ghost use Rattle.rh_steps.specs.Relies.{Trusts};
 
 use rh_descriptor::{Ask, Reading, Ref, Shape, Side};
-use rh_helping::{Outcome as Worked, Work, state_told};
+use rh_helping::{Machine, Progress, state_told};
 use rh_rdcss::{OnTable, Seat, Table};
 use rh_steps::Steps;
 use rh_tagword::State;
@@ -44,20 +44,20 @@ fn go_about<R: Wait>(rt: &R, shape: &Shape, here: &mut OnTable, side: &mut Side,
     ensures stays { Stays here.old here.new }
     ensures helps { HasHelped shape.now (ref_of desc) side.old.known.view side.new.known.view }
 {
-    let mut work = Work::Control(desc);
+    let mut machine = Machine::about(desc);
     for _ in rt.forever() {
-        match work.step(shape, here, side, None) {
-            Worked::On(next) => work = next,
-            Worked::Spent => return,
+        match machine.step(shape, here, side, None) {
+            Progress::On => {}
+            Progress::Spent => return,
             // (helping goes from one descriptor to the next that it meets: the last one need not be this)
-            Worked::Over => {
+            Progress::Over => {
                 if is_over(state(shape, here, side, desc)) {
                     return;
                 }
-                work = Work::Control(desc);
+                machine.go_about(desc);
             }
             // (no own descriptor is open)
-            Worked::Closed(_) => unreachable!(),
+            Progress::Closed(_) => unreachable!(),
         }
     }
     unreachable!()

@@ -10,8 +10,8 @@ ghost use Rattle.rh_rdcss.specs.Sits.{Sits, Stays};
 ghost use Rattle.rh_rule.specs.Rest.{made};
 ghost use Rattle.rh_steps.specs.Relies.{Trusts};
 
-use rh_descriptor::{Shape, Side};
-use rh_helping::{Looked, Looking};
+use rh_descriptor::{Ref, Shape, Side};
+use rh_helping::{Machine, Sight, Watch};
 use rh_rdcss::{OnTable, Seat, Table};
 use std::sync::Wait;
 
@@ -46,12 +46,16 @@ fn look<R: Wait>(
     ensures stays { Stays here.old here.new }
     ensures reads { HasRead shape.now cell side.old.known.view side.new.known.view result }
 {
-    let mut looking = Looking::Read;
+    let mut watch = Watch::Read;
+    let mut machine = Machine::about(Ref {
+        worker: side.worker,
+        number: 0,
+    });
     for _ in rt.forever() {
-        match looking.step(shape, here, side, cell) {
-            Looked::On(next) => looking = next,
-            Looked::Sees(word) => return Some(word),
-            Looked::Spent => return None,
+        match machine.look(watch, shape, here, side, cell) {
+            Sight::On(next) => watch = next,
+            Sight::Sees(word) => return Some(word),
+            Sight::Spent => return None,
         }
     }
     unreachable!()

@@ -3,7 +3,9 @@
 ghost use Rattle.std.specs.Prelude.{◌≡◌, Some};
 ghost use Rattle.rh_descriptor.specs.Steps.{AreEntries};
 ghost use Rattle.rh_helping.specs.Goal.{KnowsOwn, OwesNothing, opened_by};
+ghost use Rattle.rh_helping.specs.Machine.{work_of};
 ghost use Rattle.rh_helping.specs.Opening.{MayOpen, next_desc};
+ghost use Rattle.rh_helping.specs.Work.{Stands};
 ghost use Rattle.rh_kcas.specs.Rests.{Rests};
 ghost use Rattle.rh_kcas.specs.Swaps.{HasCarriedOut, HasOpened, Swaps};
 ghost use Rattle.rh_rdcss.specs.Calls.{IsSame, view_of};
@@ -11,7 +13,7 @@ ghost use Rattle.rh_rdcss.specs.Sits.{Sits, Stays};
 ghost use Rattle.rh_steps.specs.Relies.{Trusts};
 
 use rh_descriptor::{Ref, Shape, Side};
-use rh_helping::{Ended, OpenDesc, Opening, Outcome as Worked, Work};
+use rh_helping::{Ended, Machine, OpenDesc, Opening, Progress};
 use rh_layout::Entry;
 use rh_rdcss::{OnTable, Seat, Table};
 use std::sync::Wait;
@@ -35,7 +37,7 @@ pub fn kcas<R: Wait>(rt: &R, table: &Table, seat: &mut Seat, entries: &[Entry]) 
     ensures same { IsSame seat.old seat.new }
     ensures swaps { Swaps table.now.shape entries.now (view_of seat.old) (view_of seat.new) result }
 {
-    let shape = &table.shape;
+    let shape = table.shape;
     if shape.rooms.descriptors <= seat.side.next_number
         || shape.rooms.marks <= seat.side.marks_used
     {
@@ -46,9 +48,9 @@ pub fn kcas<R: Wait>(rt: &R, table: &Table, seat: &mut Seat, entries: &[Entry]) 
         table,
         seat: &mut seat.inner,
     };
-    open(shape, &mut here, &mut seat.side, entries);
+    open(&shape, &mut here, &mut seat.side, entries);
     let own = OpenDesc { number, entries };
-    match carry_out(rt, shape, &mut here, &mut seat.side, own) {
+    match carry_out(rt, &shape, &mut here, &mut seat.side, own) {
         Ended::Succeeded => Outcome::Done,
         Ended::Failed { entry } => Outcome::Failed {
             entry: entry as usize,
@@ -58,6 +60,7 @@ pub fn kcas<R: Wait>(rt: &R, table: &Table, seat: &mut Seat, entries: &[Entry]) 
 }
 
 /// Opens a descriptor of the entries: the first part of a K-CAS, for who goes on with it later.
+#[inline(always)]
 pub fn open(shape: &Shape, here: &mut OnTable, side: &mut Side, entries: &[Entry])
     requires trusts { Trusts Sits shape.now here.old side.old.known.view }
     requires may { MayOpen shape.now side.old.known.view entries.now }
@@ -73,6 +76,7 @@ pub fn open(shape: &Shape, here: &mut OnTable, side: &mut Side, entries: &[Entry
 
 /// Goes about the own open descriptor until it is decided and released, and answers how it ended: the
 /// second part of a K-CAS.
+#[inline(always)]
 pub fn carry_out<R: Wait>(
     rt: &R,
     shape: &Shape,
@@ -87,16 +91,68 @@ pub fn carry_out<R: Wait>(
     ensures stays { Stays here.old here.new }
     ensures carries { HasCarriedOut side.old.known.view own.entry.number side.new.known.view result }
 {
-    let mut work = Work::Control(Ref {
+    let mut machine = Machine::about(Ref {
         worker: side.worker,
         number: own.number,
     });
     for _ in rt.forever() {
-        match work.step(shape, here, side, Some(own)) {
-            Worked::On(next) => work = next,
-            Worked::Closed(ended) => return ended,
+        match machine.step_fast(shape, here, side, own) {
+            Some(Progress::On) => {}
+            Some(Progress::Closed(ended)) => return ended,
             // (an own descriptor is open)
-            Worked::Over | Worked::Spent => unreachable!(),
+            Some(Progress::Over | Progress::Spent) => unreachable!(),
+            None => return carry_on_copy(rt, shape, here, side, own, &machine),
+        }
+    }
+    unreachable!()
+}
+
+/// Goes on with it where another worker was met, apart and on copies: so the machine of who meets none may
+/// be kept in registers, and the shape too.
+#[inline(always)]
+fn carry_on_copy<R: Wait>(
+    rt: &R,
+    shape: &Shape,
+    here: &mut OnTable,
+    side: &mut Side,
+    own: OpenDesc<'_>,
+    machine: &Machine,
+) -> Ended
+    requires trusts { Trusts Sits shape.now here.old side.old.known.view }
+    requires own { KnowsOwn side.old.known.view (opened_by (Some own)) }
+    requires stands { Stands shape.now side.old.known.view (work_of machine.now) }
+    ensures trusts { Trusts Sits shape.now here.new side.new.known.view }
+    ensures stays { Stays here.old here.new }
+    ensures carries { HasCarriedOut side.old.known.view own.entry.number side.new.known.view result }
+{
+    let apart = *shape;
+    let mut machine = *machine;
+    carry_on(rt, &apart, here, side, own, &mut machine)
+}
+
+#[cold]
+#[inline(never)]
+fn carry_on<R: Wait>(
+    rt: &R,
+    shape: &Shape,
+    here: &mut OnTable,
+    side: &mut Side,
+    own: OpenDesc<'_>,
+    machine: &mut Machine,
+) -> Ended
+    requires trusts { Trusts Sits shape.now here.old side.old.known.view }
+    requires own { KnowsOwn side.old.known.view (opened_by (Some own)) }
+    requires stands { Stands shape.now side.old.known.view (work_of machine.old) }
+    ensures trusts { Trusts Sits shape.now here.new side.new.known.view }
+    ensures stays { Stays here.old here.new }
+    ensures carries { HasCarriedOut side.old.known.view own.entry.number side.new.known.view result }
+{
+    for _ in rt.forever() {
+        match machine.step(shape, here, side, Some(own)) {
+            Progress::On => {}
+            Progress::Closed(ended) => return ended,
+            // (an own descriptor is open)
+            Progress::Over | Progress::Spent => unreachable!(),
         }
     }
     unreachable!()

@@ -14,7 +14,7 @@ ghost use Rattle.rh_steps.specs.Relies.{Knows, Trusts};
 use crate::halfway::{go_on, stop_halfway};
 use crate::tables::*;
 use rh_descriptor::{Ref, Shape, Side};
-use rh_helping::{Ended, Outcome as Worked, Task, Work, named_desc};
+use rh_helping::{At, Ended, Machine, Progress, Task, named_desc};
 use rh_kcas::{Seat, Table, are_entries, change, help};
 use rh_rdcss::{OnTable, Placed, peek_cell, place, status};
 use rh_tagword::{State, plain_value};
@@ -50,18 +50,18 @@ fn comes_to_entry(shape: &Shape, here: &mut OnTable, side: &mut Side, desc: Ref)
     ensures noted { HasNoted side.old.known.view side.new.known.view }
     ensures entered { IfSome result (IsEntered side.new.known.view) }
 {
-    let mut work = Work::Control(desc);
+    let mut machine = Machine::about(desc);
     for made in 0..STEPS {
-        let Worked::On(next) = work.step(shape, here, side, None) else {
+        let Progress::On = machine.step(shape, here, side, None) else {
             return None;
         };
-        if let Work::EntryCell(task) = next {
+        if let At::EntryCell = machine.at {
+            let task = machine.task;
             return match task.state {
                 State::Undecided => Some(task),
                 _ => None,
             };
         }
-        work = next;
     }
     None
 }

@@ -10,7 +10,7 @@ ghost use Rattle.rh_rdcss.specs.Sits.{Sits, Stays};
 ghost use Rattle.rh_steps.specs.Relies.{Trusts};
 
 use rh_descriptor::{Ref, Shape, Side};
-use rh_helping::{Ended, OpenDesc, Outcome as Worked, Work};
+use rh_helping::{At, Ended, Machine, OpenDesc, Progress};
 use rh_kcas::{Seat, Table, carry_out, open};
 use rh_layout::Entry;
 use rh_rdcss::{OnTable, status};
@@ -51,18 +51,17 @@ fn comes_to_decide(shape: &Shape, here: &mut OnTable, side: &mut Side, own: Open
     ensures own { IsTrue result → KnowsOwn side.new.known.view (opened_by (Some own.entry)) }
     ensures owes { IsTrue result → OwesNothing side.new.known.view }
 {
-    let mut work = Work::Control(Ref {
+    let mut machine = Machine::about(Ref {
         worker: side.worker,
         number: own.number,
     });
     for made in 0..STEPS {
-        let Worked::On(next) = work.step(shape, here, side, Some(own)) else {
+        let Progress::On = machine.step(shape, here, side, Some(own)) else {
             return false;
         };
-        if let Work::Succeed(_) = next {
+        if let At::Succeed = machine.at {
             return true;
         }
-        work = next;
     }
     false
 }

@@ -26,7 +26,7 @@ busy_on at.Idle e s = e refl
 busy_on at.Spent e s = s refl
 busy_on (at.Scan l n) e s = tt
 busy_on (at.Open o p) e s = tt
-busy_on (at.Swap w n p) e s = tt
+busy_on (at.Swap n p) e s = tt
 
 -- no step changes whose it is
 worker_stays : (z : Shape) (v : View) (s : Step) (word : ℕ) → (noted z v s word).worker ≡ v.worker

@@ -51,7 +51,7 @@ left_at_key at.Idle n e = absurd (e refl)
 left_at_key at.Spent n e = refl
 left_at_key (at.Scan l m) n e = refl
 left_at_key (at.Open o q) n e = refl
-left_at_key (at.Swap w m q) n e = refl
+left_at_key (at.Swap m q) n e = refl
 
 pub busy_at_key : (p : Stage) → IsBusy p → p ≡ at.Idle → ⊥
 busy_at_key p busy idle = subst IsBusy idle busy

@@ -72,7 +72,7 @@ left_over stage.Idle p = []
 left_over stage.Spent p = p ∷ []
 left_over (stage.Scan l n) p = p ∷ []
 left_over (stage.Open o q) p = p ∷ []
-left_over (stage.Swap w n q) p = p ∷ []
+left_over (stage.Swap n q) p = p ∷ []
 
 -- The positions that it claimed are those of its answers, in their order, and then that of the key that it is at. It counts the
 -- answers that are true, up to the greatest number, and has marked their positions.

@@ -33,6 +33,7 @@ pub enum Placed {
 }
 
 /// Reads a cell, by one load.
+#[inline(always)]
 pub fn peek_cell(table: &Table, seat: &mut Seat, cell: usize) -> u64
     requires here { IsHere table.now seat.old }
     requires knows { Knows table.now.shape (view_of seat.old) }
@@ -44,6 +45,7 @@ pub fn peek_cell(table: &Table, seat: &mut Seat, cell: usize) -> u64
 }
 
 /// Reads how far a descriptor is, by one load. None where its worker has gone on to a later one.
+#[inline(always)]
 pub fn status(table: &Table, seat: &mut Seat, desc: Ref) -> Option<State>
     requires here { IsHere table.now seat.old }
     requires knows { Knows table.now.shape (view_of seat.old) }
@@ -58,6 +60,7 @@ pub fn status(table: &Table, seat: &mut Seat, desc: Ref) -> Option<State>
 /// Places the worker's next mark for an entry of a descriptor. The cell and the old value are read in
 /// the row, and then whether it is still of the descriptor; then the three words of the mark row are
 /// written, and one compare-and-swap of the cell is made.
+#[inline(always)]
 pub fn place(table: &Table, seat: &mut Seat, desc: Ref, entry: usize) -> Placed
     requires here { IsHere table.now seat.old }
     requires knows { Knows table.now.shape (view_of seat.old) }
@@ -86,6 +89,7 @@ pub fn place(table: &Table, seat: &mut Seat, desc: Ref, entry: usize) -> Placed
 /// word that stood there; where it is not the mark, another worker settled it. None, and no Settle was
 /// made, where the mark's row or that of its descriptor has gone on: then its worker settles it, if it
 /// has not.
+#[inline(always)]
 pub fn settle(table: &Table, seat: &mut Seat, mark: Ref, cell: usize) -> Option<u64>
     requires here { IsHere table.now seat.old }
     requires knows { Knows table.now.shape (view_of seat.old) }

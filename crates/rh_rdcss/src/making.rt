@@ -12,6 +12,7 @@ use rh_descriptor::Ask;
 use rh_steps::Steps;
 
 /// Makes the step, and answers the word that it found.
+#[inline(always)]
 pub(crate) fn make(table: &Table, seat: &mut Seat, ask: Ask) -> u64
     requires here { IsHere table.now seat.old }
     requires knows { Knows table.now.shape (view_of seat.old) }

@@ -37,6 +37,7 @@ impl<'a> Steps for OnTable<'a> {
         word
     }
 
+    #[inline(always)]
     fn own_word(&mut self, shape: &Shape, side: &Side, part: Part) -> u64 {
         let at = shape.index(part);
         load::<Brand>(self, side, Ask::Read(Reading::Word(at)), at)

@@ -11,6 +11,7 @@ use rh_descriptor::{Ask, Part, Piece, Reading, Ref, desc_word};
 
 /// Reads the cell and the old value of an entry in the row of its descriptor, and then whether the row
 /// is still of it: if not, what was read says nothing of it.
+#[inline(always)]
 pub(crate) fn read_entry(
     table: &Table,
     seat: &mut Seat,
@@ -37,6 +38,7 @@ pub(crate) fn read_entry(
 /// Places the next own mark, which is left, and answers the word that stood in the cell. The mark row
 /// is written first, since whoever meets the mark reads it, and before all else the mark's number,
 /// since whoever meets an older one must see that the row has gone on.
+#[inline(always)]
 pub(crate) fn place_next(table: &Table, seat: &mut Seat, piece: Piece, old: u64) -> u64
     requires here { IsHere table.now seat.old }
     requires knows { Knows table.now.shape (view_of seat.old) }

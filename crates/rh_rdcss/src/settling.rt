@@ -16,6 +16,7 @@ use rh_helping::{named_desc, state_told};
 
 /// Reads the row of a mark that was found in this cell, and then whether it is still of this mark: if
 /// not, the mark stands in no cell any more.
+#[inline(always)]
 pub(crate) fn read_row(table: &Table, seat: &mut Seat, mark: Ref, cell: usize) -> Option<Piece>
     requires here { IsHere table.now seat.old }
     requires knows { Knows table.now.shape (view_of seat.old) }
@@ -39,6 +40,7 @@ pub(crate) fn read_row(table: &Table, seat: &mut Seat, mark: Ref, cell: usize) -
 /// Reads the control of the descriptor that the mark is for, and answers what the mark is to be settled
 /// to: the old value, or the descriptor where no value is given. None where the descriptor's row has
 /// gone on.
+#[inline(always)]
 pub(crate) fn judge(table: &Table, seat: &mut Seat, mark: Ref, piece: Piece) -> Option<Option<u64>>
     requires here { IsHere table.now seat.old }
     requires knows { Knows table.now.shape (view_of seat.old) }

@@ -46,6 +46,7 @@ impl<B: Makes> Play<(), LinkedList<Known>> for Making<B> {
     ghost then = { λ _ _ word me. StepTells B.shape B.view B.step word me };
 }
 
+#[inline(always)]
 pub(crate) fn load<B: Makes>(here: &mut OnTable<'_>, _side: &Side, _ask: Ask, at: usize) -> u64
     requires { Ready here.old B.shape B.view B.step at (λ n. n) }
     ensures stays { Stays here.old here.new }
@@ -58,6 +59,7 @@ pub(crate) fn load<B: Makes>(here: &mut OnTable<'_>, _side: &Side, _ask: Ask, at
 }
 
 /// A swap and no store, since only a swap tells what it found: so each step is told alike.
+#[inline(always)]
 pub(crate) fn exchange<B: Makes>(
     here: &mut OnTable<'_>,
     _side: &Side,
@@ -75,6 +77,7 @@ pub(crate) fn exchange<B: Makes>(
         .swap::<Making<B>>(&mut *here.seat, at, new)
 }
 
+#[inline(always)]
 pub(crate) fn swap<B: Makes>(
     here: &mut OnTable<'_>,
     _side: &Side,
@@ -93,6 +96,7 @@ pub(crate) fn swap<B: Makes>(
         .compare_exchange::<Making<B>>(&mut *here.seat, at, old, new)
 }
 
+#[inline(always)]
 pub(crate) fn count<B: Makes>(here: &mut OnTable<'_>, _side: &Side, _ask: Ask, at: usize) -> u64
     requires { Ready here.old B.shape B.view B.step at (λ n. (n + 1) % 2 ^ 64) }
     ensures stays { Stays here.old here.new }

@@ -99,8 +99,8 @@ next_among keys (Claims last ended) done next within = Contains-get_or keys last
 -- ---- a worker that stopped
 
 module _ (z : Shape) (h : Hand) (worker : IsWorker z h.worker) where
-  stays_at : (p : Stage) → h.worker.stage ≡ p → Stays z (view_of h) h.worker.kind h.worker.key h.worker.buffer p
-  stays_at p e = subst (λ (q : Stage). Stays z (view_of h) h.worker.kind h.worker.key h.worker.buffer q) e worker.stays
+  stays_at : (p : Stage) → h.worker.stage ≡ p → Stays z (view_of h) h.worker.kind h.worker.key h.worker.buffer h.worker.machine p
+  stays_at p e = subst (λ (q : Stage). Stays z (view_of h) h.worker.kind h.worker.key h.worker.buffer h.worker.machine q) e worker.stays
 
   stopped_clear : IsFinished h ⊎ IsSpent h → IsClear (view_of h)
   stopped_clear o = ⊎_elim (λ (f : IsFinished h). stays_at _ f.0) (λ (s : IsSpent h). (stays_at _ s).0) o

@@ -12,9 +12,9 @@ use Rattle.rh_history.specs.History.{act_of}
 use Rattle.rh_history.specs.OwnActs.{Closes}
 use Rattle.rh_history.proofs.Learning.{steps_grow}
 use Rattle.rh_descriptor.specs.declared.steps.StepKind.{StepKind}
-use Rattle.rh_helping.specs.declared.work.Outcome.TheVariants.{Closed}
-use Rattle.rh_helping.specs.declared.work.Ended.{Ended}
-use Rattle.rh_helping.specs.declared.work.Ended.TheVariants as ended
+use Rattle.rh_helping.specs.Next.Outcome.{Closed}
+use Rattle.rh_helping.specs.declared.machine.Ended.{Ended}
+use Rattle.rh_helping.specs.declared.machine.Ended.TheVariants as ended
 use Rattle.rh_helping.specs.Goal.{IsNewest, KnowsOwn}
 use Rattle.rh_helping.specs.Made.{HasMade}
 use Rattle.rh_helping.specs.Work.{HasEnded, Leads}

@@ -15,7 +15,11 @@ use Rattle.rh_descriptor.specs.Words.{IsPlain}
 use Rattle.rh_descriptor.specs.Steps.{AreEntries, entry_of}
 use Rattle.rh_helping.specs.Goal.{KnowsOwn}
 use Rattle.rh_helping.specs.Opening.{MayOpen, OpensOn}
-use Rattle.rh_helping.specs.declared.work.Work.TheVariants as work
+use Rattle.rh_helping.specs.Next.{Work}
+use Rattle.rh_helping.specs.Next.{Work as work}
+use Rattle.rh_helping.specs.declared.machine.Machine.{Machine}
+use Rattle.rh_helping.specs.Machine.{work_of}
+use Rattle.rh_helping.specs.Work.{Stands}
 use Rattle.rh_helping.proofs.Owing.{open_all_noted}
 use Rattle.rh_helping.proofs.OwnRows.{entry_is}
 use Rattle.rh_worker.specs.declared.stage.Plan.{Plan}
@@ -79,7 +83,7 @@ module _ (z : Shape) (v : View) (kind : Kind) (k : ℕ) (s : ScanBuffer) (p : Pl
 
   module _ (next : View) where
     module _ (worker number : ℕ) (by : next.worker ≡ worker) (of : v.next_number ≡ number) (on : OpensOn z es v next None) where
-      pub opened_stays : Stays z next kind k s (stage.Swap (work.Control (record { worker = worker; number = number })) number p)
-      opened_stays =
+      pub opened_stays : (m : Machine) → work_of m ≡ work.Control (record { worker = worker; number = number }) → Stays z next kind k s m (stage.Swap number p)
+      opened_stays m is =
           let own : KnowsOwn next (Some (record { number = number; entries = planned s p })) = subst (λ (d : OwnDesc). KnowsOwn next (Some d)) (λ i. record { number = of i; entries = same i }) on.0 in
-          (own, (on.1, inl (subst (λ (w : ℕ). In (known (record { worker = w; number = number })) next.side.notes) by (open_all_noted next _ own).known)), planned_is.plan)
+          (own, subst (λ (w : Work). Stands z next w) (sym is) (on.1, inl (subst (λ (w : ℕ). In (known (record { worker = w; number = number })) next.side.notes) by (open_all_noted next _ own).known)), planned_is.plan)

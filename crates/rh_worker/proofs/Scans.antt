@@ -12,10 +12,9 @@ use Rattle.rh_history.specs.History.{kept_of}
 use Rattle.rh_descriptor.specs.declared.shape.Shape.{Shape}
 use Rattle.rh_descriptor.specs.Parts.{cell_count}
 use Rattle.rh_descriptor.specs.View.{View}
-use Rattle.rh_helping.specs.declared.looking.Looked.{Looked}
-use Rattle.rh_helping.specs.declared.looking.Looked.TheVariants.{On, Sees, Spent}
-use Rattle.rh_helping.specs.declared.looking.Looking.{Looking}
-use Rattle.rh_helping.specs.declared.looking.Looking.TheVariants as looking
+use Rattle.rh_helping.specs.Next.{Looked, Looking}
+use Rattle.rh_helping.specs.Next.Looked.{On, Sees, Spent}
+use Rattle.rh_helping.specs.Next.{Looking as looking}
 use Rattle.rh_helping.specs.Looking.{IsLooking, LooksOn}
 use Rattle.rh_run.specs.Advance.{GoesOn}
 use Rattle.rh_worker.specs.declared.scan_buffer.ScanBuffer.{ScanBuffer}

@@ -31,7 +31,7 @@ seen_at stage.Idle = 0
 seen_at stage.Spent = 0
 seen_at (stage.Scan l n) = n
 seen_at (stage.Open o p) = 0
-seen_at (stage.Swap w n p) = 0
+seen_at (stage.Swap n p) = 0
 
 -- what the worker sees was read anew
 abbrev pub ReadsAnew : Shape → (before : List Kept) → Worker → Type 0

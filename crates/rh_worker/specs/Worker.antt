@@ -19,6 +19,8 @@ use Rattle.rh_helping.specs.Goal.{IsClear, KnowsOwn, Owns, OwesNothing}
 use Rattle.rh_helping.specs.Looking.{IsLooking, kind_of_looking}
 use Rattle.rh_helping.specs.Opening.{IsOpening, kind_of_opening}
 use Rattle.rh_helping.specs.Work.{Stands, kind_of_work}
+use Rattle.rh_helping.specs.Machine.{looking_of, work_of}
+use Rattle.rh_helping.specs.declared.machine.Machine.{Machine}
 use Rattle.rh_history.specs.History.{kept_of}
 use Rattle.rh_history.specs.OwnActs.{Closes}
 use Rattle.rh_worker.specs.ScanBuffer.{HasRoom, IsPlan}
@@ -28,12 +30,12 @@ use Rattle.rh_worker.specs.declared.stage.Stage.TheVariants as stage
 use Rattle.rh_worker.specs.declared.scan_buffer.ScanBuffer.{ScanBuffer}
 use Rattle.rh_worker.specs.declared.worker.Worker.{Worker}
 
-abbrev pub kind_of_stage : Stage → StepKind
-kind_of_stage stage.Idle = kind.Read
-kind_of_stage stage.Spent = kind.Read
-kind_of_stage (stage.Scan l n) = kind_of_looking l
-kind_of_stage (stage.Open o p) = kind_of_opening o
-kind_of_stage (stage.Swap w n p) = kind_of_work w
+abbrev pub kind_of_stage : Machine → Stage → StepKind
+kind_of_stage m stage.Idle = kind.Read
+kind_of_stage m stage.Spent = kind.Read
+kind_of_stage m (stage.Scan l n) = kind_of_looking (looking_of l m)
+kind_of_stage m (stage.Open o p) = kind_of_opening o
+kind_of_stage m (stage.Swap n p) = kind_of_work (work_of m)
 
 -- a step is left
 abbrev pub IsBusy : Stage → Type 0
@@ -41,7 +43,7 @@ IsBusy stage.Idle = ⊥
 IsBusy stage.Spent = ⊥
 IsBusy (stage.Scan l n) = Unit {0}
 IsBusy (stage.Open o p) = Unit {0}
-IsBusy (stage.Swap w n p) = Unit {0}
+IsBusy (stage.Swap n p) = Unit {0}
 
 -- a worker is idle exactly where the key was done
 abbrev pub EndsAt : (done : Option Bool) → Stage → Type 0
@@ -88,18 +90,18 @@ HasNoRoom z v = (z.rooms.marks ≤ v.marks_used) ⊎ (z.rooms.descriptors ≤ v.
 
 -- ---- at each stage
 
-abbrev pub Stays : Shape → View → Kind → (k : ℕ) → ScanBuffer → Stage → Type 0
-Stays z v kind k s stage.Idle = IsClear v
-Stays z v kind k s stage.Spent = IsClear v × HasNoRoom z v
-Stays z v kind k s (stage.Scan l n) = IsLooking z v l × HasSeen z v k s n
-Stays z v kind k s (stage.Open o p) = IsPlanned z v kind k s p × IsOpening v (planned s p) o
-Stays z v kind k s (stage.Swap w n p) = KnowsOwn v (Some (opened_as n s p)) × Stands z v w × IsPlan kind z.bits k s.entries.items p
+abbrev pub Stays : Shape → View → Kind → (k : ℕ) → ScanBuffer → Machine → Stage → Type 0
+Stays z v kind k s m stage.Idle = IsClear v
+Stays z v kind k s m stage.Spent = IsClear v × HasNoRoom z v
+Stays z v kind k s m (stage.Scan l n) = IsLooking z v (looking_of l m) × HasSeen z v k s n
+Stays z v kind k s m (stage.Open o p) = IsPlanned z v kind k s p × IsOpening v (planned s p) o
+Stays z v kind k s m (stage.Swap n p) = KnowsOwn v (Some (opened_as n s p)) × Stands z v (work_of m) × IsPlan kind z.bits k s.entries.items p
 
 -- what is so of a worker at a stage
 pub record IsAt (z : Shape) (w : Worker) (p : Stage) : Type 0 where
   pub key : IsKey w.key
   pub room : HasRoom z.bits w.buffer
-  pub stays : Stays z w.side.known.view w.kind w.key w.buffer p
+  pub stays : Stays z w.side.known.view w.kind w.key w.buffer w.machine p
 
 abbrev pub IsWorker : Shape → Worker → Type 0
 IsWorker z w = IsAt z w w.stage

@@ -12,6 +12,7 @@ ghost use Rattle.rh_worker.specs.Reading.{HasRead, IsToldAnew, ReadsAnew, TellsA
 ghost use Rattle.rh_history.specs.History.{kept_of};
 ghost use Rattle.rh_helping.specs.Goal.{IsClear};
 ghost use Rattle.rh_helping.specs.Looking.{kind_of_looking};
+ghost use Rattle.rh_helping.specs.Machine.{looking_of};
 ghost use Rattle.rh_worker.specs.ScanBuffer.{HasRoom, IsPlan};
 ghost use Rattle.rh_worker.specs.Worker.{EndsAt, Stays, WereRead};
 ghost use Rattle.rh_descriptor.specs.Parts.{cell_count};
@@ -22,7 +23,7 @@ use crate::scan_buffer::Decision;
 use crate::stage::{Plan, Stage};
 use crate::worker::Worker;
 use rh_descriptor::Shape;
-use rh_helping::{Looked, Looking, Opening};
+use rh_helping::{Opening, Sight, Watch};
 use rh_layout::home;
 use rh_probe::cell_after;
 use rh_steps::Steps;
@@ -30,16 +31,17 @@ use rh_tagword::plain_value;
 
 /// Looks at the next cell, and goes by the value that it holds. Answers whether the key is done, and
 /// how.
+#[inline(always)]
 pub(crate) fn scan<T: Steps>(
     worker: &mut Worker,
     shape: &Shape,
     table: &mut T,
-    looking: Looking,
+    watch: Watch,
     seen: usize,
 ) -> Option<bool>
     requires relies { Relies T.shows T.serves shape.now table.old worker.old.side.known.view }
-    requires worker { IsAt shape.now worker.old (stage.Scan looking seen) }
-    ensures makes { Makes T.shows T.made shape.now (kind_of_looking looking) table.old worker.old.side.known.view
+    requires worker { IsAt shape.now worker.old (stage.Scan watch seen) }
+    ensures makes { Makes T.shows T.made shape.now (kind_of_looking (looking_of watch worker.old.machine)) table.old worker.old.side.known.view
         table.new worker.new.side.known.view }
     ensures worker { IsWorker shape.now worker.new }
     ensures keeps { KeepsKey worker.old worker.new }
@@ -52,18 +54,21 @@ pub(crate) fn scan<T: Steps>(
         worker.new.side.known.view result }
 {
     let cell = cell_after(shape.cells(), home(shape.bits, worker.key), seen);
-    match looking.step(shape, table, &mut worker.side, cell) {
-        Looked::On(looking) => {
-            worker.stage = Stage::Scan { looking, seen };
+    match worker
+        .machine
+        .look(watch, shape, table, &mut worker.side, cell)
+    {
+        Sight::On(watch) => {
+            worker.stage = Stage::Scan { watch, seen };
             None
         }
-        Looked::Sees(word) => {
+        Sight::Sees(word) => {
             // (a look ends with a plain word)
             let value = plain_value(word).unwrap();
             worker.buffer.see(seen, value);
             decide(worker, shape, seen + 1)
         }
-        Looked::Spent => {
+        Sight::Spent => {
             worker.stage = Stage::Spent;
             None
         }
@@ -116,7 +121,7 @@ fn planned(worker: &Worker, shape: &Shape, plan: Plan) -> Stage
     requires sound { Sound shape.now worker.now.side.known.view }
     requires clear { IsClear worker.now.side.known.view }
     requires plan { IsPlan worker.now.kind shape.now.bits worker.now.key worker.now.buffer.entries.items plan }
-    ensures stays { Stays shape.now worker.now.side.known.view worker.now.kind worker.now.key worker.now.buffer result }
+    ensures stays { Stays shape.now worker.now.side.known.view worker.now.kind worker.now.key worker.now.buffer worker.now.machine result }
     ensures ends { EndsAt None result }
     ensures unseen { seen_at result ≡ 0 }
 {

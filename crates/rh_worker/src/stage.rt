@@ -1,12 +1,12 @@
 //! Where a worker stands between two of its steps.
 
 ghost use Rattle.std.specs.Prelude.{◌≡◌};
-ghost use Rattle.rh_helping.specs.declared.looking.Looking.TheVariants as looking;
+ghost use Rattle.rh_helping.specs.declared.looking.Watch.TheVariants as watch;
 ghost use Rattle.rh_worker.specs.Worker.{kind_of_stage};
 ghost use Rattle.rh_worker.specs.declared.stage.Stage.TheVariants as stage;
 
 use rh_descriptor::StepKind;
-use rh_helping::{Looking, Opening, Work};
+use rh_helping::{Machine, Opening, Watch};
 
 /// An own descriptor that is to be opened, or is open. Its entries stand in the worker's `ScanBuffer`.
 #[derive(Clone, Copy)]
@@ -17,7 +17,7 @@ pub struct Plan {
     pub changes: bool,
 }
 
-/// The next step of a worker.
+/// The next step of a worker. What it needs of cells and descriptors is in the worker's machine.
 #[derive(Clone, Copy)]
 pub enum Stage {
     /// None: no key is begun.
@@ -25,33 +25,34 @@ pub enum Stage {
     /// None before the next round, which begins the key again.
     Spent,
     /// Looking at the next cell, where so many were seen from the key's home on.
-    Scan { looking: Looking, seen: usize },
+    Scan { watch: Watch, seen: usize },
     /// Opening of the own descriptor.
     Open { opening: Opening, plan: Plan },
     /// Work on the own descriptor that was opened with this number, and on those that it leads to.
-    Swap { work: Work, number: u64, plan: Plan },
+    Swap { number: u64, plan: Plan },
 }
 
 impl Stage {
     /// Read of the next cell, where so many were seen.
     pub(crate) fn reading(seen: usize) -> Stage
-        ensures { result ≡ stage.Scan looking.Read seen }
+        ensures { result ≡ stage.Scan watch.Read seen }
     {
         Stage::Scan {
-            looking: Looking::Read,
+            watch: Watch::Read,
             seen,
         }
     }
 
     /// The kind of the step. Where there is none, a Read.
-    pub(crate) fn kind(&self) -> StepKind
-        ensures { result ≡ kind_of_stage self.now }
+    #[inline(always)]
+    pub(crate) fn kind(&self, machine: &Machine) -> StepKind
+        ensures { result ≡ kind_of_stage machine.now self.now }
     {
         match self {
             Stage::Idle | Stage::Spent => StepKind::Read,
-            Stage::Scan { looking, .. } => looking.kind(),
+            Stage::Scan { watch, .. } => machine.kind_as(*watch),
             Stage::Open { opening, .. } => opening.kind(),
-            Stage::Swap { work, .. } => work.kind(),
+            Stage::Swap { .. } => machine.kind(),
         }
     }
 }

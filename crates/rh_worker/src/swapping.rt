@@ -10,14 +10,16 @@ ghost use Rattle.rh_worker.specs.declared.stage.Stage.TheVariants as stage;
 ghost use Rattle.rh_acts.specs.Done.{Kept};
 ghost use Rattle.rh_helping.specs.Opening.{kind_of_opening};
 ghost use Rattle.rh_helping.specs.Work.{kind_of_work};
+ghost use Rattle.rh_helping.specs.Machine.{work_of};
 
 use crate::stage::{Plan, Stage};
 use crate::worker::Worker;
 use rh_descriptor::{Ref, Shape};
-use rh_helping::{Ended, OpenDesc, Opening, Outcome, Work};
+use rh_helping::{Ended, OpenDesc, Opening, Progress};
 use rh_steps::Steps;
 
 /// Opens the own descriptor step by step.
+#[inline(always)]
 pub(crate) fn open<T: Steps>(
     worker: &mut Worker,
     shape: &Shape,
@@ -45,8 +47,8 @@ pub(crate) fn open<T: Steps>(
     match opening.step(shape, table, &mut worker.side, entries) {
         Some(opening) => worker.stage = Stage::Open { opening, plan },
         None => {
+            worker.machine.go_about(desc);
             worker.stage = Stage::Swap {
-                work: Work::Control(desc),
                 number: desc.number,
                 plan,
             };
@@ -56,17 +58,17 @@ pub(crate) fn open<T: Steps>(
 
 /// Goes on with it. Where it is over, the key is done, or begins again, or the worker is spent.
 /// Answers whether the key is done, and how.
+#[inline(always)]
 pub(crate) fn swap<T: Steps>(
     worker: &mut Worker,
     shape: &Shape,
     table: &mut T,
-    work: Work,
     number: u64,
     plan: Plan,
 ) -> Option<bool>
     requires relies { Relies T.shows T.serves shape.now table.old worker.old.side.known.view }
-    requires worker { IsAt shape.now worker.old (stage.Swap work number plan) }
-    ensures makes { Makes T.shows T.made shape.now (kind_of_work work) table.old worker.old.side.known.view
+    requires worker { IsAt shape.now worker.old (stage.Swap number plan) }
+    ensures makes { Makes T.shows T.made shape.now (kind_of_work (work_of worker.old.machine)) table.old worker.old.side.known.view
         table.new worker.new.side.known.view }
     ensures worker { IsWorker shape.now worker.new }
     ensures keeps { KeepsKey worker.old worker.new }
@@ -82,23 +84,26 @@ pub(crate) fn swap<T: Steps>(
         number,
         entries: &worker.buffer.entries[..plan.entries],
     };
-    match work.step(shape, table, &mut worker.side, Some(open)) {
-        Outcome::On(work) => {
-            worker.stage = Stage::Swap { work, number, plan };
+    match worker
+        .machine
+        .step_own(shape, table, &mut worker.side, open)
+    {
+        Progress::On => {
+            worker.stage = Stage::Swap { number, plan };
             None
         }
-        Outcome::Closed(Ended::Succeeded) => {
+        Progress::Closed(Ended::Succeeded) => {
             worker.stage = Stage::Idle;
             Some(plan.changes)
         }
-        Outcome::Closed(Ended::Withdrawn) => {
+        Progress::Closed(Ended::Withdrawn) => {
             worker.stage = Stage::Spent;
             None
         }
-        Outcome::Closed(Ended::Failed { .. }) => {
+        Progress::Closed(Ended::Failed { .. }) => {
             worker.stage = Stage::reading(0);
             None
         }
-        Outcome::Over | Outcome::Spent => unreachable!(),
+        Progress::Over | Progress::Spent => unreachable!(),
     }
 }

@@ -20,8 +20,8 @@ ghost use Rattle.rh_worker.specs.declared.stage.Stage.TheVariants as stage;
 use crate::scan_buffer::ScanBuffer;
 use crate::stage::Stage;
 use crate::{scanning, swapping};
-use rh_descriptor::{Ask, Shape, Side, StepKind};
-use rh_helping::Owed;
+use rh_descriptor::{Ask, Ref, Shape, Side, StepKind};
+use rh_helping::{Machine, Owed};
 use rh_ledger::Kind;
 use rh_steps::Steps;
 use std::alloc::{AllocError, Global};
@@ -37,6 +37,8 @@ pub struct Worker {
     pub key: u64,
     /// What it does next.
     pub stage: Stage,
+    /// How it goes about what it meets, and about its own descriptor.
+    pub machine: Machine,
     /// What it has seen of the table for the key.
     pub buffer: ScanBuffer,
 }
@@ -70,6 +72,7 @@ impl Worker {
             kind,
             key: 0,
             stage: Stage::Idle,
+            machine: Machine::about(Ref { worker, number: 0 }),
             buffer,
         })
     }
@@ -94,8 +97,8 @@ impl Worker {
         ensures { (z : Shape) → IsWorker z self.now → IsHeld self.now.side.known.view result }
     {
         match &self.stage {
-            Stage::Scan { looking, .. } => looking.held(),
-            Stage::Swap { work, .. } => work.held(),
+            Stage::Scan { watch, .. } => self.machine.held_as(*watch),
+            Stage::Swap { .. } => self.machine.held(),
             Stage::Idle | Stage::Spent | Stage::Open { .. } => None,
         }
     }
@@ -148,6 +151,7 @@ impl Worker {
 
     /// Makes the next step. With the one by which it gives up a key it is spent. A key that no act does
     /// is told of by what was read since it was begun.
+    #[inline(always)]
     pub fn step<T: Steps>(&mut self, shape: &Shape, table: &mut T) -> Stepped
         requires relies { Relies T.shows T.serves shape.now table.old self.old.side.known.view }
         requires worker { IsWorker shape.now self.old }
@@ -166,17 +170,15 @@ impl Worker {
             self.old.side.known.view self.new.side.known.view result.done }
     {
         let stage = self.stage;
-        let kind = stage.kind();
+        let kind = stage.kind(&self.machine);
         let done = match stage {
             Stage::Idle | Stage::Spent => unreachable!(),
-            Stage::Scan { looking, seen } => scanning::scan(self, shape, table, looking, seen),
+            Stage::Scan { watch, seen } => scanning::scan(self, shape, table, watch, seen),
             Stage::Open { opening, plan } => {
                 swapping::open(self, shape, table, opening, plan);
                 None
             }
-            Stage::Swap { work, number, plan } => {
-                swapping::swap(self, shape, table, work, number, plan)
-            }
+            Stage::Swap { number, plan } => swapping::swap(self, shape, table, number, plan),
         };
         Stepped { kind, done }
     }

@@ -1,4 +1,6 @@
-use Rattle.std.proofs.Common.{inl, inr, sym, ◌∙◌}
+use Rattle.std.proofs.Common.{inl, inr, subst, sym, ◌∙◌}
+use Rattle.rh_helping.specs.Next.{Work}
+use Rattle.rh_helping.specs.Work.{Stands}
 use Rattle.rh_rdcss.proofs.Lending.{stays_first, stays_on}
 use Rattle.rh_kcas.proofs.Noting.{told_over, made_notes, noted_first, noted_on, still_known}
 use Rattle.rh_kcas.proofs.helping.go_about.Goals as goal
@@ -7,7 +9,7 @@ pub loop-init : goal.loop-init
 loop-init g c = record {
   trusts = c.requires.trusts;
   own = c.requires.clear.own;
-  stands = (c.requires.clear.owes, c.requires.known);
+  stands = subst (λ (w : Work). Stands c.args.shape.now c.args.side.now.known.view w) (sym c.about-machine.ensures) (c.requires.clear.owes, c.requires.known);
   known = c.requires.known;
   stays = stays_first _;
   noted = noted_first _;
@@ -45,7 +47,7 @@ loop-preserved g c =
     let known = still_known _ _ k.notes.notes _ (still_known _ _ m.notes _ h.known) in record {
       trusts = k.trusts;
       own = k.clear.own;
-      stands = (k.clear.owes, known);
+      stands = subst (λ (w : Work). Stands c.args.shape.now c.state.new.side.known.view w) (sym c.go_about.ensures) (k.clear.owes, known);
       known = known;
       stays = stays_on _ _ _ (stays_on _ _ _ h.stays m.steps) k.stays;
       noted = noted_on _ _ _ (noted_on _ _ _ h.noted (made_notes _ _ _ _ _ _ m)) k.notes;

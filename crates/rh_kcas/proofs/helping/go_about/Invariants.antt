@@ -3,6 +3,7 @@ use Rattle.rh_descriptor.specs.Steps.{IsKnown}
 use Rattle.rh_descriptor.specs.Words.{ref_of}
 use Rattle.rh_helping.specs.Goal.{KnowsOwn}
 use Rattle.rh_helping.specs.Work.{Stands}
+use Rattle.rh_helping.specs.Machine.{work_of}
 use Rattle.rh_rdcss.specs.Sits.{Sits, Stays}
 use Rattle.rh_steps.specs.Relies.{Trusts}
 use Rattle.rh_kcas.specs.Swaps.{HasNoted}
@@ -12,7 +13,7 @@ abbrev pub invariant-loop : goal.invariant-loop
 invariant-loop g l = record {
   trusts : Trusts Sits l.shape l.here l.side.known.view;
   own : KnowsOwn l.side.known.view None;
-  stands : Stands l.shape l.side.known.view l.work;
+  stands : Stands l.shape l.side.known.view (work_of l.machine);
   known : IsKnown l.side.known.view.side.notes (ref_of l.desc);
   stays : Stays l.fn.here l.here;
   noted : HasNoted l.fn.side.known.view l.side.known.view;

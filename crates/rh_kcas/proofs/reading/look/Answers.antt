@@ -20,7 +20,7 @@ returns-in-Sees-clause-reads g c =
     let v = c.loop.side.known.view in
     let m = c.in-Sees.ensures.made in record {
       seen_is = (c.in-Sees.ensures.leads.1, (v.next_number, m.reads ∙ ap (λ (rs : List KeptRead). record { cell = c.args.cell; word = c.in-Sees.word; acts = 0; next_number = v.next_number } ∷ rs) n.reads));
-      worker = step_worker c.args.shape.now v c.step.new.side.known.view m.step m.word m.view_is ∙ n.worker;
+      worker = step_worker c.args.shape.now v c.look.new.side.known.view m.step m.word m.view_is ∙ n.worker;
       notes = λ x i. m.notes x (n.notes x i);
       opened = m.opened ∙ n.opened;
       claims = m.claims ∙ n.claims;

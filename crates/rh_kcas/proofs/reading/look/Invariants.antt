@@ -1,4 +1,5 @@
 use Rattle.rh_helping.specs.Looking.{IsLooking}
+use Rattle.rh_helping.specs.Machine.{looking_of}
 use Rattle.rh_rdcss.specs.Sits.{Sits, Stays}
 use Rattle.rh_steps.specs.Relies.{Trusts}
 use Rattle.rh_kcas.specs.Swaps.{HasNoted}
@@ -7,7 +8,7 @@ use Rattle.rh_kcas.proofs.reading.look.Given as goal
 abbrev pub invariant-loop : goal.invariant-loop
 invariant-loop g l = record {
   trusts : Trusts Sits l.shape l.here l.side.known.view;
-  looking : IsLooking l.shape l.side.known.view l.looking;
+  looking : IsLooking l.shape l.side.known.view (looking_of l.watch l.machine);
   stays : Stays l.fn.here l.here;
   noted : HasNoted l.fn.side.known.view l.side.known.view;
 }

@@ -1,10 +1,16 @@
-use Rattle.std.proofs.Common.{ℕ, inl, subst}
+use Rattle.std.proofs.Common.{Some, ℕ, inl, subst, sym}
+use Rattle.rh_descriptor.specs.declared.side.Side.{Side}
 use Rattle.rh_descriptor.specs.View.{own_ref}
 use Rattle.rh_world.specs.World.{In}
 use Rattle.rh_world.specs.Notes.Note.{known}
-use Rattle.rh_helping.specs.Work.{HasEnded}
+use Rattle.rh_helping.specs.Next.{Work}
+use Rattle.rh_helping.specs.declared.machine.Progress.{Progress}
+use Rattle.rh_helping.specs.Goal.{opened_by}
+use Rattle.rh_helping.specs.Machine.{led}
+use Rattle.rh_helping.specs.Work.{HasEnded, Leads, Stands}
 use Rattle.rh_helping.proofs.Owing.{open_all_noted}
 use Rattle.rh_rdcss.proofs.Lending.{stays_first, stays_on}
+use Rattle.rh_kcas.specs.Swaps.{HasNoted}
 use Rattle.rh_kcas.proofs.Noting.{closed_number, made_notes, noted_first, noted_on}
 use Rattle.rh_kcas.proofs.swapping.carry_out.Goals as goal
 
@@ -14,7 +20,8 @@ loop-init g c =
     let k = (open_all_noted v _ c.requires.own).known in record {
       trusts = c.requires.trusts;
       own = c.requires.own;
-      stands = (c.requires.owes, inl (subst (λ (w : ℕ). In (known (record { worker = w; number = c.args.own.number })) v.side.notes) c.args.side.now.same_worker k));
+      stands = subst (λ (w : Work). Stands c.args.shape.now v w) (sym c.about-machine.ensures)
+          (c.requires.owes, inl (subst (λ (w : ℕ). In (known (record { worker = w; number = c.args.own.number })) v.side.notes) c.args.side.now.same_worker k));
       stays = stays_first _;
       noted = noted_first _;
     }
@@ -22,19 +29,31 @@ loop-init g c =
 pub loop-preserved : goal.loop-preserved
 loop-preserved g c =
     let h = c.loop.invariant in
-    let m = c.in-On.ensures.made in record {
+    let m = c.in-Some-On.ensures.made in
+    let next = c.step_fast.new.side.known.view in
+    let l = subst (λ (p : Progress). Leads c.args.shape.now next (opened_by (Some c.args.own)) (led p c.step_fast.new.self)) c.in-Some-On.field-0-is c.in-Some-On.ensures.leads in
+    record {
       trusts = m.trusts;
-      own = c.in-On.ensures.leads.0;
-      stands = c.in-On.ensures.leads.1;
+      own = l.0;
+      stands = l.1;
       stays = stays_on _ _ _ h.stays m.steps;
       noted = noted_on _ _ _ h.noted (made_notes _ _ _ _ _ _ m);
     }
 
-pub returns-in-Closed-clause-carries : goal.returns-in-Closed-clause-carries
-returns-in-Closed-clause-carries g c =
-    let e = c.in-Closed.ensures in
-    let l = e.leads.2 in record {
-      noted = noted_on _ _ _ c.loop.invariant.noted (made_notes _ _ _ _ _ _ e.made);
+pub returns-in-Some-Closed-clause-carries : goal.returns-in-Some-Closed-clause-carries
+returns-in-Some-Closed-clause-carries g c =
+    let next = c.step_fast.new.side.known.view in
+    let e = subst (λ (p : Progress). Leads c.args.shape.now next (opened_by (Some c.args.own)) (led p c.step_fast.new.self)) c.in-Some-Closed.field-0-is c.in-Some-Closed.ensures.leads in
+    let l = e.2 in
+    record {
+      noted = noted_on _ _ _ c.loop.invariant.noted (made_notes _ _ _ _ _ _ c.in-Some-Closed.ensures.made);
       clear = record { own = l.own; owes = l.owes };
-      result = subst (λ (n : ℕ). HasEnded c.step.new.side.known.view (own_ref c.step.new.side.known.view n) c.in-Closed.ended) (closed_number _ e.leads.0 e.leads.1) l.result;
+      result = subst (λ (n : ℕ). HasEnded next (own_ref next n) c.in-Some-Closed.ended) (closed_number _ e.0 e.1) l.result;
     }
+
+pub returns-in-None-step_fast-clause-carries : goal.returns-in-None-step_fast-clause-carries
+returns-in-None-step_fast-clause-carries g c =
+    let same = c.step_fast.ensures.same c.in-None-step_fast.is in
+    let noted = subst (λ (s : Side). HasNoted c.args.side.now.known.view s.known.view) (sym same.2) c.loop.invariant.noted in
+    let e = c.carry_on_copy.ensures.carries in
+    record { noted = noted_on _ _ _ noted e.noted; clear = e.clear; result = e.result }

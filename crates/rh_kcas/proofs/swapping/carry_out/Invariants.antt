@@ -1,6 +1,7 @@
 use Rattle.std.proofs.Common.{Some}
 use Rattle.rh_helping.specs.Goal.{KnowsOwn, opened_by}
 use Rattle.rh_helping.specs.Work.{Stands}
+use Rattle.rh_helping.specs.Machine.{work_of}
 use Rattle.rh_rdcss.specs.Sits.{Sits, Stays}
 use Rattle.rh_steps.specs.Relies.{Trusts}
 use Rattle.rh_kcas.specs.Swaps.{HasNoted}
@@ -10,7 +11,7 @@ abbrev pub invariant-loop : goal.invariant-loop
 invariant-loop g l = record {
   trusts : Trusts Sits l.shape l.here l.side.known.view;
   own : KnowsOwn l.side.known.view (opened_by (Some l.own));
-  stands : Stands l.shape l.side.known.view l.work;
+  stands : Stands l.shape l.side.known.view (work_of l.machine);
   stays : Stays l.fn.here l.here;
   noted : HasNoted l.fn.side.known.view l.side.known.view;
 }

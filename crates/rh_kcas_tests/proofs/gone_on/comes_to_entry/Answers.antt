@@ -1,3 +1,6 @@
+use Rattle.std.proofs.Common.{subst, sym}
+use Rattle.rh_helping.specs.Next.{Work}
+use Rattle.rh_helping.specs.Work.{Stands}
 use Rattle.rh_rdcss.proofs.Lending.{stays_first, stays_on}
 use Rattle.rh_kcas_tests.proofs.Meeting.{made_notes, noted_first, noted_on}
 use Rattle.rh_kcas_tests.proofs.gone_on.comes_to_entry.Goals as goal
@@ -6,7 +9,7 @@ pub loop-made-init : goal.loop-made-init
 loop-made-init c = record {
   trusts = c.requires.trusts;
   own = c.requires.clear.own;
-  stands = (c.requires.clear.owes, c.requires.known);
+  stands = subst (λ (w : Work). Stands c.args.shape.now c.args.side.now.known.view w) (sym c.about-machine.ensures) (c.requires.clear.owes, c.requires.known);
   stays = stays_first _;
   noted = noted_first _;
 }

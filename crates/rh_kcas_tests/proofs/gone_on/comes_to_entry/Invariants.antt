@@ -1,6 +1,7 @@
 use Rattle.std.proofs.Common.{None}
 use Rattle.rh_helping.specs.Goal.{KnowsOwn}
 use Rattle.rh_helping.specs.Work.{Stands}
+use Rattle.rh_helping.specs.Machine.{work_of}
 use Rattle.rh_kcas.specs.Swaps.{HasNoted}
 use Rattle.rh_rdcss.specs.Sits.{Sits, Stays}
 use Rattle.rh_steps.specs.Relies.{Trusts}
@@ -10,7 +11,7 @@ abbrev pub invariant-loop-made : goal.invariant-loop-made
 invariant-loop-made l = record {
   trusts : Trusts Sits l.shape l.here l.side.known.view;
   own : KnowsOwn l.side.known.view None;
-  stands : Stands l.shape l.side.known.view l.work;
+  stands : Stands l.shape l.side.known.view (work_of l.machine);
   stays : Stays l.fn.here l.here;
   noted : HasNoted l.fn.side.known.view l.side.known.view;
 }

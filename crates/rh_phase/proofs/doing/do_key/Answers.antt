@@ -95,7 +95,7 @@ returns-then-is_spent-clause-spent g c =
     let a = subst (λ (o : Option Bool). Advances z w.kind w.key w.side.known.view next.side.known.view o) c.in-None-done.is e.advances in
     let spent = c.if-is_spent.ensures.0 refl in (
       spent,
-      (subst (Stays z next.side.known.view next.kind next.key next.buffer) spent e.worker.stays).1,
+      (subst (Stays z next.side.known.view next.kind next.key next.buffer next.machine) spent e.worker.stays).1,
       (after z _ _ _ _ _ e.makes w.kind w.key None a h.orderly).1 ∙ h.acts,
     )
 

@@ -17,7 +17,7 @@ use Rattle.rh_phase.proofs.doing.do_keys.Goals as goal
 pub returns-then-not-next_key-clause-clear : goal.returns-then-not-next_key-clause-clear
 returns-then-not-next_key-clause-clear g c =
     let w = c.next_key.new.hand.worker in
-    subst (Stays c.args.shape.now w.side.known.view w.kind w.key w.buffer) (c.if-not-next_key.ensures.ended refl) c.next_key.ensures.worker.stays
+    subst (Stays c.args.shape.now w.side.known.view w.kind w.key w.buffer w.machine) (c.if-not-next_key.ensures.ended refl) c.next_key.ensures.worker.stays
 
 pub loop-preserved : goal.loop-preserved
 loop-preserved g c =
@@ -33,7 +33,7 @@ loop-preserved g c =
     let then = c.count.new.self in
     let same : then.worker ≡ w = c.count.ensures.worker in
     let idle : then.worker.stage ≡ stage.Idle = ap (λ (x : Worker). x.stage) same ∙ e.done.0 in
-    let clear : IsClear w.side.known.view = subst (Stays z w.side.known.view w.kind w.key w.buffer) e.done.0 e.worker.stays in record {
+    let clear : IsClear w.side.known.view = subst (Stays z w.side.known.view w.kind w.key w.buffer w.machine) e.done.0 e.worker.stays in record {
       trusts = subst (λ (x : Worker). Trusts Sits z c.do_key.new.here x.side.known.view) (sym same) e.trusts;
       stays = stays_on _ _ _ (stays_on _ _ _ h.stays c.next_key.ensures.stays) e.stays;
       who = ap (λ (x : Worker). x.side.known.view.worker) same ∙ e.same_worker ∙ c.next_key.ensures.same_worker ∙ h.who;

@@ -1,5 +1,5 @@
 use Rattle.std.proofs.Common.{ℕ, List, length-take, rules, subst, sym, take, arith}
-use Rattle.rh_helping.specs.declared.looking.Looking.TheVariants as looking
+use Rattle.rh_helping.specs.declared.looking.Watch.TheVariants as watch
 use Rattle.rh_worker.specs.Worker.{Stays}
 use Rattle.rh_worker.specs.Reading.{HasRead, seen_at}
 use Rattle.rh_worker.specs.declared.stage.Stage.{Stage}
@@ -24,10 +24,10 @@ returns-after-count-cells-clause-worker c =
     record {
       key = c.requires.key;
       room = c.in-More.ensures.room;
-      stays = subst (Stays z v w.kind w.key t) (sym c.reading-worker.ensures) (elim c.if-count-cells.branch [
-        | then-count-cells b ↦ subst (λ n. Stays z v w.kind w.key t (stage.Scan looking.Read n)) (sym b.seen-is)
+      stays = subst (Stays z v w.kind w.key t w.machine) (sym c.reading-worker.ensures) (elim c.if-count-cells.branch [
+        | then-count-cells b ↦ subst (λ n. Stays z v w.kind w.key t w.machine (stage.Scan watch.Read n)) (sym b.seen-is)
             (c.requires.clear, seen_again z v w.key w.buffer t c.args.count (omega arith) c.requires.seen c.in-More.ensures.seen c.requires.were_read)
-        | else-count-cells b ↦ subst (λ n. Stays z v w.kind w.key t (stage.Scan looking.Read n)) (sym b.seen-is) (c.requires.clear, none_seen z v w.key t (search rules))
+        | else-count-cells b ↦ subst (λ n. Stays z v w.kind w.key t w.machine (stage.Scan watch.Read n)) (sym b.seen-is) (c.requires.clear, none_seen z v w.key t (search rules))
       ]);
     }
 

@@ -5,8 +5,9 @@ use Rattle.rh_layout.specs.Round.{cell_ahead}
 use Rattle.rh_descriptor.specs.Parts.{cell_count}
 use Rattle.rh_descriptor.specs.View.{View}
 use Rattle.rh_run.specs.Advance.{GoesOn}
-use Rattle.rh_helping.specs.declared.looking.Looked.TheVariants.{On, Sees}
+use Rattle.rh_helping.specs.Next.Looked.{On, Sees}
 use Rattle.rh_helping.specs.Looking.{kind_of_looking}
+use Rattle.rh_helping.specs.Machine.{looking_of}
 use Rattle.rh_worker.specs.Makes.{Makes}
 use Rattle.rh_worker.specs.Reading.{HasRead}
 use Rattle.rh_worker.proofs.Anew.{kept_alike, left_off, none_read, one_read, tells_anew}
@@ -27,13 +28,14 @@ returns-in-On-clause-worker g c =
 
 pub returns-in-On-clause-advances : goal.returns-in-On-clause-advances
 returns-in-On-clause-advances g c =
-    inl (looks_on c.args.shape.now _ _ c.args.looking (On c.in-On.looking) c.requires.worker.stays.0 c.in-On.ensures.leads c.in-On.ensures.made.opened)
+    let w = c.args.worker.now in
+    inl (looks_on c.args.shape.now _ _ (looking_of c.args.watch w.machine) (On (looking_of c.in-On.watch c.look.new.self)) c.requires.worker.stays.0 c.in-On.ensures.leads c.in-On.ensures.made.opened)
 
 pub returns-in-On-clause-anew : goal.returns-in-On-clause-anew
 returns-in-On-clause-anew g c before h =
     let w = c.args.worker.now in
     let z = c.args.shape.now in
-    let next = c.step.new.side.known.view in
+    let next = c.look.new.side.known.view in
     (none_read z before w.side.known.view next w.key w.buffer.seen.items c.args.seen (kept_alike z w.side.known.view next c.in-On.ensures.made.reads) h, tt)
 
 pub unwrap-value-requires : goal.unwrap-value-requires
@@ -56,7 +58,7 @@ decide-requires-clause-were_read g c =
     let w = c.args.worker.now in
     let z = c.args.shape.now in
     let v = w.side.known.view in
-    let next = c.step.new.side.known.view in
+    let next = c.look.new.side.known.view in
     let a = c.in-Sees in
     let h = c.requires.worker.stays.1 in
     let at : c.cell_after-cell.result ≡ cell_ahead (cell_count z) (home_of z.bits w.key) c.args.seen = cc in
@@ -70,19 +72,19 @@ pub returns-in-Sees-clause-makes : goal.returns-in-Sees-clause-makes
 returns-in-Sees-clause-makes g c =
     let z = c.args.shape.now in
     let made = stepped_makes z _ _ _ _ c.args.worker.now.side.known.view _ _ c.in-Sees.ensures.made in
-    subst (λ (n : View). Makes g.T.Steps.shows g.T.Steps.made z (kind_of_looking c.args.looking) c.args.table.now c.args.worker.now.side.known.view c.step.new.table n) (sym c.decide.ensures.same_view) made
+    subst (λ (n : View). Makes g.T.Steps.shows g.T.Steps.made z (kind_of_looking (looking_of c.args.watch c.args.worker.now.machine)) c.args.table.now c.args.worker.now.side.known.view c.look.new.table n) (sym c.decide.ensures.same_view) made
 
 pub returns-in-Sees-clause-anew : goal.returns-in-Sees-clause-anew
 returns-in-Sees-clause-anew g c before h =
     let w = c.args.worker.now in
     let z = c.args.shape.now in
     let v = w.side.known.view in
-    let next = c.step.new.side.known.view in
+    let next = c.look.new.side.known.view in
     let a = c.in-Sees in
     let at : c.cell_after-cell.result ≡ cell_ahead (cell_count z) (home_of z.bits w.key) c.args.seen = cc in
     let said = value_said c.plain_value.result a.word c.unwrap-value.result c.plain_value.ensures c.unwrap-value.ensures in
     let first = read_first z v next c.cell_after-cell.result a.word v.next_number c.unwrap-value.result a.ensures.made.reads (search rules) (value_read a.word c.unwrap-value.result said) in
-    let on = looks_on z v next c.args.looking (Sees a.word) c.requires.worker.stays.0 a.ensures.leads a.ensures.made.opened in
+    let on = looks_on z v next (looking_of c.args.watch w.machine) (Sees a.word) c.requires.worker.stays.0 a.ensures.leads a.ensures.made.opened in
     let count : suc c.args.seen ≡ c.args.seen + 1 = omega arith in
     let one = one_read z before v next w.key w.buffer.seen.items c.see.new.self.seen.items c.args.seen c.cell_after-cell.result c.unwrap-value.result c.see.ensures.before c.see.ensures.seen at first h in
     let got = c.decide.ensures.anew before (subst (HasRead z before next w.key c.see.new.self.seen.items) count one) in
@@ -92,6 +94,6 @@ pub returns-in-Spent-clause-anew : goal.returns-in-Spent-clause-anew
 returns-in-Spent-clause-anew g c before h =
     let w = c.args.worker.now in
     let z = c.args.shape.now in
-    let next = c.step.new.side.known.view in
+    let next = c.look.new.side.known.view in
     let same = none_read z before w.side.known.view next w.key w.buffer.seen.items c.args.seen (kept_alike z w.side.known.view next c.in-Spent.ensures.made.reads) h in
     (left_off z before next w.key w.buffer.seen.items w.buffer.seen.items c.args.seen same, tt)

@@ -18,5 +18,5 @@ returns-in-None-clause-worker g c =
     record {
       key = c.requires.worker.key;
       room = c.requires.worker.room;
-      stays = opened_stays z w.side.known.view w.kind w.key w.buffer c.args.plan c.requires.worker.stays.0 _ (ap (take c.args.plan.entries) c.deref.ensures.value) _ _ _ by w.side.same_number c.in-None.ensures.leads;
+      stays = opened_stays z w.side.known.view w.kind w.key w.buffer c.args.plan c.requires.worker.stays.0 _ (ap (take c.args.plan.entries) c.deref.ensures.value) _ _ _ by w.side.same_number c.in-None.ensures.leads _ c.go_about.ensures;
     }

@@ -1,5 +1,6 @@
 use Rattle.std.proofs.Common.{subst, sym}
 use Rattle.rh_helping.specs.Held.{IsHeld}
+use Rattle.rh_helping.specs.Machine.{looking_of, work_of}
 use Rattle.rh_helping.proofs.HeldCells.{looking_held, work_held}
 use Rattle.rh_worker.specs.Worker.{Stays}
 use Rattle.rh_worker.specs.declared.stage.Stage.{Stage}
@@ -9,12 +10,12 @@ pub returns-in-Scan : goal.returns-in-Scan
 returns-in-Scan c z worker =
     let w = c.args.self.now in
     let v = w.side.known.view in
-    let stays = subst (λ (p : Stage). Stays z v w.kind w.key w.buffer p) c.in-Scan.is worker.stays in
-    subst (IsHeld v) (sym c.held.ensures) (looking_held z v c.in-Scan.looking stays.0)
+    let stays = subst (λ (p : Stage). Stays z v w.kind w.key w.buffer w.machine p) c.in-Scan.is worker.stays in
+    subst (IsHeld v) (sym c.held_as.ensures) (looking_held z v (looking_of c.in-Scan.watch w.machine) stays.0)
 
 pub returns-in-Swap : goal.returns-in-Swap
 returns-in-Swap c z worker =
     let w = c.args.self.now in
     let v = w.side.known.view in
-    let stays = subst (λ (p : Stage). Stays z v w.kind w.key w.buffer p) c.in-Swap.is worker.stays in
-    subst (IsHeld v) (sym c.held-in-Swap.ensures) (work_held z v c.in-Swap.work stays.1)
+    let stays = subst (λ (p : Stage). Stays z v w.kind w.key w.buffer w.machine p) c.in-Swap.is worker.stays in
+    subst (IsHeld v) (sym c.held.ensures) (work_held z v (work_of w.machine) stays.1)

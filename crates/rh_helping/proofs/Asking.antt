@@ -1,0 +1,108 @@
+-- What a worker asks for is allowed, and it is of the kind of its work.
+use Rattle.std.proofs.Common.{◌≡◌, ℕ, Option, Some, None, refl, sym, subst}
+use Rattle.rh_descriptor.specs.declared.shape.Shape.{Shape}
+use Rattle.rh_descriptor.specs.declared.steps.StepKind.{StepKind}
+use Rattle.rh_descriptor.specs.View.{OwnDesc, View}
+use Rattle.rh_descriptor.specs.Steps.{Allowed, Step}
+use Rattle.rh_steps.specs.Relies.{Knows, Went}
+use Rattle.rh_helping.specs.Asked.{asked, asked_of_mark}
+use Rattle.rh_helping.specs.Goal.{KnowsOwn, piece_of}
+use Rattle.rh_helping.specs.Made.{HasMade, kind_of}
+use Rattle.rh_helping.specs.Next.{Settles, Work}
+use Rattle.rh_helping.specs.Next.{Settles as settles}
+use Rattle.rh_helping.specs.Next.{Work as work}
+use Rattle.rh_helping.specs.Settling.{IsSettling, kind_of_settling}
+use Rattle.rh_helping.specs.Work.{Stands, kind_of_work}
+use Rattle.rh_helping.proofs.Decisions.{may_fail, may_note, may_read_reason, may_succeed, may_withdraw}
+use Rattle.rh_helping.proofs.Knowing.{allowed, task_known}
+use Rattle.rh_helping.proofs.Made.{IsOnDescs, made_then}
+use Rattle.rh_helping.proofs.Marking.{is_found, may_place}
+use Rattle.rh_helping.proofs.Marks as marks
+use Rattle.rh_helping.proofs.Marks.{may_settle}
+use Rattle.rh_helping.proofs.Released.{may_give_back, may_release}
+use Rattle.rh_helping.proofs.Rows as rows
+use Rattle.rh_helping.proofs.Starting as starting
+
+-- ---- with a mark that was met
+
+pub may_ask_mark : (z : Shape) (v : View) → Knows z v → (s : Settles) → IsSettling v s → Allowed z v (asked_of_mark s)
+may_ask_mark z v k (settles.Desc x c) h = marks.may_read_desc z v k x c h
+may_ask_mark z v k (settles.Entry x c u) h = marks.may_read_entry z v k x c h.0
+may_ask_mark z v k (settles.Serial x c u e) h = marks.may_read_serial z v k x c h.0
+may_ask_mark z v k (settles.Control x p) h = marks.may_read_control z v k x p h
+may_ask_mark z v k (settles.Old x p) h = marks.may_read_old z v k x p h.0
+may_ask_mark z v k (settles.OldSerial x p old) h = marks.may_read_row z v k x p h.0
+may_ask_mark z v k (settles.Settle x p old) h = may_settle z v k x p h.0 old h.1
+
+-- a step of this kind, that opens nothing, reads no cell and claims nothing
+abbrev pub IsOf : Step → StepKind → Type 0
+IsOf s k = (kind_of s ≡ k) × IsOnDescs s
+
+pub of_mark : (s : Settles) → IsOf (asked_of_mark s) (kind_of_settling s)
+of_mark (settles.Desc x c) = (refl, tt)
+of_mark (settles.Entry x c u) = (refl, tt)
+of_mark (settles.Serial x c u e) = (refl, tt)
+of_mark (settles.Control x p) = (refl, tt)
+of_mark (settles.Old x p) = (refl, tt)
+of_mark (settles.OldSerial x p old) = (refl, tt)
+of_mark (settles.Settle x p old) = (refl, tt)
+
+-- ---- with a descriptor
+
+pub may_ask : (z : Shape) (v : View) → Knows z v → (opens : Option OwnDesc) → KnowsOwn v opens → (w : Work) → Stands z v w → Allowed z v (asked v w)
+may_ask z v k opens own (work.Control d) h = starting.may_read_control z v k d h.1
+may_ask z v k opens own (work.Length d state) h = starting.may_read_length z v k d state h.1
+may_ask z v k opens own (work.LengthSerial d state n) h = starting.may_read_serial z v k d state h.1
+may_ask z v k opens own (work.EntryCell t) h = rows.may_read_cell z v k t h.0
+may_ask z v k opens own (work.EntryOld t c) h = rows.may_read_old z v k t h.0
+may_ask z v k opens own (work.EntryNew t c o) h = rows.may_read_new z v k t h.0
+may_ask z v k opens own (work.EntrySerial g) h = rows.may_read_serial z v k g.task h.0
+may_ask z v k opens own (work.MarkSerial g) h = allowed z v k _ (refl, h.owes.settled, refl, h.mark)
+may_ask z v k opens own (work.MarkDesc g) h = allowed z v k _ (refl, h.0.owes.settled, h.1)
+may_ask z v k opens own (work.MarkEntry g) h = allowed z v k _ (refl, h.0.owes.settled, h.1.serial)
+may_ask z v k opens own (work.Place g) h = may_place z v k g h.0 h.1
+may_ask z v k opens own (work.Settle s g) h = may_ask_mark z v k s h.2
+may_ask z v k opens own (work.MarkControl p) h = marks.may_read_control z v k p.mark (piece_of p.goal) (is_found v p h)
+may_ask z v k opens own (work.Promote p) h = may_settle z v k p.mark (piece_of p.goal) (is_found v p h.0) None h.1
+may_ask z v k opens own (work.Demote p told) h = may_settle z v k p.mark (piece_of p.goal) (is_found v p h.0) (Some p.goal.old) (h.2, h.0.goal.old)
+may_ask z v k opens own (work.Recheck g promoted) h = starting.may_read_control z v k g.task.desc (task_known z v k g.task h.goal.task)
+may_ask z v k opens own (work.Note t) h = may_note z v k t h v.worker refl
+may_ask z v k opens own (work.Fail t) h = may_fail z v k t h.0 h.1 v.worker refl
+may_ask z v k opens own (work.Succeed t) h = may_succeed z v k t h.0 h.1 h.2
+may_ask z v k opens own (work.Withdraw d) h = may_withdraw z v k opens own d h.2 (sym h.1) h.3
+may_ask z v k opens own (work.Reason t by) h = may_read_reason z v k t by h.0 h.1.failed opens own h.1.own h.1.opened
+may_ask z v k opens own (work.Release g) h = may_release z v k g h.0 h.1 _ refl
+may_ask z v k opens own (work.GiveBack o) h = may_give_back z v k o h
+
+pub of_work : (v : View) (w : Work) → IsOf (asked v w) (kind_of_work w)
+of_work v (work.Control d) = (refl, tt)
+of_work v (work.Length d k) = (refl, tt)
+of_work v (work.LengthSerial d k n) = (refl, tt)
+of_work v (work.EntryCell t) = (refl, tt)
+of_work v (work.EntryOld t c) = (refl, tt)
+of_work v (work.EntryNew t c o) = (refl, tt)
+of_work v (work.EntrySerial g) = (refl, tt)
+of_work v (work.MarkSerial g) = (refl, tt)
+of_work v (work.MarkDesc g) = (refl, tt)
+of_work v (work.MarkEntry g) = (refl, tt)
+of_work v (work.Place g) = (refl, tt)
+of_work v (work.Settle s g) = of_mark s
+of_work v (work.MarkControl p) = (refl, tt)
+of_work v (work.Promote p) = (refl, tt)
+of_work v (work.Demote p k) = (refl, tt)
+of_work v (work.Recheck g promoted) = (refl, tt)
+of_work v (work.Note t) = (refl, tt)
+of_work v (work.Fail t) = (refl, tt)
+of_work v (work.Succeed t) = (refl, tt)
+of_work v (work.Withdraw d) = (refl, tt)
+of_work v (work.Reason t by) = (refl, tt)
+of_work v (work.Release g) = (refl, tt)
+of_work v (work.GiveBack o) = (refl, tt)
+
+-- ---- so the step that it asks for and makes is one of its work
+
+pub asked_made : {T : Type 0} {shows : Shape → T → View → Type 0} {makes : Shape → Step → T → View → ℕ → T → View → Type 0} (z : Shape) (s asks : Step) (k : StepKind) (t : T) (v : View) (word : ℕ) (then later : T) (next : View)
+    → IsOf s k → asks ≡ s → later ≡ then → Allowed z v asks → Went shows makes z asks t v word then next → HasMade shows makes z k t v later next
+asked_made {T} {shows} {makes} z s asks k t v word then later next of is same may went =
+    let o : IsOf asks k = subst (λ (a : Step). IsOf a k) (sym is) of in
+    subst (λ (q : StepKind). HasMade shows makes z q t v later next) o.0 (made_then z asks t v word then later next same o.1 may went)

@@ -1,5 +1,0 @@
-use Rattle.rh_helping.proofs.Growing.{stands_known}
-use Rattle.rh_helping.proofs.going.start.Goals as goal
-
-pub own_size-size-requires-clause-known : goal.own_size-size-requires-clause-known
-own_size-size-requires-clause-known g c = stands_known _ _ c.args.state _ c.requires.met.stands

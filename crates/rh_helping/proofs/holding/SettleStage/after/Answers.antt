@@ -1,0 +1,22 @@
+use Rattle.std.proofs.Common.{Bool, subst}
+use Rattle.rh_helping.specs.Asked.{SettledFrom}
+use Rattle.rh_helping.specs.Machine.{goal_of, left_on, settling_of}
+use Rattle.rh_helping.specs.Settling.{LeadsOn}
+use Rattle.rh_helping.proofs.Growing.{own_grows}
+use Rattle.rh_helping.proofs.Marking.{names_grows, try_grows}
+use Rattle.rh_helping.proofs.holding.SettleStage.after.Goals as goal
+
+pub returns-then-after-clause-leads : goal.returns-then-after-clause-leads
+returns-then-after-clause-leads g c =
+    let f = c.requires.follows in
+    let s : SettledFrom c.args._shape.now f.before (settling_of c.args.machine.now.settling) c.args.found c.args.side.now.known.view = record { owes = f.stands.0.owes; settling = f.stands.2; finds = f.finds; view_is = f.view_is } in
+    let g = c.after.ensures.grows c.args._shape.now f.before s in
+    let on = subst (λ (b : Bool). LeadsOn f.before c.args.side.now.known.view (settling_of c.args.machine.now.settling) (left_on b c.after.new.self)) c.if-after.true (c.after.ensures.leads c.args._shape.now f.before s) in
+    (own_grows _ _ g _ f.own, (try_grows c.args._shape.now _ _ g (goal_of c.args.machine.now) f.stands.0, names_grows c.args._shape.now _ _ g (goal_of c.args.machine.now) f.stands.1, on))
+
+pub returns-else-after-clause-leads : goal.returns-else-after-clause-leads
+returns-else-after-clause-leads g c =
+    let f = c.requires.follows in
+    let s : SettledFrom c.args._shape.now f.before (settling_of c.args.machine.now.settling) c.args.found c.args.side.now.known.view = record { owes = f.stands.0.owes; settling = f.stands.2; finds = f.finds; view_is = f.view_is } in
+    let g = c.after.ensures.grows c.args._shape.now f.before s in
+    (own_grows _ _ g _ f.own, (try_grows c.args._shape.now _ _ g (goal_of c.args.machine.now) f.stands.0, names_grows c.args._shape.now _ _ g (goal_of c.args.machine.now) f.stands.1))

@@ -1,0 +1,86 @@
+-- The step that a worker asks for, by what it goes about; and what is so once it is made, before the worker goes on from the
+-- word that it found.
+use Rattle.std.specs.Prelude.{◌≡◌, ℕ, Option, Some, None}
+use Rattle.rh_world.specs.World.{Control}
+use Rattle.rh_world.specs.World.Control.{failed, succeeded, withdrawn}
+use Rattle.rh_descriptor.specs.declared.shape.Shape.{Shape}
+use Rattle.rh_descriptor.specs.declared.shape.Part.TheVariants as part
+use Rattle.rh_descriptor.specs.declared.reference.Reading.TheVariants as reading
+use Rattle.rh_descriptor.specs.View.{OwnDesc, View}
+use Rattle.rh_descriptor.specs.Words.{control_of, desc_number, ref_of}
+use Rattle.rh_descriptor.specs.Steps.{Step, noted}
+use Rattle.rh_rule.specs.Sound.{Finds}
+use Rattle.rh_steps.specs.Relies.{Knows}
+use Rattle.rh_helping.specs.declared.goal.Task.{Task}
+use Rattle.rh_helping.specs.Goal.{KnowsOwn, KnowsTask, OwesNothing, released_value}
+use Rattle.rh_helping.specs.Next.{Settles, Work}
+use Rattle.rh_helping.specs.Next.{Settles as settles}
+use Rattle.rh_helping.specs.Next.{Work as work}
+use Rattle.rh_helping.specs.Settling.{IsSettling}
+use Rattle.rh_helping.specs.Work.{Stands}
+
+abbrev pub asked_of_mark : Settles → Step
+asked_of_mark (settles.Desc x c) = Step.reads (reading.MarkDesc x)
+asked_of_mark (settles.Entry x c u) = Step.reads (reading.MarkEntry x)
+asked_of_mark (settles.Serial x c u e) = Step.reads (reading.MarkSerial x)
+asked_of_mark (settles.Control x p) = Step.reads (reading.MarkControl x p.cell p.desc)
+asked_of_mark (settles.Old x p) = Step.reads (reading.EntryOld p.desc p.entry)
+asked_of_mark (settles.OldSerial x p old) = Step.reads (reading.Serial p.desc)
+asked_of_mark (settles.Settle x p old) = Step.settles (ref_of x) p.cell (ref_of p.desc) p.entry old
+
+abbrev pub asked : View → Work → Step
+asked v (work.Control d) = Step.reads (reading.Control d)
+asked v (work.Length d k) = Step.reads (reading.Length d)
+asked v (work.LengthSerial d k n) = Step.reads (reading.Serial d)
+asked v (work.EntryCell t) = Step.reads (reading.EntryCell t.desc t.entry)
+asked v (work.EntryOld t c) = Step.reads (reading.EntryOld t.desc t.entry)
+asked v (work.EntryNew t c o) = Step.reads (reading.EntryNew t.desc t.entry)
+asked v (work.EntrySerial g) = Step.reads (reading.Serial g.task.desc)
+asked v (work.MarkSerial g) = Step.writes (part.MarkSerial v.worker) v.marks_used
+asked v (work.MarkDesc g) = Step.writes (part.MarkDesc v.worker) (desc_number (ref_of g.task.desc))
+asked v (work.MarkEntry g) = Step.writes (part.MarkEntry v.worker) g.task.entry
+asked v (work.Place g) = Step.places (ref_of g.task.desc) g.task.entry g.cell g.old
+asked v (work.Settle s g) = asked_of_mark s
+asked v (work.MarkControl p) = Step.reads (reading.MarkControl p.mark p.goal.cell p.goal.task.desc)
+asked v (work.Promote p) = Step.settles (ref_of p.mark) p.goal.cell (ref_of p.goal.task.desc) p.goal.task.entry None
+asked v (work.Demote p k) = Step.settles (ref_of p.mark) p.goal.cell (ref_of p.goal.task.desc) p.goal.task.entry (Some p.goal.old)
+asked v (work.Recheck g promoted) = Step.reads (reading.Control g.task.desc)
+asked v (work.Note t) = Step.writes (part.Note v.worker t.desc.worker) t.entry
+asked v (work.Fail t) = Step.decides (ref_of t.desc) (failed 0 v.worker)
+asked v (work.Succeed t) = Step.decides (ref_of t.desc) succeeded
+asked v (work.Withdraw d) = Step.decides (ref_of d) withdrawn
+asked v (work.Reason t by) = Step.reads (reading.Reason t.desc by)
+asked v (work.Release g) =
+    Step.releases (ref_of g.task.desc) g.task.entry g.cell (Some (control_of g.task.state)) (released_value g.task.state g.old g.new)
+asked v (work.GiveBack o) = Step.releases (ref_of o.piece.desc) o.piece.entry o.piece.cell None o.old
+
+-- ---- the view after it
+
+-- of a worker of whom v was kept, that settled a mark
+pub record SettledFrom (z : Shape) (v : View) (s : Settles) (word : ℕ) (next : View) : Type 0 where
+  pub owes : OwesNothing v
+  pub settling : IsSettling v s
+  pub finds : Finds z v (asked_of_mark s) word
+  pub view_is : next ≡ noted z v (asked_of_mark s) word
+
+abbrev pub FollowsSettling : Settles → (word : ℕ) → (next : View) → Type 0
+FollowsSettling s word next = (z : Shape) × ((v : View) × SettledFrom z v s word next)
+
+-- of a worker that went about a descriptor
+pub record Follows (z : Shape) (opens : Option OwnDesc) (w : Work) (word : ℕ) (next : View) : Type 0 where
+  pub before : View
+  pub knows : Knows z before
+  pub own : KnowsOwn before opens
+  pub stands : Stands z before w
+  pub finds : Finds z before (asked before w) word
+  pub view_is : next ≡ noted z before (asked before w) word
+
+-- of one that decided it
+pub record FollowsDecide (z : Shape) (opens : Option OwnDesc) (t : Task) (k : Control) (word : ℕ) (next : View) : Type 0 where
+  pub before : View
+  pub knows : Knows z before
+  pub own : KnowsOwn before opens
+  pub task : KnowsTask before t
+  pub owes : OwesNothing before
+  pub finds : Finds z before (Step.decides (ref_of t.desc) k) word
+  pub view_is : next ≡ noted z before (Step.decides (ref_of t.desc) k) word

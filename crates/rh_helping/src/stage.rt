@@ -1,0 +1,44 @@
+//! The stages of a machine. Each is one step: which one, and what follows from the word that it found.
+
+ghost use Rattle.std.specs.Prelude.{◌≡◌};
+ghost use Rattle.rh_descriptor.specs.Asks.{step_of};
+ghost use Rattle.rh_descriptor.specs.Parts.{IsShape};
+ghost use Rattle.rh_helping.specs.Asked.{Follows, asked};
+ghost use Rattle.rh_helping.specs.Goal.{opened_by};
+ghost use Rattle.rh_helping.specs.Machine.{led, work_at};
+ghost use Rattle.rh_helping.specs.Work.{Stands, Leads, MayEnd};
+ghost use Rattle.rh_steps.specs.Relies.{Knows, Trusts};
+
+use crate::goal::OpenDesc;
+use crate::machine::{Machine, Progress};
+use rh_descriptor::{Ask, Shape, Side};
+use rh_steps::Steps;
+
+pub(crate) trait Stage<T: Steps> {
+    ghost use Rattle.rh_helping.specs.declared.machine.At.{At};
+
+    // Where the machine stands.
+    ghost at: { At };
+
+    /// The step that the machine asks for.
+    fn ask(machine: &Machine, shape: &Shape, side: &Side) -> Ask
+        requires shape { IsShape shape.now }
+        requires knows { Knows shape.now side.now.known.view }
+        requires stands { Stands shape.now side.now.known.view (work_at at machine.now) }
+        ensures { step_of result ≡ asked side.now.known.view (work_at at machine.now) };
+
+    /// Goes on from the word that the step found. The table is there for own rows alone: no step is made.
+    fn after(
+        machine: &mut Machine,
+        shape: &Shape,
+        table: &mut T,
+        side: &Side,
+        opens: Option<OpenDesc<'_>>,
+        found: u64,
+    ) -> Progress
+        requires trusts { Trusts T.shows shape.now table.old side.now.known.view }
+        requires follows { Follows shape.now (opened_by opens) (work_at at machine.old) found side.now.known.view }
+        ensures same { table.new ≡ table.old }
+        ensures leads { Leads shape.now side.now.known.view (opened_by opens.entry) (led result machine.new) }
+        ensures ends { MayEnd side.now.known.view (work_at at machine.old) (led result machine.new) };
+}

@@ -1,0 +1,151 @@
+//! The steps of a machine. Which one is next stands in the machine; each is a stage, and is made alike.
+
+ghost use Rattle.std.specs.Prelude.{◌≡◌, IfSome, None, Some};
+ghost use Rattle.rh_steps.specs.Relies.{Relies};
+ghost use Rattle.rh_helping.specs.Made.{HasMade};
+ghost use Rattle.rh_helping.specs.Goal.{KnowsOwn, opened_by};
+ghost use Rattle.rh_helping.specs.Machine.{led, work_at, work_of};
+ghost use Rattle.rh_helping.specs.Work.{Stands, Leads, MayEnd, kind_of_work};
+
+use crate::deciding::{Fail, Note, Reason, Succeed, Withdraw};
+use crate::entering::{Control, EntryCell, EntryNew, EntryOld, EntrySerial, Length, LengthSerial};
+use crate::goal::OpenDesc;
+use crate::holding::{
+    Demote, MarkControl, MarkDesc, MarkEntry, MarkSerial, Place, Promote, Recheck, Settle,
+};
+use crate::machine::{At, Machine, Progress};
+use crate::releasing::{GiveBack, Release};
+use crate::stage::Stage;
+use rh_descriptor::{Shape, Side};
+use rh_steps::Steps;
+
+impl Machine {
+    /// Makes the next step where it is one of the fast path: who meets no other worker, finds each cell with
+    /// its old value and has marks left comes to no other. Answers what it leads to, or none, and does
+    /// nothing, where it is another. `own` is the own descriptor that is open. A machine that is driven in
+    /// one place so may be kept in registers there.
+    #[inline(always)]
+    pub fn step_fast<T: Steps>(
+        &mut self,
+        shape: &Shape,
+        table: &mut T,
+        side: &mut Side,
+        own: OpenDesc<'_>,
+    ) -> Option<Progress>
+        requires relies { Relies T.shows T.serves shape.now table.old side.old.known.view }
+        requires own { KnowsOwn side.old.known.view (opened_by (Some own)) }
+        requires stands { Stands shape.now side.old.known.view (work_of self.old) }
+        ensures same { result ≡ None → (self.new ≡ self.old) × (table.new ≡ table.old) × (side.new ≡ side.old) }
+        ensures made { IfSome result (λ _. HasMade T.shows T.made shape.now (kind_of_work (work_of self.old)) table.old
+            side.old.known.view table.new side.new.known.view) }
+        ensures leads { IfSome result (λ on. Leads shape.now side.new.known.view (opened_by (Some own.entry)) (led on self.new)) }
+        ensures ends { IfSome result (λ on. MayEnd side.new.known.view (work_of self.old) (led on self.new)) }
+    {
+        let opens = Some(own);
+        let progress = match self.at {
+            At::Control => self.make::<T, Control>(shape, table, side, opens),
+            At::MarkSerial => self.make::<T, MarkSerial>(shape, table, side, opens),
+            At::MarkDesc => self.make::<T, MarkDesc>(shape, table, side, opens),
+            At::MarkEntry => self.make::<T, MarkEntry>(shape, table, side, opens),
+            At::Place => self.make::<T, Place>(shape, table, side, opens),
+            At::MarkControl => self.make::<T, MarkControl>(shape, table, side, opens),
+            At::Promote => self.make::<T, Promote>(shape, table, side, opens),
+            At::Recheck => self.make::<T, Recheck>(shape, table, side, opens),
+            At::Succeed => self.make::<T, Succeed>(shape, table, side, opens),
+            At::Release => self.make::<T, Release>(shape, table, side, opens),
+            _ => return None,
+        };
+        Some(progress)
+    }
+
+    /// Makes the next step on the own open descriptor, or on one that it led to, and answers what it leads
+    /// to.
+    #[inline(always)]
+    pub fn step_own<T: Steps>(
+        &mut self,
+        shape: &Shape,
+        table: &mut T,
+        side: &mut Side,
+        own: OpenDesc<'_>,
+    ) -> Progress
+        requires relies { Relies T.shows T.serves shape.now table.old side.old.known.view }
+        requires own { KnowsOwn side.old.known.view (opened_by (Some own)) }
+        requires stands { Stands shape.now side.old.known.view (work_of self.old) }
+        ensures made { HasMade T.shows T.made shape.now (kind_of_work (work_of self.old)) table.old
+            side.old.known.view table.new side.new.known.view }
+        ensures leads { Leads shape.now side.new.known.view (opened_by (Some own.entry)) (led result self.new) }
+        ensures ends { MayEnd side.new.known.view (work_of self.old) (led result self.new) }
+    {
+        match self.step_fast(shape, table, side, own) {
+            Some(progress) => progress,
+            None => self.step(shape, table, side, Some(own)),
+        }
+    }
+
+    /// Makes the next step, and answers what it leads to. `opens` is the own descriptor that is open, if one
+    /// is. (It is called apart, so that what calls it stays small.)
+    #[inline(never)]
+    pub fn step<T: Steps>(
+        &mut self,
+        shape: &Shape,
+        table: &mut T,
+        side: &mut Side,
+        opens: Option<OpenDesc<'_>>,
+    ) -> Progress
+        requires relies { Relies T.shows T.serves shape.now table.old side.old.known.view }
+        requires own { KnowsOwn side.old.known.view (opened_by opens) }
+        requires stands { Stands shape.now side.old.known.view (work_of self.old) }
+        ensures made { HasMade T.shows T.made shape.now (kind_of_work (work_of self.old)) table.old
+            side.old.known.view table.new side.new.known.view }
+        ensures leads { Leads shape.now side.new.known.view (opened_by opens.entry) (led result self.new) }
+        ensures ends { MayEnd side.new.known.view (work_of self.old) (led result self.new) }
+    {
+        match self.at {
+            At::Control => self.make::<T, Control>(shape, table, side, opens),
+            At::Length => self.make::<T, Length>(shape, table, side, opens),
+            At::LengthSerial => self.make::<T, LengthSerial>(shape, table, side, opens),
+            At::EntryCell => self.make::<T, EntryCell>(shape, table, side, opens),
+            At::EntryOld => self.make::<T, EntryOld>(shape, table, side, opens),
+            At::EntryNew => self.make::<T, EntryNew>(shape, table, side, opens),
+            At::EntrySerial => self.make::<T, EntrySerial>(shape, table, side, opens),
+            At::MarkSerial => self.make::<T, MarkSerial>(shape, table, side, opens),
+            At::MarkDesc => self.make::<T, MarkDesc>(shape, table, side, opens),
+            At::MarkEntry => self.make::<T, MarkEntry>(shape, table, side, opens),
+            At::Place => self.make::<T, Place>(shape, table, side, opens),
+            At::Settle => self.make::<T, Settle>(shape, table, side, opens),
+            At::MarkControl => self.make::<T, MarkControl>(shape, table, side, opens),
+            At::Promote => self.make::<T, Promote>(shape, table, side, opens),
+            At::Demote => self.make::<T, Demote>(shape, table, side, opens),
+            At::Recheck => self.make::<T, Recheck>(shape, table, side, opens),
+            At::Note => self.make::<T, Note>(shape, table, side, opens),
+            At::Fail => self.make::<T, Fail>(shape, table, side, opens),
+            At::Succeed => self.make::<T, Succeed>(shape, table, side, opens),
+            At::Withdraw => self.make::<T, Withdraw>(shape, table, side, opens),
+            At::Reason => self.make::<T, Reason>(shape, table, side, opens),
+            At::Release => self.make::<T, Release>(shape, table, side, opens),
+            At::GiveBack => self.make::<T, GiveBack>(shape, table, side, opens),
+        }
+    }
+
+    /// Makes the step of this stage.
+    #[inline(always)]
+    fn make<T: Steps, S: Stage<T>>(
+        &mut self,
+        shape: &Shape,
+        table: &mut T,
+        side: &mut Side,
+        opens: Option<OpenDesc<'_>>,
+    ) -> Progress
+        requires relies { Relies T.shows T.serves shape.now table.old side.old.known.view }
+        requires own { KnowsOwn side.old.known.view (opened_by opens) }
+        requires stands { Stands shape.now side.old.known.view (work_at S.at self.old) }
+        ensures made { HasMade T.shows T.made shape.now (kind_of_work (work_at S.at self.old)) table.old
+            side.old.known.view table.new side.new.known.view }
+        ensures leads { Leads shape.now side.new.known.view (opened_by opens.entry) (led result self.new) }
+        ensures ends { MayEnd side.new.known.view (work_at S.at self.old) (led result self.new) }
+    {
+        let ask = S::ask(self, shape, side);
+        let found = table.make(shape, side, ask);
+        S::after(self, shape, table, side, opens, found)
+    }
+}
