@@ -7,7 +7,9 @@ use std::sync::Mutex;
 use std::time::{Duration, Instant};
 
 const MOST: usize = 8;
-const CELLS: usize = 64;
+/// So many cells are each thread's own, two lines of a cache.
+const OWN: usize = 16;
+const CELLS: usize = 128;
 /// How many entries the swaps that a thread tries in one round have together.
 const ENTRIES: usize = 4_000;
 
@@ -292,7 +294,7 @@ fn main() {
                     let shared = &*shared;
                     scope.spawn(move || {
                         let mut me = Me { worker, descriptors: 0, marks: 0 };
-                        let first = if cells == "own" { worker * MOST } else { 0 };
+                        let first = if cells == "own" { worker * OWN } else { 0 };
                         let start = Instant::now();
                         let done = raise_often(shared, &mut me, first, count);
                         (done, start.elapsed())

@@ -1,6 +1,7 @@
 -- Seats whose workers rest, one by one and joined.
 use Rattle.std.proofs.Common.{◌≡◌, List, [], ◌∷◌, ◌++◌, refl, sym, ap, subst, ⊎_elim}
 use Rattle.rh_descriptor.specs.declared.known.Known.{Known}
+use Rattle.rh_descriptor.specs.View.{View}
 use Rattle.rh_rule.specs.Seats.{InView, known}
 use Rattle.rh_rule.proofs.SeatsKept.{at_append}
 use Rattle.rh_rdcss.specs.declared.seat.Seat.{Seat}
@@ -24,3 +25,6 @@ alone_rests t s at fresh one =
 
 pub both_quiet : (vs us : List Known) → InView IsQuiet vs → InView IsQuiet us → InView IsQuiet (vs ++ us)
 both_quiet vs us h g r k at = ⊎_elim (λ left. h r k left) (λ right. g right.0 k right.2) (at_append vs us r k at)
+
+pub fresh_quiet : (v : View) → IsFresh v → IsQuiet v
+fresh_quiet v fresh = subst IsQuiet (sym fresh) (record { still = refl; rest = record { closed = refl; settled = refl; paid = refl } })

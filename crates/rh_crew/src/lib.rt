@@ -3,4 +3,4 @@
 
 mod work;
 
-pub use work::{Work, all_work, round};
+pub use work::{Work, all_work, round, round_of};

@@ -1,5 +1,6 @@
 //! The threads of a seat's workers, which fork in halves and join again.
 
+ghost use Rattle.std.specs.Prelude.{◌<◌};
 ghost use Rattle.std.specs.Thread.{IsSync};
 ghost use Rattle.rh_crew.specs.Worked.{HaveWorked};
 ghost use Rattle.rh_kcas.specs.Crews.{HasAll, IsAt, IsFresh, views_of};
@@ -69,6 +70,29 @@ pub fn round<R: Threads + Sync, T: Send, W: Work<R, T> + Sync>(
     ensures fresh { InView IsFresh (views_of result.0) }
 {
     let (mut all, told) = all_work(rt, table, seat, work);
+    wipe(table, &mut all);
+    (all, told)
+}
+
+/// One round of the first so many workers of the table, while the others rest: they do their work, then
+/// the rows are wiped.
+pub fn round_of<R: Threads + Sync, T: Send, W: Work<R, T> + Sync>(
+    rt: &R,
+    table: &Table,
+    seat: Seat,
+    workers: usize,
+    work: &W,
+) -> (Seat, T)
+    requires all { HasAll table.now seat }
+    requires fresh { InView IsFresh (views_of seat) }
+    requires workers { (0 < workers) × (workers < table.now.shape.workers) }
+    ensures all { HasAll table.now result.0 }
+    ensures fresh { InView IsFresh (views_of result.0) }
+{
+    let mut working = seat;
+    let resting = split(table, &mut working, workers);
+    let (mut all, told) = all_work(rt, table, working, work);
+    join(table, &mut all, resting);
     wipe(table, &mut all);
     (all, told)
 }

@@ -14,8 +14,11 @@ use std::time::{Clock, Duration, Instant};
 /// The most entries of a swap, and the most threads.
 pub const MOST: usize = 8;
 
-/// The table has so many cells that each thread may have its own: two to the sixth power.
-pub const BITS: u32 = 6;
+/// So many cells are each thread's own, two lines of a cache.
+const OWN: usize = 16;
+
+/// The table has so many cells that each thread may have its own: two to the seventh power.
+pub const BITS: u32 = 7;
 
 /// How many entries the swaps that a thread tries in one round have together.
 const ENTRIES: usize = 4_000;
@@ -45,7 +48,7 @@ impl<R: Wait + Clock> Work<R, Told> for Load {
     fn work(&self, rt: &R, table: &Table, seat: Seat) -> (Seat, Told) {
         let mut seat = seat;
         let first = if self.own {
-            seat.side.worker.wrapping_mul(MOST)
+            seat.side.worker.wrapping_mul(OWN)
         } else {
             0
         };

@@ -1,7 +1,7 @@
 //! The program that `benchmarks/kcas` times: threads that swap several cells of one table.
 #![tactic(auto)]
 
-ghost use Rattle.std.specs.Prelude.{◌<◌, ◌≤◌, IfOk};
+ghost use Rattle.std.specs.Prelude.{◌≡◌, IfOk};
 ghost use Rattle.rh_kcas.specs.Crews.{HasAll, IsFresh, views_of};
 ghost use Rattle.rh_rule.specs.Seats.{InView};
 
@@ -10,8 +10,8 @@ mod load;
 
 use line::Line;
 use load::{BITS, Load, Told};
-use rh_crew::round;
-use rh_descriptor::{Rooms, Shape};
+use rh_crew::round_of;
+use rh_descriptor::{MAX_WORKERS, Rooms, Shape};
 use rh_kcas::{Seat, Table, make};
 use std::alloc::{AllocError, Global};
 use std::env;
@@ -61,7 +61,7 @@ fn measure(
     rt: &(impl Threads + Wait + Sync + Clock + AllocGlobal),
     line: &Line,
 ) -> Result<Told, AllocError> {
-    let (table, seat) = empty_table(rt.alloc(), line.threads)?;
+    let (table, seat) = empty_table(rt.alloc())?;
     let load = Load {
         entries: line.entries,
         own: line.own,
@@ -72,7 +72,7 @@ fn measure(
         took: Duration::ZERO,
     };
     for _ in 0..line.rounds {
-        let (next, told) = round(rt, &table, seat, &load);
+        let (next, told) = round_of(rt, &table, seat, line.threads, &load);
         seat = next;
         all.done = all.done.wrapping_add(told.done);
         all.took = all.took.saturating_add(told.took);
@@ -80,15 +80,17 @@ fn measure(
     Ok(all)
 }
 
-/// A table of cells that all hold nought, with the seat of so many workers.
-fn empty_table(alloc: Global, workers: usize) -> Result<(Table, Seat), AllocError>
-    requires { (0 < workers) × (workers ≤ 8) }
+/// A table of cells that all hold nought, with the seat of as many workers as a table may have, of whom
+/// most rest: each has a note for each of them, so the words that one worker writes lie two lines of a
+/// cache from those of the next.
+fn empty_table(alloc: Global) -> Result<(Table, Seat), AllocError>
+    ensures workers { IfOk result (λ r. r.0.shape.workers ≡ MAX_WORKERS) }
     ensures all { IfOk result (λ r. HasAll r.0 r.1) }
     ensures fresh { IfOk result (λ r. InView IsFresh (views_of r.1)) }
 {
     let shape = Shape {
         bits: BITS,
-        workers,
+        workers: MAX_WORKERS,
         keys: 0,
         rooms: Rooms::usual(),
     };

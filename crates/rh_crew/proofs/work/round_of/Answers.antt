@@ -1,0 +1,10 @@
+use Rattle.std.proofs.Common.{subst, sym}
+use Rattle.rh_rule.specs.Seats.{InView}
+use Rattle.rh_kcas.specs.Crews.{IsQuiet}
+use Rattle.rh_crew.proofs.Seats.{both_quiet, fresh_quiet}
+use Rattle.rh_crew.proofs.work.round_of.Goals as goal
+
+pub wipe-requires-clause-rest : goal.wipe-requires-clause-rest
+wipe-requires-clause-rest g c =
+    let idle = c.split-resting.ensures.still_fresh.1 in
+    subst (InView IsQuiet) (sym c.join.ensures.joined.views) (both_quiet _ _ c.all_work-all.ensures.quiet (λ r s at. fresh_quiet s.view (idle r s at)))
