@@ -286,7 +286,8 @@ fn main() {
         "mutex" => Box::new(Locked { cells: Mutex::new(vec![0; CELLS]) }),
         _ => Box::new(Shared::new(threads)),
     };
-    let (mut done, mut took) = (0, Duration::ZERO);
+    let mut all = (0, Duration::ZERO);
+    let mut fastest = (0, Duration::MAX);
     for _ in 0..rounds {
         let told: Vec<(u64, Duration)> = std::thread::scope(|scope| {
             let all: Vec<_> = (0..threads)
@@ -303,9 +304,12 @@ fn main() {
                 .collect();
             all.into_iter().map(|thread| thread.join().unwrap()).collect()
         });
-        done += told.iter().map(|it| it.0).sum::<u64>();
-        took += told.iter().map(|it| it.1).max().unwrap();
+        let (done, took) = (told.iter().map(|it| it.0).sum::<u64>(), told.iter().map(|it| it.1).sum::<Duration>());
+        all = (all.0 + done, all.1 + took);
+        if took < fastest.1 {
+            fastest = (done, took);
+        }
         shared.wipe();
     }
-    println!("{done} swaps in {} microseconds", took.as_micros());
+    println!("{} swaps in {} ns, {} in {} ns", all.0, all.1.as_nanos(), fastest.0, fastest.1.as_nanos());
 }

@@ -9,7 +9,7 @@ use rh_kcas::{Outcome, Seat, Table, are_entries, change, kcas, read};
 use rh_layout::Entry;
 use rh_tagword::plain_value;
 use std::sync::Wait;
-use std::time::{Clock, Duration, Instant};
+use std::time::{Clock, Instant};
 
 /// The most entries of a swap, and the most threads.
 pub const MOST: usize = 8;
@@ -31,8 +31,8 @@ const VALUES: u64 = 1 << 60;
 pub struct Told {
     /// How many swaps were carried out.
     pub done: u64,
-    /// How long the thread swapped that took longest, without its start.
-    pub took: Duration,
+    /// How many nanoseconds the threads swapped, all their times together, without their starts.
+    pub nanos: u64,
 }
 
 /// A round of swaps, which all raise so many cells by one.
@@ -54,18 +54,20 @@ impl<R: Wait + Clock> Work<R, Told> for Load {
         };
         let start = Instant::now(rt);
         let done = raise_often(rt, table, &mut seat, first, self.entries);
-        let took = match (start, Instant::now(rt)) {
-            (Ok(start), Ok(end)) => end.duration_since(start),
+        let nanos = match (start, Instant::now(rt)) {
+            (Ok(start), Ok(end)) => u64::try_from(end.duration_since(start).as_nanos()).unwrap_or(
+                0,
+            ),
             // (no clock can be read: the time is told as nought)
-            _ => Duration::ZERO,
+            _ => 0,
         };
-        (seat, Told { done, took })
+        (seat, Told { done, nanos })
     }
 
     fn both(&self, first: Told, second: Told) -> Told {
         Told {
             done: first.done.wrapping_add(second.done),
-            took: first.took.max(second.took),
+            nanos: first.nanos.wrapping_add(second.nanos),
         }
     }
 }

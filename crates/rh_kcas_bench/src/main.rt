@@ -19,7 +19,7 @@ use std::env::Env;
 use std::process::ExitCode;
 use std::sync::Wait;
 use std::thread::Threads;
-use std::time::{Clock, Duration};
+use std::time::Clock;
 
 const USAGE: &str = "usage: rh_kcas_bench THREADS ENTRIES own|same ROUNDS [timed]
   THREADS  1 to 8
@@ -27,7 +27,7 @@ const USAGE: &str = "usage: rh_kcas_bench THREADS ENTRIES own|same ROUNDS [timed
   own      each thread changes cells of its own
   same     all threads change the same cells
   ROUNDS   so often each thread tries swaps of 4000 entries in all, and the rows are wiped
-  timed    tells how long the rounds took";
+  timed    tells how long the threads swapped, all their times together, in all rounds and in the fastest one";
 
 fn main(rt: HostRuntime) -> ExitCode {
     match carry_out(&rt) {
@@ -47,37 +47,49 @@ fn carry_out(
     let Some(line) = words.get(1..).and_then(line::asked) else {
         return Err(USAGE);
     };
-    let Told { done, took } = measure(rt, &line).map_err(|_| "out of memory")?;
+    let Measured { all, fastest } = measure(rt, &line).map_err(|_| "out of memory")?;
     let printed = if line.timed {
-        println!(rt; "{done} swaps in {} microseconds", took.as_micros())
+        println!(rt;
+            "{} swaps in {} ns, {} in {} ns",
+            all.done, all.nanos, fastest.done, fastest.nanos
+        )
     } else {
-        println!(rt; "{done} swaps")
+        println!(rt; "{} swaps", all.done)
     };
     printed.map_err(|_| "cannot write the output")
 }
 
-/// How many swaps were carried out, and how long the threads swapped, round after round.
+/// What rounds of swaps told, all together, and the fastest of them.
+struct Measured {
+    all: Told,
+    fastest: Told,
+}
+
 fn measure(
     rt: &(impl Threads + Wait + Sync + Clock + AllocGlobal),
     line: &Line,
-) -> Result<Told, AllocError> {
+) -> Result<Measured, AllocError> {
     let (table, seat) = empty_table(rt.alloc())?;
     let load = Load {
         entries: line.entries,
         own: line.own,
     };
     let mut seat = seat;
-    let mut all = Told {
+    let mut all = Told { done: 0, nanos: 0 };
+    let mut fastest = Told {
         done: 0,
-        took: Duration::ZERO,
+        nanos: u64::MAX,
     };
     for _ in 0..line.rounds {
         let (next, told) = round_of(rt, &table, seat, line.threads, &load);
         seat = next;
         all.done = all.done.wrapping_add(told.done);
-        all.took = all.took.saturating_add(told.took);
+        all.nanos = all.nanos.wrapping_add(told.nanos);
+        if told.nanos < fastest.nanos {
+            fastest = told;
+        }
     }
-    Ok(all)
+    Ok(Measured { all, fastest })
 }
 
 /// A table of cells that all hold nought, with the seat of as many workers as a table may have, of whom
