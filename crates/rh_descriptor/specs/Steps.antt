@@ -5,9 +5,9 @@ use Rattle.std.specs.Prelude.{zero, suc, ◌≡◌, ℕ, ◌+◌, ◌<◌, ◌�
 use Rattle.rh_world.specs.World.{Ref, Control, In, is_ref}
 use Rattle.rh_world.specs.World.Control.{unused, undecided, succeeded, withdrawn, failed}
 use Rattle.rh_world.specs.Notes.{Note}
-use Rattle.rh_world.specs.Notes.Note.{known, size_is, target_is, old_is, new_is, desc_is, which_is, decided, over, passed, failed_at, found, may_promote, may_demote, held, mismatch}
+use Rattle.rh_world.specs.Notes.Note.{met, known, size_is, target_is, old_is, new_is, desc_is, which_is, decided, over, passed, failed_at, found, may_promote, may_demote, held, mismatch}
 use Rattle.rh_world.specs.Sides.{Side, is_number, note_side, open_side, paid_side, claim_side}
-use Rattle.rh_world.specs.Moves.{Entries, MayWork, MayDecide, note_entries, cell_noted, control_noted, mark_noted, place_noted, settle_noted, release_noted, note_all}
+use Rattle.rh_world.specs.Moves.{Entries, HasSeen, MayWork, MayDecide, note_entries, cell_noted, control_noted, mark_noted, place_noted, settle_noted, release_noted, note_all}
 use Rattle.rh_layout.specs.declared.entry.Entry.{Entry}
 use Rattle.rh_descriptor.specs.declared.shape.Shape.{Shape}
 use Rattle.rh_descriptor.specs.declared.shape.Part.{Part}
@@ -136,9 +136,9 @@ pub record CanOpen (z : Shape) (v : View) (size : ℕ) : Type 0 where
   pub room : v.next_number < z.rooms.descriptors
   pub closed : v.side.current ≡ None
 
--- the worker knows that d was opened
+-- the worker knows that d was opened: it has seen it so, or met it in a cell
 abbrev pub IsKnown : List Note → Ref → Type 0
-IsKnown notes d = In (known d) notes ⊎ ((k : Control) × In (decided d k) notes)
+IsKnown notes d = HasSeen notes d ⊎ In (met d) notes
 
 -- the table has the word that is read
 abbrev pub IsRead : Shape → Reading → Type 0
@@ -186,7 +186,8 @@ IsNoted v (reading.MarkDesc x) = (c : ℕ) × In (found (ref_of x) c) v.side.not
 IsNoted v (reading.MarkEntry x) = (c : ℕ) × In (found (ref_of x) c) v.side.notes
 IsNoted v (reading.Reason d by) = IsNewest v (ref_of d) × In (decided (ref_of d) (failed 0 by)) v.side.notes
 
--- the next own mark is left, the mark row is of it and names the entry, the entry is known, and no own mark is unsettled
+-- the next own mark is left, the mark row is of it and names the entry, the entry is known, the worker opened the descriptor or
+-- read its control as not unused, and no own mark is unsettled
 pub record CanPlace (z : Shape) (v : View) (d : Ref) (e c old : ℕ) : Type 0 where
   pub cell : c < cell_count z
   pub room : v.marks_used < z.rooms.marks
@@ -194,6 +195,7 @@ pub record CanPlace (z : Shape) (v : View) (d : Ref) (e c old : ℕ) : Type 0 wh
   pub desc : row_word v.written (mark_row z 1) ≡ desc_number d
   pub entry : row_word v.written (mark_row z 2) ≡ e
   pub work : MayWork v.side d e
+  pub seen : HasSeen v.side.notes d
   pub knows_cell : In (target_is d e c) v.side.notes
   pub knows_old : In (old_is d e old) v.side.notes
   pub settled : v.side.unsettled ≡ None
@@ -372,6 +374,7 @@ gone_noted s d = note_side (note_side s (over d)) (passed d)
 
 -- whether a note says that d was opened
 abbrev pub tells_opened : Note → Ref → Bool
+tells_opened (met f) d = is_ref f d
 tells_opened (known f) d = is_ref f d
 tells_opened (size_is f n) d = false
 tells_opened (target_is f e c) d = false
@@ -534,3 +537,7 @@ pub record StepsTo (z : Shape) (s : Step) (words : List ℕ) (v : View) (word : 
   pub found_is : word ≡ slice_index words (index z v s)
   pub words_are : then ≡ slice_set words (index z v s) (word_after v s word)
   pub view_is : next ≡ noted z v s word
+
+-- the same, whatever word it finds
+abbrev pub Makes : Shape → Step → (words : List ℕ) → View → (then : List ℕ) → (next : View) → Type 0
+Makes z s words v then next = StepsTo z s words v (slice_index words (index z v s)) then next

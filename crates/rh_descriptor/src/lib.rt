@@ -2,6 +2,7 @@
 //! worker on its words.
 #![tactic(auto)]
 
+mod kinds;
 mod known;
 mod laws;
 mod limits;
@@ -11,10 +12,14 @@ mod side;
 mod steps;
 mod words;
 
+pub use kinds::{
+    claim_key, decide_desc, open_desc, place_mark, read_word, release_cell, settle_mark, write_word,
+};
 pub use known::{First, Known};
 pub use laws::one_part;
 pub use limits::{MAX_ROOM, MAX_WORKERS};
 pub use reference::{Piece, Reading, Ref};
+pub use rh_layout::Entry;
 pub use shape::{Part, Rooms, Shape};
 pub use side::Side;
 pub use steps::{Ask, Effect, StepKind, make_step};

@@ -7,7 +7,7 @@ use Rattle.rh_tagword.specs.declared.control.State.TheVariants.{Unused, Undecide
 use Rattle.rh_world.specs.World.{Control as WorldControl, In, IsDecided, IsOpened, Ref, is_ref}
 use Rattle.rh_world.specs.World.Control.{failed, succeeded, undecided, unused, withdrawn}
 use Rattle.rh_world.specs.Notes.{Note}
-use Rattle.rh_world.specs.Notes.Note.{decided, known, may_demote, may_promote, over, passed}
+use Rattle.rh_world.specs.Notes.Note.{decided, known, may_demote, may_promote, met, over, passed}
 use Rattle.rh_world.specs.Sides.{Debt, Side, note_side}
 use Rattle.rh_world.specs.Moves.{control_noted, mark_noted}
 use Rattle.rh_world.proofs.Tests.{eqb_not, eqb_yes}
@@ -101,17 +101,14 @@ is_ref_self : (d : Ref) → is_ref d d ≡ true
 is_ref_self d = ap (λ (b : Bool). b && eqb d.number d.number) (eq-eqb d.worker d.worker refl) ∙ eq-eqb d.number d.number refl
 
 known_is : (ns : List Note) (d : Ref) → IsKnown ns d → is_known ns d ≡ true
-known_is [] d h = absurd (⊎_elim (λ i. i) (λ q. q.1) h)
-known_is (n ∷ ns) d h = ⊎_elim
-    (λ i. ⊎_elim
-    (λ (e : known d ≡ n). here (ap (λ (m : Note). tells_opened m d) (sym e) ∙ is_ref_self d))
-    (λ j. there (known_is ns d (inl j))) i)
-    (λ q. ⊎_elim
-    (λ (e : decided d q.0 ≡ n). here (ap (λ (m : Note). tells_opened m d) (sym e) ∙ is_ref_self d))
-    (λ j. there (known_is ns d (inr (q.0, j)))) q.1) h
+known_is [] d h = absurd (⊎_elim (⊎_elim (λ i. i) (λ q. q.1)) (λ i. i) h)
+known_is (n ∷ ns) d h = ⊎_elim (⊎_elim
+    (λ i. ⊎_elim (said (known d) (is_ref_self d)) (λ j. there (known_is ns d (inl (inl j)))) i)
+    (λ q. ⊎_elim (said (decided d q.0) (is_ref_self d)) (λ j. there (known_is ns d (inl (inr (q.0, j))))) q.1))
+    (λ i. ⊎_elim (said (met d) (is_ref_self d)) (λ j. there (known_is ns d (inr j))) i) h
   where
-    here : tells_opened n d ≡ true → (tells_opened n d || is_known ns d) ≡ true
-    here e = ap (λ (b : Bool). b || is_known ns d) e
+    said : (m : Note) → tells_opened m d ≡ true → m ≡ n → (tells_opened n d || is_known ns d) ≡ true
+    said m so e = ap (λ (b : Bool). b || is_known ns d) (ap (λ (k : Note). tells_opened k d) (sym e) ∙ so)
 
     or_true : (b : Bool) → (b || true) ≡ true
     or_true true = refl

@@ -5,9 +5,10 @@ use Rattle.rh_tagword.specs.declared.control.State.TheVariants.{Unused, Undecide
 use Rattle.rh_world.specs.World.{In, Ref}
 use Rattle.rh_world.specs.World.Control.{failed}
 use Rattle.rh_world.specs.Notes.{Note}
-use Rattle.rh_world.specs.Notes.Note.{decided, failed_at, held, known, new_is, old_is, over, passed, size_is, target_is}
+use Rattle.rh_world.specs.Notes.Note.{decided, failed_at, held, known, met, new_is, old_is, over, passed, size_is, target_is}
 use Rattle.rh_descriptor.specs.View.{OwnDesc, View, Written, own_ref}
 use Rattle.rh_descriptor.specs.Words.{control_of, ref_of}
+use Rattle.rh_world.specs.Moves.{HasSeen}
 use Rattle.rh_descriptor.specs.Steps.{IsKnown, entry_of, row_word}
 use Rattle.rh_helping.specs.declared.goal.Task.{Task}
 use Rattle.rh_helping.specs.Next.{Goal}
@@ -27,12 +28,15 @@ stands_sub l m s d Succeeded e h = s (decided d (control_of Succeeded)) h
 stands_sub l m s d Withdrawn e h = s (decided d (control_of Withdrawn)) h
 stands_sub l m s d (Failed by) e h = s (decided d (control_of (Failed by))) h
 
+pub stands_seen : (l : List Note) (d : Ref) (k : State) (e : ℕ) → StandsAt l d k e → HasSeen l d
+stands_seen l d Unused e h = absurd h
+stands_seen l d Undecided e h = inl h.0
+stands_seen l d Succeeded e h = inr (control_of Succeeded, h)
+stands_seen l d Withdrawn e h = inr (control_of Withdrawn, h)
+stands_seen l d (Failed by) e h = inr (control_of (Failed by), h)
+
 pub stands_known : (l : List Note) (d : Ref) (k : State) (e : ℕ) → StandsAt l d k e → IsKnown l d
-stands_known l d Unused e h = absurd h
-stands_known l d Undecided e h = inl h.0
-stands_known l d Succeeded e h = inr (control_of Succeeded, h)
-stands_known l d Withdrawn e h = inr (control_of Withdrawn, h)
-stands_known l d (Failed by) e h = inr (control_of (Failed by), h)
+stands_known l d k e h = inl (stands_seen l d k e h)
 
 pub stands_decided : (l : List Note) (d : Ref) (k : State) (e : ℕ) → IsOver k → StandsAt l d k e → In (decided d (control_of k)) l
 stands_decided l d Unused e o h = absurd o
@@ -52,8 +56,11 @@ stands_anywhere l d (Failed by) e f o h = h
 pub met_anywhere : (v : View) (d : Ref) (k : State) (e f : ℕ) → IsOver k → IsMet v d k e → IsMet v d k f
 met_anywhere v d k e f o h = record { stands = stands_anywhere v.side.notes d k e f o h.stands; fresh = h.fresh; last = h.last }
 
+pub seen_sub : (l m : List Note) → Sub l m → (d : Ref) → HasSeen l d → HasSeen m d
+seen_sub l m s d h = ⊎_elim (λ i. inl (s (known d) i)) (λ q. inr (q.0, s (decided d q.0) q.1)) h
+
 pub known_sub : (l m : List Note) → Sub l m → (d : Ref) → IsKnown l d → IsKnown m d
-known_sub l m s d h = ⊎_elim (λ i. inl (s (known d) i)) (λ q. inr (q.0, s (decided d q.0) q.1)) h
+known_sub l m s d h = ⊎_elim (λ i. inl (seen_sub l m s d i)) (λ i. inr (s (met d) i)) h
 
 -- all that was noted of an own descriptor
 module _ (v next : View) (worker : next.worker ≡ v.worker) (notes : Sub v.side.notes next.side.notes) where

@@ -3,7 +3,7 @@ use Rattle.std.proofs.Common.{◌≡◌, ℕ, ◌<◌, Option, Some, None, inl, 
 use Rattle.rh_world.specs.World.{Cell}
 use Rattle.rh_world.specs.World.Cell.{desc, mark, plain}
 use Rattle.rh_world.specs.World.Control.{failed}
-use Rattle.rh_world.specs.Notes.Note.{found, known}
+use Rattle.rh_world.specs.Notes.Note.{found, met}
 use Rattle.rh_world.specs.Moves.{cell_noted}
 use Rattle.rh_descriptor.specs.declared.shape.Shape.{Shape}
 use Rattle.rh_descriptor.specs.declared.reference.Reading.TheVariants as reading
@@ -35,7 +35,7 @@ pub cell_grows : (v : View) (c : ℕ) (k : Cell) (current : Option ℕ) → Grow
 cell_grows v c (plain u) None = grows_by v (cell_noted v.side c (plain u) None 0 v.next_number) v.control v.raw_rows v.raw refl refl refl refl (λ n i. i) (none_same (failed 0 v.worker) v.side.notes)
 cell_grows v c (plain u) (Some p) = grows_read v v.raw_rows v.raw
 cell_grows v c (mark x) current = grows_note v (found x c) refl
-cell_grows v c (desc d) current = grows_note v (known d) refl
+cell_grows v c (desc d) current = grows_note v (met d) refl
 
 module _ (z : Shape) (v : View) (c word : ℕ) where
   abbrev then : View
@@ -71,7 +71,7 @@ module _ (z : Shape) (v : View) (c word : ℕ) where
     pub reads_desc : (d : Reference) → desc (ref_of d) ≡ cell_in word → Reads (On (looking.Help (work.Control d))) then
     reads_desc d is = of_cell (desc (ref_of d)) (On (looking.Help (work.Control d))) is (
       record { opened = refl; reads = refl; claims = refl; notes = λ n i. inr i },
-      let h = stays_clear (desc (ref_of d)) v.side.current in (h.own, (h.owes, inl (inl refl))),
+      let h = stays_clear (desc (ref_of d)) v.side.current in (h.own, (h.owes, inr (inl refl))),
     )
 
 pub looks : (z : Shape) (next said : View) (r : Looked) → next ≡ said → LooksOn z said r → LooksOn z next r

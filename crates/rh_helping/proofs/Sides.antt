@@ -4,7 +4,7 @@ use Rattle.rh_world.specs.World.{Cell, Control, In, Ref, is_ref}
 use Rattle.rh_world.specs.World.Cell.{desc, mark, plain}
 use Rattle.rh_world.specs.World.Control.{failed, succeeded, undecided, unused, withdrawn}
 use Rattle.rh_world.specs.Notes.{Note}
-use Rattle.rh_world.specs.Notes.Note.{decided, desc_is, failed_at, found, held, known, may_demote, may_promote, mismatch, new_is, old_is, over, passed, size_is, target_is, which_is}
+use Rattle.rh_world.specs.Notes.Note.{decided, desc_is, failed_at, found, held, known, may_demote, may_promote, met, mismatch, new_is, old_is, over, passed, size_is, target_is, which_is}
 use Rattle.rh_world.specs.Sides.{Side, note_side}
 use Rattle.rh_world.specs.Moves.{control_noted, mark_noted, note_all, place_noted, placed_noted, settle_noted}
 use Rattle.rh_world.proofs.Tests.{by_cond}
@@ -49,8 +49,8 @@ pub more_place : (s : Side) (x d : Ref) (e c old : ℕ) (n : Cell) → More s (p
 more_place s x d e c old (plain u) = by_cond (λ (t : Side). More s t) (eqb u old) (placed_noted s x d e c) (note_side s (mismatch d e 0))
     (λ h. record { current = refl; released = refl; reads = refl; claims = refl; notes = λ m i. inr (inr (inr i)) }) (λ h. more_note s (mismatch d e 0))
 more_place s x d e c old (mark y) = more_note s (found y c)
-more_place s x d e c old (desc f) = by_cond (λ (t : Side). More s t) (is_ref f d) (note_side s (held d e)) (note_side s (known f))
-    (λ h. more_note s (held d e)) (λ h. more_note s (known f))
+more_place s x d e c old (desc f) = by_cond (λ (t : Side). More s t) (is_ref f d) (note_side s (held d e)) (note_side s (met f))
+    (λ h. more_note s (held d e)) (λ h. more_note s (met f))
 
 pub more_settle : (s : Side) (d : Ref) (e c : ℕ) (b : Bool) → More s (settle_noted s d e c b)
 more_settle s d e c true = record { current = refl; released = refl; reads = refl; claims = refl; notes = λ n i. inr i }
@@ -62,6 +62,7 @@ more_gone s d = record { current = refl; released = refl; reads = refl; claims =
 -- ---- no descriptor is newly noted as decided so
 
 abbrev pub tells_decided : Note → Bool
+tells_decided (met d) = false
 tells_decided (known d) = false
 tells_decided (size_is d n) = false
 tells_decided (target_is d e c) = false
@@ -126,6 +127,7 @@ marks_tell (r ∷ rs) x n i = by_cond (λ (l : List Note). In n l → tells_deci
     (λ yes j. ⊎_elim (mark_tells x r.word n) (marks_tell rs x n) (in_either n (mark_said x r.word) (row_said rs x) j)) (λ no. marks_tell rs x n) i
 
 abbrev decided_desc : (other : Ref) → Note → Ref
+decided_desc d (met f) = d
 decided_desc d (known f) = d
 decided_desc d (size_is f n) = d
 decided_desc d (target_is f e c) = d
@@ -144,6 +146,7 @@ decided_desc d (held f e) = d
 decided_desc d (mismatch f e n) = d
 
 abbrev decided_control : (other : Control) → Note → Control
+decided_control k (met f) = k
 decided_control k (known f) = k
 decided_control k (size_is f n) = k
 decided_control k (target_is f e c) = k

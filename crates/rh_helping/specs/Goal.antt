@@ -41,9 +41,12 @@ open_number None = None
 open_number (Some d) = Some d.number
 
 -- what a worker has of the one that is open
+abbrev pub own_of : OpenDesc → OwnDesc
+own_of o = record { number = o.number; entries = o.entries.now }
+
 abbrev pub opened_by : Option OpenDesc → Option OwnDesc
 opened_by None = None
-opened_by (Some o) = Some (record { number = o.number; entries = o.entries.now })
+opened_by (Some o) = Some (own_of o)
 
 -- what a worker knows of its descriptors, of which this one is open: it is the newest
 pub record Owns (v : View) (opens : Option OwnDesc) : Type 0 where

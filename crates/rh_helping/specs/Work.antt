@@ -1,5 +1,5 @@
 -- What is so at each next step of a worker on a descriptor, and what a step leads to.
-use Rattle.std.specs.Prelude.{◌≡◌, ℕ, ◌+◌, ◌<◌, ◌≤◌, ◌⊎◌, Option, Some, None, Bool, true, [], ◌∷◌}
+use Rattle.std.specs.Prelude.{◌≡◌, ℕ, ◌+◌, ◌<◌, ◌≤◌, ◌⊎◌, Option, Some, None, Bool, true, [], ◌∷◌, length}
 use Rattle.rh_tagword.specs.declared.control.State.{State}
 use Rattle.rh_tagword.specs.declared.control.State.TheVariants.{Unused, Undecided, Succeeded, Withdrawn, Failed}
 use Rattle.rh_world.specs.World.{Ref, In}
@@ -191,6 +191,12 @@ HasEnded v d ended.Succeeded = In (decided d succeeded) v.side.notes
 HasEnded v d ended.Withdrawn = In (decided d withdrawn) v.side.notes
 HasEnded v d (ended.Failed e) = ((by : ℕ) × In (decided d (failed 0 by)) v.side.notes) × In (failed_at d e) v.side.notes
 
+-- where it failed, it was at one of its entries, of which there are so many
+abbrev pub IsWithin : (size : ℕ) → Ended → Type 0
+IsWithin size ended.Succeeded = Unit {0}
+IsWithin size ended.Withdrawn = Unit {0}
+IsWithin size (ended.Failed e) = e < size
+
 -- by its state, and by what its decider's note says
 abbrev pub ended_as : State → Option ℕ → Ended
 ended_as Unused e = ended.Withdrawn
@@ -206,6 +212,7 @@ pub record IsClosed (v : View) (desc : OwnDesc) (k : Ended) : Type 0 where
   pub owes : OwesNothing v
   pub newest : IsNewest v.opened desc
   pub result : HasEnded v (own_ref v desc.number) k
+  pub entry : IsWithin (length desc.entries) k
 
 abbrev pub Leads : Shape → View → (opens : Option OwnDesc) → Outcome → Type 0
 Leads z v opens (On w) = KnowsOwn v opens × Stands z v w

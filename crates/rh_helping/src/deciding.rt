@@ -59,7 +59,7 @@ impl<T: Steps> Stage<T> for Fail {
     fn ask(machine: &Machine, _shape: &Shape, side: &Side) -> Ask {
         Ask::Decide {
             desc: machine.task.desc,
-            state: failed_by(side),
+            state: own_failure(side),
         }
     }
 
@@ -72,7 +72,7 @@ impl<T: Steps> Stage<T> for Fail {
         opens: Option<OpenDesc<'_>>,
         found: u64,
     ) -> Progress {
-        machine.decided(shape, table, side, opens, failed_by(side), found)
+        machine.decided(shape, table, side, opens, own_failure(side), found)
     }
 }
 
@@ -104,7 +104,7 @@ impl<T: Steps> Stage<T> for Succeed {
 
 /// What a worker decides that finds an entry changed.
 #[inline(always)]
-fn failed_by(side: &Side) -> State
+fn own_failure(side: &Side) -> State
     ensures { result ≡ State.Failed side.now.worker }
 {
     State::Failed {

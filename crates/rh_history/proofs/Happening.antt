@@ -1,5 +1,5 @@
 -- What the rule of a table says of the list of its acts at any moment.
-use Rattle.std.proofs.Common.{◌≡◌, ℕ, zero, suc, ◌<◌, ◌≤◌, inl, inr, ⊎_elim, refl, sym, ap, ◌∙◌, subst, arith, List, [], ◌∷◌, length, get_or, map, take}
+use Rattle.std.proofs.Common.{◌≡◌, ℕ, zero, suc, ◌<◌, ◌≤◌, inl, inr, ⊎_elim, refl, sym, ap, ◌∙◌, subst, arith, List, [], ◌∷◌, length, get_or, take}
 use Rattle.std.specs.Prelude.{nat_lt}
 use Rattle.std.specs.List.{Contains}
 use Rattle.std.proofs.lemmas.Bool.Decides.{nat_tests}
@@ -15,10 +15,10 @@ use Rattle.rh_descriptor.specs.declared.shape.Shape.{Shape}
 use Rattle.rh_descriptor.specs.Parts.{cell_count}
 use Rattle.rh_descriptor.specs.View.{OwnDesc, View}
 use Rattle.rh_descriptor.specs.Steps.{entry_of, no_entry}
-use Rattle.rh_rule.specs.Erased.{erased_read}
 use Rattle.rh_rule.specs.Represents.{IsOpenedSo, numbers_of}
 use Rattle.rh_rule.specs.Core.{Core}
 use Rattle.rh_rule.specs.Rest.{Told}
+use Rattle.rh_rule.proofs.Erasing.{of_erased}
 use Rattle.rh_rule.proofs.Telling.{tells}
 use Rattle.rh_acts.specs.Act.{Act, Meets, WasWord, entry, apply_acts}
 use Rattle.rh_acts.specs.Done.{Kept, kept}
@@ -52,13 +52,6 @@ opened_act w d o so =
 pub of_number : (os : List OwnDesc) (n : ℕ) → In n (numbers_of os) → (o : OwnDesc) × In o os × (n ≡ o.number)
 of_number [] n i = absurd i
 of_number (o ∷ os) n i = ⊎_elim (λ e. (o, inl refl, e)) (λ j. let got = of_number os n j in (got.0, inr got.1, got.2)) i
-
--- ---- words that were read
-
--- a read as its worker knows it is one of the world
-of_erased : (ks : List KeptRead) (k : KeptRead) → In k (map erased_read ks) → (j : KeptRead) × In j ks × (k ≡ erased_read j)
-of_erased [] k i = absurd i
-of_erased (j ∷ ks) k i = ⊎_elim (λ e. (j, inl refl, e)) (λ h. let got = of_erased ks k h in (got.0, inr got.1, got.2)) i
 
 -- ---- the list of acts
 

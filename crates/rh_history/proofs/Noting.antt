@@ -4,7 +4,7 @@ use Rattle.rh_world.specs.World.{Cell, Control, Ref}
 use Rattle.rh_world.specs.World.Cell.{desc, mark, plain}
 use Rattle.rh_world.specs.World.Control.{failed, succeeded, undecided, unused, withdrawn}
 use Rattle.rh_world.specs.Notes.{Note}
-use Rattle.rh_world.specs.Notes.Note.{decided, failed_at, found, known, may_demote, may_promote, over, passed}
+use Rattle.rh_world.specs.Notes.Note.{decided, failed_at, found, known, may_demote, may_promote, met, over, passed}
 use Rattle.rh_world.specs.Sides.{Side, forget_side, note_side, read_side}
 use Rattle.rh_world.specs.Moves.{cell_noted, control_noted, mark_noted, note_all}
 use Rattle.rh_descriptor.specs.declared.reference.Reading.{Reading}
@@ -38,7 +38,7 @@ module _ (R : Side → Side → Type 0) (is : Follows R) where
   a_cell s c (plain u) None acts next = is.read s c u acts next
   a_cell s c (plain u) (Some p) acts next = is.same s
   a_cell s c (mark x) q acts next = is.note s (found x c)
-  a_cell s c (desc d) q acts next = is.note s (known d)
+  a_cell s c (desc d) q acts next = is.note s (met d)
 
   a_control : (s : Side) (d : Ref) (k : Control) → R s (control_noted s d k)
   a_control s d unused = is.same s

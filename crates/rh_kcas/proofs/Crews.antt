@@ -1,10 +1,12 @@
 -- The views of a seat of several workers: they are cut and joined, and a worker that is fresh rests.
 use Rattle.std.proofs.Common.{◌≡◌, ℕ, zero, suc, ◌+◌, ◌-◌, ◌<◌, ◌≤◌, List, [], ◌∷◌, ◌++◌, length, length-append, length-take-le, take, drop, refl, sym, ap, ◌∙◌, subst, ⊎_elim, arith}
+use Rattle.rh_world.specs.World.{Ref}
 use Rattle.rh_world.proofs.Updated.{some_not_none}
 use Rattle.rh_descriptor.specs.declared.known.Known.{Known}
 use Rattle.rh_descriptor.specs.declared.shape.Shape.{Shape}
 use Rattle.rh_descriptor.specs.Parts.{word_count}
 use Rattle.rh_descriptor.specs.View.{View, round_view}
+use Rattle.rh_descriptor.specs.Steps.{IsKnown}
 use Rattle.rh_rule.specs.Seats.{InView, Spans, known}
 use Rattle.rh_rule.specs.Sound.{Sound}
 use Rattle.rh_rule.proofs.SeatsKept.{at_append, at_drop, at_take}
@@ -85,12 +87,16 @@ module _ (vs : List Known) (first count : ℕ) (half : IsHalf vs first count) wh
 
 -- ---- a fresh worker
 
+none_known : (d : Ref) → IsKnown [] d → ⊥
+none_known d h = ⊎_elim (⊎_elim (λ i. i) (λ i. i.1)) (λ i. i) h
+
 fresh_sound : (z : Shape) (o : List ℕ) (v : View) → Sound z (round_view o v)
 fresh_sound z o v = record {
   descs_used = omega arith;
   marks_used = omega arith;
-  numbers = λ d own h. absurd (⊎_elim (λ i. i) (λ i. i.1) h);
-  descs = λ d h. absurd (⊎_elim (λ i. i) (λ i. i.1) h);
+  numbers = λ d own h. absurd (none_known d h);
+  reads = λ k h. absurd h;
+  descs = λ d h. absurd (none_known d h);
   sizes = λ d n h. absurd h;
   targets = λ d e c h m. absurd h;
   olds = λ d e u h m. absurd h;
@@ -100,8 +106,9 @@ fresh_sound z o v = record {
   named = λ x d h. absurd h;
   results = λ d k h. absurd h;
   deciders = λ d by h. absurd h;
+  failures = λ d e n h i. absurd h;
   withdrawals = λ d by h. absurd h;
-  rows = λ d own h is. absurd (⊎_elim (λ i. i) (λ i. i.1) h);
+  rows = λ d own h is. absurd (none_known d h);
   one_size = λ d m n h i. absurd h;
   one_target = λ d e b c h i. absurd h;
   one_old = λ d e t u h i. absurd h;

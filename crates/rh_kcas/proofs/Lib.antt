@@ -7,17 +7,21 @@
 -- Helped: the control of a descriptor that is helped is read again.
 -- Carried: the acts that a worker at rest has made, after it noted more.
 -- Swapped: what an own descriptor that was opened and carried out makes of a worker at rest.
+-- Failing: what a K-CAS that failed says of the acts of all workers.
+-- ReadsBack: what a read says of them.
 -- Crews: seats of several workers are cut and joined, and a worker that is fresh rests.
 -- Clearing: what the seat of all workers may do in a wipe, and what becomes of its views.
 -- Made: a table that is made meets the rule, and at its close the cells are those that the acts made.
 
 mod Fitting
-mod Noting
+pub mod Noting
 pub mod Peeking
 mod Carried
-mod Helped
+pub mod Helped
 mod Left
 mod Swapped
+mod Failing
+mod ReadsBack
 pub mod Crews
 mod Clearing
 mod Made

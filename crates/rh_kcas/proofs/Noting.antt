@@ -1,5 +1,5 @@
 -- What a worker has noted, from step to step.
-use Rattle.std.proofs.Common.{◌≡◌, ℕ, Option, Some, None, true, refl, ap, ◌∙◌, sym, inl, inr, ⊎_elim, List}
+use Rattle.std.proofs.Common.{◌≡◌, ℕ, suc, Option, Some, None, true, refl, ap, ◌∙◌, sym, inl, inr, ⊎_elim, List, ◌∷◌, length, arith}
 use Rattle.rh_tagword.specs.declared.control.State.{State}
 use Rattle.rh_tagword.specs.declared.control.State.TheVariants.{Unused, Undecided, Succeeded, Withdrawn, Failed}
 use Rattle.rh_world.specs.World.{In, Ref}
@@ -14,13 +14,14 @@ use Rattle.rh_helping.specs.Made.{HasMade}
 use Rattle.rh_kcas.specs.Swaps.{HasNoted, IsNotedOver, IsTold, is_over}
 
 pub noted_first : (v : View) → HasNoted v v
-noted_first v = record { worker = refl; notes = λ n i. i; opened = refl; reads = refl; claims = refl }
+noted_first v = record { worker = refl; notes = λ n i. i; opened = refl; next_number = refl; reads = refl; claims = refl }
 
 pub noted_on : (u v w : View) → HasNoted u v → HasNoted v w → HasNoted u w
 noted_on u v w a b = record {
   worker = b.worker ∙ a.worker;
   notes = λ n i. b.notes n (a.notes n i);
   opened = b.opened ∙ a.opened;
+  next_number = b.next_number ∙ a.next_number;
   reads = b.reads ∙ a.reads;
   claims = b.claims ∙ a.claims;
 }
@@ -28,17 +29,32 @@ noted_on u v w a b = record {
 pub step_worker : (z : Shape) (v next : View) (s : Step) (word : ℕ) → next ≡ noted z v s word → next.worker ≡ v.worker
 step_worker z v next s word is = ap (λ (n : View). n.worker) is ∙ noted_worker z v s word
 
+-- a step that opens no descriptor leaves the number of the next one
+no_longer : (o : OwnDesc) (os : List OwnDesc) → o ∷ os ≡ os → ⊥
+no_longer o os e = let q : suc (length os) ≡ length os = ap length e in omega (arith, q)
+
+noted_number : (z : Shape) (v : View) (s : Step) (word : ℕ) → (noted z v s word).opened ≡ v.opened → (noted z v s word).next_number ≡ v.next_number
+noted_number z v (Step.writes p u) word same = refl
+noted_number z v (Step.opens size) word same = absurd (no_longer _ v.opened same)
+noted_number z v (Step.reads r) word same = refl
+noted_number z v (Step.places d e c old) word same = refl
+noted_number z v (Step.settles x c d e old) word same = refl
+noted_number z v (Step.decides d k) word same = refl
+noted_number z v (Step.releases d e c k value) word same = refl
+noted_number z v Step.claims word same = refl
+
+pub step_number : (z : Shape) (v next : View) (s : Step) (word : ℕ) → next ≡ noted z v s word → next.opened ≡ v.opened → next.next_number ≡ v.next_number
+step_number z v next s word is same = ap (λ (n : View). n.next_number) is ∙ noted_number z v s word (ap (λ (n : View). n.opened) (sym is) ∙ same)
+
 pub made_notes : {T : Type 0} {shows : Shape → T → View → Type 0} {makes : Shape → Step → T → View → ℕ → T → View → Type 0} (z : Shape) (k : StepKind) (t : T) (v : View) (then : T) (next : View) → HasMade shows makes z k t v then next → HasNoted v next
 made_notes z k t v then next m = record {
   worker = step_worker z v next m.step m.word m.view_is;
   notes = m.notes;
   opened = m.opened;
+  next_number = step_number z v next m.step m.word m.view_is m.opened;
   reads = m.reads;
   claims = m.claims;
 }
-
-pub still_known : (notes more : List Note) → ((n : Note) → In n notes → In n more) → (d : Ref) → IsKnown notes d → IsKnown more d
-still_known notes more sub d k = ⊎_elim (λ i. inl (sub _ i)) (λ i. inr (i.0, sub _ i.1)) k
 
 -- a state that was told, by which the descriptor is over
 pub told_over : (v : View) (d : Ref) (r : Option State) → IsTold v d r → is_over r ≡ true → IsNotedOver v d
@@ -50,5 +66,5 @@ told_over v d (Some Withdrawn) h e = inl (control_of Withdrawn, h)
 told_over v d (Some (Failed by)) h e = inl (control_of (Failed by), h)
 
 -- the own descriptor that was closed is the one that was open
-pub closed_number : (own desc : OwnDesc) → Some own ≡ Some desc → desc.number ≡ own.number
-closed_number own desc is = let e : own ≡ desc = cc in ap (λ (o : OwnDesc). o.number) (sym e)
+pub closed_is : (own desc : OwnDesc) → Some own ≡ Some desc → desc ≡ own
+closed_is own desc is = let e : own ≡ desc = cc in sym e

@@ -39,7 +39,7 @@ pub record IsSwapped (z : Shape) (es : List Entry) (v next : View) (k : Ended) :
   pub claims : next.side.claims ≡ v.side.claims
 
 pub is_swapped : (z : Shape) (es : List Entry) (v open_one next : View) (number : ℕ) (k : Ended) → v.next_number ≡ number → Knows z next → IsRested v
-    → HasOpened v (next_desc v es) open_one → HasCarriedOut open_one number next k → IsSwapped z es v next k
+    → HasOpened v (next_desc v es) open_one → HasCarriedOut open_one (record { number = number; entries = es }) next k → IsSwapped z es v next k
 is_swapped z es v mid next number k same knows rest o c =
     let worker = c.noted.worker ∙ o.worker in
     let notes : (n : Note) → In n v.side.notes → In n next.side.notes = λ n i. c.noted.notes n (o.notes n i) in
@@ -48,7 +48,7 @@ is_swapped z es v mid next number k same knows rest o c =
     let r = ended_noted next (own_ref next v.next_number) k result in
     record {
       rested = record { clear = c.clear; over = over_more v next worker notes knows.sound.one_result rest (next_desc v es) opened r.0 r.1 };
-      so = record { opened = opened; result = result };
+      so = record { opened = opened; next_number = c.noted.next_number ∙ o.next_number; result = result; entry = c.entry };
       acts = made_more v next worker notes knows.sound.one_result rest (next_desc v es) opened r.0 r.1 ∙ ap (λ (b : Bool). cond b (next_desc v es ∷ made v) (made v)) r.2;
       spends = λ is. knows.sound.withdrawals (own_ref next v.next_number) refl (subst (HasEnded next (own_ref next v.next_number)) is result);
       notes = notes;

@@ -1,5 +1,5 @@
 -- What the calls of a worker make of what is kept of it.
-use Rattle.std.specs.Prelude.{◌≡◌, ℕ, ◌<◌, ◌≤◌, ◌⊎◌, Option, Some, None, Bool, true, List, ◌∷◌}
+use Rattle.std.specs.Prelude.{suc, ◌≡◌, ℕ, ◌<◌, ◌≤◌, ◌⊎◌, Option, Some, None, Bool, true, List, ◌∷◌, length}
 use Rattle.rh_layout.specs.declared.entry.Entry.{Entry}
 use Rattle.rh_tagword.specs.Control.{is_decided}
 use Rattle.rh_tagword.specs.declared.control.State.{State}
@@ -15,15 +15,17 @@ use Rattle.rh_helping.specs.declared.machine.Ended.{Ended}
 use Rattle.rh_helping.specs.declared.machine.Ended.TheVariants as ended
 use Rattle.rh_helping.specs.Goal.{IsClear, KnowsOwn, OwesNothing, StandsAt}
 use Rattle.rh_helping.specs.Opening.{next_desc}
-use Rattle.rh_helping.specs.Work.{HasEnded}
+use Rattle.rh_helping.specs.Work.{HasEnded, IsWithin}
 use Rattle.rh_kcas.specs.declared.swapping.Outcome.{Outcome}
 use Rattle.rh_kcas.specs.declared.swapping.Outcome.TheVariants.{Done, Failed, Spent}
 
--- More is noted; the descriptors that were opened, the cells that were kept as read and the claims are the same.
+-- More is noted; the descriptors that were opened, the number of the next one, the cells that were kept as read and the claims
+-- are the same.
 pub record HasNoted (v next : View) : Type 0 where
   pub worker : next.worker ≡ v.worker
   pub notes : (n : Note) → In n v.side.notes → In n next.side.notes
   pub opened : next.opened ≡ v.opened
+  pub next_number : next.next_number ≡ v.next_number
   pub reads : next.side.reads ≡ v.side.reads
   pub claims : next.side.claims ≡ v.side.claims
 
@@ -34,21 +36,29 @@ pub record HasOpened (v : View) (own : OwnDesc) (next : View) : Type 0 where
   pub worker : next.worker ≡ v.worker
   pub notes : (n : Note) → In n v.side.notes → In n next.side.notes
   pub opened : next.opened ≡ own ∷ v.opened
+  pub next_number : next.next_number ≡ suc v.next_number
   pub reads : next.side.reads ≡ v.side.reads
   pub claims : next.side.claims ≡ v.side.claims
   pub knows : KnowsOwn next (Some own)
   pub owes : OwesNothing next
 
--- the own descriptor of this number ended so and is released
-pub record HasCarriedOut (v : View) (number : ℕ) (next : View) (k : Ended) : Type 0 where
+-- this own descriptor ended so, where it failed at one of its entries, and is released
+pub record HasCarriedOut (v : View) (own : OwnDesc) (next : View) (k : Ended) : Type 0 where
   pub noted : HasNoted v next
   pub clear : IsClear next
-  pub result : HasEnded next (own_ref next number) k
+  pub result : HasEnded next (own_ref next own.number) k
+  pub entry : IsWithin (length own.entries) k
 
--- it opened a descriptor of these entries, which ended so
+-- it opened a descriptor of these entries, which ended so: where it failed, at one of them
 pub record RestSpec (es : List Entry) (v next : View) (k : Ended) : Type 0 where
   pub opened : next.opened ≡ next_desc v es ∷ v.opened
+  pub next_number : next.next_number ≡ suc v.next_number
   pub result : HasEnded next (own_ref next v.next_number) k
+  pub entry : IsWithin (length es) k
+
+-- it opened no descriptor, or one of these entries, which it withdrew
+abbrev pub HasGivenUp : List Entry → (v next : View) → Type 0
+HasGivenUp es v next = ((next.opened ≡ v.opened) × (next.next_number ≡ v.next_number)) ⊎ RestSpec es v next ended.Withdrawn
 
 -- no number was left for a descriptor, or none is for a mark
 abbrev pub HasNoRoom : Shape → (v next : View) → Type 0
@@ -58,7 +68,7 @@ HasNoRoom z v next = (z.rooms.descriptors ≤ v.next_number) ⊎ (z.rooms.marks 
 abbrev pub BecameOf : Shape → List Entry → (v next : View) → Outcome → Type 0
 BecameOf z es v next Done = RestSpec es v next ended.Succeeded × (made next ≡ next_desc v es ∷ made v)
 BecameOf z es v next (Failed e) = RestSpec es v next (ended.Failed e) × (made next ≡ made v)
-BecameOf z es v next Spent = HasNoRoom z v next × (made next ≡ made v)
+BecameOf z es v next Spent = HasNoRoom z v next × HasGivenUp es v next × (made next ≡ made v)
 
 pub record Swaps (z : Shape) (es : List Entry) (v next : View) (o : Outcome) : Type 0 where
   pub became : BecameOf z es v next o
@@ -86,17 +96,19 @@ pub record HasHelped (z : Shape) (d : Ref) (v next : View) : Type 0 where
   pub noted : HasNoted v next
   pub decided_so : IsNotedOver next d ⊎ (z.rooms.marks ≤ next.marks_used)
 
--- Of a cell a plain word is kept as read, in front of all that was kept: the newest stands first; or none, and no mark is left.
+-- Of a cell a plain word is kept as read, in front of all that was kept: the newest stands first. It is kept with the number of
+-- the worker's next descriptor, so that all its own acts so far are before it. Or none is, and no mark is left.
 abbrev pub IsSeen : Shape → (c : ℕ) → (v next : View) → Option ℕ → Type 0
 IsSeen z c v next None = (next.side.reads ≡ v.side.reads) × (z.rooms.marks ≤ next.marks_used)
 IsSeen z c v next (Some word) = IsPlain word
-    × ((number : ℕ) × (next.side.reads ≡ record { cell = c; word = word; acts = 0; next_number = number } ∷ v.side.reads))
+    × (next.side.reads ≡ record { cell = c; word = word; acts = 0; next_number = v.next_number } ∷ v.side.reads)
 
 pub record HasRead (z : Shape) (c : ℕ) (v next : View) (seen : Option ℕ) : Type 0 where
   pub seen_is : IsSeen z c v next seen
   pub worker : next.worker ≡ v.worker
   pub notes : (n : Note) → In n v.side.notes → In n next.side.notes
   pub opened : next.opened ≡ v.opened
+  pub next_number : next.next_number ≡ v.next_number
   pub claims : next.side.claims ≡ v.side.claims
 
 -- One Claim was made; it found a position of the list, or its end.

@@ -40,6 +40,7 @@ pub fn make(alloc: Global, shape: Shape, cells: &[u64]) -> Result<(Table, Seat),
             inner: seat,
             side,
             count: shape.workers,
+            placed: None,
         },
     ))
 }
@@ -69,6 +70,7 @@ pub fn close(table: Table, seat: Seat, cells: &mut [u64])
         inner: seat,
         side: _,
         count: _,
+        placed: _,
     } = seat;
     let closed = inner.close_with(seat);
     for cell in 0..cells.len() {

@@ -1,7 +1,7 @@
 //! Seats of several workers, which are cut and joined.
 
 ghost use Rattle.std.specs.Prelude.{◌≡◌, ◌+◌, ◌<◌, ◌++◌, [], ℕ, take, drop};
-ghost use Rattle.rh_kcas.specs.Crews.{IsAt, IsCut, IsFresh, IsJoined, head_of, views_of};
+ghost use Rattle.rh_kcas.specs.Crews.{IsAt, IsCut, IsFresh, IsJoined, IsQuiet, head_of, views_of};
 ghost use Rattle.rh_kcas.specs.Rests.{Rests};
 ghost use Rattle.rh_rule.specs.Seats.{InView};
 
@@ -92,16 +92,20 @@ pub fn split(table: &Table, seat: &mut Seat, at: usize) -> Seat
         side: fresh_side(at, &inner),
         inner,
         count: seat.count - kept,
+        placed: None,
     };
     seat.side = fresh_side(first, &seat.inner);
     seat.count = kept;
     right
 }
 
-/// Takes the workers of another seat in, which follow those of this one.
+/// Takes the workers of another seat in, which follow those of this one. All are at rest: the seat of
+/// several makes no step, so what one of them had open would never be ended.
 pub fn join(table: &Table, seat: &mut Seat, other: Seat)
     requires here { IsAt table.now seat.old }
     requires other { IsAt table.now other }
+    requires rest { InView IsQuiet (views_of seat.old) }
+    requires other_rest { InView IsQuiet (views_of other) }
     requires follows { other.side.worker ≡ seat.old.side.worker + seat.old.count }
     ensures here { IsAt table.now seat.new }
     ensures joined { IsJoined seat.old other seat.new }
@@ -110,6 +114,7 @@ pub fn join(table: &Table, seat: &mut Seat, other: Seat)
         inner,
         side: _,
         count,
+        placed: _,
     } = other;
     table.inner.shared.join_seat::<Glue>(&mut seat.inner, inner);
     seat.side = unused_side(seat.side.worker);

@@ -2,7 +2,7 @@
 
 ghost use Rattle.std.specs.Prelude.{◌≡◌, Some};
 ghost use Rattle.rh_descriptor.specs.Steps.{AreEntries};
-ghost use Rattle.rh_helping.specs.Goal.{KnowsOwn, OwesNothing, opened_by};
+ghost use Rattle.rh_helping.specs.Goal.{KnowsOwn, OwesNothing, opened_by, own_of};
 ghost use Rattle.rh_helping.specs.Machine.{work_of};
 ghost use Rattle.rh_helping.specs.Opening.{MayOpen, next_desc};
 ghost use Rattle.rh_helping.specs.Work.{Stands};
@@ -89,7 +89,7 @@ pub fn carry_out<R: Wait>(
     requires owes { OwesNothing side.old.known.view }
     ensures trusts { Trusts Sits shape.now here.new side.new.known.view }
     ensures stays { Stays here.old here.new }
-    ensures carries { HasCarriedOut side.old.known.view own.entry.number side.new.known.view result }
+    ensures carries { HasCarriedOut side.old.known.view (own_of own.entry) side.new.known.view result }
 {
     let mut machine = Machine::about(Ref {
         worker: side.worker,
@@ -123,7 +123,7 @@ fn carry_on_copy<R: Wait>(
     requires stands { Stands shape.now side.old.known.view (work_of machine.now) }
     ensures trusts { Trusts Sits shape.now here.new side.new.known.view }
     ensures stays { Stays here.old here.new }
-    ensures carries { HasCarriedOut side.old.known.view own.entry.number side.new.known.view result }
+    ensures carries { HasCarriedOut side.old.known.view (own_of own.entry) side.new.known.view result }
 {
     let apart = *shape;
     let mut machine = *machine;
@@ -145,7 +145,7 @@ fn carry_on<R: Wait>(
     requires stands { Stands shape.now side.old.known.view (work_of machine.old) }
     ensures trusts { Trusts Sits shape.now here.new side.new.known.view }
     ensures stays { Stays here.old here.new }
-    ensures carries { HasCarriedOut side.old.known.view own.entry.number side.new.known.view result }
+    ensures carries { HasCarriedOut side.old.known.view (own_of own.entry) side.new.known.view result }
 {
     for _ in rt.forever() {
         match machine.step(shape, here, side, Some(own)) {

@@ -1,3 +1,5 @@
 pub mod GoneOn
 pub mod Halfway
+pub mod Marks
+pub mod ReadsBack
 pub mod Rooms

@@ -1,69 +1,54 @@
 //! A descriptor that another worker meets, and whose own worker then goes on to its next one.
 
-ghost use Rattle.std.specs.Prelude.{IfSome, None};
+ghost use Rattle.std.specs.Prelude.{IsTrue};
 ghost use Rattle.rh_descriptor.specs.Steps.{IsKnown};
 ghost use Rattle.rh_descriptor.specs.Words.{ref_of};
-ghost use Rattle.rh_helping.specs.Goal.{IsClear};
 ghost use Rattle.rh_kcas.specs.Rests.{Rests};
-ghost use Rattle.rh_kcas.specs.Swaps.{HasNoted};
-ghost use Rattle.rh_kcas_tests.specs.GoneOn.{HasMet, IsEntered};
+ghost use Rattle.rh_kcas_tests.specs.GoneOn.{HasMet};
 ghost use Rattle.rh_rdcss.specs.Calls.{IsHere, view_of};
-ghost use Rattle.rh_rdcss.specs.Sits.{Sits, Stays};
-ghost use Rattle.rh_steps.specs.Relies.{Knows, Trusts};
+ghost use Rattle.rh_steps.specs.Relies.{Knows};
 
 use crate::halfway::{go_on, stop_halfway};
 use crate::tables::*;
-use rh_descriptor::{Ref, Shape, Side};
-use rh_helping::{At, Ended, Machine, Progress, Task, named_desc};
+use rh_descriptor::Ref;
+use rh_helping::{Ended, named_desc};
 use rh_kcas::{Seat, Table, are_entries, change, help};
-use rh_rdcss::{OnTable, Placed, peek_cell, place, status};
+use rh_rdcss::{Placed, peek_cell, place, status};
 use rh_tagword::{State, plain_value};
 use std::process::Abort;
 use std::sync::Wait;
 use std::test::*;
 
-/// More steps than a worker makes until it knows how many entries a descriptor has.
-const STEPS: usize = 10;
-
-/// Meets the descriptor that stands in the cell, and learns how many entries it has.
+/// Meets the descriptor that stands in the cell, which is undecided.
 fn meet<R: Abort>(rt: &R, table: &Table, seat: &mut Seat, cell: usize) -> Ref
     requires { Rests table.now seat.old }
     ensures { HasMet table.now seat.new result }
 {
-    assert!(rt; cell < table.shape.cells());
-    let word = peek_cell(table, seat, cell);
-    let desc = named_desc(word).expect(rt, "a descriptor stands in the cell");
-    let mut here = OnTable {
-        table,
-        seat: &mut seat.inner,
-    };
-    let task = comes_to_entry(&table.shape, &mut here, &mut seat.side, desc);
-    task.expect(rt, "the descriptor is undecided").desc
+    let desc = found(rt, table, seat, cell);
+    assert!(rt; is_undecided(table, seat, desc));
+    desc
 }
 
-fn comes_to_entry(shape: &Shape, here: &mut OnTable, side: &mut Side, desc: Ref) -> Option<Task>
-    requires trusts { Trusts Sits shape.now here.old side.old.known.view }
-    requires clear { IsClear side.old.known.view }
-    requires known { IsKnown side.old.known.view.side.notes (ref_of desc) }
-    ensures trusts { Trusts Sits shape.now here.new side.new.known.view }
-    ensures stays { Stays here.old here.new }
-    ensures noted { HasNoted side.old.known.view side.new.known.view }
-    ensures entered { IfSome result (IsEntered side.new.known.view) }
+/// The descriptor that stands in the cell.
+fn found<R: Abort>(rt: &R, table: &Table, seat: &mut Seat, cell: usize) -> Ref
+    requires { Rests table.now seat.old }
+    ensures rests { Rests table.now seat.new }
+    ensures known { IsKnown (view_of seat.new).side.notes (ref_of result) }
 {
-    let mut machine = Machine::about(desc);
-    for made in 0..STEPS {
-        let Progress::On = machine.step(shape, here, side, None) else {
-            return None;
-        };
-        if let At::EntryCell = machine.at {
-            let task = machine.task;
-            return match task.state {
-                State::Undecided => Some(task),
-                _ => None,
-            };
-        }
-    }
-    None
+    assert!(rt; cell < table.shape.cells());
+    let word = peek_cell(table, seat, cell);
+    named_desc(word).expect(rt, "a descriptor stands in the cell")
+}
+
+fn is_undecided(table: &Table, seat: &mut Seat, desc: Ref) -> bool
+    requires rests { Rests table.now seat.old }
+    requires known { IsKnown (view_of seat.old).side.notes (ref_of desc) }
+    ensures { IsTrue result → HasMet table.now seat.new desc }
+{
+    let Some(State::Undecided) = status(table, seat, desc) else {
+        return false;
+    };
+    true
 }
 
 /// Reads how far a descriptor is.

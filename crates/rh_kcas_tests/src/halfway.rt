@@ -20,6 +20,22 @@ use std::sync::Wait;
 /// More steps than a worker makes alone until only the decision is left.
 const STEPS: usize = 40;
 
+/// Opens a descriptor of the entries, and stops there. Answers its number.
+pub fn open_one(table: &Table, seat: &mut Seat, entries: &[Entry]) -> u64
+    requires free { IsFree table.now seat.old }
+    requires entries { AreEntries table.now.shape entries.now }
+    requires room { (view_of seat.old).next_number < table.now.shape.rooms.descriptors }
+    ensures { IsHalfway table.now seat.new entries.now result }
+{
+    let number = seat.side.next_number;
+    let mut here = OnTable {
+        table,
+        seat: &mut seat.inner,
+    };
+    open(&table.shape, &mut here, &mut seat.side, entries);
+    number
+}
+
 /// Opens a descriptor of the entries, and works at it until it is to be decided. Answers its number,
 /// or none where that takes too many steps.
 pub fn stop_halfway(table: &Table, seat: &mut Seat, entries: &[Entry]) -> Option<u64>

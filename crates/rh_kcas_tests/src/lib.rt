@@ -14,6 +14,8 @@ mod halfway;
 #[cfg(test)]
 mod helping;
 #[cfg(test)]
+mod marks;
+#[cfg(test)]
 mod peeks;
 #[cfg(test)]
 mod random;

@@ -1,5 +1,15 @@
+ghost use Rattle.std.specs.Prelude.{◌≡◌, ◌<◌, IfSome, length};
+ghost use Rattle.rh_descriptor.specs.Steps.{AreEntries};
+ghost use Rattle.rh_kcas.specs.Rests.{Rests};
+ghost use Rattle.rh_kcas_tests.specs.ReadsBack.{ReadsBack};
+ghost use Rattle.rh_rdcss.specs.Calls.{view_of};
+
 use crate::tables::*;
-use rh_kcas::{Outcome, change};
+use rh_kcas::{Outcome, Seat, Table, are_entries, change, kcas, read, reads_tell};
+use rh_layout::Entry;
+use rh_tagword::plain_value;
+use std::process::Abort;
+use std::sync::Wait;
 use std::test::*;
 
 // Also a swap that failed had a descriptor.
@@ -75,5 +85,67 @@ fn a_wipe_gives_descriptors_and_marks_back(rt: HostRuntime) -> Result<(), Fail> 
     assert_eq!(rt; value(&rt, &table, &mut seat, 2), Some(6));
     assert_eq!(rt; swap(&rt, &table, &mut seat, &five), Outcome::Done);
     assert_eq!(rt; close_one(table, seat), [0, 0, 0, 0, 2, 4, 4, 6]);
+    Ok(())
+}
+
+/// The cell of the entry at which a swap failed, if it did.
+fn failed_cell<R: Wait + Abort>(
+    rt: &R,
+    table: &Table,
+    seat: &mut Seat,
+    entries: &[Entry],
+) -> Option<usize>
+    requires rests { Rests table.now seat.old }
+    ensures rests { Rests table.now seat.new }
+{
+    assert!(rt; are_entries(&table.shape, entries));
+    match kcas(rt, table, seat, entries) {
+        Outcome::Failed { entry } => Some(entries[entry].cell),
+        Outcome::Done | Outcome::Spent => None,
+    }
+}
+
+#[test]
+fn a_swap_that_failed_names_one_of_its_entries(rt: HostRuntime) -> Result<(), Fail> {
+    let cells = [0, 0, 0, 0, 2, 0, 0, 0];
+    let (table, mut seat) = one_worker(&rt, rt.alloc(), rooms(2, 8), 0, &cells)?;
+    let both = [change(4, 2, 10), change(5, 4, 2)];
+    assert_eq!(rt; failed_cell(&rt, &table, &mut seat, &both), Some(5));
+    assert_eq!(rt; failed_cell(&rt, &table, &mut seat, &both[..1]), None);
+    assert_eq!(rt; close_one(table, seat), [0, 0, 0, 0, 10, 0, 0, 0]);
+    Ok(())
+}
+
+/// Swaps, and reads the cell of an entry, if the swap is done: the only worker of a table reads its own
+/// change back.
+fn swapped_and_read<R: Wait>(
+    rt: &R,
+    table: &Table,
+    seat: &mut Seat,
+    entries: &[Entry],
+    entry: usize,
+) -> Option<u64>
+    requires rests { Rests table.now seat.old }
+    requires alone { table.now.shape.workers ≡ 1 }
+    requires entries { AreEntries table.now.shape entries.now }
+    requires entry { entry < length entries.now }
+    ensures rests { Rests table.now seat.new }
+    ensures reads_back { IfSome result (ReadsBack table.now.shape entries.now entry (view_of seat.new)) }
+{
+    reads_tell();
+    match kcas(rt, table, seat, entries) {
+        Outcome::Done => read(rt, table, seat, entries[entry].cell),
+        Outcome::Failed { .. } | Outcome::Spent => None,
+    }
+}
+
+#[test]
+fn an_own_change_is_read_back(rt: HostRuntime) -> Result<(), Fail> {
+    let (table, mut seat) = one_worker(&rt, rt.alloc(), rooms(2, 8), 0, &[0; 8])?;
+    let both = [change(4, 0, 10), change(5, 0, 3)];
+    assert!(rt; are_entries(&table.shape, &both));
+    let word = swapped_and_read(&rt, &table, &mut seat, &both, 1);
+    assert_eq!(rt; word.and_then(plain_value), Some(3));
+    assert_eq!(rt; swapped_and_read(&rt, &table, &mut seat, &both, 0), None);
     Ok(())
 }

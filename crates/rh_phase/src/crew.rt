@@ -2,7 +2,8 @@
 
 ghost use Rattle.std.specs.Prelude.{◌≡◌, ◌+◌, ◌<◌, ◌++◌, IfErr, IfOk, length};
 ghost use Rattle.std.specs.Thread.{IsSync};
-ghost use Rattle.rh_kcas.specs.Crews.{IsAt, IsJoined};
+ghost use Rattle.rh_kcas.specs.Crews.{IsAt, IsJoined, IsQuiet, views_of};
+ghost use Rattle.rh_rule.specs.Seats.{InView};
 ghost use Rattle.rh_phase.specs.Crew.{AreHalves, CanWork, HaveWorked, RefusedBy};
 
 use crate::gate::Gate;
@@ -95,10 +96,12 @@ fn cut(table: &Table, keys: &[u64], crew: Crew) -> (Crew, Crew)
     (Crew { seat, hands }, right)
 }
 
-/// All of them again.
+/// All of them again, who are at rest.
 fn glue(table: &Table, left: Crew, right: Crew) -> Crew
     requires left { IsAt table.now left.seat }
     requires right { IsAt table.now right.seat }
+    requires left_rests { InView IsQuiet (views_of left.seat) }
+    requires right_rests { InView IsQuiet (views_of right.seat) }
     requires left_long { length left.hands ≡ left.seat.count }
     requires right_long { length right.hands ≡ right.seat.count }
     requires follows { right.seat.side.worker ≡ left.seat.side.worker + left.seat.count }

@@ -62,6 +62,7 @@ fn sit<R: Wait, G: Gate>(
         mut inner,
         side,
         count,
+        placed,
     } = seat;
     let worker = side.worker;
     hand.worker.side = side;
@@ -71,5 +72,10 @@ fn sit<R: Wait, G: Gate>(
     };
     do_keys(rt, &table.shape, &mut here, hand, keys, gate);
     let side = replace(&mut hand.worker.side, unused_side(worker));
-    Seat { inner, side, count }
+    Seat {
+        inner,
+        side,
+        count,
+        placed,
+    }
 }

@@ -1,4 +1,4 @@
--- The words of an entry are read in the row of its descriptor, and then the entry is known.
+-- The length of a descriptor and the words of an entry are read in its row, and then the entry is known.
 use Rattle.std.proofs.Common.{ℕ, ◌<◌, Some, refl, sym, subst, inl, inr, ap, ◌∙◌, arith}
 use Rattle.rh_world.specs.Notes.Note.{size_is}
 use Rattle.rh_descriptor.specs.declared.shape.Shape.{Shape}
@@ -7,48 +7,82 @@ use Rattle.rh_descriptor.specs.declared.reference.Ref.{Ref as Reference}
 use Rattle.rh_descriptor.specs.declared.reference.Reading.TheVariants as reading
 use Rattle.rh_descriptor.specs.Parts.{cell_count}
 use Rattle.rh_descriptor.specs.View.{View}
-use Rattle.rh_descriptor.specs.View.RowWord.{cell_word, old_word}
+use Rattle.rh_descriptor.specs.View.RowWord.{cell_word, length_word, old_word}
 use Rattle.rh_descriptor.specs.Words.{ref_of}
 use Rattle.rh_descriptor.specs.Steps.{Allowed, noted}
 use Rattle.rh_descriptor.specs.Steps.Step.{reads}
 use Rattle.rh_helping.specs.Goal.{HasReadRow}
 use Rattle.rh_helping.specs.Settling.{Grows}
-use Rattle.rh_helping.proofs.Growing.{known_sub}
+use Rattle.rh_helping.proofs.Growing.{seen_sub}
 use Rattle.rh_helping.proofs.Knowing.{allowed}
 use Rattle.rh_helping.proofs.Rows.{grows_read, serial_grows, serial_tells}
 use Rattle.rh_steps.specs.Relies.{Knows}
-use Rattle.rh_rdcss.specs.Calls.{EntrySays, KnowsPiece, Learned, MayPlace}
+use Rattle.rh_rdcss.specs.Calls.{EntrySays, HasEntry, KnowsPiece, Learned, LengthSays, MayPlace, Places, TriedSo}
+use Rattle.rh_rdcss.specs.declared.calls.Placed.{Placed}
+use Rattle.rh_rdcss.specs.declared.calls.Placed.TheVariants as placed
 
 -- what may be placed may be so when more is known
-may_grows : (z : Shape) (v next : View) (d : Reference) (e : ℕ) → Grows v next → MayPlace z v d e → MayPlace z next d e
-may_grows z v next d e g h = record {
+may_grows : (z : Shape) (v next : View) (d : Reference) → Grows v next → MayPlace z v d → MayPlace z next d
+may_grows z v next d g h = record {
   desc = h.desc;
-  opened = known_sub v.side.notes next.side.notes g.notes (ref_of d) h.opened;
-  work = record { size = h.work.size; known = g.notes (size_is (ref_of d) h.work.size) h.work.known; within = h.work.within };
+  seen = seen_sub v.side.notes next.side.notes g.notes (ref_of d) h.seen;
   settled = g.unsettled ∙ h.settled;
 }
 
-module _ (z : Shape) (d : Reference) (e : ℕ) where
-  module _ (v : View) (knows : Knows z v) (may : MayPlace z v d e) where
-    inside : e < cell_count z
-    inside = let fits = (knows.sound.sizes (ref_of d) may.work.size may.work.known).1 in let less = may.work.within in omega (arith, less, fits)
+has_grows : (z : Shape) (v next : View) (d : Reference) (e : ℕ) → Grows v next → HasEntry z v d e → HasEntry z next d e
+has_grows z v next d e g h = record {
+  may = may_grows z v next d g h.may;
+  work = record { size = h.work.size; known = g.notes (size_is (ref_of d) h.work.size) h.work.known; within = h.work.within };
+}
 
-    pub may_read_cell : Allowed z v (reads (reading.EntryCell d e))
-    may_read_cell = allowed z v knows _ ((may.desc, inside), may.work)
+-- ---- its length
 
-    pub may_read_old : Allowed z v (reads (reading.EntryOld d e))
-    may_read_old = allowed z v knows _ ((may.desc, inside), inl may.work)
+module _ (z : Shape) (d : Reference) where
+  module _ (v : View) (knows : Knows z v) (may : MayPlace z v d) where
+    pub may_read_length : Allowed z v (reads (reading.Length d))
+    may_read_length = allowed z v knows _ (may.desc, inl may.seen)
 
     pub may_read_serial : Allowed z v (reads (reading.Serial d))
-    may_read_serial = allowed z v knows _ (may.desc, inl may.opened)
+    may_read_serial = allowed z v knows _ (may.desc, inl (inl may.seen))
 
-  module _ (v : View) (may : MayPlace z v d e) (cell : ℕ) (first : View) (l : Learned z (reads (reading.EntryCell d e)) v cell first) where
-    pub then_cell : MayPlace z first d e
-    then_cell = subst (λ (u : View). MayPlace z u d e) (sym l.view_is) (may_grows z v _ d e (grows_read v _ _) may)
+  module _ (v : View) (may : MayPlace z v d) (size : ℕ) (middle : View) (l : Learned z (reads (reading.Length d)) v size middle) where
+    pub then_length : MayPlace z middle d
+    then_length = subst (λ (u : View). MayPlace z u d) (sym l.view_is) (may_grows z v _ d (grows_read v _ _) may)
+
+    has_length : HasReadRow middle (ref_of d) (length_word size)
+    has_length = subst (λ (u : View). HasReadRow u (ref_of d) (length_word size)) (sym l.view_is) (inl refl)
+
+    -- the row is of the descriptor still
+    entry_known : (next : View) → Learned z (reads (reading.Serial d)) middle d.number next → (e : ℕ) → e < size → HasEntry z next d e
+    entry_known next r e less = subst (λ (u : View). HasEntry z u d e) (sym r.view_is) (record {
+      may = may_grows z middle _ d (serial_grows middle (ref_of d) d.number) then_length;
+      work = record { size = size; known = serial_tells middle (ref_of d) d.number refl (length_word size) has_length; within = less };
+    })
+
+  -- the entries that its row says
+  pub says_entry : (v next : View) → MayPlace z v d → (size : ℕ) → LengthSays z d (Some size) v next → (e : ℕ) → e < size → HasEntry z next d e
+  says_entry v next may size says e less = entry_known v may size says.middle says.of_length next says.of_serial e less
+
+-- ---- its cell and its old value
+
+module _ (z : Shape) (d : Reference) (e : ℕ) where
+  module _ (v : View) (knows : Knows z v) (has : HasEntry z v d e) where
+    inside : e < cell_count z
+    inside = let fits = (knows.sound.sizes (ref_of d) has.work.size has.work.known).1 in let less = has.work.within in omega (arith, less, fits)
+
+    pub may_read_cell : Allowed z v (reads (reading.EntryCell d e))
+    may_read_cell = allowed z v knows _ ((has.desc, inside), has.work)
+
+    pub may_read_old : Allowed z v (reads (reading.EntryOld d e))
+    may_read_old = allowed z v knows _ ((has.desc, inside), inl has.work)
+
+  module _ (v : View) (has : HasEntry z v d e) (cell : ℕ) (first : View) (l : Learned z (reads (reading.EntryCell d e)) v cell first) where
+    pub then_cell : HasEntry z first d e
+    then_cell = subst (λ (u : View). HasEntry z u d e) (sym l.view_is) (has_grows z v _ d e (grows_read v _ _) has)
 
     module _ (old : ℕ) (second : View) (m : Learned z (reads (reading.EntryOld d e)) first old second) where
-      pub then_old : MayPlace z second d e
-      then_old = subst (λ (u : View). MayPlace z u d e) (sym m.view_is) (may_grows z first _ d e (grows_read first _ _) then_cell)
+      pub then_old : HasEntry z second d e
+      then_old = subst (λ (u : View). HasEntry z u d e) (sym m.view_is) (has_grows z first _ d e (grows_read first _ _) then_cell)
 
       has_cell : HasReadRow second (ref_of d) (cell_word e cell)
       has_cell = subst (λ (u : View). HasReadRow u (ref_of d) (cell_word e cell)) (sym (m.view_is ∙ ap (λ (u : View). noted z u (reads (reading.EntryOld d e)) old) l.view_is)) (inr (inl refl))
@@ -59,18 +93,25 @@ module _ (z : Shape) (d : Reference) (e : ℕ) where
       -- the row is of the descriptor still
       pub piece_known : (next : View) → Learned z (reads (reading.Serial d)) second d.number next
           → KnowsPiece z next (record { desc = d; entry = e; cell = cell }) old
-      piece_known next r = subst (λ (u : View). KnowsPiece z u (record { desc = d; entry = e; cell = cell }) old) (sym r.view_is)
-          (let now = may_grows z second _ d e (serial_grows second (ref_of d) d.number) then_old in
-          record {
-            desc = now.desc;
-            work = now.work;
-            knows_cell = serial_tells second (ref_of d) d.number refl (cell_word e cell) has_cell;
-            knows_old = serial_tells second (ref_of d) d.number refl (old_word e old) has_old;
-            settled = now.settled;
-          })
+      piece_known next r = subst (λ (u : View). KnowsPiece z u (record { desc = d; entry = e; cell = cell }) old) (sym r.view_is) (record {
+        entry = has_grows z second _ d e (serial_grows second (ref_of d) d.number) then_old;
+        knows_cell = serial_tells second (ref_of d) d.number refl (cell_word e cell) has_cell;
+        knows_old = serial_tells second (ref_of d) d.number refl (old_word e old) has_old;
+      })
 
 -- the entry that its row says
-pub says_known : (z : Shape) (d : Reference) (e : ℕ) (p : Piece) (old : ℕ) (v next : View) → MayPlace z v d e → EntrySays z d e (Some (p, old)) v next → KnowsPiece z next p old
-says_known z d e p old v next may says =
+pub says_known : (z : Shape) (d : Reference) (e : ℕ) (p : Piece) (old : ℕ) (v next : View) → HasEntry z v d e → EntrySays z d e (Some (p, old)) v next → KnowsPiece z next p old
+says_known z d e p old v next has says =
     let r = says.1 in
-    subst (λ (q : Piece). KnowsPiece z next q old) (sym says.0) (piece_known z d e v may p.cell r.first r.of_cell old r.second r.of_old next r.of_serial)
+    subst (λ (q : Piece). KnowsPiece z next q old) (sym says.0) (piece_known z d e v has p.cell r.first r.of_cell old r.second r.of_old next r.of_serial)
+
+-- what a mark came to that was tried for it
+pub tried_places : (z : Shape) (d : Reference) (e : ℕ) (v : View) (size : ℕ) → e < size → (sized : View) → LengthSays z d (Some size) v sized
+    → (p : Piece) (old : ℕ) (between : View) → EntrySays z d e (Some (p, old)) sized between → (r : Placed) (next : View) → TriedSo z p old between r next → Places z d e v r next
+tried_places z d e v size less sized length p old between says placed.Mine next t =
+    (old, record { size = size; within = less; sized = sized; length_is = length; piece = p; between = between; says = says; tried = t })
+tried_places z d e v size less sized length p old between says (placed.Found word) next t =
+    (old, t.0, record { size = size; within = less; sized = sized; length_is = length; piece = p; between = between; says = says; tried = t.1 })
+tried_places z d e v size less sized length p old between says placed.Passed next t = absurd t
+tried_places z d e v size less sized length p old between says placed.Absent next t = absurd t
+tried_places z d e v size less sized length p old between says placed.Spent next t = absurd t

@@ -3,8 +3,9 @@
 -- what is kept of the worker alone.
 -- Allowing: what each of the four asks for follows from the rule of the table, for every step at once.
 -- Lending: a seat stays the same from step to step.
--- EntriesRead: the words of an entry are read in the row of its descriptor, and then the entry is known.
--- MarkRows: the mark row is written, and then the mark may be placed.
+-- Looked: what a look at a cell or at a control notes.
+-- EntriesRead: the length of a descriptor and the words of an entry are read in its row, and then the entry is known.
+-- MarkRows: the mark row is written, and then the mark may be placed; and its worker keeps for what it is.
 -- MarksMet: a mark that was met: its row and its control may be read, and it may be settled by them.
 
 pub mod Allowing
@@ -12,3 +13,4 @@ pub mod EntriesRead
 pub mod Lending
 pub mod MarkRows
 pub mod MarksMet
+mod Looked

@@ -1,17 +1,24 @@
--- The mark row is written, and then the mark may be placed.
-use Rattle.std.proofs.Common.{◌≡◌, ℕ, ◌<◌, ◌∷◌, ap, refl, sym, subst, ◌∙◌}
+-- The mark row is written, and then the mark may be placed; and where it stands, its worker keeps for what it is.
+use Rattle.std.proofs.Common.{◌≡◌, ℕ, suc, ◌<◌, ◌∷◌, Some, Bool, cond, eqb, ap, refl, sym, subst, ◌∙◌, inl, inr, eq-eqb}
+use Rattle.rh_world.specs.World.{Cell, In, Ref}
+use Rattle.rh_world.specs.Notes.Note.{desc_is, found, mismatch, which_is}
+use Rattle.rh_world.specs.Sides.{Side, note_side}
+use Rattle.rh_world.specs.Moves.{place_noted, placed_noted}
+use Rattle.rh_world.proofs.Updated.{ref_path}
 use Rattle.rh_descriptor.specs.declared.shape.Shape.{Shape}
 use Rattle.rh_descriptor.specs.declared.shape.Part.TheVariants as part
 use Rattle.rh_descriptor.specs.declared.reference.Piece.{Piece}
 use Rattle.rh_descriptor.specs.Parts.{mark_row}
 use Rattle.rh_descriptor.specs.View.{View}
-use Rattle.rh_descriptor.specs.Words.{desc_number, ref_of}
-use Rattle.rh_descriptor.specs.Steps.{Allowed, noted}
+use Rattle.rh_descriptor.specs.Words.{IsPlain, cell_in, desc_number, ref_of}
+use Rattle.rh_descriptor.specs.Steps.{Allowed, noted, own_mark}
 use Rattle.rh_descriptor.specs.Steps.Step.{places, writes}
+use Rattle.rh_descriptor.specs.declared.reference.Ref.{Ref as Reference}
+use Rattle.rh_rule.proofs.Said.{plain_said}
 use Rattle.rh_helping.proofs.Knowing.{allowed}
 use Rattle.rh_helping.proofs.Marking.{newest_word, older_word, other_word}
 use Rattle.rh_steps.specs.Relies.{Knows}
-use Rattle.rh_rdcss.specs.Calls.{KnowsPiece}
+use Rattle.rh_rdcss.specs.Calls.{IsMarkFor, KnowsPiece, Tried, with_row}
 
 module _ (z : Shape) (v : View) (p : Piece) (old worker mark word : ℕ) (may : KnowsPiece z v p old) (left : v.marks_used < z.rooms.marks) (of_worker : v.worker ≡ worker) (of_mark : v.marks_used ≡ mark) where
   -- what is written, the newest first
@@ -40,7 +47,44 @@ module _ (z : Shape) (v : View) (p : Piece) (old worker mark word : ℕ) (may : 
               ∙ newest_word serial_written.written (mark_row z 1) (mark_row z 1) word refl ∙ is;
           entry = newest_word desc_written.written (mark_row z 2) (mark_row z 2) p.entry refl;
           work = may.work;
+          seen = may.seen;
           knows_cell = may.knows_cell;
           knows_old = may.knows_old;
           settled = may.settled;
         }))
+
+-- ---- it found the old value: the own mark stands in the cell
+
+module _ (z : Shape) (v : View) (p : Piece) (old : ℕ) (knows : Knows z v) (may : KnowsPiece z v p old) where
+  abbrev d : Ref
+  d = ref_of p.desc
+
+  abbrev there : Side
+  there = placed_noted v.side (own_mark v) d p.entry p.cell
+
+  abbrev after : Side → View
+  after s = record (with_row z v p) { side = s; marks_used = cond (eqb old old) (suc v.marks_used) v.marks_used }
+
+  placed : place_noted v.side (own_mark v) d p.entry p.cell old (cell_in old) 0 ≡ there
+  placed =
+      let plain_old : IsPlain old = knows.sound.olds d p.entry old may.knows_old (inl may.work) in
+      ap (λ (k : Cell). place_noted v.side (own_mark v) d p.entry p.cell old k 0) (plain_said old plain_old)
+      ∙ ap (λ (b : Bool). cond b there (note_side v.side (mismatch d p.entry 0))) (eq-eqb old old refl)
+
+  pub is_mark_for : (next : View) → Tried z p old v old next → (x : Reference) → x.worker ≡ v.worker → x.number ≡ v.marks_used
+      → IsMarkFor p.desc p.entry next (record { mark = x; piece = p; old = old })
+  is_mark_for next tried x worker number =
+      let mine : own_mark v ≡ ref_of x = ref_path (own_mark v) (ref_of x) (sym worker) (sym number) in
+      subst (λ (u : View). IsMarkFor p.desc p.entry u (record { mark = x; piece = p; old = old })) (sym tried.place.view_is)
+      (subst (λ (s : Side). IsMarkFor p.desc p.entry (after s) (record { mark = x; piece = p; old = old })) (sym placed) (record {
+        desc = refl;
+        entry = refl;
+        worker = worker;
+        unsettled = ap Some (sym number);
+        here = subst (λ (y : Ref). In (found y p.cell) there.notes) mine (inl refl);
+        notes = record {
+          of_desc = subst (λ (y : Ref). In (desc_is y d) there.notes) mine (inr (inr (inl refl)));
+          of_entry = subst (λ (y : Ref). In (which_is y p.entry) there.notes) mine (inr (inl refl));
+          knows_old = inr (inr (inr may.knows_old));
+        };
+      }))

@@ -1,13 +1,17 @@
 -- A mark that was met: its row and its control may be read, and it may be settled by them.
-use Rattle.std.proofs.Common.{◌≡◌, ℕ, Option, Some, None, ◌∙◌, ap, refl, sym, subst, inl, inr, Bool, true, false, cond, eqb}
+use Rattle.std.proofs.Common.{◌≡◌, ℕ, Option, Some, None, ◌∙◌, ap, refl, sym, subst, inl, inr, Bool, true, false, ◌&&◌, cond, eqb, eq-eqb}
 use Rattle.std.specs.Prelude.{option_map, ◌%◌, ◌^◌}
 use Rattle.rh_tagword.specs.Control.{state_in}
 use Rattle.rh_tagword.specs.declared.control.State.{State}
 use Rattle.rh_tagword.specs.declared.control.State.TheVariants.{Unused, Undecided, Succeeded, Withdrawn, Failed}
-use Rattle.rh_world.specs.World.{Control, In}
+use Rattle.rh_world.specs.World.{Control, In, Ref}
 use Rattle.rh_world.specs.World.Control.{failed, succeeded, undecided, unused, withdrawn}
 use Rattle.rh_world.specs.Notes.{Note}
-use Rattle.rh_world.specs.Notes.Note.{found, may_demote}
+use Rattle.rh_world.specs.Notes.Note.{found, may_demote, old_is}
+use Rattle.rh_world.specs.Sides.{Side, is_number}
+use Rattle.rh_world.specs.Moves.{control_noted, mark_noted, settle_noted}
+use Rattle.rh_world.proofs.Tests.{by_cond}
+use Rattle.rh_world.proofs.Updated.{some_injective, some_not_none}
 use Rattle.rh_descriptor.specs.declared.shape.Shape.{Shape}
 use Rattle.rh_descriptor.specs.declared.reference.Piece.{Piece}
 use Rattle.rh_descriptor.specs.declared.reference.Ref.{Ref as Reference}
@@ -15,8 +19,8 @@ use Rattle.rh_descriptor.specs.declared.reference.Reading.TheVariants as reading
 use Rattle.rh_descriptor.specs.View.{View}
 use Rattle.rh_descriptor.specs.View.MarkWord.{desc_word, entry_word}
 use Rattle.rh_descriptor.specs.View.RowWord.{old_word}
-use Rattle.rh_descriptor.specs.Words.{control_of, control_said, desc_in, read_control, ref_of, serial_in}
-use Rattle.rh_descriptor.specs.Steps.{Allowed, noted}
+use Rattle.rh_descriptor.specs.Words.{control_of, control_said, desc_in, mark_number, read_control, ref_of, serial_in}
+use Rattle.rh_descriptor.specs.Steps.{Allowed, is_none, mark_control_read, noted, settle_view}
 use Rattle.rh_descriptor.specs.Steps.Step.{reads, settles}
 use Rattle.rh_helping.specs.Goal.{HasReadRow}
 use Rattle.rh_helping.specs.CellContent.{state_said}
@@ -25,7 +29,8 @@ use Rattle.rh_helping.proofs.Controls.{MarkedAs, saw_mark_control}
 use Rattle.rh_helping.proofs.Marks.{found_keeps, may_read_entry, may_read_old, may_read_row, may_read_serial, may_settle, serial_tells}
 use Rattle.rh_helping.proofs.Rows.{grows_read, serial_grows, serial_tells as row_tells_so}
 use Rattle.rh_steps.specs.Relies.{Knows}
-use Rattle.rh_rdcss.specs.Calls.{ByControl, ByOld, Judged, Learned, Named, ReadsOld, ReadsRow}
+use Rattle.rh_rdcss.specs.declared.seat.OwnMark.{OwnMark}
+use Rattle.rh_rdcss.specs.Calls.{ByControl, ByOld, IsOwnUnsettled, Judged, Learned, Named, ReadsOld, ReadsRow, SettlesOwn, own_target}
 
 -- ---- the row is read
 
@@ -74,8 +79,8 @@ module _ (z : Shape) (v : View) (x : Reference) (c : ℕ) (here : In (found (ref
 -- ---- the control is read, and where it is decided the old value
 
 -- a control word tells a state, or that it is of a later descriptor
-told : (number word : ℕ) → (r : Option State) × (option_map control_of r ≡ state_said number word)
-told number word = by (eqb (serial_in word) number)
+pub control_told : (number word : ℕ) → (r : Option State) × (option_map control_of r ≡ state_said number word)
+control_told number word = by (eqb (serial_in word) number)
   where
     of_state : (o : Option State) → (k : State) × (control_of k ≡ control_said o)
     of_state None = (Withdrawn, refl)
@@ -87,7 +92,7 @@ told number word = by (eqb (serial_in word) number)
 
 module _ (z : Shape) (v : View) (x : Reference) (p : Piece) (h : IsFound v x p) (word : ℕ) (next : View) (l : Learned z (reads (reading.MarkControl x p.cell p.desc)) v word next) where
   its : (r : Option State) × (option_map control_of r ≡ state_said p.desc.number word)
-  its = told p.desc.number word
+  its = control_told p.desc.number word
 
   control_keeps : Keeps v next
   control_keeps = (saw_mark_control v (ref_of x) (ref_of p.desc) p.cell _ word l.finds its.0 its.1 next l.view_is).0.keeps
@@ -118,7 +123,7 @@ module _ (z : Shape) (v : View) (x : Reference) (p : Piece) (h : IsFound v x p) 
       let last_keeps : Keeps r.middle last = subst (Keeps r.middle) (sym r.of_serial.view_is) (serial_grows r.middle d p.desc.number).keeps in
       may_settle z last r.of_serial.knows x p (found_keeps r.middle last last_keeps x p (met_middle old r.middle r.of_old)) (Some old) (
         last_keeps.notes (may_demote (ref_of x)) (keeps.notes (may_demote (ref_of x)) may),
-        subst (λ (u : View). In (Note.old_is d p.entry old) u.side.notes) (sym r.of_serial.view_is) (row_tells_so r.middle d p.desc.number refl (old_word p.entry old) said),
+        subst (λ (u : View). In (old_is d p.entry old) u.side.notes) (sym r.of_serial.view_is) (row_tells_so r.middle d p.desc.number refl (old_word p.entry old) said),
       )
 
   by_old : In (may_demote (ref_of x)) next.side.notes → (to : Option ℕ) (last : View) → ByOld z p next (Some to) last
@@ -142,22 +147,94 @@ module _ (z : Shape) (v : View) (x : Reference) (p : Piece) (h : IsFound v x p) 
       → Allowed z last (settles (ref_of x) p.cell (ref_of p.desc) p.entry to)
   settles_next to last by = settles_so its.0 marked to last (subst (λ (k : Option Control). ByControl z p k next (Some to) last) (sym its.1) by)
 
+-- the own mark is settled by it, to the descriptor or to the old value that is noted
+pub own_settles : (z : Shape) (v : View) (x : Reference) (p : Piece) (h : IsFound v x p) (old : ℕ) → In (old_is (ref_of p.desc) p.entry old) v.side.notes
+    → (word : ℕ) (next : View) → Learned z (reads (reading.MarkControl x p.cell p.desc)) v word next
+    → Allowed z next (settles (ref_of x) p.cell (ref_of p.desc) p.entry (own_target (state_said p.desc.number word) old))
+own_settles z v x p h old noted word next l =
+    let r = its z v x p h word next l in
+    subst (λ (k : Option Control). Allowed z next (settles (ref_of x) p.cell (ref_of p.desc) p.entry (own_target k old))) r.1 (so r.0 (marked z v x p h word next l))
+  where
+    keeps : Keeps v next
+    keeps = control_keeps z v x p h word next l
+
+    back : In (may_demote (ref_of x)) next.side.notes → Allowed z next (settles (ref_of x) p.cell (ref_of p.desc) p.entry (Some old))
+    back may = may_settle z next l.knows x p (met_then z v x p h word next l) (Some old) (may, keeps.notes (old_is (ref_of p.desc) p.entry old) noted)
+
+    so : (r : Option State) → MarkedAs next (ref_of x) p.cell r → Allowed z next (settles (ref_of x) p.cell (ref_of p.desc) p.entry (own_target (option_map control_of r) old))
+    so None may = back may
+    so (Some Unused) may = absurd may
+    so (Some Undecided) may = may_settle z next l.knows x p (met_then z v x p h word next l) None may
+    so (Some Succeeded) may = back may
+    so (Some Withdrawn) may = back may
+    so (Some (Failed who)) may = back may
+
 pub then_settle : (z : Shape) (v : View) (x : Reference) (p : Piece) → IsFound v x p → (to : Option ℕ) (last : View) → Judged z x p v (Some to) last
     → Allowed z last (settles (ref_of x) p.cell (ref_of p.desc) p.entry to)
 then_settle z v x p h to last j = settles_next z v x p h j.word j.between j.control to last j.by
 
--- what the worker knows after it
-pub settle_knows : (z : Shape) (v : View) (x : Reference) (p : Piece) (to : Option ℕ) (last : View) → Judged z x p v (Some to) last → Knows z last
-settle_knows z v x p to last j = by (state_said p.desc.number j.word) to j.by
-  where
-    old_known : (to : Option ℕ) → ByOld z p j.between (Some to) last → Knows z last
-    old_known None none = absurd none
-    old_known (Some old) r = r.of_serial.knows
+-- ---- what the worker knows after it
 
-    by : (k : Option Control) (to : Option ℕ) → ByControl z p k j.between (Some to) last → Knows z last
-    by None to h = absurd (let e = h.0 in cc)
+pub judged_knows : (z : Shape) (v : View) (x : Reference) (p : Piece) (to : Option (Option ℕ)) (last : View) → Judged z x p v to last → Knows z last
+judged_knows z v x p to last j = by (state_said p.desc.number j.word) to j.by
+  where
+    old_known : (to : Option (Option ℕ)) → ByOld z p j.between to last → Knows z last
+    old_known None h = h.3.of_serial.knows
+    old_known (Some None) none = absurd none
+    old_known (Some (Some old)) r = r.of_serial.knows
+
+    by : (k : Option Control) (to : Option (Option ℕ)) → ByControl z p k j.between to last → Knows z last
+    by None to h = subst (Knows z) (sym h.1) j.control.knows
     by (Some unused) to h = absurd h
     by (Some undecided) to h = subst (Knows z) (sym h.1) j.control.knows
     by (Some succeeded) to h = old_known to h
     by (Some withdrawn) to h = old_known to h
     by (Some (failed e who)) to h = old_known to h
+
+pub settle_knows : (z : Shape) (v : View) (x : Reference) (p : Piece) (to : Option ℕ) (last : View) → Judged z x p v (Some to) last → Knows z last
+settle_knows z v x p to last j = judged_knows z v x p (Some to) last j
+
+-- ---- the own mark is settled
+
+of_control : (s : Side) (d : Ref) (k : Control) → (control_noted s d k).unsettled ≡ s.unsettled
+of_control s d unused = refl
+of_control s d undecided = refl
+of_control s d succeeded = refl
+of_control s d withdrawn = refl
+of_control s d (failed e by) = refl
+
+of_mark : (s : Side) (x : Ref) (c : ℕ) (k : Control) → (mark_noted s x c k).unsettled ≡ s.unsettled
+of_mark s x c unused = refl
+of_mark s x c undecided = refl
+of_mark s x c succeeded = refl
+of_mark s x c withdrawn = refl
+of_mark s x c (failed e by) = refl
+
+control_same : (s : Side) (x : Ref) (c : ℕ) (d : Ref) (word : ℕ) → (mark_control_read s x c d word).unsettled ≡ s.unsettled
+control_same s x c d word = by_cond (λ (t : Side). t.unsettled ≡ s.unsettled) (eqb (serial_in word) d.number) _ _
+    (λ yes. of_mark (control_noted s d (read_control word)) x c (read_control word) ∙ of_control s d (read_control word)) (λ no. refl)
+
+settled_none : (v : View) (x : Ref) (c : ℕ) (d : Ref) (e : ℕ) (old : Option ℕ) (word : ℕ) → (q : Option ℕ) → v.side.unsettled ≡ q → q ≡ Some x.number → x.worker ≡ v.worker
+    → (settle_view v x c d e old word).unsettled ≡ None
+settled_none v x c d e old word None is mine worker = absurd (some_not_none x.number (sym mine))
+settled_none v x c d e old word (Some n) is mine worker =
+    let number : x.number ≡ n = sym (some_injective n x.number mine) in
+    let own : is_number v.side.unsettled v.worker x ≡ true =
+    ap (λ (o : Option ℕ). is_number o v.worker x) is ∙ ap (λ (b : Bool). b && eqb x.number n) (eq-eqb x.worker v.worker worker) ∙ eq-eqb x.number n number in
+    ap (λ (b : Bool). (cond b (settle_noted v.side d e c (promoted old word x)) v.side).unsettled) own ∙ either (promoted old word x)
+  where
+    promoted : Option ℕ → ℕ → Ref → Bool
+    promoted o w y = is_none o && eqb w (mark_number y)
+
+    either : (b : Bool) → (settle_noted v.side d e c b).unsettled ≡ None
+    either true = refl
+    either false = refl
+
+pub own_settled : (z : Shape) (c : ℕ) (own : OwnMark) (v : View) (word : ℕ) (next : View) → SettlesOwn z c own v word next → IsOwnUnsettled v own.mark → next.side.unsettled ≡ None
+own_settled z c own v word next h mine =
+    let x = ref_of own.mark in
+    let d = ref_of own.piece.desc in
+    let same : h.between.side.unsettled ≡ v.side.unsettled = ap (λ (u : View). u.side.unsettled) h.control.view_is ∙ control_same v.side x c d h.said in
+    let worker : h.between.worker ≡ v.worker = ap (λ (u : View). u.worker) h.control.view_is in
+    ap (λ (u : View). u.side.unsettled) h.swap.view_is
+    ∙ settled_none h.between x c d own.piece.entry (own_target (state_said own.piece.desc.number h.said) own.old) word (Some own.mark.number) (same ∙ mine.1) refl (mine.0 ∙ sym worker)

@@ -1,22 +1,23 @@
 //! The calls of one worker at a table.
 
-ghost use Rattle.std.specs.Prelude.{◌<◌};
+ghost use Rattle.std.specs.Prelude.{◌≡◌, ◌<◌, None};
 ghost use Rattle.rh_world.specs.World.{In};
 ghost use Rattle.rh_world.specs.Notes.Note.{found};
 ghost use Rattle.rh_descriptor.specs.Parts.{cell_count};
 ghost use Rattle.rh_descriptor.specs.Steps.{IsDesc};
 ghost use Rattle.rh_descriptor.specs.Steps.Step.{reads};
-ghost use Rattle.rh_descriptor.specs.Words.{ref_of};
+ghost use Rattle.rh_descriptor.specs.Words.{cell_in, ref_of};
 ghost use Rattle.rh_steps.specs.Relies.{Knows};
-ghost use Rattle.rh_rdcss.specs.Calls.{HasStatus, IsHere, IsSame, Learned, MayPlace, Places, Settles, view_of};
+ghost use Rattle.rh_rdcss.specs.Calls.{HasStatus, IsHere, IsMine, IsOwnUnsettled, IsSame, Learned, MayPlace, Meets, Places, Recalls, SeenAs, Settles, view_of};
+ghost use Rattle.rh_rdcss.specs.declared.calls.Placed.TheVariants.{Mine};
 
 use crate::making::make;
-use crate::placing::{place_next, read_entry};
+use crate::placing::{place_there, read_entry, read_length};
+use crate::reading::status_told;
 use crate::seat::Seat;
-use crate::settling::{judge, read_row};
+use crate::settling::{settle_met, settle_own};
 use crate::table::Table;
 use rh_descriptor::{Ask, Reading, Ref};
-use rh_helping::state_told;
 use rh_tagword::State;
 
 /// What became of a mark that was to be placed.
@@ -28,6 +29,8 @@ pub enum Placed {
     Found(u64),
     /// The descriptor's row has gone on to a later one, and no mark was placed.
     Passed,
+    /// The descriptor has fewer entries, and no mark was placed.
+    Absent,
     /// No mark was left.
     Spent,
 }
@@ -40,11 +43,13 @@ pub fn peek_cell(table: &Table, seat: &mut Seat, cell: usize) -> u64
     requires cell { cell < cell_count table.now.shape }
     ensures same { IsSame seat.old seat.new }
     ensures read { Learned table.now.shape (reads (Reading.Cell cell)) (view_of seat.old) result (view_of seat.new) }
+    ensures meets { Meets cell (cell_in result) (view_of seat.new).side.notes }
 {
     make(table, seat, Ask::Read(Reading::Cell(cell)))
 }
 
-/// Reads how far a descriptor is, by one load. None where its worker has gone on to a later one.
+/// Reads how far a descriptor is, by one load: `Unused` where it is not opened yet, and none where its
+/// worker has gone on to a later one.
 #[inline(always)]
 pub fn status(table: &Table, seat: &mut Seat, desc: Ref) -> Option<State>
     requires here { IsHere table.now seat.old }
@@ -52,52 +57,62 @@ pub fn status(table: &Table, seat: &mut Seat, desc: Ref) -> Option<State>
     requires desc { IsDesc table.now.shape (ref_of desc) }
     ensures same { IsSame seat.old seat.new }
     ensures read { HasStatus table.now.shape desc (view_of seat.old) result (view_of seat.new) }
+    ensures seen { SeenAs (ref_of desc) result (view_of seat.new).side.notes }
+    ensures unsettled { (view_of seat.new).side.unsettled ≡ (view_of seat.old).side.unsettled }
 {
     let word = make(table, seat, Ask::Read(Reading::Control(desc)));
-    state_told(desc, word)
+    status_told(desc, word)
 }
 
-/// Places the worker's next mark for an entry of a descriptor. The cell and the old value are read in
-/// the row, and then whether it is still of the descriptor; then the three words of the mark row are
+/// Places the worker's next mark for an entry of a descriptor. The length, the cell and the old value are
+/// read in the row, and whether it is still of the descriptor; then the three words of the mark row are
 /// written, and one compare-and-swap of the cell is made.
 #[inline(always)]
 pub fn place(table: &Table, seat: &mut Seat, desc: Ref, entry: usize) -> Placed
     requires here { IsHere table.now seat.old }
     requires knows { Knows table.now.shape (view_of seat.old) }
-    requires may { MayPlace table.now.shape (view_of seat.old) desc entry }
+    requires may { MayPlace table.now.shape (view_of seat.old) desc }
     ensures same { IsSame seat.old seat.new }
+    ensures knows { Knows table.now.shape (view_of seat.new) }
     ensures places { Places table.now.shape desc entry (view_of seat.old) result (view_of seat.new) }
+    ensures mine { result ≡ Mine → IsMine desc entry seat.new }
 {
     if seat.side.marks_used >= table.shape.rooms.marks {
         return Placed::Spent;
     }
-    match read_entry(table, seat, desc, entry) {
+    match read_length(table, seat, desc) {
         None => Placed::Passed,
-        Some((piece, old)) => {
-            let found = place_next(table, seat, piece, old);
-            if found == old {
-                Placed::Mine
-            } else {
-                Placed::Found(found)
-            }
-        }
+        Some(size) if entry >= size => Placed::Absent,
+        Some(_) => match read_entry(table, seat, desc, entry) {
+            None => Placed::Passed,
+            Some((piece, old)) => place_there(table, seat, piece, old),
+        },
     }
 }
 
-/// Settles a mark that was found in this cell: reads its row, then the control of its descriptor, and
-/// puts the descriptor into the mark's place where that is undecided, else the old value. Answers the
-/// word that stood there; where it is not the mark, another worker settled it. None, and no Settle was
-/// made, where the mark's row or that of its descriptor has gone on: then its worker settles it, if it
-/// has not.
+/// Settles a mark that stands in this cell, where the worker found it or placed it. A mark of another
+/// worker: its row is read, then the control of its descriptor, and the descriptor is put into the mark's
+/// place where that is undecided, else the old value that its row says. None, and no Settle was made, where
+/// the mark's row or that of its descriptor has gone on: then its worker settles it, if it has not. The own
+/// mark, which is the last that the worker placed by `place`: the control is read, and the mark settled to
+/// the descriptor or to the old value that the seat keeps, also where the row has gone on. Answers the word
+/// that the Settle found; where it is not the mark, another worker settled it.
 #[inline(always)]
-pub fn settle(table: &Table, seat: &mut Seat, mark: Ref, cell: usize) -> Option<u64>
+pub fn settle(table: &Table, seat: &mut Seat, cell: usize, mark: Ref) -> Option<u64>
     requires here { IsHere table.now seat.old }
     requires knows { Knows table.now.shape (view_of seat.old) }
     requires found { In (found (ref_of mark) cell) (view_of seat.old).side.notes }
+    requires own { mark.worker ≡ (view_of seat.old).worker → Recalls (view_of seat.old) mark seat.old.placed }
     ensures same { IsSame seat.old seat.new }
-    ensures settles { Settles table.now.shape mark cell (view_of seat.old) result (view_of seat.new) }
+    ensures knows { Knows table.now.shape (view_of seat.new) }
+    ensures settles { Settles table.now.shape cell mark seat.old.placed (view_of seat.old) result (view_of seat.new) }
+    ensures settled { IsOwnUnsettled (view_of seat.old) mark → (view_of seat.new).side.unsettled ≡ None }
 {
-    let piece = read_row(table, seat, mark, cell)?;
-    let old = judge(table, seat, mark, piece)?;
-    Some(make(table, seat, Ask::Settle { mark, piece, old }))
+    if mark.worker == seat.side.worker {
+        // (it keeps for what its mark is)
+        let own = seat.placed.unwrap();
+        Some(settle_own(table, seat, cell, own))
+    } else {
+        settle_met(table, seat, cell, mark)
+    }
 }

@@ -7,6 +7,7 @@ mod calls;
 mod making;
 mod on_table;
 mod placing;
+mod reading;
 mod seat;
 mod settling;
 mod steps;
@@ -14,5 +15,5 @@ mod table;
 
 pub use calls::{Placed, peek_cell, place, settle, status};
 pub use on_table::OnTable;
-pub use seat::{Seat, unused_side};
+pub use seat::{OwnMark, Seat, unused_side};
 pub use table::{Inner, Table};

@@ -1,13 +1,30 @@
 //! Placing a mark.
 
-ghost use Rattle.std.specs.Prelude.{◌<◌};
+ghost use Rattle.std.specs.Prelude.{◌≡◌, ◌<◌};
 ghost use Rattle.rh_steps.specs.Relies.{Knows};
-ghost use Rattle.rh_rdcss.specs.Calls.{EntrySays, IsHere, IsSame, KnowsPiece, MayPlace, Tried, view_of};
+ghost use Rattle.rh_rdcss.specs.Calls.{EntrySays, HasEntry, IsHere, IsMine, IsSame, KnowsPiece, LengthSays, MayPlace, Tried, TriedSo, view_of};
+ghost use Rattle.rh_rdcss.specs.declared.calls.Placed.TheVariants.{Mine};
 
+use crate::calls::Placed;
 use crate::making::make;
-use crate::seat::Seat;
+use crate::seat::{OwnMark, Seat};
 use crate::table::Table;
 use rh_descriptor::{Ask, Part, Piece, Reading, Ref, desc_word};
+
+/// Reads in the row of a descriptor how many entries it has, and then whether the row is still of it: if
+/// not, what was read says nothing of it.
+#[inline(always)]
+pub(crate) fn read_length(table: &Table, seat: &mut Seat, desc: Ref) -> Option<usize>
+    requires here { IsHere table.now seat.old }
+    requires knows { Knows table.now.shape (view_of seat.old) }
+    requires may { MayPlace table.now.shape (view_of seat.old) desc }
+    ensures same { IsSame seat.old seat.new }
+    ensures says { LengthSays table.now.shape desc result (view_of seat.old) (view_of seat.new) }
+{
+    let length = make(table, seat, Ask::Read(Reading::Length(desc))) as usize;
+    let serial = make(table, seat, Ask::Read(Reading::Serial(desc)));
+    (serial == desc.number).then_some(length)
+}
 
 /// Reads the cell and the old value of an entry in the row of its descriptor, and then whether the row
 /// is still of it: if not, what was read says nothing of it.
@@ -20,7 +37,7 @@ pub(crate) fn read_entry(
 ) -> Option<(Piece, u64)>
     requires here { IsHere table.now seat.old }
     requires knows { Knows table.now.shape (view_of seat.old) }
-    requires may { MayPlace table.now.shape (view_of seat.old) desc entry }
+    requires has { HasEntry table.now.shape (view_of seat.old) desc entry }
     ensures same { IsSame seat.old seat.new }
     ensures says { EntrySays table.now.shape desc entry result (view_of seat.old) (view_of seat.new) }
 {
@@ -33,6 +50,30 @@ pub(crate) fn read_entry(
         return None;
     }
     Some((Piece { desc, entry, cell }, old))
+}
+
+/// Places the next own mark, which is left, and keeps for what it is where it stands in the cell.
+#[inline(always)]
+pub(crate) fn place_there(table: &Table, seat: &mut Seat, piece: Piece, old: u64) -> Placed
+    requires here { IsHere table.now seat.old }
+    requires knows { Knows table.now.shape (view_of seat.old) }
+    requires knows_it { KnowsPiece table.now.shape (view_of seat.old) piece old }
+    requires left { seat.old.side.marks_used < table.now.shape.rooms.marks }
+    ensures same { IsSame seat.old seat.new }
+    ensures knows { Knows table.now.shape (view_of seat.new) }
+    ensures tried { TriedSo table.now.shape piece old (view_of seat.old) result (view_of seat.new) }
+    ensures mine { result ≡ Mine → IsMine piece.desc piece.entry seat.new }
+{
+    let mark = Ref {
+        worker: seat.side.worker,
+        number: seat.side.marks_used,
+    };
+    let found = place_next(table, seat, piece, old);
+    if found != old {
+        return Placed::Found(found);
+    }
+    seat.placed = Some(OwnMark { mark, piece, old });
+    Placed::Mine
 }
 
 /// Places the next own mark, which is left, and answers the word that stood in the cell. The mark row

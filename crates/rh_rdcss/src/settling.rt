@@ -1,18 +1,70 @@
 //! Settling a mark: what it is for, and what it is to be settled to.
 
-ghost use Rattle.std.specs.Prelude.{◌≡◌};
+ghost use Rattle.std.specs.Prelude.{◌≡◌, None};
 ghost use Rattle.rh_world.specs.World.{In};
 ghost use Rattle.rh_world.specs.Notes.Note.{found};
 ghost use Rattle.rh_descriptor.specs.Words.{ref_of};
 ghost use Rattle.rh_steps.specs.Relies.{Knows};
-ghost use Rattle.rh_rdcss.specs.Calls.{IsHere, IsSame, Judged, RowSays, view_of};
+ghost use Rattle.rh_rdcss.specs.Calls.{IsHere, IsOwnUnsettled, IsSame, Judged, NotesMark, RowSays, SettlesMet, SettlesOwn, own_target, view_of};
+ghost use Rattle.rh_rule.specs.Sound.{IsControlWord};
+ghost use Rattle.rh_helping.specs.CellContent.{state_said};
 ghost use Rattle.rh_helping.specs.Settling.{IsFound};
 
 use crate::making::make;
-use crate::seat::Seat;
+use crate::seat::{OwnMark, Seat};
 use crate::table::Table;
 use rh_descriptor::{Ask, Piece, Reading, Ref};
 use rh_helping::{named_desc, state_told};
+use rh_tagword::State;
+
+/// Settles the own mark in this cell, which the worker placed for this.
+#[inline(always)]
+pub(crate) fn settle_own(table: &Table, seat: &mut Seat, cell: usize, own: OwnMark) -> u64
+    requires here { IsHere table.now seat.old }
+    requires knows { Knows table.now.shape (view_of seat.old) }
+    requires found { In (found (ref_of own.mark) cell) (view_of seat.old).side.notes }
+    requires notes { NotesMark (view_of seat.old) own }
+    ensures same { IsSame seat.old seat.new }
+    ensures knows { Knows table.now.shape (view_of seat.new) }
+    ensures settles { SettlesOwn table.now.shape cell own (view_of seat.old) result (view_of seat.new) }
+    ensures settled { IsOwnUnsettled (view_of seat.old) own.mark → (view_of seat.new).side.unsettled ≡ None }
+{
+    let OwnMark { mark, piece, old } = own;
+    let piece = Piece { cell, ..piece };
+    let desc = piece.desc;
+    let control = Ask::Read(Reading::MarkControl { mark, cell, desc });
+    let word = make(table, seat, control);
+    let old = own_target(desc, word, old);
+    make(table, seat, Ask::Settle { mark, piece, old })
+}
+
+/// What the own mark is settled to, by the control of its descriptor: to the old value, also where that has
+/// gone on, or to the descriptor where no value is given.
+#[inline(always)]
+fn own_target(desc: Ref, word: u64, old: u64) -> Option<u64>
+    requires { IsControlWord word }
+    ensures { result ≡ own_target (state_said desc.number word) old }
+{
+    match state_told(desc, word) {
+        Some(State::Undecided) => None,
+        _ => Some(old),
+    }
+}
+
+/// Settles a mark that was found in this cell by what its row says.
+#[inline(always)]
+pub(crate) fn settle_met(table: &Table, seat: &mut Seat, cell: usize, mark: Ref) -> Option<u64>
+    requires here { IsHere table.now seat.old }
+    requires knows { Knows table.now.shape (view_of seat.old) }
+    requires found { In (found (ref_of mark) cell) (view_of seat.old).side.notes }
+    ensures same { IsSame seat.old seat.new }
+    ensures knows { Knows table.now.shape (view_of seat.new) }
+    ensures settles { SettlesMet table.now.shape mark cell (view_of seat.old) result (view_of seat.new) }
+{
+    let piece = read_row(table, seat, mark, cell)?;
+    let old = judge(table, seat, mark, piece)?;
+    Some(make(table, seat, Ask::Settle { mark, piece, old }))
+}
 
 /// Reads the row of a mark that was found in this cell, and then whether it is still of this mark: if
 /// not, the mark stands in no cell any more.

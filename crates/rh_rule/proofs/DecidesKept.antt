@@ -116,7 +116,7 @@ module _ (z : Shape) (shape : IsShape z) (words : List ℕ) (keep : ℕ → View
   full (failed e by) q i is = cc
 
   opened : IsOpened (w.control d)
-  opened = opened_known z shape words keep w side rule m who mine d (inl can.known)
+  opened = opened_known z shape words keep w side rule m who mine d (inl (inl can.known))
 
   has_state : HasState set_to
   has_state = set_state z k entry r (let few : z.workers ≤ 16 = shape.workers in let is : k.worker ≡ who = h.worker in omega arith) can.result

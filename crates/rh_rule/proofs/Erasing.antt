@@ -4,14 +4,15 @@ use Rattle.rh_world.specs.World.{Cell, Control, In, Ref, is_ref}
 use Rattle.rh_world.specs.World.Cell.{desc, mark, plain}
 use Rattle.rh_world.specs.World.Control.{failed, succeeded, undecided, unused, withdrawn}
 use Rattle.rh_world.specs.Notes.{Note}
-use Rattle.rh_world.specs.Notes.Note.{decided, desc_is, failed_at, found, held, known, may_demote, may_promote, mismatch, new_is, old_is, over, passed, size_is, target_is, which_is}
-use Rattle.rh_world.specs.Sides.{Side, close_side, note_side, release_side, settle_side}
+use Rattle.rh_world.specs.Notes.Note.{decided, desc_is, failed_at, found, held, known, may_demote, may_promote, met, mismatch, new_is, old_is, over, passed, size_is, target_is, which_is}
+use Rattle.rh_world.specs.Sides.{KeptRead, Side, close_side, note_side, release_side, settle_side}
 use Rattle.rh_world.specs.Moves.{Entries, IsRowNote, cell_noted, control_noted, covers, mark_noted, note_all, note_entries, place_noted, placed_noted, release_noted, settle_noted}
 use Rattle.rh_descriptor.specs.Words.{without_entry}
-use Rattle.rh_rule.specs.Erased.{erased, erased_note}
+use Rattle.rh_rule.specs.Erased.{erased, erased_note, erased_read}
 
 -- a note that has no number of acts and no entry of a failure
 abbrev pub IsWhole : Note → Type 0
+IsWhole (met d) = Unit {0}
 IsWhole (known d) = Unit {0}
 IsWhole (size_is d n) = Unit {0}
 IsWhole (target_is d e c) = Unit {0}
@@ -30,6 +31,7 @@ IsWhole (held d e) = Unit {0}
 IsWhole (mismatch d e n) = ⊥
 
 same_note : (m n : Note) → n ≡ erased_note m → IsWhole n → n ≡ m
+same_note (met d) n e h = e
 same_note (known d) n e h = e
 same_note (size_is d k) n e h = e
 same_note (target_is d i c) n e h = e
@@ -54,7 +56,13 @@ in_notes n (m ∷ l) h i = ⊎_elim (λ e. inl (same_note m n e h)) (λ j. inr (
 pub in_whole : (n : Note) (s : Side) → IsWhole n → In n (erased s).notes → In n s.notes
 in_whole n s h i = in_notes n s.notes h i
 
+-- a read as its worker knows it is one of the world
+pub of_erased : (ks : List KeptRead) (k : KeptRead) → In k (map erased_read ks) → (j : KeptRead) × In j ks × (k ≡ erased_read j)
+of_erased [] k i = absurd i
+of_erased (j ∷ ks) k i = ⊎_elim (λ e. (j, inl refl, e)) (λ h. let got = of_erased ks k h in (got.0, inr got.1, got.2)) i
+
 mismatch_of : (m : Note) (d : Ref) (e j : ℕ) → mismatch d e j ≡ erased_note m → (k : ℕ) × (mismatch d e k ≡ m)
+mismatch_of (met f) d e j q = cc
 mismatch_of (known f) d e j q = cc
 mismatch_of (size_is f k) d e j q = cc
 mismatch_of (target_is f i c) d e j q = cc
@@ -82,6 +90,7 @@ pub in_mismatch : (d : Ref) (e j : ℕ) (s : Side) → In (mismatch d e j) (eras
 in_mismatch d e j s i = in_mismatches d e j s.notes i
 
 decided_of : (m : Note) (d : Ref) (k : Control) → decided d k ≡ erased_note m → (j : Control) × (without_entry j ≡ k) × (decided d j ≡ m)
+decided_of (met f) d k q = cc
 decided_of (known f) d k q = cc
 decided_of (size_is f n) d k q = cc
 decided_of (target_is f i c) d k q = cc
@@ -143,7 +152,7 @@ pub erased_place : (s : Side) (x d : Ref) (e c old : ℕ) (k : Cell) (acts : ℕ
     → place_noted (erased s) x d e c old k 0 ≡ erased (place_noted s x d e c old k acts)
 erased_place s x d e c old (plain u) acts = erased_cond (eqb u old) (placed_noted s x d e c) (note_side s (mismatch d e acts))
 erased_place s x d e c old (mark y) acts = refl
-erased_place s x d e c old (desc f) acts = erased_cond (is_ref f d) (note_side s (held d e)) (note_side s (known f))
+erased_place s x d e c old (desc f) acts = erased_cond (is_ref f d) (note_side s (held d e)) (note_side s (met f))
 
 pub erased_settle : (s : Side) (d : Ref) (e c : ℕ) (b : Bool)
     → settle_noted (erased s) d e c b ≡ erased (settle_noted s d e c b)
@@ -154,6 +163,7 @@ erased_release s e n = erased_cond (covers n (e ∷ s.released)) (close_side (re
 
 -- what rows say is whole
 row_whole : (n : Note) → IsRowNote n → erased_note n ≡ n
+row_whole (met d) h = absurd h
 row_whole (known d) h = absurd h
 row_whole (size_is d i) h = refl
 row_whole (target_is d e c) h = refl

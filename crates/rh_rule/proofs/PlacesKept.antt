@@ -3,7 +3,7 @@ use Rattle.std.proofs.Common.{◌≡◌, ◌≢◌, ℕ, suc, eqb, ◌<◌, ◌�
 use Rattle.rh_world.specs.World.{Cell, Control, IsOpened, IsUsed, Ref, World, is_ref, updated}
 use Rattle.rh_world.specs.World.Cell.{desc, mark, plain}
 use Rattle.rh_world.specs.Notes.{Note}
-use Rattle.rh_world.specs.Notes.Note.{decided, found, held, known, mismatch, old_is, size_is, target_is}
+use Rattle.rh_world.specs.Notes.Note.{decided, found, held, met, mismatch, old_is, size_is, target_is}
 use Rattle.rh_world.specs.Later.{Steady}
 use Rattle.rh_world.specs.Sides.{Side, note_side}
 use Rattle.rh_world.specs.Rule.{Rule}
@@ -24,7 +24,7 @@ use Rattle.rh_rule.proofs.Frames.{word_same}
 use Rattle.rh_rule.proofs.CellsKept.{cell_found, cells_new, rule_at, steady_at, still_step}
 use Rattle.rh_rule.proofs.Erasing.{erased_place}
 use Rattle.rh_rule.proofs.Kept.{Grows, Over, Quiet, desc_row_stays, entries_stay, mark_row_stays, represents, over_grows}
-use Rattle.rh_rule.proofs.ReadsKept.{grows_note, known_note, true_note, work_known}
+use Rattle.rh_rule.proofs.ReadsKept.{grows_note, known_note, seen_known, true_note, work_known}
 use Rattle.rh_rule.proofs.Said.{plain_test}
 use Rattle.rh_rule.proofs.Touched.{controls_same, counter_same, descs_same, mark_word_same, marks_same, others_stay, own_same, quiet_same, raw_row_same, raw_same, set_sized}
 
@@ -37,9 +37,9 @@ grows_place s x d e c old (plain u) = either (eqb u old)
 grows_place s x d e c old (mark y) = grows_note s (found y c)
 grows_place s x d e c old (desc f) = either (is_ref f d)
   where
-    either : (b : Bool) → Grows s (cond b (note_side s (held d e)) (note_side s (known f)))
+    either : (b : Bool) → Grows s (cond b (note_side s (held d e)) (note_side s (met f)))
     either true = grows_note s (held d e)
-    either false = grows_note s (known f)
+    either false = grows_note s (met f)
 
 quiet_note : (s : Side) (n : Note) → ((f : Ref) (r : Control) → decided f r ≡ n → ⊥) → Quiet s (note_side s n)
 quiet_note s n other = record { current = λ i q. q; notes = λ m i. inr i; decided = λ f r i. ⊎_elim (λ q. absurd (other f r q)) (λ j. j) i }
@@ -57,9 +57,9 @@ quiet_index s x d e c old (plain u) = either (eqb u old)
 quiet_index s x d e c old (mark y) = quiet_note s (found y c) (λ f r q. cc)
 quiet_index s x d e c old (desc f) = either (is_ref f d)
   where
-    either : (b : Bool) → Quiet s (cond b (note_side s (held d e)) (note_side s (known f)))
+    either : (b : Bool) → Quiet s (cond b (note_side s (held d e)) (note_side s (met f)))
     either true = quiet_note s (held d e) (λ g r q. cc)
-    either false = quiet_note s (known f) (λ g r q. cc)
+    either false = quiet_note s (met f) (λ g r q. cc)
 
 module _ (z : Shape) (shape : IsShape z) (words : List ℕ) (keep : ℕ → View) (w : World) (side : ℕ → Side) (rule : Rule w side) (m : Represents z words keep w side) (who : ℕ) (mine : who < z.workers) (d : Ref) (e : ℕ) (can : CanPlace z (keep who) d e (w.target d e) (w.old d e)) where
   abbrev k : View
@@ -87,7 +87,7 @@ module _ (z : Shape) (shape : IsShape z) (words : List ℕ) (keep : ℕ → View
   work = work_known z shape words keep w side rule m who mine d e can.work
 
   may : IsAllowed w side who (places d e)
-  may = (record { size = can.work.size; known = known_note z shape words keep w side rule m who mine (size_is d can.work.size) tt can.work.known; within = can.work.within }, ap (λ (s : Side). s.unsettled) (sym h.side_is) ∙ can.settled)
+  may = (record { size = can.work.size; known = known_note z shape words keep w side rule m who mine (size_is d can.work.size) tt can.work.known; within = can.work.within }, ap (λ (s : Side). s.unsettled) (sym h.side_is) ∙ can.settled, seen_known z shape words keep w side rule m who mine d can.seen)
 
   own_mark_is : own_mark k ≡ x
   own_mark_is = ref_path (own_mark k) x h.worker h.marks_used

@@ -4,11 +4,11 @@ use Rattle.rh_world.specs.World.{Cell, Control, In, IsDecided, IsOpened, IsUsed,
 use Rattle.rh_world.specs.World.Cell.{desc, mark, plain}
 use Rattle.rh_world.specs.World.Control.{failed, succeeded, undecided, unused, withdrawn}
 use Rattle.rh_world.specs.Notes.{HoldsIn, Note, part_of}
-use Rattle.rh_world.specs.Notes.Note.{decided, desc_is, failed_at, found, held, known, may_demote, may_promote, mismatch, new_is, old_is, over, passed, size_is, target_is, which_is}
+use Rattle.rh_world.specs.Notes.Note.{decided, desc_is, failed_at, found, held, known, may_demote, may_promote, met, mismatch, new_is, old_is, over, passed, size_is, target_is, which_is}
 use Rattle.rh_world.specs.Notes.Part.{of_rows}
 use Rattle.rh_world.specs.Sides.{Side, note_side}
 use Rattle.rh_world.specs.Rule.{Rule}
-use Rattle.rh_world.specs.Moves.{IsRowNote, MayWork, cell_noted, control_noted, mark_noted, note_all, side_after}
+use Rattle.rh_world.specs.Moves.{HasSeen, IsRowNote, MayWork, cell_noted, control_noted, mark_noted, note_all, side_after}
 use Rattle.rh_world.specs.Moves.Move.{learns, reads_cell, reads_control, reads_mark_control}
 use Rattle.rh_world.proofs.Laters.{steady_same}
 use Rattle.rh_world.proofs.StepLaws.{each_step_keeps}
@@ -47,7 +47,7 @@ grows_cell : (s : Side) (c : ℕ) (k : Cell) (q : Option ℕ) (acts next : ℕ) 
 grows_cell s c (plain u) None acts next = record { current = refl; notes = λ n i. i }
 grows_cell s c (plain u) (Some p) acts next = grows_none s
 grows_cell s c (mark x) q acts next = grows_note s (found x c)
-grows_cell s c (desc d) q acts next = grows_note s (known d)
+grows_cell s c (desc d) q acts next = grows_note s (met d)
 
 pub grows_control : (s : Side) (d : Ref) (k : Control) → Grows s (control_noted s d k)
 grows_control s d unused = grows_none s
@@ -80,13 +80,14 @@ in_mark s x c withdrawn f r i = ⊎_elim (λ e. cc) (λ j. j) i
 in_mark s x c (failed n by) f r i = ⊎_elim (λ e. cc) (λ j. j) i
 
 -- d is known where a note tells that it was opened
-tells_yes : (n : Note) (d : Ref) → tells_opened n d ≡ true → (n ≡ known d) ⊎ ((k : Control) × (n ≡ decided d k))
-tells_yes (known f) d e = inl (ap known (is_ref_yes f d e))
+tells_yes : (n : Note) (d : Ref) → tells_opened n d ≡ true → ((n ≡ known d) ⊎ ((k : Control) × (n ≡ decided d k))) ⊎ (n ≡ met d)
+tells_yes (met f) d e = inr (ap met (is_ref_yes f d e))
+tells_yes (known f) d e = inl (inl (ap known (is_ref_yes f d e)))
 tells_yes (size_is f i) d e = absurd (true≢false (sym e))
 tells_yes (target_is f i c) d e = absurd (true≢false (sym e))
 tells_yes (old_is f i u) d e = absurd (true≢false (sym e))
 tells_yes (new_is f i u) d e = absurd (true≢false (sym e))
-tells_yes (decided f k) d e = inr (k, ap (λ (x : Ref). decided x k) (is_ref_yes f d e))
+tells_yes (decided f k) d e = inl (inr (k, ap (λ (x : Ref). decided x k) (is_ref_yes f d e)))
 tells_yes (over f) d e = absurd (true≢false (sym e))
 tells_yes (passed f) d e = absurd (true≢false (sym e))
 tells_yes (failed_at f i) d e = absurd (true≢false (sym e))
@@ -101,8 +102,8 @@ tells_yes (mismatch f i n) d e = absurd (true≢false (sym e))
 known_yes : (ns : List Note) (d : Ref) → is_known ns d ≡ true → IsKnown ns d
 known_yes [] d e = absurd (true≢false (sym e))
 known_yes (n ∷ ns) d e = ⊎_elim
-    (λ (q : tells_opened n d ≡ true). ⊎_elim (λ r. inl (inl (sym r))) (λ r. inr (r.0, inl (sym r.1))) (tells_yes n d q))
-    (λ (q : is_known ns d ≡ true). ⊎_elim (λ i. inl (inr i)) (λ i. inr (i.0, inr i.1)) (known_yes ns d q))
+    (λ (q : tells_opened n d ≡ true). ⊎_elim (⊎_elim (λ r. inl (inl (inl (sym r)))) (λ r. inl (inr (r.0, inl (sym r.1))))) (λ r. inr (inl (sym r))) (tells_yes n d q))
+    (λ (q : is_known ns d ≡ true). ⊎_elim (⊎_elim (λ i. inl (inl (inr i))) (λ i. inl (inr (i.0, inr i.1)))) (λ i. inr (inr i)) (known_yes ns d q))
     (or_yes (tells_opened n d) (is_known ns d) e)
   where
     or_yes : (a b : Bool) → (a || b) ≡ true → (a ≡ true) ⊎ (b ≡ true)
@@ -179,8 +180,12 @@ module _ (z : Shape) (shape : IsShape z) (words : List ℕ) (keep : ℕ → View
       (subst IsDecided j.1 (told_decided j.0 holds.0), ap without_entry holds.1 ∙ j.1)
 
   pub opened_known : (d : Ref) → IsKnown k.side.notes d → IsOpened (w.control d)
-  opened_known d o = ⊎_elim (λ i. true_note (known d) tt refl i)
-      (λ i. let q = true_decided d i.0 i.1 in λ e. subst IsDecided (sym q.1 ∙ ap without_entry e) q.0) o
+  opened_known d o = ⊎_elim
+      (⊎_elim (λ i. true_note (known d) tt refl i) (λ i. let q = true_decided d i.0 i.1 in λ e. subst IsDecided (sym q.1 ∙ ap without_entry e) q.0))
+      (λ i. true_note (met d) tt refl i) o
+
+  pub seen_known : (d : Ref) → HasSeen k.side.notes d → HasSeen t.notes d
+  seen_known d o = ⊎_elim (λ i. inl (known_note (known d) tt i)) (λ i. let j = known_decided d i.0 i.1 in inr (j.0, j.2)) o
 
   pub work_known : (d : Ref) (e : ℕ) → MayWork k.side d e → IsOpened (w.control d) × (e < w.size d)
   work_known d e may = let q = true_note (size_is d may.size) tt refl may.known in (q.0, subst (λ (n : ℕ). e < n) (sym q.1) may.within)

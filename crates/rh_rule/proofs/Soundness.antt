@@ -4,8 +4,8 @@ use Rattle.rh_tagword.specs.Word.{tag_of}
 use Rattle.rh_world.specs.World.{Cell, In, IsDecided, IsOpened, Ref, World}
 use Rattle.rh_world.specs.World.Control.{failed, undecided, unused, withdrawn}
 use Rattle.rh_world.proofs.Updated.{ref_path, same_nat}
-use Rattle.rh_world.specs.Notes.Note.{decided, desc_is, found, known, new_is, old_is, size_is, target_is, which_is}
-use Rattle.rh_world.specs.Sides.{Side}
+use Rattle.rh_world.specs.Notes.Note.{decided, desc_is, failed_at, found, known, new_is, old_is, size_is, target_is, which_is}
+use Rattle.rh_world.specs.Sides.{KeptRead, Side}
 use Rattle.rh_world.specs.Rule.{Rule}
 use Rattle.rh_world.proofs.EndsKept.{claims_share_out}
 use Rattle.rh_descriptor.specs.declared.shape.Shape.{Shape}
@@ -21,6 +21,7 @@ use Rattle.rh_descriptor.specs.Steps.{IsDesc, IsKnown, IsNoted, IsRead, IsStep, 
 use Rattle.rh_rule.specs.Represents.{DescRow, HasItsRow, IsCell, IsOpenedSo, IsOwn, Kept, Represents, numbers_of, word_at}
 use Rattle.rh_rule.specs.Sound.{ControlTells, Finds, IsControlWord, OwnRow, Reads, Sound, StepsFind, ViewsAreSound}
 use Rattle.rh_rule.proofs.Deciders.{told_failed, told_undecided, told_unused, told_withdrawn}
+use Rattle.rh_rule.proofs.Erasing.{of_erased}
 use Rattle.rh_rule.proofs.OpensKept.{word_is}
 use Rattle.rh_rule.proofs.ReadsKept.{control_word, mark_known, newest_word, opened_known, reads_desc_control, true_decided, true_note, work_known}
 use Rattle.rh_rule.proofs.Said.{cell_said_is, desc_said_is, serial_said_is}
@@ -70,6 +71,12 @@ module _ (z : Shape) (shape : IsShape z) (words : List ℕ) (keep : ℕ → View
     descs_used = h.desc_room;
     marks_used = h.mark_room;
     numbers = λ d own i. subst (λ (n : ℕ). d.number < n) (next_same d own) (rule.rows.below d (opened_known z shape words keep w side rule m who mine d i));
+    reads = λ k i.
+        let j = of_erased (side who).reads k (subst (λ (s : Side). In k s.reads) h.side_is i) in
+        let within : j.0.next_number ≤ w.next_number who = (rule.prefixes.reads who j.0 j.1).within in
+        let same : k.next_number ≡ j.0.next_number = ap (λ (r : KeptRead). r.next_number) j.2 in
+        let next : v.next_number ≡ w.next_number who = h.next_number in
+        omega (arith, within, same, next);
     descs = λ d i. m.controls.descs d (opened_known z shape words keep w side rule m who mine d i);
     sizes = λ d n i.
         let q = true_note z shape words keep w side rule m who mine (size_is d n) tt refl i in
@@ -104,6 +111,10 @@ module _ (z : Shape) (shape : IsShape z) (words : List ℕ) (keep : ℕ → View
     deciders = λ d by i.
         let f = told_failed (w.control d) 0 by (true_decided z shape words keep w side rule m who mine d (failed 0 by) i).1 in
         m.controls.deciders d f.0 by f.1;
+    failures = λ d e n i j.
+        let fails = true_note z shape words keep w side rule m who mine (failed_at d e) tt refl i in
+        let size = true_note z shape words keep w side rule m who mine (size_is d n) tt refl j in
+        subst (λ (n : ℕ). e < n) size.1 (rule.prefixes.failed d e fails).mismatch.within;
     withdrawals = λ d own i.
         let is : w.control d ≡ withdrawn = told_withdrawn (w.control d) (true_decided z shape words keep w side rule m who mine d withdrawn i).1 in
         let full : z.rooms.marks ≤ w.marks_used d.worker = m.controls.withdrawals d is in
@@ -148,7 +159,7 @@ module _ (z : Shape) (shape : IsShape z) (words : List ℕ) (keep : ℕ → View
           older = λ q f same i.
               let open_still : w.control d ≡ undecided = told_undecided (w.control d) (sym told ∙ q) in
               let of_f = true_decided z shape words keep w side rule m who mine f (failed 0 v.worker) i in
-              let below : f.number < w.next_number f.worker = rule.rows.below f (opened_known z shape words keep w side rule m who mine f (inr (failed 0 v.worker, i))) in
+              let below : f.number < w.next_number f.worker = rule.rows.below f (opened_known z shape words keep w side rule m who mine f (inl (inr (failed 0 v.worker, i)))) in
               less d f same (below, next) (λ e. subst IsDecided (sym of_f.1 ∙ ap (λ (y : Ref). without_entry (w.control y)) e ∙ ap without_entry open_still) of_f.0);
           newest = λ own. next ∙ next_same d own;
         };

@@ -1,11 +1,12 @@
 -- What the rule says of what is kept.
-use Rattle.std.proofs.Common.{◌≡◌, ℕ, ◌⊎◌, Bool, true, false, true≢false, cond, ◌&&◌, ◌||◌, List, [], ◌∷◌, filter, sym, refl, ap, ◌∙◌, subst, inl, inr, ⊎_elim, Some, None}
+use Rattle.std.proofs.Common.{◌≡◌, ℕ, ◌<◌, ◌⊎◌, Bool, true, false, true≢false, cond, ◌&&◌, ◌||◌, List, [], ◌∷◌, filter, length, sym, refl, ap, ◌∙◌, subst, inl, inr, ⊎_elim, Some, None}
 use Rattle.rh_tagword.specs.Word.{tag_of}
-use Rattle.rh_world.specs.World.{Cell, Control, In, Ref, World, is_ref}
+use Rattle.rh_world.specs.World.{Cell, Control, HasFailed, In, Ref, World, is_ref}
 use Rattle.rh_world.specs.World.Control.{succeeded}
 use Rattle.rh_world.specs.Notes.{Note}
-use Rattle.rh_world.specs.Notes.Note.{decided, desc_is, failed_at, found, held, known, may_demote, may_promote, mismatch, new_is, old_is, over, passed, size_is, target_is, which_is}
-use Rattle.rh_world.specs.Acts.{is_success}
+use Rattle.rh_world.specs.Notes.Note.{decided, desc_is, failed_at, found, held, known, may_demote, may_promote, met, mismatch, new_is, old_is, over, passed, size_is, target_is, which_is}
+use Rattle.rh_world.specs.Acts.{cells_after, is_success}
+use Rattle.rh_world.specs.Laws.{Foretold}
 use Rattle.rh_world.specs.Sides.{Side}
 use Rattle.rh_world.proofs.ActsKept.{succeeded_opened}
 use Rattle.rh_world.proofs.EndsKept.{claims_share_out, one_order, prefixes_say, rest_is_settled}
@@ -15,17 +16,35 @@ use Rattle.rh_world.proofs.Updated.{updated_ref_here}
 use Rattle.rh_descriptor.specs.declared.shape.Shape.{Shape}
 use Rattle.rh_descriptor.specs.View.{OwnDesc, View}
 use Rattle.rh_descriptor.specs.Words.{without_entry}
-use Rattle.rh_rule.specs.Represents.{IsCell, cell_number, numbers_of}
+use Rattle.rh_rule.specs.Represents.{IsCell, IsOpenedSo, cell_number, numbers_of}
 use Rattle.rh_rule.specs.Core.{Core}
-use Rattle.rh_rule.specs.Rest.{Rests, Tells, Told, is_noted_success, says_success}
+use Rattle.rh_rule.specs.Rest.{HasMissed, Rests, Tells, Told, is_noted_success, says_success}
 use Rattle.rh_rule.proofs.Deciders.{told_success}
-use Rattle.rh_rule.proofs.Erasing.{in_decided}
+use Rattle.rh_rule.proofs.Erasing.{in_decided, in_whole}
 use Rattle.rh_rule.proofs.WipesKept.{all_rest}
+
+-- an own descriptor that failed at an entry
+missed_so : (w : World) (side : ℕ → Side) (says : Foretold w side) (v : ℕ) (o : OwnDesc) (e : ℕ)
+    → IsOpenedSo w (record { worker = v; number = o.number }) o → HasFailed w (record { worker = v; number = o.number }) e
+    → HasMissed w side v o e (says.failed_acts (record { worker = v; number = o.number }))
+missed_so w side says v o e so fails =
+    let d : Ref = record { worker = v; number = o.number } in
+    let t = says.fails d e fails in
+    let entry : e < length o.entries = subst (λ (n : ℕ). e < n) so.size t.0 in
+    record {
+      entry = entry;
+      prefix = t.1;
+      differs = λ q. t.2 (ap (λ (c : ℕ). cells_after w (says.failed_acts d) c) (so.targets e entry) ∙ q ∙ sym (so.olds e entry));
+      read_before = λ k i le. says.read_then_failed d e k fails i le;
+      read_after = λ k i lt. says.failed_then_read d e k fails i lt;
+    }
 
 told : (w : World) (z : Shape) (words : List ℕ) (keep : ℕ → View) (core : Core w z words keep) → Told w z keep core.side
 told w z words keep core =
     let m = core.represents in
     let order = one_order w core.side core.rule in
+    let failed : (v : ℕ) (d : Ref) (e : ℕ) → v < z.workers → In (failed_at d e) (keep v).side.notes → HasFailed w d e = λ v d e lt i.
+    core.rule.rows.notes v (failed_at d e) (in_whole (failed_at d e) (core.side v) tt (subst (λ (s : Side). In (failed_at d e) s.notes) (m.kept v lt).side_is i)) refl in
     record {
       order = order;
       foretold = prefixes_say w core.side core.rule;
@@ -36,6 +55,8 @@ told w z words keep core =
       results = λ v d k lt i.
           let j = in_decided d k (core.side v) (subst (λ (s : Side). In (decided d k) s.notes) (m.kept v lt).side_is i) in
           ap without_entry (core.rule.rows.notes v (decided d j.0) j.2 refl).1 ∙ j.1;
+      failed = failed;
+      missed = λ v o e lt j i. missed_so w core.side (prefixes_say w core.side core.rule) v o e ((m.kept v lt).opened o j) (failed v (record { worker = v; number = o.number }) e lt i);
       own = λ v lt. let h = m.kept v lt in order.own v _ h.falling h.all;
       workers = λ i lt. (m.controls.descs (w.act i) (succeeded_opened (w.control (w.act i)) (order.succeeded i lt))).0;
     }
@@ -54,6 +75,7 @@ true_or true b e = refl
 true_or false b e = ⊎_elim (λ q. absurd (true≢false (sym q))) (λ q. q) e
 
 says_so : (n : Note) (d : Ref) → says_success n d ≡ true → decided d succeeded ≡ n
+says_so (met f) d e = absurd (true≢false (sym e))
 says_so (known f) d e = absurd (true≢false (sym e))
 says_so (size_is f i) d e = absurd (true≢false (sym e))
 says_so (target_is f i c) d e = absurd (true≢false (sym e))

@@ -2,11 +2,12 @@
 -- 0.
 use Rattle.std.specs.Prelude.{map}
 use Rattle.rh_world.specs.Notes.{Note}
-use Rattle.rh_world.specs.Notes.Note.{known, size_is, target_is, old_is, new_is, decided, over, passed, failed_at, desc_is, which_is, found, may_promote, may_demote, held, mismatch}
+use Rattle.rh_world.specs.Notes.Note.{met, known, size_is, target_is, old_is, new_is, decided, over, passed, failed_at, desc_is, which_is, found, may_promote, may_demote, held, mismatch}
 use Rattle.rh_world.specs.Sides.{KeptRead, Side}
 use Rattle.rh_descriptor.specs.Words.{without_entry}
 
 abbrev pub erased_note : Note → Note
+erased_note (met d) = met d
 erased_note (known d) = known d
 erased_note (size_is d n) = size_is d n
 erased_note (target_is d e c) = target_is d e c

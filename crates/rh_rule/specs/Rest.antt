@@ -1,22 +1,33 @@
 -- What the rule says of what is kept of the workers, at any moment and where all are at rest.
-use Rattle.std.specs.Prelude.{◌≡◌, ℕ, ◌<◌, Bool, false, ◌&&◌, ◌||◌, List, [], ◌∷◌, filter, slice_index, None}
-use Rattle.rh_world.specs.World.{Ref, Control, World, In, is_ref}
-use Rattle.rh_world.specs.Notes.{Note}
-use Rattle.rh_world.specs.Notes.Note.{known, size_is, target_is, old_is, new_is, decided, over, passed, failed_at, desc_is, which_is, found, may_promote, may_demote, held, mismatch}
-use Rattle.rh_world.specs.Sides.{Side, AtRest}
+use Rattle.std.specs.Prelude.{◌≡◌, ◌≢◌, ℕ, ◌<◌, ◌≤◌, Bool, false, ◌&&◌, ◌||◌, List, [], ◌∷◌, filter, length, slice_index, None}
+use Rattle.rh_world.specs.World.{Ref, Control, World, HasFailed, In, is_ref}
+use Rattle.rh_world.specs.Notes.{IsPrefix, Note}
+use Rattle.rh_world.specs.Notes.Note.{met, known, size_is, target_is, old_is, new_is, decided, over, passed, failed_at, desc_is, which_is, found, may_promote, may_demote, held, mismatch}
+use Rattle.rh_world.specs.Sides.{KeptRead, Side, AtRest}
 use Rattle.rh_world.specs.Acts.{cells_after, is_success, own_acts, successes_of}
 use Rattle.rh_world.specs.Laws.{Foretold, OneOrder, SharedOut}
 use Rattle.rh_descriptor.specs.declared.shape.Shape.{Shape}
 use Rattle.rh_descriptor.specs.Parts.{cell_count}
 use Rattle.rh_descriptor.specs.View.{OwnDesc, View}
+use Rattle.rh_descriptor.specs.Steps.{entry_of}
 use Rattle.rh_descriptor.specs.Words.{IsPlain, without_entry}
 use Rattle.rh_rule.specs.Erased.{erased}
 use Rattle.rh_rule.specs.Represents.{IsOpenedSo, numbers_of}
 use Rattle.rh_rule.specs.Core.{Core}
 
+-- A descriptor of worker v with these entries failed at one of them: after so many acts the entry's cell did not hold its old
+-- value. Among these acts the worker's own are exactly those that it made before the descriptor, and they are not fewer than
+-- at what it had read before it was opened, and not more than at what it read after that.
+pub record HasMissed (w : World) (side : ℕ → Side) (v : ℕ) (o : OwnDesc) (e acts : ℕ) : Type 0 where
+  pub entry : e < length o.entries
+  pub prefix : IsPrefix w v o.number acts
+  pub differs : cells_after w acts (entry_of o.entries e).cell ≢ (entry_of o.entries e).old
+  pub read_before : (k : KeptRead) → In k (side v).reads → k.next_number ≤ o.number → k.acts ≤ acts
+  pub read_after : (k : KeptRead) → In k (side v).reads → o.number < k.next_number → acts ≤ k.acts
+
 -- The acts of the world stand in one order, and it tells of what is kept: the reads that are kept and the descriptors that
 -- failed have their prefixes, and the numbers that Claims found are shared out. What is kept of a worker is true of it: its
--- opening cells, its opened descriptors, and how they were decided.
+-- opening cells, its opened descriptors, how they were decided, and at which entry they failed.
 pub record Told (w : World) (z : Shape) (keep : ℕ → View) (side : ℕ → Side) : Type 0 where
   pub order : OneOrder w
   pub foretold : Foretold w side
@@ -26,6 +37,10 @@ pub record Told (w : World) (z : Shape) (keep : ℕ → View) (side : ℕ → Si
   pub opened : (v : ℕ) (o : OwnDesc) → v < z.workers → In o (keep v).opened
       → IsOpenedSo w (record { worker = v; number = o.number }) o
   pub results : (v : ℕ) (d : Ref) (k : Control) → v < z.workers → In (decided d k) (keep v).side.notes → without_entry (w.control d) ≡ k
+  pub failed : (v : ℕ) (d : Ref) (e : ℕ) → v < z.workers → In (failed_at d e) (keep v).side.notes → HasFailed w d e
+  pub missed : (v : ℕ) (o : OwnDesc) (e : ℕ) → v < z.workers → In o (keep v).opened
+      → In (failed_at (record { worker = v; number = o.number }) e) (keep v).side.notes
+      → HasMissed w side v o e (foretold.failed_acts (record { worker = v; number = o.number }))
   -- a worker's own acts, newest first, are those of its opened descriptors that succeeded
   pub own : (v : ℕ) → v < z.workers → own_acts w v w.act_count ≡ successes_of w v (numbers_of (keep v).opened)
   -- and each act is of a worker of the table
@@ -41,6 +56,7 @@ pub record AllRest (z : Shape) (keep : ℕ → View) : Type 0 where
 
 -- whether a note says that d succeeded
 abbrev pub says_success : Note → Ref → Bool
+says_success (met f) d = false
 says_success (known f) d = false
 says_success (size_is f n) d = false
 says_success (target_is f e c) d = false

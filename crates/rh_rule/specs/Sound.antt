@@ -4,7 +4,8 @@ use Rattle.std.specs.Prelude.{suc, ◌≡◌, ℕ, ◌+◌, ◌<◌, ◌≤◌, 
 use Rattle.rh_tagword.specs.Control.{IsState}
 use Rattle.rh_world.specs.World.{Ref, Control, World, IsOpened, IsDecided, In}
 use Rattle.rh_world.specs.World.Control.{failed, undecided, withdrawn}
-use Rattle.rh_world.specs.Notes.Note.{size_is, target_is, old_is, new_is, decided, desc_is, which_is, found}
+use Rattle.rh_world.specs.Notes.Note.{size_is, target_is, old_is, new_is, decided, failed_at, desc_is, which_is, found}
+use Rattle.rh_world.specs.Sides.{KeptRead}
 use Rattle.rh_world.specs.Moves.{MayWork}
 use Rattle.rh_descriptor.specs.declared.shape.Shape.{Shape}
 use Rattle.rh_descriptor.specs.declared.shape.Part.{Part}
@@ -34,6 +35,8 @@ pub record Sound (z : Shape) (v : View) : Type 0 where
   pub descs_used : v.next_number ≤ z.rooms.descriptors
   pub marks_used : v.marks_used ≤ z.rooms.marks
   pub numbers : (d : Ref) → d.worker ≡ v.worker → IsKnown v.side.notes d → d.number < v.next_number
+  -- and so do the numbers with which it kept what it read
+  pub reads : (k : KeptRead) → In k v.side.reads → k.next_number ≤ v.next_number
   -- descriptors and marks that it met are of the table, and so are their entries
   pub descs : (d : Ref) → IsKnown v.side.notes d → IsDesc z d
   pub sizes : (d : Ref) (n : ℕ) → In (size_is d n) v.side.notes → (0 < n) × (n ≤ cell_count z)
@@ -45,6 +48,8 @@ pub record Sound (z : Shape) (v : View) : Type 0 where
   pub named : (x d : Ref) → In (desc_is x d) v.side.notes → IsDesc z d
   pub results : (d : Ref) (k : Control) → In (decided d k) v.side.notes → IsDecided k
   pub deciders : (d : Ref) (by : ℕ) → In (decided d (failed 0 by)) v.side.notes → by < z.workers
+  -- a descriptor failed at an entry that it has
+  pub failures : (d : Ref) (e n : ℕ) → In (failed_at d e) v.side.notes → In (size_is d n) v.side.notes → e < n
   -- a descriptor of its own was withdrawn only where no mark is left
   pub withdrawals : (d : Ref) → d.worker ≡ v.worker → In (decided d withdrawn) v.side.notes → z.rooms.marks ≤ v.marks_used
   -- what it wrote of the own descriptor that has the row is what is kept of it

@@ -80,8 +80,10 @@ fn the_usual_rooms_are_the_greatest(rt: HostRuntime) {
 fn a_claim_takes_the_next_place(rt: HostRuntime) -> Result<(), Fail> {
     let mut words = [0u64; 73];
     let mut side = Side::new(1, &[0; 8]);
-    assert_eq!(rt; make_step(&SHAPE, &mut words, &mut side, Ask::Claim), 0);
+    assert_eq!(rt; claim_key(&SHAPE, &mut words, &mut side), 0);
     assert_eq!(rt; words[72], 1);
+    assert_eq!(rt; make_step(&SHAPE, &mut words, &mut side, Ask::Claim), 1);
+    assert_eq!(rt; words[72], 2);
     Ok(())
 }
 
@@ -93,11 +95,10 @@ fn a_word_of_an_own_row_is_written_and_read(rt: HostRuntime) -> Result<(), Fail>
         worker: 1,
         entry: 7,
     };
-    let write = Ask::Write { part, word: 40 };
-    assert_eq!(rt; make_step(&SHAPE, &mut words, &mut side, write), 0);
+    write_word(&SHAPE, &mut words, &mut side, part, 40);
     assert_eq!(rt; words[65], 40);
-    let read = Ask::Read(Reading::Word(65));
-    assert_eq!(rt; make_step(&SHAPE, &mut words, &mut side, read), 40);
+    let read = Reading::Word(65);
+    assert_eq!(rt; read_word(&SHAPE, &mut words, &mut side, read), 40);
     Ok(())
 }
 
@@ -107,32 +108,30 @@ fn one_worker_changes_one_cell(rt: HostRuntime) -> Result<(), Fail> {
     let mut words = [0u64; 73];
     let mut side = Side::new(0, &[0; 8]);
     let (worker, entry) = (0, 0);
-    let write = Ask::Write {
-        part: Part::Serial { worker },
-        word: 0,
-    };
-    make_step(&SHAPE, &mut words, &mut side, write);
-    let write = Ask::Write {
-        part: Part::Length { worker },
-        word: 1,
-    };
-    make_step(&SHAPE, &mut words, &mut side, write);
-    let write = Ask::Write {
-        part: Part::EntryCell { worker, entry },
-        word: 4,
-    };
-    make_step(&SHAPE, &mut words, &mut side, write);
-    let write = Ask::Write {
-        part: Part::EntryOld { worker, entry },
-        word: 0,
-    };
-    make_step(&SHAPE, &mut words, &mut side, write);
-    let write = Ask::Write {
-        part: Part::EntryNew { worker, entry },
-        word: 8,
-    };
-    make_step(&SHAPE, &mut words, &mut side, write);
-    make_step(&SHAPE, &mut words, &mut side, Ask::Open { entries: 1 });
+    write_word(&SHAPE, &mut words, &mut side, Part::Serial { worker }, 0);
+    write_word(&SHAPE, &mut words, &mut side, Part::Length { worker }, 1);
+    write_word(
+        &SHAPE,
+        &mut words,
+        &mut side,
+        Part::EntryCell { worker, entry },
+        4,
+    );
+    write_word(
+        &SHAPE,
+        &mut words,
+        &mut side,
+        Part::EntryOld { worker, entry },
+        0,
+    );
+    write_word(
+        &SHAPE,
+        &mut words,
+        &mut side,
+        Part::EntryNew { worker, entry },
+        8,
+    );
+    open_desc(&SHAPE, &mut words, &mut side, 1);
     let desc = Ref {
         worker: 0,
         number: 0,
@@ -142,50 +141,38 @@ fn one_worker_changes_one_cell(rt: HostRuntime) -> Result<(), Fail> {
         entry: 0,
         cell: 4,
     };
-    let write = Ask::Write {
-        part: Part::MarkSerial { worker: 0 },
-        word: 0,
-    };
-    make_step(&SHAPE, &mut words, &mut side, write);
-    let write = Ask::Write {
-        part: Part::MarkDesc { worker: 0 },
-        word: 2,
-    };
-    make_step(&SHAPE, &mut words, &mut side, write);
-    let write = Ask::Write {
-        part: Part::MarkEntry { worker: 0 },
-        word: 0,
-    };
-    make_step(&SHAPE, &mut words, &mut side, write);
-    let place = Ask::Place { piece, old: 0 };
-    assert_eq!(rt; make_step(&SHAPE, &mut words, &mut side, place), 0);
+    write_word(
+        &SHAPE,
+        &mut words,
+        &mut side,
+        Part::MarkSerial { worker },
+        0,
+    );
+    write_word(&SHAPE, &mut words, &mut side, Part::MarkDesc { worker }, 2);
+    write_word(&SHAPE, &mut words, &mut side, Part::MarkEntry { worker }, 0);
+    assert_eq!(rt; place_mark(&SHAPE, &mut words, &mut side, piece, 0), 0);
     let marked = words[4];
     let mark = Ref {
         worker: 0,
         number: 0,
     };
-    let read = Ask::Read(Reading::MarkControl {
+    let control = Reading::MarkControl {
         mark,
         cell: 4,
         desc,
-    });
-    assert_eq!(rt; make_step(&SHAPE, &mut words, &mut side, read), 1);
-    let settle = Ask::Settle {
-        mark,
-        piece,
-        old: None,
     };
-    assert_eq!(rt; make_step(&SHAPE, &mut words, &mut side, settle), 1);
+    assert_eq!(rt; read_word(&SHAPE, &mut words, &mut side, control), 1);
+    assert_eq!(rt;
+        settle_mark(&SHAPE, &mut words, &mut side, mark, piece, None),
+        1
+    );
     let promoted = words[4];
     let state = State::Succeeded;
-    let decide = Ask::Decide { desc, state };
-    assert_eq!(rt; make_step(&SHAPE, &mut words, &mut side, decide), 1);
-    let release = Ask::Release {
-        piece,
-        state: Some(state),
-        value: 8,
-    };
-    assert_eq!(rt; make_step(&SHAPE, &mut words, &mut side, release), 2);
+    assert_eq!(rt; decide_desc(&SHAPE, &mut words, &mut side, desc, state), 1);
+    assert_eq!(rt;
+        release_cell(&SHAPE, &mut words, &mut side, piece, Some(state), 8),
+        2
+    );
     let used = side.marks_used;
     side.begin_round(&words[..8]);
     assert_eq!(rt; [used, side.marks_used], [1, 0]);

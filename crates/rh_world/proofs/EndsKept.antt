@@ -174,8 +174,8 @@ prefixes_say w side r =
       failed_acts = acts_of;
       fails = λ d i h.
           let t = fact d i h in
-          subst (λ (n : ℕ). IsPrefix w d.worker d.number n × (cells_after w n (w.target d i) ≢ w.old d i)) (sym t.1)
-          (t.0.mismatch.prefix, λ q. t.0.mismatch.differs (sym (cells_are w side r t.0.acts t.0.mismatch.prefix.within (w.target d i)) ∙ q));
+          subst (λ (n : ℕ). (i < w.size d) × IsPrefix w d.worker d.number n × (cells_after w n (w.target d i) ≢ w.old d i)) (sym t.1)
+          (t.0.mismatch.within, t.0.mismatch.prefix, λ q. t.0.mismatch.differs (sym (cells_are w side r t.0.acts t.0.mismatch.prefix.within (w.target d i)) ∙ q));
       reads = λ v k h. let t = p.reads v k h in (t.prefix, cells_are w side r k.acts t.prefix.within k.cell ∙ t.word);
       two_reads = p.in_order;
       two_failed = λ d f e g hd hf same less.

@@ -41,7 +41,7 @@ are_allowed : AreAllowed (start_world 2 1 (λ c. 5)) start_sides helped_run
 are_allowed = (
   record { nonempty = omega arith; rising = λ e f a b. omega arith; closed = refl },
   (
-    (record { size = 2; known = inr (inr (inr (inr (inr (inr (inl refl)))))); within = omega arith }, refl),
+    (record { size = 2; known = inr (inr (inr (inr (inr (inr (inl refl)))))); within = omega arith }, refl, inl (inr (inr (inr (inr (inr (inr (inr (inl refl))))))))),
     (
       tt,
       (
@@ -55,9 +55,9 @@ are_allowed = (
               (
                 only_note _ (size_is first 2) (tt, ((λ q. cc), refl)),
                 (
-                  (record { size = 2; known = inl refl; within = omega arith }, refl),
+                  (record { size = 2; known = inl refl; within = omega arith }, refl, inl (inr (inr (inl refl)))),
                   (
-                    (record { size = 2; known = inr (inl refl); within = omega arith }, refl),
+                    (record { size = 2; known = inr (inl refl); within = omega arith }, refl, inl (inr (inr (inr (inl refl))))),
                     (
                       inl refl,
                       (
@@ -75,7 +75,7 @@ are_allowed = (
                                   (
                                     record { nonempty = omega arith; rising = λ e f a b. absurd (omega arith); closed = refl },
                                     (
-                                      (record { size = 1; known = inr (inr (inr (inl refl))); within = omega arith }, refl),
+                                      (record { size = 1; known = inr (inr (inr (inl refl))); within = omega arith }, refl, inl (inr (inr (inr (inr (inl refl)))))),
                                       (
                                         tt,
                                         (
@@ -93,7 +93,7 @@ are_allowed = (
                                                     (
                                                       record { nonempty = omega arith; rising = λ e f a b. absurd (omega arith); closed = refl },
                                                       (
-                                                        (record { size = 1; known = inr (inr (inr (inl refl))); within = omega arith }, refl),
+                                                        (record { size = 1; known = inr (inr (inr (inl refl))); within = omega arith }, refl, inl (inr (inr (inr (inr (inl refl)))))),
                                                         (
                                                           (inr (inr (inr (inr (inr (inl refl))))), (refl, (1, inl refl))),
                                                           (

@@ -4,7 +4,7 @@ use native.Mathlib.Decide.{dec_lt}
 use Rattle.rh_world.specs.World.{IsDecided, IsOpened, Ref, World}
 use Rattle.rh_world.specs.World.Control.{undecided, unused}
 use Rattle.rh_world.specs.Notes.{HoldsIn, IsMismatch, IsPrefix, Note, part_of}
-use Rattle.rh_world.specs.Notes.Note.{decided, desc_is, failed_at, found, held, known, may_demote, may_promote, mismatch, new_is, old_is, over, passed, size_is, target_is, which_is}
+use Rattle.rh_world.specs.Notes.Note.{decided, desc_is, failed_at, found, held, known, may_demote, may_promote, met, mismatch, new_is, old_is, over, passed, size_is, target_is, which_is}
 use Rattle.rh_world.specs.Notes.Part.{of_acts, of_prefixes, of_rows}
 use Rattle.rh_world.specs.Later.{Later, Steady}
 use Rattle.rh_world.specs.Sides.{Side}
@@ -45,6 +45,7 @@ pub mismatch_stays : (w v : World) → Steady w v → (d : Ref) (e n : ℕ) → 
 mismatch_stays w v l d e n o above m =
     let p : n ≤ w.act_count = m.prefix.within in
     record {
+      within = subst (λ (k : ℕ). e < k) (sym (l.size d o)) m.within;
       prefix = prefix_stays w v l d.worker d.number n above m.prefix;
       acts_before = subst (λ (k : ℕ). k ≤ n) (sym (l.acts_before d o)) m.acts_before;
       differs = λ q. m.differs (sym (ap (λ (c : ℕ). v.logical n c) (l.target d e o) ∙ l.logical n (w.target d e) p) ∙ (q ∙ l.old d e o));
@@ -52,6 +53,7 @@ mismatch_stays w v l d e n o above m =
 
 module _ (w v : World) (side : ℕ → Side) (rows : Rows w side) where
   pub rows_note_stays : Steady w v → (n : Note) → part_of n ≡ of_rows → HoldsIn w n → HoldsIn v n
+  rows_note_stays l (met d) p t = l.opened d t
   rows_note_stays l (known d) p t = l.opened d t
   rows_note_stays l (size_is d n) p t = (l.opened d t.0, l.size d t.0 ∙ t.1)
   rows_note_stays l (target_is d e c) p t = (l.opened d t.0, l.target d e t.0 ∙ t.1)
@@ -72,6 +74,7 @@ module _ (w v : World) (side : ℕ → Side) (rows : Rows w side) where
   rows_note_stays l (mismatch d e n) p t = cc
 
   pub acts_note_stays : Later w v → (n : Note) → part_of n ≡ of_acts → HoldsIn w n → HoldsIn v n
+  acts_note_stays l (met d) p t = cc
   acts_note_stays l (known d) p t = cc
   acts_note_stays l (size_is d n) p t = cc
   acts_note_stays l (target_is d e c) p t = cc
@@ -94,6 +97,7 @@ module _ (w v : World) (side : ℕ → Side) (rows : Rows w side) where
   acts_note_stays l (mismatch d e n) p t = cc
 
   pub prefixes_note_stays : Steady w v → (n : Note) → part_of n ≡ of_prefixes → HoldsIn w n → HoldsIn v n
+  prefixes_note_stays l (met d) p t = cc
   prefixes_note_stays l (known d) p t = cc
   prefixes_note_stays l (size_is d n) p t = cc
   prefixes_note_stays l (target_is d e c) p t = cc

@@ -5,7 +5,7 @@ use Rattle.rh_world.specs.World.Cell.{desc, mark, plain}
 use Rattle.rh_world.specs.World.Control.{failed, succeeded, undecided, unused, withdrawn}
 use Rattle.rh_world.specs.Logical.{StandsFor}
 use Rattle.rh_world.specs.Notes.{HoldsIn, IsMismatch, Note}
-use Rattle.rh_world.specs.Notes.Note.{decided, desc_is, found, held, known, may_demote, may_promote, mismatch, new_is, old_is, size_is, target_is, which_is}
+use Rattle.rh_world.specs.Notes.Note.{decided, desc_is, found, held, known, may_demote, may_promote, met, mismatch, new_is, old_is, size_is, target_is, which_is}
 use Rattle.rh_world.specs.Sides.{Side, close_side, forget_side, is_number, note_side, open_side, paid_side, place_side, release_side, settle_side}
 use Rattle.rh_world.specs.Acts.{Acts}
 use Rattle.rh_world.specs.Prefixes.{Prefixes}
@@ -58,15 +58,16 @@ module _ (A P : Type 0) where
     step_cell c (plain u) None e q = parts_read A P w side who r c u q e
     step_cell c (plain u) (Some m) e q = parts_none A P w side who r
     step_cell c (mark x) p e q = one_note (found x c) (found_is c x e)
-    step_cell c (desc d) p e q = one_note (known d) (r.rows.descs c d e).opened
+    step_cell c (desc d) p e q = one_note (met d) (r.rows.descs c d e).opened
 
     -- a Place, and what it found
     mismatch_now : Acts w side → Prefixes w side → (d : Ref) (e u : ℕ) → w.cell (w.target d e) ≡ plain u
-        → u ≢ w.old d e → w.control d ≡ undecided → IsMismatch w d e w.act_count
-    mismatch_now acts prefixes d e u here ne und =
+        → u ≢ w.old d e → e < w.size d → w.control d ≡ undecided → IsMismatch w d e w.act_count
+    mismatch_now acts prefixes d e u here ne within und =
         let o : IsOpened (w.control d) = λ q. (let t : undecided ≡ unused = sym und ∙ q in cc) in
         let says : u ≡ w.logical w.act_count (w.target d e) = subst (λ (y : Cell). StandsFor w (w.target d e) y (w.logical w.act_count (w.target d e))) here (acts.now (w.target d e)) in
         record {
+          within = within;
           prefix = record {
             within = omega arith;
             low = λ i h p.
@@ -95,13 +96,13 @@ module _ (A P : Type 0) where
         (more_note v side who (note_side s (desc_is x d)) (which_is x e) (m.used, updated_ref_here w.mark_entry x x e refl)
         (more_note v side who s (desc_is x d) (m.used, updated_ref_here w.mark_desc x x d refl) placed))
     step_place_plain d e u o within free here false q = parts_note A P w side who r (mismatch d e w.act_count)
-        record { rows = λ i. cc; acts = λ a i. cc; prefixes = λ a p i. (o, λ und. mismatch_now (r.acts a) (r.prefixes a p) d e u here (eqb_not u (w.old d e) q) und) }
+        record { rows = λ i. cc; acts = λ a i. cc; prefixes = λ a p i. (o, λ und. mismatch_now (r.acts a) (r.prefixes a p) d e u here (eqb_not u (w.old d e) q) within und) }
 
     step_place_desc : (d f : Ref) (e : ℕ) → IsOpened (w.control d) → w.cell (w.target d e) ≡ desc f → (b : Bool)
         → is_ref f d ≡ b
-        → Partly A P w (updated side who (cond b (note_side (side who) (held d e)) (note_side (side who) (known f))))
+        → Partly A P w (updated side who (cond b (note_side (side who) (held d e)) (note_side (side who) (met f))))
     step_place_desc d f e o here true q = one_note (held d e) (o, λ und. here ∙ ap desc (is_ref_yes f d q))
-    step_place_desc d f e o here false q = one_note (known f) (r.rows.descs (w.target d e) f here).opened
+    step_place_desc d f e o here false q = one_note (met f) (r.rows.descs (w.target d e) f here).opened
 
     step_place : (d : Ref) (e : ℕ) (k : Cell) → IsOpened (w.control d) → e < w.size d → (side who).unsettled ≡ None
         → w.cell (w.target d e) ≡ k

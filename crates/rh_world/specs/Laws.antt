@@ -74,12 +74,12 @@ abbrev pub RestIsSettled : Type 0
 RestIsSettled = (w : World) (side : ℕ → Side) → Rule w side → AllAtRest side → Settled w
 
 -- What a failed descriptor and a kept read say. Of each there is a number of acts, among which the acts of its worker
--- are exactly those before it; after these the entry's cell did not hold the old value, or the cell that was read held
--- the word. Along the descriptors and reads of one worker the numbers never get smaller.
+-- are exactly those before it; after these the cell of the entry, which the descriptor has, did not hold the old value, or
+-- the cell that was read held the word. Along the descriptors and reads of one worker the numbers never get smaller.
 pub record Foretold (w : World) (side : ℕ → Side) : Type 0 where
   pub failed_acts : Ref → ℕ
   pub fails : (d : Ref) (e : ℕ) → HasFailed w d e
-      → IsPrefix w d.worker d.number (failed_acts d) × (cells_after w (failed_acts d) (w.target d e) ≢ w.old d e)
+      → (e < w.size d) × IsPrefix w d.worker d.number (failed_acts d) × (cells_after w (failed_acts d) (w.target d e) ≢ w.old d e)
   pub reads : (v : ℕ) (k : KeptRead) → In k (side v).reads
       → IsPrefix w v k.next_number k.acts × (cells_after w k.acts k.cell ≡ k.word)
   pub two_reads : (v : ℕ) → InOrder (side v).reads

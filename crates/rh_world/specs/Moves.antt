@@ -8,7 +8,7 @@ use Rattle.rh_world.specs.World.Cell.{plain, mark, desc}
 use Rattle.rh_world.specs.World.Control.{unused, undecided, succeeded, withdrawn, failed}
 use Rattle.rh_world.specs.Logical.{entry_value, changed_by}
 use Rattle.rh_world.specs.Notes.{Note, HoldsIn}
-use Rattle.rh_world.specs.Notes.Note.{known, size_is, target_is, old_is, new_is, desc_is, which_is, decided, over, passed, failed_at, found, may_promote, may_demote, held, mismatch}
+use Rattle.rh_world.specs.Notes.Note.{met, known, size_is, target_is, old_is, new_is, desc_is, which_is, decided, over, passed, failed_at, found, may_promote, may_demote, held, mismatch}
 use Rattle.rh_world.specs.Sides.{Side, is_number, note_side, open_side, place_side, settle_side, forget_side, paid_side, release_side, close_side, read_side, claim_side}
 
 -- the entries of a descriptor that is opened
@@ -50,6 +50,7 @@ next_mark w who = record { worker = who; number = w.marks_used who }
 
 -- what a row says, of an opened descriptor or of a used mark, or that it has gone on to a later one
 abbrev pub IsRowNote : Note → Type 0
+IsRowNote (met d) = ⊥
 IsRowNote (known d) = ⊥
 IsRowNote (size_is d n) = Unit {0}
 IsRowNote (target_is d e c) = Unit {0}
@@ -81,6 +82,11 @@ pub record MayWork (s : Side) (d : Ref) (e : ℕ) : Type 0 where
   pub known : In (size_is d size) s.notes
   pub within : e < size
 
+-- The worker opened d, or read its control as undecided or as decided. A Place asks for it: that d was met in a cell is not
+-- enough.
+abbrev pub HasSeen : List Note → Ref → Type 0
+HasSeen notes d = In (known d) notes ⊎ ((k : Control) × In (decided d k) notes)
+
 -- Succeeded: each entry is noted as held, of the entries that d is known to have. Failed: a mismatch is noted at the
 -- entry, and the worker names itself. Withdrawn: d is the worker's own. That no mark is left to it then is asked where
 -- the marks have room: the rule is kept without it.
@@ -103,8 +109,8 @@ pub record MayClaim (w : World) (s : Side) (who : ℕ) : Type 0 where
 
 -- A Read of a mark's control needs the mark found before, so that it comes after it. A Settle is allowed with a mark that
 -- was found in that cell, where the worker placed it or met it; and to its descriptor only if that was read as undecided
--- after that, else only if it was read as decided. A Decide also asks that d is known as opened, since only
--- then is there a control to swap. A Release asks that d is known as decided, and how; or that it is, and that its owner
+-- after that, else only if it was read as decided. A Decide also asks that the worker opened d or read its
+-- control as undecided, since only then is there a control to swap. A Release asks that d is known as decided, and how; or that it is, and that its owner
 -- has gone on: then it stands in a cell only if it did not succeed, and the old value is put there.
 abbrev pub IsAllowed : World → (ℕ → Side) → (who : ℕ) → Move → Type 0
 IsAllowed w side who (learns ns) = (n : Note) → In n ns → IsRowNote n × HoldsIn w n
@@ -112,7 +118,7 @@ IsAllowed w side who (opens p) = CanOpen side who p
 IsAllowed w side who (reads_cell c) = Unit {0}
 IsAllowed w side who (reads_control d) = Unit {0}
 IsAllowed w side who (reads_mark_control x c) = In (found x c) (side who).notes
-IsAllowed w side who (places d e) = MayWork (side who) d e × ((side who).unsettled ≡ None)
+IsAllowed w side who (places d e) = MayWork (side who) d e × ((side who).unsettled ≡ None) × HasSeen (side who).notes d
 IsAllowed w side who (settles x c true) = In (found x c) (side who).notes × In (may_promote x c) (side who).notes
 IsAllowed w side who (settles x c false) = In (found x c) (side who).notes × In (may_demote x) (side who).notes
 IsAllowed w side who (decides d k) = In (known d) (side who).notes × MayDecide (side who) who d k
@@ -231,7 +237,7 @@ abbrev pub cell_noted : Side → (c : ℕ) → Cell → (current : Option ℕ) �
 cell_noted s c (plain u) None acts next = read_side s c u acts next
 cell_noted s c (plain u) (Some p) acts next = s
 cell_noted s c (mark x) p acts next = note_side s (found x c)
-cell_noted s c (desc d) p acts next = note_side s (known d)
+cell_noted s c (desc d) p acts next = note_side s (met d)
 
 -- of the control of d
 abbrev pub control_noted : Side → Ref → Control → Side
@@ -257,7 +263,7 @@ placed_noted s x d e c = note_side (note_side (note_side (place_side s x.number)
 abbrev pub place_noted : Side → (x d : Ref) → (e c old : ℕ) → Cell → (acts : ℕ) → Side
 place_noted s x d e c old (plain u) acts = cond (u == old) (placed_noted s x d e c) (note_side s (mismatch d e acts))
 place_noted s x d e c old (mark y) acts = note_side s (found y c)
-place_noted s x d e c old (desc f) acts = cond (is_ref f d) (note_side s (held d e)) (note_side s (known f))
+place_noted s x d e c old (desc f) acts = cond (is_ref f d) (note_side s (held d e)) (note_side s (met f))
 
 -- An own mark for entry e of d is settled, whatever the swap found; where it was swapped to its descriptor, that is held.
 abbrev pub settle_noted : Side → (d : Ref) → (e c : ℕ) → (promoted : Bool) → Side

@@ -5,9 +5,9 @@ use Rattle.rh_world.specs.World.Cell.{mark, desc}
 use Rattle.rh_world.specs.World.Control.{undecided, succeeded}
 
 pub data Note : Type 0 where
-  -- of a descriptor: it was opened; how many entries it has; the cell, the old and the new value of an entry; how it was
-  -- decided
-  known : Ref → Note
+  -- of a descriptor: it was met in a cell; it was opened by the worker, or its control was read as undecided; how many entries
+  -- it has; the cell, the old and the new value of an entry; how it was decided
+  met known : Ref → Note
   size_is : Ref → ℕ → Note
   target_is old_is new_is : Ref → ℕ → ℕ → Note
   decided : Ref → Control → Note
@@ -33,9 +33,10 @@ pub record IsPrefix (w : World) (v p n : ℕ) : Type 0 where
   pub low : (i : ℕ) → i < n → (w.act i).worker ≡ v → (w.act i).number < p
   pub high : (i : ℕ) → n ≤ i → i < w.act_count → (w.act i).worker ≡ v → p ≤ (w.act i).number
 
--- After the first n acts entry e of d does not hold its old value. They are a prefix for d, and were not fewer when
--- it was opened.
+-- After the first n acts entry e of d, which has that entry, does not hold its old value. They are a prefix for d, and were
+-- not fewer when it was opened.
 pub record IsMismatch (w : World) (d : Ref) (e n : ℕ) : Type 0 where
+  pub within : e < w.size d
   pub prefix : IsPrefix w d.worker d.number n
   pub acts_before : w.acts_before d ≤ n
   pub differs : w.logical n (w.target d e) ≢ w.old d e
@@ -43,6 +44,7 @@ pub record IsMismatch (w : World) (d : Ref) (e n : ℕ) : Type 0 where
 -- The note holds in the world. While a mark stands in the cell of an entry of d, d does not stand there, so d cannot
 -- succeed: that is why a mark may be promoted however late, if d was undecided after the mark was found.
 abbrev pub HoldsIn : World → Note → Type 0
+HoldsIn w (met d) = IsOpened (w.control d)
 HoldsIn w (known d) = IsOpened (w.control d)
 HoldsIn w (size_is d n) = IsOpened (w.control d) × (w.size d ≡ n)
 HoldsIn w (target_is d e c) = IsOpened (w.control d) × (w.target d e ≡ c)
@@ -65,6 +67,7 @@ pub data Part : Type 0 where
   of_rows of_acts of_prefixes : Part
 
 abbrev pub part_of : Note → Part
+part_of (met d) = of_rows
 part_of (known d) = of_rows
 part_of (size_is d n) = of_rows
 part_of (target_is d e c) = of_rows

@@ -6,7 +6,7 @@ use Rattle.rh_world.specs.Notes.{Note, HoldsIn, IsPrefix, IsMismatch, part_of}
 use Rattle.rh_world.specs.Notes.Part.{of_prefixes}
 use Rattle.rh_world.specs.Sides.{Side, KeptRead}
 
--- d failed at entry e: there is a prefix after which the entry's cell did not hold its old value. It lies between the
+-- d failed at its entry e: there is a prefix after which the entry's cell did not hold its old value. It lies between the
 -- opening of d and what its worker did next.
 pub record FailedAt (w : World) (side : ℕ → Side) (d : Ref) (e : ℕ) : Type 0 where
   pub acts : ℕ

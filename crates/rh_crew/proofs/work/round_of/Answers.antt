@@ -4,6 +4,9 @@ use Rattle.rh_kcas.specs.Crews.{IsQuiet}
 use Rattle.rh_crew.proofs.Seats.{both_quiet, fresh_quiet}
 use Rattle.rh_crew.proofs.work.round_of.Goals as goal
 
+pub join-requires-clause-other_rest : goal.join-requires-clause-other_rest
+join-requires-clause-other_rest g c = let idle = c.split-resting.ensures.still_fresh.1 in λ r s at. fresh_quiet s.view (idle r s at)
+
 pub wipe-requires-clause-rest : goal.wipe-requires-clause-rest
 wipe-requires-clause-rest g c =
     let idle = c.split-resting.ensures.still_fresh.1 in

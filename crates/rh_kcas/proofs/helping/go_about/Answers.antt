@@ -1,8 +1,9 @@
 use Rattle.std.proofs.Common.{inl, inr, subst, sym, ◌∙◌}
 use Rattle.rh_helping.specs.Next.{Work}
 use Rattle.rh_helping.specs.Work.{Stands}
+use Rattle.rh_helping.proofs.Growing.{known_sub}
 use Rattle.rh_rdcss.proofs.Lending.{stays_first, stays_on}
-use Rattle.rh_kcas.proofs.Noting.{told_over, made_notes, noted_first, noted_on, still_known}
+use Rattle.rh_kcas.proofs.Noting.{told_over, made_notes, noted_first, noted_on}
 use Rattle.rh_kcas.proofs.helping.go_about.Goals as goal
 
 pub loop-init : goal.loop-init
@@ -22,7 +23,7 @@ loop-preserved-in-On g c =
       trusts = m.trusts;
       own = c.in-On.ensures.leads.0;
       stands = c.in-On.ensures.leads.1;
-      known = still_known _ _ m.notes _ h.known;
+      known = known_sub _ _ m.notes _ h.known;
       stays = stays_on _ _ _ h.stays m.steps;
       noted = noted_on _ _ _ h.noted (made_notes _ _ _ _ _ _ m);
     }
@@ -44,7 +45,7 @@ loop-preserved g c =
     let h = c.loop.invariant in
     let m = c.in-Over.ensures.made in
     let k = c.state.ensures in
-    let known = still_known _ _ k.notes.notes _ (still_known _ _ m.notes _ h.known) in record {
+    let known = known_sub _ _ k.notes.notes _ (known_sub _ _ m.notes _ h.known) in record {
       trusts = k.trusts;
       own = k.clear.own;
       stands = subst (λ (w : Work). Stands c.args.shape.now c.state.new.side.known.view w) (sym c.go_about.ensures) (k.clear.owes, known);
@@ -54,4 +55,4 @@ loop-preserved g c =
     }
 
 pub state-requires-clause-known : goal.state-requires-clause-known
-state-requires-clause-known g c = still_known _ _ c.in-Over.ensures.made.notes _ c.loop.invariant.known
+state-requires-clause-known g c = known_sub _ _ c.in-Over.ensures.made.notes _ c.loop.invariant.known

@@ -1,7 +1,6 @@
-use Rattle.std.proofs.Common.{List, ap, ◌∙◌, ◌∷◌}
-use Rattle.rh_world.specs.Sides.{KeptRead}
+use Rattle.std.proofs.Common.{◌∙◌, ◌∷◌}
 use Rattle.rh_rdcss.proofs.Lending.{stays_on}
-use Rattle.rh_kcas.proofs.Noting.{made_notes, noted_on, step_worker}
+use Rattle.rh_kcas.proofs.Noting.{made_notes, noted_on, step_number, step_worker}
 use Rattle.rh_kcas.proofs.reading.look.Goals as goal
 
 pub loop-preserved : goal.loop-preserved
@@ -19,10 +18,11 @@ returns-in-Sees-clause-reads g c =
     let n = c.loop.invariant.noted in
     let v = c.loop.side.known.view in
     let m = c.in-Sees.ensures.made in record {
-      seen_is = (c.in-Sees.ensures.leads.1, (v.next_number, m.reads ∙ ap (λ (rs : List KeptRead). record { cell = c.args.cell; word = c.in-Sees.word; acts = 0; next_number = v.next_number } ∷ rs) n.reads));
+      seen_is = (c.in-Sees.ensures.leads.1, m.reads ∙ (λ i. record { cell = c.args.cell; word = c.in-Sees.word; acts = 0; next_number = n.next_number i } ∷ n.reads i));
       worker = step_worker c.args.shape.now v c.look.new.side.known.view m.step m.word m.view_is ∙ n.worker;
       notes = λ x i. m.notes x (n.notes x i);
       opened = m.opened ∙ n.opened;
+      next_number = step_number c.args.shape.now v c.look.new.side.known.view m.step m.word m.view_is m.opened ∙ n.next_number;
       claims = m.claims ∙ n.claims;
     }
 
@@ -33,5 +33,6 @@ returns-in-Spent-clause-reads g c =
       worker = n.worker;
       notes = n.notes;
       opened = n.opened;
+      next_number = n.next_number;
       claims = n.claims;
     }

@@ -1,8 +1,8 @@
-use Rattle.std.proofs.Common.{ℕ, subst}
-use Rattle.rh_descriptor.specs.View.{own_ref}
-use Rattle.rh_helping.specs.Work.{HasEnded}
+use Rattle.std.proofs.Common.{length, subst}
+use Rattle.rh_descriptor.specs.View.{OwnDesc, own_ref}
+use Rattle.rh_helping.specs.Work.{HasEnded, IsWithin}
 use Rattle.rh_rdcss.proofs.Lending.{stays_first, stays_on}
-use Rattle.rh_kcas.proofs.Noting.{closed_number, made_notes, noted_first, noted_on}
+use Rattle.rh_kcas.proofs.Noting.{closed_is, made_notes, noted_first, noted_on}
 use Rattle.rh_kcas.proofs.swapping.carry_on.Goals as goal
 
 pub loop-init : goal.loop-init
@@ -28,8 +28,10 @@ loop-preserved g c =
 pub returns-in-Closed-clause-carries : goal.returns-in-Closed-clause-carries
 returns-in-Closed-clause-carries g c =
     let e = c.in-Closed.ensures in
-    let l = e.leads.2 in record {
+    let l = e.leads.2 in
+    let same = closed_is _ e.leads.0 e.leads.1 in record {
       noted = noted_on _ _ _ c.loop.invariant.noted (made_notes _ _ _ _ _ _ e.made);
       clear = record { own = l.own; owes = l.owes };
-      result = subst (λ (n : ℕ). HasEnded c.step.new.side.known.view (own_ref c.step.new.side.known.view n) c.in-Closed.ended) (closed_number _ e.leads.0 e.leads.1) l.result;
+      result = subst (λ (o : OwnDesc). HasEnded c.step.new.side.known.view (own_ref c.step.new.side.known.view o.number) c.in-Closed.ended) same l.result;
+      entry = subst (λ (o : OwnDesc). IsWithin (length o.entries) c.in-Closed.ended) same l.entry;
     }

@@ -1,17 +1,17 @@
-use Rattle.std.proofs.Common.{Some, ℕ, inl, subst, sym}
+use Rattle.std.proofs.Common.{Some, ℕ, inl, length, subst, sym}
 use Rattle.rh_descriptor.specs.declared.side.Side.{Side}
-use Rattle.rh_descriptor.specs.View.{own_ref}
+use Rattle.rh_descriptor.specs.View.{OwnDesc, own_ref}
 use Rattle.rh_world.specs.World.{In}
 use Rattle.rh_world.specs.Notes.Note.{known}
 use Rattle.rh_helping.specs.Next.{Work}
 use Rattle.rh_helping.specs.declared.machine.Progress.{Progress}
 use Rattle.rh_helping.specs.Goal.{opened_by}
 use Rattle.rh_helping.specs.Machine.{led}
-use Rattle.rh_helping.specs.Work.{HasEnded, Leads, Stands}
+use Rattle.rh_helping.specs.Work.{HasEnded, IsWithin, Leads, Stands}
 use Rattle.rh_helping.proofs.Owing.{open_all_noted}
 use Rattle.rh_rdcss.proofs.Lending.{stays_first, stays_on}
 use Rattle.rh_kcas.specs.Swaps.{HasNoted}
-use Rattle.rh_kcas.proofs.Noting.{closed_number, made_notes, noted_first, noted_on}
+use Rattle.rh_kcas.proofs.Noting.{closed_is, made_notes, noted_first, noted_on}
 use Rattle.rh_kcas.proofs.swapping.carry_out.Goals as goal
 
 pub loop-init : goal.loop-init
@@ -21,7 +21,7 @@ loop-init g c =
       trusts = c.requires.trusts;
       own = c.requires.own;
       stands = subst (λ (w : Work). Stands c.args.shape.now v w) (sym c.about-machine.ensures)
-          (c.requires.owes, inl (subst (λ (w : ℕ). In (known (record { worker = w; number = c.args.own.number })) v.side.notes) c.args.side.now.same_worker k));
+          (c.requires.owes, inl (inl (subst (λ (w : ℕ). In (known (record { worker = w; number = c.args.own.number })) v.side.notes) c.args.side.now.same_worker k)));
       stays = stays_first _;
       noted = noted_first _;
     }
@@ -48,7 +48,8 @@ returns-in-Some-Closed-clause-carries g c =
     record {
       noted = noted_on _ _ _ c.loop.invariant.noted (made_notes _ _ _ _ _ _ c.in-Some-Closed.ensures.made);
       clear = record { own = l.own; owes = l.owes };
-      result = subst (λ (n : ℕ). HasEnded next (own_ref next n) c.in-Some-Closed.ended) (closed_number _ e.0 e.1) l.result;
+      result = subst (λ (o : OwnDesc). HasEnded next (own_ref next o.number) c.in-Some-Closed.ended) (closed_is _ e.0 e.1) l.result;
+      entry = subst (λ (o : OwnDesc). IsWithin (length o.entries) c.in-Some-Closed.ended) (closed_is _ e.0 e.1) l.entry;
     }
 
 pub returns-in-None-step_fast-clause-carries : goal.returns-in-None-step_fast-clause-carries
@@ -56,4 +57,4 @@ returns-in-None-step_fast-clause-carries g c =
     let same = c.step_fast.ensures.same c.in-None-step_fast.is in
     let noted = subst (λ (s : Side). HasNoted c.args.side.now.known.view s.known.view) (sym same.2) c.loop.invariant.noted in
     let e = c.carry_on_copy.ensures.carries in
-    record { noted = noted_on _ _ _ noted e.noted; clear = e.clear; result = e.result }
+    record { noted = noted_on _ _ _ noted e.noted; clear = e.clear; result = e.result; entry = e.entry }

@@ -53,7 +53,7 @@ pub returns-in-Withdrawn-clause-swaps : goal.returns-in-Withdrawn-clause-swaps
 returns-in-Withdrawn-clause-swaps g c =
     let e = c.in-Withdrawn.ensures in
     let s = is_swapped c.args.table.now.shape c.args.entries.now c.args.seat.now.side.known.view _ c.carry_out.new.side.known.view _ _ c.args.seat.now.side.same_number e.trusts.knows c.requires.rests.rested c.open.ensures.opens e.carries in record {
-      became = (inr (s.spends refl), s.acts);
+      became = (inr (s.spends refl), inr s.so, s.acts);
       notes = s.notes;
       reads = s.reads;
       claims = s.claims;

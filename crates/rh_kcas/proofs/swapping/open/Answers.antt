@@ -1,4 +1,4 @@
-use Rattle.std.proofs.Common.{ℕ, Some, ◌∷◌, ◌∙◌, subst}
+use Rattle.std.proofs.Common.{ℕ, suc, Some, ◌∷◌, ◌∙◌, ap, subst, sym}
 use Rattle.rh_helping.specs.Goal.{KnowsOwn}
 use Rattle.rh_rdcss.proofs.Lending.{stays_on}
 use Rattle.rh_kcas.proofs.Left.{fewer_left}
@@ -18,7 +18,6 @@ loop-next-preserved c =
       is = l.1;
       stays = stays_on _ _ _ h.stays m.steps;
       noted = noted_on _ _ _ h.noted (made_notes _ _ _ _ _ _ m);
-      number = l.2 ∙ h.number;
     }
 
 pub returns-clause-opens : goal.returns-clause-opens
@@ -29,9 +28,10 @@ returns-clause-opens c =
     let next = c.step.new.side.known.view in record {
       worker = step_worker c.args.shape.now c.loop-next.side.known.view next m.step m.word m.view_is ∙ h.noted.worker;
       notes = λ n i. m.notes n (h.noted.notes n i);
-      opened = m.opened ∙ (λ i. record { number = h.number i; entries = c.args.entries.now } ∷ h.noted.opened i);
+      opened = m.opened ∙ (λ i. record { number = h.noted.next_number i; entries = c.args.entries.now } ∷ h.noted.opened i);
+      next_number = sym (l.0.last c.loop-next.side.known.view.next_number l.0.current) ∙ ap suc h.noted.next_number;
       reads = m.reads ∙ h.noted.reads;
       claims = m.claims ∙ h.noted.claims;
-      knows = subst (λ (n : ℕ). KnowsOwn next (Some (record { number = n; entries = c.args.entries.now }))) h.number l.0;
+      knows = subst (λ (n : ℕ). KnowsOwn next (Some (record { number = n; entries = c.args.entries.now }))) h.noted.next_number l.0;
       owes = l.1;
     }

@@ -1,4 +1,4 @@
-use Rattle.std.proofs.Common.{◌≡◌, length}
+use Rattle.std.proofs.Common.{length}
 use Rattle.rh_helping.specs.Opening.{IsOpening, MayOpen}
 use Rattle.rh_rdcss.specs.Sits.{Sits, Stays}
 use Rattle.rh_steps.specs.Relies.{Trusts}
@@ -13,7 +13,6 @@ invariant-loop-next l = record {
   is : IsOpening l.side.known.view l.entries l.opening;
   stays : Stays l.fn.here l.here;
   noted : HasNoted l.fn.side.known.view l.side.known.view;
-  number : l.side.known.view.next_number ≡ l.fn.side.known.view.next_number;
 }
 
 abbrev pub decreases-loop-next : goal.decreases-loop-next

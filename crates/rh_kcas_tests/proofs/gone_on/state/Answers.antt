@@ -1,7 +1,8 @@
-use Rattle.std.proofs.Common.{◌∙◌}
+use Rattle.std.proofs.Common.{◌∙◌, inl}
 use Rattle.rh_descriptor.specs.Words.{ref_of}
-use Rattle.rh_helping.proofs.Controls.{saw_control}
-use Rattle.rh_kcas_tests.proofs.Meeting.{may_on, rested_on, saw_clear, saw_notes}
+use Rattle.rh_kcas.proofs.Helped.{notes_saw}
+use Rattle.rh_kcas.proofs.Peeking.{status_rested, status_saw}
+use Rattle.rh_kcas_tests.proofs.Meeting.{may_on}
 use Rattle.rh_kcas_tests.proofs.gone_on.state.Goals as goal
 
 pub returns : goal.returns
@@ -9,18 +10,15 @@ returns c =
     let z = c.args.table.now.shape in
     let v = c.args.seat.now.side.known.view in
     let next = c.status.new.seat.side.known.view in
-    let d = ref_of c.args.desc in
-    let r = c.status.result in
+    let d = c.args.desc in
     let e = c.status.ensures in
     let h = c.requires in
-    let known = h.may.opened in
-    let saw = (saw_control v d e.read.word (e.read.control.finds.1 known) r e.read.says _ next known e.read.control.view_is).0 in
-    let noted = saw_notes v next d r saw in
-    let clear = saw_clear v next d r saw h.rests.rested.clear in record {
+    let saw = status_saw z v next d c.status.result (inl h.may.seen) e.read in
+    let rested = status_rested z v next d c.status.result (inl h.may.seen) e.read h.rests.rested in record {
       rests = record {
         here = record { own = e.same.table ∙ h.rests.here.own; alone = e.same.count ∙ h.rests.here.alone };
         knows = e.read.control.knows;
-        rested = rested_on v next noted clear h.rests.rested;
+        rested = rested;
       };
-      may = may_on z v next c.args.desc noted clear h.may;
+      may = may_on z v next d (notes_saw v next (ref_of d) saw.0 saw.1) rested.clear h.may;
     }

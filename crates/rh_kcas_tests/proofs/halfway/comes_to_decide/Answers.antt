@@ -13,6 +13,6 @@ loop-made-init c =
     let k = (open_all_noted v _ c.requires.own).known in record {
       trusts = c.requires.trusts;
       own = c.requires.own;
-      stands = subst (λ (w : Work). Stands c.args.shape.now v w) (sym c.about-machine.ensures) (c.requires.owes, inl (subst (λ (w : ℕ). In (known (record { worker = w; number = c.args.own.number })) v.side.notes) c.args.side.now.same_worker k));
+      stands = subst (λ (w : Work). Stands c.args.shape.now v w) (sym c.about-machine.ensures) (c.requires.owes, inl (inl (subst (λ (w : ℕ). In (known (record { worker = w; number = c.args.own.number })) v.side.notes) c.args.side.now.same_worker k)));
       stays = stays_first _;
     }

@@ -1,5 +1,5 @@
-use Rattle.std.proofs.Common.{◌≡◌, ◌+◌, ◌-◌, ap, arith, inl, refl, suc, sym, subst, ◌∙◌}
-use Rattle.rh_world.specs.Notes.Note.{found, held, known, mismatch}
+use Rattle.std.proofs.Common.{◌≡◌, ◌+◌, ◌-◌, ap, arith, inl, inr, refl, suc, sym, subst, ◌∙◌}
+use Rattle.rh_world.specs.Notes.Note.{found, held, met, mismatch}
 use Rattle.rh_descriptor.specs.declared.reference.Ref.{Ref as Reference}
 use Rattle.rh_descriptor.specs.View.{View}
 use Rattle.rh_descriptor.specs.Words.{ref_of}
@@ -67,10 +67,10 @@ returns-in-Mark-clause-leads g c =
 pub returns-else-eq-clause-leads : goal.returns-else-eq-clause-leads
 returns-else-eq-clause-leads g c =
     let f = c.requires.follows in
-    let n = known (ref_of c.in-Desc.desc) in
+    let n = met (ref_of c.in-Desc.desc) in
     let g = grows_note f.before n refl in
     lead c.args.shape.now _ _ _ (On (work.Control c.in-Desc.desc)) (f.view_is ∙ noted_next c.args.shape.now f.before f.knows (goal_of c.args.machine.now) f.stands.0 c.args.found c.if-found-machine.false n (saw_other c.args.shape.now f.before f.knows (goal_of c.args.machine.now) f.stands.0 c.args.found (ref_of c.in-Desc.desc) c.in-Desc.ensures (sym c.if-eq.ensures)))
-    (own_grows _ _ g _ f.own, (nothing_grows _ _ g f.stands.0.owes, inl (inl refl)))
+    (own_grows _ _ g _ f.own, (nothing_grows _ _ g f.stands.0.owes, inr (inl refl)))
 
 pub returns-then-eq-clause-ends : goal.returns-then-eq-clause-ends
 returns-then-eq-clause-ends g c = c.at_entry.ensures.ends _

@@ -11,4 +11,4 @@ pub returns-in-Some-clause-leads : goal.returns-in-Some-clause-leads
 returns-in-Some-clause-leads c =
     let v : View = c.args.side.now.known.view in
     let k = (open_all_noted v _ (subst (λ (o : Option OpenDesc). KnowsOwn v (opened_by o)) c.in-Some.is c.requires.own)).known in
-    λ z. (c.requires.own, (c.requires.owes, inl (subst (λ w. In (known (record { worker = w; number = c.in-Some.open.number })) v.side.notes) c.args.side.now.same_worker k)))
+    λ z. (c.requires.own, (c.requires.owes, inl (inl (subst (λ w. In (known (record { worker = w; number = c.in-Some.open.number })) v.side.notes) c.args.side.now.same_worker k))))

@@ -1,0 +1,12 @@
+use Rattle.std.proofs.Common.{◌∙◌}
+use Rattle.rh_kcas.proofs.Peeking.{peek_rested}
+use Rattle.rh_kcas_tests.proofs.gone_on.found.Goals as goal
+
+pub returns-clause-rests : goal.returns-clause-rests
+returns-clause-rests g c =
+    let e = c.peek_cell-word.ensures in
+    let h = c.requires in record {
+      here = record { own = e.same.table ∙ h.here.own; alone = e.same.count ∙ h.here.alone };
+      knows = e.read.knows;
+      rested = peek_rested _ _ _ _ _ e.read h.rested;
+    }

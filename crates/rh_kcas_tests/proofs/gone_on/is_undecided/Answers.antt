@@ -1,0 +1,28 @@
+use Rattle.std.proofs.Common.{◌∙◌}
+use Rattle.rh_descriptor.specs.Words.{ref_of}
+use Rattle.rh_kcas.proofs.Peeking.{status_rested}
+use Rattle.rh_rdcss.specs.Calls.{view_of}
+use Rattle.rh_kcas_tests.proofs.gone_on.is_undecided.Goals as goal
+
+pub status-requires-clause-desc : goal.status-requires-clause-desc
+status-requires-clause-desc c = c.requires.rests.knows.sound.descs (ref_of c.args.desc) c.requires.known
+
+pub returns : goal.returns
+returns c =
+    let v = view_of c.args.seat.now in
+    let next = view_of c.status.new.seat in
+    let e = c.status.ensures in
+    let h = c.requires.rests in
+    let rested = status_rested c.args.table.now.shape v next c.args.desc c.status.result c.requires.known e.read h.rested in
+    λ yes. record {
+      rests = record {
+        here = record { own = e.same.table ∙ h.here.own; alone = e.same.count ∙ h.here.alone };
+        knows = e.read.control.knows;
+        rested = rested;
+      };
+      may = record {
+        desc = h.knows.sound.descs (ref_of c.args.desc) c.requires.known;
+        seen = c.in-Some-Undecided.ensures.seen;
+        settled = rested.clear.owes.settled;
+      };
+    }

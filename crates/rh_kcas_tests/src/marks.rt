@@ -1,0 +1,262 @@
+//! Marks that a worker places and settles by single calls, for a descriptor whose own worker has stopped.
+
+ghost use Rattle.std.specs.Prelude.{IfOk, IsTrue};
+ghost use Rattle.rh_kcas.specs.Rests.{Rests};
+ghost use Rattle.rh_kcas_tests.specs.Halfway.{IsFree, IsHalfway};
+ghost use Rattle.rh_kcas_tests.specs.Marks.{HasFound, HasPlaced, IsSettled, MayTry};
+
+use crate::halfway::{go_on, open_one};
+use crate::tables::*;
+use rh_descriptor::Ref;
+use rh_helping::{CellContent, Ended, named_desc, what_stands};
+use rh_kcas::{Seat, Table, are_entries, change, make, split};
+use rh_layout::Entry;
+use rh_rdcss::{Placed, peek_cell, place, settle, status};
+use rh_tagword::{State, plain_value};
+use std::alloc::{AllocError, Global};
+use std::process::Abort;
+use std::test::*;
+
+/// A table of four workers, which holds these values: the first opens descriptors, the second places marks,
+/// the third meets them, and the fourth looks on.
+fn four_workers<R: Abort>(
+    rt: &R,
+    alloc: Global,
+    cells: &[u64; 8],
+) -> Result<(Table, Seat, Seat, Seat, Seat), AllocError>
+    ensures first { IfOk result (λ r. Rests r.0 r.1) }
+    ensures second { IfOk result (λ r. Rests r.0 r.2) }
+    ensures third { IfOk result (λ r. Rests r.0 r.3) }
+    ensures fourth { IfOk result (λ r. Rests r.0 r.4) }
+{
+    assert!(rt; are_values(cells));
+    let (table, mut first) = make(alloc, shape(4, rooms(2, 8), 0), cells)?;
+    let mut second = split(&table, &mut first, 1);
+    let mut third = split(&table, &mut second, 2);
+    let fourth = split(&table, &mut third, 3);
+    Ok((table, first, second, third, fourth))
+}
+
+/// Opens a descriptor of the entries. Answers its number.
+fn opened<R: Abort>(rt: &R, table: &Table, seat: &mut Seat, entries: &[Entry]) -> u64
+    requires { IsFree table.now seat.old }
+    ensures { IsHalfway table.now seat.new entries.now result }
+{
+    assert!(rt; are_entries(&table.shape, entries));
+    assert!(rt; seat.side.next_number < table.shape.rooms.descriptors);
+    open_one(table, seat, entries)
+}
+
+/// Places a mark for the second entry of a descriptor that the worker has not met.
+fn place_second<R: Abort>(rt: &R, table: &Table, seat: &mut Seat, desc: Ref)
+    requires { IsSettled table.now seat.old }
+    ensures { HasPlaced table.now seat.new desc 1 }
+{
+    assert!(rt; is_undecided(rt, table, seat, desc));
+    let Placed::Mine = place(table, seat, desc, 1) else {
+        panic!(rt; "another word stands in the cell")
+    };
+}
+
+fn is_undecided<R: Abort>(rt: &R, table: &Table, seat: &mut Seat, desc: Ref) -> bool
+    requires { IsSettled table.now seat.old }
+    ensures settled { IsSettled table.now seat.new }
+    ensures may { IsTrue result → MayTry table.now seat.new desc }
+{
+    assert!(rt; desc.worker < table.shape.workers && desc.number < table.shape.rooms.descriptors);
+    let Some(State::Undecided) = status(table, seat, desc) else {
+        return false;
+    };
+    true
+}
+
+/// How the first worker's descriptor of this number is.
+fn status_of<R: Abort>(rt: &R, table: &Table, seat: &mut Seat, number: u64) -> Option<State>
+    requires { IsSettled table.now seat.old }
+    ensures { IsSettled table.now seat.new }
+{
+    assert!(rt; number < table.shape.rooms.descriptors);
+    status(table, seat, Ref { worker: 0, number })
+}
+
+/// Settles the own mark.
+fn settle_mine(table: &Table, seat: &mut Seat, desc: Ref, entry: usize) -> Option<u64>
+    requires { HasPlaced table.now seat.old desc entry }
+    ensures { IsSettled table.now seat.new }
+{
+    let own = seat.placed.unwrap();
+    settle(table, seat, own.piece.cell, own.mark)
+}
+
+/// Meets the mark of another worker in a cell.
+fn meet<R: Abort>(rt: &R, table: &Table, seat: &mut Seat, cell: usize) -> Ref
+    requires { IsSettled table.now seat.old }
+    ensures { HasFound table.now seat.new result cell }
+{
+    assert!(rt; cell < table.shape.cells());
+    let CellContent::Mark(mark) = what_stands(peek_cell(table, seat, cell)) else {
+        panic!(rt; "no mark stands in the cell")
+    };
+    assert!(rt; mark.worker != seat.side.worker);
+    mark
+}
+
+/// Settles it.
+fn settle_met(table: &Table, seat: &mut Seat, cell: usize, mark: Ref) -> Option<u64>
+    requires { HasFound table.now seat.old mark cell }
+{
+    settle(table, seat, cell, mark)
+}
+
+const BOTH: [Entry; 2] = [
+    Entry {
+        cell: 4,
+        old: 0,
+        new: 36,
+    },
+    Entry {
+        cell: 5,
+        old: 0,
+        new: 12,
+    },
+];
+
+#[test]
+fn an_own_mark_is_settled_to_its_descriptor(rt: HostRuntime) -> Result<(), Fail> {
+    let (table, mut first, mut second, _third, mut fourth) = four_workers(
+        &rt,
+        rt.alloc(),
+        &[0; 8],
+    )?;
+    let number = opened(&rt, &table, &mut first, &BOTH);
+    let desc = Ref { worker: 0, number };
+    place_second(&rt, &table, &mut second, desc);
+    let mark = peek(&rt, &table, &mut fourth, 5);
+    assert_eq!(rt; settle_mine(&table, &mut second, desc, 1), Some(mark));
+    assert_eq!(rt; named_desc(peek(&rt, &table, &mut fourth, 5)), Some(desc));
+    assert_eq!(rt;
+        go_on(&rt, &table, &mut first, &BOTH, number),
+        Ended::Succeeded
+    );
+    assert_eq!(rt; plain_value(peek(&rt, &table, &mut fourth, 4)), Some(9));
+    assert_eq!(rt; plain_value(peek(&rt, &table, &mut fourth, 5)), Some(3));
+    Ok(())
+}
+
+// Its own worker then finds the descriptor where its mark stood.
+#[test]
+fn a_foreign_mark_is_settled_to_its_descriptor(rt: HostRuntime) -> Result<(), Fail> {
+    let (table, mut first, mut second, mut third, mut fourth) = four_workers(
+        &rt,
+        rt.alloc(),
+        &[0; 8],
+    )?;
+    let number = opened(&rt, &table, &mut first, &BOTH);
+    let desc = Ref { worker: 0, number };
+    place_second(&rt, &table, &mut second, desc);
+    let word = peek(&rt, &table, &mut fourth, 5);
+    let mark = meet(&rt, &table, &mut third, 5);
+    assert_eq!(rt; settle_met(&table, &mut third, 5, mark), Some(word));
+    let settled = peek(&rt, &table, &mut fourth, 5);
+    assert_eq!(rt; named_desc(settled), Some(desc));
+    assert_eq!(rt; settle_mine(&table, &mut second, desc, 1), Some(settled));
+    assert_eq!(rt;
+        go_on(&rt, &table, &mut first, &BOTH, number),
+        Ended::Succeeded
+    );
+    assert_eq!(rt; plain_value(peek(&rt, &table, &mut fourth, 5)), Some(3));
+    Ok(())
+}
+
+// The descriptor fails at its first entry while the mark for its second one stands, and its worker opens the
+// next one. Only who placed the mark knows still which value it hides.
+#[test]
+fn a_mark_whose_descriptor_has_gone_on_is_settled_by_its_own_worker(
+    rt: HostRuntime,
+) -> Result<(), Fail> {
+    let (table, mut first, mut second, mut third, mut fourth) = four_workers(
+        &rt,
+        rt.alloc(),
+        &[0, 0, 0, 0, 1, 6, 0, 0],
+    )?;
+    let entries = [change(4, 7, 9), change(5, 6, 3)];
+    let number = opened(&rt, &table, &mut first, &entries);
+    let desc = Ref { worker: 0, number };
+    place_second(&rt, &table, &mut second, desc);
+    let mark = meet(&rt, &table, &mut third, 5);
+    assert_eq!(rt;
+        go_on(&rt, &table, &mut first, &entries, number),
+        Ended::Failed { entry: 0 }
+    );
+    opened(&rt, &table, &mut first, &[change(6, 0, 1)]);
+    let word = peek(&rt, &table, &mut fourth, 5);
+    assert_eq!(rt; settle_met(&table, &mut third, 5, mark), None);
+    assert_eq!(rt; peek(&rt, &table, &mut fourth, 5), word);
+    assert_eq!(rt; settle_mine(&table, &mut second, desc, 1), Some(word));
+    assert_eq!(rt; plain_value(peek(&rt, &table, &mut fourth, 5)), Some(6));
+    Ok(())
+}
+
+// Its worker has settled it, and its row is of a later one.
+#[test]
+fn a_foreign_mark_whose_row_has_gone_on_is_left(rt: HostRuntime) -> Result<(), Fail> {
+    let (table, mut first, mut second, mut third, mut fourth) = four_workers(
+        &rt,
+        rt.alloc(),
+        &[0, 0, 0, 0, 0, 0, 0, 0],
+    )?;
+    let number = opened(&rt, &table, &mut first, &BOTH);
+    let desc = Ref { worker: 0, number };
+    place_second(&rt, &table, &mut second, desc);
+    let mark = meet(&rt, &table, &mut third, 5);
+    settle_mine(&table, &mut second, desc, 1);
+    assert!(rt; is_undecided(&rt, &table, &mut second, desc));
+    assert_eq!(rt; place(&table, &mut second, desc, 0), Placed::Mine);
+    let settled = peek(&rt, &table, &mut fourth, 5);
+    assert_eq!(rt; settle_met(&table, &mut third, 5, mark), None);
+    assert_eq!(rt; peek(&rt, &table, &mut fourth, 5), settled);
+    Ok(())
+}
+
+#[test]
+fn a_descriptor_is_asked_for_an_entry_that_it_does_not_have(rt: HostRuntime) -> Result<(), Fail> {
+    let (table, mut first, mut second, _third, mut fourth) = four_workers(
+        &rt,
+        rt.alloc(),
+        &[0; 8],
+    )?;
+    let desc = Ref {
+        worker: 0,
+        number: 0,
+    };
+    assert!(rt; !is_undecided(&rt, &table, &mut second, desc));
+    opened(&rt, &table, &mut first, &BOTH);
+    assert!(rt; is_undecided(&rt, &table, &mut second, desc));
+    assert_eq!(rt; place(&table, &mut second, desc, 2), Placed::Absent);
+    assert_eq!(rt; plain_value(peek(&rt, &table, &mut fourth, 5)), Some(0));
+    Ok(())
+}
+
+// Also by the control of the worker, where that has none yet or is of an earlier descriptor.
+#[test]
+fn a_descriptor_that_is_not_opened_is_told_apart(rt: HostRuntime) -> Result<(), Fail> {
+    let (table, mut first, mut second, _third, _fourth) = four_workers(&rt, rt.alloc(), &[0; 8])?;
+    assert_eq!(rt; status_of(&rt, &table, &mut second, 0), Some(State::Unused));
+    let number = opened(&rt, &table, &mut first, &BOTH);
+    assert_eq!(rt;
+        status_of(&rt, &table, &mut second, 0),
+        Some(State::Undecided)
+    );
+    assert_eq!(rt; status_of(&rt, &table, &mut second, 1), Some(State::Unused));
+    assert_eq!(rt;
+        go_on(&rt, &table, &mut first, &BOTH, number),
+        Ended::Succeeded
+    );
+    assert_eq!(rt;
+        status_of(&rt, &table, &mut second, 0),
+        Some(State::Succeeded)
+    );
+    opened(&rt, &table, &mut first, &[change(6, 0, 1)]);
+    assert_eq!(rt; status_of(&rt, &table, &mut second, 0), None);
+    Ok(())
+}

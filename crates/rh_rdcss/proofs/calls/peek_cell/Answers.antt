@@ -1,0 +1,13 @@
+use Rattle.std.proofs.Common.{subst, sym}
+use Rattle.rh_descriptor.specs.View.{View}
+use Rattle.rh_descriptor.specs.Words.{cell_in}
+use Rattle.rh_rdcss.specs.Calls.{Meets, view_of}
+use Rattle.rh_rdcss.proofs.Looked.{meets}
+use Rattle.rh_rdcss.proofs.calls.peek_cell.Goals as goal
+
+pub returns-clause-meets : goal.returns-clause-meets
+returns-clause-meets c =
+    let v = view_of c.args.seat.now in
+    let word = c.make.result in
+    subst (λ (u : View). Meets c.args.cell (cell_in word) u.side.notes) (sym c.make.ensures.learned.view_is)
+    (meets v.side c.args.cell (cell_in word) v.side.current 0 v.next_number)

@@ -1,0 +1,16 @@
+use Rattle.std.proofs.Common.{ap, subst, sym, ◌∙◌}
+use Rattle.rh_descriptor.specs.View.{View}
+use Rattle.rh_descriptor.specs.Words.{ref_of}
+use Rattle.rh_rdcss.specs.Calls.{SeenAs, view_of}
+use Rattle.rh_rdcss.proofs.Looked.{same_unsettled, seen_as}
+use Rattle.rh_rdcss.proofs.calls.status.Goals as goal
+
+pub returns-clause-seen : goal.returns-clause-seen
+returns-clause-seen c =
+    let v = view_of c.args.seat.now in
+    subst (λ (u : View). SeenAs (ref_of c.args.desc) c.status_told.result u.side.notes) (sym c.make-word.ensures.learned.view_is)
+    (seen_as v.side (ref_of c.args.desc) c.make-word.result c.status_told.result c.status_told.ensures)
+
+pub returns-clause-unsettled : goal.returns-clause-unsettled
+returns-clause-unsettled c =
+    ap (λ (u : View). u.side.unsettled) c.make-word.ensures.learned.view_is ∙ same_unsettled (view_of c.args.seat.now).side (ref_of c.args.desc) c.make-word.result

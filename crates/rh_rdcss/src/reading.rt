@@ -1,0 +1,23 @@
+//! What a control tells of a descriptor that need not be known.
+
+ghost use Rattle.std.specs.Prelude.{◌≡◌, option_map};
+ghost use Rattle.rh_descriptor.specs.Words.{control_of};
+ghost use Rattle.rh_rule.specs.Sound.{IsControlWord};
+ghost use Rattle.rh_rdcss.specs.Calls.{status_said};
+
+use rh_descriptor::Ref;
+use rh_helping::state_told;
+use rh_tagword::{State, unpack_control};
+
+/// How a descriptor stands by this word, its worker's control: `Unused` where that is of an earlier one, and
+/// none where it is of a later one.
+#[inline(always)]
+pub(crate) fn status_told(desc: Ref, word: u64) -> Option<State>
+    requires { IsControlWord word }
+    ensures { option_map control_of result ≡ status_said desc.number word }
+{
+    match unpack_control(word) {
+        Some((serial, _)) if serial < desc.number => Some(State::Unused),
+        _ => state_told(desc, word),
+    }
+}
