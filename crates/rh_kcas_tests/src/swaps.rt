@@ -145,7 +145,8 @@ fn an_own_change_is_read_back(rt: HostRuntime) -> Result<(), Fail> {
     let both = [change(4, 0, 10), change(5, 0, 3)];
     assert!(rt; are_entries(&table.shape, &both));
     let word = swapped_and_read(&rt, &table, &mut seat, &both, 1);
-    assert_eq!(rt; word.and_then(plain_value), Some(3));
+    let word = word.expect(&rt, "the swap is done");
+    assert_eq!(rt; plain_value(word), Some(3));
     assert_eq!(rt; swapped_and_read(&rt, &table, &mut seat, &both, 0), None);
     Ok(())
 }

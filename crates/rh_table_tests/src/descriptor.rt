@@ -82,8 +82,6 @@ fn a_claim_takes_the_next_place(rt: HostRuntime) -> Result<(), Fail> {
     let mut side = Side::new(1, &[0; 8]);
     assert_eq!(rt; claim_key(&SHAPE, &mut words, &mut side), 0);
     assert_eq!(rt; words[72], 1);
-    assert_eq!(rt; make_step(&SHAPE, &mut words, &mut side, Ask::Claim), 1);
-    assert_eq!(rt; words[72], 2);
     Ok(())
 }
 
@@ -99,6 +97,10 @@ fn a_word_of_an_own_row_is_written_and_read(rt: HostRuntime) -> Result<(), Fail>
     assert_eq!(rt; words[65], 40);
     let read = Reading::Word(65);
     assert_eq!(rt; read_word(&SHAPE, &mut words, &mut side, read), 40);
+    assert_eq!(rt;
+        make_step(&SHAPE, &mut words, &mut side, Ask::Read(read)),
+        40
+    );
     Ok(())
 }
 

@@ -1,7 +1,8 @@
-use Rattle.std.proofs.Common.{◌∙◌}
+use Rattle.std.proofs.Common.{Some, ◌∙◌, subst}
+use Rattle.rh_tagword.specs.declared.control.State.{State}
 use Rattle.rh_descriptor.specs.Words.{ref_of}
 use Rattle.rh_kcas.proofs.Peeking.{status_rested}
-use Rattle.rh_rdcss.specs.Calls.{view_of}
+use Rattle.rh_rdcss.specs.Calls.{SeenAs, view_of}
 use Rattle.rh_kcas_tests.proofs.gone_on.is_undecided.Goals as goal
 
 pub status-requires-clause-desc : goal.status-requires-clause-desc
@@ -22,7 +23,7 @@ returns c =
       };
       may = record {
         desc = h.knows.sound.descs (ref_of c.args.desc) c.requires.known;
-        seen = c.in-Some-Undecided.ensures.seen;
+        seen = subst (λ (k : State). SeenAs (ref_of c.args.desc) (Some k) next.side.notes) c.in-Some-Undecided.field-0-is c.in-Some-Undecided.ensures.seen;
         settled = rested.clear.owes.settled;
       };
     }
