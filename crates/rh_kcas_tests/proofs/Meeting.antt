@@ -1,8 +1,4 @@
 -- What a worker that met a descriptor knows of it, it knows when it has noted more.
-use Rattle.std.proofs.Common.{Option, Some, None, ap, ◌∙◌, subst, sym}
-use Rattle.rh_tagword.specs.declared.control.State.{State}
-use Rattle.rh_world.specs.World.Cell.{desc}
-use Rattle.rh_world.specs.World.{Cell, Ref}
 use Rattle.rh_descriptor.specs.declared.reference.Ref.{Ref as Reference}
 use Rattle.rh_descriptor.specs.declared.shape.Shape.{Shape}
 use Rattle.rh_descriptor.specs.View.{View}

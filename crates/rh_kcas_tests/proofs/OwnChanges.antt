@@ -1,5 +1,5 @@
 -- The only worker of a table reads its own change back.
-use Rattle.std.proofs.Common.{◌≡◌, ◌≢◌, ℕ, zero, suc, ◌<◌, ◌≤◌, Bool, true, false, cond, Option, Some, None, IfSome, List, [], ◌∷◌, eqb, filter, length, map, refl, sym, ap, ◌∙◌, subst, inl, inr, ⊎_elim, arith, eq-eqb}
+use Rattle.std.proofs.Common.{◌≡◌, ◌≢◌, ℕ, zero, suc, ◌<◌, ◌≤◌, Bool, true, cond, Option, Some, None, IfSome, List, [], ◌∷◌, eqb, filter, length, refl, sym, ap, ◌∙◌, subst, inl, inr, ⊎_elim, arith, eq-eqb}
 use Rattle.rh_layout.specs.declared.entry.Entry.{Entry}
 use Rattle.rh_world.specs.World.{Control, In, Ref, World}
 use Rattle.rh_world.specs.World.Control.{failed, succeeded, undecided, unused, withdrawn}
