@@ -43,20 +43,19 @@ pub fn free_after(seen: &[u64], i: usize) -> Option<usize>
     (i..seen.len()).find(|j| seen[*j] == 0)
 }
 
-/// The first offset after `i` that is empty or holds a key at its home. What stands between can move
-/// back by one. `cell` is the cell of the first offset of `seen`.
+/// The first offset after `i` that is empty or holds a key at its home; there is none after the last.
+/// What stands between can move back by one. `cell` is the cell of the first offset of `seen`.
 #[tactic(auto, unfolding(rh_layout::specs::Round::cell_ahead), using(std::proofs::lemmas::Nat::one_shl))]
 pub fn stop_after(bits: u32, cell: usize, seen: &[u64], i: usize) -> Option<usize>
     requires bits { IsBits bits }
     requires cell { cell < 2 ^ bits }
-    requires i { i < length seen.now }
     ensures { MatchOption result
         ((p : ℕ) → i < p → p < length seen.now →
         IsAway bits (cell_ahead (2 ^ bits) cell p) (slice_index seen.now p))
         (λ j. IsFirstStop bits cell seen.now i j) }
 {
     let size = 1usize << bits;
-    for j in i + 1..seen.len() {
+    for j in i.saturating_add(1)..seen.len() {
         if !is_movable(bits, (cell + j) % size, seen[j]) {
             return Some(j);
         }

@@ -18,4 +18,6 @@ fn scans_end(rt: HostRuntime) {
     assert_eq!(rt; stop_after(3, 7, &from_seven, 0), Some(4));
     assert_eq!(rt; stop_after(3, 7, &[9, 6, 3], 0), Some(1));
     assert_eq!(rt; stop_after(3, 7, &[9, 17], 0), None);
+    assert_eq!(rt; stop_after(3, 7, &[0, 0], 2), None);
+    assert_eq!(rt; stop_after(3, 7, &[0, 0], usize::MAX), None);
 }
