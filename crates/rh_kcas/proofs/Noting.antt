@@ -1,13 +1,12 @@
 -- What a worker has noted, from step to step.
-use Rattle.std.proofs.Common.{◌≡◌, ℕ, suc, Option, Some, None, true, refl, ap, ◌∙◌, sym, inl, inr, ⊎_elim, List, ◌∷◌, length, arith}
+use Rattle.std.proofs.Common.{◌≡◌, ℕ, suc, Option, Some, None, true, refl, ap, ◌∙◌, sym, inl, inr, List, ◌∷◌, length, arith}
 use Rattle.rh_tagword.specs.declared.control.State.{State}
 use Rattle.rh_tagword.specs.declared.control.State.TheVariants.{Unused, Undecided, Succeeded, Withdrawn, Failed}
-use Rattle.rh_world.specs.World.{In, Ref}
-use Rattle.rh_world.specs.Notes.{Note}
+use Rattle.rh_world.specs.World.{Ref}
 use Rattle.rh_descriptor.specs.declared.shape.Shape.{Shape}
 use Rattle.rh_descriptor.specs.declared.steps.StepKind.{StepKind}
 use Rattle.rh_descriptor.specs.View.{OwnDesc, View}
-use Rattle.rh_descriptor.specs.Steps.{IsKnown, Step, noted}
+use Rattle.rh_descriptor.specs.Steps.{Step, noted}
 use Rattle.rh_descriptor.specs.Words.{control_of}
 use Rattle.rh_rule.proofs.SeatsKept.{noted_worker}
 use Rattle.rh_helping.specs.Made.{HasMade}

@@ -1,5 +1,5 @@
 -- A look at a cell or at a control: the seat rests after it.
-use Rattle.std.proofs.Common.{ℕ, Option, None, sym, subst}
+use Rattle.std.proofs.Common.{ℕ, Option, sym, subst}
 use Rattle.rh_tagword.specs.declared.control.State.{State}
 use Rattle.rh_descriptor.specs.declared.shape.Shape.{Shape}
 use Rattle.rh_descriptor.specs.declared.reference.Reading.TheVariants as reading

@@ -6,7 +6,7 @@ use Rattle.rh_descriptor.specs.Words.{ref_of}
 use Rattle.rh_helping.specs.Goal.{IsClear}
 use Rattle.rh_helping.proofs.Growing.{seen_sub}
 use Rattle.rh_kcas.specs.Swaps.{HasNoted}
-use Rattle.rh_rdcss.specs.Calls.{MayPlace}
+use Rattle.rh_rdcss.specs.Placing.{MayPlace}
 
 pub may_on : (z : Shape) (v next : View) (d : Reference) → HasNoted v next → IsClear next → MayPlace z v d → MayPlace z next d
 may_on z v next d n clear h = record {

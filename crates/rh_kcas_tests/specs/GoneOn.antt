@@ -1,7 +1,8 @@
 -- A worker that has met another one's descriptor while that was undecided.
 use Rattle.rh_descriptor.specs.declared.reference.Ref.{Ref}
 use Rattle.rh_kcas.specs.Rests.{Rests}
-use Rattle.rh_rdcss.specs.Calls.{MayPlace, view_of}
+use Rattle.rh_rdcss.specs.Calls.{view_of}
+use Rattle.rh_rdcss.specs.Placing.{MayPlace}
 use Rattle.rh_rdcss.specs.declared.seat.Seat.{Seat}
 use Rattle.rh_rdcss.specs.declared.table.Table.{Table}
 

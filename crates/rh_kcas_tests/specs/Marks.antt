@@ -4,7 +4,8 @@ use Rattle.rh_world.specs.World.{In}
 use Rattle.rh_world.specs.Notes.Note.{found}
 use Rattle.rh_descriptor.specs.declared.reference.Ref.{Ref}
 use Rattle.rh_descriptor.specs.Words.{ref_of}
-use Rattle.rh_rdcss.specs.Calls.{IsHere, IsMine, MayPlace, view_of}
+use Rattle.rh_rdcss.specs.Calls.{IsHere, view_of}
+use Rattle.rh_rdcss.specs.Placing.{IsMine, MayPlace}
 use Rattle.rh_rdcss.specs.declared.seat.Seat.{Seat}
 use Rattle.rh_rdcss.specs.declared.table.Table.{Table}
 use Rattle.rh_steps.specs.Relies.{Knows}

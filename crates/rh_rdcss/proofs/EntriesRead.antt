@@ -17,7 +17,8 @@ use Rattle.rh_helping.proofs.Growing.{seen_sub}
 use Rattle.rh_helping.proofs.Knowing.{allowed}
 use Rattle.rh_helping.proofs.Rows.{grows_read, serial_grows, serial_tells}
 use Rattle.rh_steps.specs.Relies.{Knows}
-use Rattle.rh_rdcss.specs.Calls.{EntrySays, HasEntry, KnowsPiece, Learned, LengthSays, MayPlace, Places, TriedSo}
+use Rattle.rh_rdcss.specs.Calls.{Learned}
+use Rattle.rh_rdcss.specs.Placing.{EntrySays, HasEntry, KnowsPiece, LengthSays, MayPlace, Places, TriedSo}
 use Rattle.rh_rdcss.specs.declared.calls.Placed.{Placed}
 use Rattle.rh_rdcss.specs.declared.calls.Placed.TheVariants as placed
 

@@ -1,5 +1,5 @@
 -- What a look at a cell or at a control notes.
-use Rattle.std.proofs.Common.{◌≡◌, ◌≢◌, ℕ, eqb, Bool, true, false, cond, Option, None, Some, refl, sym, ap, ◌∙◌, subst, inl, inr}
+use Rattle.std.proofs.Common.{◌≡◌, ◌≢◌, ℕ, eqb, Bool, true, false, cond, Option, None, Some, refl, sym, ap, subst, inl, inr}
 use Rattle.std.specs.Prelude.{nat_lt, option_map}
 use Rattle.rh_tagword.specs.declared.control.State.{State}
 use Rattle.rh_tagword.specs.declared.control.State.TheVariants.{Unused, Undecided, Succeeded, Withdrawn, Failed}
@@ -32,6 +32,13 @@ seen s d succeeded opened = inr (succeeded, inl refl)
 seen s d withdrawn opened = inr (withdrawn, inl refl)
 seen s d (failed e by) opened = inr (failed e by, inl refl)
 
+pub control_settles_none : (s : Side) (d : Ref) (k : Control) → (control_noted s d k).unsettled ≡ s.unsettled
+control_settles_none s d unused = refl
+control_settles_none s d undecided = refl
+control_settles_none s d succeeded = refl
+control_settles_none s d withdrawn = refl
+control_settles_none s d (failed e by) = refl
+
 module _ (s : Side) (d : Ref) (word : ℕ) where
   read_seen : (k : Control) → k ≢ unused → Some k ≡ status_said d.number word → HasSeen (control_read s d word).notes d
   read_seen k opened e =
@@ -48,13 +55,6 @@ module _ (s : Side) (d : Ref) (word : ℕ) where
   seen_as (Some Withdrawn) e = read_seen withdrawn (λ q. cc) e
   seen_as (Some (Failed by)) e = read_seen (failed 0 by) (λ q. cc) e
 
-  of_control : (k : Control) → (control_noted s d k).unsettled ≡ s.unsettled
-  of_control unused = refl
-  of_control undecided = refl
-  of_control succeeded = refl
-  of_control withdrawn = refl
-  of_control (failed e by) = refl
-
   pub same_unsettled : (control_read s d word).unsettled ≡ s.unsettled
-  same_unsettled = by_cond (λ (t : Side). t.unsettled ≡ s.unsettled) (eqb (serial_in word) d.number) _ _ (λ yes. of_control (read_control word))
+  same_unsettled = by_cond (λ (t : Side). t.unsettled ≡ s.unsettled) (eqb (serial_in word) d.number) _ _ (λ yes. control_settles_none s d (read_control word))
       (λ no. by_cond (λ (t : Side). t.unsettled ≡ s.unsettled) (is_known s.notes d) (gone_noted s d) s (λ h. refl) (λ h. refl))

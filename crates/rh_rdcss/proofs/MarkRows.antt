@@ -18,7 +18,7 @@ use Rattle.rh_rule.proofs.Said.{plain_said}
 use Rattle.rh_helping.proofs.Knowing.{allowed}
 use Rattle.rh_helping.proofs.Marking.{newest_word, older_word, other_word}
 use Rattle.rh_steps.specs.Relies.{Knows}
-use Rattle.rh_rdcss.specs.Calls.{IsMarkFor, KnowsPiece, Tried, with_row}
+use Rattle.rh_rdcss.specs.Placing.{IsMarkFor, KnowsPiece, Tried, with_row}
 
 module _ (z : Shape) (v : View) (p : Piece) (old worker mark word : ℕ) (may : KnowsPiece z v p old) (left : v.marks_used < z.rooms.marks) (of_worker : v.worker ≡ worker) (of_mark : v.marks_used ≡ mark) where
   -- what is written, the newest first

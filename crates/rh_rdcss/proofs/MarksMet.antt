@@ -6,7 +6,6 @@ use Rattle.rh_tagword.specs.declared.control.State.{State}
 use Rattle.rh_tagword.specs.declared.control.State.TheVariants.{Unused, Undecided, Succeeded, Withdrawn, Failed}
 use Rattle.rh_world.specs.World.{Control, In, Ref}
 use Rattle.rh_world.specs.World.Control.{failed, succeeded, undecided, unused, withdrawn}
-use Rattle.rh_world.specs.Notes.{Note}
 use Rattle.rh_world.specs.Notes.Note.{found, may_demote, old_is}
 use Rattle.rh_world.specs.Sides.{Side, is_number}
 use Rattle.rh_world.specs.Moves.{control_noted, mark_noted, settle_noted}
@@ -30,7 +29,9 @@ use Rattle.rh_helping.proofs.Marks.{found_keeps, may_read_entry, may_read_old, m
 use Rattle.rh_helping.proofs.Rows.{grows_read, serial_grows, serial_tells as row_tells_so}
 use Rattle.rh_steps.specs.Relies.{Knows}
 use Rattle.rh_rdcss.specs.declared.seat.OwnMark.{OwnMark}
-use Rattle.rh_rdcss.specs.Calls.{ByControl, ByOld, IsOwnUnsettled, Judged, Learned, Named, ReadsOld, ReadsRow, SettlesOwn, own_target}
+use Rattle.rh_rdcss.specs.Calls.{Learned}
+use Rattle.rh_rdcss.specs.Settling.{ByControl, ByOld, IsOwnUnsettled, Judged, Named, ReadsOld, ReadsRow, SettlesOwn, own_target}
+use Rattle.rh_rdcss.proofs.Looked.{control_settles_none}
 
 -- ---- the row is read
 
@@ -196,13 +197,6 @@ settle_knows z v x p to last j = judged_knows z v x p (Some to) last j
 
 -- ---- the own mark is settled
 
-of_control : (s : Side) (d : Ref) (k : Control) → (control_noted s d k).unsettled ≡ s.unsettled
-of_control s d unused = refl
-of_control s d undecided = refl
-of_control s d succeeded = refl
-of_control s d withdrawn = refl
-of_control s d (failed e by) = refl
-
 of_mark : (s : Side) (x : Ref) (c : ℕ) (k : Control) → (mark_noted s x c k).unsettled ≡ s.unsettled
 of_mark s x c unused = refl
 of_mark s x c undecided = refl
@@ -212,7 +206,7 @@ of_mark s x c (failed e by) = refl
 
 control_same : (s : Side) (x : Ref) (c : ℕ) (d : Ref) (word : ℕ) → (mark_control_read s x c d word).unsettled ≡ s.unsettled
 control_same s x c d word = by_cond (λ (t : Side). t.unsettled ≡ s.unsettled) (eqb (serial_in word) d.number) _ _
-    (λ yes. of_mark (control_noted s d (read_control word)) x c (read_control word) ∙ of_control s d (read_control word)) (λ no. refl)
+    (λ yes. of_mark (control_noted s d (read_control word)) x c (read_control word) ∙ control_settles_none s d (read_control word)) (λ no. refl)
 
 settled_none : (v : View) (x : Ref) (c : ℕ) (d : Ref) (e : ℕ) (old : Option ℕ) (word : ℕ) → (q : Option ℕ) → v.side.unsettled ≡ q → q ≡ Some x.number → x.worker ≡ v.worker
     → (settle_view v x c d e old word).unsettled ≡ None

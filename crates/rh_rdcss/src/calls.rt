@@ -8,7 +8,9 @@ ghost use Rattle.rh_descriptor.specs.Steps.{IsDesc};
 ghost use Rattle.rh_descriptor.specs.Steps.Step.{reads};
 ghost use Rattle.rh_descriptor.specs.Words.{cell_in, ref_of};
 ghost use Rattle.rh_steps.specs.Relies.{Knows};
-ghost use Rattle.rh_rdcss.specs.Calls.{HasStatus, IsHere, IsMine, IsOwnUnsettled, IsSame, Learned, MayPlace, Meets, Places, Recalls, SeenAs, Settles, view_of};
+ghost use Rattle.rh_rdcss.specs.Calls.{HasStatus, IsHere, IsSame, Learned, Meets, SeenAs, view_of};
+ghost use Rattle.rh_rdcss.specs.Placing.{IsMine, MayPlace, Places};
+ghost use Rattle.rh_rdcss.specs.Settling.{IsOwnUnsettled, Recalls, Settles};
 ghost use Rattle.rh_rdcss.specs.declared.calls.Placed.TheVariants.{Mine};
 
 use crate::making::make;

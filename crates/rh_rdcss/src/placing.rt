@@ -2,7 +2,8 @@
 
 ghost use Rattle.std.specs.Prelude.{◌≡◌, ◌<◌};
 ghost use Rattle.rh_steps.specs.Relies.{Knows};
-ghost use Rattle.rh_rdcss.specs.Calls.{EntrySays, HasEntry, IsHere, IsMine, IsSame, KnowsPiece, LengthSays, MayPlace, Tried, TriedSo, view_of};
+ghost use Rattle.rh_rdcss.specs.Calls.{IsHere, IsSame, view_of};
+ghost use Rattle.rh_rdcss.specs.Placing.{EntrySays, HasEntry, IsMine, KnowsPiece, LengthSays, MayPlace, Tried, TriedSo};
 ghost use Rattle.rh_rdcss.specs.declared.calls.Placed.TheVariants.{Mine};
 
 use crate::calls::Placed;

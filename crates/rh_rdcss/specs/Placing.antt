@@ -1,0 +1,136 @@
+-- The first of the two swaps of a restricted double-compare single-swap (Harris, Fraser and Pratt 2002): it leaves a mark where
+-- an entry's old value stands. That each worker places marks of its own is this project's.
+use Rattle.std.specs.Prelude.{◌≡◌, ◌≢◌, ℕ, ◌<◌, ◌≤◌, ◌⊎◌, Option, None, Some}
+use Rattle.rh_world.specs.World.{In}
+use Rattle.rh_world.specs.Notes.Note.{desc_is, found, old_is, target_is, which_is}
+use Rattle.rh_world.specs.Moves.{HasSeen, MayWork}
+use Rattle.rh_descriptor.specs.declared.shape.Shape.{Shape}
+use Rattle.rh_descriptor.specs.declared.shape.Part.TheVariants as part
+use Rattle.rh_descriptor.specs.declared.reference.Piece.{Piece}
+use Rattle.rh_descriptor.specs.declared.reference.Reading.TheVariants as reading
+use Rattle.rh_descriptor.specs.declared.reference.Ref.{Ref as Reference}
+use Rattle.rh_descriptor.specs.View.{View}
+use Rattle.rh_descriptor.specs.Words.{desc_number, ref_of}
+use Rattle.rh_descriptor.specs.Steps.{IsDesc, noted}
+use Rattle.rh_descriptor.specs.Steps.Step.{places, reads, writes}
+use Rattle.rh_rdcss.specs.declared.calls.Placed.{Placed}
+use Rattle.rh_rdcss.specs.declared.calls.Placed.TheVariants as placed
+use Rattle.rh_rdcss.specs.declared.seat.OwnMark.{OwnMark}
+use Rattle.rh_rdcss.specs.declared.seat.Seat.{Seat}
+use Rattle.rh_rdcss.specs.Calls.{Learned, view_of}
+
+-- the worker opened the descriptor or read its control as not unused, and no own mark is unsettled
+pub record MayPlace (z : Shape) (v : View) (d : Reference) : Type 0 where
+  pub desc : IsDesc z (ref_of d)
+  pub seen : HasSeen v.side.notes (ref_of d)
+  pub settled : v.side.unsettled ≡ None
+
+-- its length was read in the row, and after it the number of the descriptor that the row is of by now
+pub record ReadsLength (z : Shape) (d : Reference) (size serial : ℕ) (v next : View) : Type 0 where
+  pub middle : View
+  pub of_length : Learned z (reads (reading.Length d)) v size middle
+  pub of_serial : Learned z (reads (reading.Serial d)) middle serial next
+
+-- so it has this length, or the row has gone on to another descriptor
+abbrev pub LengthSays : Shape → Reference → Option ℕ → View → View → Type 0
+LengthSays z d None v next = (size serial : ℕ) × (serial ≢ d.number) × ReadsLength z d size serial v next
+LengthSays z d (Some size) v next = ReadsLength z d size d.number v next
+
+-- it may be placed for, and has the entry
+pub record HasEntry (z : Shape) (v : View) (d : Reference) (e : ℕ) : Type 0 where
+  pub may : MayPlace z v d
+  pub open may use *
+  pub work : MayWork v.side (ref_of d) e
+
+-- its cell and its old value were read in the row, and after them the number of the descriptor that the row is of by now
+pub record ReadsEntry (z : Shape) (d : Reference) (e cell old serial : ℕ) (v next : View) : Type 0 where
+  pub first : View
+  pub second : View
+  pub of_cell : Learned z (reads (reading.EntryCell d e)) v cell first
+  pub of_old : Learned z (reads (reading.EntryOld d e)) first old second
+  pub of_serial : Learned z (reads (reading.Serial d)) second serial next
+
+-- it has gone on to another descriptor
+pub record HasPassed (z : Shape) (d : Reference) (e : ℕ) (v next : View) : Type 0 where
+  pub cell : ℕ
+  pub old : ℕ
+  pub serial : ℕ
+  pub row : ReadsEntry z d e cell old serial v next
+  pub other : serial ≢ d.number
+
+abbrev pub EntrySays : Shape → Reference → (e : ℕ) → Option (Piece × ℕ) → View → View → Type 0
+EntrySays z d e None v next = HasPassed z d e v next
+EntrySays z d e (Some (p, old)) v next = (p ≡ record { desc = d; entry = e; cell = p.cell }) × ReadsEntry z d e p.cell old d.number v next
+
+-- the entry is known, with its cell and old value
+pub record KnowsPiece (z : Shape) (v : View) (p : Piece) (old : ℕ) : Type 0 where
+  pub entry : HasEntry z v p.desc p.entry
+  pub open entry use *
+  pub knows_cell : In (target_is (ref_of p.desc) p.entry p.cell) v.side.notes
+  pub knows_old : In (old_is (ref_of p.desc) p.entry old) v.side.notes
+
+-- the mark row is written: it is of the next own mark, and names the entry
+abbrev pub with_serial : Shape → View → View
+with_serial z v = noted z v (writes (part.MarkSerial v.worker) v.marks_used) 0
+
+abbrev pub with_desc : Shape → View → Piece → View
+with_desc z v p = noted z (with_serial z v) (writes (part.MarkDesc v.worker) (desc_number (ref_of p.desc))) 0
+
+abbrev pub with_row : Shape → View → Piece → View
+with_row z v p = noted z (with_desc z v p) (writes (part.MarkEntry v.worker) p.entry) 0
+
+-- a mark was left, its row was written, and the Place found this word
+pub record Tried (z : Shape) (p : Piece) (old : ℕ) (v : View) (word : ℕ) (next : View) : Type 0 where
+  pub left : v.marks_used < z.rooms.marks
+  pub place : Learned z (places (ref_of p.desc) p.entry p.cell old) (with_row z v p) word next
+
+-- and the mark stands in the cell where the old value was found, else that other word does
+abbrev pub TriedSo : Shape → Piece → (old : ℕ) → View → Placed → View → Type 0
+TriedSo z p old v placed.Mine next = Tried z p old v old next
+TriedSo z p old v (placed.Found word) next = (word ≢ old) × Tried z p old v word next
+TriedSo z p old v placed.Passed next = ⊥
+TriedSo z p old v placed.Absent next = ⊥
+TriedSo z p old v placed.Spent next = ⊥
+
+-- the row is of the descriptor, which has this entry, and a mark was tried for it
+pub record HasTried (z : Shape) (d : Reference) (e : ℕ) (v : View) (old word : ℕ) (next : View) : Type 0 where
+  pub size : ℕ
+  pub within : e < size
+  pub sized : View
+  pub length_is : LengthSays z d (Some size) v sized
+  pub piece : Piece
+  pub between : View
+  pub says : EntrySays z d e (Some (piece, old)) sized between
+  pub tried : Tried z piece old between word next
+
+-- the row had gone on when its length was read, or when the entry was
+abbrev pub RowPassed : Shape → Reference → (e : ℕ) → View → View → Type 0
+RowPassed z d e v next = LengthSays z d None v next
+    ⊎ ((size : ℕ) × (e < size) × ((sized : View) × LengthSays z d (Some size) v sized × HasPassed z d e sized next))
+
+-- The mark stands in the cell where the old value was found, and the seat keeps for what it is; else that other word was. Or
+-- the row had gone on, or the descriptor does not have the entry, or no mark was left: then no mark was placed.
+abbrev pub Places : Shape → Reference → (e : ℕ) → View → Placed → View → Type 0
+Places z d e v placed.Mine next = (old : ℕ) × HasTried z d e v old old next
+Places z d e v (placed.Found word) next = (old : ℕ) × (word ≢ old) × HasTried z d e v old word next
+Places z d e v placed.Passed next = RowPassed z d e v next
+Places z d e v placed.Absent next = (size : ℕ) × (size ≤ e) × LengthSays z d (Some size) v next
+Places z d e v placed.Spent next = (z.rooms.marks ≤ v.marks_used) × (next ≡ v)
+
+-- the worker noted for what its mark is, and in place of which old value
+pub record NotesMark (v : View) (own : OwnMark) : Type 0 where
+  pub of_desc : In (desc_is (ref_of own.mark) (ref_of own.piece.desc)) v.side.notes
+  pub of_entry : In (which_is (ref_of own.mark) own.piece.entry) v.side.notes
+  pub knows_old : In (old_is (ref_of own.piece.desc) own.piece.entry own.old) v.side.notes
+
+-- the seat keeps its mark, which is unsettled, for this entry
+pub record IsMarkFor (d : Reference) (e : ℕ) (v : View) (own : OwnMark) : Type 0 where
+  pub desc : own.piece.desc ≡ d
+  pub entry : own.piece.entry ≡ e
+  pub worker : own.mark.worker ≡ v.worker
+  pub unsettled : v.side.unsettled ≡ Some own.mark.number
+  pub here : In (found (ref_of own.mark) own.piece.cell) v.side.notes
+  pub notes : NotesMark v own
+
+abbrev pub IsMine : Reference → (e : ℕ) → Seat → Type 0
+IsMine d e s = (own : OwnMark) × (s.placed ≡ Some own) × IsMarkFor d e (view_of s) own

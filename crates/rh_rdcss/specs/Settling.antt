@@ -1,0 +1,127 @@
+-- The second of the two swaps of a restricted double-compare single-swap (Harris, Fraser and Pratt 2002): it settles a mark by
+-- what the control of its descriptor tells.
+use Rattle.std.specs.Prelude.{◌≡◌, ◌≢◌, ℕ, ◌⊎◌, Option, None, Some}
+use Rattle.rh_world.specs.World.{Control}
+use Rattle.rh_world.specs.World.Control.{failed, succeeded, undecided, unused, withdrawn}
+use Rattle.rh_descriptor.specs.declared.shape.Shape.{Shape}
+use Rattle.rh_descriptor.specs.declared.reference.Piece.{Piece}
+use Rattle.rh_descriptor.specs.declared.reference.Reading.TheVariants as reading
+use Rattle.rh_descriptor.specs.declared.reference.Ref.{Ref as Reference}
+use Rattle.rh_descriptor.specs.View.{View}
+use Rattle.rh_descriptor.specs.Words.{desc_in, ref_of}
+use Rattle.rh_descriptor.specs.Steps.Step.{reads, settles}
+use Rattle.rh_helping.specs.CellContent.{state_said}
+use Rattle.rh_rdcss.specs.declared.seat.OwnMark.{OwnMark}
+use Rattle.rh_rdcss.specs.Calls.{Learned}
+use Rattle.rh_rdcss.specs.Placing.{NotesMark}
+
+-- the mark is the worker's own, and unsettled
+abbrev pub IsOwnUnsettled : View → Reference → Type 0
+IsOwnUnsettled v x = (x.worker ≡ v.worker) × (v.side.unsettled ≡ Some x.number)
+
+-- the mark is the one that the seat keeps
+abbrev pub Recalls : View → Reference → Option OwnMark → Type 0
+Recalls v x None = ⊥
+Recalls v x (Some own) = (own.mark ≡ x) × NotesMark v own
+
+-- the words of the mark's row were read, and after them the number of the mark that it is of by now
+pub record ReadsRow (z : Shape) (x : Reference) (named entry serial : ℕ) (v next : View) : Type 0 where
+  pub first : View
+  pub second : View
+  pub of_desc : Learned z (reads (reading.MarkDesc x)) v named first
+  pub of_entry : Learned z (reads (reading.MarkEntry x)) first entry second
+  pub of_serial : Learned z (reads (reading.MarkSerial x)) second serial next
+
+-- it is still of this mark, and names this entry
+pub record Named (z : Shape) (x : Reference) (p : Piece) (v next : View) : Type 0 where
+  pub word : ℕ
+  pub row : ReadsRow z x word p.entry x.number v next
+  pub names : desc_in word ≡ Some (ref_of p.desc)
+
+-- it has gone on to another mark
+pub record HasGoneOn (z : Shape) (x : Reference) (v next : View) : Type 0 where
+  pub named : ℕ
+  pub entry : ℕ
+  pub serial : ℕ
+  pub row : ReadsRow z x named entry serial v next
+  pub other : serial ≢ x.number
+
+-- of a mark that was found in this cell
+abbrev pub RowSays : Shape → Reference → (c : ℕ) → Option Piece → View → View → Type 0
+RowSays z x c None v next = HasGoneOn z x v next
+RowSays z x c (Some p) v next = (p.cell ≡ c) × Named z x p v next
+
+-- the old value of the entry was read, and after it the number of the descriptor that the row is of by now
+pub record ReadsOld (z : Shape) (p : Piece) (old serial : ℕ) (v next : View) : Type 0 where
+  pub middle : View
+  pub of_old : Learned z (reads (reading.EntryOld p.desc p.entry)) v old middle
+  pub of_serial : Learned z (reads (reading.Serial p.desc)) middle serial next
+
+-- the mark is settled to it, or left where the row has gone on
+abbrev pub ByOld : Shape → Piece → View → Option (Option ℕ) → View → Type 0
+ByOld z p v None next = (old serial : ℕ) × (serial ≢ p.desc.number) × ReadsOld z p old serial v next
+ByOld z p v (Some None) next = ⊥
+ByOld z p v (Some (Some old)) next = ReadsOld z p old p.desc.number v next
+
+-- By what the control tells: a mark of an undecided descriptor is settled to it, of a decided one to the old value, and
+-- that of one that has gone on is left.
+abbrev pub ByControl : Shape → Piece → Option Control → View → Option (Option ℕ) → View → Type 0
+ByControl z p None v to next = (to ≡ None) × (next ≡ v)
+ByControl z p (Some unused) v to next = ⊥
+ByControl z p (Some undecided) v to next = (to ≡ Some None) × (next ≡ v)
+ByControl z p (Some succeeded) v to next = ByOld z p v to next
+ByControl z p (Some withdrawn) v to next = ByOld z p v to next
+ByControl z p (Some (failed e by)) v to next = ByOld z p v to next
+
+-- the control was read once the mark was found, and tells what the mark is settled to
+pub record Judged (z : Shape) (x : Reference) (p : Piece) (v : View) (to : Option (Option ℕ)) (next : View) : Type 0 where
+  pub word : ℕ
+  pub between : View
+  pub control : Learned z (reads (reading.MarkControl x p.cell p.desc)) v word between
+  pub by : ByControl z p (state_said p.desc.number word) between to next
+
+-- the row of the mark, which was found in this cell, was read and then the control of its descriptor
+pub record HasJudged (z : Shape) (x : Reference) (c : ℕ) (piece : Piece) (v : View) (to : Option (Option ℕ)) (next : View) : Type 0 where
+  pub in_cell : piece.cell ≡ c
+  pub named : View
+  pub row : Named z x piece v named
+  pub control : Judged z x piece named to next
+
+-- the mark was settled by it; the Settle found this word
+pub record HasSettled (z : Shape) (x : Reference) (c : ℕ) (v : View) (word : ℕ) (next : View) : Type 0 where
+  pub piece : Piece
+  pub to : Option ℕ
+  pub judged : View
+  pub by : HasJudged z x c piece v (Some to) judged
+  pub swap : Learned z (settles (ref_of x) piece.cell (ref_of piece.desc) piece.entry to) judged word next
+
+-- or one of the two rows had gone on, and no Settle was made
+abbrev pub SettlesMet : Shape → Reference → (c : ℕ) → View → Option ℕ → View → Type 0
+SettlesMet z x c v None next = HasGoneOn z x v next ⊎ ((piece : Piece) × HasJudged z x c piece v None next)
+SettlesMet z x c v (Some word) next = HasSettled z x c v word next
+
+-- what the own mark is settled to by what the control tells of its descriptor: to that, or to the old value
+abbrev pub own_target : Option Control → (old : ℕ) → Option ℕ
+own_target None old = Some old
+own_target (Some unused) old = Some old
+own_target (Some undecided) old = None
+own_target (Some succeeded) old = Some old
+own_target (Some withdrawn) old = Some old
+own_target (Some (failed e by)) old = Some old
+
+-- the control of its descriptor was read, and the own mark was settled by it; the Settle found this word
+pub record SettlesOwn (z : Shape) (c : ℕ) (own : OwnMark) (v : View) (word : ℕ) (next : View) : Type 0 where
+  pub said : ℕ
+  pub between : View
+  pub control : Learned z (reads (reading.MarkControl own.mark c own.piece.desc)) v said between
+  pub swap : Learned z (settles (ref_of own.mark) c (ref_of own.piece.desc) own.piece.entry (own_target (state_said own.piece.desc.number said) own.old)) between word next
+
+abbrev pub SettlesMine : Shape → (c : ℕ) → Option OwnMark → View → Option ℕ → View → Type 0
+SettlesMine z c None v r next = ⊥
+SettlesMine z c (Some own) v None next = ⊥
+SettlesMine z c (Some own) v (Some word) next = SettlesOwn z c own v word next
+
+-- So of a mark of another worker, which may be left; the own one is settled whatever became of the rows.
+pub record Settles (z : Shape) (c : ℕ) (x : Reference) (kept : Option OwnMark) (v : View) (r : Option ℕ) (next : View) : Type 0 where
+  pub foreign : (x.worker ≡ v.worker → ⊥) → SettlesMet z x c v r next
+  pub own : x.worker ≡ v.worker → SettlesMine z c kept v r next
