@@ -1,5 +1,9 @@
 -- Crews that are cut and glued, and what their workers have done.
-use Rattle.std.proofs.Common.{◌≡◌, ℕ, ◌+◌, ◌<◌, ⊎_elim, List, [], ◌∷◌, ◌++◌, length, length-append, length-set, length-take-le, get_or, set, take, drop, sym, ap, ◌∙◌, subst, arith}
+use Rattle.std.proofs.Common.{◌≡◌, ℕ, ◌+◌, ◌<◌, ◌≤◌, Bool, true, inl, inr, ⊎_elim, List, [], ◌∷◌, ◌++◌, length, length-append, length-set, length-take-le, get_or, set, take, drop, sym, ap, ◌∙◌, subst, arith}
+use Rattle.std.specs.Prelude.{nat_lt}
+use Rattle.std.proofs.Math.Nat.{eq-or-lt_of_le}
+use Rattle.std.proofs.lemmas.Bool.{cases_Bool}
+use Rattle.std.proofs.lemmas.Bool.Decides.{nat_tests}
 use Rattle.std.proofs.lemmas.List.{length-drop}
 use mathlib.Core.Option.{some, some-injective}
 use lib.ListN.{get_elem?}
@@ -11,7 +15,7 @@ use Rattle.rh_rdcss.specs.Calls.{view_of}
 use Rattle.rh_rdcss.specs.declared.seat.Seat.{Seat}
 use Rattle.rh_rdcss.specs.declared.table.Table.{Table}
 use Rattle.rh_kcas.specs.Crews.{IsAt, IsCut, IsFresh, IsJoined, IsQuiet, views_of}
-use Rattle.rh_phase.specs.Crew.{AreHalves, CanWork, HaveWorked}
+use Rattle.rh_phase.specs.Crew.{AllMayStart, AreHalves, CanWork, HaveWorked}
 use Rattle.rh_phase.specs.Hands.{AllStand, HasStopped, InPairs, IsHand, Past, Stands}
 use Rattle.rh_phase.specs.declared.crew.Crew.{Crew}
 use Rattle.rh_phase.specs.declared.hand.Hand.{Hand}
@@ -106,6 +110,17 @@ module _ (t : Table) (keys : List ℕ) (c left right : Crew) (can : CanWork t ke
       of_both : (P : View → Hand → Type 0) → InPairs P (views_of l.seat) l.hands → InPairs P (views_of r.seat) r.hands → InPairs P (views_of both.seat) both.hands
       of_both P x y = subst (λ (hs : List Hand). InPairs P (views_of both.seat) hs) (sym hands) (subst (λ (vs : List Known). InPairs P vs (l.hands ++ r.hands)) (sym joined.views)
           (pairs_both P (views_of l.seat) (views_of r.seat) l.hands r.hands (l.seat.spans.long ∙ sym a.crew.long) x y))
+
+-- the first of the second half may have a thread, and so may the others of each half
+pub may_start_all : (allows : ℕ → Bool) (first half at rest total : ℕ) → first + half ≡ at → at + rest ≡ first + total → AllMayStart allows first half → allows at ≡ true
+    → AllMayStart allows at rest → AllMayStart allows first total
+may_start_all allows first half at rest total middle end left one right w after before = elim (cases_Bool (nat_lt w at)) [
+  | inl less ↦ left w after (grind (arith, nat_tests))
+  | inr other ↦ elim (eq-or-lt_of_le (let more : at ≤ w = grind (arith, nat_tests) in more)) [
+    | inl same ↦ subst (λ (v : ℕ). allows v ≡ true) same one
+    | inr beyond ↦ right w beyond (omega (arith, end, before))
+  ]
+]
 
 -- ---- one worker
 

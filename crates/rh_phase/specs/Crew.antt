@@ -1,5 +1,5 @@
 -- Workers of a phase with their seat, who fork in halves and join again.
-use Rattle.std.specs.Prelude.{◌≡◌, ℕ, false, List, All, Bool, length, take, drop}
+use Rattle.std.specs.Prelude.{◌≡◌, ℕ, ◌+◌, ◌<◌, true, false, List, All, Bool, length, take, drop}
 use Rattle.rh_layout.specs.Key.{IsKey}
 use Rattle.rh_kcas.specs.Crews.{IsAt, IsCut, IsFresh, IsQuiet, views_of}
 use Rattle.rh_rdcss.specs.declared.table.Table.{Table}
@@ -36,6 +36,13 @@ pub record AreHalves (c left right : Crew) : Type 0 where
   pub seats : IsCut c.seat left.seat right.seat right.seat.side.worker
   pub left_hands : left.hands ≡ take left.seat.count c.hands
   pub right_hands : right.hands ≡ drop left.seat.count c.hands
+
+-- of so many workers each after the first may have a thread
+abbrev pub AllMayStart : (allows : ℕ → Bool) → (first count : ℕ) → Type 0
+AllMayStart allows first count = (w : ℕ) → first < w → w < first + count → allows w ≡ true
+
+abbrev pub OthersMayStart : (allows : ℕ → Bool) → Crew → Type 0
+OthersMayStart allows c = AllMayStart allows c.seat.side.worker c.seat.count
 
 -- Why they did not: one is not allowed to start, or the system refused a thread.
 abbrev pub RefusedBy : (allows : ℕ → Bool) → Refused → Type 0

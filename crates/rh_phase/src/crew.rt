@@ -1,10 +1,10 @@
 //! The workers of a phase in threads, whose start may be refused.
 
-ghost use Rattle.std.specs.Prelude.{◌≡◌, ◌+◌, ◌<◌, ◌++◌, IfErr, IfOk, length};
+ghost use Rattle.std.specs.Prelude.{◌≡◌, ◌+◌, ◌<◌, ◌++◌, IfErr, IfOk, OnErr, OnOk, length};
 ghost use Rattle.std.specs.Thread.{IsSync};
 ghost use Rattle.rh_kcas.specs.Crews.{IsAt, IsJoined, IsQuiet, views_of};
 ghost use Rattle.rh_rule.specs.Seats.{InView};
-ghost use Rattle.rh_phase.specs.Crew.{AreHalves, CanWork, HaveWorked, RefusedBy};
+ghost use Rattle.rh_phase.specs.Crew.{AreHalves, CanWork, HaveWorked, OthersMayStart, RefusedBy};
 
 use crate::gate::Gate;
 use crate::hand::Hand;
@@ -69,6 +69,7 @@ struct HalfOf<'a, S> {
 
 impl<'a, S: Starts> Promise<Result<Crew, Refused>> for HalfOf<'a, S> {
     ghost kept_by = { λ p r. IfOk r (HaveWorked p.table.now p.keys.now p.crew.value)
+        × OnOk r (OthersMayStart (S.allows p.starts.now) p.crew.value)
         × IfErr r (RefusedBy (S.allows p.starts.now)) };
 }
 
@@ -136,7 +137,9 @@ pub(crate) fn run<R: Threads + Wait + Sync, G: Gate + Sync, S: Starts + Sync>(
 ) -> Result<Crew, Refused>
     requires can { CanWork table.now keys.now crew }
     ensures worked { IfOk result (HaveWorked table.now keys.now crew) }
+    ensures allowed { OnOk result (OthersMayStart (S.allows starts.now) crew) }
     ensures refused { IfErr result (RefusedBy (S.allows starts.now)) }
+    ensures several { OnErr result (1 < crew.seat.count) }
 {
     if crew.seat.count == 1 {
         return Ok(work(rt, table, crew, keys, gate));
@@ -151,7 +154,7 @@ pub(crate) fn run<R: Threads + Wait + Sync, G: Gate + Sync, S: Starts + Sync>(
         rt,
         move |scope| -> Result<(Crew, Crew), Refused>
             requires { IsSync R.row × IsSync G.row × IsSync S.row × CanWork table.now keys.now left × CanWork table.now keys.now right }
-            ensures { IfOk result (λ r. HaveWorked table.entry.now keys.entry.now left r.0 × HaveWorked table.entry.now keys.entry.now right r.1) × IfErr result (RefusedBy (S.allows starts.entry.now)) }
+            ensures { IfOk result (λ r. HaveWorked table.entry.now keys.entry.now left r.0 × HaveWorked table.entry.now keys.entry.now right r.1) × OnOk result (OthersMayStart (S.allows starts.entry.now) left × OthersMayStart (S.allows starts.entry.now) right) × IfErr result (RefusedBy (S.allows starts.entry.now)) }
         {
             let promise = HalfOf {
                 table,
@@ -163,7 +166,7 @@ pub(crate) fn run<R: Threads + Wait + Sync, G: Gate + Sync, S: Starts + Sync>(
                 promise,
                 move || -> Result<Crew, Refused>
                     requires { IsSync R.row × IsSync G.row × IsSync S.row × CanWork table.now keys.now right }
-                    ensures { IfOk result (HaveWorked table.entry.now keys.entry.now right) × IfErr result (RefusedBy (S.allows starts.entry.now)) }
+                    ensures { IfOk result (HaveWorked table.entry.now keys.entry.now right) × OnOk result (OthersMayStart (S.allows starts.entry.now) right) × IfErr result (RefusedBy (S.allows starts.entry.now)) }
                 { run(rt, table, right, keys, gate, starts) },
             );
             match started {

@@ -1,12 +1,13 @@
 //! Phases over a list of keys that several workers share.
 
-ghost use Rattle.std.specs.Prelude.{◌≡◌, ◌≢◌, ◌+◌, ◌^◌, ◌<◌, All, IfOk, OnErr, OnOk, length};
+ghost use Rattle.std.specs.Prelude.{◌≡◌, ◌≢◌, ◌+◌, ◌^◌, ◌<◌, All, IfOk, IsErrOf, OnErr, OnOk, length};
 ghost use Rattle.std.specs.FinSet as set;
 ghost use Rattle.rh_layout.specs.Key.{IsBits, IsKey};
 ghost use Rattle.rh_layout.specs.Layout.{IsLayout, keys_of};
 ghost use Rattle.rh_ledger.specs.Phase.{looked_up, most_added, set_after, tally_of};
 ghost use Rattle.rh_acts.specs.Workers.{tally_by};
 ghost use Rattle.rh_descriptor.specs.Parts.{IsShape};
+ghost use Rattle.rh_phase.specs.Crew.{AllMayStart};
 ghost use Rattle.rh_phase.specs.Made.{HasMade, IsRooms, IsWorkers};
 ghost use Rattle.rh_phase.specs.Rounds.{phase};
 
@@ -47,6 +48,7 @@ pub fn change<R: Threads + Wait + Sync, G: Gate + Sync>(
         (keys_of cells.new.items ≡ set_after kind (keys_of cells.old.items) keys.now) }
     ensures tally { IfOk result (λ t. t ≡ tally_of kind (keys_of cells.old.items) keys.now) }
     ensures unchanged { OnErr result (cells.new.items ≡ cells.old.items) }
+    ensures no_thread { IsErrOf result PhaseFault.NoThread → 1 < workers }
 {
     let rooms = Rooms::usual();
     change_with(
@@ -69,6 +71,7 @@ pub fn ask<R: Threads + Wait + Sync, G: Gate + Sync>(
     requires layout { IsLayout bits cells.now }
     requires room { set.len (keys_of cells.now) < 2 ^ bits }
     ensures found { IfOk result (λ found. found.items ≡ looked_up (keys_of cells.now) keys.now) }
+    ensures no_thread { IsErrOf result PhaseFault.NoThread → 1 < workers }
 {
     let rooms = Rooms::usual();
     ask_with(
@@ -101,6 +104,8 @@ pub fn change_with<R: Threads + Wait + Sync, G: Gate + Sync, S: Starts + Sync>(
         (keys_of cells.new.items ≡ set_after kind (keys_of cells.old.items) keys.now) }
     ensures tally { IfOk result (λ t. t ≡ tally_of kind (keys_of cells.old.items) keys.now) }
     ensures unchanged { OnErr result (cells.new.items ≡ cells.old.items) }
+    ensures allowed { OnOk result (AllMayStart (S.allows starts.now) 0 workers) }
+    ensures no_thread { IsErrOf result PhaseFault.NoThread → 1 < workers }
 {
     let shape = shape_of(bits, workers, rooms, keys);
     let cells = cells.as_mut_slice();
@@ -126,6 +131,8 @@ pub fn ask_with<R: Threads + Wait + Sync, G: Gate + Sync, S: Starts + Sync>(
     requires room { set.len (keys_of cells.now) < 2 ^ bits }
     requires rooms { IsRooms bits rooms }
     ensures found { IfOk result (λ found. found.items ≡ looked_up (keys_of cells.now) keys.now) }
+    ensures allowed { OnOk result (AllMayStart (S.allows starts.now) 0 workers) }
+    ensures no_thread { IsErrOf result PhaseFault.NoThread → 1 < workers }
 {
     let shape = shape_of(bits, workers, rooms, keys);
     let positions = keys.len();
@@ -171,6 +178,8 @@ fn carry_out<R: Threads + Wait + Sync, G: Gate + Sync, S: Starts + Sync>(
     requires room { set.len (keys_of cells.old) + most_added kind keys.now < 2 ^ shape.bits }
     ensures made { IfOk result (HasMade (phase shape kind cells.old keys.now positions) cells.new) }
     ensures unchanged { OnErr result (cells.new ≡ cells.old) }
+    ensures allowed { OnOk result (AllMayStart (S.allows starts.now) 0 shape.workers) }
+    ensures no_thread { IsErrOf result PhaseFault.NoThread → 1 < shape.workers }
 {
     let Ok(hands) = new_hands(alloc, &shape, kind, positions) else {
         return Err(PhaseFault::Memory);

@@ -52,10 +52,8 @@ pub(crate) fn load<B: Makes>(here: &mut OnTable<'_>, _side: &Side, _ask: Ask, at
     ensures stays { Stays here.old here.new }
     ensures tells { StepTells B.shape B.view B.step result here.new.seat.now.me }
 {
-    here.table
-        .inner
-        .shared
-        .load::<Making<B>>(&mut *here.seat, at)
+    let shared = &here.table.inner.shared;
+    shared.load::<Making<B>>(&mut *here.seat, at)
 }
 
 /// A swap and no store, since only a swap tells what it found: so each step is told alike.
@@ -71,10 +69,8 @@ pub(crate) fn exchange<B: Makes>(
     ensures stays { Stays here.old here.new }
     ensures tells { StepTells B.shape B.view B.step result here.new.seat.now.me }
 {
-    here.table
-        .inner
-        .shared
-        .swap::<Making<B>>(&mut *here.seat, at, new)
+    let shared = &here.table.inner.shared;
+    shared.swap::<Making<B>>(&mut *here.seat, at, new)
 }
 
 #[inline(always)]
@@ -90,10 +86,8 @@ pub(crate) fn swap<B: Makes>(
     ensures stays { Stays here.old here.new }
     ensures tells { StepTells B.shape B.view B.step result here.new.seat.now.me }
 {
-    here.table
-        .inner
-        .shared
-        .compare_exchange::<Making<B>>(&mut *here.seat, at, old, new)
+    let shared = &here.table.inner.shared;
+    shared.compare_exchange::<Making<B>>(&mut *here.seat, at, old, new)
 }
 
 #[inline(always)]
@@ -102,8 +96,6 @@ pub(crate) fn count<B: Makes>(here: &mut OnTable<'_>, _side: &Side, _ask: Ask, a
     ensures stays { Stays here.old here.new }
     ensures tells { StepTells B.shape B.view B.step result here.new.seat.now.me }
 {
-    here.table
-        .inner
-        .shared
-        .fetch_add::<Making<B>>(&mut *here.seat, at, 1)
+    let shared = &here.table.inner.shared;
+    shared.fetch_add::<Making<B>>(&mut *here.seat, at, 1)
 }
