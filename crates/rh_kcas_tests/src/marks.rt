@@ -70,6 +70,26 @@ fn is_undecided<R: Abort>(rt: &R, table: &Table, seat: &mut Seat, desc: Ref) -> 
     true
 }
 
+/// Such a table, on which the first worker has opened a descriptor of the entries, and the second has placed a
+/// mark for its second entry.
+fn marked<R: Abort>(
+    rt: &R,
+    alloc: Global,
+    cells: &[u64; 8],
+    entries: &[Entry],
+) -> Result<(Table, Seat, Seat, Seat, Seat, Ref), AllocError>
+    ensures opened { IfOk result (λ r. IsHalfway r.0 r.1 entries.now r.5.number) }
+    ensures placed { IfOk result (λ r. HasPlaced r.0 r.2 r.5 1) }
+    ensures third { IfOk result (λ r. Rests r.0 r.3) }
+    ensures fourth { IfOk result (λ r. Rests r.0 r.4) }
+{
+    let (table, mut first, mut second, third, fourth) = four_workers(rt, alloc, cells)?;
+    let number = opened(rt, &table, &mut first, entries);
+    let desc = Ref { worker: 0, number };
+    place_second(rt, &table, &mut second, desc);
+    Ok((table, first, second, third, fourth, desc))
+}
+
 /// How the first worker's descriptor of this number is.
 fn status_of<R: Abort>(rt: &R, table: &Table, seat: &mut Seat, number: u64) -> Option<State>
     requires { IsSettled table.now seat.old }
@@ -123,19 +143,17 @@ const BOTH: [Entry; 2] = [
 
 #[test]
 fn an_own_mark_is_settled_to_its_descriptor(rt: HostRuntime) -> Result<(), Fail> {
-    let (table, mut first, mut second, _third, mut fourth) = four_workers(
+    let (table, mut first, mut second, _third, mut fourth, desc) = marked(
         &rt,
         rt.alloc(),
         &[0; 8],
+        &BOTH,
     )?;
-    let number = opened(&rt, &table, &mut first, &BOTH);
-    let desc = Ref { worker: 0, number };
-    place_second(&rt, &table, &mut second, desc);
     let mark = peek(&rt, &table, &mut fourth, 5);
     assert_eq!(rt; settle_mine(&table, &mut second, desc, 1), Some(mark));
     assert_eq!(rt; named_desc(peek(&rt, &table, &mut fourth, 5)), Some(desc));
     assert_eq!(rt;
-        go_on(&rt, &table, &mut first, &BOTH, number),
+        go_on(&rt, &table, &mut first, &BOTH, desc.number),
         Ended::Succeeded
     );
     assert_eq!(rt; plain_value(peek(&rt, &table, &mut fourth, 4)), Some(9));
@@ -146,14 +164,12 @@ fn an_own_mark_is_settled_to_its_descriptor(rt: HostRuntime) -> Result<(), Fail>
 // Its own worker then finds the descriptor where its mark stood.
 #[test]
 fn a_foreign_mark_is_settled_to_its_descriptor(rt: HostRuntime) -> Result<(), Fail> {
-    let (table, mut first, mut second, mut third, mut fourth) = four_workers(
+    let (table, mut first, mut second, mut third, mut fourth, desc) = marked(
         &rt,
         rt.alloc(),
         &[0; 8],
+        &BOTH,
     )?;
-    let number = opened(&rt, &table, &mut first, &BOTH);
-    let desc = Ref { worker: 0, number };
-    place_second(&rt, &table, &mut second, desc);
     let word = peek(&rt, &table, &mut fourth, 5);
     let mark = meet(&rt, &table, &mut third, 5);
     assert_eq!(rt; settle_met(&table, &mut third, 5, mark), Some(word));
@@ -161,7 +177,7 @@ fn a_foreign_mark_is_settled_to_its_descriptor(rt: HostRuntime) -> Result<(), Fa
     assert_eq!(rt; named_desc(settled), Some(desc));
     assert_eq!(rt; settle_mine(&table, &mut second, desc, 1), Some(settled));
     assert_eq!(rt;
-        go_on(&rt, &table, &mut first, &BOTH, number),
+        go_on(&rt, &table, &mut first, &BOTH, desc.number),
         Ended::Succeeded
     );
     assert_eq!(rt; plain_value(peek(&rt, &table, &mut fourth, 5)), Some(3));
@@ -174,18 +190,16 @@ fn a_foreign_mark_is_settled_to_its_descriptor(rt: HostRuntime) -> Result<(), Fa
 fn a_mark_whose_descriptor_has_gone_on_is_settled_by_its_own_worker(
     rt: HostRuntime,
 ) -> Result<(), Fail> {
-    let (table, mut first, mut second, mut third, mut fourth) = four_workers(
+    let entries = [change(4, 7, 9), change(5, 6, 3)];
+    let (table, mut first, mut second, mut third, mut fourth, desc) = marked(
         &rt,
         rt.alloc(),
         &[0, 0, 0, 0, 1, 6, 0, 0],
+        &entries,
     )?;
-    let entries = [change(4, 7, 9), change(5, 6, 3)];
-    let number = opened(&rt, &table, &mut first, &entries);
-    let desc = Ref { worker: 0, number };
-    place_second(&rt, &table, &mut second, desc);
     let mark = meet(&rt, &table, &mut third, 5);
     assert_eq!(rt;
-        go_on(&rt, &table, &mut first, &entries, number),
+        go_on(&rt, &table, &mut first, &entries, desc.number),
         Ended::Failed { entry: 0 }
     );
     opened(&rt, &table, &mut first, &[change(6, 0, 1)]);
@@ -200,14 +214,12 @@ fn a_mark_whose_descriptor_has_gone_on_is_settled_by_its_own_worker(
 // Its worker has settled it, and its row is of a later one.
 #[test]
 fn a_foreign_mark_whose_row_has_gone_on_is_left(rt: HostRuntime) -> Result<(), Fail> {
-    let (table, mut first, mut second, mut third, mut fourth) = four_workers(
+    let (table, _first, mut second, mut third, mut fourth, desc) = marked(
         &rt,
         rt.alloc(),
-        &[0, 0, 0, 0, 0, 0, 0, 0],
+        &[0; 8],
+        &BOTH,
     )?;
-    let number = opened(&rt, &table, &mut first, &BOTH);
-    let desc = Ref { worker: 0, number };
-    place_second(&rt, &table, &mut second, desc);
     let mark = meet(&rt, &table, &mut third, 5);
     settle_mine(&table, &mut second, desc, 1);
     assert!(rt; is_undecided(&rt, &table, &mut second, desc));
