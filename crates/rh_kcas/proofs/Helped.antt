@@ -1,5 +1,5 @@
 -- The control of a descriptor that is helped is read again.
-use Rattle.std.proofs.Common.{Option, Some, None}
+use Rattle.std.proofs.Common.{◌≡◌, Option, Some, None}
 use Rattle.rh_tagword.specs.declared.control.State.{State}
 use Rattle.rh_world.specs.World.{Ref}
 use Rattle.rh_descriptor.specs.View.{View}
@@ -16,5 +16,5 @@ pub told_saw : (v next : View) (d : Ref) (r : Option State) → Saw v d r next �
 told_saw v next d None saw = saw.told.0
 told_saw v next d (Some k) saw = saw.told.stands
 
-pub notes_saw : (v next : View) (d : Ref) (r : Option State) → Saw v d r next → HasNoted v next
-notes_saw v next d r saw = record { worker = saw.keeps.worker; notes = saw.keeps.notes; opened = saw.opened; next_number = saw.keeps.next_number; reads = saw.reads; claims = saw.claims }
+pub notes_saw : (v next : View) (d : Ref) (r : Option State) → Saw v d r next → next.opening ≡ v.opening → HasNoted v next
+notes_saw v next d r saw opening = record { worker = saw.keeps.worker; opening = opening; notes = saw.keeps.notes; opened = saw.opened; next_number = saw.keeps.next_number; reads = saw.reads; claims = saw.claims }

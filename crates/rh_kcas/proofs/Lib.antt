@@ -1,6 +1,7 @@
 -- The calls of one worker are loops over the machines of rh_helping at its seat. Each loop keeps what the machine asks
 -- for at its next step.
 -- Noting: what a worker has noted, from step to step.
+-- Looking: what a worker that looks at a cell has read there.
 -- Fitting: entries of which each fits behind the one before are those of a descriptor.
 -- Left: how many steps of an opening are left, so that it ends.
 -- Peeking: a look at a cell: the seat rests after it.
@@ -15,6 +16,7 @@
 
 mod Fitting
 pub mod Noting
+mod Looking
 pub mod Peeking
 mod Carried
 pub mod Helped

@@ -1,5 +1,5 @@
 -- A table that is made meets the rule, and at its close the cells are those that the acts made.
-use Rattle.std.proofs.Common.{◌≡◌, ◌≢◌, ℕ, zero, suc, ◌+◌, ◌-◌, ◌<◌, ◌≤◌, false, Option, Some, List, [], ◌∷◌, ◌++◌, length, length-take-le, get_or, get_or-take, map, set, take, replicate, ⊎_elim, refl, sym, ap, ◌∙◌, subst, arith}
+use Rattle.std.proofs.Common.{◌≡◌, ◌≢◌, ℕ, zero, suc, ◌+◌, ◌-◌, ◌/◌, ◌<◌, ◌≤◌, false, Option, Some, List, [], ◌∷◌, ◌++◌, length, length-take-le, get_or, get_or-take, map, set, take, replicate, ⊎_elim, refl, sym, ap, ◌∙◌, subst, arith}
 use Rattle.std.specs.Prelude.{IsSome, MatchOption}
 use Rattle.std.proofs.lemmas.List.{ext_get_or, get_or-map, get_or-set_other, get_or-set_same, length-map, take_all}
 use mathlib.Core.Option.{some, some-injective, some-ne-none}
@@ -24,17 +24,18 @@ use Rattle.rh_kcas.proofs.Crews.{IsHalf}
 
 -- ---- the start
 
-pub opens : (z : Shape) (cells plain words all : List ℕ) (n m : ℕ) → IsShape z → length cells ≡ cell_count z → plain ≡ map plain_number cells → words ≡ plain
-    → n ≡ word_count z → m ≡ length words → all ≡ take n words ++ replicate (n - m) 0 → Holds {S = NoSlot} z (opening {S = NoSlot} all [] (first_view z plain))
-opens z cells plain words all n m shape size plain_is words_are n_is m_is all_is =
+-- the words of the cells, and behind them empty rows; what is kept of the cells for contracts alone is what their words are
+pub opens : (z : Shape) (cells plain all kept : List ℕ) (n m : ℕ) → IsShape z → length cells ≡ cell_count z → plain ≡ map plain_number cells
+    → n ≡ word_count z → m ≡ length plain → all ≡ take n plain ++ replicate (n - m) 0 → kept ≡ plain → Holds {S = NoSlot} z (opening {S = NoSlot} all [] (first_view z kept))
+opens z cells plain all kept n m shape size plain_is n_is m_is all_is kept_is =
     let long : length plain ≡ cell_count z = ap length plain_is ∙ length-map cells plain_number ∙ size in
-    let behind : n - m ≡ row_total z + 1 = let w = ap length words_are in omega (arith, n_is, m_is, long, w) in
-    let whole : all ≡ plain ++ replicate (row_total z + 1) 0 =
-    all_is ∙ (λ i. take_all n words (let w = ap length words_are in omega (arith, n_is, long, w)) i ++ replicate (behind i) 0) ∙ ap (λ (ws : List ℕ). ws ++ replicate (row_total z + 1) 0) words_are in
+    let behind : n - m ≡ row_total z + 1 = omega (arith, n_is, m_is, long) in
+    let whole : all ≡ plain ++ replicate (row_total z + 1) 0 = all_is ∙ (λ i. take_all n plain (omega (arith, n_is, long)) i ++ replicate (behind i) 0) in
     let are_plain = λ (c : ℕ) (inside : c < cell_count z).
     let at : get_or plain c 0 ≡ plain_number (get_or cells c 0) = ap (λ (l : List ℕ). get_or l c 0) plain_is ∙ get_or-map plain_number cells c 0 0 (omega (arith, inside, size)) in
     let tag : tag_of (get_or plain c 0) ≡ 0 = omega (arith, at) in tag in
-    subst (λ (ws : List ℕ). Holds {S = NoSlot} z (opening {S = NoSlot} ws [] (first_view z plain))) (sym whole) (starts z plain [] shape long are_plain)
+    subst (λ (ws : List ℕ). Holds {S = NoSlot} z (opening {S = NoSlot} all [] (first_view z ws))) (sym kept_is)
+    (subst (λ (ws : List ℕ). Holds {S = NoSlot} z (opening {S = NoSlot} ws [] (first_view z plain))) (sym whole) (starts z plain [] shape long are_plain))
 
 pub made_half : (z : Shape) (plain : List ℕ) (us : List Known) → us ≡ first_view z plain → IsHalf us 0 z.workers
 made_half z plain us is = subst (λ (l : List Known). IsHalf l 0 z.workers) (sym is) record {
@@ -129,3 +130,16 @@ module _ (z : Shape) (vs : List Known) (words : List ℕ) (m : AreMade z vs) (fr
         let less : c < cell_count z = let l = length-take-le (cell_count z) words within in omega (arith, inside, l) in
         get_or-take (cell_count z) words c 0 less ∙ each c less ∙ sym (get_or-map plain_number values c 0 0 (omega (arith, less, size))));
   }
+
+  -- the cells have values, also where nobody asks for them
+  pub some_values : cell_count z ≤ length words → (values : List ℕ) × Leaves z vs values
+  some_values within =
+      let fronts : List ℕ = take (cell_count z) words in
+      let long : length fronts ≡ cell_count z = length-take-le (cell_count z) words within in (
+        map (λ (n : ℕ). n / 4) fronts,
+        leaves (map (λ (n : ℕ). n / 4) fronts) within (length-map fronts (λ (n : ℕ). n / 4) ∙ long) (λ c inside.
+            let plain : tag_of (get_or words c 0) ≡ 0 = front_plain c inside in
+            let at : get_or (map (λ (n : ℕ). n / 4) fronts) c 0 ≡ get_or fronts c 0 / 4 = get_or-map (λ (n : ℕ). n / 4) fronts c 0 0 (omega (arith, long, inside)) in
+            let here : get_or fronts c 0 ≡ get_or words c 0 = get_or-take (cell_count z) words c 0 inside in
+            omega (arith, plain, at, here)),
+      )

@@ -8,16 +8,17 @@ use Rattle.rh_descriptor.specs.declared.steps.StepKind.{StepKind}
 use Rattle.rh_descriptor.specs.View.{OwnDesc, View}
 use Rattle.rh_descriptor.specs.Steps.{Step, noted}
 use Rattle.rh_descriptor.specs.Words.{control_of}
-use Rattle.rh_rule.proofs.SeatsKept.{noted_worker}
+use Rattle.rh_rule.proofs.SeatsKept.{noted_opening, noted_worker}
 use Rattle.rh_helping.specs.Made.{HasMade}
 use Rattle.rh_kcas.specs.Swaps.{HasNoted, IsNotedOver, IsTold, is_over}
 
 pub noted_first : (v : View) → HasNoted v v
-noted_first v = record { worker = refl; notes = λ n i. i; opened = refl; next_number = refl; reads = refl; claims = refl }
+noted_first v = record { worker = refl; opening = refl; notes = λ n i. i; opened = refl; next_number = refl; reads = refl; claims = refl }
 
 pub noted_on : (u v w : View) → HasNoted u v → HasNoted v w → HasNoted u w
 noted_on u v w a b = record {
   worker = b.worker ∙ a.worker;
+  opening = b.opening ∙ a.opening;
   notes = λ n i. b.notes n (a.notes n i);
   opened = b.opened ∙ a.opened;
   next_number = b.next_number ∙ a.next_number;
@@ -27,6 +28,9 @@ noted_on u v w a b = record {
 
 pub step_worker : (z : Shape) (v next : View) (s : Step) (word : ℕ) → next ≡ noted z v s word → next.worker ≡ v.worker
 step_worker z v next s word is = ap (λ (n : View). n.worker) is ∙ noted_worker z v s word
+
+pub step_opening : (z : Shape) (v next : View) (s : Step) (word : ℕ) → next ≡ noted z v s word → next.opening ≡ v.opening
+step_opening z v next s word is = ap (λ (n : View). n.opening) is ∙ noted_opening z v s word
 
 -- a step that opens no descriptor leaves the number of the next one
 no_longer : (o : OwnDesc) (os : List OwnDesc) → o ∷ os ≡ os → ⊥
@@ -48,6 +52,7 @@ step_number z v next s word is same = ap (λ (n : View). n.next_number) is ∙ n
 pub made_notes : {T : Type 0} {shows : Shape → T → View → Type 0} {makes : Shape → Step → T → View → ℕ → T → View → Type 0} (z : Shape) (k : StepKind) (t : T) (v : View) (then : T) (next : View) → HasMade shows makes z k t v then next → HasNoted v next
 made_notes z k t v then next m = record {
   worker = step_worker z v next m.step m.word m.view_is;
+  opening = step_opening z v next m.step m.word m.view_is;
   notes = m.notes;
   opened = m.opened;
   next_number = step_number z v next m.step m.word m.view_is m.opened;

@@ -34,6 +34,7 @@ pub record IsSwapped (z : Shape) (es : List Entry) (v next : View) (k : Ended) :
   pub so : RestSpec es v next k
   pub acts : made next ≡ cond (has_succeeded k) (next_desc v es ∷ made v) (made v)
   pub spends : k ≡ Withdrawn → z.rooms.marks ≤ next.marks_used
+  pub opening : next.opening ≡ v.opening
   pub notes : (n : Note) → In n v.side.notes → In n next.side.notes
   pub reads : next.side.reads ≡ v.side.reads
   pub claims : next.side.claims ≡ v.side.claims
@@ -51,6 +52,7 @@ is_swapped z es v mid next number k same knows rest o c =
       so = record { opened = opened; next_number = c.noted.next_number ∙ o.next_number; result = result; entry = c.entry };
       acts = made_more v next worker notes knows.sound.one_result rest (next_desc v es) opened r.0 r.1 ∙ ap (λ (b : Bool). cond b (next_desc v es ∷ made v) (made v)) r.2;
       spends = λ is. knows.sound.withdrawals (own_ref next v.next_number) refl (subst (HasEnded next (own_ref next v.next_number)) is result);
+      opening = c.noted.opening ∙ o.opening;
       notes = notes;
       reads = c.noted.reads ∙ o.reads;
       claims = c.noted.claims ∙ o.claims;

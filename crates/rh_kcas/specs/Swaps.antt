@@ -19,10 +19,11 @@ use Rattle.rh_helping.specs.Work.{HasEnded, IsWithin}
 use Rattle.rh_kcas.specs.declared.swapping.Outcome.{Outcome}
 use Rattle.rh_kcas.specs.declared.swapping.Outcome.TheVariants.{Done, Failed, Spent}
 
--- More is noted; the descriptors that were opened, the number of the next one, the cells that were kept as read and the claims
--- are the same.
+-- More is noted; the opening cells, the descriptors that were opened, the number of the next one, the cells that were kept as read
+-- and the claims are the same.
 pub record HasNoted (v next : View) : Type 0 where
   pub worker : next.worker ≡ v.worker
+  pub opening : next.opening ≡ v.opening
   pub notes : (n : Note) → In n v.side.notes → In n next.side.notes
   pub opened : next.opened ≡ v.opened
   pub next_number : next.next_number ≡ v.next_number
@@ -34,6 +35,7 @@ pub record HasNoted (v next : View) : Type 0 where
 -- the descriptor is open
 pub record HasOpened (v : View) (own : OwnDesc) (next : View) : Type 0 where
   pub worker : next.worker ≡ v.worker
+  pub opening : next.opening ≡ v.opening
   pub notes : (n : Note) → In n v.side.notes → In n next.side.notes
   pub opened : next.opened ≡ own ∷ v.opened
   pub next_number : next.next_number ≡ suc v.next_number
@@ -72,6 +74,7 @@ BecameOf z es v next Spent = HasNoRoom z v next × HasGivenUp es v next × (made
 
 pub record Swaps (z : Shape) (es : List Entry) (v next : View) (o : Outcome) : Type 0 where
   pub became : BecameOf z es v next o
+  pub opening : next.opening ≡ v.opening
   pub notes : (n : Note) → In n v.side.notes → In n next.side.notes
   pub reads : next.side.reads ≡ v.side.reads
   pub claims : next.side.claims ≡ v.side.claims
@@ -106,6 +109,7 @@ IsSeen z c v next (Some word) = IsPlain word
 pub record HasRead (z : Shape) (c : ℕ) (v next : View) (seen : Option ℕ) : Type 0 where
   pub seen_is : IsSeen z c v next seen
   pub worker : next.worker ≡ v.worker
+  pub opening : next.opening ≡ v.opening
   pub notes : (n : Note) → In n v.side.notes → In n next.side.notes
   pub opened : next.opened ≡ v.opened
   pub next_number : next.next_number ≡ v.next_number

@@ -1,6 +1,6 @@
 //! How a table is made, and what it leaves.
 
-ghost use Rattle.std.specs.Prelude.{◌≡◌, ◌<◌, IfOk, ℕ, length, map, slice_index};
+ghost use Rattle.std.specs.Prelude.{◌≡◌, ◌<◌, IfOk, ℕ, List, length, map, slice_index};
 ghost use Rattle.rh_descriptor.specs.Parts.{IsShape, cell_count};
 ghost use Rattle.rh_kcas.specs.Crews.{HasAll, IsFresh, IsQuiet, views_of};
 ghost use Rattle.rh_kcas.specs.Ends.{Leaves};
@@ -13,6 +13,7 @@ use rh_rdcss::{Seat, Table};
 use rh_rule::Opening;
 use rh_tagword::{plain_value, plain_word};
 use std::alloc::{AllocError, Global};
+use std::snapshot::Snapshot;
 
 /// A table whose cells hold these values, and the seat of all its workers.
 pub fn make(alloc: Global, shape: Shape, cells: &[u64]) -> Result<(Table, Seat), AllocError>
@@ -26,13 +27,14 @@ pub fn make(alloc: Global, shape: Shape, cells: &[u64]) -> Result<(Table, Seat),
     ensures fresh { IfOk result (λ r. InView IsFresh (views_of r.1)) }
     ensures rests { IfOk result (λ r. r.1.count ≡ 1 → Rests r.0 r.1) }
 {
+    let room = shape.words();
+    let mut words = plain_words(alloc, room, cells)?;
     let opening = Opening {
         shape,
-        cells: plain_words(alloc, cells)?,
+        cells: Snapshot::of(&words),
     };
-    let side = Side::new(0, &opening.cells);
-    let mut words = opening.cells.to_vec(alloc)?;
-    words.resize(shape.words(), 0)?;
+    let side = Side::new(0, &words);
+    words.resize(room, 0)?;
     let (inner, seat) = atomic_table::Table::of_words(alloc, &words, &opening)?;
     Ok((
         Table { inner, shape },
@@ -45,12 +47,12 @@ pub fn make(alloc: Global, shape: Shape, cells: &[u64]) -> Result<(Table, Seat),
     ))
 }
 
-/// The words of cells that hold these values.
-fn plain_words(alloc: Global, cells: &[u64]) -> Result<Vec<u64>, AllocError>
+/// The words of cells that hold these values, with room for so many words.
+fn plain_words(alloc: Global, room: usize, cells: &[u64]) -> Result<Vec<u64>, AllocError>
     requires { (c : ℕ) → c < length cells.now → IsValue (slice_index cells.now c) }
     ensures { IfOk result (λ words. words.items ≡ map plain_number cells.now) }
 {
-    let mut words = Vec::new(alloc);
+    let mut words = Vec::with_capacity(alloc, room)?;
     for value in cells {
         words.push(plain_word(*value))?;
     }
@@ -79,4 +81,21 @@ pub fn close(table: Table, seat: Seat, cells: &mut [u64])
         cells[cell] = value;
     }
     closed.free();
+}
+
+/// Frees the table, where nobody needs its cells. All workers are at rest, as for `close`: so the cells
+/// have values.
+pub fn discard(table: Table, seat: Seat)
+    requires all { HasAll table seat }
+    requires rest { InView IsQuiet (views_of seat) }
+    ensures { (values : List ℕ) × Leaves table.shape (views_of seat) values }
+{
+    let Table { inner, shape: _ } = table;
+    let Seat {
+        inner: seat,
+        side: _,
+        count: _,
+        placed: _,
+    } = seat;
+    inner.close_with(seat).free();
 }

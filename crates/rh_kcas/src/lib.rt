@@ -12,7 +12,7 @@ mod swapping;
 mod wiping;
 
 pub use claiming::claim;
-pub use ends::{close, make};
+pub use ends::{close, discard, make};
 pub use entries::{are_entries, change};
 pub use helping::help;
 pub use laws::{failures_tell, reads_tell};

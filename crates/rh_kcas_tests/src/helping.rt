@@ -42,7 +42,7 @@ fn run<R: Threads + Wait + Abort + Sync>(
     alloc: Global,
     swaps: bool,
 ) -> Result<Told, AllocError> {
-    let (table, first, second) = two_workers(rt, alloc, rooms(1, 8), &[0; 8])?;
+    let (table, first, second) = two_workers(rt, alloc, rooms(8, 8), &[0; 8])?;
     let entries = [change(4, 0, 9)];
     let (first, number) = stopped(rt, &table, first, &entries);
     let ((mut first, seen), (mut second, own)) = both(

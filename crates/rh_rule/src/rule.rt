@@ -3,12 +3,13 @@
 use atomic_table::TableRule;
 use rh_descriptor::{Known, Shape};
 use std::collections::LinkedList;
+use std::snapshot::Snapshot;
 
-/// What a table is made with: its shape, and the words of its cells.
+/// What a table is made with: its shape, and for contracts alone the words of its cells.
 #[derive(Drop)]
 pub struct Opening {
     pub shape: Shape,
-    pub cells: Vec<u64>,
+    pub cells: Snapshot<Vec<u64>>,
 }
 
 /// The rule of a table whose seats have views of what is kept of their workers. It has no slots.
@@ -19,5 +20,5 @@ impl TableRule<(), LinkedList<Known>, Opening> for RowRule {
 
     ghost holds = { λ o. Holds o.shape };
 
-    ghost first = { λ o. first_view o.shape o.cells.items };
+    ghost first = { λ o. first_view o.shape o.cells.value.items };
 }

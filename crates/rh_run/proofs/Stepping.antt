@@ -14,12 +14,13 @@ use Rattle.rh_descriptor.specs.Steps.{Allowed, Step, StepsTo, noted}
 use Rattle.rh_rule.specs.Core.{Core, world_then}
 use Rattle.rh_rule.specs.Sound.{Sound}
 use Rattle.rh_rule.proofs.Soundness.{views_are_sound}
+use Rattle.rh_rule.proofs.SeatsKept.{noted_opening}
 use Rattle.rh_rule.proofs.StepLaw.{each_step_keeps}
 use Rattle.rh_acts.specs.Act.{Act}
 use Rattle.rh_acts.specs.Done.{Does, IsDone, IsTold, Kept, KeyDone}
 use Rattle.rh_acts.proofs.DoneLemmas.{key_more, more_read, one_more}
 use Rattle.rh_history.specs.History.{act_of, kept_of, opening_cells, own_acts_of, value_of}
-use Rattle.rh_history.specs.OwnActs.{StepFinishes}
+use Rattle.rh_history.specs.OwnActs.{Orderly, StepFinishes}
 use Rattle.rh_history.proofs.Finishing.{steps_finish}
 use Rattle.rh_history.proofs.Happening.{happened}
 use Rattle.rh_history.proofs.Joining.{rounds_follow}
@@ -33,7 +34,7 @@ use Rattle.rh_run.proofs.Knowing.{knows_next}
 
 -- ---- what becomes of one worker
 
-module _ (kind : Kind) (z : Shape) (p : Progress) (next : View) (is : ProgressInvariant z kind p) (finishes : StepFinishes p.view next) (knows : KnowsHeld next.side next.worker) (stay : (r : Kept) → Contains (kept_of z p.view) r → Contains (kept_of z next) r) where
+module _ (kind : Kind) (z : Shape) (p : Progress) (next : View) (is : ProgressInvariant z kind p) (orderly : Orderly next) (knows : KnowsHeld next.side next.worker) (stay : (r : Kept) → Contains (kept_of z p.view) r → Contains (kept_of z next) r) where
   -- all that it read by now
   abbrev read : List Kept
   read = p.reads ++ kept_of z next
@@ -42,74 +43,79 @@ module _ (kind : Kind) (z : Shape) (p : Progress) (next : View) (is : ProgressIn
   read_more : IsDone kind z.bits read p.done (p.acts ++ own_acts_of p.view) p.told
   read_more = more_read kind z.bits (p.reads ++ kept_of z p.view) read p.done (p.acts ++ own_acts_of p.view) p.told (more_behind p.reads (kept_of z p.view) (kept_of z next) stay) is.so_far
 
-  -- no act is finished
   acts_stay : own_acts_of next ≡ own_acts_of p.view → IsDone kind z.bits read p.done (p.acts ++ own_acts_of next) p.told
   acts_stay same = rw same read_more
 
-  same_opened : next.opened ≡ p.view.opened → (o : OwnDesc) → In o next.opened → DoesOneOf kind z.bits p.keys (act_of o.entries)
-  same_opened same o i = is.opened o (subst (In o) same i)
+  -- one key more, by these own acts
+  one_done : (k : ℕ) (so : Bool) (before first : List Act) → IsDone kind z.bits read p.done before p.told
+      → KeyDone kind z.bits read k first so → before ++ first ≡ p.acts ++ own_acts_of next
+      → IsDone kind z.bits read (p.done ++ k ∷ []) (p.acts ++ own_acts_of next) (p.told ++ so ∷ [])
+  one_done k so before first so_far now same =
+      subst (λ (acts : List Act). IsDone kind z.bits read (p.done ++ k ∷ []) acts (p.told ++ so ∷ [])) same
+      (one_more kind z.bits read p.done k before first p.told so so_far now)
 
-  still : GoesOn p.view next → (n : ℕ) → p.view.side.current ≡ Some n → next.side.current ≡ Some n
-  still on n e = on.current ∙ e
+  -- each descriptor that it opened by now does one of its keys
+  abbrev pub OpenedFor : Type 0
+  OpenedFor = (o : OwnDesc) → In o next.opened → DoesOneOf kind z.bits p.keys (act_of o.entries)
 
-  -- the next key is not done yet
-  pub goes_on : GoesOn p.view next → ProgressInvariant z kind (record p { view = next })
-  goes_on on = record {
-    orderly = finishes.orderly;
-    so_far = acts_stay (finishes.stays (still on));
-    opened = same_opened on.opened;
+  pub opened_same : next.opened ≡ p.view.opened → OpenedFor
+  opened_same same o i = is.opened o (subst (In o) same i)
+
+  pub opened_more : (k : ℕ) → Contains p.keys k → (own : OwnDesc) (changes : Bool) → next.opened ≡ own ∷ p.view.opened → Does kind z.bits k changes (act_of own.entries) → OpenedFor
+  opened_more k mine own changes more does o i = ⊎_elim
+      (λ (e : o ≡ own). (k, mine, (changes, subst (λ (x : OwnDesc). Does kind z.bits k changes (act_of x.entries)) (sym e) does)))
+      (λ j. is.opened o j) (subst (In o) more i)
+
+  -- no key is done
+  pub none_done : own_acts_of next ≡ own_acts_of p.view → OpenedFor → ProgressInvariant z kind (record p { view = next })
+  none_done same opened = record { orderly = orderly; so_far = acts_stay same; opened = opened; knows = knows }
+
+  -- key k is done, as what was read tells
+  pub told_done : (k : ℕ) (so : Bool) → own_acts_of next ≡ own_acts_of p.view → IsTold kind z.bits (kept_of z next) k so → OpenedFor → ProgressInvariant z kind (furthered p next k (Some so))
+  told_done k so same tells opened = record {
+    orderly = orderly;
+    so_far = one_done k so (p.acts ++ own_acts_of next) [] (acts_stay same)
+        (key_more kind z.bits (kept_of z next) read k [] so (Contains-append_right p.reads (kept_of z next)) (inr record { none = refl; tells = tells }))
+        (append-nil (p.acts ++ own_acts_of next));
+    opened = opened;
     knows = knows;
   }
 
-  module _ (k : ℕ) (mine : Contains p.keys k) where
-    not_done : Advances z kind k p.view next None → ProgressInvariant z kind (record p { view = next })
-    not_done a = ⊎_elim goes_on (⊎_elim
-        (λ (new : Opens z kind k p.view next). record {
-          orderly = finishes.orderly;
-          so_far = acts_stay (finishes.stays (λ n e. absurd (some_not_none n (sym e ∙ new.closed))));
-          opened = λ o i. ⊎_elim
-              (λ (e : o ≡ new.own). (k, mine, (new.changes, subst (λ (x : OwnDesc). Does kind z.bits k new.changes (act_of x.entries)) (sym e) new.does)))
-              (λ j. is.opened o j) (subst (In o) new.opened i);
-          knows = knows;
-        })
-        (λ (old : Fails p.view next). record {
-          orderly = finishes.orderly;
-          so_far = acts_stay (finishes.fails old.own old.control old.closes old.before old.in_vain);
-          opened = same_opened old.opened;
-          knows = knows;
-        })) a
+  -- it is done by an own act
+  pub act_done : (k : ℕ) (so : Bool) (act : Act) → own_acts_of next ≡ own_acts_of p.view ++ act ∷ [] → Does kind z.bits k so act → OpenedFor → ProgressInvariant z kind (furthered p next k (Some so))
+  act_done k so act more does opened = record {
+    orderly = orderly;
+    so_far = one_done k so (p.acts ++ own_acts_of p.view) (act ∷ []) read_more (inl record { act = act; only = refl; does = does })
+        (append_assoc p.acts (own_acts_of p.view) (act ∷ []) ∙ ap (λ (acts : List Act). p.acts ++ acts) (sym more));
+    opened = opened;
+    knows = knows;
+  }
 
-    -- one key more, by these own acts
-    one_done : (so : Bool) (before first : List Act) → IsDone kind z.bits read p.done before p.told
-        → KeyDone kind z.bits read k first so → before ++ first ≡ p.acts ++ own_acts_of next
-        → IsDone kind z.bits read (p.done ++ k ∷ []) (p.acts ++ own_acts_of next) (p.told ++ so ∷ [])
-    one_done so before first so_far now same =
-        subst (λ (acts : List Act). IsDone kind z.bits read (p.done ++ k ∷ []) acts (p.told ++ so ∷ [])) same
-        (one_more kind z.bits read p.done k before first p.told so so_far now)
+  -- ---- in a step
 
-    is_done : (so : Bool) → Advances z kind k p.view next (Some so) → ProgressInvariant z kind (furthered p next k (Some so))
-    is_done so a = ⊎_elim
-        (λ (on : GoesOn p.view next × IsTold kind z.bits (kept_of z next) k so). record {
-          orderly = finishes.orderly;
-          so_far = one_done so (p.acts ++ own_acts_of next) [] (acts_stay (finishes.stays (still on.0)))
-              (key_more kind z.bits (kept_of z next) read k [] so (Contains-append_right p.reads (kept_of z next)) (inr record { none = refl; tells = on.1 }))
-              (append-nil (p.acts ++ own_acts_of next));
-          opened = same_opened on.0.opened;
-          knows = knows;
-        })
-        (λ (old : Succeeds z kind k p.view next so).
-        let act : Act = act_of old.own.entries in
-        record {
-          orderly = finishes.orderly;
-          so_far = one_done so (p.acts ++ own_acts_of p.view) (act ∷ []) read_more (inl record { act = act; only = refl; does = old.does })
-              (append_assoc p.acts (own_acts_of p.view) (act ∷ []) ∙ ap (λ (acts : List Act). p.acts ++ acts) (sym (finishes.succeeds old.own old.closes old.before)));
-          opened = same_opened old.opened;
-          knows = knows;
-        }) a
+  module _ (finishes : StepFinishes p.view next) where
+    still : GoesOn p.view next → own_acts_of next ≡ own_acts_of p.view
+    still on = finishes.stays (λ n e. on.current ∙ e)
 
-    pub advances : (answer : Option Bool) → Advances z kind k p.view next answer → ProgressInvariant z kind (furthered p next k answer)
-    advances None a = not_done a
-    advances (Some so) a = is_done so a
+    pub goes_on : GoesOn p.view next → ProgressInvariant z kind (record p { view = next })
+    goes_on on = none_done (still on) (opened_same on.opened)
+
+    module _ (k : ℕ) (mine : Contains p.keys k) where
+      not_done : Advances z kind k p.view next None → ProgressInvariant z kind (record p { view = next })
+      not_done a = ⊎_elim goes_on (⊎_elim
+          (λ (new : Opens z kind k p.view next).
+          none_done (finishes.stays (λ n e. absurd (some_not_none n (sym e ∙ new.closed)))) (opened_more k mine new.own new.changes new.opened new.does))
+          (λ (old : Fails p.view next).
+          none_done (finishes.fails old.own old.control old.closes old.before old.in_vain) (opened_same old.opened))) a
+
+      is_done : (so : Bool) → Advances z kind k p.view next (Some so) → ProgressInvariant z kind (furthered p next k (Some so))
+      is_done so a = ⊎_elim
+          (λ (on : GoesOn p.view next × IsTold kind z.bits (kept_of z next) k so). told_done k so (still on.0) on.1 (opened_same on.0.opened))
+          (λ (old : Succeeds z kind k p.view next so). act_done k so (act_of old.own.entries) (finishes.succeeds old.own old.closes old.before) old.does (opened_same old.opened)) a
+
+      pub advances : (answer : Option Bool) → Advances z kind k p.view next answer → ProgressInvariant z kind (furthered p next k answer)
+      advances None a = not_done a
+      advances (Some so) a = is_done so a
 
 -- ---- by its own step
 
@@ -124,10 +130,10 @@ module _ (kind : Kind) (z : Shape) (p : Progress) (s : Step) (word : ℕ) (next 
   stay_kept r h = subst (λ (x : View). Contains (kept_of z x) r) (sym steps) ((reads_stay z p.view s word).1 r h)
 
   at_key : (k : ℕ) (answer : Option Bool) → Contains p.keys k → Advances z kind k p.view next answer → ProgressInvariant z kind (furthered p next k answer)
-  at_key k answer mine a = advances kind z p next is finishes_so knows_so stay_kept k mine answer a
+  at_key k answer mine a = advances kind z p next is finishes_so.orderly knows_so stay_kept finishes_so k mine answer a
 
   at_none : GoesOn p.view next → ProgressInvariant z kind (record p { view = next })
-  at_none on = goes_on kind z p next is finishes_so knows_so stay_kept on
+  at_none on = goes_on kind z p next is finishes_so.orderly knows_so stay_kept finishes_so on
 
 pub worker_steps : WorkerSteps
 worker_steps kind z p s word next k answer allowed steps sound mine a is = at_key kind z p s word next allowed steps sound is k answer mine a
@@ -156,17 +162,6 @@ run_gathers r run then next done told w who core lt same doing =
       was = run.was;
       doing = doing;
     }
-
--- no step changes what the worker keeps of the opening
-pub opening_stays : (z : Shape) (v : View) (s : Step) (word : ℕ) → (noted z v s word).opening ≡ v.opening
-opening_stays z v (Step.writes p u) word = refl
-opening_stays z v (Step.opens size) word = refl
-opening_stays z v (Step.reads r) word = refl
-opening_stays z v (Step.places d e c old) word = refl
-opening_stays z v (Step.settles x c d e old) word = refl
-opening_stays z v (Step.decides d k) word = refl
-opening_stays z v (Step.releases d e c k value) word = refl
-opening_stays z v Step.claims word = refl
 
 -- a function that is changed to what it was
 same_updated : {A : Type 0} (f : ℕ → A) (k : ℕ) → updated f k (f k) ≡ f
@@ -204,7 +199,7 @@ module _ (r : Run) (who : ℕ) (s : Step) (word : ℕ) (then : List ℕ) (next :
 
     goes_on_then : RunInvariant run_then
     goes_on_then = run_gathers r run then kept_then (updated r.done who d) (updated r.told who t) later who core_then lt
-        (ap (λ (v : View). v.opening) (next_is ∙ steps.view_is) ∙ opening_stays r.shape (r.keep who) s word) (λ v l. each_is v l (eqb v who) refl)
+        (ap (λ (v : View). v.opening) (next_is ∙ steps.view_is) ∙ noted_opening r.shape (r.keep who) s word) (λ v l. each_is v l (eqb v who) refl)
 
 pub run_steps : RunSteps
 run_steps r who s word then next k answer shape lt allowed steps mine a run =

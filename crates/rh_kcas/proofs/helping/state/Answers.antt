@@ -1,3 +1,5 @@
+use Rattle.std.proofs.Common.{ap}
+use Rattle.rh_descriptor.specs.View.{View}
 use Rattle.rh_descriptor.specs.Words.{ref_of}
 use Rattle.rh_helping.proofs.Controls.{saw_control}
 use Rattle.rh_helping.proofs.Starting.{may_read_control}
@@ -24,3 +26,4 @@ returns-clause-notes c =
     let v = c.args.side.now.known.view in
     notes_saw v _ (ref_of c.args.desc) c.state_told.result
     (saw_control v (ref_of c.args.desc) c.make-word.result (c.make-word.ensures.finds.1 c.requires.known) c.state_told.result c.state_told.ensures _ _ c.requires.known c.make-word.ensures.view_is).0
+    (ap (λ (x : View). x.opening) c.make-word.ensures.view_is)

@@ -2,7 +2,7 @@ use Rattle.std.proofs.Common.{ℕ, suc, Some, ◌∷◌, ◌∙◌, ap, subst, s
 use Rattle.rh_helping.specs.Goal.{KnowsOwn}
 use Rattle.rh_rdcss.proofs.Lending.{stays_on}
 use Rattle.rh_kcas.proofs.Left.{fewer_left}
-use Rattle.rh_kcas.proofs.Noting.{made_notes, noted_on, step_worker}
+use Rattle.rh_kcas.proofs.Noting.{made_notes, noted_on, step_opening, step_worker}
 use Rattle.rh_kcas.proofs.swapping.open.Goals as goal
 
 pub loop-next-smaller : goal.loop-next-smaller
@@ -27,6 +27,7 @@ returns-clause-opens c =
     let l = c.in_default.ensures.leads in
     let next = c.step.new.side.known.view in record {
       worker = step_worker c.args.shape.now c.loop-next.side.known.view next m.step m.word m.view_is ∙ h.noted.worker;
+      opening = step_opening c.args.shape.now c.loop-next.side.known.view next m.step m.word m.view_is ∙ h.noted.opening;
       notes = λ n i. m.notes n (h.noted.notes n i);
       opened = m.opened ∙ (λ i. record { number = h.noted.next_number i; entries = c.args.entries.now } ∷ h.noted.opened i);
       next_number = sym (l.0.last c.loop-next.side.known.view.next_number l.0.current) ∙ ap suc h.noted.next_number;

@@ -1,4 +1,5 @@
-use Rattle.std.proofs.Common.{◌∙◌, inl}
+use Rattle.std.proofs.Common.{◌∙◌, ap, inl}
+use Rattle.rh_descriptor.specs.View.{View}
 use Rattle.rh_descriptor.specs.Words.{ref_of}
 use Rattle.rh_kcas.proofs.Helped.{notes_saw}
 use Rattle.rh_kcas.proofs.Peeking.{status_rested, status_saw}
@@ -20,5 +21,5 @@ returns c =
         knows = e.read.control.knows;
         rested = rested;
       };
-      may = may_on z v next d (notes_saw v next (ref_of d) saw.0 saw.1) rested.clear h.may;
+      may = may_on z v next d (notes_saw v next (ref_of d) saw.0 saw.1 (ap (λ (x : View). x.opening) e.read.control.view_is)) rested.clear h.may;
     }

@@ -3,7 +3,7 @@ use Rattle.rh_helping.specs.Machine.{looking_of}
 use Rattle.rh_rdcss.specs.Sits.{Sits, Stays}
 use Rattle.rh_steps.specs.Relies.{Trusts}
 use Rattle.rh_kcas.specs.Swaps.{HasNoted}
-use Rattle.rh_kcas.proofs.reading.look.Given as goal
+use Rattle.rh_kcas.proofs.reading.look_on.Given as goal
 
 abbrev pub invariant-loop : goal.invariant-loop
 invariant-loop g l = record {
