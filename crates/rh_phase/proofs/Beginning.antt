@@ -1,5 +1,5 @@
 -- How a phase begins.
-use Rattle.std.proofs.Common.{◌≡◌, ℕ, ◌+◌, ◌<◌, ◌≤◌, inl, ⊎_elim, All, List, [], ◌++◌, false, true, true≢false, length, map, replicate, refl, sym, ap, ◌∙◌, subst, arith, zero-add, Bool}
+use Rattle.std.proofs.Common.{◌≡◌, ℕ, ◌+◌, ◌<◌, ◌≤◌, ⊎_elim, All, List, [], ◌++◌, false, true, true≢false, length, map, replicate, refl, sym, ap, ◌∙◌, subst, arith, zero-add, Bool}
 use Rattle.std.specs.Prelude.{◌^◌, slice_index, slice_index_or}
 use Rattle.std.specs.FinSet as set
 use Rattle.std.proofs.lemmas.Bool.{cases_eq}
@@ -30,7 +30,6 @@ use Rattle.rh_run.specs.Run.{ProgressInvariant, RunInvariant}
 use Rattle.rh_run.specs.Laws.{started}
 use Rattle.rh_run.proofs.Turning.{run_starts}
 use Rattle.rh_kcas.specs.Crews.{HasAll, IsFresh, views_of}
-use Rattle.rh_worker.specs.declared.stage.Stage.{Stage}
 use Rattle.rh_phase.specs.Crew.{CanWork}
 use Rattle.rh_phase.specs.Hands.{Stands, answer, left_over, progress_by}
 use Rattle.rh_phase.specs.Made.{AreNew, IsNew}
@@ -83,12 +82,9 @@ module _ (t : Table) (kind : Kind) (positions : ℕ) (cells keys : List ℕ) (c 
     crew = record {
       here = all_at t c.seat all;
       long = new.long ∙ sym all.count;
-      stopped = λ r s h e f. inl (new_hand r h f).idle;
       hands = λ r s h e f. let n = new_hand r h f in record {
-        key = n.key;
         room = n.room;
-        within = λ at. absurd (at n.idle);
-        at = λ at. absurd (at n.idle);
+        within = λ has. absurd (true≢false (sym has ∙ n.no_key));
         claims = record {
           below = λ _ m i. absurd (subst (λ (k : Known). In m k.view.side.claims) (view_is r s e) i);
           ended = λ ended. absurd (true≢false (sym ended ∙ n.to_claim));
@@ -115,7 +111,7 @@ module _ (t : Table) (kind : Kind) (positions : ℕ) (cells keys : List ℕ) (c 
           answers = [];
           doing = subst (λ (k : Kind). ProgressInvariant t.shape k (progress_by keys (past_of positions run r) (new_view (map plain_number cells) r) [])) (sym n.kind_is) (run.doing r less);
           answered = record {
-            claimed_are = ap (λ (p : Stage). left_over p h.position) (sym n.idle);
+            claimed_are = ap (λ (b : Bool). left_over b h.position) (sym n.no_key);
             counts = n.unchanged;
             marks = λ p inside. ((λ is. absurd (true≢false (sym is ∙ unmarked h n p inside))), (λ has. absurd (contains_none (answer p true) has)));
           };

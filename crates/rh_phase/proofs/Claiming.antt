@@ -7,18 +7,12 @@ use Rattle.rh_descriptor.specs.declared.shape.Shape.{Shape}
 use Rattle.rh_descriptor.specs.View.{View}
 use Rattle.rh_descriptor.specs.Steps.{Allowed, Step, noted}
 use Rattle.rh_helping.specs.Goal.{IsClear}
-use Rattle.rh_history.specs.OwnActs.{Orderly}
-use Rattle.rh_history.proofs.Finishing.{steps_finish}
-use Rattle.rh_rule.specs.Sound.{Sound}
 use Rattle.rh_steps.specs.Relies.{Knows}
 use Rattle.rh_phase.specs.Hands.{HasClaimed}
 use Rattle.rh_phase.specs.declared.hand.Hand.{Hand}
 
 pub may_claim : (z : Shape) (v : View) → IsClear v → Knows z v → ((n : ℕ) → In n v.side.claims → n < z.keys) → Allowed z v Step.claims
 may_claim z v clear k below = record { worker = k.worker; still = k.still; step = record { closed = clear.own.current; keys = below } }
-
-pub orderly_so : (z : Shape) (v next : View) (word : ℕ) → Allowed z v Step.claims → next ≡ noted z v Step.claims word → Sound z next → Orderly v → Orderly next
-orderly_so z v next word may e sound o = subst Orderly (sym e) (steps_finish z v Step.claims word may (subst (Sound z) e sound) o).orderly
 
 pub claims_below : (z : Shape) (v next : View) (word : ℕ) → next ≡ noted z v Step.claims word → word < z.keys → ((n : ℕ) → In n v.side.claims → n < z.keys)
     → (n : ℕ) → In n next.side.claims → n < z.keys

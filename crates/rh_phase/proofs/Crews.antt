@@ -16,7 +16,7 @@ use Rattle.rh_rdcss.specs.declared.seat.Seat.{Seat}
 use Rattle.rh_rdcss.specs.declared.table.Table.{Table}
 use Rattle.rh_kcas.specs.Crews.{IsAt, IsCut, IsFresh, IsJoined, IsQuiet, views_of}
 use Rattle.rh_phase.specs.Crew.{AllMayStart, AreHalves, CanWork, HaveWorked}
-use Rattle.rh_phase.specs.Hands.{AllStand, HasStopped, InPairs, IsHand, Past, Stands}
+use Rattle.rh_phase.specs.Hands.{AllStand, InPairs, IsHand, Past, Stands}
 use Rattle.rh_phase.specs.declared.crew.Crew.{Crew}
 use Rattle.rh_phase.specs.declared.hand.Hand.{Hand}
 
@@ -61,7 +61,6 @@ module _ (t : Table) (keys : List ℕ) (c left right : Crew) (can : CanWork t ke
     crew = record {
       here = here;
       long = ap length cut.left_hands ∙ length-take-le left.seat.count c.hands (let l = can.crew.long in let m = cut.seats.middle in let e = cut.seats.end in omega (arith, l, m, e));
-      stopped = of_left (λ v h. HasStopped h) can.crew.stopped;
       hands = of_left (λ v h. IsHand t.shape keys h v) can.crew.hands;
       list = can.crew.list;
       keys_are = can.crew.keys_are;
@@ -77,7 +76,6 @@ module _ (t : Table) (keys : List ℕ) (c left right : Crew) (can : CanWork t ke
     crew = record {
       here = here;
       long = ap length cut.right_hands ∙ length-drop left.seat.count c.hands ∙ (let l = can.crew.long in let m = cut.seats.middle in let e = cut.seats.end in omega (arith, l, m, e));
-      stopped = of_right (λ v h. HasStopped h) can.crew.stopped;
       hands = of_right (λ v h. IsHand t.shape keys h v) can.crew.hands;
       list = can.crew.list;
       keys_are = can.crew.keys_are;
@@ -94,7 +92,6 @@ module _ (t : Table) (keys : List ℕ) (c left right : Crew) (can : CanWork t ke
     crew = record {
       here = here;
       long = ap length hands ∙ length-append l.hands r.hands ∙ (let x = a.crew.long in let y = b.crew.long in let j = joined.count in omega (arith, x, y, j));
-      stopped = of_both (λ v h. HasStopped h) a.crew.stopped b.crew.stopped;
       hands = of_both (λ v h. IsHand t.shape keys h v) a.crew.hands b.crew.hands;
       list = can.crew.list;
       keys_are = can.crew.keys_are;
@@ -139,13 +136,12 @@ set_first [] h g some_one at = absurd (omega (arith, some_one))
 set_first (x ∷ xs) h g some_one at = some-injective h g at
 
 module _ (t : Table) (keys : List ℕ) (c : Crew) (one : c.seat.count ≡ 1) (can : CanWork t keys c) (seat : Seat) (hand next : Hand) (at : get_elem? c.hands 0 ≡ some hand) where
-  pub one_worked : IsAt t seat → seat.count ≡ 1 → seat.side.worker ≡ c.seat.side.worker → IsQuiet (view_of seat) → HasStopped next → IsHand t.shape keys next (view_of seat)
+  pub one_worked : IsAt t seat → seat.count ≡ 1 → seat.side.worker ≡ c.seat.side.worker → IsQuiet (view_of seat) → IsHand t.shape keys next (view_of seat)
       → ((past : Past) → Stands t.shape keys past hand (view_of c.seat) → Stands t.shape keys past next (view_of seat)) → HaveWorked t keys c (record { seat = seat; hands = set c.hands 0 next })
-  one_worked here alone same quiet stopped is stands = record {
+  one_worked here alone same quiet is stands = record {
     crew = record {
       here = here;
       long = length-set c.hands 0 next ∙ can.crew.long ∙ one ∙ sym alone;
-      stopped = each (λ v h. HasStopped h) stopped;
       hands = each (λ v h. IsHand t.shape keys h v) is;
       list = can.crew.list;
       keys_are = can.crew.keys_are;

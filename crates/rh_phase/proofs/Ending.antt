@@ -26,7 +26,6 @@ use Rattle.rh_run.specs.Words.{cells_held}
 use Rattle.rh_run.proofs.Answering.{run_answers}
 use Rattle.rh_run.proofs.Sharing.{claims_at, claims_size, run_shared_ends, shared_out}
 use Rattle.rh_kcas.specs.Ends.{Leaves}
-use Rattle.rh_worker.specs.declared.stage.Stage.{Stage}
 use Rattle.rh_phase.specs.Hands.{Answer, InPairs, IsFinished, IsHand, answer, keys_done, left_over, positions_of, told_of}
 use Rattle.rh_phase.specs.Made.{HasMade, first_set}
 use Rattle.rh_phase.specs.Rounds.{Comes, Phase, all_changed, is_marked, run_of}
@@ -70,7 +69,7 @@ module _ (ph : Phase) (vs : List Known) (hs : List Hand) (values : List ℕ) (so
   claimed_are : (v : ℕ) → v < ph.shape.workers → claimed ph.shape (m.keep v) ≡ positions_of (ga.answers v)
   claimed_are v less =
       let by = ga.each v less in
-      by.answered.claimed_are ∙ ap (λ (p : Stage). positions_of (ga.answers v) ++ left_over p by.hand.position) (is_finished v by.hand by.at).idle ∙ append-nil (positions_of (ga.answers v))
+      by.answered.claimed_are ∙ ap (λ (b : Bool). positions_of (ga.answers v) ++ left_over b by.hand.position) (is_finished v by.hand by.at).no_key ∙ append-nil (positions_of (ga.answers v))
 
   all_done : (v : ℕ) → v < ph.shape.workers → done v ≡ map (slice_index ph.keys) (claimed ph.shape (m.keep v))
   all_done v less = sym (ap (map (slice_index ph.keys)) (claimed_are v less) ∙ map-map (slice_index ph.keys) (λ (a : Answer). a.position) (ga.answers v))

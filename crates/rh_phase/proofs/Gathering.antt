@@ -36,7 +36,7 @@ choose P other (suc n) each =
 pub record AnsweredBy (ph : Phase) (keep : ℕ → View) (hs : List Hand) (v : ℕ) (answers : List Answer) : Type 0 where
   pub hand : Hand
   pub at : get_elem? hs v ≡ some hand
-  pub kind_is : hand.worker.kind ≡ ph.kind
+  pub kind_is : hand.kind ≡ ph.kind
   pub long : length hand.found.items ≡ ph.positions
   pub answered : Answered ph.shape hand (keep v) answers
 

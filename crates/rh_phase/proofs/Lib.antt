@@ -1,6 +1,6 @@
--- A hand is what one worker of a phase has done. The proofs go from the steps of one key to a worker's hand, from the
+-- A hand is what one worker of a phase has done. The proofs go from the calls for one key to a worker's hand, from the
 -- hands to a round, and from round to round to what the phase makes.
--- KeySteps: what the steps of a key make of it.
+-- Keying: what the calls of a worker that rests make of the key that it is at.
 -- Claiming: a worker claims its next key.
 -- Standing: a worker comes as far as its hand says.
 -- Crews: crews that are cut and glued, and what their workers have done.
@@ -10,10 +10,11 @@
 -- Sums: what all hands have counted, and what they have marked.
 -- Beginning: how a phase begins.
 -- Ending: what a phase makes, once all keys of its list are done.
+-- Closing: what the workers have made, where they have done it and are at rest.
 -- Answering: what was asked for is answered.
 -- Slices: a list that was written whole, by a slice of it.
 
-mod KeySteps
+mod Keying
 mod Claiming
 mod Standing
 mod Crews
@@ -24,4 +25,5 @@ mod Sums
 mod Ending
 mod Beginning
 mod Slices
+mod Closing
 mod Answering

@@ -12,7 +12,7 @@ use Rattle.rh_rdcss.specs.declared.table.Table.{Table}
 use Rattle.rh_kcas.specs.Crews.{HasAll, IsAt, IsFresh, views_of}
 use Rattle.rh_kcas.specs.Ends.{IsWiped}
 use Rattle.rh_phase.specs.Crew.{CanWork, HaveWorked}
-use Rattle.rh_phase.specs.Hands.{HasStopped, InPairs, IsHand}
+use Rattle.rh_phase.specs.Hands.{InPairs, IsHand}
 use Rattle.rh_phase.specs.Rounds.{Comes, past_of, phase}
 use Rattle.rh_phase.specs.declared.crew.Crew.{Crew}
 use Rattle.rh_phase.specs.declared.hand.Hand.{Hand}
@@ -47,9 +47,8 @@ module _ (t : Table) (keys : List ℕ) (c then : Crew) (all : HasAll t c.seat) (
       crew = record {
         here = all_at t seat again;
         long = worked.crew.long ∙ worked_all.count ∙ sym again.count;
-        stopped = each (λ v h. HasStopped h) (λ v h. HasStopped h) (λ v h is. is) worked.crew.stopped;
         hands = each (λ v h. IsHand t.shape keys h v) (λ v h. IsHand t.shape keys h v)
-            (λ v h is. record { key = is.key; room = is.room; within = is.within; at = is.at; claims = record { below = is.claims.below; ended = is.claims.ended } }) worked.crew.hands;
+            (λ v h is. record { room = is.room; within = is.within; claims = record { below = is.claims.below; ended = is.claims.ended } }) worked.crew.hands;
         list = worked.crew.list;
         keys_are = worked.crew.keys_are;
       };

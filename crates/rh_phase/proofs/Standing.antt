@@ -18,9 +18,6 @@ use Rattle.rh_run.specs.Claimed.{claimed}
 use Rattle.rh_run.specs.Laws.{furthered}
 use Rattle.rh_run.specs.Run.{Progress, ProgressInvariant}
 use Rattle.rh_run.proofs.Stepping.{worker_claims}
-use Rattle.rh_worker.specs.Worker.{IsBusy}
-use Rattle.rh_worker.specs.declared.stage.Stage.{Stage}
-use Rattle.rh_worker.specs.declared.stage.Stage.TheVariants as at
 use Rattle.rh_phase.specs.Keys.{Furthers}
 use Rattle.rh_phase.specs.Hands.{Answer, Past, Stands, answer, keys_done, left_over, positions_of, progress_by, told_of}
 use Rattle.rh_phase.specs.declared.hand.Hand.{Hand}
@@ -43,18 +40,6 @@ no_more z v next word more beyond = ap (λ (l : List ℕ). reverse (filter (λ n
 
 same_claimed : (z : Shape) (v next : View) → next.side.claims ≡ v.side.claims → claimed z next ≡ claimed z v
 same_claimed z v next same = ap (λ (l : List ℕ). reverse (filter (λ n. nat_lt n z.keys) l)) same
-
--- ---- the position of its key
-
-pub left_at_key : (p : Stage) (n : ℕ) → (p ≡ at.Idle → ⊥) → left_over p n ≡ n ∷ []
-left_at_key at.Idle n e = absurd (e refl)
-left_at_key at.Spent n e = refl
-left_at_key (at.Scan l m) n e = refl
-left_at_key (at.Open o q) n e = refl
-left_at_key (at.Swap m q) n e = refl
-
-pub busy_at_key : (p : Stage) → IsBusy p → p ≡ at.Idle → ⊥
-busy_at_key p busy idle = subst IsBusy idle busy
 
 -- ---- an answer more
 
@@ -106,7 +91,7 @@ counts_more answers position old new told was is = go told is more
 -- ---- how it goes on
 
 module _ (z : Shape) (keys : List ℕ) (past : Past) (h then : Hand) (v next : View) (was : Stands z keys past h v) where
-  of_kind : (k : Kind) (p : Progress) → k ≡ h.worker.kind → ProgressInvariant z h.worker.kind p → ProgressInvariant z k p
+  of_kind : (k : Kind) (p : Progress) → k ≡ h.kind → ProgressInvariant z h.kind p → ProgressInvariant z k p
   of_kind k p same is = subst (λ (q : Kind). ProgressInvariant z q p) (sym same) is
 
   -- with what it has done so far
@@ -114,12 +99,12 @@ module _ (z : Shape) (keys : List ℕ) (past : Past) (h then : Hand) (v next : V
   so_far x = progress_by keys past x was.answers
 
   -- with nothing done
-  stands_with : then.worker.kind ≡ h.worker.kind → ProgressInvariant z h.worker.kind (so_far next) → next.opening ≡ v.opening
-      → claimed z next ≡ positions_of was.answers ++ left_over then.worker.stage then.position → then.changed ≡ h.changed → then.found.items ≡ h.found.items → Stands z keys past then next
+  stands_with : then.kind ≡ h.kind → ProgressInvariant z h.kind (so_far next) → next.opening ≡ v.opening
+      → claimed z next ≡ positions_of was.answers ++ left_over then.has_key then.position → then.changed ≡ h.changed → then.found.items ≡ h.found.items → Stands z keys past then next
   stands_with kind doing opening claims changed found = record {
     kind_is = kind ∙ was.kind_is;
     answers = was.answers;
-    doing = of_kind then.worker.kind (so_far next) kind doing;
+    doing = of_kind then.kind (so_far next) kind doing;
     answered = record {
       claimed_are = claims;
       counts = changed ∙ was.answered.counts;
@@ -129,50 +114,53 @@ module _ (z : Shape) (keys : List ℕ) (past : Past) (h then : Hand) (v next : V
     long = ap length found ∙ was.long;
   }
 
-  pub stands_still : then.worker.kind ≡ h.worker.kind → next ≡ v → left_over then.worker.stage then.position ≡ left_over h.worker.stage h.position → then.changed ≡ h.changed → then.found.items ≡ h.found.items → Stands z keys past then next
+  pub stands_still : then.kind ≡ h.kind → next ≡ v → left_over then.has_key then.position ≡ left_over h.has_key h.position → then.changed ≡ h.changed → then.found.items ≡ h.found.items → Stands z keys past then next
   stands_still kind same left changed found = stands_with kind
-      (subst (λ (x : View). ProgressInvariant z h.worker.kind (so_far x)) (sym same) was.doing)
+      (subst (λ (x : View). ProgressInvariant z h.kind (so_far x)) (sym same) was.doing)
       (ap (λ (x : View). x.opening) same)
       (ap (claimed z) same ∙ was.answered.claimed_are ∙ ap (λ (l : List ℕ). positions_of was.answers ++ l) (sym left)) changed found
 
   -- a position was claimed, or the end of the list
-  module _ (word : ℕ) (allowed : Allowed z v Step.claims) (view_is : next ≡ noted z v Step.claims word) (sound : Sound z next) (kind : then.worker.kind ≡ h.worker.kind) (idle : h.worker.stage ≡ at.Idle) (changed : then.changed ≡ h.changed) (found : then.found.items ≡ h.found.items) where
+  module _ (word : ℕ) (allowed : Allowed z v Step.claims) (view_is : next ≡ noted z v Step.claims word) (sound : Sound z next) (kind : then.kind ≡ h.kind) (no_key : h.has_key ≡ false) (changed : then.changed ≡ h.changed) (found : then.found.items ≡ h.found.items) where
     claims_are : next.side.claims ≡ word ∷ v.side.claims
     claims_are = ap (λ (x : View). x.side.claims) view_is
 
     none_left : claimed z v ≡ positions_of was.answers
-    none_left = was.answered.claimed_are ∙ ap (λ (p : Stage). positions_of was.answers ++ left_over p h.position) idle ∙ append-nil (positions_of was.answers)
+    none_left = was.answered.claimed_are ∙ ap (λ (b : Bool). positions_of was.answers ++ left_over b h.position) no_key ∙ append-nil (positions_of was.answers)
 
-    doing_then : ProgressInvariant z h.worker.kind (so_far next)
-    doing_then = worker_claims h.worker.kind z (so_far v) word next allowed view_is sound was.doing
+    doing_then : ProgressInvariant z h.kind (so_far next)
+    doing_then = worker_claims h.kind z (so_far v) word next allowed view_is sound was.doing
 
-    pub stands_claimed : word < z.keys → left_over then.worker.stage then.position ≡ word ∷ [] → Stands z keys past then next
+    pub stands_claimed : word < z.keys → left_over then.has_key then.position ≡ word ∷ [] → Stands z keys past then next
     stands_claimed inside left = stands_with kind doing_then (ap (λ (x : View). x.opening) view_is)
         (one_more z v next word claims_are inside ∙ ap (λ (l : List ℕ). l ++ word ∷ []) none_left ∙ ap (λ (l : List ℕ). positions_of was.answers ++ l) (sym left)) changed found
 
-    pub stands_ended : z.keys ≤ word → left_over then.worker.stage then.position ≡ [] → Stands z keys past then next
+    pub stands_ended : z.keys ≤ word → left_over then.has_key then.position ≡ [] → Stands z keys past then next
     stands_ended beyond left = stands_with kind doing_then (ap (λ (x : View). x.opening) view_is)
         (no_more z v next word claims_are beyond ∙ none_left ∙ sym (append-nil (positions_of was.answers)) ∙ ap (λ (l : List ℕ). positions_of was.answers ++ l) (sym left)) changed found
 
   -- the steps for its key were made
-  module _ (key : ℕ) (among : Contains keys key) (is : slice_index keys h.position ≡ key) (kind : then.worker.kind ≡ h.worker.kind) (claims : next.side.claims ≡ v.side.claims) (opening : next.opening ≡ v.opening) (left : left_over h.worker.stage h.position ≡ h.position ∷ []) where
-    pub stands_left : Furthers z h.worker.kind key v next None → left_over then.worker.stage then.position ≡ h.position ∷ [] → then.changed ≡ h.changed → then.found.items ≡ h.found.items → Stands z keys past then next
+  module _ (key : ℕ) (among : Contains keys key) (is : slice_index keys h.position ≡ key) (kind : then.kind ≡ h.kind) (claims : next.side.claims ≡ v.side.claims) (opening : next.opening ≡ v.opening) (has : h.has_key ≡ true) where
+    left : left_over h.has_key h.position ≡ h.position ∷ []
+    left = ap (λ (b : Bool). left_over b h.position) has
+
+    pub stands_left : Furthers z h.kind key v next None → left_over then.has_key then.position ≡ h.position ∷ [] → then.changed ≡ h.changed → then.found.items ≡ h.found.items → Stands z keys past then next
     stands_left furthers leaves changed found = stands_with kind
         (furthers (so_far v) among was.doing) opening
         (same_claimed z v next claims ∙ was.answered.claimed_are ∙ ap (λ (l : List ℕ). positions_of was.answers ++ l) (left ∙ sym leaves)) changed found
 
-    pub stands_done : (told : Bool) → Furthers z h.worker.kind key v next (Some told) → then.worker.stage ≡ at.Idle → then.changed ≡ cond told (min (h.changed + 1) (2 ^ 64 - 1)) h.changed
+    pub stands_done : (told : Bool) → Furthers z h.kind key v next (Some told) → then.has_key ≡ false → then.changed ≡ cond told (min (h.changed + 1) (2 ^ 64 - 1)) h.changed
         → then.found.items ≡ cond told (set h.found.items h.position true) h.found.items → Stands z keys past then next
-    stands_done told furthers idle changed found = record {
+    stands_done told furthers no_key changed found = record {
       kind_is = kind ∙ was.kind_is;
       answers = answers;
-      doing = of_kind then.worker.kind (progress_by keys past next answers) kind
-          (subst (λ (l : List ℕ). ProgressInvariant z h.worker.kind (record (progress_by keys past next answers) { done = l })) (sym keys_are)
-          (subst (λ (l : List Bool). ProgressInvariant z h.worker.kind (record (furthered (so_far v) next key (Some told)) { told = l })) (sym (map_push (λ (a : Answer). a.told) was.answers (answer h.position told)))
+      doing = of_kind then.kind (progress_by keys past next answers) kind
+          (subst (λ (l : List ℕ). ProgressInvariant z h.kind (record (progress_by keys past next answers) { done = l })) (sym keys_are)
+          (subst (λ (l : List Bool). ProgressInvariant z h.kind (record (furthered (so_far v) next key (Some told)) { told = l })) (sym (map_push (λ (a : Answer). a.told) was.answers (answer h.position told)))
           (furthers (so_far v) among was.doing)));
       answered = record {
         claimed_are = same_claimed z v next claims ∙ was.answered.claimed_are ∙ ap (λ (l : List ℕ). positions_of was.answers ++ l) left ∙ sym (map_push (λ (a : Answer). a.position) was.answers (answer h.position told))
-            ∙ sym (append-nil (positions_of answers)) ∙ ap (λ (p : Stage). positions_of answers ++ left_over p then.position) (sym idle);
+            ∙ sym (append-nil (positions_of answers)) ∙ ap (λ (b : Bool). positions_of answers ++ left_over b then.position) (sym no_key);
         counts = counts_more was.answers h.position h.changed then.changed told was.answered.counts changed;
         marks = subst (λ (l : List Bool). (p : ℕ) → p < length l → (slice_index_or l p false ≡ true) ↔ Contains answers (answer p true)) (sym found)
             (λ p inside. let l : p < length h.found.items = let m = marked_long h.found.items h.position told in omega (arith, inside, m) in marks_more h.found.items was.answers h.position told p l (was.answered.marks p l));

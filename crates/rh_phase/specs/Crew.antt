@@ -4,8 +4,12 @@ use Rattle.rh_layout.specs.Key.{IsKey}
 use Rattle.rh_kcas.specs.Crews.{IsAt, IsCut, IsFresh, IsQuiet, views_of}
 use Rattle.rh_rdcss.specs.declared.table.Table.{Table}
 use Rattle.rh_rule.specs.Seats.{InView}
-use Rattle.rh_phase.specs.Hands.{AllStand, HasStopped, InPairs, IsHand, Past}
+use Rattle.rh_phase.specs.Hands.{AllStand, InPairs, IsHand, Past}
 use Rattle.rh_phase.specs.declared.crew.Crew.{Crew}
+use Rattle.rh_runner.specs.declared.runner.PhaseFault.{PhaseFault}
+use Rattle.rh_runner.specs.declared.runner.PhaseFault.TheVariants.{Memory, NoThread}
+use Rattle.rh_phase.specs.declared.fault.Fault.{Fault}
+use Rattle.rh_phase.specs.declared.fault.Fault.TheVariants as faults
 use Rattle.rh_phase.specs.declared.crew.Refused.{Refused}
 use Rattle.rh_phase.specs.declared.crew.Refused.TheVariants.{NotAllowed, NotStarted}
 
@@ -13,7 +17,6 @@ use Rattle.rh_phase.specs.declared.crew.Refused.TheVariants.{NotAllowed, NotStar
 pub record IsCrew (t : Table) (keys : List ℕ) (c : Crew) : Type 0 where
   pub here : IsAt t c.seat
   pub long : length c.hands ≡ c.seat.count
-  pub stopped : InPairs (λ v h. HasStopped h) (views_of c.seat) c.hands
   pub hands : InPairs (λ v h. IsHand t.shape keys h v) (views_of c.seat) c.hands
   pub list : t.shape.keys ≡ length keys
   pub keys_are : All IsKey keys
@@ -48,3 +51,13 @@ OthersMayStart allows c = AllMayStart allows c.seat.side.worker c.seat.count
 abbrev pub RefusedBy : (allows : ℕ → Bool) → Refused → Type 0
 RefusedBy allows (NotAllowed worker) = allows worker ≡ false
 RefusedBy allows NotStarted = Unit {0}
+
+-- Why a phase was not carried out: for want of memory, or one of several workers was refused a thread.
+abbrev pub IsFault : (allows : ℕ → Bool) → (workers : ℕ) → Fault → Type 0
+IsFault allows workers faults.Memory = Unit {0}
+IsFault allows workers (faults.Refused why) = (1 < workers) × RefusedBy allows why
+
+-- what is told of it
+abbrev pub told_as : Fault → PhaseFault
+told_as faults.Memory = Memory
+told_as (faults.Refused why) = NoThread

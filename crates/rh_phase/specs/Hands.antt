@@ -1,9 +1,8 @@
 -- What the workers of a phase have done of a list that they share.
-use Rattle.std.specs.Prelude.{◌≡◌, ℕ, ◌-◌, ◌^◌, ◌<◌, ◌⊎◌, ◌↔◌, Bool, true, false, min, List, [], ◌∷◌, ◌++◌, length, map, slice_index, slice_index_or}
+use Rattle.std.specs.Prelude.{◌≡◌, ℕ, ◌-◌, ◌^◌, ◌<◌, ◌↔◌, Bool, cond, true, false, min, List, [], ◌∷◌, ◌++◌, length, map, slice_index, slice_index_or}
 use Rattle.std.specs.List.{Contains}
 use mathlib.Core.Option.{some}
 use lib.ListN.{get_elem?}
-use Rattle.rh_layout.specs.Key.{IsKey}
 use Rattle.rh_ledger.specs.declared.tally.Kind.{Kind}
 use Rattle.rh_world.specs.World.{In}
 use Rattle.rh_acts.specs.Act.{Act}
@@ -14,37 +13,25 @@ use Rattle.rh_descriptor.specs.declared.shape.Shape.{Shape}
 use Rattle.rh_descriptor.specs.View.{View}
 use Rattle.rh_run.specs.Claimed.{FoundEnd, claimed}
 use Rattle.rh_run.specs.Run.{Progress, ProgressInvariant}
-use Rattle.rh_worker.specs.ScanBuffer.{HasRoom}
-use Rattle.rh_worker.specs.declared.stage.Stage.{Stage}
-use Rattle.rh_worker.specs.declared.stage.Stage.TheVariants as stage
+use Rattle.rh_phase.specs.Buffer.{HasRoom}
 use Rattle.rh_phase.specs.declared.hand.Hand.{Hand}
 
 -- ---- a hand
-
--- it is at a key that is not done
-abbrev pub IsAtKey : Hand → Type 0
-IsAtKey h = h.worker.stage ≡ stage.Idle → ⊥
-
--- it is at no key, or is to begin its key again
-abbrev pub HasStopped : Hand → Type 0
-HasStopped h = (h.worker.stage ≡ stage.Idle) ⊎ (h.worker.stage ≡ stage.Spent)
 
 -- no Claim of it found the end, or one did, as it says
 pub record HasClaimed (z : Shape) (h : Hand) (v : View) : Type 0 where
   pub below : h.ended ≡ false → (n : ℕ) → In n v.side.claims → n < z.keys
   pub ended : h.ended ≡ true → FoundEnd z v
 
--- it has room for any key, and where it is at one, this is a key of the list
+-- it has room for any key, and where it has one to do, this is a key of the list
 pub record IsHand (z : Shape) (keys : List ℕ) (h : Hand) (v : View) : Type 0 where
-  pub key : IsKey h.worker.key
-  pub room : HasRoom z.bits h.worker.buffer
-  pub within : IsAtKey h → h.position < length keys
-  pub at : IsAtKey h → slice_index keys h.position ≡ h.worker.key
+  pub room : HasRoom z.bits h.buffer
+  pub within : h.has_key ≡ true → h.position < length keys
   pub claims : HasClaimed z h v
 
 -- all keys that it claimed are done, and no key is left to claim
 pub record IsFinished (h : Hand) : Type 0 where
-  pub idle : h.worker.stage ≡ stage.Idle
+  pub no_key : h.has_key ≡ false
   pub ended : h.ended ≡ true
 
 -- ---- what it did
@@ -66,18 +53,14 @@ told_of answers = map (λ a. a.told) answers
 abbrev pub keys_done : (keys : List ℕ) → List Answer → List ℕ
 keys_done keys answers = map (λ a. slice_index keys a.position) answers
 
--- the position of the key that it is at
-abbrev pub left_over : Stage → (position : ℕ) → List ℕ
-left_over stage.Idle p = []
-left_over stage.Spent p = p ∷ []
-left_over (stage.Scan l n) p = p ∷ []
-left_over (stage.Open o q) p = p ∷ []
-left_over (stage.Swap n q) p = p ∷ []
+-- the position of the key that it has to do
+abbrev pub left_over : (has_key : Bool) (position : ℕ) → List ℕ
+left_over has_key p = cond has_key (p ∷ []) []
 
--- The positions that it claimed are those of its answers, in their order, and then that of the key that it is at. It counts the
+-- The positions that it claimed are those of its answers, in their order, and then that of the key that it has to do. It counts the
 -- answers that are true, up to the greatest number, and has marked their positions.
 pub record Answered (z : Shape) (h : Hand) (v : View) (answers : List Answer) : Type 0 where
-  pub claimed_are : claimed z v ≡ positions_of answers ++ left_over h.worker.stage h.position
+  pub claimed_are : claimed z v ≡ positions_of answers ++ left_over h.has_key h.position
   pub counts : h.changed ≡ min (how_many (told_of answers)) (2 ^ 64 - 1)
   pub marks : (p : ℕ) → p < length h.found.items → (slice_index_or h.found.items p false ≡ true) ↔ Contains answers (answer p true)
 
@@ -97,9 +80,9 @@ progress_by keys past v answers =
 
 -- The worker has come as far as its hand says.
 pub record Stands (z : Shape) (keys : List ℕ) (past : Past) (h : Hand) (v : View) : Type 0 where
-  pub kind_is : h.worker.kind ≡ past.kind
+  pub kind_is : h.kind ≡ past.kind
   pub answers : List Answer
-  pub doing : ProgressInvariant z h.worker.kind (progress_by keys past v answers)
+  pub doing : ProgressInvariant z h.kind (progress_by keys past v answers)
   pub answered : Answered z h v answers
   pub opening : v.opening ≡ past.opening
   pub long : length h.found.items ≡ past.positions

@@ -1,6 +1,6 @@
 pub mod Keys
+pub mod Buffer
 pub mod Hands
-pub mod Seated
 pub mod Crew
 pub mod Rounds
 pub mod Made

@@ -1,18 +1,23 @@
 -- What a phase makes of the cells.
 use Rattle.std.specs.Prelude.{◌≡◌, ◌≢◌, ℕ, ◌^◌, ◌<◌, ◌≤◌, false, All, List, length, replicate, slice_index}
 use Rattle.std.specs.FinSet.{contains}
-use Rattle.rh_layout.specs.Key.{IsKey}
-use Rattle.rh_layout.specs.Layout.{Keys, Layout, keys_of}
+use Rattle.rh_layout.specs.Layout.{IsLayout, Keys, Layout, keys_of}
 use Rattle.rh_ledger.specs.declared.tally.Kind.{Kind}
+use Rattle.rh_ledger.specs.declared.tally.Tally.{Tally}
 use Rattle.rh_ledger.specs.declared.tally.Kind.TheVariants.{Ask}
 use Rattle.rh_ledger.specs.Phase.{set_after, tally_of}
 use Rattle.rh_acts.specs.Workers.{tally_by}
 use Rattle.rh_descriptor.specs.declared.limits.TheConstants.{MAX_ROOM, MAX_WORKERS}
 use Rattle.rh_descriptor.specs.declared.shape.Rooms.{Rooms}
 use Rattle.rh_descriptor.specs.declared.shape.Shape.{Shape}
-use Rattle.rh_worker.specs.ScanBuffer.{HasRoom}
-use Rattle.rh_worker.specs.declared.stage.Stage.TheVariants as stage
-use Rattle.rh_phase.specs.Rounds.{Phase, all_changed, is_marked}
+use Rattle.rh_phase.specs.Buffer.{HasRoom}
+use Rattle.rh_kcas.specs.Crews.{HasAll, IsQuiet, views_of}
+use Rattle.rh_rdcss.specs.declared.table.Table.{Table}
+use Rattle.rh_rule.specs.Seats.{InView}
+use Rattle.rh_phase.specs.Crew.{IsCrew}
+use Rattle.rh_phase.specs.Hands.{IsFinished}
+use Rattle.rh_phase.specs.Rounds.{Comes, Phase, all_changed, is_marked, phase}
+use Rattle.rh_phase.specs.declared.crew.Crew.{Crew}
 use Rattle.rh_phase.specs.declared.hand.Hand.{Hand}
 
 -- so many workers a table may have, and a phase needs
@@ -28,10 +33,9 @@ pub record IsRooms (bits : ℕ) (rooms : Rooms) : Type 0 where
 
 -- it has done nothing yet, and has room for any key, and marks for so many positions
 pub record IsNew (z : Shape) (kind : Kind) (positions : ℕ) (h : Hand) : Type 0 where
-  pub idle : h.worker.stage ≡ stage.Idle
-  pub kind_is : h.worker.kind ≡ kind
-  pub key : IsKey h.worker.key
-  pub room : HasRoom z.bits h.worker.buffer
+  pub no_key : h.has_key ≡ false
+  pub kind_is : h.kind ≡ kind
+  pub room : HasRoom z.bits h.buffer
   pub to_claim : h.ended ≡ false
   pub unchanged : h.changed ≡ 0
   pub unmarked : h.found.items ≡ replicate positions false
@@ -52,3 +56,18 @@ pub record HasMade (ph : Phase) (values : List ℕ) (hs : List Hand) : Type 0 wh
   pub few : ph.kind ≢ Ask → all_changed hs < 2 ^ 64
   pub tally : ph.kind ≢ Ask → tally_by ph.kind (length ph.keys) (all_changed hs) ≡ tally_of ph.kind (first_set ph) ph.keys
   pub found : ph.kind ≡ Ask → (p : ℕ) → p < length ph.keys → p < ph.positions → is_marked hs p ≡ contains (first_set ph) (slice_index ph.keys p)
+
+-- The workers of the table have done all keys of the list, in as many rounds as that took, and are at rest.
+pub record IsWorkedOut (ph : Phase) (t : Table) (c : Crew) : Type 0 where
+  pub shape_is : t.shape ≡ ph.shape
+  pub crew : IsCrew t ph.keys c
+  pub all : HasAll t c.seat
+  pub quiet : InView IsQuiet (views_of c.seat)
+  pub finished : All IsFinished c.hands
+  pub comes : Comes (phase t.shape ph.kind ph.opening ph.keys ph.positions) (views_of c.seat) c.hands
+
+-- The new cells are the layout of the old ones' set after the keys, and this is the tally of one worker.
+pub record HasChanged (kind : Kind) (bits : ℕ) (old new keys : List ℕ) (told : Tally) : Type 0 where
+  pub layout : IsLayout bits new
+  pub keys_are : keys_of new ≡ set_after kind (keys_of old) keys
+  pub tally : told ≡ tally_of kind (keys_of old) keys

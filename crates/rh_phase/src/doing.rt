@@ -1,102 +1,52 @@
 //! The keys of one worker, each to its end.
 
-ghost use Rattle.std.specs.Prelude.{◌≡◌, All, IfNone, IfSome, IsTrue, false, length};
+ghost use Rattle.std.specs.Prelude.{◌≡◌, ◌<◌, All, IfNone, IfSome, IsTrue, false, length, slice_index, true};
 ghost use Rattle.rh_layout.specs.Key.{IsKey};
-ghost use Rattle.rh_history.specs.History.{kept_of, own_acts_of};
-ghost use Rattle.rh_history.specs.OwnActs.{Orderly};
-ghost use Rattle.rh_helping.specs.Goal.{IsClear};
-ghost use Rattle.rh_phase.specs.Hands.{HasStopped, IsHand, Past, Stands};
-ghost use Rattle.rh_phase.specs.Keys.{KeySpec, Furthers};
-ghost use Rattle.rh_rdcss.specs.Sits.{Sits, Stays};
-ghost use Rattle.rh_steps.specs.Relies.{Trusts};
-ghost use Rattle.rh_worker.specs.Reading.{ReadsAnew};
-ghost use Rattle.rh_worker.specs.Worker.{HasNoRoom, IsBusy, IsWorker, KeepsKey};
-ghost use Rattle.rh_worker.specs.declared.stage.Stage.TheVariants as stage;
+ghost use Rattle.rh_history.specs.History.{own_acts_of};
+ghost use Rattle.rh_kcas.specs.Rests.{Rests};
+ghost use Rattle.rh_ledger.specs.declared.tally.Kind.{Kind};
+ghost use Rattle.rh_phase.specs.Buffer.{HasRoom};
+ghost use Rattle.rh_phase.specs.Hands.{IsHand, Past, Stands};
+ghost use Rattle.rh_phase.specs.Keys.{Furthers, IsTriedSo, KeySpec};
+ghost use Rattle.rh_rdcss.specs.Calls.{IsSame, view_of};
 
+use crate::buffer::Buffer;
 use crate::gate::Gate;
 use crate::hand::Hand;
-use rh_descriptor::Shape;
-use rh_rdcss::OnTable;
-use rh_worker::{Stage, Worker};
+use crate::key::{Tried, try_key};
+use rh_kcas::{Seat, Table, claim};
+use rh_ledger::Kind;
 use std::sync::Wait;
 
-/// Does the key that was begun, and answers whether it was added, removed or found; none where the
-/// worker has too little room left for it. The worker is at rest then.
-pub fn do_key<R: Wait>(
-    rt: &R,
-    shape: &Shape,
-    here: &mut OnTable,
-    worker: &mut Worker,
-) -> Option<bool>
-    requires trusts { Trusts Sits shape.now here.old worker.old.side.known.view }
-    requires worker { IsWorker shape.now worker.old }
-    requires busy { IsBusy worker.old.stage }
-    requires anew { ReadsAnew shape.now (kept_of shape.now worker.old.side.known.view) worker.old }
-    requires orderly { Orderly worker.old.side.known.view }
-    ensures trusts { Trusts Sits shape.now here.new worker.new.side.known.view }
-    ensures stays { Stays here.old here.new }
-    ensures worker { IsWorker shape.now worker.new }
-    ensures keeps { KeepsKey worker.old worker.new }
-    ensures same_worker { worker.new.side.known.view.worker ≡ worker.old.side.known.view.worker }
-    ensures orderly { Orderly worker.new.side.known.view }
-    ensures claims { worker.new.side.known.view.side.claims ≡ worker.old.side.known.view.side.claims }
-    ensures opening { worker.new.side.known.view.opening ≡ worker.old.side.known.view.opening }
-    ensures furthers { Furthers shape.now worker.old.kind worker.old.key
-        worker.old.side.known.view worker.new.side.known.view result }
-    ensures done { IfSome result (λ told. (worker.new.stage ≡ stage.Idle)
-        × KeySpec shape.now worker.old.kind worker.old.key
-        worker.old.side.known.view worker.new.side.known.view told) }
-    ensures spent { IfNone result ((worker.new.stage ≡ stage.Spent)
-        × HasNoRoom shape.now worker.new.side.known.view
-        × (own_acts_of worker.new.side.known.view ≡ own_acts_of worker.old.side.known.view)) }
-{
-    for _ in rt.forever() {
-        let done = worker.step(shape, here).done;
-        match done {
-            Some(told) => return Some(told),
-            None => {
-                if worker.is_spent() {
-                    return None;
-                }
-            }
-        }
-    }
-    unreachable!()
-}
-
-/// Does the key that it left, and each that it claims, until none is left to claim, or the worker is
-/// spent: then it leaves its key for another round.
+/// Does the key that it left, and each that it claims, until none is left to claim, or the worker has
+/// too little room left: then it leaves its key for another round.
 pub(crate) fn do_keys<R: Wait, G: Gate>(
     rt: &R,
-    shape: &Shape,
-    here: &mut OnTable,
+    table: &Table,
+    seat: &mut Seat,
     hand: &mut Hand,
     keys: &[u64],
     gate: &G,
 )
-    requires trusts { Trusts Sits shape.now here.old hand.old.worker.side.known.view }
-    requires clear { IsClear hand.old.worker.side.known.view }
-    requires orderly { Orderly hand.old.worker.side.known.view }
-    requires stopped { HasStopped hand.old }
-    requires hand { IsHand shape.now keys.now hand.old hand.old.worker.side.known.view }
-    requires keys { (shape.now.keys ≡ length keys.now) × All IsKey keys.now }
-    ensures trusts { Trusts Sits shape.now here.new hand.new.worker.side.known.view }
-    ensures stays { Stays here.old here.new }
-    ensures same_worker { hand.new.worker.side.known.view.worker ≡ hand.old.worker.side.known.view.worker }
-    ensures clear { IsClear hand.new.worker.side.known.view }
-    ensures stopped { HasStopped hand.new }
-    ensures hand { IsHand shape.now keys.now hand.new hand.new.worker.side.known.view }
-    ensures stands { (past : Past) →
-        Stands shape.now keys.now past hand.old hand.old.worker.side.known.view →
-        Stands shape.now keys.now past hand.new hand.new.worker.side.known.view }
+    requires rests { Rests table.now seat.old }
+    requires hand { IsHand table.now.shape keys.now hand.old (view_of seat.old) }
+    requires keys { (table.now.shape.keys ≡ length keys.now) × All IsKey keys.now }
+    ensures rests { Rests table.now seat.new }
+    ensures same { IsSame seat.old seat.new }
+    ensures hand { IsHand table.now.shape keys.now hand.new (view_of seat.new) }
+    ensures stands { (past : Past) → Stands table.now.shape keys.now past hand.old (view_of seat.old) →
+        Stands table.now.shape keys.now past hand.new (view_of seat.new) }
 {
     for _ in rt.forever() {
-        if !next_key(shape, here, hand, keys, gate) {
+        if !next_key(table, seat, hand, keys, gate) {
             return;
         }
-        match do_key(rt, shape, here, &mut hand.worker) {
+        let bits = table.shape.bits;
+        let kind = hand.kind;
+        let key = keys[hand.position];
+        match do_in_buffer(rt, table, seat, kind, key, &mut hand.buffer) {
             Some(told) => {
-                gate.after(here, &hand.worker, told);
+                gate.after(table, seat, bits, kind, key, told);
                 hand.count(told);
             }
             None => return,
@@ -105,49 +55,91 @@ pub(crate) fn do_keys<R: Wait, G: Gate>(
     unreachable!()
 }
 
-/// Begins the key that it left, or the next that it claims. There is none at the end of the list.
+/// Takes up the key that it left, or claims the next one. There is none at the end of the list.
 fn next_key<G: Gate>(
-    shape: &Shape,
-    here: &mut OnTable,
+    table: &Table,
+    seat: &mut Seat,
     hand: &mut Hand,
     keys: &[u64],
     gate: &G,
 ) -> bool
-    requires trusts { Trusts Sits shape.now here.old hand.old.worker.side.known.view }
-    requires clear { IsClear hand.old.worker.side.known.view }
-    requires orderly { Orderly hand.old.worker.side.known.view }
-    requires stopped { HasStopped hand.old }
-    requires hand { IsHand shape.now keys.now hand.old hand.old.worker.side.known.view }
-    requires keys { (shape.now.keys ≡ length keys.now) × All IsKey keys.now }
-    ensures trusts { Trusts Sits shape.now here.new hand.new.worker.side.known.view }
-    ensures stays { Stays here.old here.new }
-    ensures worker { IsWorker shape.now hand.new.worker }
-    ensures same_worker { hand.new.worker.side.known.view.worker ≡ hand.old.worker.side.known.view.worker }
-    ensures orderly { Orderly hand.new.worker.side.known.view }
-    ensures hand { IsHand shape.now keys.now hand.new hand.new.worker.side.known.view }
-    ensures begun { IsTrue result → IsBusy hand.new.worker.stage
-        × ReadsAnew shape.now (kept_of shape.now hand.new.worker.side.known.view) hand.new.worker }
-    ensures ended { result ≡ false → hand.new.worker.stage ≡ stage.Idle }
-    ensures stands { (past : Past) →
-        Stands shape.now keys.now past hand.old hand.old.worker.side.known.view →
-        Stands shape.now keys.now past hand.new hand.new.worker.side.known.view }
+    requires rests { Rests table.now seat.old }
+    requires hand { IsHand table.now.shape keys.now hand.old (view_of seat.old) }
+    requires keys { table.now.shape.keys ≡ length keys.now }
+    ensures rests { Rests table.now seat.new }
+    ensures same { IsSame seat.old seat.new }
+    ensures hand { IsHand table.now.shape keys.now hand.new (view_of seat.new) }
+    ensures has_key { IsTrue result → hand.new.has_key ≡ true }
+    ensures stands { (past : Past) → Stands table.now.shape keys.now past hand.old (view_of seat.old) →
+        Stands table.now.shape keys.now past hand.new (view_of seat.new) }
 {
-    if hand.worker.is_spent() {
-        hand.worker.stage = Stage::Idle;
-        let key = hand.worker.key;
-        hand.worker.begin(key);
+    if hand.has_key {
         return true;
     }
     if hand.ended {
         return false;
     }
-    let position = hand.worker.claim(shape, here);
-    if keys.len() as u64 <= position {
+    let Some(position) = claim(table, seat) else {
         hand.ended = true;
         return false;
-    }
+    };
     hand.position = position as usize;
-    gate.before(hand.worker.side.worker, hand.done);
-    hand.worker.begin(keys[hand.position]);
+    hand.has_key = true;
+    gate.before(seat.side.worker, hand.done);
     true
+}
+
+/// `do_key`, in a buffer of which more is put to use where a scan needs it.
+fn do_in_buffer<R: Wait>(
+    rt: &R,
+    table: &Table,
+    seat: &mut Seat,
+    kind: Kind,
+    key: u64,
+    buffer: &mut Buffer,
+) -> Option<bool>
+    requires rests { Rests table.now seat.old }
+    requires key { IsKey key }
+    requires room { HasRoom table.now.shape.bits buffer.old }
+    ensures rests { Rests table.now seat.new }
+    ensures same { IsSame seat.old seat.new }
+    ensures room { HasRoom table.now.shape.bits buffer.new }
+    ensures claims { (view_of seat.new).side.claims ≡ (view_of seat.old).side.claims }
+    ensures opening { (view_of seat.new).opening ≡ (view_of seat.old).opening }
+    ensures furthers { Furthers table.now.shape kind key (view_of seat.old) (view_of seat.new) result }
+    ensures done { IfSome result (KeySpec table.now.shape kind key (view_of seat.old) (view_of seat.new)) }
+{
+    for _ in rt.forever() {
+        match try_in_buffer(rt, table, seat, kind, key, buffer) {
+            Tried::Done(told) => return Some(told),
+            Tried::Spent => return None,
+            Tried::Again => {}
+            Tried::Longer => buffer.use_more(table.shape.bits),
+        }
+    }
+    unreachable!()
+}
+
+/// `try_key`, in as much of the buffer as is in use.
+fn try_in_buffer<R: Wait>(
+    rt: &R,
+    table: &Table,
+    seat: &mut Seat,
+    kind: Kind,
+    key: u64,
+    buffer: &mut Buffer,
+) -> Tried
+    requires rests { Rests table.now seat.old }
+    requires key { IsKey key }
+    requires room { HasRoom table.now.shape.bits buffer.old }
+    ensures rests { Rests table.now seat.new }
+    ensures same { IsSame seat.old seat.new }
+    ensures room { HasRoom table.now.shape.bits buffer.new }
+    ensures tries { IsTriedSo table.now.shape kind key (view_of seat.old) (view_of seat.new) result }
+{
+    let bits = table.shape.bits;
+    let seen = buffer.seen.as_mut_slice();
+    let news = buffer.news.as_mut_slice();
+    let entries = buffer.entries.as_mut_slice();
+    try_key(rt, table, seat, bits, kind, key, seen, news, entries)
 }

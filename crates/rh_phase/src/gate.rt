@@ -1,9 +1,9 @@
 //! What watches the workers of a phase.
 
-ghost use Rattle.rh_phase.specs.Seated.{HasDone};
+ghost use Rattle.rh_phase.specs.Keys.{HasDone};
 
-use rh_rdcss::OnTable;
-use rh_worker::Worker;
+use rh_kcas::{Seat, Table};
+use rh_ledger::Kind;
 
 /// Is told of each key, by the worker that does it, in the thread in which that works.
 pub trait Gate {
@@ -11,9 +11,9 @@ pub trait Gate {
     /// in this phase. (A key that a later round begins anew is told of once.)
     fn before(&self, worker: usize, done: usize);
 
-    /// The worker has done its key, and was told this of it.
-    fn after(&self, here: &OnTable, worker: &Worker, told: bool)
-        requires { HasDone here.now worker.now told };
+    /// The worker that has this seat at the table has done this key, and was told this of it.
+    fn after(&self, table: &Table, seat: &Seat, bits: u32, kind: Kind, key: u64, answer: bool)
+        requires { HasDone table.now seat.now bits kind key answer };
 }
 
 /// Does nothing.
@@ -23,5 +23,13 @@ pub struct OpenGate;
 impl Gate for OpenGate {
     fn before(&self, _worker: usize, _done: usize) {}
 
-    fn after(&self, _here: &OnTable, _worker: &Worker, _told: bool) {}
+    fn after(
+        &self,
+        _table: &Table,
+        _seat: &Seat,
+        _bits: u32,
+        _kind: Kind,
+        _key: u64,
+        _answer: bool,
+    ) {}
 }

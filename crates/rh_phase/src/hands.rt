@@ -5,10 +5,10 @@ ghost use Rattle.rh_descriptor.specs.Parts.{IsShape};
 ghost use Rattle.rh_phase.specs.Made.{AreNew, IsNew};
 ghost use Rattle.rh_phase.specs.Rounds.{all_changed, is_marked};
 
+use crate::buffer::Buffer;
 use crate::hand::Hand;
 use rh_descriptor::Shape;
 use rh_ledger::Kind;
-use rh_worker::Worker;
 use std::alloc::{AllocError, Global};
 use std::collections::LinkedList;
 
@@ -23,26 +23,22 @@ pub(crate) fn new_hands(
     ensures { IfOk result (AreNew shape.now kind positions) }
 {
     let mut hands = LinkedList::new(alloc);
-    for worker in 0..shape.workers {
-        let hand = new_hand(alloc, shape, kind, positions, worker)?;
+    while hands.len() < shape.workers {
+        let hand = new_hand(alloc, shape, kind, positions)?;
         hands.push_back(hand)?;
     }
     Ok(hands)
 }
 
-fn new_hand(
-    alloc: Global,
-    shape: &Shape,
-    kind: Kind,
-    positions: usize,
-    worker: usize,
-) -> Result<Hand, AllocError>
+fn new_hand(alloc: Global, shape: &Shape, kind: Kind, positions: usize) -> Result<Hand, AllocError>
     requires { IsShape shape.now }
     ensures { IfOk result (IsNew shape.now kind positions) }
 {
     Ok(Hand {
-        worker: Worker::new(alloc, shape, kind, worker, &[])?,
+        kind,
+        buffer: Buffer::new(alloc, shape.bits)?,
         position: 0,
+        has_key: false,
         ended: false,
         done: 0,
         changed: 0,

@@ -12,19 +12,23 @@
 //! one free for each key that may be added, and one more; `rh_phase_tests` has phases whole.
 #![tactic(auto)]
 
+mod buffer;
 mod crew;
 mod doing;
+mod fault;
 mod gate;
 mod hand;
 mod hands;
+mod key;
 mod phase;
 mod rounds;
 mod seated;
 mod threads;
+mod working_out;
 
 pub use crew::{AllStart, Starts};
-pub use doing::do_key;
 pub use gate::{Gate, OpenGate};
+pub use key::do_key;
 pub use phase::{ask, ask_with, change, change_with};
 pub use rh_runner::PhaseFault;
 pub use threads::Threads;

@@ -5,23 +5,16 @@ ghost use Rattle.std.specs.FinSet as set;
 ghost use Rattle.rh_layout.specs.Key.{IsBits, IsKey};
 ghost use Rattle.rh_layout.specs.Layout.{IsLayout, keys_of};
 ghost use Rattle.rh_ledger.specs.Phase.{looked_up, most_added, set_after, tally_of};
-ghost use Rattle.rh_acts.specs.Workers.{tally_by};
-ghost use Rattle.rh_descriptor.specs.Parts.{IsShape};
 ghost use Rattle.rh_phase.specs.Crew.{AllMayStart};
-ghost use Rattle.rh_phase.specs.Made.{HasMade, IsRooms, IsWorkers};
-ghost use Rattle.rh_phase.specs.Rounds.{phase};
+ghost use Rattle.rh_phase.specs.Made.{IsRooms, IsWorkers};
 
-use crate::crew::{AllStart, Crew, Starts};
+use crate::crew::{AllStart, Starts};
 use crate::gate::Gate;
-use crate::hand::Hand;
-use crate::hands::{all_changed, mark_all, new_hands};
-use crate::rounds::rounds;
+use crate::working_out::{asked, changed};
 use rh_descriptor::{Rooms, Shape};
-use rh_kcas::{close, make};
 use rh_ledger::{Kind, Tally};
 use rh_runner::PhaseFault;
 use std::alloc::Global;
-use std::collections::LinkedList;
 use std::sync::Wait;
 use std::thread::Threads;
 
@@ -108,9 +101,7 @@ pub fn change_with<R: Threads + Wait + Sync, G: Gate + Sync, S: Starts + Sync>(
     ensures no_thread { IsErrOf result PhaseFault.NoThread → 1 < workers }
 {
     let shape = shape_of(bits, workers, rooms, keys);
-    let cells = cells.as_mut_slice();
-    let hands = carry_out(rt, alloc, shape, kind, cells, keys, 0, gate, starts)?;
-    Ok(tally_by(kind, keys.len() as u64, all_changed(hands)))
+    Ok(changed(rt, alloc, shape, kind, cells, keys, gate, starts)?)
 }
 
 /// `ask`, where some threads may not be started, and each worker has this room in a round.
@@ -135,67 +126,11 @@ pub fn ask_with<R: Threads + Wait + Sync, G: Gate + Sync, S: Starts + Sync>(
     ensures no_thread { IsErrOf result PhaseFault.NoThread → 1 < workers }
 {
     let shape = shape_of(bits, workers, rooms, keys);
-    let positions = keys.len();
-    let Ok(mut found) = vec![in alloc; false; positions] else {
-        return Err(PhaseFault::Memory);
-    };
-    // (the cells at the end are the same)
-    let Ok(mut then) = cells.to_vec(alloc) else {
-        return Err(PhaseFault::Memory);
-    };
-    let hands = carry_out(
-        rt,
-        alloc,
-        shape,
-        Kind::Ask,
-        then.as_mut_slice(),
-        keys,
-        positions,
-        gate,
-        starts,
-    )?;
-    mark_all(hands, found.as_mut_slice());
-    Ok(found)
+    Ok(asked(rt, alloc, shape, cells, keys, gate, starts)?)
 }
 
-/// A phase by all workers of a table of this shape. The hands mark so many positions of the list.
-fn carry_out<R: Threads + Wait + Sync, G: Gate + Sync, S: Starts + Sync>(
-    rt: &R,
-    alloc: Global,
-    shape: Shape,
-    kind: Kind,
-    cells: &mut [u64],
-    keys: &[u64],
-    positions: usize,
-    gate: &G,
-    starts: &S,
-) -> Result<LinkedList<Hand>, PhaseFault>
-    requires shape { IsShape shape }
-    requires some { 0 < shape.workers }
-    requires list { shape.keys ≡ length keys.now }
-    requires keys { All IsKey keys.now }
-    requires layout { IsLayout shape.bits cells.old }
-    requires room { set.len (keys_of cells.old) + most_added kind keys.now < 2 ^ shape.bits }
-    ensures made { IfOk result (HasMade (phase shape kind cells.old keys.now positions) cells.new) }
-    ensures unchanged { OnErr result (cells.new ≡ cells.old) }
-    ensures allowed { OnOk result (AllMayStart (S.allows starts.now) 0 shape.workers) }
-    ensures no_thread { IsErrOf result PhaseFault.NoThread → 1 < shape.workers }
-{
-    let Ok(hands) = new_hands(alloc, &shape, kind, positions) else {
-        return Err(PhaseFault::Memory);
-    };
-    let Ok((table, seat)) = make(alloc, shape, cells) else {
-        return Err(PhaseFault::Memory);
-    };
-    let crew = Crew { seat, hands };
-    let Ok(Crew { seat, hands }) = rounds(rt, &table, crew, keys, gate, starts) else {
-        return Err(PhaseFault::NoThread);
-    };
-    close(table, seat, cells);
-    Ok(hands)
-}
-
-fn shape_of(bits: u32, workers: usize, rooms: Rooms, keys: &[u64]) -> Shape
+/// The shape of a table for so many workers that share this list.
+pub(crate) fn shape_of(bits: u32, workers: usize, rooms: Rooms, keys: &[u64]) -> Shape
     ensures bits { result.bits ≡ bits }
     ensures workers { result.workers ≡ workers }
     ensures rooms { result.rooms ≡ rooms }
@@ -206,30 +141,5 @@ fn shape_of(bits: u32, workers: usize, rooms: Rooms, keys: &[u64]) -> Shape
         workers,
         keys: keys.len() as u64,
         rooms,
-    }
-}
-
-fn tally_by(kind: Kind, read: u64, changed: u64) -> Tally
-    ensures { result ≡ tally_by kind read changed }
-{
-    let none = Tally {
-        read,
-        added: 0,
-        removed: 0,
-        found: 0,
-    };
-    match kind {
-        Kind::Insert => Tally {
-            added: changed,
-            ..none
-        },
-        Kind::Remove => Tally {
-            removed: changed,
-            ..none
-        },
-        Kind::Ask => Tally {
-            found: changed,
-            ..none
-        },
     }
 }

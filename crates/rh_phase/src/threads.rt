@@ -3,9 +3,15 @@
 ghost use Rattle.std.specs.Prelude.{◌≡◌};
 ghost use Rattle.rh_files.specs.Counting.{Rose};
 ghost use Rattle.rh_phase.specs.Made.{IsWorkers};
+ghost use Rattle.rh_phase.specs.declared.crew.Refused.{Refused};
+ghost use Rattle.rh_phase.specs.declared.fault.Fault.TheVariants as faults;
 
+use crate::crew::AllStart;
+use crate::fault::Fault;
 use crate::gate::OpenGate;
-use crate::phase::{ask, change};
+use crate::phase::shape_of;
+use crate::working_out::{asked, changed};
+use rh_descriptor::Rooms;
 use rh_ledger::{Kind, Tally};
 use rh_runner::{PhaseFault, Runner};
 use std::alloc::Global;
@@ -27,7 +33,8 @@ impl Threads {
     /// own, and gives it back.
     pub fn new(workers: usize) -> Threads
         requires { IsWorkers workers }
-        ensures { ⟦<Threads as Runner>⟧.refused_starts result ≡ 0 }
+        ensures none { ⟦<Threads as Runner>⟧.refused_starts result ≡ 0 }
+        ensures workers { ⟦<Threads as Runner>⟧.workers result ≡ workers }
     {
         Threads {
             workers,
@@ -35,21 +42,23 @@ impl Threads {
         }
     }
 
-    /// The same fault. Where it is a refused start, that is counted.
-    fn counted(&mut self, fault: PhaseFault) -> PhaseFault
-        ensures same { result ≡ fault }
-        ensures counts { fault ≡ PhaseFault.NoThread →
-            Rose self.old.refused_starts self.new.refused_starts }
+    /// What is told of the fault. A start that was refused is counted.
+    fn told(&mut self, fault: Fault) -> PhaseFault
+        ensures workers { self.new.workers ≡ self.old.workers }
+        ensures no_thread { result ≡ PhaseFault.NoThread → (why : Refused)
+            × (fault ≡ faults.Refused why) × Rose self.old.refused_starts self.new.refused_starts }
     {
-        if fault == PhaseFault::NoThread {
+        if let Fault::Refused(_) = fault {
             self.refused_starts = self.refused_starts.saturating_add(1);
         }
-        fault
+        PhaseFault::from(fault)
     }
 }
 
 impl Runner for Threads {
     ghost refused_starts = { λ t. t.refused_starts };
+
+    ghost workers = { λ t. t.workers };
 
     fn change<R: thread::Threads + Wait + Sync>(
         &mut self,
@@ -60,9 +69,10 @@ impl Runner for Threads {
         cells: &mut Vec<u64>,
         keys: &[u64],
     ) -> Result<Tally, PhaseFault> {
-        match change(rt, alloc, self.workers, kind, bits, cells, keys, &OpenGate) {
+        let shape = shape_of(bits, self.workers, Rooms::usual(), keys);
+        match changed(rt, alloc, shape, kind, cells, keys, &OpenGate, &AllStart) {
             Ok(tally) => Ok(tally),
-            Err(fault) => Err(self.counted(fault)),
+            Err(fault) => Err(self.told(fault)),
         }
     }
 
@@ -74,9 +84,10 @@ impl Runner for Threads {
         cells: &[u64],
         keys: &[u64],
     ) -> Result<Vec<bool>, PhaseFault> {
-        match ask(rt, alloc, self.workers, bits, cells, keys, &OpenGate) {
+        let shape = shape_of(bits, self.workers, Rooms::usual(), keys);
+        match asked(rt, alloc, shape, cells, keys, &OpenGate, &AllStart) {
             Ok(found) => Ok(found),
-            Err(fault) => Err(self.counted(fault)),
+            Err(fault) => Err(self.told(fault)),
         }
     }
 }

@@ -2,11 +2,10 @@
 //! holds one worker before its first key until the other one has done a key.
 
 use rh_edit::SeqSet;
+use rh_kcas::{Seat, Table};
 use rh_layout::is_layout;
 use rh_ledger::{Kind, Tally};
 use rh_phase::{Gate, ask, change};
-use rh_rdcss::OnTable;
-use rh_worker::Worker;
 use std::sync::atomic::{AtomicU64, Ordering};
 use std::test::Fail;
 
@@ -59,8 +58,8 @@ impl Gate for Held {
         }
     }
 
-    fn after(&self, _here: &OnTable, worker: &Worker, told: bool) {
-        let digit = match worker.key {
+    fn after(&self, _table: &Table, _seat: &Seat, _bits: u32, _kind: Kind, key: u64, answer: bool) {
+        let digit = match key {
             1 => 0x1,
             2 => 0x10,
             3 => 0x100,
@@ -69,7 +68,7 @@ impl Gate for Held {
             _ => 0x8000_0000_0000_0000,
         };
         self.done.fetch_add(digit, Ordering::SeqCst);
-        if told {
+        if answer {
             self.changed.fetch_add(digit, Ordering::SeqCst);
         }
     }

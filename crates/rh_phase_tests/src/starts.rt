@@ -27,26 +27,41 @@ impl Starts for AllBut {
 
 #[test]
 fn a_refused_start_leaves_the_cells(rt: HostRuntime) -> Result<(), Fail> {
-    for refused in 1..16 {
-        let set = SeqSet::new(rt.alloc(), 3)?;
-        assert!(rt; set.len() == 0);
-        let mut cells = set.into_cells();
-        assert!(rt; is_layout(3, &cells));
-        let starts = AllBut(refused);
-        let told = change_with(
-            &rt,
-            rt.alloc(),
-            16,
-            Kind::Insert,
-            3,
-            &mut cells,
-            &[9, 9],
-            &OpenGate,
-            &starts,
-            ROOMS,
-        );
-        assert!(rt; told == Err(PhaseFault::NoThread));
-        assert_eq!(rt; cells.as_slice(), [0, 0, 0, 0, 0, 0, 0, 0].as_slice());
+    for workers in [2, 8, 16] {
+        // (worker 0 starts with the call)
+        for refused in 0..workers {
+            assert!(rt; 0 < workers && workers <= 16);
+            let set = SeqSet::new(rt.alloc(), 3)?;
+            assert!(rt; set.len() == 0);
+            let mut cells = set.into_cells();
+            assert!(rt; is_layout(3, &cells));
+            let starts = AllBut(refused);
+            let told = change_with(
+                &rt,
+                rt.alloc(),
+                workers,
+                Kind::Insert,
+                3,
+                &mut cells,
+                &[9, 9],
+                &OpenGate,
+                &starts,
+                ROOMS,
+            );
+            if refused == 0 {
+                let tally = Tally {
+                    read: 2,
+                    added: 1,
+                    removed: 0,
+                    found: 0,
+                };
+                assert!(rt; told == Ok(tally));
+                assert_eq!(rt; cells.as_slice(), [0, 0, 0, 0, 10, 0, 0, 0].as_slice());
+            } else {
+                assert!(rt; told == Err(PhaseFault::NoThread));
+                assert_eq!(rt; cells.as_slice(), [0, 0, 0, 0, 0, 0, 0, 0].as_slice());
+            }
+        }
     }
     Ok(())
 }

@@ -249,6 +249,8 @@ struct Refusing {
 impl Runner for Refusing {
     ghost refused_starts = { λ r. r.refused };
 
+    ghost workers = { λ _. 2 };
+
     fn change<R: Threads + Wait + Sync>(
         &mut self,
         _rt: &R,

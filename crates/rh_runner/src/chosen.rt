@@ -65,7 +65,7 @@ pub fn count_chosen<T: Threads + Wait + Sync, N: Runner, K: KeySource>(
 {
     // The count is no greater.
     let most = keys.left();
-    let mut room = phase_room(alloc, most)?;
+    let mut room = phase_room(alloc, most, runner.phase_keys(Kind::Ask))?;
     let batch = room.as_mut_slice();
     let mut many = 0;
     loop {
@@ -140,7 +140,7 @@ pub fn insert_chosen<T: Threads + Wait + Sync, N: Runner, K: KeySource>(
         (N.refused_starts runner.old) (N.refused_starts runner.new)) }
     ensures fine { OnOk result (N.refused_starts runner.new ≡ N.refused_starts runner.old) }
 {
-    let mut room = phase_room(alloc, keys.left())?;
+    let mut room = phase_room(alloc, keys.left(), runner.phase_keys(Kind::Insert))?;
     let room = room.as_mut_slice();
     let mut left = many;
     let mut tally = NONE_YET;
@@ -187,7 +187,7 @@ pub fn remove_and_count_absent<T: Threads + Wait + Sync, N: Runner, K: KeySource
 {
     // No count is greater.
     let most = keys.left();
-    let mut room = phase_room(alloc, most)?;
+    let mut room = phase_room(alloc, most, runner.phase_keys(Kind::Remove))?;
     let batch = room.as_mut_slice();
     let mut tally = NONE_YET;
     let mut absent = 0;

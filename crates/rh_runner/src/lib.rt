@@ -9,6 +9,6 @@ mod single;
 
 pub use chosen::{count_chosen, insert_chosen, remove_and_count_absent};
 pub use fault::ListFault;
-pub use lists::{BATCH, PHASE, ask_all, change_all, read_through};
+pub use lists::{BATCH, LOOK_UPS, PHASE, ask_all, change_all, read_through};
 pub use runner::{PhaseFault, Runner};
 pub use single::Single;

@@ -9,24 +9,30 @@ ghost use Rattle.rh_runner.specs.Lists.{Took, Ran, Refused, may_add};
 
 use crate::fault::ListFault;
 use crate::runner::Runner;
-use rh_files::{KeyFault, KeySource};
+use rh_files::{KeyFault, KeySource, MAX_KEYS};
+use rh_grow::{LOAD_DENOMINATOR, LOAD_NUMERATOR};
+use rh_layout::MAX_BITS;
 use rh_ledger::{Kind, Tally, joined};
 use std::alloc::{AllocError, Global};
 use std::sync::Wait;
 use std::thread::Threads;
 
-/// How many keys are taken at a time of a list that is only read through.
+/// How many keys are taken at a time of a list that is only read through, or of which one worker that
+/// has the table alone does a few after the others.
 pub const BATCH: usize = 4_096;
 
-/// How many keys a phase takes at most: as many as may be added to a table. A phase of several workers
-/// makes a table of its own, so a list is cut only where that is needed to bound the memory.
-pub const PHASE: usize = 196_608;
+/// How many keys a phase of several workers takes at most that changes a table: as many as may be added
+/// to one. It makes a table of its own, so a list is cut only where that is needed to bound the memory.
+pub const PHASE: usize = (1 << MAX_BITS) / LOAD_DENOMINATOR as usize * LOAD_NUMERATOR as usize;
 
-/// Room for the keys of a phase over a list of which so many are to come.
-pub(crate) fn phase_room(alloc: Global, left: u64) -> Result<Vec<u64>, AllocError>
+/// How many keys a phase of look-ups by several workers takes at most: as many as a list has.
+pub const LOOK_UPS: usize = MAX_KEYS as usize;
+
+/// Room for the keys of a phase, which takes at most so many, over a list of which `left` are to come.
+pub(crate) fn phase_room(alloc: Global, left: u64, most: usize) -> Result<Vec<u64>, AllocError>
     ensures some { IfOk result (λ room. 0 < length room.items) }
 {
-    let long = left.min(PHASE as u64).max(1) as usize;
+    let long = left.min(most as u64).max(1) as usize;
     vec![in alloc; 0; long]
 }
 
@@ -71,7 +77,7 @@ pub fn change_all<T: Threads + Wait + Sync, N: Runner, K: KeySource>(
 {
     // No count of the tally is greater.
     let most = keys.left();
-    let mut room = phase_room(alloc, most)?;
+    let mut room = phase_room(alloc, most, runner.phase_keys(kind))?;
     let batch = room.as_mut_slice();
     let mut tally = NONE_YET;
     loop {
@@ -104,7 +110,7 @@ pub fn ask_all<T: Threads + Wait + Sync, N: Runner, K: KeySource>(
 {
     let many = keys.left();
     let mut found = Vec::with_capacity(alloc, many as usize)?;
-    let mut room = phase_room(alloc, many)?;
+    let mut room = phase_room(alloc, many, runner.phase_keys(Kind::Ask))?;
     let batch = room.as_mut_slice();
     loop {
         let n = keys.next_keys(batch)?;

@@ -8,6 +8,7 @@ ghost use Rattle.rh_layout.specs.Layout.{IsLayout, keys_of};
 ghost use Rattle.rh_files.specs.Counting.{Rose};
 ghost use Rattle.rh_ledger.specs.Phase.{set_after, tally_of, looked_up, most_added};
 
+use crate::lists::{LOOK_UPS, PHASE};
 use rh_ledger::{Kind, Tally};
 use std::alloc::{AllocError, Global};
 use std::sync::Wait;
@@ -40,6 +41,17 @@ pub trait Runner {
     /// How often the start of a thread was refused. The count stops at the greatest `u64`.
     ghost refused_starts: { Self → ℕ };
 
+    /// How many workers carry out a phase.
+    ghost workers: { Self → ℕ };
+
+    /// How many keys it takes best in one phase of this kind, of a list that may have more.
+    fn phase_keys(&self, kind: Kind) -> usize {
+        match kind {
+            Kind::Insert | Kind::Remove => PHASE,
+            Kind::Ask => LOOK_UPS,
+        }
+    }
+
     /// Inserts or removes the keys. On a fault the cells are as they were.
     fn change<R: Threads + Wait + Sync>(
         &mut self,
@@ -60,8 +72,9 @@ pub trait Runner {
             (keys_of cells.new.items ≡ set_after kind (keys_of cells.old.items) keys.now) }
         ensures tally { IfOk result (λ t. t ≡ tally_of kind (keys_of cells.old.items) keys.now) }
         ensures unchanged { OnErr result (cells.new.items ≡ cells.old.items) }
+        ensures same { workers self.new ≡ workers self.old }
         ensures no_thread { IsErrOf result PhaseFault.NoThread →
-            Rose (refused_starts self.old) (refused_starts self.new) }
+            (1 < workers self.old) × Rose (refused_starts self.old) (refused_starts self.new) }
         ensures fine { OnOk result (refused_starts self.new ≡ refused_starts self.old) };
 
     /// Looks the keys up, and answers in list order which are there.
@@ -79,7 +92,8 @@ pub trait Runner {
         requires room { set.len (keys_of cells.now) < 2 ^ bits }
         ensures found { IfOk result (λ found.
             found.items ≡ looked_up (keys_of cells.now) keys.now) }
+        ensures same { workers self.new ≡ workers self.old }
         ensures no_thread { IsErrOf result PhaseFault.NoThread →
-            Rose (refused_starts self.old) (refused_starts self.new) }
+            (1 < workers self.old) × Rose (refused_starts self.old) (refused_starts self.new) }
         ensures fine { OnOk result (refused_starts self.new ≡ refused_starts self.old) };
 }

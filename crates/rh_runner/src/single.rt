@@ -7,6 +7,7 @@ ghost use Rattle.rh_layout.specs.Layout.{IsLayout, keys_of};
 ghost use Rattle.rh_ledger.specs.declared.tally.Kind.TheVariants.{Insert, Remove};
 ghost use Rattle.rh_ledger.specs.Phase.{set_after, tally_of};
 
+use crate::lists::BATCH;
 use crate::runner::{PhaseFault, Runner};
 use rh_edit::{insert, remove};
 use rh_ledger::{Kind, Tally};
@@ -22,6 +23,12 @@ pub struct Single;
 
 impl Runner for Single {
     ghost refused_starts = { λ _. 0 };
+
+    ghost workers = { λ _. 1 };
+
+    fn phase_keys(&self, _kind: Kind) -> usize {
+        BATCH
+    }
 
     fn change<R: Threads + Wait + Sync>(
         &mut self,

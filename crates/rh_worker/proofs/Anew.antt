@@ -1,9 +1,13 @@
 -- What was read for a key since it was begun.
-use Rattle.std.proofs.Common.{zero, suc, ◌≡◌, ℕ, ◌<◌, ◌≤◌, List, ◌∷◌, ◌++◌, length, map, filter, get_or, take, get_or-take, length-take-le, append_assoc, inl, refl, sym, ap, ◌∙◌, subst, arith}
+use Rattle.std.proofs.Common.{zero, suc, ◌≡◌, ◌≢◌, ℕ, ◌<◌, ◌≤◌, List, [], ◌∷◌, ◌++◌, length, map, filter, get_or, take, get_or-take, length-take-le, append_assoc, inl, ⊎_elim, refl, sym, ap, ◌∙◌, subst, arith}
 use Rattle.std.specs.Prelude.{Bool, Option, Some, None, IfSome, nat_lt}
+use Rattle.std.specs.List.{Contains}
+use Rattle.std.proofs.lemmas.List.Elements.{Contains-append_left, Contains-append_right}
 use Rattle.rh_ledger.specs.declared.tally.Kind.{Kind}
 use Rattle.rh_world.specs.Sides.{KeptRead}
+use Rattle.rh_world.proofs.Updated.{same_nat}
 use Rattle.rh_acts.specs.Done.{Kept, kept}
+use Rattle.rh_acts.proofs.ActLemmas.{contains_head}
 use Rattle.rh_run.specs.Advance.{GoesOn}
 use Rattle.rh_layout.specs.Round.{cell_ahead}
 use Rattle.rh_layout.specs.Order.{home_of}
@@ -12,6 +16,7 @@ use Rattle.rh_descriptor.specs.declared.shape.Shape.{Shape}
 use Rattle.rh_descriptor.specs.Parts.{cell_count}
 use Rattle.rh_descriptor.specs.View.{View}
 use Rattle.rh_worker.specs.Reading.{HasRead, IsToldAnew, TellsAnew, seen_back}
+use Rattle.rh_worker.specs.Worker.{WereRead}
 
 -- the same reads are kept
 pub kept_alike : (z : Shape) (v next : View) → next.side.reads ≡ v.side.reads → kept_of z next ≡ kept_of z v
@@ -58,6 +63,19 @@ pub front_read : (z : Shape) (before : List Kept) (v : View) (k : ℕ) (seen : L
 front_read z before v k seen n within h =
     subst (HasRead z before v k (take n seen)) (sym (length-take-le n seen within))
     (seen_alike z before v k seen (take n seen) n (λ p less. get_or-take n seen p 0 less) h)
+
+-- each of these reads is kept
+in_back : (z : Shape) (k : ℕ) (seen : List ℕ) (n p : ℕ) → p < n → Contains (seen_back z k seen n) (kept (cell_ahead (cell_count z) (home_of z.bits k) p) (get_or seen p 0))
+in_back z k seen zero p less = absurd (omega arith)
+in_back z k seen (suc n) p less = ⊎_elim
+    (λ (e : p ≡ n). subst (λ (q : ℕ). Contains (seen_back z k seen (suc n)) (kept (cell_ahead (cell_count z) (home_of z.bits k) q) (get_or seen q 0))) (sym e) (contains_head _ (seen_back z k seen n)))
+    (λ (ne : p ≢ n). Contains-append_right (kept (cell_ahead (cell_count z) (home_of z.bits k) n) (get_or seen n 0) ∷ []) (seen_back z k seen n) _ (in_back z k seen n p (omega (arith, less, ne))))
+    (same_nat p n)
+
+pub each_read : (z : Shape) (before : List Kept) (v : View) (k : ℕ) (seen : List ℕ) → HasRead z before v k seen (length seen) → WereRead z v k seen
+each_read z before v k seen h p less =
+    subst (λ (l : List Kept). Contains l (kept (cell_ahead (cell_count z) (home_of z.bits k) p) (get_or seen p 0))) (sym h.reads)
+    (Contains-append_left (seen_back z k seen (length seen)) (h.since ++ before) _ (in_back z k seen (length seen) p less))
 
 pub tells_anew : (z : Shape) (before : List Kept) (kind : Kind) (k : ℕ) (v next : View) (done : Option Bool) → GoesOn v next
     → IfSome done (IsToldAnew z before next kind k) → TellsAnew z before kind k v next done

@@ -25,7 +25,7 @@ use Rattle.rh_helping.proofs.OwnRows.{entry_is}
 use Rattle.rh_worker.specs.declared.stage.Plan.{Plan}
 use Rattle.rh_worker.specs.declared.stage.Stage.TheVariants as stage
 use Rattle.rh_worker.specs.declared.scan_buffer.ScanBuffer.{ScanBuffer}
-use Rattle.rh_worker.specs.ScanBuffer.{AreFit}
+use Rattle.rh_worker.specs.Deciding.{AreFit}
 use Rattle.rh_worker.specs.Worker.{IsPlanned, Stays, planned}
 
 -- ---- the entries
@@ -49,7 +49,7 @@ act_size : (es : List Entry) → length (act_of es) ≡ length es
 act_size [] = refl
 act_size (x ∷ es) = ap suc (act_size es)
 
-are_entries : (z : Shape) (es : List Entry) → 0 < length es → IsRising (act_of es) → AreFit z.bits es → AreEntries z es
+pub are_entries : (z : Shape) (es : List Entry) → 0 < length es → IsRising (act_of es) → AreFit z.bits es → AreEntries z es
 are_entries z es more rising fit =
     let is_fit = λ (e : ℕ) (l : e < length es). subst (λ (x : Entry). (x.cell < 2 ^ z.bits) × IsPlain x.old × IsPlain x.new) (sym (entry_is es e nothing l)) (fit (get_or es e nothing) (Contains-get_or es e nothing l)) in
     record {

@@ -18,8 +18,8 @@ use Rattle.rh_helping.specs.Next.{Looking as looking}
 use Rattle.rh_helping.specs.Looking.{IsLooking, LooksOn}
 use Rattle.rh_run.specs.Advance.{GoesOn}
 use Rattle.rh_worker.specs.declared.scan_buffer.ScanBuffer.{ScanBuffer}
-use Rattle.rh_worker.specs.declared.scan_buffer.Decision.TheVariants.{Done}
-use Rattle.rh_worker.specs.ScanBuffer.{Decides}
+use Rattle.rh_worker.specs.declared.deciding.Decision.TheVariants.{Done}
+use Rattle.rh_worker.specs.Deciding.{Decides}
 use Rattle.rh_worker.specs.Worker.{HasSeen, WereRead}
 
 pub told_is : (kind : Kind) (z : Shape) (v : View) (k : ℕ) (seen : List ℕ) (entries : List Entry) (told : Bool) → length seen ≤ cell_count z → WereRead z v k seen

@@ -1,3 +1,4 @@
+pub mod Deciding
 pub mod ScanBuffer
 pub mod Worker
 pub mod Reading

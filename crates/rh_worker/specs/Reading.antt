@@ -9,7 +9,7 @@ use Rattle.rh_descriptor.specs.Parts.{cell_count}
 use Rattle.rh_descriptor.specs.View.{View}
 use Rattle.rh_history.specs.History.{kept_of}
 use Rattle.rh_run.specs.Advance.{GoesOn, Succeeds}
-use Rattle.rh_worker.specs.ScanBuffer.{IsDoneBy}
+use Rattle.rh_worker.specs.Deciding.{IsDoneBy}
 use Rattle.rh_worker.specs.declared.stage.Stage.{Stage}
 use Rattle.rh_worker.specs.declared.stage.Stage.TheVariants as stage
 use Rattle.rh_worker.specs.declared.worker.Worker.{Worker}

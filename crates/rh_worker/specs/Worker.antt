@@ -23,7 +23,8 @@ use Rattle.rh_helping.specs.Machine.{looking_of, work_of}
 use Rattle.rh_helping.specs.declared.machine.Machine.{Machine}
 use Rattle.rh_history.specs.History.{kept_of}
 use Rattle.rh_history.specs.OwnActs.{Closes}
-use Rattle.rh_worker.specs.ScanBuffer.{HasRoom, IsPlan}
+use Rattle.rh_worker.specs.Deciding.{IsPlan}
+use Rattle.rh_worker.specs.ScanBuffer.{HasRoom}
 use Rattle.rh_worker.specs.declared.stage.Plan.{Plan}
 use Rattle.rh_worker.specs.declared.stage.Stage.{Stage}
 use Rattle.rh_worker.specs.declared.stage.Stage.TheVariants as stage

@@ -3,6 +3,7 @@
 //! meets (Robin Hood tables on a swap of several cells: Kelly, Pearlmutter and Maguire 2018).
 #![tactic(auto)]
 
+mod deciding;
 mod laws;
 mod scan_buffer;
 mod scanning;
@@ -10,6 +11,7 @@ mod stage;
 mod swapping;
 mod worker;
 
+pub use deciding::{Decision, decide};
 pub use laws::keys_are_done;
 pub use scan_buffer::ScanBuffer;
 pub use stage::{Plan, Stage};

@@ -13,13 +13,14 @@ ghost use Rattle.rh_history.specs.History.{kept_of};
 ghost use Rattle.rh_helping.specs.Goal.{IsClear};
 ghost use Rattle.rh_helping.specs.Looking.{kind_of_looking};
 ghost use Rattle.rh_helping.specs.Machine.{looking_of};
-ghost use Rattle.rh_worker.specs.ScanBuffer.{HasRoom, IsPlan};
+ghost use Rattle.rh_worker.specs.Deciding.{IsPlan};
+ghost use Rattle.rh_worker.specs.ScanBuffer.{HasRoom};
 ghost use Rattle.rh_worker.specs.Worker.{EndsAt, Stays, WereRead};
 ghost use Rattle.rh_descriptor.specs.Parts.{cell_count};
 ghost use Rattle.rh_layout.specs.Key.{IsKey};
 ghost use Rattle.rh_rule.specs.Sound.{Sound};
 
-use crate::scan_buffer::Decision;
+use crate::deciding::Decision;
 use crate::stage::{Plan, Stage};
 use crate::worker::Worker;
 use rh_descriptor::Shape;
