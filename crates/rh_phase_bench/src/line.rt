@@ -9,6 +9,10 @@ pub enum Line {
         phases: u32,
         seed: u64,
     },
+    Call {
+        kind: Kind,
+        workers: usize,
+    },
     Timed {
         kind: Kind,
         keys: u64,
@@ -21,22 +25,35 @@ pub fn asked(words: &[String]) -> Option<Line> {
     if words.len() != 3 {
         return None;
     }
-    let kind = match words[0].as_str() {
+    match words[0].as_str() {
         "stress" => {
             let phases = words[1].parse().ok()?;
             let seed = words[2].parse().ok()?;
-            return Some(Line::Stress { phases, seed });
+            Some(Line::Stress { phases, seed })
         }
-        "insert" => Kind::Insert,
-        "ask" => Kind::Ask,
-        "remove" => Kind::Remove,
-        _ => return None,
-    };
-    let keys = words[1].parse().ok()?;
-    let workers = words[2].parse().ok()?;
-    Some(Line::Timed {
-        kind,
-        keys,
-        workers,
-    })
+        "call" => {
+            let kind = kind_of(words[1].as_str())?;
+            let workers = words[2].parse().ok()?;
+            Some(Line::Call { kind, workers })
+        }
+        word => {
+            let kind = kind_of(word)?;
+            let keys = words[1].parse().ok()?;
+            let workers = words[2].parse().ok()?;
+            Some(Line::Timed {
+                kind,
+                keys,
+                workers,
+            })
+        }
+    }
+}
+
+fn kind_of(word: &str) -> Option<Kind> {
+    match word {
+        "insert" => Some(Kind::Insert),
+        "ask" => Some(Kind::Ask),
+        "remove" => Some(Kind::Remove),
+        _ => None,
+    }
 }

@@ -2,6 +2,7 @@
 //! both kinds of runner beside one another.
 #![tactic(auto)]
 
+mod call;
 mod line;
 mod random;
 mod stress;
@@ -16,9 +17,11 @@ use std::thread::Threads;
 use std::time::Clock;
 
 const USAGE: &str = "usage: rh_phase_bench stress PHASES SEED
+       rh_phase_bench call insert|ask|remove WORKERS
        rh_phase_bench insert|ask|remove KEYS WORKERS
   stress   makes so many random phases on small tables, by 2 to 16 workers and by one, and compares
            what comes of them
+  call     makes one small phase, and tells what came of it and what the cells hold then
   KEYS     so many keys that look random are inserted into an empty table, looked up in it, or removed
            from it: 1 to 196608
   WORKERS  1 to 16 workers at one table, or 0 for one that has it alone";
@@ -46,6 +49,7 @@ fn carry_out(
             stress::compare(rt, phases, seed)?;
             println!(rt; "{phases} phases, each as one worker makes it")
         }
+        Line::Call { kind, workers } => return call::tell(rt, kind, workers),
         Line::Timed {
             kind,
             keys,

@@ -294,4 +294,5 @@ fn faults_of_the_runner_are_told(rt: HostRuntime) -> Result<(), Fail> {
 fn batches_and_phases_are_so_long(rt: HostRuntime) {
     assert_eq!(rt; BATCH, 4_096);
     assert_eq!(rt; PHASE, 196_608);
+    assert_eq!(rt; LOOK_UPS, 1_000_000);
 }
