@@ -9,6 +9,7 @@ ghost use Rattle.rh_phase.specs.Buffer.{HasRoom};
 ghost use Rattle.rh_phase.specs.Hands.{IsHand, Past, Stands};
 ghost use Rattle.rh_phase.specs.Keys.{Furthers, IsTriedSo, KeySpec};
 ghost use Rattle.rh_rdcss.specs.Calls.{IsSame, view_of};
+ghost use Rattle.rh_worker.specs.Worker.{HasNoRoom};
 
 use crate::buffer::Buffer;
 use crate::gate::Gate;
@@ -108,6 +109,8 @@ fn do_in_buffer<R: Wait>(
     ensures opening { (view_of seat.new).opening ≡ (view_of seat.old).opening }
     ensures furthers { Furthers table.now.shape kind key (view_of seat.old) (view_of seat.new) result }
     ensures done { IfSome result (KeySpec table.now.shape kind key (view_of seat.old) (view_of seat.new)) }
+    ensures spent { IfNone result (HasNoRoom table.now.shape (view_of seat.new)
+        × (own_acts_of (view_of seat.new) ≡ own_acts_of (view_of seat.old))) }
 {
     for _ in rt.forever() {
         match try_in_buffer(rt, table, seat, kind, key, buffer) {
