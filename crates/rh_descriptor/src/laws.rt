@@ -1,6 +1,9 @@
 //! Laws of places. They do nothing when they run.
 
 ghost use Rattle.std.specs.Prelude.{◌≡◌};
+ghost use Rattle.rh_descriptor.specs.declared.limits.TheConstants.{HEAD_WORDS, MARK_WORDS};
+ghost use Rattle.rh_descriptor.specs.declared.limits.TheConstants.{MAX_ROOM, MAX_WORKERS};
+ghost use Rattle.rh_descriptor.specs.declared.limits.TheConstants.{WORDS_PER_ENTRY};
 ghost use Rattle.rh_descriptor.specs.declared.shape.Part.{Part};
 ghost use Rattle.rh_descriptor.specs.Parts.{IsPart, index_of};
 
@@ -13,3 +16,9 @@ pub fn one_part(shape: &Shape)
 {
     let _ = shape;
 }
+
+/// The limits of a shared table, and of how many words its rows are made.
+pub fn fixed_numbers()
+    ensures limits { (MAX_WORKERS ≡ 16) × (MAX_ROOM ≡ 72057594037927935) }
+    ensures rows { (HEAD_WORDS ≡ 3) × (WORDS_PER_ENTRY ≡ 3) × (MARK_WORDS ≡ 3) }
+{}

@@ -16,7 +16,7 @@ pub use kinds::{
     claim_key, decide_desc, open_desc, place_mark, read_word, release_cell, settle_mark, write_word,
 };
 pub use known::{First, Known};
-pub use laws::one_part;
+pub use laws::{fixed_numbers, one_part};
 pub use limits::{MAX_ROOM, MAX_WORKERS};
 pub use reference::{Piece, Reading, Ref};
 pub use rh_layout::Entry;

@@ -3,6 +3,8 @@
 
 mod capacity;
 mod growing;
+mod laws;
 
 pub use capacity::{LOAD_DENOMINATOR, LOAD_NUMERATOR, bits_for};
 pub use growing::grow;
+pub use laws::fixed_numbers;

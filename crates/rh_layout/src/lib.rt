@@ -11,7 +11,7 @@ mod table;
 
 pub use entry::Entry;
 pub use key::{cell_of, key_in};
-pub use laws::{has_free, one_layout};
+pub use laws::{cells_agree, fixed_numbers, has_free, one_layout};
 pub use limits::{MAX_BITS, MAX_KEY, MIN_BITS};
 pub use order::{beats, dist, home};
 pub use table::is_layout;

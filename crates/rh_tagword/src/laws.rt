@@ -1,6 +1,10 @@
 //! Laws of words and controls. They do nothing when they run.
 
 ghost use Rattle.std.specs.Prelude.{◌≡◌, ℕ, ◌^◌, ◌<◌};
+ghost use Rattle.rh_tagword.specs.declared.limits.TheConstants.{TAG_BITS, PLAIN, MARK, DESC};
+ghost use Rattle.rh_tagword.specs.declared.limits.TheConstants.{UNUSED, UNDECIDED, SUCCEEDED};
+ghost use Rattle.rh_tagword.specs.declared.limits.TheConstants.{WITHDRAWN, FAILED};
+ghost use Rattle.rh_tagword.specs.declared.limits.TheConstants.{WORKER_BITS, NUMBER_BITS, STATE_BITS};
 ghost use Rattle.rh_tagword.specs.Word.{IsWord, word_in, word_number};
 ghost use Rattle.rh_tagword.specs.Control.{IsControl, control_in, control_number};
 ghost use Rattle.rh_tagword.specs.declared.word.Word.{Word};
@@ -30,3 +34,10 @@ pub fn one_control(serial: u64, state: State)
 {
     let _ = (serial, state);
 }
+
+/// The numbers of which words and controls are made.
+pub fn fixed_numbers()
+    ensures tags { (PLAIN ≡ 0) × (MARK ≡ 1) × (DESC ≡ 2) }
+    ensures states { (UNUSED ≡ 0) × (UNDECIDED ≡ 1) × (SUCCEEDED ≡ 2) × (WITHDRAWN ≡ 3) × (FAILED ≡ 64) }
+    ensures widths { (TAG_BITS ≡ 2) × (WORKER_BITS ≡ 6) × (NUMBER_BITS ≡ 56) × (STATE_BITS ≡ 8) }
+{}

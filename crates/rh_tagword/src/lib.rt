@@ -8,6 +8,6 @@ mod limits;
 mod word;
 
 pub use control::{State, pack_control, unpack_control};
-pub use laws::{one_control, one_word};
+pub use laws::{fixed_numbers, one_control, one_word};
 pub use limits::{NUMBER_BITS, STATE_BITS, WORKER_BITS};
 pub use word::{Word, pack, plain_value, plain_word, unpack};
