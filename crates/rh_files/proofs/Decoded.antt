@@ -1,30 +1,41 @@
 -- Numbers that are made of the bytes that spell them.
-use Rattle.std.proofs.Common.{◌≡◌, ◌∙◌, sym, ap, true, ℕ, ◌+◌, ◌<◌, List, [], ◌∷◌, ◌++◌, length, take, get_or, append_assoc, append-nil}
-use Rattle.std.proofs.Math.ListN.{set}
-use Rattle.std.specs.Int.{w64, from_be_bytes}
-use Rattle.std.specs.List.{list_all}
-use Rattle.std.proofs.lemmas.Bool.{and_parts}
+use Rattle.std.proofs.Common.{◌≡◌, ◌∙◌, sym, ap, ℕ, zero, suc, ◌+◌, ◌*◌, ◌<◌, ◌≤◌, List, [], ◌∷◌, ◌++◌, length, take, drop, get_or, get_or-drop, drop-drop, length-take, length-drop, take-append-drop, arith}
+use Rattle.std.specs.Int.{w32, w64, from_be_bytes}
+use Rattle.std.proofs.lemmas.List.{nil_from_length}
 use Rattle.std.proofs.lemmas.Nat.{be_bytes_8}
-use Rattle.std.proofs.lemmas.List.{take_more_set}
-use Rattle.std.proofs.lemmas.List.Folds.{list_all-append}
-use Rattle.std.proofs.lemmas.Grind.{flat_map-append}
+use Rattle.byteorder.specs.Endian.{IsRead, big_number}
+use Rattle.byteorder.specs.Numbers.{big_from-take}
 use Rattle.rh_files.specs.KeyFile.{eight_bytes, spelled_keys}
-use Rattle.rh_files.specs.Reading.{is_byte}
-use Rattle.rh_files.proofs.Spelled.{are_bytes, bytes_below}
 
--- some bytes in the middle of bytes
-bytes_between : (before eight others bytes : List ℕ) → before ++ (eight ++ others) ≡ bytes → list_all is_byte bytes ≡ true → list_all is_byte eight ≡ true
-bytes_between before eight others bytes is all =
-    let parts = and_parts (list_all is_byte before) (list_all is_byte (eight ++ others)) (sym (list_all-append is_byte before (eight ++ others)) ∙ ap (list_all is_byte) is ∙ all) in
-    (and_parts (list_all is_byte eight) (list_all is_byte others) (sym (list_all-append is_byte eight others) ∙ parts.1)).0
+abbrev AreBytes : List ℕ → Type 0
+AreBytes bytes = (i : ℕ) → get_or bytes i 0 < 256
 
--- one more number, of the next eight bytes
-pub decoding_goes_on : (numbers : List ℕ) (i n : ℕ) (rest eight others bytes : List ℕ) → i < length numbers → length eight ≡ 8 → ((k : ℕ) → get_or bytes k 0 < 256) → n ≡ from_be_bytes w64 eight → rest ≡ eight ++ others → spelled_keys (take i numbers) ++ rest ≡ bytes
-    → spelled_keys (take (i + 1) (set numbers i n)) ++ others ≡ bytes
-decoding_goes_on numbers i n rest eight others bytes inside many small is parts so_far =
-    let before = spelled_keys (take i numbers) in
-    let whole : before ++ (eight ++ others) ≡ bytes = ap (λ l. before ++ l) (sym parts) ∙ so_far in
-    let spelled : eight_bytes n ≡ eight = be_bytes_8 eight n many (bytes_below eight (bytes_between before eight others bytes whole (are_bytes bytes small))) is in
-    let more : spelled_keys (take (i + 1) (set numbers i n)) ≡ before ++ eight =
-    ap spelled_keys (take_more_set numbers i n inside) ∙ flat_map-append eight_bytes (take i numbers) (n ∷ []) ∙ ap (λ l. before ++ l) (append-nil (eight_bytes n) ∙ spelled) in
-    ap (λ l. l ++ others) more ∙ append_assoc before eight others ∙ whole
+-- the number of four bytes, and that of eight
+pub four_read : (bytes : List ℕ) → big_number 4 bytes ≡ from_be_bytes w32 bytes
+four_read bytes = omega arith
+
+pub eight_read : (bytes : List ℕ) → big_number 8 bytes ≡ from_be_bytes w64 bytes
+eight_read bytes = omega arith
+
+front_bytes : (n : ℕ) (bytes : List ℕ) → AreBytes bytes → AreBytes (take n bytes)
+front_bytes zero bytes small i = omega arith
+front_bytes (suc n) [] small i = omega arith
+front_bytes (suc n) (b ∷ bytes) small zero = small zero
+front_bytes (suc n) (b ∷ bytes) small (suc i) = front_bytes n bytes (λ j. small (suc j)) i
+
+first_spelled : (bytes : List ℕ) (n : ℕ) → 8 ≤ length bytes → AreBytes bytes → n ≡ big_number 8 bytes → eight_bytes n ≡ take 8 bytes
+first_spelled bytes n long small is =
+    be_bytes_8 (take 8 bytes) n (omega (arith, length-take 8 bytes)) (front_bytes 8 bytes small) (is ∙ sym (big_from-take 0 8 8 bytes (omega arith)) ∙ eight_read (take 8 bytes))
+
+next_eight : (k : ℕ) (bytes : List ℕ) → drop (8 * suc k) bytes ≡ drop (8 * k) (drop 8 bytes)
+next_eight k bytes =
+    let more : 8 * suc k ≡ 8 + 8 * k = omega arith in
+    ap (λ m. drop m bytes) more ∙ sym (drop-drop (8 * k) 8 bytes)
+
+pub decoded : (numbers bytes : List ℕ) → length bytes ≡ 8 * length numbers → AreBytes bytes → IsRead big_number 8 bytes numbers → spelled_keys numbers ≡ bytes
+decoded [] bytes many small read = sym (nil_from_length bytes many)
+decoded (n ∷ numbers) bytes many small read =
+    let first : eight_bytes n ≡ take 8 bytes = first_spelled bytes n (omega (arith, many)) small (read 0 (omega arith)) in
+    let others : spelled_keys numbers ≡ drop 8 bytes =
+    decoded numbers (drop 8 bytes) (omega (arith, many, length-drop 8 bytes)) (λ i. rw (get_or-drop 8 bytes i 0) (small (8 + i))) (λ k less. read (suc k) (omega (arith, less)) ∙ ap (big_number 8) (next_eight k bytes)) in
+    ap (λ l. l ++ spelled_keys numbers) first ∙ ap (λ l. take 8 bytes ++ l) others ∙ take-append-drop 8 bytes

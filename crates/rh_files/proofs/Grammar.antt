@@ -140,9 +140,9 @@ key_read version index bytes p h =
     ]
 
 pub record Spells (version : Version) (n : ℕ) (bytes : List ℕ) (p : List ℕ × List ℕ) : Type 0 where
-  whole : bytes ≡ spelled_keys p.0 ++ p.1
+  pub whole : bytes ≡ spelled_keys p.0 ++ p.1
   pub many : length p.0 ≡ n
-  fit : All (IsKeyIn version) p.0
+  pub fit : All (IsKeyIn version) p.0
 
 pub keys_read : (version : Version) (index n : ℕ) (bytes : List ℕ) (p : List ℕ × List ℕ) → keys_at version index n bytes ≡ Ok p → Spells version n bytes p
 unfolding keys_at
@@ -222,7 +222,7 @@ key_given version index k rest fits =
     let test : is_key_in version k ≡ true = and_from (leb (least_key version) k) (leb k MAX_KEY) (le-leb _ _ fits.0) (le-leb _ _ fits.1) in
     key_spelled version index k rest (omega (arith, fits.1)) ∙ rw test refl
 
-keys_given : (version : Version) (index : ℕ) (keys rest : List ℕ) → All (IsKeyIn version) keys → keys_at version index (length keys) (spelled_keys keys ++ rest) ≡ Ok (keys, rest)
+pub keys_given : (version : Version) (index : ℕ) (keys rest : List ℕ) → All (IsKeyIn version) keys → keys_at version index (length keys) (spelled_keys keys ++ rest) ≡ Ok (keys, rest)
 unfolding keys_at
 keys_given version index [] rest fit = refl
 keys_given version index (k ∷ keys) rest fit =

@@ -22,6 +22,7 @@ pub mod Reading
 pub mod Steps
 pub mod Batches
 pub mod Filled
+pub mod Interrupted
 pub mod Decoded
 pub mod Bounds
 pub mod Ends

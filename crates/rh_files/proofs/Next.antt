@@ -5,7 +5,7 @@ use Rattle.std.proofs.Common.{arith}
 use Rattle.std.proofs.lemmas.List.{take_at}
 use Rattle.rh_files.specs.declared.version.Version.{Version}
 use Rattle.rh_files.specs.declared.fault.KeyFault.{KeyFault}
-use Rattle.rh_files.specs.Reading.{Reads, always, front_of, end_at, keys_at, batch_at}
+use Rattle.rh_files.specs.Reading.{CutShort, Reads, always, front_of, end_at, keys_at, batch_at}
 
 pub none_left : (version : Version) (index left room : ℕ) (bytes : List ℕ) → left ≡ 0 → batch_at version index left room bytes ≡ end_at bytes
 unfolding batch_at
@@ -32,3 +32,9 @@ pub keys_come : (version : Version) (index left room many : ℕ) (a b : Option (
 keys_come version index left room many None b ks rest lt m len h = tt
 keys_come version index left room many (Some x) None ks rest lt m len h = absurd h
 keys_come version index left room many (Some x) (Some y) ks rest lt m len h = some_left version index left room many x lt m ∙ ap (λ n. keys_at version index n x) (sym len) ∙ h ∙ ap (λ l. Ok (l, y)) (sym (take_at ks rest many len))
+
+-- the batch that a failed read cut short
+pub keys_cut : (version : Version) (index left room many : ℕ) (a b : Option (List ℕ)) → 0 < left → many ≡ min room left → CutShort a b (keys_at version index many) → CutShort a b (batch_at version index left room)
+keys_cut version index left room many None b some is h = tt
+keys_cut version index left room many (Some x) None some is h = absurd h
+keys_cut version index left room many (Some x) (Some y) some is (taken, parts, early) = (taken, parts, some_left version index left room many taken some is ∙ early)

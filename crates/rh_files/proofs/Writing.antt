@@ -1,6 +1,6 @@
 -- Texts written one after another.
 use Rattle.std.proofs.Common.{◌≡◌, ℕ, zero, suc, ◌+◌, ◌-◌, ◌<◌, ◌≤◌, min, List, [], ◌∷◌, ◌++◌, length, take, drop, Option, Result, Ok, Err, refl, sym, ap, ◌∙◌, subst, arith, append_assoc, append-nil}
-use Rattle.std.proofs.lemmas.List.{take-append-le, take_all}
+use Rattle.std.proofs.lemmas.List.{drop_all, take-append-le, take_all}
 use Rattle.std.specs.Io.KnownBytes.{Appends}
 use Rattle.std.proofs.KnownBytes.{Appends-trans, Appends-nil}
 use Rattle.rh_files.specs.Counting.{AppendsFront, Writes, joined}
@@ -8,6 +8,7 @@ use Rattle.std.proofs.Math.Seq.{take-append-add, take-append_seam}
 use Rattle.std.proofs.lemmas.Bool.{cases_lt, ne_eqb}
 use Rattle.std.proofs.Common.{inl, inr, get_or, eq-eqb, count_by, codes, flat_map}
 use Rattle.std.specs.Borrow.{Bor}
+use Rattle.byteorder.specs.Endian.{big_bytes}
 use Rattle.rh_layout.specs.Key.{is_full, cell_of}
 use Rattle.rh_files.specs.declared.version.Version.TheVariants.{Second}
 use Rattle.rh_files.specs.KeyFile.{eight_bytes, spelled_keys, spelling}
@@ -140,3 +141,7 @@ pub dump_stops : (a b c : Option (List ℕ)) (bits held : ℕ) (cells : List ℕ
 unfolding dump_text
 dump_stops a b c bits held cells is p q =
     front_longer a c (head_of bits (count_by is_full cells) ++ lines_from bits 0 cells) (codes "end\n") (front_after a b c (head_of bits (count_by is_full cells)) (lines_from bits 0 cells) (subst (λ n. Appends a b (head_of bits n)) is p) q)
+
+-- a number in a buffer that has room for just that
+pub eight_written : (n : ℕ) (old new : List ℕ) → length old ≡ 8 → new ≡ big_bytes 8 n ++ drop 8 old → new ≡ eight_bytes n
+eight_written n old new many is = is ∙ ap (λ l. big_bytes 8 n ++ l) (drop_all 8 old (omega (arith, many))) ∙ append-nil (big_bytes 8 n)

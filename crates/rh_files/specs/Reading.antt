@@ -1,5 +1,5 @@
 -- Reading a key file from left to right, up to the first fault. A step gives a value and the bytes after it.
-use Rattle.std.specs.Prelude.{◌≡◌, ℕ, zero, suc, ◌+◌, min, Bool, not, ◌&&◌, ◌==◌, nat_lt, nat_le, if◌then◌else◌, List, [], ◌∷◌, length, take, drop, Option, Some, None, Result, Ok, Err}
+use Rattle.std.specs.Prelude.{◌≡◌, ℕ, zero, suc, ◌+◌, min, Bool, not, ◌&&◌, ◌==◌, nat_lt, nat_le, if◌then◌else◌, List, [], ◌∷◌, ◌++◌, length, take, drop, Option, Some, None, Result, Ok, Err}
 use Rattle.std.specs.List.{list_all}
 use Rattle.std.specs.Int.{w32, w64, from_be_bytes}
 use Rattle.rh_layout.specs.declared.limits.TheConstants.{MAX_KEY}
@@ -110,6 +110,12 @@ Fails TooMany said = said ≡ Err TooMany
 Fails (BadKey index) said = said ≡ Err (BadKey index)
 Fails Long said = said ≡ Err Long
 
+-- The answer tells that no read failed. A key out of range does not: it may stand in a part before a failed read.
+abbrev pub NoReadFailed : {X : Type 0} → Result X KeyFault → Type 0
+NoReadFailed (Err faults.Read) = ⊥
+NoReadFailed (Err (BadKey index)) = ⊥
+NoReadFailed r = Unit {0}
+
 -- a view of a call that hands its value out behind a reference
 abbrev pub always : {X Y : Type 0} → Y → X → Y
 always y x = y
@@ -125,6 +131,12 @@ Reads None new reading view r = Unit {0}
 Reads (Some bytes) new reading view (Err e) = Fails e (reading bytes)
 Reads (Some bytes) None reading view (Ok x) = ⊥
 Reads (Some bytes) (Some rest) reading view (Ok x) = reading bytes ≡ Ok (view x, rest)
+
+-- Where the bytes are known, those that were taken hold no fault: they only end early.
+abbrev pub CutShort : {Y : Type 0} → Option (List ℕ) → Option (List ℕ) → (List ℕ → Result (Y × List ℕ) KeyFault) → Type 0
+CutShort None new reading = Unit {0}
+CutShort (Some bytes) None reading = ⊥
+CutShort (Some bytes) (Some rest) reading = (taken : List ℕ) × (bytes ≡ taken ++ rest) × (reading taken ≡ Err Short)
 
 -- known bytes begin with a header that can be read
 abbrev pub BeginsWithHeader : Option (List ℕ) → Type 0

@@ -1,15 +1,16 @@
 //! Keys, read in parts.
 
-ghost use Rattle.std.specs.Prelude.{◌≡◌, ◌≢◌, ◌≤◌, ◌<◌, ◌+◌, ◌*◌, ◌^◌, ℕ, min, length, take, drop};
-ghost use Rattle.std.specs.Prelude.{All, Err, IfOk, IsErrOf, IsNone, OnOk};
+ghost use Rattle.std.specs.Prelude.{◌≡◌, ◌≤◌, ◌<◌, ◌+◌, ◌*◌, ◌^◌, ℕ, min, length, take, drop};
+ghost use Rattle.std.specs.Prelude.{All, IfOk, IsErrOf, IsNone, OnOk};
 ghost use Rattle.std.specs.List.{position_from};
 ghost use Rattle.rh_layout.specs.Key.{IsKey};
 ghost use Rattle.rh_files.specs.Counting.{Rose};
 ghost use Rattle.rh_files.specs.Taking.{TakesAtMost};
-ghost use Rattle.rh_files.specs.Reading.{Reads, always, front_of, batch_at, keys_at, is_refused};
+ghost use Rattle.rh_files.specs.Reading.{CutShort, NoReadFailed, Reads, always, front_of};
+ghost use Rattle.rh_files.specs.Reading.{batch_at, keys_at, is_refused};
 ghost use Rattle.rh_files.specs.Limits.{batch_bytes, fault_of, keys_taken};
 
-use crate::bytes::fill;
+use crate::bytes::{Filled, fill_front};
 use crate::counted::Counted;
 use crate::fault::KeyFault;
 use crate::numbers::decode_numbers;
@@ -39,7 +40,7 @@ fn first_refused(version: Version, index: u64, keys: &[u64]) -> Option<u64>
 }
 
 /// Fills the slice with keys, of which the first has this index, from one part of the file. Where
-/// the file ends within the part, the keys before the end are tested first.
+/// the file ends within the part or a read fails, the whole keys before that are tested first.
 fn read_part<R: Read>(
     reader: &mut Counted<R>,
     version: Version,
@@ -51,21 +52,24 @@ fn read_part<R: Read>(
     requires small { index + length keys.old < 2 ^ 64 }
     ensures known { Reads (R.remaining reader.old.inner) (R.remaining reader.new.inner)
         (keys_at version index (length keys.new)) (always keys.new) result }
+    ensures tested { IsErrOf result KeyFault.Read → CutShort (R.remaining reader.old.inner)
+        (R.remaining reader.new.inner) (keys_at version index (length keys.new)) }
     ensures in_range { OnOk result (All IsKey keys.new) }
     ensures takes { TakesAtMost (R.remaining reader.old.inner) (R.remaining reader.new.inner)
         (8 * length keys.new) }
     ensures read { IsErrOf result KeyFault.Read → Rose reader.old.failures reader.new.failures }
     ensures no_memory { IsErrOf result KeyFault.Memory → ⊥ }
-    ensures fine { result ≢ Err KeyFault.Read → reader.new.failures ≡ reader.old.failures }
+    ensures fine { NoReadFailed result → reader.new.failures ≡ reader.old.failures }
 {
-    let Some(n) = fill(reader, part) else {
-        return Err(KeyFault::Read);
-    };
+    let Filled { count, failed } = fill_front(reader, part);
     decode_numbers(part, keys);
-    if let Some(index) = first_refused(version, index, &keys[..n / 8]) {
+    if let Some(index) = first_refused(version, index, &keys[..count / 8]) {
         return Err(KeyFault::BadKey { index });
     }
-    if n < part.len() {
+    if failed {
+        return Err(KeyFault::Read);
+    }
+    if count < part.len() {
         return Err(KeyFault::Short);
     }
     Ok(())
@@ -81,12 +85,14 @@ fn read_keys<R: Read>(
     requires { index + length batch.old < 2 ^ 64 }
     ensures known { Reads (R.remaining reader.old.inner) (R.remaining reader.new.inner)
         (keys_at version index (length batch.new)) (always batch.new) result }
+    ensures tested { IsErrOf result KeyFault.Read → CutShort (R.remaining reader.old.inner)
+        (R.remaining reader.new.inner) (keys_at version index (length batch.new)) }
     ensures in_range { OnOk result (All IsKey batch.new) }
     ensures takes { TakesAtMost (R.remaining reader.old.inner) (R.remaining reader.new.inner)
         (8 * keys_taken index (length batch.new) (fault_of result)) }
     ensures read { IsErrOf result KeyFault.Read → Rose reader.old.failures reader.new.failures }
     ensures no_memory { IsErrOf result KeyFault.Memory → ⊥ }
-    ensures fine { result ≢ Err KeyFault.Read → reader.new.failures ≡ reader.old.failures }
+    ensures fine { NoReadFailed result → reader.new.failures ≡ reader.old.failures }
 {
     let mut part = [0u8; PART_BYTES];
     let mut done = 0;
@@ -111,6 +117,9 @@ pub(crate) fn read_batch<R: Read>(
     requires { index + left < 2 ^ 64 }
     ensures known { Reads (R.remaining reader.old.inner) (R.remaining reader.new.inner)
         (batch_at version index left (length batch.new)) (front_of batch.new) result }
+    ensures tested { IsErrOf result KeyFault.Read → 0 < left →
+        CutShort (R.remaining reader.old.inner) (R.remaining reader.new.inner)
+        (batch_at version index left (length batch.new)) }
     ensures rest { IfOk result (λ n. drop n batch.new ≡ drop n batch.old) }
     ensures many { IfOk result (λ n. n ≡ min (length batch.new) left) }
     ensures in_range { IfOk result (λ n. All IsKey (take n batch.new)) }
@@ -118,7 +127,7 @@ pub(crate) fn read_batch<R: Read>(
         (batch_bytes index left (length batch.new) (fault_of result)) }
     ensures read { IsErrOf result KeyFault.Read → Rose reader.old.failures reader.new.failures }
     ensures no_memory { IsErrOf result KeyFault.Memory → ⊥ }
-    ensures fine { result ≢ Err KeyFault.Read → reader.new.failures ≡ reader.old.failures }
+    ensures fine { NoReadFailed result → reader.new.failures ≡ reader.old.failures }
 {
     if left == 0 {
         read_end(reader)?;

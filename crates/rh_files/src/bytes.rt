@@ -1,7 +1,7 @@
 //! Whole buffers from a reader and to a writer, where each error ends the call.
 
 ghost use Rattle.std.specs.Prelude.{◌≡◌, ℕ, List, ◌≤◌, ◌<◌, length, take, IfSome, IsNone, IsSome};
-ghost use Rattle.std.specs.Prelude.{OnOk, OnErr};
+ghost use Rattle.std.specs.Prelude.{IsFalse, IsTrue, OnOk, OnErr};
 ghost use Rattle.std.specs.Io.KnownBytes.{Consumes, Appends, IsAtEnd};
 ghost use Rattle.rh_files.specs.Counting.{Rose, Writes, failures_of, inner_of, joined};
 ghost use Rattle.rh_files.specs.Taking.{TakesAtMost};
@@ -10,8 +10,47 @@ use crate::counted::Counted;
 use crate::fault::WriteFault;
 use std::io::{Read, Write};
 
+/// How far a buffer was filled.
+pub(crate) struct Filled {
+    /// How many bytes were read: fewer than there is room for where the input ended or a read failed.
+    pub(crate) count: usize,
+    /// Whether it was a failed read that ended it.
+    pub(crate) failed: bool,
+}
+
+/// Reads until the buffer is full, the input ends or a read fails. Any error of the reader is a failed
+/// read, an interruption too; nothing is read after one.
+pub(crate) fn fill_front<R: Read>(reader: &mut Counted<R>, buf: &mut [u8]) -> Filled
+    ensures bound { result.count ≤ length buf.new }
+    ensures bytes { Consumes (R.remaining reader.old.inner) (R.remaining reader.new.inner)
+        (take result.count buf.new) }
+    ensures end { IsFalse result.failed → result.count < length buf.new →
+        IsAtEnd (R.remaining reader.new.inner) }
+    ensures early { IsTrue result.failed → result.count < length buf.new }
+    ensures failed { IsTrue result.failed → Rose reader.old.failures reader.new.failures }
+    ensures fine { IsFalse result.failed → reader.new.failures ≡ reader.old.failures }
+{
+    let mut count = 0;
+    while count < buf.len() {
+        match reader.read(&mut buf[count..]) {
+            Ok(0) => break,
+            Ok(n) => count += n,
+            Err(_) => {
+                return Filled {
+                    count,
+                    failed: true,
+                };
+            }
+        }
+    }
+    Filled {
+        count,
+        failed: false,
+    }
+}
+
 /// Reads until the buffer is full or the input ends, and how many bytes that were. `None`: a read
-/// failed; any error of the reader is one, an interruption too.
+/// failed.
 pub fn fill<R: Read>(reader: &mut Counted<R>, buf: &mut [u8]) -> Option<usize>
     ensures bound { IfSome result (λ n. n ≤ length buf.new) }
     ensures bytes { IfSome result (λ n. Consumes (R.remaining (inner_of reader.old))
@@ -23,15 +62,11 @@ pub fn fill<R: Read>(reader: &mut Counted<R>, buf: &mut [u8]) -> Option<usize>
     ensures failed { IsNone result → Rose (failures_of reader.old) (failures_of reader.new) }
     ensures fine { IsSome result → failures_of reader.new ≡ failures_of reader.old }
 {
-    let mut at = 0;
-    while at < buf.len() {
-        match reader.read(&mut buf[at..]) {
-            Ok(0) => return Some(at),
-            Ok(n) => at += n,
-            Err(_) => return None,
-        }
+    let Filled { count, failed } = fill_front(reader, buf);
+    if failed {
+        return None;
     }
-    Some(at)
+    Some(count)
 }
 
 /// Writes all of the text. A write that takes no byte ends it too.

@@ -10,6 +10,7 @@ ghost use Rattle.rh_files.specs.declared.version.Version.TheVariants.{Second};
 use crate::bytes::{put, write_texts};
 use crate::counted::Counted;
 use crate::fault::WriteFault;
+use byteorder::{BigEndian, ByteOrder};
 use std::io::Write;
 
 /// Writes the keys as a key file of the second version, in their order. `read_keys` takes it back
@@ -23,7 +24,8 @@ pub fn write_keys<W: Write>(keys: &[u64], writer: &mut Counted<W>) -> Result<(),
     ensures failed { OnErr result (Rose (failures_of writer.old) (failures_of writer.new)) }
     ensures fine { OnOk result (failures_of writer.new ≡ failures_of writer.old) }
 {
-    let count = (keys.len() as u64).to_be_bytes();
+    let mut count = [0; 8];
+    BigEndian::write_u64(&mut count, keys.len() as u64);
     write_texts(writer, &[b"RHK2", &count])?;
     put_keys(keys, writer)
 }
@@ -35,7 +37,9 @@ fn put_keys<W: Write>(keys: &[u64], writer: &mut Counted<W>) -> Result<(), Write
     ensures fine { OnOk result (writer.new.failures ≡ writer.old.failures) }
 {
     for key in keys {
-        put(writer, &key.to_be_bytes())?;
+        let mut eight = [0; 8];
+        BigEndian::write_u64(&mut eight, *key);
+        put(writer, &eight)?;
     }
     Ok(())
 }

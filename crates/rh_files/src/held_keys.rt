@@ -26,12 +26,14 @@ impl<'a> HeldKeys<'a> {
 }
 
 impl KeySource for HeldKeys<'_> {
-    ghost use Rattle.std.specs.Prelude.{Some, Ok, length};
+    ghost use Rattle.std.specs.Prelude.{None, Some, Ok, length};
     ghost use Rattle.rh_files.specs.HeldKeys.{rest_of};
 
     ghost coming = { λ held. Some (Ok (rest_of held)) };
 
     ghost left_of = { λ held. length (rest_of held) };
+
+    ghost told_by = { λ _. None };
 
     fn left(&self) -> u64 {
         self.rest.len() as u64

@@ -25,7 +25,7 @@ pub use encoding::write_keys;
 pub use fault::{KeyFault, WriteFault};
 pub use held_keys::HeldKeys;
 pub use keys::read_keys;
-pub use laws::one_spelling;
+pub use laws::{fixed_numbers, one_spelling};
 pub use numbers::decode_numbers;
 pub use open::open_keys;
 pub use parts::MAX_KEYS;

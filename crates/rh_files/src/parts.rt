@@ -11,6 +11,7 @@ use crate::bytes::fill;
 use crate::counted::Counted;
 use crate::fault::KeyFault;
 use crate::version::Version;
+use byteorder::{BigEndian, ByteOrder};
 use std::io::Read;
 
 /// The most keys that a key file may have.
@@ -50,7 +51,7 @@ fn read_version<R: Read>(reader: &mut Counted<R>) -> Result<Version, KeyFault>
 {
     let mut four = [0u8; 4];
     read_bytes(reader, &mut four)?;
-    let magic = u32::from_be_bytes(four);
+    let magic = BigEndian::read_u32(&four);
     if magic == RHK1 {
         return Ok(Version::First);
     }
@@ -71,7 +72,7 @@ fn read_number<R: Read>(reader: &mut Counted<R>) -> Result<u64, KeyFault>
 {
     let mut eight = [0u8; 8];
     read_bytes(reader, &mut eight)?;
-    Ok(u64::from_be_bytes(eight))
+    Ok(BigEndian::read_u64(&eight))
 }
 
 fn read_count<R: Read>(reader: &mut Counted<R>) -> Result<u64, KeyFault>

@@ -1,7 +1,9 @@
 //! The keys of a key file, read in batches.
 
-ghost use Rattle.std.specs.Prelude.{◌≤◌};
+ghost use Rattle.std.specs.Prelude.{◌≤◌, ◌≢◌};
+ghost use Rattle.rh_files.specs.declared.fault.KeyFault.TheVariants.{Memory};
 ghost use Rattle.rh_files.specs.declared.parts.TheConstants.{MAX_KEYS};
+ghost use Rattle.rh_files.specs.declared.stream.State.TheVariants.{Failed};
 
 use crate::batch::read_batch;
 use crate::counted::Counted;
@@ -29,6 +31,7 @@ pub struct KeyStream<'a, R> {
     pub(crate) state: State,
     ghost within: { taken ≤ count },
     ghost few: { count ≤ MAX_KEYS },
+    ghost no_memory: { state ≢ Failed Memory },
 }
 
 impl<R: Read> KeyStream<'_, R> {
@@ -38,7 +41,7 @@ impl<R: Read> KeyStream<'_, R> {
     ghost use Rattle.rh_files.specs.Counting.{Rose, failures_of, inner_of};
     ghost use Rattle.rh_files.specs.Taking.{TakesAtMost};
     ghost use Rattle.rh_files.specs.Limits.{batch_bytes, fault_of};
-    ghost use Rattle.rh_files.specs.Reading.{Reads, front_of, batch_at};
+    ghost use Rattle.rh_files.specs.Reading.{CutShort, NoReadFailed, Reads, front_of, batch_at};
     ghost use Rattle.rh_files.specs.Stream.{reader_of, lender_of, header_of, version_of, count_of};
     ghost use Rattle.rh_files.specs.Stream.{taken_of, left_of, state_of, state_after, answer_again};
 
@@ -65,6 +68,12 @@ impl<R: Read> KeyStream<'_, R> {
             (batch_at (version_of self.old) (taken_of self.old) (left_of self.old)
             (length batch.new))
             (front_of batch.new) result }
+        ensures tested { state_of self.old ≡ State.Open → IsErrOf result KeyFault.Read →
+            0 < left_of self.old →
+            CutShort (R.remaining (inner_of (reader_of self.old)))
+            (R.remaining (inner_of (reader_of self.new)))
+            (batch_at (version_of self.old) (taken_of self.old) (left_of self.old)
+            (length batch.new)) }
         ensures takes { state_of self.old ≡ State.Open →
             TakesAtMost (R.remaining (inner_of (reader_of self.old)))
             (R.remaining (inner_of (reader_of self.new)))
@@ -90,9 +99,8 @@ impl<R: Read> KeyStream<'_, R> {
         ensures read { IsErrOf result KeyFault.Read →
             (state_of self.old ≡ State.Failed KeyFault.Read)
             ⊎ Rose (failures_of (reader_of self.old)) (failures_of (reader_of self.new)) }
-        ensures no_memory { IsErrOf result KeyFault.Memory →
-            state_of self.old ≡ State.Failed KeyFault.Memory }
-        ensures fine { result ≢ Err KeyFault.Read →
+        ensures no_memory { IsErrOf result KeyFault.Memory → ⊥ }
+        ensures fine { NoReadFailed result →
             failures_of (reader_of self.new) ≡ failures_of (reader_of self.old) }
     {
         match self.state {
@@ -112,11 +120,13 @@ impl<R: Read> KeyStream<'_, R> {
 }
 
 impl<R: Read> KeySource for KeyStream<'_, R> {
-    ghost use Rattle.rh_files.specs.Stream.{coming_of, left_in, left_of, state_of};
+    ghost use Rattle.rh_files.specs.Stream.{coming_of, left_in, left_of, state_of, told_in};
 
     ghost coming = { coming_of R.remaining };
 
     ghost left_of = { λ s. left_in (state_of s) (left_of s) };
+
+    ghost told_by = { λ s. told_in (state_of s) };
 
     fn left(&self) -> u64 {
         match self.state {

@@ -12,7 +12,7 @@ mod version;
 mod writing;
 
 pub use fault::SnapFault;
-pub use laws::one_snapshot;
+pub use laws::{fixed_numbers, one_snapshot};
 pub use reading::read_snapshot;
 pub use snapshot::Snapshot;
 pub use version::Version;

@@ -14,6 +14,7 @@ ghost use Rattle.rh_snapshot.specs.Reading.{number_at, header_at, numbers_at, en
 use crate::fault::SnapFault;
 use crate::header::Header;
 use crate::version::Version;
+use byteorder::{BigEndian, ByteOrder};
 use rh_files::{Counted, fill};
 use sha2::{Digest, Sha256};
 use std::alloc::Global;
@@ -92,7 +93,7 @@ fn read_number<R: Read>(reader: &mut Counted<R>) -> Result<u64, SnapFault>
 {
     let mut eight = [0u8; 8];
     read_bytes(reader, &mut eight)?;
-    Ok(u64::from_be_bytes(eight))
+    Ok(BigEndian::read_u64(&eight))
 }
 
 pub(crate) fn read_header<R: Read>(reader: &mut Counted<R>) -> Result<Header, SnapFault>

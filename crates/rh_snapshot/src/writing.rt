@@ -10,6 +10,7 @@ ghost use Rattle.rh_snapshot.specs.Reading.{file_table};
 ghost use Rattle.rh_snapshot.specs.declared.version.Version.TheVariants.{Second};
 
 use crate::version::Version;
+use byteorder::{BigEndian, ByteOrder};
 use sha2::{Digest, Sha256};
 use std::alloc::AllocError;
 
@@ -50,10 +51,14 @@ fn put_header(bits: u32, cells: &[u64], out: &mut Vec<u8>) -> Result<(), AllocEr
         ≡ out.old.items ++ spelled_header (header_of Second bits cells.now)) }
     ensures longer { (part : List ℕ) × (out.new.items ≡ out.old.items ++ part) }
 {
-    let count = cells.iter().filter(|cell| **cell != 0).count() as u64;
+    let mut count = [0; 8];
+    BigEndian::write_u64(
+        &mut count,
+        cells.iter().filter(|cell| **cell != 0).count() as u64,
+    );
     out.extend_from_slice(&Version::Second.magic())?;
     out.push(bits as u8)?;
-    out.extend_from_slice(&count.to_be_bytes())
+    out.extend_from_slice(&count)
 }
 
 fn put_cells(cells: &[u64], out: &mut Vec<u8>) -> Result<(), AllocError>
@@ -61,7 +66,9 @@ fn put_cells(cells: &[u64], out: &mut Vec<u8>) -> Result<(), AllocError>
     ensures longer { (part : List ℕ) × (out.new.items ≡ out.old.items ++ part) }
 {
     for cell in cells {
-        out.extend_from_slice(&cell.to_be_bytes())?;
+        let mut eight = [0; 8];
+        BigEndian::write_u64(&mut eight, *cell);
+        out.extend_from_slice(&eight)?;
     }
     Ok(())
 }

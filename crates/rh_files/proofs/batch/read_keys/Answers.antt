@@ -7,6 +7,7 @@ use Rattle.rh_layout.specs.Key.{IsKey}
 use Rattle.rh_files.proofs.Taking.{takes_nothing, takes_both}
 use Rattle.rh_files.proofs.Batches.{no_keys, part_goes_on, part_stops, part_inside}
 use Rattle.rh_files.proofs.Bounds.{keys_stop}
+use Rattle.rh_files.proofs.Interrupted.{cut_later}
 use Rattle.rh_files.proofs.batch.read_keys.Goals as goal
 
 pub loop-done-init : goal.loop-done-init
@@ -42,3 +43,9 @@ loop-done-preserved g c =
       takes = takes_both _ _ _ (8 * done) (8 * length keys) _ c.loop-done.invariant.takes c.in_ok-read_part.ensures.takes (omega (arith, later));
       fine = search rules;
     }
+
+pub returns-in_err-read_part-clause-tested : goal.returns-in_err-read_part-clause-tested
+returns-in_err-read_part-clause-tested g c =
+    let p = err_from_is_err_and c.from_residual.result c.from_residual.ensures.1 in
+    let done = c.loop-done.done in
+    rw (p.1, p.2) (λ failed. cut_later c.args.version c.args.index done (c.args.index + done) (length c.read_part.new.keys) _ _ _ _ (take done c.loop-done.batch) refl (part_inside done _ c.loop-done.batch c.read_part.new.keys c.loop-done.invariant.within) c.loop-done.invariant.read (c.in_err-read_part.ensures.tested failed))
