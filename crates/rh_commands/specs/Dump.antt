@@ -1,5 +1,5 @@
 -- What the dump of a key file writes, and why it writes nothing.
-use Rattle.std.specs.Prelude.{◌≡◌, ◌≢◌, ℕ, List, length, Option, Some, None, Result, Ok, Err}
+use Rattle.std.specs.Prelude.{◌≡◌, ◌≢◌, ◌⊎◌, ℕ, List, length, Option, Some, None, Result, Ok, Err}
 use Rattle.std.specs.FinSet as set
 use Rattle.std.specs.Io.KnownBytes.{Appends}
 use Rattle.rh_layout.specs.declared.limits.TheConstants.{MIN_BITS, MAX_BITS}
@@ -8,7 +8,9 @@ use Rattle.rh_grow.specs.Growth.{Fits, IsCapacity}
 use Rattle.rh_files.specs.declared.fault.KeyFault.{KeyFault}
 use Rattle.rh_files.specs.declared.fault.KeyFault.TheVariants as faults
 use Rattle.rh_files.specs.Counting.{AppendsFront}
-use Rattle.rh_files.specs.Reading.{Fails, IsReadFrom, file_keys}
+use Rattle.rh_files.specs.Limits.{header_bytes}
+use Rattle.rh_files.specs.Taking.{TakesAtMost}
+use Rattle.rh_files.specs.Reading.{BeginsWithHeader, Fails, IsReadFrom, file_keys}
 use Rattle.rh_files.specs.Dump.{dump_text}
 use Rattle.rh_commands.specs.declared.dump.DumpFault.{DumpFault}
 use Rattle.rh_commands.specs.declared.dump.DumpFault.TheVariants.{Keys, TooLarge, Memory, Write}
@@ -40,10 +42,16 @@ abbrev pub fault_in : {X : Type 0} → Result X DumpFault → Option KeyFault
 fault_in (Err (Keys fault)) = Some fault
 fault_in r = None
 
+-- Memory was refused for the keys, of which only the header was read; or for a table that the keys of the whole file fit.
+abbrev pub WantsMemory : (bytes left : Option (List ℕ)) → Type 0
+WantsMemory bytes left =
+    (BeginsWithHeader bytes × TakesAtMost bytes left header_bytes)
+    ⊎ ((keys : List ℕ) × IsReadFrom bytes left keys × Fits MAX_BITS (length keys))
+
 -- The bytes were a key file and its dump, or a front of it, was written; or they were none; or no table is large enough.
 abbrev pub Dumps : {X : Type 0} → (bytes left old new : Option (List ℕ)) → Result X DumpFault → Type 0
 Dumps bytes left old new (Ok x) = (text : List ℕ) × IsDumpRead bytes left text × Appends old new text
 Dumps bytes left old new (Err Write) = (text : List ℕ) × IsDumpRead bytes left text × AppendsFront old new text
 Dumps bytes left old new (Err (Keys fault)) = IsFirstFault bytes fault × (fault ≢ faults.Memory)
 Dumps bytes left old new (Err TooLarge) = (keys : List ℕ) × IsReadFrom bytes left keys × (Fits MAX_BITS (length keys) → ⊥)
-Dumps bytes left old new (Err Memory) = Unit {0}
+Dumps bytes left old new (Err Memory) = WantsMemory bytes left

@@ -1,10 +1,9 @@
 //! The command `dump`: the table of the keys of a key file.
 
-ghost use Rattle.std.specs.Prelude.{◌≡◌, ◌≢◌, Err, IfErr, IsErrOf, OnOk};
+ghost use Rattle.std.specs.Prelude.{◌≡◌, ◌≢◌, IfErr, IsErrOf, OnOk};
 ghost use Rattle.rh_files.specs.Counting.{Rose, failures_of, inner_of};
-ghost use Rattle.rh_files.specs.Reading.{BeginsWithHeader};
 ghost use Rattle.rh_files.specs.Taking.{TakesAtMost};
-ghost use Rattle.rh_files.specs.Limits.{TakesOfFile, most_bytes};
+ghost use Rattle.rh_files.specs.Limits.{NoReadFailed, TakesOfFile, most_bytes};
 ghost use Rattle.rh_commands.specs.Dump.{Dumps, fault_in};
 
 use rh_edit::SeqSet;
@@ -84,13 +83,10 @@ pub fn dump_keys<R: Read, W: Write>(
         (R.remaining (inner_of reader.new)) most_bytes }
     ensures read { IsErrOf result (DumpFault.Keys KeyFault.Read) →
         Rose (failures_of reader.old) (failures_of reader.new) }
-    ensures memory { IsErrOf result DumpFault.Memory →
-        BeginsWithHeader (R.remaining (inner_of reader.old)) }
     ensures write { IsErrOf result DumpFault.Write →
         Rose (failures_of writer.old) (failures_of writer.new) }
     ensures written { OnOk result (failures_of writer.new ≡ failures_of writer.old) }
-    ensures fine { result ≢ Err (DumpFault.Keys KeyFault.Read) →
-        failures_of reader.new ≡ failures_of reader.old }
+    ensures fine { NoReadFailed (fault_in result) → failures_of reader.new ≡ failures_of reader.old }
 {
     let keys = read_keys(alloc, reader)?;
     let Some(bits) = bits_for(MIN_BITS, 0, keys.len() as u64) else {

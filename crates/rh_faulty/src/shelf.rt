@@ -24,7 +24,7 @@ pub enum ShelfFailure {
 }
 
 /// A shelf in memory of which one call fails once, or one read of one of its readers. It counts its
-/// own failures.
+/// failures, want of memory too.
 #[derive(Drop)]
 pub struct FaultyShelf {
     shelf: MemShelf,
@@ -69,6 +69,22 @@ impl FaultyShelf {
         }
         fails
     }
+
+    /// Counts a call for which memory was refused.
+    fn count<T>(&mut self, outcome: &Result<T, ShelfFault>)
+        ensures told { IsErrOf outcome.now ShelfFault.Memory →
+            Rose (failures_in self.old) (failures_in self.new) }
+        ensures fine { (IsErrOf outcome.now ShelfFault.Memory → ⊥) →
+            failures_in self.new ≡ failures_in self.old }
+        ensures same_calls { calls_of self.new ≡ calls_of self.old }
+        ensures same_failure { failure_of self.new ≡ failure_of self.old }
+        ensures same_readers { readers_of self.new ≡ readers_of self.old }
+        ensures same_shelf { shelf_of self.new ≡ shelf_of self.old }
+    {
+        if let Err(ShelfFault::Memory) = outcome {
+            self.failures = self.failures.saturating_add(1);
+        }
+    }
 }
 
 impl Shelf for FaultyShelf {
@@ -84,6 +100,8 @@ impl Shelf for FaultyShelf {
         ensures missing { IsErrOf result ShelfFault.Missing →
             Lacks (Some (files_of (shelf_of self.old))) path.now
             ⊎ Rose (failures_in self.old) (failures_in self.new) }
+        ensures memory { IsErrOf result ShelfFault.Memory →
+            Rose (failures_in self.old) (failures_in self.new) }
         ensures no_write { IsErrOf result ShelfFault.Write → ⊥ }
         ensures fine { OnOk result (failures_in self.new ≡ failures_in self.old) }
         ensures same_files { files_of (shelf_of self.new) ≡ files_of (shelf_of self.old) }
@@ -93,7 +111,7 @@ impl Shelf for FaultyShelf {
         ensures fails { failure_of self.old ≡ ShelfFailure.Call (next_call self.old) →
             IsErrOf result ShelfFault.Missing }
         ensures fails_once { failure_of self.old ≢ ShelfFailure.Call (next_call self.old) →
-            failures_in self.new ≡ failures_in self.old }
+            (IsErrOf result ShelfFault.Memory → ⊥) → failures_in self.new ≡ failures_in self.old }
         ensures given { OnOk result (readers_of self.new ≡ next_reader self.old) }
         ensures not_given { OnErr result (readers_of self.new ≡ readers_of self.old) }
         ensures reader { IfOk result (λ r.
@@ -103,7 +121,9 @@ impl Shelf for FaultyShelf {
         if self.fails_now() {
             return Err(ShelfFault::Missing);
         }
-        let bytes = self.shelf.copy_of(alloc, path)?;
+        let bytes = self.shelf.copy_of(alloc, path);
+        self.count(&bytes);
+        let bytes = bytes?;
         self.readers = self.readers.saturating_add(1);
         let fails_at = match self.failure {
             ShelfFailure::Read { reader, read } if reader == self.readers => read,
@@ -119,8 +139,7 @@ impl Shelf for FaultyShelf {
             (Some (files_of (shelf_of self.new))) path.now) }
         ensures refused { OnErr result (files_of (shelf_of self.new)
             ≡ files_of (shelf_of self.old)) }
-        ensures write { IsErrOf result ShelfFault.Write →
-            Rose (failures_in self.old) (failures_in self.new) }
+        ensures failed { OnErr result (Rose (failures_in self.old) (failures_in self.new)) }
         ensures not_missing { IsErrOf result ShelfFault.Missing → ⊥ }
         ensures fine { OnOk result (failures_in self.new ≡ failures_in self.old) }
 
@@ -129,13 +148,15 @@ impl Shelf for FaultyShelf {
         ensures fails { failure_of self.old ≡ ShelfFailure.Call (next_call self.old) →
             IsErrOf result ShelfFault.Write }
         ensures fails_once { failure_of self.old ≢ ShelfFailure.Call (next_call self.old) →
-            failures_in self.new ≡ failures_in self.old }
+            (IsErrOf result ShelfFault.Memory → ⊥) → failures_in self.new ≡ failures_in self.old }
         ensures same_readers { readers_of self.new ≡ readers_of self.old }
         ensures same_failure { failure_of self.new ≡ failure_of self.old }
     {
         if self.fails_now() {
             return Err(ShelfFault::Write);
         }
-        self.shelf.put(alloc, path, bytes)
+        let outcome = self.shelf.put(alloc, path, bytes);
+        self.count(&outcome);
+        outcome
     }
 }

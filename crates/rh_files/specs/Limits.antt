@@ -4,7 +4,7 @@ use Rattle.rh_files.specs.declared.version.Version.{Version}
 use Rattle.rh_files.specs.declared.parts.TheConstants.{MAX_KEYS}
 use Rattle.rh_files.specs.declared.batch.TheConstants.{PART_KEYS}
 use Rattle.rh_files.specs.declared.fault.KeyFault.{KeyFault}
-use Rattle.rh_files.specs.declared.fault.KeyFault.TheVariants.{NotKeys, TooMany, BadKey, Memory}
+use Rattle.rh_files.specs.declared.fault.KeyFault.TheVariants.{NotKeys, TooMany, BadKey, Read, Memory}
 use Rattle.rh_files.specs.Reading.{header_at}
 use Rattle.rh_files.specs.Taking.{TakesAtMost}
 
@@ -19,6 +19,12 @@ header_bytes = magic_bytes + 8
 abbrev pub fault_of : {X : Type 0} → Result X KeyFault → Option KeyFault
 fault_of (Ok x) = None
 fault_of (Err e) = Some e
+
+-- What a call tells says that no read failed. A key out of range does not: it may stand in a part before a failed read.
+abbrev pub NoReadFailed : Option KeyFault → Type 0
+NoReadFailed (Some Read) = ⊥
+NoReadFailed (Some (BadKey index)) = ⊥
+NoReadFailed fault = Unit {0}
 
 -- of a header, by its fault
 abbrev pub header_taken : Option KeyFault → ℕ

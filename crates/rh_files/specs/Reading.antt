@@ -110,12 +110,6 @@ Fails TooMany said = said ≡ Err TooMany
 Fails (BadKey index) said = said ≡ Err (BadKey index)
 Fails Long said = said ≡ Err Long
 
--- The answer tells that no read failed. A key out of range does not: it may stand in a part before a failed read.
-abbrev pub NoReadFailed : {X : Type 0} → Result X KeyFault → Type 0
-NoReadFailed (Err faults.Read) = ⊥
-NoReadFailed (Err (BadKey index)) = ⊥
-NoReadFailed r = Unit {0}
-
 -- a view of a call that hands its value out behind a reference
 abbrev pub always : {X Y : Type 0} → Y → X → Y
 always y x = y

@@ -6,9 +6,9 @@ ghost use Rattle.std.specs.List.{position_from};
 ghost use Rattle.rh_layout.specs.Key.{IsKey};
 ghost use Rattle.rh_files.specs.Counting.{Rose};
 ghost use Rattle.rh_files.specs.Taking.{TakesAtMost};
-ghost use Rattle.rh_files.specs.Reading.{CutShort, NoReadFailed, Reads, always, front_of};
+ghost use Rattle.rh_files.specs.Reading.{CutShort, Reads, always, front_of};
 ghost use Rattle.rh_files.specs.Reading.{batch_at, keys_at, is_refused};
-ghost use Rattle.rh_files.specs.Limits.{batch_bytes, fault_of, keys_taken};
+ghost use Rattle.rh_files.specs.Limits.{NoReadFailed, batch_bytes, fault_of, keys_taken};
 
 use crate::bytes::{Filled, fill_front};
 use crate::counted::Counted;
@@ -59,7 +59,7 @@ fn read_part<R: Read>(
         (8 * length keys.new) }
     ensures read { IsErrOf result KeyFault.Read → Rose reader.old.failures reader.new.failures }
     ensures no_memory { IsErrOf result KeyFault.Memory → ⊥ }
-    ensures fine { NoReadFailed result → reader.new.failures ≡ reader.old.failures }
+    ensures fine { NoReadFailed (fault_of result) → reader.new.failures ≡ reader.old.failures }
 {
     let Filled { count, failed } = fill_front(reader, part);
     decode_numbers(part, keys);
@@ -92,7 +92,7 @@ fn read_keys<R: Read>(
         (8 * keys_taken index (length batch.new) (fault_of result)) }
     ensures read { IsErrOf result KeyFault.Read → Rose reader.old.failures reader.new.failures }
     ensures no_memory { IsErrOf result KeyFault.Memory → ⊥ }
-    ensures fine { NoReadFailed result → reader.new.failures ≡ reader.old.failures }
+    ensures fine { NoReadFailed (fault_of result) → reader.new.failures ≡ reader.old.failures }
 {
     let mut part = [0u8; PART_BYTES];
     let mut done = 0;
@@ -127,7 +127,7 @@ pub(crate) fn read_batch<R: Read>(
         (batch_bytes index left (length batch.new) (fault_of result)) }
     ensures read { IsErrOf result KeyFault.Read → Rose reader.old.failures reader.new.failures }
     ensures no_memory { IsErrOf result KeyFault.Memory → ⊥ }
-    ensures fine { NoReadFailed result → reader.new.failures ≡ reader.old.failures }
+    ensures fine { NoReadFailed (fault_of result) → reader.new.failures ≡ reader.old.failures }
 {
     if left == 0 {
         read_end(reader)?;

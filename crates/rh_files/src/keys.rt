@@ -4,8 +4,8 @@ ghost use Rattle.std.specs.Prelude.{◌≡◌, ◌*◌, [], length, All, IfOk, I
 ghost use Rattle.rh_layout.specs.Key.{IsKey};
 ghost use Rattle.rh_files.specs.Counting.{Rose, failures_of, inner_of};
 ghost use Rattle.rh_files.specs.Taking.{TakesAtMost};
-ghost use Rattle.rh_files.specs.Limits.{TakesOfFile, fault_of, keys_taken, most_bytes};
-ghost use Rattle.rh_files.specs.Reading.{BeginsWithHeader, NoReadFailed, Reads, IsReadFrom, always};
+ghost use Rattle.rh_files.specs.Limits.{NoReadFailed, TakesOfFile, fault_of, keys_taken, most_bytes};
+ghost use Rattle.rh_files.specs.Reading.{BeginsWithHeader, Reads, IsReadFrom, always};
 ghost use Rattle.rh_files.specs.Reading.{end_at, file_keys, keys_at};
 ghost use Rattle.rh_files.specs.Stream.{reader_of, lender_of, version_of, count_of, taken_of};
 ghost use Rattle.rh_files.specs.Stream.{left_of, state_of};
@@ -35,7 +35,7 @@ fn read_all<R: Read>(stream: &mut KeyStream<'_, R>, keys: &mut [u64]) -> Result<
     ensures read { IsErrOf result KeyFault.Read →
         Rose (failures_of (reader_of stream.old)) (failures_of (reader_of stream.new)) }
     ensures no_memory { IsErrOf result KeyFault.Memory → ⊥ }
-    ensures fine { NoReadFailed result →
+    ensures fine { NoReadFailed (fault_of result) →
         failures_of (reader_of stream.new) ≡ failures_of (reader_of stream.old) }
 {
     if !keys.is_empty() {
@@ -56,7 +56,7 @@ fn read_end<R: Read>(stream: &mut KeyStream<'_, R>) -> Result<(), KeyFault>
     ensures read { IsErrOf result KeyFault.Read →
         Rose (failures_of (reader_of stream.old)) (failures_of (reader_of stream.new)) }
     ensures no_memory { IsErrOf result KeyFault.Memory → ⊥ }
-    ensures fine { NoReadFailed result →
+    ensures fine { NoReadFailed (fault_of result) →
         failures_of (reader_of stream.new) ≡ failures_of (reader_of stream.old) }
 {
     // Where no key is left, the next batch tests the end.
@@ -79,7 +79,7 @@ pub fn read_keys<R: Read>(alloc: Global, reader: &mut Counted<R>) -> Result<Vec<
         (R.remaining (inner_of reader.new)) most_bytes }
     ensures read { IsErrOf result KeyFault.Read →
         Rose (failures_of reader.old) (failures_of reader.new) }
-    ensures fine { NoReadFailed result → failures_of reader.new ≡ failures_of reader.old }
+    ensures fine { NoReadFailed (fault_of result) → failures_of reader.new ≡ failures_of reader.old }
     ensures memory { IsErrOf result KeyFault.Memory →
         BeginsWithHeader (R.remaining (inner_of reader.old)) }
 {

@@ -40,8 +40,8 @@ impl<R: Read> KeyStream<'_, R> {
     ghost use Rattle.rh_layout.specs.Key.{IsKey};
     ghost use Rattle.rh_files.specs.Counting.{Rose, failures_of, inner_of};
     ghost use Rattle.rh_files.specs.Taking.{TakesAtMost};
-    ghost use Rattle.rh_files.specs.Limits.{batch_bytes, fault_of};
-    ghost use Rattle.rh_files.specs.Reading.{CutShort, NoReadFailed, Reads, front_of, batch_at};
+    ghost use Rattle.rh_files.specs.Limits.{NoReadFailed, batch_bytes, fault_of};
+    ghost use Rattle.rh_files.specs.Reading.{CutShort, Reads, front_of, batch_at};
     ghost use Rattle.rh_files.specs.Stream.{reader_of, lender_of, header_of, version_of, count_of};
     ghost use Rattle.rh_files.specs.Stream.{taken_of, left_of, state_of, state_after, answer_again};
 
@@ -100,7 +100,7 @@ impl<R: Read> KeyStream<'_, R> {
             (state_of self.old ≡ State.Failed KeyFault.Read)
             ⊎ Rose (failures_of (reader_of self.old)) (failures_of (reader_of self.new)) }
         ensures no_memory { IsErrOf result KeyFault.Memory → ⊥ }
-        ensures fine { NoReadFailed result →
+        ensures fine { NoReadFailed (fault_of result) →
             failures_of (reader_of self.new) ≡ failures_of (reader_of self.old) }
     {
         match self.state {

@@ -1,5 +1,5 @@
 -- A list that is read again: its keys, or why it is refused.
-use Rattle.std.proofs.Common.{◌≡◌, ◌∙◌, ap, sym, subst, refl, ℕ, ◌+◌, inl, inr, Bool, true, List, length, Option, Some, None, Result, Ok, Err}
+use Rattle.std.proofs.Common.{◌≡◌, ◌∙◌, ap, sym, subst, refl, ℕ, ◌+◌, inl, inr, Bool, true, List, length, Option, Some, None, Result, Ok, Err, IsOk, is_ok}
 use Rattle.std.proofs.lemmas.Bool.{eq-eqb}
 use Rattle.rh_files.specs.declared.version.Version.{Version}
 use Rattle.rh_files.specs.declared.fault.KeyFault.{KeyFault}
@@ -29,7 +29,7 @@ use Rattle.rh_operations.specs.Operations.{flipped_most, size_to_add, size_to_fl
 use Rattle.rh_operations.specs.Found.{keys_or_cause}
 use Rattle.rh_operations.specs.Sequence.{◌>>=◌}
 use Rattle.rh_operations.specs.Size.{size_for}
-use Rattle.rh_operations.specs.Refusals.{ListFails, MemoryFails, PhaseFails}
+use Rattle.rh_operations.specs.Refusals.{ListFails, MemoryFails, PhaseFails, WantedAfter}
 
 -- ---- what a reading gave
 
@@ -74,6 +74,22 @@ count_stands (Some bytes) keys noted is many =
 pub stands_again : (files : Files) (list : KeyList) (keys : List ℕ) → Stands (Some files) list keys → keys_again list.count (bytes_at files list.source) ≡ Ok keys
 stands_again files list keys stands =
     ap (λ r. r >>= (λ _. keys_found (bytes_at files list.source))) (count_stands (bytes_at files list.source) keys list.count stands.0 stands.1) ∙ stands.0
+
+-- Memory that is wanted once a list stands is wanted after its count was found.
+wanted : {Y : Type 0} (found : Result Y Cause) (failed : Type 0) (cause : Cause) → IsOk found → WantedAfter found failed cause
+wanted found failed causes.Memory ok = inr ok
+wanted found failed causes.Missing ok = tt
+wanted found failed (causes.Keys fault) ok = tt
+wanted found failed (causes.Snap fault) ok = tt
+wanted found failed causes.Changed ok = tt
+wanted found failed causes.TooLarge ok = tt
+wanted found failed causes.NoThread ok = tt
+wanted found failed causes.Put ok = tt
+wanted found failed causes.Write ok = tt
+
+pub wanted_again : (files : Files) (list : KeyList) (keys : List ℕ) (failed : Type 0) (cause : Cause) → Stands (Some files) list keys → WantedAfter (count_again list.count (bytes_at files list.source)) failed cause
+wanted_again files list keys failed cause stands =
+    wanted (count_again list.count (bytes_at files list.source)) failed cause (ap is_ok (count_stands (bytes_at files list.source) keys list.count stands.0 stands.1))
 
 -- so what is said of them is said of its keys
 pub given : (P : List ℕ → Type 0) (files : Option Files) (list : KeyList) (keys : List ℕ) → Stands files list keys → (given : List ℕ) × Gave files list given × P given → P keys

@@ -1,5 +1,5 @@
 -- What an operation leaves of a shelf and of a runner.
-use Rattle.std.specs.Prelude.{◌≡◌, ℕ, Option, None, Result, OnOk, IfErr}
+use Rattle.std.specs.Prelude.{◌≡◌, ◌≢◌, ℕ, Option, None, Result, OnOk, IfErr}
 use Rattle.rh_files.specs.Counting.{Rose}
 use Rattle.rh_shelf.specs.Shelf.{Files}
 use Rattle.rh_operations.specs.declared.cause.Cause.{Cause}
@@ -13,7 +13,8 @@ pub record KeepsShelf {X : Type 0} (files files' : Option Files) (failures failu
   pub missing : IfErr r (λ cause. cause ≡ Missing → files ≡ None → Rose failures failures')
   pub not_put : IfErr r (λ cause. cause ≡ Put → ⊥)
 
--- What an operation leaves of a runner: no thread was refused where it was carried out, and one was where that is the cause.
+-- What an operation leaves of a runner: a thread was refused where that is the cause, and none was refused else.
 pub record KeepsRunner {X : Type 0} (starts starts' : ℕ) (r : Result X Cause) : Type 0 where
   pub fine : OnOk r (starts' ≡ starts)
   pub thread : IfErr r (λ cause. cause ≡ NoThread → Rose starts starts')
+  pub others : IfErr r (λ cause. cause ≢ NoThread → starts' ≡ starts)

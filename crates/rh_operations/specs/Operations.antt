@@ -52,7 +52,11 @@ pub record Flipped (first second : List ℕ) (old new : Held) (told : Tally × T
 
 -- ---- the size of the table that a command makes from the bytes of its list, or why there is none
 
--- of a set to which the list is added: no key is read before the size is found
+-- of a set to which a list of so many keys is added
+abbrev pub room_to_add : Held → (noted : ℕ) → Option (List ℕ) → Result ℕ Cause
+room_to_add table noted found = count_again noted found >>= (λ count. size_for table.bits (set.len table.keys + count))
+
+-- the same, and the list can be read: no key is before the size is found
 abbrev pub size_to_add : Held → (noted : ℕ) → Option (List ℕ) → Result ℕ Cause
 size_to_add table noted found =
     count_again noted found

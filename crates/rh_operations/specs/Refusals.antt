@@ -1,6 +1,6 @@
 -- Why an operation is refused: by what was found, or by a cause from outside. `failed` says that the shelf failed, and
 -- `refused` that the start of a thread was refused.
-use Rattle.std.specs.Prelude.{◌≡◌, ◌≢◌, ℕ, ◌⊎◌, List, length, Result, Ok, Err}
+use Rattle.std.specs.Prelude.{◌≡◌, ◌≢◌, ℕ, ◌⊎◌, List, length, Result, Ok, Err, IsOk}
 use Rattle.rh_files.specs.declared.fault.KeyFault.TheVariants as faults
 use Rattle.rh_snapshot.specs.declared.fault.SnapFault.TheVariants as snap_faults
 use Rattle.rh_operations.specs.declared.cause.Cause.{Cause}
@@ -22,6 +22,18 @@ RefusedAgain said chosen many outside cause =
 abbrev pub MemoryFails : Cause → Type 0
 MemoryFails Memory = Unit {0}
 MemoryFails _ = ⊥
+
+-- A file was not read through: a read failed, or the shelf failed to give it, for want of memory or else.
+abbrev pub FileFails : (failed : Type 0) → Cause → Type 0
+FileFails failed (Keys faults.Read) = Unit {0}
+FileFails failed Missing = failed
+FileFails failed Memory = failed
+FileFails failed _ = ⊥
+
+-- Memory is wanted where the shelf failed, or after this was found.
+abbrev pub WantedAfter : {Y : Type 0} → (found : Result Y Cause) → (failed : Type 0) → Cause → Type 0
+WantedAfter found failed Memory = failed ⊎ IsOk found
+WantedAfter found failed cause = Unit {0}
 
 -- A list was not read: memory ran out, a read failed, or the shelf failed to give its file.
 abbrev pub ListFails : (failed : Type 0) → Cause → Type 0

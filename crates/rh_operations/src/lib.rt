@@ -3,6 +3,7 @@
 
 mod cause;
 mod key_lists;
+mod laws;
 mod opening;
 mod operations;
 mod size;
@@ -10,5 +11,6 @@ mod snapshots;
 
 pub use cause::Cause;
 pub use key_lists::{KeyList, Source};
+pub use laws::one_size;
 pub use operations::{add, ask, drop_keys, flip, keep, saved, use_file};
 pub use snapshots::{put_snapshot, restored};

@@ -28,6 +28,8 @@ pub(crate) fn fetched<S: Shelf>(
     ensures refused { IfErr result (λ cause. (cause ≡ Cause.Memory) ⊎ ((cause ≡ Cause.Missing)
         × (Lacks (S.files shelf.old) path.now
         ⊎ Rose (S.failures shelf.old) (S.failures shelf.new)))) }
+    ensures memory { IfErr result (λ cause. cause ≡ Cause.Memory →
+        Rose (S.failures shelf.old) (S.failures shelf.new)) }
     ensures fine { OnOk result (S.failures shelf.new ≡ S.failures shelf.old) }
     ensures same_files { S.files shelf.new ≡ S.files shelf.old }
 {
@@ -50,6 +52,8 @@ pub(crate) fn open_list<'a, S: Shelf>(
     ensures refused { (files : Files) → S.files shelf.old ≡ Some files → IfErr result
         (RefusedBy (header_count (bytes_at files list.now.source))
         (ListFails (Rose (S.failures shelf.old) (S.failures shelf.new)))) }
+    ensures memory { IfErr result (λ cause. cause ≡ Cause.Memory →
+        Rose (S.failures shelf.old) (S.failures shelf.new)) }
     ensures shelf { KeepsShelf (S.files shelf.old) (S.files shelf.new) (S.failures shelf.old)
         (S.failures shelf.new) result }
     ensures no_thread { IfErr result (λ cause. cause ≡ Cause.NoThread → ⊥) }
@@ -73,6 +77,7 @@ pub(crate) fn keys_again<R: Read>(
         OnOk result (count_again count (Some bytes) ≡ Ok count) }
     ensures refused { (bytes : List ℕ) → R.remaining (inner_of reader.old) ≡ Some bytes →
         IfErr result (RefusedBy (count_again count (Some bytes)) (ListFails ⊥)) }
+    ensures no_memory { IfErr result (λ cause. cause ≡ Cause.Memory → ⊥) }
     ensures not_missing { IfErr result (λ cause. cause ≡ Cause.Missing → ⊥) }
     ensures no_thread { IfErr result (λ cause. cause ≡ Cause.NoThread → ⊥) }
     ensures not_put { IfErr result (λ cause. cause ≡ Cause.Put → ⊥) }

@@ -13,11 +13,11 @@ ghost use Rattle.rh_layout.specs.declared.limits.TheConstants.{MIN_BITS};
 ghost use Rattle.rh_edit.specs.Rising.{rising_keys};
 ghost use Rattle.rh_operations.specs.Leaves.{KeepsRunner, KeepsShelf};
 ghost use Rattle.rh_operations.specs.Refusals.{RefusedAgain, RefusedBy};
-ghost use Rattle.rh_operations.specs.Found.{keys_again, keys_found};
+ghost use Rattle.rh_operations.specs.Found.{count_again, keys_again, keys_found};
 ghost use Rattle.rh_operations.specs.KeyLists.{Gave, Stands, bytes_at, path_of};
 ghost use Rattle.rh_operations.specs.Operations.{Added, Dropped, Flipped, Kept};
-ghost use Rattle.rh_operations.specs.Operations.{size_to_add, size_to_flip, size_to_keep};
-ghost use Rattle.rh_operations.specs.Refusals.{ListFails, PhaseFails};
+ghost use Rattle.rh_operations.specs.Operations.{room_to_add, size_to_add, size_to_flip, size_to_keep};
+ghost use Rattle.rh_operations.specs.Refusals.{FileFails, PhaseFails, WantedAfter};
 
 use crate::cause::Cause;
 use crate::key_lists::{KeyList, Source};
@@ -41,7 +41,9 @@ pub fn use_file<S: Shelf>(alloc: Global, shelf: &mut S, path: &str) -> Result<u6
         (keys : List ℕ) × (keys_found (files path.now) ≡ Ok keys) × (length keys ≡ count)) }
     ensures refused { (files : Files) → S.files shelf.old ≡ Some files → IfErr result
         (RefusedBy (keys_found (files path.now))
-        (ListFails (Rose (S.failures shelf.old) (S.failures shelf.new)))) }
+        (FileFails (Rose (S.failures shelf.old) (S.failures shelf.new)))) }
+    ensures memory { IfErr result (λ cause. cause ≡ Cause.Memory →
+        Rose (S.failures shelf.old) (S.failures shelf.new)) }
     ensures shelf { KeepsShelf (S.files shelf.old) (S.files shelf.new) (S.failures shelf.old)
         (S.failures shelf.new) result }
     ensures no_thread { IfErr result (λ cause. cause ≡ Cause.NoThread → ⊥) }
@@ -65,6 +67,9 @@ pub fn add<T: Threads + Wait + Sync, S: Shelf, N: Runner>(
 ) -> Result<Tally, Cause>
     ensures added { IfOk result (λ told. (keys : List ℕ) × Gave (S.files shelf.old) list.now keys
         × Added keys set.old set.new told) }
+    ensures memory { (files : Files) → S.files shelf.old ≡ Some files → IfErr result
+        (WantedAfter (room_to_add set.old list.now.count (bytes_at files list.now.source))
+        (Rose (S.failures shelf.old) (S.failures shelf.new))) }
     ensures refused { (files : Files) → S.files shelf.old ≡ Some files → IfErr result
         (RefusedBy (size_to_add set.old list.now.count (bytes_at files list.now.source))
         (PhaseFails (Rose (S.failures shelf.old) (S.failures shelf.new))
@@ -96,6 +101,9 @@ pub fn drop_keys<T: Threads + Wait + Sync, S: Shelf, N: Runner>(
 ) -> Result<Tally, Cause>
     ensures dropped { IfOk result (λ told. (keys : List ℕ) × Gave (S.files shelf.old) list.now keys
         × Dropped keys set.old set.new told) }
+    ensures memory { (files : Files) → S.files shelf.old ≡ Some files → IfErr result
+        (WantedAfter (count_again list.now.count (bytes_at files list.now.source))
+        (Rose (S.failures shelf.old) (S.failures shelf.new))) }
     ensures refused { (files : Files) → S.files shelf.old ≡ Some files → IfErr result
         (RefusedBy (keys_again list.now.count (bytes_at files list.now.source))
         (PhaseFails (Rose (S.failures shelf.old) (S.failures shelf.new))
@@ -126,6 +134,9 @@ pub fn ask<T: Threads + Wait + Sync, S: Shelf, N: Runner>(
 ) -> Result<Vec<bool>, Cause>
     ensures asked { IfOk result (λ answers. (keys : List ℕ) × Gave (S.files shelf.old) list.now keys
         × (answers.items ≡ looked_up set.now.keys keys)) }
+    ensures memory { (files : Files) → S.files shelf.old ≡ Some files → IfErr result
+        (WantedAfter (count_again list.now.count (bytes_at files list.now.source))
+        (Rose (S.failures shelf.old) (S.failures shelf.new))) }
     ensures refused { (files : Files) → S.files shelf.old ≡ Some files → IfErr result
         (RefusedBy (keys_again list.now.count (bytes_at files list.now.source))
         (PhaseFails (Rose (S.failures shelf.old) (S.failures shelf.new))
@@ -153,6 +164,9 @@ pub fn keep<T: Threads + Wait + Sync, S: Shelf, N: Runner>(
 ) -> Result<u64, Cause>
     ensures kept { IfOk result (λ found. (keys : List ℕ) × Gave (S.files shelf.old) list.now keys
         × Kept keys set.old set.new found) }
+    ensures memory { (files : Files) → S.files shelf.old ≡ Some files → IfErr result
+        (WantedAfter (count_again list.now.count (bytes_at files list.now.source))
+        (Rose (S.failures shelf.old) (S.failures shelf.new))) }
     ensures refused { (files : Files) → S.files shelf.old ≡ Some files → IfErr result
         (RefusedBy (size_to_keep set.old list.now.count (bytes_at files list.now.source))
         (PhaseFails (Rose (S.failures shelf.old) (S.failures shelf.new))
@@ -185,6 +199,9 @@ fn count_found<T: Threads + Wait + Sync, S: Shelf, N: Runner>(
 ) -> Result<u64, Cause>
     ensures found { IfOk result (λ found. (keys : List ℕ) × Gave (S.files shelf.old) list.now keys
         × (found ≡ length (chosen true set.now.keys keys))) }
+    ensures memory { (files : Files) → S.files shelf.old ≡ Some files → IfErr result
+        (WantedAfter (count_again list.now.count (bytes_at files list.now.source))
+        (Rose (S.failures shelf.old) (S.failures shelf.new))) }
     ensures refused { (files : Files) → S.files shelf.old ≡ Some files → IfErr result
         (RefusedBy (keys_again list.now.count (bytes_at files list.now.source))
         (PhaseFails (Rose (S.failures shelf.old) (S.failures shelf.new))
@@ -222,6 +239,9 @@ fn insert_listed<T: Threads + Wait + Sync, S: Shelf, N: Runner>(
     ensures inserted { IfOk result (λ told. (keys : List ℕ) × Gave (S.files shelf.old) list.now keys
         × (length (chosen wanted set.now.keys keys) ≡ many)
         × Ran Insert bits (chosen wanted set.now.keys keys) cells.old.items cells.new.items told) }
+    ensures memory { (files : Files) → S.files shelf.old ≡ Some files → IfErr result
+        (WantedAfter (count_again list.now.count (bytes_at files list.now.source))
+        (Rose (S.failures shelf.old) (S.failures shelf.new))) }
     ensures refused { (files : Files) → S.files shelf.old ≡ Some files → IfErr result
         (RefusedAgain (keys_again list.now.count (bytes_at files list.now.source))
         (chosen wanted set.now.keys) many
@@ -262,6 +282,9 @@ pub fn flip<T: Threads + Wait + Sync, S: Shelf, N: Runner>(
     ensures flipped { IfOk result (λ told. (first : List ℕ) × (second : List ℕ)
         × Gave (S.files shelf.old) list.now first × Gave (S.files shelf.old) list.now second
         × Flipped first second set.old set.new told) }
+    ensures memory { (files : Files) → S.files shelf.old ≡ Some files → IfErr result
+        (WantedAfter (count_again list.now.count (bytes_at files list.now.source))
+        (Rose (S.failures shelf.old) (S.failures shelf.new))) }
     ensures refused { (files : Files) → S.files shelf.old ≡ Some files → IfErr result
         (RefusedBy (size_to_flip set.old list.now.count (bytes_at files list.now.source))
         (PhaseFails (Rose (S.failures shelf.old) (S.failures shelf.new))
@@ -294,6 +317,9 @@ fn without_listed<T: Threads + Wait + Sync, S: Shelf, N: Runner>(
 ) -> Result<(SeqSet, Tally, u64), Cause>
     ensures dropped { IfOk result (λ r. (keys : List ℕ) × Gave (S.files shelf.old) list.now keys
         × Dropped keys set.now r.0 r.1 × (r.2 ≡ length (chosen false set.now.keys keys))) }
+    ensures memory { (files : Files) → S.files shelf.old ≡ Some files → IfErr result
+        (WantedAfter (count_again list.now.count (bytes_at files list.now.source))
+        (Rose (S.failures shelf.old) (S.failures shelf.new))) }
     ensures refused { (files : Files) → S.files shelf.old ≡ Some files → IfErr result
         (RefusedBy (keys_again list.now.count (bytes_at files list.now.source))
         (PhaseFails (Rose (S.failures shelf.old) (S.failures shelf.new))

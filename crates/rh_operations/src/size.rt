@@ -1,6 +1,6 @@
 //! Tables of another size.
 
-ghost use Rattle.std.specs.Prelude.{◌≡◌, ◌+◌, ◌^◌, ◌<◌, Ok, IfOk, IfErr};
+ghost use Rattle.std.specs.Prelude.{◌≡◌, ◌+◌, ◌^◌, ◌<◌, Ok, IsOk, IfOk, IfErr};
 ghost use Rattle.std.specs.FinSet as finset;
 ghost use Rattle.rh_layout.specs.Layout.{IsLayout, keys_of};
 ghost use Rattle.rh_operations.specs.Size.{size_for};
@@ -22,6 +22,8 @@ pub(crate) fn grown(alloc: Global, set: &SeqSet, more: u64) -> Result<(u32, Vec<
     ensures room { IfOk result (λ t. finset.len set.now.keys + more < 2 ^ t.0) }
     ensures refused { IfErr result
         (RefusedBy (size_for set.now.bits (finset.len set.now.keys + more)) MemoryFails) }
+    ensures memory { IfErr result (λ cause. cause ≡ Cause.Memory →
+        IsOk (size_for set.now.bits (finset.len set.now.keys + more))) }
     ensures no_thread { IfErr result (λ cause. cause ≡ Cause.NoThread → ⊥) }
     ensures no_write { IfErr result (λ cause. cause ≡ Cause.Write → ⊥) }
 {

@@ -4,7 +4,7 @@ ghost use Rattle.std.specs.Prelude.{◌≡◌, ◌≢◌, Err, IfErr, IsErrOf, O
 ghost use Rattle.rh_files.specs.Counting.{Rose, failures_of, inner_of};
 ghost use Rattle.rh_files.specs.Reading.{BeginsWithHeader};
 ghost use Rattle.rh_files.specs.Taking.{TakesAtMost};
-ghost use Rattle.rh_files.specs.Limits.{TakesOfFile, most_bytes};
+ghost use Rattle.rh_files.specs.Limits.{NoReadFailed, TakesOfFile, most_bytes};
 ghost use Rattle.rh_packing.specs.List.{Lists, fault_in};
 
 use rh_files::{Counted, KeyFault, WriteFault, read_keys};
@@ -69,8 +69,7 @@ pub fn list_keys<R: Read, W: Write>(
     ensures write { IsErrOf result ListFault.Write →
         Rose (failures_of writer.old) (failures_of writer.new) }
     ensures written { OnOk result (failures_of writer.new ≡ failures_of writer.old) }
-    ensures fine { result ≢ Err (ListFault.Keys KeyFault.Read) →
-        failures_of reader.new ≡ failures_of reader.old }
+    ensures fine { NoReadFailed (fault_in result) → failures_of reader.new ≡ failures_of reader.old }
 {
     let keys = read_keys(alloc, reader)?;
     write_numbers(&keys, writer)?;

@@ -47,6 +47,8 @@ impl Threads {
         ensures workers { self.new.workers ≡ self.old.workers }
         ensures no_thread { result ≡ PhaseFault.NoThread → (why : Refused)
             × (fault ≡ faults.Refused why) × Rose self.old.refused_starts self.new.refused_starts }
+        ensures memory { result ≡ PhaseFault.Memory →
+            self.new.refused_starts ≡ self.old.refused_starts }
     {
         if let Fault::Refused(_) = fault {
             self.refused_starts = self.refused_starts.saturating_add(1);

@@ -1,10 +1,11 @@
 -- Phases over whole lists of keys, which come in batches.
-use Rattle.std.specs.Prelude.{◌≡◌, ◌≢◌, ◌<◌, ℕ, List, length, All, Bool, not, Some, Ok, if◌then◌else◌}
+use Rattle.std.specs.Prelude.{◌≡◌, ◌≢◌, ◌<◌, ℕ, List, length, All, Bool, not, Option, Some, Ok, if◌then◌else◌}
 use Rattle.std.specs.List.{filter}
 use Rattle.std.specs.FinSet.{contains}
 use Rattle.rh_layout.specs.Key.{IsKey}
 use Rattle.rh_layout.specs.Layout.{Keys, IsLayout, keys_of}
 use Rattle.rh_files.specs.Counting.{Rose}
+use Rattle.rh_files.specs.declared.fault.KeyFault.{KeyFault}
 use Rattle.rh_files.specs.Source.{Coming, AllCome, FaultComes}
 use Rattle.rh_ledger.specs.declared.tally.Kind.{Kind}
 use Rattle.rh_ledger.specs.declared.tally.Kind.TheVariants.{Insert, Remove, Ask}
@@ -45,6 +46,12 @@ chosen wanted S list = filter (λ k. is_wanted wanted (contains S k)) list
 abbrev pub RefusedPhase : (starts starts' : ℕ) → PhaseFault → Type 0
 RefusedPhase n m Memory = Unit {0}
 RefusedPhase n m NoThread = Rose n m
+
+-- A fault of the keys is the one that their source told, and with any other it told none.
+abbrev pub Tells : (told told' : Option KeyFault) → ListFault → Type 0
+Tells before after (faults.Keys e) = after ≡ Some e
+Tells before after faults.Changed = after ≡ before
+Tells before after (faults.Phase e) = after ≡ before
 
 -- Why a list was not gone through: a fault of its keys was to come, or its phase failed. No list is found changed.
 abbrev pub Refused : Coming → (starts starts' : ℕ) → ListFault → Type 0

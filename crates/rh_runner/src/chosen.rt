@@ -1,6 +1,6 @@
 //! Phases over the keys of a list that a table holds, or does not hold.
 
-ghost use Rattle.std.specs.Prelude.{false, ◌≡◌, ◌+◌, ◌^◌, ◌<◌, ◌≤◌, ℕ, List, length, take, All};
+ghost use Rattle.std.specs.Prelude.{false, ◌≡◌, ◌≢◌, ◌+◌, ◌^◌, ◌<◌, ◌≤◌, ℕ, List, length, take, All};
 ghost use Rattle.std.specs.Prelude.{IfOk, IfErr, OnOk};
 ghost use Rattle.std.specs.List.{count_by};
 ghost use Rattle.std.specs.FinSet as set;
@@ -9,11 +9,11 @@ ghost use Rattle.rh_layout.specs.Layout.{Keys, IsLayout, keys_of};
 ghost use Rattle.rh_ledger.specs.Phase.{looked_up};
 ghost use Rattle.rh_ledger.specs.declared.tally.Kind.TheVariants.{Insert, Remove};
 ghost use Rattle.rh_runner.specs.Lists.{Took, Ran, Refused, RefusedBatch, RefusedFor};
-ghost use Rattle.rh_runner.specs.Lists.{is_wanted, chosen};
+ghost use Rattle.rh_runner.specs.Lists.{Tells, is_wanted, chosen};
 
 use crate::fault::ListFault;
 use crate::lists::{NONE_YET, phase_room};
-use crate::runner::Runner;
+use crate::runner::{PhaseFault, Runner};
 use rh_files::KeySource;
 use rh_ledger::{Kind, Tally, joined};
 use std::alloc::Global;
@@ -61,7 +61,10 @@ pub fn count_chosen<T: Threads + Wait + Sync, N: Runner, K: KeySource>(
         × (many ≡ length (chosen wanted (keys_of cells.now) list))) }
     ensures refused { IfErr result (Refused (K.coming keys.old)
         (N.refused_starts runner.old) (N.refused_starts runner.new)) }
+    ensures told { IfErr result (Tells (K.told_by keys.old) (K.told_by keys.new)) }
     ensures fine { OnOk result (N.refused_starts runner.new ≡ N.refused_starts runner.old) }
+    ensures others { IfErr result (λ fault. fault ≢ ListFault.Phase PhaseFault.NoThread →
+        N.refused_starts runner.new ≡ N.refused_starts runner.old) }
 {
     // The count is no greater.
     let most = keys.left();
@@ -103,6 +106,8 @@ fn insert_batch<T: Threads + Wait + Sync, N: Runner>(
         (RefusedBatch left (length (chosen wanted (keys_of old.now) batch.old))
         (N.refused_starts runner.old) (N.refused_starts runner.new)) }
     ensures fine { OnOk result (N.refused_starts runner.new ≡ N.refused_starts runner.old) }
+    ensures others { IfErr result (λ fault. fault ≢ ListFault.Phase PhaseFault.NoThread →
+        N.refused_starts runner.new ≡ N.refused_starts runner.old) }
 {
     let found = runner.ask(rt, alloc, old_bits, old, batch)?;
     let n = choose(wanted, &found, batch);
@@ -138,7 +143,10 @@ pub fn insert_chosen<T: Threads + Wait + Sync, N: Runner, K: KeySource>(
     ensures refused { IfErr result
         (RefusedFor (K.coming keys.old) wanted (keys_of old.now) many
         (N.refused_starts runner.old) (N.refused_starts runner.new)) }
+    ensures told { IfErr result (Tells (K.told_by keys.old) (K.told_by keys.new)) }
     ensures fine { OnOk result (N.refused_starts runner.new ≡ N.refused_starts runner.old) }
+    ensures others { IfErr result (λ fault. fault ≢ ListFault.Phase PhaseFault.NoThread →
+        N.refused_starts runner.new ≡ N.refused_starts runner.old) }
 {
     let mut room = phase_room(alloc, keys.left(), runner.phase_keys(Kind::Insert))?;
     let room = room.as_mut_slice();
@@ -183,7 +191,10 @@ pub fn remove_and_count_absent<T: Threads + Wait + Sync, N: Runner, K: KeySource
         × (r.1 ≡ length (chosen false (keys_of old.now) list))) }
     ensures refused { IfErr result (Refused (K.coming keys.old)
         (N.refused_starts runner.old) (N.refused_starts runner.new)) }
+    ensures told { IfErr result (Tells (K.told_by keys.old) (K.told_by keys.new)) }
     ensures fine { OnOk result (N.refused_starts runner.new ≡ N.refused_starts runner.old) }
+    ensures others { IfErr result (λ fault. fault ≢ ListFault.Phase PhaseFault.NoThread →
+        N.refused_starts runner.new ≡ N.refused_starts runner.old) }
 {
     // No count is greater.
     let most = keys.left();

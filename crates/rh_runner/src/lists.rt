@@ -1,14 +1,14 @@
 //! Phases over whole lists of keys, batch by batch.
 
-ghost use Rattle.std.specs.Prelude.{◌≡◌, ◌≢◌, ◌+◌, ◌^◌, ◌<◌, ℕ, List, IfOk, IfErr, OnOk, length};
+ghost use Rattle.std.specs.Prelude.{◌≡◌, ◌≢◌, ◌+◌, ◌^◌, ◌<◌, ℕ, List, Some, IfOk, IfErr, OnOk, length};
 ghost use Rattle.std.specs.FinSet as set;
 ghost use Rattle.rh_layout.specs.Layout.{IsLayout, keys_of};
 ghost use Rattle.rh_files.specs.Source.{FaultComes};
 ghost use Rattle.rh_ledger.specs.Phase.{looked_up};
-ghost use Rattle.rh_runner.specs.Lists.{Took, Ran, Refused, may_add};
+ghost use Rattle.rh_runner.specs.Lists.{Took, Ran, Refused, Tells, may_add};
 
 use crate::fault::ListFault;
-use crate::runner::Runner;
+use crate::runner::{PhaseFault, Runner};
 use rh_files::{KeyFault, KeySource, MAX_KEYS};
 use rh_grow::{LOAD_DENOMINATOR, LOAD_NUMERATOR};
 use rh_layout::MAX_BITS;
@@ -48,6 +48,7 @@ pub fn read_through<K: KeySource>(keys: &mut K) -> Result<(), KeyFault>
     ensures took { OnOk result ((list : List ℕ)
         × Took (K.coming keys.old) (K.left_of keys.old) list) }
     ensures refused { IfErr result (FaultComes (K.coming keys.old)) }
+    ensures told { IfErr result (λ e. K.told_by keys.new ≡ Some e) }
 {
     let mut batch = [0; BATCH];
     while keys.next_keys(&mut batch)? > 0 {}
@@ -73,7 +74,10 @@ pub fn change_all<T: Threads + Wait + Sync, N: Runner, K: KeySource>(
         × Ran kind bits list cells.old.items cells.new.items t) }
     ensures refused { IfErr result (Refused (K.coming keys.old)
         (N.refused_starts runner.old) (N.refused_starts runner.new)) }
+    ensures told { IfErr result (Tells (K.told_by keys.old) (K.told_by keys.new)) }
     ensures fine { OnOk result (N.refused_starts runner.new ≡ N.refused_starts runner.old) }
+    ensures others { IfErr result (λ fault. fault ≢ ListFault.Phase PhaseFault.NoThread →
+        N.refused_starts runner.new ≡ N.refused_starts runner.old) }
 {
     // No count of the tally is greater.
     let most = keys.left();
@@ -106,7 +110,10 @@ pub fn ask_all<T: Threads + Wait + Sync, N: Runner, K: KeySource>(
         × (found.items ≡ looked_up (keys_of cells.now) list)) }
     ensures refused { IfErr result (Refused (K.coming keys.old)
         (N.refused_starts runner.old) (N.refused_starts runner.new)) }
+    ensures told { IfErr result (Tells (K.told_by keys.old) (K.told_by keys.new)) }
     ensures fine { OnOk result (N.refused_starts runner.new ≡ N.refused_starts runner.old) }
+    ensures others { IfErr result (λ fault. fault ≢ ListFault.Phase PhaseFault.NoThread →
+        N.refused_starts runner.new ≡ N.refused_starts runner.old) }
 {
     let many = keys.left();
     let mut found = Vec::with_capacity(alloc, many as usize)?;

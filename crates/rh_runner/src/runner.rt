@@ -75,6 +75,8 @@ pub trait Runner {
         ensures same { workers self.new ≡ workers self.old }
         ensures no_thread { IsErrOf result PhaseFault.NoThread →
             (1 < workers self.old) × Rose (refused_starts self.old) (refused_starts self.new) }
+        ensures memory { IsErrOf result PhaseFault.Memory →
+            refused_starts self.new ≡ refused_starts self.old }
         ensures fine { OnOk result (refused_starts self.new ≡ refused_starts self.old) };
 
     /// Looks the keys up, and answers in list order which are there.
@@ -95,5 +97,7 @@ pub trait Runner {
         ensures same { workers self.new ≡ workers self.old }
         ensures no_thread { IsErrOf result PhaseFault.NoThread →
             (1 < workers self.old) × Rose (refused_starts self.old) (refused_starts self.new) }
+        ensures memory { IsErrOf result PhaseFault.Memory →
+            refused_starts self.new ≡ refused_starts self.old }
         ensures fine { OnOk result (refused_starts self.new ≡ refused_starts self.old) };
 }

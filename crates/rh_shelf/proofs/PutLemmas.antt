@@ -1,11 +1,11 @@
 -- A file more in a map of files.
 use Rattle.std.proofs.Common.{◌≡◌, ◌∙◌, ap, ℕ, Bool, true, false, cond, List, Option, Some, String, string_bytes, string_cmp, Vec, refl}
-use Rattle.std.specs.Prelude.{option_map}
+use Rattle.std.specs.Prelude.{option_map, Result, Ok, Err, OnErr}
 use Rattle.std.specs.Global.{Global}
 use Rattle.std.specs.Str.{bytes_eq}
 use Rattle.std.specs.BTreeMap.{BTreeMap, get_by_text, Updates}
 use Rattle.std.proofs.lemmas.Map.Text.{btree_map_updates_text}
-use Rattle.rh_shelf.specs.Shelf.{Files, with_file}
+use Rattle.rh_shelf.specs.Shelf.{Files, InDoubt, with_file}
 
 abbrev files_in : BTreeMap (String Global) (Vec ℕ Global) → Files
 files_in m path = option_map (λ bytes. bytes.items) (get_by_text m path)
@@ -20,3 +20,8 @@ put_file m n key value path bytes is has updates = λ i other.
     (ap (option_map (λ v. v.items)) (btree_map_updates_text (string_bytes key) m n (Some value) updates other)
     ∙ items_of_either (bytes_eq (string_bytes key) other) (Some value) (get_by_text m other)
     ∙ (λ j. with_file (files_in m) (is j) (has j) other)) i
+
+-- where it was refused and the files are as they were, no path is in doubt
+pub none_in_doubt : {X E : Type 0} (r : Result X E) (old put new : Files) (path : List ℕ) → OnErr r (put ≡ old) → new ≡ put → OnErr r (InDoubt (Some old) (Some new) path)
+none_in_doubt (Ok x) old put new path same then = tt
+none_in_doubt (Err e) old put new path same then = (new, refl, λ other apart. ap (λ files. files other) (then ∙ same))

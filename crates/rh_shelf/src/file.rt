@@ -34,15 +34,15 @@ impl<'a, F> FileShelf<'a, F> {
 }
 
 impl<F> FileShelf<'_, F> {
-    /// Want of memory, or else this fault, which is counted.
+    /// Want of memory, or else this fault. It is counted.
     fn fault_of(&mut self, error: &io::Error, fault: ShelfFault) -> ShelfFault
-        ensures { (result ≡ ShelfFault.Memory)
-            ⊎ ((result ≡ fault) × Rose self.old.failures self.new.failures) }
+        ensures told { (result ≡ ShelfFault.Memory) ⊎ (result ≡ fault) }
+        ensures counted { Rose self.old.failures self.new.failures }
     {
+        self.failures = self.failures.saturating_add(1);
         if error.kind() == ErrorKind::OutOfMemory {
             return ShelfFault::Memory;
         }
-        self.failures = self.failures.saturating_add(1);
         fault
     }
 }
@@ -57,8 +57,9 @@ impl<F: Files> Shelf for FileShelf<'_, F> {
     ghost failures = { failed_files };
 
     fn fetch(&mut self, alloc: Global, path: &str) -> Result<BufReader<F::File>, ShelfFault> {
-        match fs::open(self.files, path) {
-            Ok(file) => BufReader::new(alloc, file).map_err(|_| ShelfFault::Memory),
+        let opened = fs::open(self.files, path);
+        match opened.and_then(|file| BufReader::new(alloc, file)) {
+            Ok(reader) => Ok(reader),
             Err(error) => Err(self.fault_of(&error, ShelfFault::Missing)),
         }
     }

@@ -1,28 +1,32 @@
 //! A shelf in memory.
 
 ghost use Rattle.std.specs.Prelude.{◌≡◌, None, Some, IfErr, IfOk, IsErrOf, OnErr, OnOk};
-ghost use Rattle.rh_shelf.specs.Shelf.{InDoubt, Puts};
-ghost use Rattle.rh_shelf.specs.Kinds.{files_of};
+ghost use Rattle.rh_files.specs.Counting.{Rose};
+ghost use Rattle.rh_shelf.specs.Shelf.{InDoubt, Puts, with_file};
+ghost use Rattle.rh_shelf.specs.Kinds.{failures_in, files_of};
 
 use crate::shelf::{Shelf, ShelfFault};
 use std::alloc::Global;
 use std::collections::BTreeMap;
 use std::io::Cursor;
 
-/// Files whose paths and bytes stand in memory. It never fails: `put` refuses want of memory alone,
-/// and then the files are as they were.
+/// Files whose paths and bytes stand in memory. It fails for want of memory alone, and then the files
+/// are as they were.
 #[derive(Drop)]
 pub struct MemShelf {
     files: BTreeMap<String, Vec<u8>>,
+    failures: u64,
 }
 
 impl MemShelf {
     /// A shelf without files.
     pub fn new(alloc: Global) -> MemShelf
-        ensures { files_of result ≡ (λ _. None) }
+        ensures empty { files_of result ≡ (λ _. None) }
+        ensures none { failures_in result ≡ 0 }
     {
         MemShelf {
             files: BTreeMap::new(alloc),
+            failures: 0,
         }
     }
 
@@ -36,6 +40,32 @@ impl MemShelf {
         let bytes = self.files.get(path).ok_or(ShelfFault::Missing)?;
         copied(alloc, bytes)
     }
+
+    /// Counts a call that memory was refused.
+    fn count<T>(&mut self, outcome: &Result<T, ShelfFault>)
+        ensures counts { IsErrOf outcome.now ShelfFault.Memory →
+            Rose (failures_in self.old) (failures_in self.new) }
+        ensures others { (IsErrOf outcome.now ShelfFault.Memory → ⊥) →
+            failures_in self.new ≡ failures_in self.old }
+        ensures same_files { files_of self.new ≡ files_of self.old }
+    {
+        if let Err(ShelfFault::Memory) = outcome {
+            self.failures = self.failures.saturating_add(1);
+        }
+    }
+
+    fn insert(&mut self, alloc: Global, path: &str, bytes: &[u8]) -> Result<(), ShelfFault>
+        ensures put { OnOk result (files_of self.new
+            ≡ with_file (files_of self.old) path.now bytes.now) }
+        ensures refused { OnErr result (files_of self.new ≡ files_of self.old) }
+        ensures memory { IfErr result (λ fault. fault ≡ ShelfFault.Memory) }
+        ensures same_failures { failures_in self.new ≡ failures_in self.old }
+    {
+        let path = String::from_str(alloc, path)?;
+        let bytes = copied(alloc, bytes)?;
+        self.files.insert(path, bytes)?;
+        Ok(())
+    }
 }
 
 impl Shelf for MemShelf {
@@ -43,10 +73,12 @@ impl Shelf for MemShelf {
 
     ghost files = { λ s. Some (files_of s) };
 
-    ghost failures = { λ _. 0 };
+    ghost failures = { failures_in };
 
     fn fetch(&mut self, alloc: Global, path: &str) -> Result<Cursor<Vec<u8>>, ShelfFault> {
-        Ok(Cursor::new(self.copy_of(alloc, path)?))
+        let bytes = self.copy_of(alloc, path);
+        self.count(&bytes);
+        Ok(Cursor::new(bytes?))
     }
 
     fn put(&mut self, alloc: Global, path: &str, bytes: &[u8]) -> Result<(), ShelfFault>
@@ -54,13 +86,14 @@ impl Shelf for MemShelf {
             path.now bytes.now) }
         ensures doubt { OnErr result (InDoubt (Some (files_of self.old))
             (Some (files_of self.new)) path.now) }
+        ensures failed { OnErr result (Rose (failures_in self.old) (failures_in self.new)) }
+        ensures fine { OnOk result (failures_in self.new ≡ failures_in self.old) }
         ensures refused { OnErr result (files_of self.new ≡ files_of self.old) }
         ensures memory { IfErr result (λ fault. fault ≡ ShelfFault.Memory) }
     {
-        let path = String::from_str(alloc, path)?;
-        let bytes = copied(alloc, bytes)?;
-        self.files.insert(path, bytes)?;
-        Ok(())
+        let outcome = self.insert(alloc, path, bytes);
+        self.count(&outcome);
+        outcome
     }
 }
 

@@ -44,7 +44,7 @@ pub trait Shelf {
     /// The bytes of each path, where the readers tell theirs.
     ghost files: { Self → Option Files };
 
-    /// How often the shelf failed. The count stops at the greatest `u64`.
+    /// How often the shelf failed, want of memory among that. The count stops at the greatest `u64`.
     ghost failures: { Self → ℕ };
 
     /// A reader of the file's bytes, from the first on. Never `Write`.
@@ -53,6 +53,8 @@ pub trait Shelf {
             Finds (files self.old) path.now (Self.Reader.remaining r)) }
         ensures missing { IsErrOf result ShelfFault.Missing →
             Lacks (files self.old) path.now ⊎ Rose (failures self.old) (failures self.new) }
+        ensures memory { IsErrOf result ShelfFault.Memory →
+            Rose (failures self.old) (failures self.new) }
         ensures no_write { IsErrOf result ShelfFault.Write → ⊥ }
         ensures fine { OnOk result (failures self.new ≡ failures self.old) }
         ensures same_files { files self.new ≡ files self.old };
@@ -62,8 +64,7 @@ pub trait Shelf {
     fn put(&mut self, alloc: Global, path: &str, bytes: &[u8]) -> Result<(), ShelfFault>
         ensures put { OnOk result (Puts (files self.old) (files self.new) path.now bytes.now) }
         ensures doubt { OnErr result (InDoubt (files self.old) (files self.new) path.now) }
-        ensures write { IsErrOf result ShelfFault.Write →
-            Rose (failures self.old) (failures self.new) }
+        ensures failed { OnErr result (Rose (failures self.old) (failures self.new)) }
         ensures not_missing { IsErrOf result ShelfFault.Missing → ⊥ }
         ensures fine { OnOk result (failures self.new ≡ failures self.old) };
 }

@@ -11,10 +11,11 @@ impl Shelf for ChangingShelf<'_> {
     type Reader = Cursor<Vec<u8>>;
 
     ghost use Rattle.std.specs.Prelude.{None};
+    ghost use Rattle.rh_files.specs.Counting.{last_count};
 
     ghost files = { λ _. None };
 
-    ghost failures = { λ _. 0 };
+    ghost failures = { λ _. last_count };
 
     fn fetch(&mut self, alloc: Global, _path: &str) -> Result<Cursor<Vec<u8>>, ShelfFault> {
         let file = self.files.get(self.fetched).ok_or(ShelfFault::Memory)?;

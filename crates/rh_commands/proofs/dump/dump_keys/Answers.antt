@@ -1,10 +1,6 @@
 use Rattle.rh_layout.proofs.LayoutLemmas.{layout_own}
-use Rattle.rh_files.proofs.Grammar.{begins_with_header}
 use Rattle.rh_commands.proofs.dump.dump_keys.Goals as goal
 
 pub write_dump-requires : goal.write_dump-requires
 write_dump-requires g c =
     layout_own c.cells.result.now c.in-Some.bits c.in_ok-set.set.keys (rw c.in_ok-set.ensures.bits at c.cells.ensures.layout)
-
-pub returns-in_err-set-clause-memory : goal.returns-in_err-set-clause-memory
-returns-in_err-set-clause-memory g c = λ memory. begins_with_header _ _ (λ v. v.items) c.in_ok-keys.keys c.in_ok-keys.ensures.known

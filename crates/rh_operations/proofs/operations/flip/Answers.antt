@@ -10,7 +10,7 @@ use Rattle.rh_operations.specs.Found.{keys_again}
 use Rattle.rh_operations.specs.KeyLists.{Gave, bytes_at}
 use Rattle.rh_operations.specs.Size.{size_for}
 use Rattle.rh_operations.specs.Refusals.{MemoryFails}
-use Rattle.rh_operations.proofs.AgainLemmas.{later_refused, met_later, same_again, stands_again}
+use Rattle.rh_operations.proofs.AgainLemmas.{later_refused, met_later, same_again, stands_again, wanted_again}
 use Rattle.rh_operations.proofs.OperationLemmas.{size_refused}
 use Rattle.rh_operations.proofs.operations.flip.Goals as goal
 
@@ -41,3 +41,9 @@ returns-in_err-added-clause-refused g c files known =
     (same_again (keys_again c.args.list.now.count (bytes_at files c.args.list.now.source)) first.0 (chosen false c.args.set.now.keys) c.in_ok-rest.absent
     (Rose (g.S.Shelf.failures c.without_listed.new.shelf) (g.S.Shelf.failures c.insert_listed.new.shelf))
     (Rose (g.N.Runner.refused_starts c.without_listed.new.runner) (g.N.Runner.refused_starts c.insert_listed.new.runner)) _ again (sym first.3) why)))
+
+pub returns-in_err-bits-clause-memory : goal.returns-in_err-bits-clause-memory
+returns-in_err-bits-clause-memory g c files known =
+    let p = err_from_is_err_and c.from_residual-in_err-bits.result c.from_residual-in_err-bits.ensures.1 in
+    let first = c.in_ok-rest.ensures.dropped in
+    rw (p.1, p.2) (wanted_again files c.args.list.now first.0 _ _ (subst (λ now. Gave now c.args.list.now first.0) known first.1))

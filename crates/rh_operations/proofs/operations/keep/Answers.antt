@@ -8,11 +8,12 @@ use Rattle.rh_ledger.specs.declared.tally.Kind.TheVariants.{Insert}
 use Rattle.rh_ledger.specs.Phase.{set_after}
 use Rattle.rh_runner.specs.Lists.{chosen}
 use Rattle.rh_operations.specs.Refusals.{RefusedBy}
+use Rattle.rh_operations.specs.declared.cause.Cause.TheVariants.{Memory}
 use Rattle.rh_operations.specs.Found.{keys_again}
 use Rattle.rh_operations.specs.KeyLists.{Gave, bytes_at}
 use Rattle.rh_operations.specs.Size.{size_for}
 use Rattle.rh_operations.specs.Refusals.{MemoryFails}
-use Rattle.rh_operations.proofs.AgainLemmas.{later_refused, met_later, same_again, stands_again}
+use Rattle.rh_operations.proofs.AgainLemmas.{later_refused, met_later, same_again, stands_again, wanted_again}
 use Rattle.rh_operations.proofs.OperationLemmas.{nothing_held, size_refused}
 use Rattle.rh_operations.proofs.operations.keep.Goals as goal
 
@@ -56,3 +57,15 @@ returns-clause-kept g c =
         counted = sym second.2;
       },
     )
+
+pub returns-in_err-empty-clause-memory : goal.returns-in_err-empty-clause-memory
+returns-in_err-empty-clause-memory g c files known =
+    let p = err_from_is_err_and c.from_residual-in_err-empty.result c.from_residual-in_err-empty.ensures.1 in
+    let first = c.in_ok-found.ensures.found in
+    rw (p.1, p.2) (wanted_again files c.args.list.now first.0 (Rose (g.S.Shelf.failures c.args.shelf.now) (g.S.Shelf.failures c.count_found.new.shelf)) Memory (subst (λ now. Gave now c.args.list.now first.0) known first.1))
+
+pub returns-in_err-bits-clause-memory : goal.returns-in_err-bits-clause-memory
+returns-in_err-bits-clause-memory g c files known =
+    let p = err_from_is_err_and c.from_residual-in_err-bits.result c.from_residual-in_err-bits.ensures.1 in
+    let first = c.in_ok-found.ensures.found in
+    rw (p.1, p.2) (wanted_again files c.args.list.now first.0 _ _ (subst (λ now. Gave now c.args.list.now first.0) known first.1))

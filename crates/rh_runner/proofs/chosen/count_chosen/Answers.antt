@@ -19,4 +19,5 @@ loop-room-preserved g c = (
   more_came c.loop-room.invariant.1 _ c.next_keys.new.batch _ c.in_ok-n.n c.in_ok-n.ensures.gives c.if-n-eq0.false c.in_ok-n.ensures.room c.in_ok-n.ensures.left c.in_ok-n.ensures.in_range,
   count_more c.args.wanted (keys_of c.args.cells.now) c.loop-room.invariant.0 (take c.in_ok-n.n c.next_keys.new.batch) c.deref.result.now c.loop-room.many c.count_wanted.result c.loop-room.invariant.2 c.count_wanted.ensures (rw c.deref.ensures.value c.in_ok-found.ensures.found),
   c.in_ok-found.ensures.fine ∙ c.loop-room.invariant.3,
+  c.in_ok-n.ensures.fine ∙ c.loop-room.invariant.4,
 )

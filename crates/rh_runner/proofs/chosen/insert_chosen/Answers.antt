@@ -5,7 +5,7 @@ use Rattle.rh_runner.proofs.ChosenLemmas.{ran_chosen, length_chosen-append}
 use Rattle.rh_runner.proofs.chosen.insert_chosen.Goals as goal
 
 pub loop-room-init : goal.loop-room-init
-loop-room-init g c = (_, none_came _ _, record { layout = c.requires.layout; held = refl; tally = refl }, omega arith, refl)
+loop-room-init g c = (_, none_came _ _, record { layout = c.requires.layout; held = refl; tally = refl }, omega arith, refl, refl)
 
 pub insert_batch-requires-clause-room : goal.insert_batch-requires-clause-room
 insert_batch-requires-clause-room g c = omega (arith, inserted-le c.loop-room.invariant.2, c.loop-room.invariant.3, c.requires.room)
@@ -33,4 +33,5 @@ loop-room-preserved g c =
       record { layout = ran.layout; held = ran.held; tally = sums ∙ ran.tally },
       omega (arith, length_chosen-append c.args.wanted S done batch, c.loop-room.invariant.3, c.in_ok-told.ensures.few, read_of c.in_ok-told.ensures.done),
       c.in_ok-told.ensures.fine ∙ c.loop-room.invariant.4,
+      c.in_ok-n.ensures.fine ∙ c.loop-room.invariant.5,
     )

@@ -12,6 +12,7 @@ invariant-loop-room g l =
     × Ran Insert l.bits (chosen l.wanted (keys_of l.old) done) l.fn.cells.items l.cells.items l.tally
     × (length (chosen l.wanted (keys_of l.old) done) + l.left ≡ l.many)
     × (g.N.Runner.refused_starts l.runner ≡ g.N.Runner.refused_starts l.fn.runner)
+    × (g.K.KeySource.told_by l.keys ≡ g.K.KeySource.told_by l.fn.keys)
 
 abbrev pub decreases-loop-room : goal.decreases-loop-room
 decreases-loop-room g l = g.K.KeySource.left_of l.keys

@@ -7,7 +7,7 @@ use Rattle.rh_runner.proofs.ChosenLemmas.{count_more, length_chosen-le}
 use Rattle.rh_runner.proofs.chosen.remove_and_count_absent.Goals as goal
 
 pub loop-room-init : goal.loop-room-init
-loop-room-init g c = (_, none_came _ _, record { layout = c.requires.layout; held = refl; tally = refl }, refl, refl)
+loop-room-init g c = (_, none_came _ _, record { layout = c.requires.layout; held = refl; tally = refl }, refl, refl, refl)
 
 pub overflow_add-absent : goal.overflow_add-absent
 overflow_add-absent g c =
@@ -41,4 +41,5 @@ loop-room-preserved g c =
       record { layout = ran.layout; held = ran.held; tally = sums ∙ ran.tally },
       count_more false (keys_of c.args.old.now) c.loop-room.invariant.0 batch c.deref.result.now c.loop-room.absent c.count_wanted.result c.loop-room.invariant.3 c.count_wanted.ensures (rw c.deref.ensures.value c.in_ok-found.ensures.found),
       c.in_ok-told.ensures.fine ∙ c.in_ok-found.ensures.fine ∙ c.loop-room.invariant.4,
+      c.in_ok-n.ensures.fine ∙ c.loop-room.invariant.5,
     )

@@ -4,7 +4,7 @@ use Rattle.rh_runner.proofs.ListLemmas.{none_came, more_came, more_ran, room_lef
 use Rattle.rh_runner.proofs.lists.change_all.Goals as goal
 
 pub loop-room-init : goal.loop-room-init
-loop-room-init g c = (_, none_came _ _, record { layout = c.requires.layout; held = refl; tally = refl }, refl)
+loop-room-init g c = (_, none_came _ _, record { layout = c.requires.layout; held = refl; tally = refl }, refl, refl)
 
 pub change-requires-clause-room : goal.change-requires-clause-room
 change-requires-clause-room g c =
@@ -29,4 +29,5 @@ loop-room-preserved g c =
       more_came c.loop-room.invariant.1 _ c.next_keys.new.batch _ c.in_ok-n.n c.in_ok-n.ensures.gives c.if-n-eq0.false c.in_ok-n.ensures.room c.in_ok-n.ensures.left c.in_ok-n.ensures.in_range,
       record { layout = ran.layout; held = ran.held; tally = sums ∙ ran.tally },
       c.in_ok-told.ensures.fine ∙ c.loop-room.invariant.3,
+      c.in_ok-n.ensures.fine ∙ c.loop-room.invariant.4,
     )

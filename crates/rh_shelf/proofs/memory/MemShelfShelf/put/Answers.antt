@@ -1,9 +1,6 @@
-use Rattle.std.proofs.Common.{◌≡◌, Some, ap, string_bytes}
-use Rattle.std.proofs.lemmas.Result.{IfOk-at_ok}
-use Rattle.rh_shelf.proofs.PutLemmas.{put_file}
+use Rattle.rh_shelf.specs.Kinds.{files_of}
+use Rattle.rh_shelf.proofs.PutLemmas.{none_in_doubt}
 use Rattle.rh_shelf.proofs.memory.MemShelfShelf.put.Goals as goal
 
-pub returns-clause-put : goal.returns-clause-put
-returns-clause-put c =
-    let key_is_path = IfOk-at_ok (λ s. string_bytes s ≡ c.args.path.now) c.in_ok-path.was c.from_str.ensures.ok in
-    ap (λ files. Some files) (put_file c.args.self.now.files c.insert.new.self c.in_ok-path.path c.in_ok-bytes.bytes c.args.path.now c.args.bytes.now key_is_path c.in_ok-bytes.ensures.copy c.in_ok-insert.ensures.updates)
+pub returns-clause-doubt : goal.returns-clause-doubt
+returns-clause-doubt c = none_in_doubt c.insert-outcome.result (files_of c.args.self.now) (files_of c.insert-outcome.new.self) (files_of c.count.new.self) c.args.path.now c.insert-outcome.ensures.refused c.count.ensures.same_files
