@@ -292,8 +292,8 @@ all_carried_out files items steps i old now planned ended so_far =
 pub steps_of_plan : (planned : List Planned) (steps : List Numbered) → planned ≡ plan_of steps → length planned ≡ length steps
 steps_of_plan planned steps is = ap length is ∙ planned_long [] steps
 
-pub all_done : (files : Files) (steps : List Numbered) (set : Held) (old new : Environment) (commands held bits : ℕ) → CarriedOut files steps set old new → commands ≡ length steps → held ≡ finset.len set.keys → bits ≡ set.bits → Done files steps old new (record { commands = commands; held = held; bits = bits })
-all_done files steps set old new commands held bits carried many held_is bits_is = record {
+pub all_done : (files : Files) (steps : List Numbered) (set : Held) (old new : Environment) (commands held bits : ℕ) → CarriedOut files steps set old new → commands ≡ length steps → held ≡ finset.len set.keys → bits ≡ set.bits → new.failures ≡ old.failures → new.refused_starts ≡ old.refused_starts → Done files steps old new (record { commands = commands; held = held; bits = bits })
+all_done files steps set old new commands held bits carried many held_is bits_is fine started = record {
   world = world_of set carried.named carried.made;
   accounts = carried.accounts;
   text = carried.text;
@@ -302,4 +302,6 @@ all_done files steps set old new commands held bits carried many held_is bits_is
   written = carried.written;
   files_now = carried.has;
   told = λ i. record { commands = many i; held = held_is i; bits = bits_is i };
+  fine = fine;
+  started = started;
 }

@@ -73,8 +73,8 @@ abbrev pub LeavesFiles : Step → (found : FileMap) → Cause → Type 0
 LeavesFiles step found Write = (done : ScriptState × Account) × (step.outcome ≡ Ok done) × HasFiles done.0.files step.after.files
 LeavesFiles step found _ = LeavesOthers step.said found step.after.files
 
--- All steps were carried out: the text is what they have to report, the shelf has the files that they made, and the
--- report counts them and tells the table.
+-- All steps were carried out: the text is what they have to report, the shelf has the files that they made, the report
+-- counts them and tells the table, and nothing failed meanwhile.
 pub record Done (files : Files) (steps : List Numbered) (old new : Environment) (report : Report) : Type 0 where
   pub world : ScriptState
   pub accounts : List Account
@@ -84,6 +84,8 @@ pub record Done (files : Files) (steps : List Numbered) (old new : Environment) 
   pub written : Appends old.text new.text text
   pub files_now : HasFiles world.files new.files
   pub told : report ≡ record { commands = length steps; held = set.len world.held; bits = world.bits }
+  pub fine : new.failures ≡ old.failures
+  pub started : new.refused_starts ≡ old.refused_starts
 
 -- The steps before one were carried out, and at that one the run ended with its line: by the cause that the meaning
 -- has there, or by one that comes from outside to that command.

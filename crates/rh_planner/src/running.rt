@@ -1,6 +1,6 @@
 //! The run of a script.
 
-ghost use Rattle.std.specs.Prelude.{◌≡◌, List, None, Some, IfOk, IfErr};
+ghost use Rattle.std.specs.Prelude.{◌≡◌, List, None, Some, IfOk, IfErr, OnOk};
 ghost use Rattle.std.specs.FinSet as finset;
 ghost use Rattle.rh_layout.specs.declared.limits.TheConstants.{MIN_BITS};
 ghost use Rattle.rh_files.specs.Counting.{Rose, failures_of, inner_of};
@@ -34,7 +34,8 @@ use std::thread::Threads;
 /// commands before it, and with `Write` a front of its own text too. The files are then those that
 /// the commands before it made; where it was a `snapshot`, its path alone is in doubt, and has the
 /// snapshot with `Write`. A list of `use` is kept as its path and its number of keys, and its file
-/// is read again by each command that names it.
+/// is read again by each command that names it. Where it ends well, no failure of the shelf or the
+/// writer was counted meanwhile, and no refused start.
 ///
 /// Each text is a few writes, so give it a writer with a buffer. A run may wait for ever where its
 /// runner does.
@@ -60,6 +61,9 @@ pub fn run<T: Threads + Wait + Sync, S: Shelf, N: Runner, W: Write>(
         Rose (N.refused_starts runner.old) (N.refused_starts runner.new)) }
     ensures write { IfErr result (λ fault. fault.cause ≡ Cause.Write →
         Rose (failures_of writer.old) (failures_of writer.new)) }
+    ensures shelf_fine { OnOk result (S.failures shelf.new ≡ S.failures shelf.old) }
+    ensures starts_fine { OnOk result (N.refused_starts runner.new ≡ N.refused_starts runner.old) }
+    ensures writes_fine { OnOk result (failures_of writer.new ≡ failures_of writer.old) }
 {
     let Ok((plan, empty)) = begin(alloc, script) else {
         let (line, cause) = (0, Cause::Memory);
@@ -113,6 +117,9 @@ fn carry_out_all<T: Threads + Wait + Sync, S: Shelf, N: Runner, W: Write>(
         Rose (N.refused_starts runner.old) (N.refused_starts runner.new)) }
     ensures write { IfErr result (λ fault. fault.cause ≡ Cause.Write →
         Rose (failures_of writer.old) (failures_of writer.new)) }
+    ensures shelf_fine { OnOk result (S.failures shelf.new ≡ S.failures shelf.old) }
+    ensures starts_fine { OnOk result (N.refused_starts runner.new ≡ N.refused_starts runner.old) }
+    ensures writes_fine { OnOk result (failures_of writer.new ≡ failures_of writer.old) }
 {
     let mut lists = Vec::new(alloc);
     for step in plan.steps() {
