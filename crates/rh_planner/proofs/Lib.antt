@@ -5,9 +5,21 @@
 -- StepLemmas: how a step ends.
 -- TaskLemmas: from a step to what is left of the script's state.
 -- RunLemmas: a script step by step.
+-- UniqueLemmas: some accounts have one text, and the files of a script's world one map of bytes.
+-- MadeLemmas: what steps make up to the first that is refused.
+-- MeantLemmas: a run that nothing from outside ended.
+-- FrontLemmas: what any run told.
+-- AgreeLemmas: two runs of one script agree.
+-- ReadLemmas: only what a script reads of the files matters.
 
 pub mod FileLemmas
 pub mod StepLemmas
 pub mod ListLemmas
 pub mod TaskLemmas
 pub mod RunLemmas
+pub mod UniqueLemmas
+pub mod MadeLemmas
+pub mod MeantLemmas
+pub mod FrontLemmas
+pub mod AgreeLemmas
+pub mod ReadLemmas

@@ -41,7 +41,7 @@ abbrev lists_of : Outcome → Named
 lists_of (Ok done) = done.0.lists
 lists_of (Err cause) = []
 
-then_ok : {A B E : Type 0} (r : Result A E) (f : A → Result B E) (y : B) → (r >>= f) ≡ Ok y → (x : A) × (r ≡ Ok x) × (f x ≡ Ok y)
+pub then_ok : {A B E : Type 0} (r : Result A E) (f : A → Result B E) (y : B) → (r >>= f) ≡ Ok y → (x : A) × (r ≡ Ok x) × (f x ≡ Ok y)
 then_ok (Ok x) f y h = (x, refl, h)
 then_ok (Err e) f y h = absurd cc
 
@@ -70,10 +70,10 @@ names_after w (Restore path) done is = let s = then_ok (table_in (w.files path))
 
 -- ---- one step more
 
-abbrev Course : Type 0
+abbrev pub Course : Type 0
 Course = Result (ScriptState × List Account) RunFault
 
-abbrev reached_in : ScriptState × List Account → Course → ScriptState × List Account
+abbrev pub reached_in : ScriptState × List Account → Course → ScriptState × List Account
 reached_in d (Ok x) = x
 reached_in d (Err e) = d
 
@@ -93,7 +93,7 @@ meaning_more w (s ∷ before) step v accounts done means is =
     ∙ ap (λ (r : Course). r >>= (λ others. Ok (others.0, first.0.1 ∷ others.1))) more
     ∙ ap (λ (x : ScriptState × List Account). Ok (done.0, x.1 ++ done.1 ∷ [])) here
 
-says_more : (accounts : List Account) (text : List ℕ) (account : Account) (more : List ℕ) → SaysAll accounts text → Says account more → SaysAll (accounts ++ account ∷ []) (text ++ more)
+pub says_more : (accounts : List Account) (text : List ℕ) (account : Account) (more : List ℕ) → SaysAll accounts text → Says account more → SaysAll (accounts ++ account ∷ []) (text ++ more)
 says_more [] text account more says new = (more, [], new, refl, ap (λ l. l ++ more) says ∙ sym (append-nil more))
 says_more (a ∷ accounts) text account more says new =
     (says.0, says.1 ++ more, says.2, says_more accounts says.1 account more says.3 new, ap (λ l. l ++ more) says.4 ∙ append_assoc says.0 says.1 more)

@@ -5,3 +5,4 @@ pub mod Environment
 pub mod Ends
 pub mod Steps
 pub mod Reached
+pub mod Agree
