@@ -4,6 +4,8 @@
 #![tactic(auto)]
 
 #[cfg(test)]
+mod operations;
+#[cfg(test)]
 mod planner;
 #[cfg(test)]
 mod runner;

@@ -171,6 +171,12 @@ const LARGE: &[(u64, &str, &str, Option<(u64, Cause)>)] = &[
         None,
     ),
     (
+        49_152,
+        "use k k\nadd k\n",
+        "use k 49152\nadd k read 49152 added 49152 held 49152 bits 16\n",
+        None,
+    ),
+    (
         49_153,
         "use k k\nadd k\nclear\n",
         "use k 49153\nadd k read 49153 added 49153 held 49153 bits 17\nclear\n",

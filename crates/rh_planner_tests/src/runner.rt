@@ -296,3 +296,14 @@ fn batches_and_phases_are_so_long(rt: HostRuntime) {
     assert_eq!(rt; PHASE, 196_608);
     assert_eq!(rt; LOOK_UPS, 1_000_000);
 }
+
+#[test]
+fn faults_of_a_phase_can_be_printed(rt: HostRuntime) -> Result<(), Fail> {
+    for (fault, text) in [
+        (PhaseFault::Memory, "out of memory"),
+        (PhaseFault::NoThread, "cannot start a worker"),
+    ] {
+        assert_eq!(rt; format!(in rt.alloc(); "{fault}")?.as_str(), text);
+    }
+    Ok(())
+}

@@ -180,3 +180,36 @@ fn each_write_fails(rt: HostRuntime) -> Result<(), Fail> {
     }
     Ok(())
 }
+
+// Of two runs the first has a shelf that fails at the fourth line, and the second one that does not.
+#[test]
+fn one_run_of_two_fails(rt: HostRuntime) -> Result<(), Fail> {
+    let script = parse(rt.alloc(), SCRIPT.as_bytes())?;
+    let mut shelf = FaultyShelf::new(three_files(rt.alloc())?, ShelfFailure::Call(4));
+    let mut other_shelf = three_files(rt.alloc())?;
+    let mut writer = Counted::new(Vec::new(rt.alloc()));
+    let mut other_writer = Counted::new(FaultyWriter::new(rt.alloc(), 0, Refusal::Error));
+    let (first, second) = run_twice(
+        &rt,
+        rt.alloc(),
+        &script,
+        &mut shelf,
+        &mut Single,
+        &mut writer,
+        &mut other_shelf,
+        &mut Single,
+        &mut other_writer,
+    );
+    let cause = Cause::Missing;
+    let end = RunFault { line: 4, cause };
+    let before = told_before(rt.alloc(), TOLD, 4)?;
+    assert_told(&rt, &(writer.into_inner(), first), &before, Some(end), &1);
+    let report = Report {
+        commands: 9,
+        held: 0,
+        bits: 3,
+    };
+    assert_eq!(rt; second, Ok(report));
+    assert!(rt; is_whole(rt.alloc(), TOLD, other_writer.get_ref().text())?);
+    Ok(())
+}
