@@ -23,13 +23,6 @@ abbrev pub MemoryFails : Cause → Type 0
 MemoryFails Memory = Unit {0}
 MemoryFails _ = ⊥
 
--- A file was not read through: a read failed, or the shelf failed to give it, for want of memory or else.
-abbrev pub FileFails : (failed : Type 0) → Cause → Type 0
-FileFails failed (Keys faults.Read) = Unit {0}
-FileFails failed Missing = failed
-FileFails failed Memory = failed
-FileFails failed _ = ⊥
-
 -- Memory is wanted where the shelf failed, or after this was found.
 abbrev pub WantedAfter : {Y : Type 0} → (found : Result Y Cause) → (failed : Type 0) → Cause → Type 0
 WantedAfter found failed Memory = failed ⊎ IsOk found

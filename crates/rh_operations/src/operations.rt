@@ -17,7 +17,7 @@ ghost use Rattle.rh_operations.specs.Found.{count_again, keys_again, keys_found}
 ghost use Rattle.rh_operations.specs.KeyLists.{Gave, Stands, bytes_at, path_of};
 ghost use Rattle.rh_operations.specs.Operations.{Added, Dropped, Flipped, Kept};
 ghost use Rattle.rh_operations.specs.Operations.{room_to_add, size_to_add, size_to_flip, size_to_keep};
-ghost use Rattle.rh_operations.specs.Refusals.{FileFails, PhaseFails, WantedAfter};
+ghost use Rattle.rh_operations.specs.Refusals.{ListFails, PhaseFails, WantedAfter};
 
 use crate::cause::Cause;
 use crate::key_lists::{KeyList, Source};
@@ -41,7 +41,7 @@ pub fn use_file<S: Shelf>(alloc: Global, shelf: &mut S, path: &str) -> Result<u6
         (keys : List ℕ) × (keys_found (files path.now) ≡ Ok keys) × (length keys ≡ count)) }
     ensures refused { (files : Files) → S.files shelf.old ≡ Some files → IfErr result
         (RefusedBy (keys_found (files path.now))
-        (FileFails (Rose (S.failures shelf.old) (S.failures shelf.new)))) }
+        (ListFails (Rose (S.failures shelf.old) (S.failures shelf.new)))) }
     ensures memory { IfErr result (λ cause. cause ≡ Cause.Memory →
         Rose (S.failures shelf.old) (S.failures shelf.new)) }
     ensures shelf { KeepsShelf (S.files shelf.old) (S.files shelf.new) (S.failures shelf.old)
