@@ -23,6 +23,8 @@ pub fn parse_play(alloc: Global, text: &[u8]) -> Result<Play, PlayTextFault>
         sayings_of text.now ≡ Err fault) }
     ensures memory { IfErr result (λ fault. fault.kind ≡ PlayTextKind.Memory →
         (1 ≤ fault.line) × (fault.line ≤ length (lines_of text.now))) }
+    ensures size { IfErr result (λ fault. fault.kind ≡ PlayTextKind.Memory →
+        length text.now ≤ MAX_TEXT_BYTES) }
     ensures before { IfErr result (λ fault. HasNoFaultBefore fault.line text.now) }
 {
     if text.len() > MAX_TEXT_BYTES {

@@ -1,5 +1,6 @@
 -- What a play that was run has printed.
 use Rattle.std.proofs.Common.{◌≡◌, ℕ, Bool, true, false, ◌↔◌, IsTrue, List, [], ◌++◌, Option, Ok, Err, refl, sym, ap, ◌∙◌, subst}
+use Rattle.std.specs.Prelude.{IsErrOf}
 use Rattle.rh_layout.specs.Layout.{IsLayout, Keys, Layout, keys_of}
 use Rattle.rh_layout.proofs.LayoutLemmas.{layout_keys, layout_own}
 use Rattle.rh_ledger.specs.declared.tally.Kind.{Kind}
@@ -16,7 +17,7 @@ use Rattle.rh_play.specs.declared.play.Play.{Play}
 use Rattle.rh_play_run.specs.Beginning.{Begins, bits_of, held_of, keys_in}
 use Rattle.rh_play_run.specs.declared.fault.PlayRunFault.{PlayRunFault}
 use Rattle.rh_play_run.specs.declared.fault.PlayRunFault.TheVariants.{Read, Text, Start, Memory, Write}
-use Rattle.rh_play_run.specs.Run.{ClosesWith, IsAllFinished, tally_so_far, IsPlayRead, IsPlayed, IsUnplayed, Runs, closing}
+use Rattle.rh_play_run.specs.Run.{ClosesWith, IsAllFinished, tally_so_far, IsPlayRead, IsPlayed, IsUnplayed, Runs, SaysGoodPlay, closing}
 use Rattle.rh_play_run.specs.Schedule.{Follows}
 use Rattle.rh_play_run.proofs.Begun.{matches}
 use Rattle.rh_play_run.proofs.Keeping.{schedule_keeps}
@@ -105,6 +106,11 @@ unplayed X bytes old new play (Text fault) read why = absurd why
 unplayed X bytes old new play (Start fault) read why = (play, read, why)
 unplayed X bytes old new play Memory read why = tt
 unplayed X bytes old new play Write read why = absurd why
+
+pub good_play : (X : Type 0) (bytes : Option (List ℕ)) (play : Play) (fault : PlayRunFault) → IsPlayRead bytes play → IsUnplayed play fault → IsErrOf {T = X} (Err fault) Memory → SaysGoodPlay bytes
+good_play X bytes play fault read why memory =
+    let same : fault ≡ Memory = cc in
+    (play, read, subst (IsUnplayed play) same why)
 
 same_parts : (bits : ℕ) (body body' cells cells' close close' : List ℕ) → body' ≡ body → cells' ≡ cells → close' ≡ close
     → body' ++ (dump_text bits cells' ++ close') ≡ body ++ (dump_text bits cells ++ close)

@@ -1,13 +1,14 @@
 -- The game with which a play begins, and why there is none.
-use Rattle.std.specs.Prelude.{◌≡◌, ℕ, ◌^◌, ◌⊎◌, not, nat_lt, if◌then◌else◌, Option, Some, None, List, length}
+use Rattle.std.specs.Prelude.{◌≡◌, ℕ, ◌^◌, ◌≤◌, not, nat_lt, if◌then◌else◌, Option, Some, None, MatchOption, List, length, replicate}
 use Rattle.std.specs.FinSet as set
+use Rattle.rh_layout.specs.declared.limits.TheConstants.{MAX_BITS}
 use Rattle.rh_layout.specs.Layout.{Keys, Layout}
 use Rattle.rh_descriptor.specs.Parts.{usual_rooms}
 use Rattle.rh_descriptor.specs.declared.shape.Rooms.{Rooms}
 use Rattle.rh_turns.specs.Game.{Game}
 use Rattle.rh_player.specs.declared.fault.PlayFault.{PlayFault}
 use Rattle.rh_player.specs.declared.fault.PlayFault.TheVariants.{BadKey, NoRoom}
-use Rattle.rh_player.specs.Start.{StartsPieces, StartsShared, are_keys, joined, start_fault}
+use Rattle.rh_player.specs.Start.{Refuses, StartsPieces, StartsShared, are_keys, joined, start_fault}
 use Rattle.rh_play.specs.declared.play.Play.{Play}
 use Rattle.rh_play.specs.declared.play.Rooms as said
 use Rattle.rh_play.specs.declared.play.Work.TheVariants.{Pieces, Share}
@@ -49,17 +50,27 @@ held_fault bits keys =
 abbrev pub player_fault : Play → (cells : List ℕ) → Option PlayFault
 player_fault play cells = start_fault play.kind (bits_of play) cells (workers_in play.work) (keys_in play.work)
 
--- the first fault of the player, on the layout of the keys held
-abbrev pub IsPlayerFault : Play → PlayFault → Type 0
-IsPlayerFault play fault = (cells : List ℕ) × Layout cells (bits_of play) (held_of play) × (player_fault play cells ≡ Some fault)
+-- the first fault of the player on the layout of the keys held, if there is one
+abbrev pub IsPlayerFault : Play → Option PlayFault → Type 0
+IsPlayerFault play first = (cells : List ℕ) × Layout cells (bits_of play) (held_of play) × (player_fault play cells ≡ first)
 
--- The faults of the keys held come first.
-abbrev pub IsStartFault : Play → PlayFault → Type 0
-IsStartFault play fault =
-    (held_fault (bits_of play) play.held.items ≡ Some fault)
-    ⊎ ((held_fault (bits_of play) play.held.items ≡ None) × IsPlayerFault play fault)
+-- The first fault of the start, if there is one. Those of the keys held come before those of the player.
+abbrev pub IsStartFault : Play → Option PlayFault → Type 0
+IsStartFault play first = MatchOption (held_fault (bits_of play) play.held.items) (IsPlayerFault play first) (λ fault. first ≡ Some fault)
+
+-- The start has no fault.
+abbrev pub CanBegin : Play → Type 0
+CanBegin play = IsStartFault play None
+
+-- The start is refused by its first fault, or, where it has none, for want of memory.
+abbrev pub IsRefusedStart : Play → PlayFault → Type 0
+IsRefusedStart play fault = (first : Option PlayFault) × IsStartFault play first × Refuses first fault
 
 -- ---- how it begins
+
+-- empty cells, enough for a table of any size
+abbrev pub IsBlank : List ℕ → Type 0
+IsBlank cells = (cells ≡ replicate (length cells) 0) × (2 ^ MAX_BITS ≤ length cells)
 
 -- each worker has its piece, or all claim their keys; no step is made yet
 abbrev pub StartsOn : (cells : List ℕ) → Play → Work → Game → Type 0

@@ -1,25 +1,26 @@
 -- The text that a play prints, and what comes of a run.
-use Rattle.std.specs.Prelude.{◌≡◌, ◌≢◌, ℕ, Bool, true, false, List, ◌++◌, Option, Some, None, Result, Ok, Err}
+use Rattle.std.specs.Prelude.{◌≡◌, ◌≢◌, ℕ, ◌≤◌, Bool, true, false, List, ◌++◌, length, Option, Some, None, Result, Ok, Err}
 use Rattle.std.specs.Io.KnownBytes.{Appends}
 use Rattle.rh_layout.specs.Layout.{Layout}
 use Rattle.rh_ledger.specs.declared.tally.Tally.{Tally}
 use Rattle.rh_ledger.specs.Phase.{set_after, tally_of}
 use Rattle.rh_turns.specs.Game.{AllFinished, Game}
 use Rattle.rh_player.specs.declared.fault.PlayFault.{PlayFault}
-use Rattle.rh_player.specs.declared.fault.PlayFault.TheVariants as start
 use Rattle.rh_acts.specs.Workers.{tally_by}
 use Rattle.rh_player.specs.Made.{MadeSoFar, TallySpec, changed_count, done_count}
 use Rattle.rh_files.specs.Counting.{AppendsFront}
 use Rattle.rh_files.specs.Dump.{dump_text}
 use Rattle.rh_play.specs.declared.fault.PlayTextFault.{PlayTextFault}
 use Rattle.rh_play.specs.declared.fault.PlayTextKind.TheVariants as kind
+use Rattle.rh_lines.specs.Lines.{lines_of}
+use Rattle.rh_play.specs.declared.limits.TheConstants.{MAX_TEXT_BYTES}
 use Rattle.rh_play.specs.declared.play.Play.{Play}
-use Rattle.rh_play.specs.Grammar.{sayings_of}
+use Rattle.rh_play.specs.Grammar.{HasNoFaultBefore, sayings_of}
 use Rattle.rh_play.specs.Play.{said_of}
 use Rattle.rh_play_report.specs.Lines.{end_line, tally_line}
 use Rattle.rh_play_run.specs.declared.fault.PlayRunFault.{PlayRunFault}
 use Rattle.rh_play_run.specs.declared.fault.PlayRunFault.TheVariants.{Read, Text, Start, Memory, Write}
-use Rattle.rh_play_run.specs.Beginning.{Begins, IsStartFault, bits_of, held_of, keys_in}
+use Rattle.rh_play_run.specs.Beginning.{Begins, CanBegin, IsRefusedStart, bits_of, held_of, keys_in}
 use Rattle.rh_play_run.specs.Schedule.{Follows}
 
 -- ---- the end of a play
@@ -75,20 +76,36 @@ abbrev pub IsPlayRead : Option (List ℕ) → Play → Type 0
 IsPlayRead None play = Unit {0}
 IsPlayRead (Some bytes) play = sayings_of bytes ≡ Ok (said_of play)
 
--- Known bytes say no play, and this is their first fault; want of memory says nothing of them.
+-- The line of this number is read: the text is not too long, and no line before it has a fault.
+pub record IsLineRead (number : ℕ) (text : List ℕ) : Type 0 where
+  pub size : length text ≤ MAX_TEXT_BYTES
+  pub first : 1 ≤ number
+  pub last : number ≤ length (lines_of text)
+  pub before : HasNoFaultBefore number text
+
+-- This is the first fault of the text; or memory was refused in a line that is read.
+abbrev pub IsRefusedText : List ℕ → PlayTextFault → Type 0
+IsRefusedText text fault =
+    (fault.kind ≢ kind.Memory → sayings_of text ≡ Err fault) × (fault.kind ≡ kind.Memory → IsLineRead fault.line text)
+
+-- Known bytes are refused by this fault.
 abbrev pub IsTextFault : Option (List ℕ) → PlayTextFault → Type 0
 IsTextFault None fault = Unit {0}
-IsTextFault (Some bytes) fault = fault.kind ≢ kind.Memory → sayings_of bytes ≡ Err fault
+IsTextFault (Some bytes) fault = IsRefusedText bytes fault
 
 -- the text of the play that the bytes say
 abbrev pub IsRunOf : (bytes : Option (List ℕ)) (text : List ℕ) → Type 0
 IsRunOf bytes text = (play : Play) × IsPlayRead bytes play × IsPlayed play text
 
--- The play that the bytes say does not begin, and this is the first fault; want of memory says nothing of it.
+-- The start of the play that the bytes say is refused by this fault.
 abbrev pub IsRefused : (bytes : Option (List ℕ)) → PlayFault → Type 0
-IsRefused bytes fault = (play : Play) × IsPlayRead bytes play × (fault ≢ start.Memory → IsStartFault play fault)
+IsRefused bytes fault = (play : Play) × IsPlayRead bytes play × IsRefusedStart play fault
 
--- No play was read.
+-- The bytes say a play that can begin.
+abbrev pub SaysGoodPlay : (bytes : Option (List ℕ)) → Type 0
+SaysGoodPlay bytes = (play : Play) × IsPlayRead bytes play × CanBegin play
+
+-- No play was read. Of a failed read and of want of memory other clauses speak.
 abbrev pub IsUnread : (bytes : Option (List ℕ)) → PlayRunFault → Type 0
 IsUnread bytes Read = Unit {0}
 IsUnread bytes (Text fault) = IsTextFault bytes fault
@@ -100,11 +117,12 @@ IsUnread bytes Write = ⊥
 abbrev pub IsUnplayed : Play → PlayRunFault → Type 0
 IsUnplayed play Read = ⊥
 IsUnplayed play (Text fault) = ⊥
-IsUnplayed play (Start fault) = fault ≢ start.Memory → IsStartFault play fault
-IsUnplayed play Memory = Unit {0}
+IsUnplayed play (Start fault) = IsRefusedStart play fault
+IsUnplayed play Memory = CanBegin play
 IsUnplayed play Write = ⊥
 
--- The bytes said a play, and its text or a front of it was written; or they said none; or it does not begin.
+-- The bytes said a play, and its text or a front of it was written; or they said none; or it does not begin. Of a failed
+-- read and of want of memory other clauses speak.
 abbrev pub Runs : {X : Type 0} → (bytes old new : Option (List ℕ)) → Result X PlayRunFault → Type 0
 Runs bytes old new (Ok x) = (text : List ℕ) × IsRunOf bytes text × Appends old new text
 Runs bytes old new (Err Write) = (text : List ℕ) × IsRunOf bytes text × AppendsFront old new text

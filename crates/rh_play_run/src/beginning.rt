@@ -1,37 +1,48 @@
 //! The player with which a play begins.
 
-ghost use Rattle.std.specs.Prelude.{◌≡◌, ◌≢◌, ◌^◌, IfErr, IfOk, None, Some};
+ghost use Rattle.std.specs.Prelude.{◌≡◌, ◌^◌, ◌<◌, All, IfErr, IfOk, None, Some, length};
 ghost use Rattle.std.specs.FinSet as set;
-ghost use Rattle.rh_layout.specs.Key.{IsBits};
+ghost use Rattle.rh_layout.specs.Key.{IsBits, IsKey};
 ghost use Rattle.rh_layout.specs.Layout.{Layout};
 ghost use Rattle.rh_player.specs.Start.{IsRooms, Makes, are_keys};
-ghost use Rattle.rh_play_run.specs.Beginning.{Begins, IsStartFault, StartsOn, held_fault};
-ghost use Rattle.rh_play_run.specs.Beginning.{player_fault};
+ghost use Rattle.rh_play_run.specs.Beginning.{Begins, IsRefusedStart, IsBlank, StartsOn};
+ghost use Rattle.rh_play_run.specs.Beginning.{held_fault, player_fault};
 
 use rh_descriptor::Rooms;
 use rh_edit::SeqSet;
+use rh_layout::MAX_BITS;
 use rh_play::{Play, Work};
 use rh_player::{PlayFault, Player, are_keys};
-use std::alloc::Global;
+use std::alloc::{AllocError, Global};
 
-/// The player of a play. The keys held are tested first.
-pub(crate) fn begin(alloc: Global, play: &Play) -> Result<Player, PlayFault>
+/// Empty cells for the table of any play. They are taken before the play is known, so that no fault of
+/// a play is told as want of memory for its table.
+pub(crate) fn blank_cells(alloc: Global) -> Result<Vec<u64>, AllocError>
+    ensures { IfOk result (λ blank. IsBlank blank.items) }
+{
+    let size = cells_in(MAX_BITS);
+    let blank = vec![in alloc; 0; size]?;
+    Ok(blank)
+}
+
+/// The player of a play, whose table is made of blank cells. The keys held are tested first.
+pub(crate) fn begin(alloc: Global, blank: Vec<u64>, play: &Play) -> Result<Player, PlayFault>
+    requires { IsBlank blank.items }
     ensures begins { IfOk result (λ player. Begins play.now player) }
-    ensures refused { IfErr result (λ fault. fault ≢ PlayFault.Memory →
-        IsStartFault play.now fault) }
+    ensures refused { IfErr result (IsRefusedStart play.now) }
 {
     let bits = play.bits.value as u32;
-    let cells = held_cells(alloc, bits, &play.held)?;
+    let cells = held_cells(blank, bits, &play.held)?;
     player_on(alloc, &cells, play)
 }
 
 /// The layout of the set of the keys held.
-fn held_cells(alloc: Global, bits: u32, keys: &[u64]) -> Result<Vec<u64>, PlayFault>
-    requires { IsBits bits }
+fn held_cells(blank: Vec<u64>, bits: u32, keys: &[u64]) -> Result<Vec<u64>, PlayFault>
+    requires bits { IsBits bits }
+    requires blank { IsBlank blank.items }
     ensures fine { IfOk result (λ cells. held_fault bits keys.now ≡ None) }
     ensures layout { IfOk result (λ cells. Layout cells.items bits (set.from_list keys.now)) }
-    ensures refused { IfErr result (λ fault. fault ≢ PlayFault.Memory →
-        held_fault bits keys.now ≡ Some fault) }
+    ensures refused { IfErr result (λ fault. held_fault bits keys.now ≡ Some fault) }
 {
     if !are_keys(keys) {
         return Err(PlayFault::BadKey);
@@ -39,7 +50,24 @@ fn held_cells(alloc: Global, bits: u32, keys: &[u64]) -> Result<Vec<u64>, PlayFa
     if keys.len() >= cells_in(bits) {
         return Err(PlayFault::NoRoom);
     }
-    Ok(SeqSet::from_keys(alloc, bits, keys)?.into_cells())
+    Ok(set_of(blank, bits, keys).into_cells())
+}
+
+/// The set of the keys, in the first of the blank cells.
+fn set_of(mut blank: Vec<u64>, bits: u32, keys: &[u64]) -> SeqSet
+    requires bits { IsBits bits }
+    requires blank { IsBlank blank.items }
+    requires keys { All IsKey keys.now }
+    requires few { length keys.now < 2 ^ bits }
+    ensures bits { result.bits ≡ bits }
+    ensures keys { result.keys ≡ set.from_list keys.now }
+{
+    blank.truncate(cells_in(bits));
+    let mut set = SeqSet::from_cells(bits, blank);
+    for key in keys {
+        set.insert(*key);
+    }
+    set
 }
 
 /// How many cells a table has.

@@ -14,7 +14,7 @@ pub enum PlayRunFault {
     /// The text says no play, or memory was refused while it was read to its values.
     #[error(transparent)]
     Text(PlayTextFault),
-    /// The play does not begin, or memory was refused while its table and its workers were made.
+    /// The play does not begin, or memory was refused while its workers were made.
     #[error(transparent)]
     Start(PlayFault),
     /// Memory was refused anywhere else.

@@ -21,6 +21,7 @@ pub(crate) fn read_play<R: Read>(
 ) -> Result<Play, PlayRunFault>
     ensures read { IfOk result (λ play. IsPlayRead (R.remaining (inner_of reader.old)) play) }
     ensures refused { IfErr result (IsUnread (R.remaining (inner_of reader.old))) }
+    ensures memory { IsErrOf result PlayRunFault.Memory → reader.new ≡ reader.old }
     ensures taken { TakesAtMost (R.remaining (inner_of reader.old))
         (R.remaining (inner_of reader.new)) (MAX_TEXT_BYTES + 1) }
     ensures failed { IsErrOf result PlayRunFault.Read →

@@ -1,15 +1,15 @@
 //! A play, from its text to what it prints.
 
-ghost use Rattle.std.specs.Prelude.{◌≡◌, ◌≢◌, ◌+◌, ◌++◌, Err, IfErr, IfOk, IsErrOf, OnOk};
+ghost use Rattle.std.specs.Prelude.{◌≡◌, ◌≢◌, ◌+◌, ◌++◌, ◌⊎◌, Err, IfErr, IfOk, IsErrOf, OnOk};
 ghost use Rattle.rh_layout.specs.Layout.{IsLayout};
 ghost use Rattle.rh_files.specs.Counting.{Rose, failures_of, inner_of};
 ghost use Rattle.rh_files.specs.Dump.{dump_text};
 ghost use Rattle.rh_files.specs.Taking.{TakesAtMost};
 ghost use Rattle.rh_play.specs.declared.limits.TheConstants.{MAX_TEXT_BYTES};
-ghost use Rattle.rh_play_run.specs.Beginning.{workers_in};
-ghost use Rattle.rh_play_run.specs.Run.{IsPlayed, IsUnplayed, Runs};
+ghost use Rattle.rh_play_run.specs.Beginning.{IsBlank, workers_in};
+ghost use Rattle.rh_play_run.specs.Run.{IsPlayed, IsUnplayed, Runs, SaysGoodPlay};
 
-use crate::beginning::{begin, cells_in};
+use crate::beginning::{begin, cells_in, blank_cells};
 use crate::ending::{closing_lines, made_cells, write_parts};
 use crate::fault::PlayRunFault;
 use crate::orders::Size;
@@ -43,6 +43,8 @@ pub fn run_play<R: Read, W: Write>(
 ) -> Result<(), PlayRunFault>
     ensures runs { Runs (R.remaining (inner_of reader.old)) (W.contents (inner_of writer.old))
         (W.contents (inner_of writer.new)) result }
+    ensures memory { IsErrOf result PlayRunFault.Memory →
+        (reader.new ≡ reader.old) ⊎ SaysGoodPlay (R.remaining (inner_of reader.old)) }
     ensures untouched { IfErr result (λ fault. fault ≢ PlayRunFault.Write →
         writer.new ≡ writer.old) }
     ensures taken { TakesAtMost (R.remaining (inner_of reader.old))
@@ -55,8 +57,9 @@ pub fn run_play<R: Read, W: Write>(
         Rose (failures_of writer.old) (failures_of writer.new) }
     ensures written { OnOk result (failures_of writer.new ≡ failures_of writer.old) }
 {
+    let blank = blank_cells(alloc)?;
     let play = read_play(alloc, reader)?;
-    let played = perform(alloc, &play)?;
+    let played = perform(alloc, blank, &play)?;
     write_parts(
         writer,
         &played.body,
@@ -67,8 +70,9 @@ pub fn run_play<R: Read, W: Write>(
     Ok(())
 }
 
-/// Runs a play.
-fn perform(alloc: Global, play: &Play) -> Result<Played, PlayRunFault>
+/// Runs a play, whose table is made of blank cells.
+fn perform(alloc: Global, blank: Vec<u64>, play: &Play) -> Result<Played, PlayRunFault>
+    requires { IsBlank blank.items }
     ensures played { IfOk result (λ played. IsPlayed play.now (played.body.items
         ++ (dump_text played.bits played.cells.items ++ played.closing.items))) }
     ensures layout { IfOk result (λ played. IsLayout played.bits played.cells.items) }
@@ -79,7 +83,7 @@ fn perform(alloc: Global, play: &Play) -> Result<Played, PlayRunFault>
         workers: workers_of(play),
         cells: cells_in(bits),
     };
-    let mut player = begin(alloc, play)?;
+    let mut player = begin(alloc, blank, play)?;
     let mut body = Vec::new(alloc);
     follow(&mut player, size, &play.schedule, &mut body)?;
     let cells = made_cells(alloc, &player, size.cells)?;
