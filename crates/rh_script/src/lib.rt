@@ -4,6 +4,7 @@
 mod command;
 mod fault;
 mod given;
+mod laws;
 mod limits;
 mod name;
 mod planning;
@@ -13,6 +14,7 @@ mod task;
 mod verb;
 
 pub use fault::{ScriptFault, ScriptFaultKind};
+pub use laws::fixed_numbers;
 pub use limits::{MAX_LINE_BYTES, MAX_LINES, MAX_NAME_BYTES};
 pub use planning::plan;
 pub use reading::parse;
