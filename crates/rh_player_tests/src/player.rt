@@ -115,6 +115,23 @@ fn a_shared_start_is_refused_by_its_first_fault(rt: HostRuntime) -> Result<(), F
     Ok(())
 }
 
+const FAULT_TEXTS: &[(PlayFault, &str)] = &[
+    (PlayFault::NotALayout, "cells are not a layout"),
+    (PlayFault::NoRoom, "no room"),
+    (PlayFault::BadWorkers, "bad number of workers"),
+    (PlayFault::BadKey, "key out of range"),
+    (PlayFault::Memory, "out of memory"),
+];
+
+#[test]
+fn faults_have_their_texts(rt: HostRuntime) -> Result<(), Fail> {
+    for &(fault, text) in FAULT_TEXTS {
+        let told = format!(in rt.alloc(); "{fault}")?;
+        assert_eq!(rt; told.as_str(), text);
+    }
+    Ok(())
+}
+
 #[test]
 fn one_worker_adds_a_key_in_seventeen_turns(rt: HostRuntime) -> Result<(), Fail> {
     let mut player = player(&rt, &NO_KEYS, Kind::Insert, &[&[9, 9]])?;
