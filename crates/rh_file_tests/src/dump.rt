@@ -267,3 +267,16 @@ fn a_removal_is_dumped(rt: HostRuntime) -> Result<(), Fail> {
     }
     Ok(())
 }
+
+#[test]
+fn faults_of_a_dump_can_be_printed(rt: HostRuntime) -> Result<(), Fail> {
+    for (fault, text) in [
+        (DumpFault::Keys(KeyFault::Short), "key file ends early"),
+        (DumpFault::TooLarge, "table too large"),
+        (DumpFault::Memory, "out of memory"),
+        (DumpFault::Write, "cannot write the output"),
+    ] {
+        assert_eq!(rt; format!(in rt.alloc(); "{fault}")?.as_str(), text);
+    }
+    Ok(())
+}
