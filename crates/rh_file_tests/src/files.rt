@@ -7,7 +7,7 @@ use std::process::Abort;
 use std::test::*;
 
 // The keys 17, 1 and 9.
-const THREE_KEYS: [u8; 36] =
+pub(crate) const THREE_KEYS: [u8; 36] =
     *b"RHK1\0\0\0\0\0\0\0\x03\0\0\0\0\0\0\0\x11\0\0\0\0\0\0\0\x01\0\0\0\0\0\0\0\x09";
 
 fn all_keys(alloc: Global, bytes: &[u8]) -> Result<Vec<u64>, KeyFault> {

@@ -6,4 +6,6 @@
 #[cfg(test)]
 mod dump;
 #[cfg(test)]
+mod failures;
+#[cfg(test)]
 mod files;

@@ -7,7 +7,7 @@ ghost use Rattle.rhset.specs.declared.script.TheConstants.{MAX_BYTES};
 use crate::input::open;
 use crate::status::Fault;
 use rh_cli::{ProgramFault, buffered_writer, write_out};
-use rh_files::Counted;
+use rh_files::{Counted, fill};
 use rh_phase::Threads;
 use rh_planner::run;
 use rh_runner::{Runner, Single};
@@ -15,12 +15,15 @@ use rh_script::{MAX_LINE_BYTES, MAX_LINES, parse};
 use rh_shelf::FileShelf;
 use std::alloc::Global;
 use std::fs::Files;
-use std::io::{self, ErrorKind, Read};
+use std::io::{self, Read};
 use std::sync::Wait;
 use std::thread;
 
 // A script of more bytes has a faulty line within these: one too many, or one that is too long.
-const MAX_BYTES: u64 = MAX_LINES * (MAX_LINE_BYTES as u64 + 1) + 1;
+const MAX_BYTES: usize = MAX_LINES as usize * (MAX_LINE_BYTES + 1) + 1;
+
+// How many bytes are read at once.
+const PART_BYTES: usize = 8_192;
 
 /// Carries out the script at the path by so many workers, and writes its report to standard output.
 pub fn run_script(
@@ -58,18 +61,25 @@ fn script_text(rt: &(impl Files + AllocGlobal), path: &str) -> Result<Vec<u8>, F
     front_of(rt.alloc(), open(rt, path)?)
 }
 
-// The bytes that a reader has, or the first `MAX_BYTES` of them.
+// The bytes that a reader has, or the first `MAX_BYTES` of them. Any failure of the reader ends it, an
+// interruption too.
 fn front_of<R: Read + Drop>(alloc: Global, reader: R) -> Result<Vec<u8>, Fault>
     ensures front { IfOk result (λ text. IfSome (R.remaining reader)
         (λ bytes. text.items ≡ take MAX_BYTES bytes)) }
     ensures fault { IfErr result (λ fault. (fault ≡ Fault.Program ProgramFault.Memory) ⊎ (fault ≡ Fault.Read)) }
 {
+    let mut reader = Counted::new(reader);
     let mut text = Vec::new(alloc);
-    match reader.take(MAX_BYTES).read_to_end(&mut text) {
-        Ok(_) => Ok(text),
-        Err(error) => Err(match error.kind() {
-            ErrorKind::OutOfMemory => Fault::Program(ProgramFault::Memory),
-            _ => Fault::Read,
-        }),
+    let mut part = [0; PART_BYTES];
+    while text.len() < MAX_BYTES {
+        let many = (MAX_BYTES - text.len()).min(PART_BYTES);
+        let Some(n) = fill(&mut reader, &mut part[..many]) else {
+            return Err(Fault::Read);
+        };
+        text.extend_from_slice(&part[..n])?;
+        if n < many {
+            return Ok(text);
+        }
     }
+    Ok(text)
 }
