@@ -2,6 +2,7 @@ use rh_commands::*;
 use rh_edit::SeqSet;
 use rh_faulty::{FaultyReader, FaultyWriter, Refusal};
 use rh_files::{Counted, KeyFault, write_dump};
+use rh_grow::grow;
 use rh_layout::is_layout;
 use std::alloc::{AllocError, Global};
 use std::io::Read;
@@ -265,6 +266,20 @@ fn a_removal_is_dumped(rt: HostRuntime) -> Result<(), Fail> {
             "without {removed}"
         );
     }
+    Ok(())
+}
+
+// At 4 bits 9 and 17 have home 8, and 1 has home 9.
+#[test]
+fn a_grown_table_is_dumped(rt: HostRuntime) -> Result<(), Fail> {
+    let set = SeqSet::from_keys(rt.alloc(), 3, &[17, 1, 9])?;
+    assert!(rt; set.bits() == 3 && set.len() < 8);
+    let cells = grow(rt.alloc(), 3, set.cells(), 4)?;
+    assert!(rt; is_layout(4, &cells));
+    let mut writer = Counted::new(Vec::new(rt.alloc()));
+    write_dump(4, &cells, &mut writer)?;
+    let text = b"table 4 3\n8 9 0\n9 17 1\n10 1 1\nend\n";
+    assert_eq!(rt; writer.into_inner().as_slice(), text.as_slice());
     Ok(())
 }
 

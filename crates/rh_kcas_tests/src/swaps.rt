@@ -23,8 +23,14 @@ fn two_entries_the_same_again_and_a_third(rt: HostRuntime) -> Result<(), Fail> {
     assert_eq!(rt; value(&rt, &table, &mut seat, 5), Some(2));
     let again = swap(&rt, &table, &mut seat, &both);
     assert_eq!(rt; again, Outcome::Failed { entry: 0 });
-    let third = swap(&rt, &table, &mut seat, &[change(0, 0, 2)]);
-    assert_eq!(rt; third, Outcome::Spent);
+    let five = [
+        change(0, 0, 2),
+        change(1, 0, 2),
+        change(2, 0, 2),
+        change(3, 0, 2),
+        change(6, 0, 2),
+    ];
+    assert_eq!(rt; swap(&rt, &table, &mut seat, &five), Outcome::Spent);
     assert_eq!(rt; close_one(table, seat), [0, 0, 0, 0, 10, 2, 0, 0]);
     Ok(())
 }

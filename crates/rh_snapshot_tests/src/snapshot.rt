@@ -213,6 +213,23 @@ fn each_bit_changed(rt: HostRuntime) {
     }
 }
 
+// The byte of bits is 3. With one bit of it changed it says a larger table, for which there are too few
+// cells, at 7 and 11, and no table at all else.
+#[test]
+fn the_byte_of_bits_is_changed(rt: HostRuntime) {
+    for whole in [FIRST, SECOND] {
+        for bit in 0..8u32 {
+            let mut bytes = whole;
+            bytes[4] ^= 1 << bit;
+            let fault = match bytes[4] {
+                7 | 11 => SnapFault::Short,
+                _ => SnapFault::BadBits,
+            };
+            assert_refused(&rt, &bytes, fault);
+        }
+    }
+}
+
 #[test]
 fn each_read_fails(rt: HostRuntime) {
     for whole in [FIRST, SECOND] {

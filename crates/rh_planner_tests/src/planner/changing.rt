@@ -89,6 +89,19 @@ fn a_list_that_changes(rt: HostRuntime) -> Result<(), Fail> {
     Ok(())
 }
 
+#[test]
+fn a_long_list_that_changes(rt: HostRuntime) -> Result<(), Fail> {
+    let mut file = Vec::new(rt.alloc());
+    file.extend_from_slice(b"RHK2\0\0\0\0\0\0\x27\x10")?;
+    for key in 0..10_000u64 {
+        file.extend_from_slice(&key.to_be_bytes())?;
+    }
+    let cause = Cause::Changed;
+    let end = RunFault { line: 2, cause };
+    let files = [file.as_slice(), FIVE];
+    ends_at(&rt, &files, "use k k.keys\nadd k\n", "use k 10000\n", end)
+}
+
 // The key 5 is held. The files of the first reading and of the second, and how they end: more
 // places that are found, fewer, another count, or a fault.
 const KEPT: &[(&[u8], &[u8], Cause)] = &[

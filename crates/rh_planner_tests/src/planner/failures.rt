@@ -80,6 +80,15 @@ const SCRIPTS: &[(&str, &[&str], &[(u64, Asked)])] = &[
             (5, Asked::Snapshot),
         ],
     ),
+    (
+        "snapshot s\nrestore s\ndump\n",
+        &[
+            "snapshot s held 0 bits 3\n",
+            "restore s held 0 bits 3\n",
+            "table 3 0\nend\n",
+        ],
+        &[(1, Asked::Put), (2, Asked::Snapshot)],
+    ),
 ];
 
 // How a script ends over a shelf that fails so, at this line by this cause.
@@ -176,7 +185,7 @@ fn each_write_fails(rt: HostRuntime) -> Result<(), Fail> {
             }
         }
         // Each line is some writes, and the last ones of these meet none.
-        assert!(rt; failed > 20 && failed < 150, "{failed}");
+        assert!(rt; failed > 10 && failed < 150, "{failed}");
     }
     Ok(())
 }
