@@ -70,14 +70,16 @@ fn front_of<R: Read + Drop>(alloc: Global, reader: R) -> Result<Vec<u8>, Fault>
 {
     let mut reader = Counted::new(reader);
     let mut text = Vec::new(alloc);
-    let mut part = [0; PART_BYTES];
+    let mut room = [0; PART_BYTES];
     while text.len() < MAX_BYTES {
-        let many = (MAX_BYTES - text.len()).min(PART_BYTES);
-        let Some(n) = fill(&mut reader, &mut part[..many]) else {
+        let part = &mut room[..(MAX_BYTES - text.len()).min(PART_BYTES)];
+        let Some(n) = fill(&mut reader, part) else {
             return Err(Fault::Read);
         };
-        text.extend_from_slice(&part[..n])?;
-        if n < many {
+        let Ok(()) = text.extend_from_slice(&part[..n]) else {
+            return Err(Fault::Program(ProgramFault::Memory));
+        };
+        if n < part.len() {
             return Ok(text);
         }
     }
