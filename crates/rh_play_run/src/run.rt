@@ -9,7 +9,7 @@ ghost use Rattle.rh_play.specs.declared.limits.TheConstants.{MAX_TEXT_BYTES};
 ghost use Rattle.rh_play_run.specs.Beginning.{IsBlank, workers_in};
 ghost use Rattle.rh_play_run.specs.Run.{IsPlayed, IsUnplayed, Runs, SaysGoodPlay};
 
-use crate::beginning::{begin, cells_in, blank_cells};
+use crate::beginning::{begin, blank_cells, cells_in};
 use crate::ending::{closing_lines, made_cells, write_parts};
 use crate::fault::PlayRunFault;
 use crate::orders::Size;
