@@ -9,12 +9,14 @@ struct Noting<'a> {
 }
 
 impl KeySource for Noting<'_> {
-    ghost use Rattle.std.specs.Prelude.{Some, Ok, length};
+    ghost use Rattle.std.specs.Prelude.{None, Some, Ok, length};
     ghost use Rattle.rh_files.specs.HeldKeys.{rest_of};
 
     ghost coming = { λ list. Some (Ok (rest_of list.keys)) };
 
     ghost left_of = { λ list. length (rest_of list.keys) };
+
+    ghost told_by = { λ _. None };
 
     fn left(&self) -> u64 {
         self.keys.left()
