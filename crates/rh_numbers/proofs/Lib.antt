@@ -2,6 +2,7 @@
 -- its first fault.
 -- SoFar: what is so of a line of which the reader has come so far.
 -- Parts: a text that is read in parts.
+-- Taken: how much of a text is taken up to its first fault.
 -- Meaning: what is read is a text of its keys.
 -- Spelling: a text of keys is read to them.
 -- Faults: the first faulty line gives the fault.
@@ -9,6 +10,7 @@
 
 pub mod Lines
 pub mod Parts
+pub mod Taken
 pub mod SoFar
 pub mod Meaning
 pub mod Spelling

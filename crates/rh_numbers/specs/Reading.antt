@@ -1,6 +1,7 @@
 -- Reading a text of numbers from left to right, byte by byte, up to its first fault.
 use Rattle.std.specs.Prelude.{◌≡◌, ℕ, ◌+◌, ◌-◌, ◌*◌, ◌≤◌, min, ◌==◌, nat_lt, nat_le, if◌then◌else◌, List, [], ◌∷◌, ◌++◌, length, Option, Some, None, Result, Ok, Err}
 use Rattle.std.specs.Char.{is_ascii_digit}
+use Rattle.std.specs.Io.KnownBytes.{Consumes}
 use Rattle.rh_layout.specs.declared.limits.TheConstants.{MAX_KEY}
 use Rattle.rh_files.specs.declared.parts.TheConstants.{MAX_KEYS}
 use Rattle.rh_numbers.specs.declared.fault.TextFault.{TextFault}
@@ -8,7 +9,7 @@ use Rattle.rh_numbers.specs.declared.fault.TextFault.TheVariants as faults
 use Rattle.rh_numbers.specs.declared.fault.TextFault.TheVariants.{NotAKey, OutOfRange, TooMany, TooLong}
 use Rattle.rh_numbers.specs.declared.line_so_far.LineSoFar.{LineSoFar}
 use Rattle.rh_numbers.specs.declared.line_so_far.LineSoFar.TheVariants.{Start, Blank, Comment, Number, After, Return, Other}
-use Rattle.rh_numbers.specs.declared.limits.TheConstants.{MAX_BYTES}
+use Rattle.rh_numbers.specs.declared.limits.TheConstants.{MAX_BYTES, PART_BYTES}
 use Rattle.rh_numbers.specs.Grammar.{IsKeyText}
 
 -- ---- a line
@@ -101,3 +102,16 @@ abbrev pub IsReadFrom : Option (List ℕ) → Option (List ℕ) → List ℕ →
 IsReadFrom None new keys = Unit {0}
 IsReadFrom (Some bytes) None keys = ⊥
 IsReadFrom (Some bytes) (Some rest) keys = IsKeyText bytes keys × (rest ≡ [])
+
+-- Reading goes on after these bytes, whatever comes: they hold no fault.
+abbrev pub HoldNoFault : List ℕ → Type 0
+HoldNoFault bytes =
+    (keys : List ℕ) × (line : ℕ) × (so_far : LineSoFar) × ((rest : List ℕ) → text_keys (bytes ++ rest) ≡ keys_from keys line so_far rest)
+
+-- Of the bytes that were taken those before the last part hold no fault.
+pub record TakesToFault (old new : Option (List ℕ)) : Type 0 where
+  pub before : List ℕ
+  pub last : List ℕ
+  pub taken : Consumes old new (before ++ last)
+  pub short : length last ≤ PART_BYTES
+  pub no_fault : HoldNoFault before

@@ -1,10 +1,10 @@
 //! A whole text of numbers.
 
-ghost use Rattle.std.specs.Prelude.{◌≡◌, ◌≢◌, ◌≤◌, length, All, Err, IfOk, IsErrOf};
+ghost use Rattle.std.specs.Prelude.{◌≡◌, ◌≢◌, ◌≤◌, length, All, Err, IfOk, IsErrOf, OnErr};
 ghost use Rattle.rh_layout.specs.Key.{IsKey};
 ghost use Rattle.rh_files.specs.declared.parts.TheConstants.{MAX_KEYS};
 ghost use Rattle.rh_files.specs.Counting.{Rose, failures_of, inner_of};
-ghost use Rattle.rh_numbers.specs.Reading.{IsReadFrom, Reads};
+ghost use Rattle.rh_numbers.specs.Reading.{IsReadFrom, Reads, TakesToFault};
 
 use crate::fault::TextFault;
 use crate::limits::{MAX_PARTS, PART_BYTES};
@@ -22,6 +22,8 @@ pub fn read_numbers<R: Read>(alloc: Global, reader: &mut Counted<R>) -> Result<V
         (R.remaining (inner_of reader.old)) (R.remaining (inner_of reader.new)) v.items) }
     ensures in_range { IfOk result (λ v. All IsKey v.items) }
     ensures few { IfOk result (λ v. length v.items ≤ MAX_KEYS) }
+    ensures takes { OnErr result (TakesToFault (R.remaining (inner_of reader.old))
+        (R.remaining (inner_of reader.new))) }
     ensures read { IsErrOf result TextFault.Read →
         Rose (failures_of reader.old) (failures_of reader.new) }
     ensures fine { result ≢ Err TextFault.Read → failures_of reader.new ≡ failures_of reader.old }

@@ -2,6 +2,7 @@
 
 ghost use Rattle.std.specs.Prelude.{◌≡◌, ◌≢◌, Err, IfErr, IsErrOf, OnOk};
 ghost use Rattle.rh_files.specs.Counting.{Rose, failures_of, inner_of};
+ghost use Rattle.rh_numbers.specs.Reading.{TakesToFault};
 ghost use Rattle.rh_packing.specs.Pack.{Packs};
 
 use rh_files::{Counted, WriteFault, write_keys};
@@ -55,6 +56,8 @@ pub fn pack<R: Read, W: Write>(
     ensures packed { Packs (R.remaining (inner_of reader.old)) (R.remaining (inner_of reader.new))
         (W.contents (inner_of writer.old)) (W.contents (inner_of writer.new)) result }
     ensures untouched { IfErr result (λ fault. fault ≢ PackFault.Write → writer.new ≡ writer.old) }
+    ensures takes { IfErr result (λ fault. fault ≢ PackFault.Write →
+        TakesToFault (R.remaining (inner_of reader.old)) (R.remaining (inner_of reader.new))) }
     ensures read { IsErrOf result (PackFault.Text TextFault.Read) →
         Rose (failures_of reader.old) (failures_of reader.new) }
     ensures write { IsErrOf result PackFault.Write →
