@@ -1,6 +1,6 @@
 //! The command `list`: a key file becomes a text of numbers.
 
-ghost use Rattle.std.specs.Prelude.{◌≡◌, ◌≢◌, Err, IfErr, IsErrOf, OnOk};
+ghost use Rattle.std.specs.Prelude.{◌≡◌, ◌≢◌, IfErr, IsErrOf, OnOk};
 ghost use Rattle.rh_files.specs.Counting.{Rose, failures_of, inner_of};
 ghost use Rattle.rh_files.specs.Reading.{BeginsWithHeader};
 ghost use Rattle.rh_files.specs.Taking.{TakesAtMost};

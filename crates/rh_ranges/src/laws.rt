@@ -1,8 +1,7 @@
 //! Laws of ranges. They do nothing when they run.
 
-ghost use Rattle.std.specs.Prelude.{◌≡◌, ◌≢◌, ◌<◌, ◌≤◌, ℕ, true, List};
+ghost use Rattle.std.specs.Prelude.{◌≡◌, ◌<◌, ◌≤◌, ℕ, List};
 ghost use Rattle.std.specs.List.{Contains};
-ghost use Rattle.std.specs.FinSet as set;
 ghost use Rattle.rh_edit.specs.Rising.{rising_keys};
 ghost use Rattle.rh_layout.specs.Key.{IsKey};
 ghost use Rattle.rh_layout.specs.Layout.{Keys};
