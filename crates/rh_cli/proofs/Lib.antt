@@ -7,10 +7,13 @@
 -- ValueLemmas: what clap took for an argument whose action is `Set`: a text that its parser accepts, read as the parser says.
 -- ReadLemmas: what the getters of clap's matches read.
 -- PathLemmas: what clap found for a command that takes a path is what a line needs.
+-- DrawLemmas: what clap found for `draw` is what a line needs.
 -- RunLemmas: what clap found for `run` is what a line needs.
+-- SplitLemmas: what clap found for `split` is what a line needs.
 
 pub mod BuilderLemmas
 pub mod CommandLemmas
+pub mod DrawLemmas
 pub mod FlagLemmas
 pub mod HelpLemmas
 pub mod KeysLemmas
@@ -19,4 +22,5 @@ pub mod ReadLemmas
 pub mod RowLemmas
 pub mod RunLemmas
 pub mod SetLemmas
+pub mod SplitLemmas
 pub mod ValueLemmas

@@ -2,7 +2,8 @@
 use Rattle.std.proofs.Common.{inl, is_some, List, [], codes, refl, ap}
 use Rattle.clap.specs.Walk.{Rule, Text, rows_after}
 use Rattle.clap.specs.Simple.{App, Shape, built_leaf, filled, inherited, with_index, with_leaf_noted}
-use Rattle.rh_cli.specs.SetLine.{HasText, check_app, path_rule, play_app, rhset_app}
+use Rattle.rh_cli.specs.SetLine.{check_app, play_app, rhset_app, trace_app}
+use Rattle.rh_cli.specs.Words.{HasText, path_rule}
 use Rattle.rh_cli.proofs.RowLemmas.{IsIn, required_row}
 use Rattle.rh_cli.proofs.ValueLemmas.{EachIs, Passes, rows_fit, value_of}
 
@@ -23,6 +24,10 @@ path_found id s words within alone passes =
 pub play_arguments : (words : List Text) → Passes (command_built play_app) words → HasText (codes "file") (rows_after (command_built play_app).rules [] words)
 play_arguments words passes =
     path_found (codes "file") (command_built play_app) words (inl refl) (λ same. refl, (λ same. absurd cc, tt)) passes
+
+pub trace_arguments : (words : List Text) → Passes (command_built trace_app) words → HasText (codes "file") (rows_after (command_built trace_app).rules [] words)
+trace_arguments words passes =
+    path_found (codes "file") (command_built trace_app) words (inl refl) (λ same. refl, (λ same. absurd cc, tt)) passes
 
 pub check_arguments : (words : List Text) → Passes (command_built check_app) words → HasText (codes "snapshot") (rows_after (command_built check_app).rules [] words)
 check_arguments words passes =

@@ -4,7 +4,8 @@ use Rattle.clap.specs.Walk.{Rule, Text, rows_after}
 use Rattle.clap.specs.Simple.{Shape, built_leaf, filled, inherited, with_index, with_leaf_noted}
 use Rattle.clap.specs.declared.builder.value_parser.ValueParser.TheVariants.{Unsigned}
 use Rattle.clap.proofs.ValueTestLemmas.{accepts-Accepts}
-use Rattle.rh_cli.specs.SetLine.{HasRunArguments, path_rule, rhset_app, run_app, workers_rule}
+use Rattle.rh_cli.specs.SetLine.{HasRunArguments, rhset_app, run_app, workers_rule}
+use Rattle.rh_cli.specs.Words.{path_rule}
 use Rattle.rh_cli.specs.declared.limits.TheConstants.{MAX_WORKERS}
 use Rattle.rh_cli.proofs.RowLemmas.{default_row, required_row}
 use Rattle.rh_cli.proofs.ValueLemmas.{Passes, rows_fit, value_of}

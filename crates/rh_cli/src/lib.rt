@@ -11,7 +11,7 @@ mod status;
 mod streams;
 
 pub use fault::LineFault;
-pub use limits::MAX_WORKERS;
+pub use limits::{MAX_PARTS, MAX_WORKERS};
 pub use program::{answer, words};
 pub use status::{ProgramFault, Status};
 pub use streams::{buffered_reader, buffered_writer, write_out};

@@ -2,3 +2,12 @@
 
 /// The most workers that `run` takes.
 pub const MAX_WORKERS: usize = 16;
+
+/// The most steps that `draw` draws.
+pub const MAX_DRAWN: usize = 2_000;
+
+/// The greatest number of a step that `draw` may begin with.
+pub const MAX_FROM: usize = (1 << 63) - 1;
+
+/// The most parts that `split` makes.
+pub const MAX_PARTS: usize = 1_000;

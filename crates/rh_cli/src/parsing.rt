@@ -1,14 +1,16 @@
 //! What the two command lines have alike: the program before its commands, and reading the words.
 
-ghost use Rattle.std.specs.Prelude.{◌≡◌, [], IfOk, IfErr, IsOkAnd, true};
+ghost use Rattle.std.specs.Prelude.{◌≡◌, [], map, IfOk, IfErr, IsOkAnd, false, true};
 ghost use Rattle.clap.specs.Simple.{new_app};
-ghost use Rattle.clap.specs.Words.{AddsSubcommand, app_of, fault_of, is_simple_and_free};
+ghost use Rattle.clap.specs.Words.{AddsSubcommand, app_of, fault_of, found_of, is_simple_and_free};
+ghost use Rattle.clap.specs.Words.{rows_of, rule_of};
 ghost use Rattle.clap.specs.Words.{subcommand_of, subcommand_rows_of};
 ghost use Rattle.rh_cli.specs.Faults.{IsOneOf};
-ghost use Rattle.rh_cli.specs.Words.{program_app, texts_of};
+ghost use Rattle.rh_cli.specs.Words.{Gives, GivesAll, GivesNumber, HasNumber, HasText, path_rule, program_app};
+ghost use Rattle.rh_cli.specs.Words.{texts_of};
 
 use crate::fault::LineFault;
-use clap::{ArgMatches, Command};
+use clap::{Arg, ArgAction, ArgMatches, Command};
 use std::alloc::{AllocError, Global};
 
 const VERSION: &str = "0.1.0";
@@ -68,4 +70,53 @@ pub fn parsed<'a>(command: Command<'a>, words: &'a [String]) -> Result<ArgMatche
         IsOneOf (fault_of (app_of command.entry) (texts_of words.now)) f) }
 {
     Ok(command.try_get_matches_from(words)?)
+}
+
+/// The text for an argument that has to be given.
+pub fn text(alloc: Global, given: &ArgMatches<'_>, id: &str) -> Result<String, AllocError>
+    requires { HasText id.now (rows_of (found_of given.now)) }
+    ensures { IfOk result (λ t. Gives id.now (rows_of (found_of given.now)) t) }
+{
+    String::from_str(alloc, given.get_str(id).unwrap())
+}
+
+/// The texts for an argument that may be given any number of times, in their order.
+pub fn texts(alloc: Global, given: &ArgMatches<'_>, id: &str) -> Result<Vec<String>, AllocError>
+    ensures { IfOk result (λ ts. GivesAll id.now (rows_of (found_of given.now)) ts.items) }
+{
+    match given.get_strs(id) {
+        Some(texts) => copied(alloc, texts),
+        None => Ok(Vec::new(alloc)),
+    }
+}
+
+fn copied(alloc: Global, texts: &[&str]) -> Result<Vec<String>, AllocError>
+    ensures { IfOk result (λ ts. texts_of ts.items ≡ map (λ t. t.now) texts.now) }
+{
+    let mut copies = Vec::new(alloc);
+    for text in texts {
+        copies.push(String::from_str(alloc, text)?)?;
+    }
+    Ok(copies)
+}
+
+/// The number for an argument that always has one within these bounds.
+pub fn number(given: &ArgMatches<'_>, id: &str, least: usize, most: usize) -> usize
+    requires { HasNumber id.now least most (rows_of (found_of given.now)) }
+    ensures { GivesNumber id.now least most (rows_of (found_of given.now)) result }
+{
+    let _ = (least, most);
+    given.get_one(id).unwrap()
+}
+
+/// An argument that has to be given, such as a path, and may be any text.
+pub fn text_arg<'a>(alloc: Global, id: &'a str, name: &'a str, help: &'a str) -> Arg<'a>
+    ensures rule { rule_of result ≡ path_rule id.now }
+    ensures local { result.global ≡ false }
+{
+    Arg::new(alloc, id)
+        .value_name(name)
+        .required(true)
+        .action(ArgAction::Set)
+        .help(help)
 }

@@ -20,17 +20,110 @@ fn is_mistake(alloc: Global, words: &[&str]) -> Result<bool, Fail> {
     }
 }
 
-const COMMANDS: &[(&[&str], Line)] = &[
-    (&["pack"], Line::Pack),
-    (&["list"], Line::List { snapshot: false }),
-    (&["list", "--snapshot"], Line::List { snapshot: true }),
+// Whether words that are `pack` or `list` ask for a listing, and whether for one of a snapshot.
+fn listing_of(alloc: Global, words: &[&str]) -> Result<Option<(bool, bool)>, Fail> {
+    Ok(match line_of(alloc, words)? {
+        Ok(line) => match line {
+            Line::Pack => Some((false, false)),
+            Line::List { snapshot, .. } => Some((true, snapshot)),
+            Line::Split { .. } => None,
+        },
+        Err(_fault) => None,
+    })
+}
+
+// The files that are to be listed, of words that are `list`.
+fn files_of(alloc: Global, words: &[&str]) -> Result<Option<Vec<String>>, Fail> {
+    Ok(match line_of(alloc, words)? {
+        Ok(Line::List { files, .. }) => Some(files),
+        Ok(_) | Err(_) => None,
+    })
+}
+
+// The number of parts, the flags `--key-file` and `--plan` and the name, of words that are `split`.
+fn split_of(alloc: Global, words: &[&str]) -> Result<Option<(usize, bool, bool, String)>, Fail> {
+    Ok(match line_of(alloc, words)? {
+        Ok(line) => match line {
+            Line::Split {
+                parts,
+                key_file,
+                plan,
+                name,
+            } => Some((parts, key_file, plan, name)),
+            Line::Pack | Line::List { .. } => None,
+        },
+        Err(_fault) => None,
+    })
+}
+
+const LISTINGS: &[(&[&str], (bool, bool))] = &[
+    (&["pack"], (false, false)),
+    (&["list"], (true, false)),
+    (&["list", "--snapshot"], (true, true)),
+    (&["list", "a"], (true, false)),
+    (&["list", "a", "--snapshot", "b"], (true, true)),
 ];
 
 #[test]
 fn words_are_commands(rt: HostRuntime) -> Result<(), Fail> {
-    for &(words, command) in COMMANDS {
-        let asked = line_of(rt.alloc(), words)?.map_err(|_| "refused")?;
-        assert_eq!(rt; asked, command, "{words:?}");
+    for &(words, listing) in LISTINGS {
+        assert_eq!(rt; listing_of(rt.alloc(), words)?, Some(listing), "{words:?}");
+    }
+    Ok(())
+}
+
+const FILES: &[(&[&str], &[&str])] = &[
+    (&["list"], &[]),
+    (&["list", "a.keys"], &["a.keys"]),
+    (&["list", "b", "--snapshot", "a", "b"], &["b", "a", "b"]),
+    (&["list", "--", "--snapshot", ""], &["--snapshot", ""]),
+];
+
+#[test]
+fn files_are_listed_in_their_order(rt: HostRuntime) -> Result<(), Fail> {
+    for &(words, expected) in FILES {
+        let Some(files) = files_of(rt.alloc(), words)? else {
+            return Err("refused".into());
+        };
+        assert_eq!(rt; files.len(), expected.len(), "{words:?}");
+        for (file, name) in files.iter().zip(expected) {
+            assert_eq!(rt; file.as_str(), *name, "{words:?}");
+        }
+    }
+    Ok(())
+}
+
+type Split = (usize, bool, bool, &'static str);
+
+const SPLITS: &[(&[&str], Split)] = &[
+    (
+        &["split", "--parts", "2", "spring"],
+        (2, false, false, "spring"),
+    ),
+    (&["split", "--parts=1000", "a"], (1000, false, false, "a")),
+    (&["split", "a", "--parts", "+64"], (64, false, false, "a")),
+    (
+        &["split", "--key-file", "--parts", "3", "a"],
+        (3, true, false, "a"),
+    ),
+    (
+        &["split", "--plan", "--parts", "3", "a"],
+        (3, false, true, "a"),
+    ),
+    (
+        &["split", "--plan", "--key-file", "--parts", "3", "--", "--a"],
+        (3, true, true, "--a"),
+    ),
+    (&["split", "--parts", "2", ""], (2, false, false, "")),
+];
+
+#[test]
+fn words_are_splits(rt: HostRuntime) -> Result<(), Fail> {
+    for &(words, split) in SPLITS {
+        let Some((parts, key_file, plan, name)) = split_of(rt.alloc(), words)? else {
+            return Err("refused".into());
+        };
+        assert_eq!(rt; (parts, key_file, plan, name.as_str()), split, "{words:?}");
     }
     Ok(())
 }
@@ -40,12 +133,20 @@ const MISTAKES: &[&[&str]] = &[
     &["unpack"],
     &["pack", "extra"],
     &["pack", "--snapshot"],
-    &["list", "extra"],
-    &["list", "--snapshot", "extra"],
+    &["list", "--keys"],
     &["list", "--snapshot=true"],
     &["list", "--snapshot", "--snapshot"],
     &["--snapshot"],
     &["--snapshot", "list"],
+    &["split"],
+    &["split", "a"],
+    &["split", "--parts", "2"],
+    &["split", "--parts", "1", "a"],
+    &["split", "--parts", "1001", "a"],
+    &["split", "--parts", "two", "a"],
+    &["split", "--parts", "2", "a", "b"],
+    &["split", "--parts", "2", "--parts", "3", "a"],
+    &["split", "--parts", "2", "--snapshot", "a"],
 ];
 
 #[test]
@@ -64,6 +165,8 @@ const HELP: &[&[&str]] = &[
     &["help", "list"],
     &["list", "-h"],
     &["list", "--snapshot", "--help"],
+    &["help", "split"],
+    &["split", "--help"],
     &["--version"],
 ];
 

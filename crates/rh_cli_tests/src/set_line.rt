@@ -17,7 +17,11 @@ fn run_of(alloc: Global, words: &[&str]) -> Result<Option<(usize, String)>, Fail
     Ok(match line_of(alloc, words)? {
         Ok(line) => match line {
             Line::Run { workers, script } => Some((workers, script)),
-            Line::Dump | Line::Play { .. } | Line::Check { .. } => None,
+            Line::Dump
+            | Line::Play { .. }
+            | Line::Trace { .. }
+            | Line::Draw { .. }
+            | Line::Check { .. } => None,
         },
         Err(_fault) => None,
     })
@@ -28,7 +32,41 @@ fn play_of(alloc: Global, words: &[&str]) -> Result<Option<String>, Fail> {
     Ok(match line_of(alloc, words)? {
         Ok(line) => match line {
             Line::Play { file } => Some(file),
-            Line::Dump | Line::Run { .. } | Line::Check { .. } => None,
+            Line::Dump
+            | Line::Run { .. }
+            | Line::Trace { .. }
+            | Line::Draw { .. }
+            | Line::Check { .. } => None,
+        },
+        Err(_fault) => None,
+    })
+}
+
+// The file, of words that are `trace`.
+fn trace_of(alloc: Global, words: &[&str]) -> Result<Option<String>, Fail> {
+    Ok(match line_of(alloc, words)? {
+        Ok(line) => match line {
+            Line::Trace { file } => Some(file),
+            Line::Dump
+            | Line::Run { .. }
+            | Line::Play { .. }
+            | Line::Draw { .. }
+            | Line::Check { .. } => None,
+        },
+        Err(_fault) => None,
+    })
+}
+
+// The first step, the number of steps and the file, of words that are `draw`.
+fn draw_of(alloc: Global, words: &[&str]) -> Result<Option<(usize, usize, String)>, Fail> {
+    Ok(match line_of(alloc, words)? {
+        Ok(line) => match line {
+            Line::Draw { from, steps, file } => Some((from, steps, file)),
+            Line::Dump
+            | Line::Run { .. }
+            | Line::Play { .. }
+            | Line::Trace { .. }
+            | Line::Check { .. } => None,
         },
         Err(_fault) => None,
     })
@@ -39,7 +77,11 @@ fn check_of(alloc: Global, words: &[&str]) -> Result<Option<String>, Fail> {
     Ok(match line_of(alloc, words)? {
         Ok(line) => match line {
             Line::Check { snapshot } => Some(snapshot),
-            Line::Dump | Line::Run { .. } | Line::Play { .. } => None,
+            Line::Dump
+            | Line::Run { .. }
+            | Line::Play { .. }
+            | Line::Trace { .. }
+            | Line::Draw { .. } => None,
         },
         Err(_fault) => None,
     })
@@ -111,6 +153,45 @@ fn play_is_a_command(rt: HostRuntime) -> Result<(), Fail> {
     for &(words, name) in PLAYS {
         let file = play_of(rt.alloc(), words)?.ok_or("no play")?;
         assert!(rt; file.as_str() == name, "{words:?}");
+    }
+    Ok(())
+}
+
+const TRACES: &[(&[&str], &str)] = &[
+    (&["trace", "f"], "f"),
+    (&["trace", "--", "-f"], "-f"),
+    (&["trace", "trace"], "trace"),
+];
+
+#[test]
+fn trace_is_a_command(rt: HostRuntime) -> Result<(), Fail> {
+    for &(words, name) in TRACES {
+        let file = trace_of(rt.alloc(), words)?.ok_or("no trace")?;
+        assert!(rt; file.as_str() == name, "{words:?}");
+    }
+    Ok(())
+}
+
+const DRAWS: &[(&[&str], usize, usize)] = &[
+    (&["draw", "f"], 1, 0),
+    (&["draw", "--from", "7", "f"], 7, 0),
+    (&["draw", "f", "--steps=2000", "--from=007"], 7, 2_000),
+];
+
+#[test]
+fn draw_is_a_command(rt: HostRuntime) -> Result<(), Fail> {
+    for &(words, first, count) in DRAWS {
+        let (from, steps, file) = draw_of(rt.alloc(), words)?.ok_or("no drawing")?;
+        assert!(rt;
+            from == first && steps == count && file.as_str() == "f",
+            "{words:?}"
+        );
+    }
+    for words in [
+        &["draw", "--from", "0", "f"],
+        &["draw", "--steps", "2001", "f"],
+    ] {
+        assert!(rt; draw_of(rt.alloc(), words)?.is_none(), "{words:?}");
     }
     Ok(())
 }

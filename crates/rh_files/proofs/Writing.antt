@@ -11,7 +11,7 @@ use Rattle.std.specs.Borrow.{Bor}
 use Rattle.byteorder.specs.Endian.{big_bytes}
 use Rattle.rh_layout.specs.Key.{is_full, cell_of}
 use Rattle.rh_files.specs.declared.version.Version.TheVariants.{Second}
-use Rattle.rh_files.specs.KeyFile.{eight_bytes, spelled_keys, spelling}
+use Rattle.rh_files.specs.KeyFile.{eight_bytes, header, spelled_keys, spelling}
 use Rattle.rh_files.specs.Dump.{cell_text, line_of, lines_from, head_of, dump_text}
 
 take_past : (xs ys : List ℕ) (n : ℕ) → take (length xs + n) (xs ++ ys) ≡ xs ++ take n ys
@@ -58,19 +58,19 @@ joined-split texts i d lt = split_at_place (λ text. text.now) texts i d lt
 
 -- ---- key files
 
-head_then : (head count keys : List ℕ) → (head ++ (count ++ [])) ++ keys ≡ head ++ (count ++ keys)
-head_then head count keys = append_assoc head (count ++ []) keys ∙ ap (λ l. head ++ (l ++ keys)) (append-nil count)
+pub header_written : {X E : Type 0} (a b : Option (List ℕ)) (n : ℕ) (count : List ℕ) (r : Result X E) → count ≡ eight_bytes n → Writes a b (codes "RHK2" ++ (count ++ [])) r → Writes a b (header Second n) r
+header_written a b n count r is written = subst (λ t. Writes a b t r) (ap (λ l. codes "RHK2" ++ l) (append-nil count ∙ is)) written
 
-spelled_from_head : (keys count : List ℕ) → count ≡ eight_bytes (length keys) → (codes "RHK2" ++ (count ++ [])) ++ spelled_keys keys ≡ spelling Second keys
-spelled_from_head keys count is = head_then (codes "RHK2") count (spelled_keys keys) ∙ ap (λ b. codes "RHK2" ++ (b ++ spelled_keys keys)) is
+spelled_from_header : (keys : List ℕ) → header Second (length keys) ++ spelled_keys keys ≡ spelling Second keys
+spelled_from_header keys = append_assoc (codes "RHK2") (eight_bytes (length keys)) (spelled_keys keys)
 
-pub file_written : {X E : Type 0} (a b c : Option (List ℕ)) (keys count : List ℕ) (r : Result X E) → count ≡ eight_bytes (length keys) → Appends a b (codes "RHK2" ++ (count ++ [])) → Writes b c (spelled_keys keys) r → Writes a c (spelling Second keys) r
-file_written a b c keys count r is head rest =
-    subst (λ t. Writes a c t r) (spelled_from_head keys count is) (Writes-then a b c (codes "RHK2" ++ (count ++ [])) (spelled_keys keys) r head rest)
+pub file_written : {X E : Type 0} (a b c : Option (List ℕ)) (keys : List ℕ) (r : Result X E) → Appends a b (header Second (length keys)) → Writes b c (spelled_keys keys) r → Writes a c (spelling Second keys) r
+file_written a b c keys r head rest =
+    subst (λ t. Writes a c t r) (spelled_from_header keys) (Writes-then a b c (header Second (length keys)) (spelled_keys keys) r head rest)
 
-pub file_stops : (a b : Option (List ℕ)) (keys count : List ℕ) → count ≡ eight_bytes (length keys) → AppendsFront a b (codes "RHK2" ++ (count ++ [])) → AppendsFront a b (spelling Second keys)
-file_stops a b keys count is head =
-    subst (AppendsFront a b) (spelled_from_head keys count is) (front_longer a b (codes "RHK2" ++ (count ++ [])) (spelled_keys keys) head)
+pub file_stops : (a b : Option (List ℕ)) (keys : List ℕ) → AppendsFront a b (header Second (length keys)) → AppendsFront a b (spelling Second keys)
+file_stops a b keys head =
+    subst (AppendsFront a b) (spelled_from_header keys) (front_longer a b (header Second (length keys)) (spelled_keys keys) head)
 
 pub key_stops : (a b c : Option (List ℕ)) (keys : List ℕ) (i : ℕ) (key : List ℕ) → i < length keys → key ≡ eight_bytes (get_or keys i 0) → Appends a b (spelled_keys (take i keys)) → AppendsFront b c key → AppendsFront a c (spelled_keys keys)
 key_stops a b c keys i key inside is before front =

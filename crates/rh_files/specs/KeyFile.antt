@@ -27,6 +27,10 @@ eight_bytes n = to_be_bytes w64 n
 abbrev pub spelled_keys : List ℕ → List ℕ
 spelled_keys keys = flat_map eight_bytes keys
 
+-- what stands before the keys, where there are so many
+abbrev pub header : Version → ℕ → List ℕ
+header version count = magic version ++ eight_bytes count
+
 -- the one spelling of these keys in this version
 abbrev pub spelling : Version → List ℕ → List ℕ
 spelling version keys = magic version ++ (eight_bytes (length keys) ++ spelled_keys keys)

@@ -3,7 +3,7 @@
 ghost use Rattle.std.specs.Prelude.{◌≡◌, ◌≤◌, All, OnErr, OnOk, length};
 ghost use Rattle.rh_layout.specs.Key.{IsKey};
 ghost use Rattle.rh_files.specs.Counting.{Rose, Writes, failures_of, inner_of};
-ghost use Rattle.rh_files.specs.KeyFile.{spelled_keys, spelling};
+ghost use Rattle.rh_files.specs.KeyFile.{header, spelled_keys, spelling};
 ghost use Rattle.rh_files.specs.declared.parts.TheConstants.{MAX_KEYS};
 ghost use Rattle.rh_files.specs.declared.version.Version.TheVariants.{Second};
 
@@ -24,10 +24,21 @@ pub fn write_keys<W: Write>(keys: &[u64], writer: &mut Counted<W>) -> Result<(),
     ensures failed { OnErr result (Rose (failures_of writer.old) (failures_of writer.new)) }
     ensures fine { OnOk result (failures_of writer.new ≡ failures_of writer.old) }
 {
-    let mut count = [0; 8];
-    BigEndian::write_u64(&mut count, keys.len() as u64);
-    write_texts(writer, &[b"RHK2", &count])?;
+    write_header(keys.len() as u64, writer)?;
     put_keys(keys, writer)
+}
+
+/// Writes what stands before the keys of a key file of the second version that has so many: 12 bytes
+/// in two writes.
+pub fn write_header<W: Write>(count: u64, writer: &mut Counted<W>) -> Result<(), WriteFault>
+    ensures text { Writes (W.contents (inner_of writer.old)) (W.contents (inner_of writer.new))
+        (header Second count) result }
+    ensures failed { OnErr result (Rose (failures_of writer.old) (failures_of writer.new)) }
+    ensures fine { OnOk result (failures_of writer.new ≡ failures_of writer.old) }
+{
+    let mut eight = [0; 8];
+    BigEndian::write_u64(&mut eight, count);
+    write_texts(writer, &[b"RHK2", &eight])
 }
 
 fn put_keys<W: Write>(keys: &[u64], writer: &mut Counted<W>) -> Result<(), WriteFault>

@@ -21,7 +21,7 @@ pub use batch::PART_KEYS;
 pub use bytes::{fill, write_texts};
 pub use counted::Counted;
 pub use dump::write_dump;
-pub use encoding::write_keys;
+pub use encoding::{write_header, write_keys};
 pub use fault::{KeyFault, WriteFault};
 pub use held_keys::HeldKeys;
 pub use keys::read_keys;

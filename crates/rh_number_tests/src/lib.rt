@@ -4,6 +4,10 @@
 #![tactic(auto)]
 
 #[cfg(test)]
+mod files;
+#[cfg(test)]
 mod numbers;
 #[cfg(test)]
 mod packing;
+#[cfg(test)]
+mod splitting;

@@ -1,7 +1,7 @@
 -- The first faulty line gives the fault.
-use Rattle.std.proofs.Common.{◌≡◌, ℕ, suc, ◌+◌, ◌<◌, ◌≤◌, List, [], ◌∷◌, ◌++◌, length, Some, None, Err, inl, inr, refl, sym, ap, subst, ◌∙◌, arith, append_assoc, append-nil}
+use Rattle.std.proofs.Common.{◌≡◌, ℕ, suc, ◌+◌, ◌<◌, ◌≤◌, List, [], ◌∷◌, ◌++◌, length, Some, None, Err, inl, inr, refl, sym, ap, subst, ◌∙◌, arith, append_assoc, append-nil, length-append}
 use Rattle.std.specs.Prelude.{All}
-use Rattle.std.proofs.lemmas.Bool.{le-leb, le-ltb, lt-ltb}
+use Rattle.std.proofs.lemmas.Bool.{le-ltb, lt-ltb}
 use Rattle.rh_layout.specs.Key.{IsKey}
 use Rattle.rh_layout.specs.declared.limits.TheConstants.{MAX_KEY}
 use Rattle.rh_files.specs.declared.parts.TheConstants.{MAX_KEYS}
@@ -10,37 +10,40 @@ use Rattle.rh_numbers.specs.declared.fault.TextFault.TheVariants.{NotAKey, OutOf
 use Rattle.rh_numbers.specs.declared.line_so_far.LineSoFar.{LineSoFar}
 use Rattle.rh_numbers.specs.declared.line_so_far.LineSoFar.TheVariants.{Start, Blank, Comment, Number, After, Return, Other}
 use Rattle.rh_numbers.specs.Grammar.{AreWholeLines, ComesTo, EndsLine, Says, blank, comment, none, number, one_more}
-use Rattle.rh_numbers.specs.Reading.{◌>>=◌, keys_from, text_keys, with_key, with_line}
+use Rattle.rh_numbers.specs.Reading.{◌>>=◌, said_from, text_keys, text_said, with_key, with_line}
 use Rattle.rh_numbers.proofs.SoFar.{Means, capped, means_after, no_spaces}
+use Rattle.rh_numbers.proofs.Fronts.{Begins, begins, the_fault, too_many_said}
 use Rattle.rh_numbers.proofs.Meaning.{says_number}
-use Rattle.rh_numbers.proofs.Spelling.{All-parts, after, at_end, at_feed, front_few, line_said, number_at, walk}
+use Rattle.rh_numbers.proofs.Spelling.{All-parts, after, at_end, at_feed, line_said, number_at, walk}
 
 -- whole lines, whatever comes after them
-past_lines : (keys : List ℕ) (at : ℕ) (front numbers : List ℕ) (count : ℕ) (rest : List ℕ) → AreWholeLines front numbers count → length (keys ++ numbers) ≤ MAX_KEYS → All IsKey numbers
-    → keys_from keys at Start (front ++ rest) ≡ keys_from (keys ++ numbers) (at + count) Start rest
-past_lines keys at front numbers count rest none few fit =
+past_lines : (keys : List ℕ) (at : ℕ) (front numbers : List ℕ) (count : ℕ) (rest : List ℕ) → AreWholeLines front numbers count → All IsKey numbers
+    → said_from keys at Start (front ++ rest) ≡ said_from (keys ++ numbers) (at + count) Start rest
+past_lines keys at front numbers count rest none fit =
     let here : at + 0 ≡ at = omega arith in
-    ap (λ k. keys_from k at Start rest) (sym (append-nil keys)) ∙ ap (λ n. keys_from (keys ++ []) n Start rest) (sym here)
-past_lines keys at front numbers count rest (one_more line said text others before one says lines) few fit =
+    ap (λ k. said_from k at Start rest) (sym (append-nil keys)) ∙ ap (λ n. said_from (keys ++ []) n Start rest) (sym here)
+past_lines keys at front numbers count rest (one_more line said text others before one says lines) fit =
     let fits = All-parts IsKey said others fit in
     let next_at : at + 1 + before ≡ at + suc before = omega arith in
-    ap (keys_from keys at Start) (append_assoc line (10 ∷ text) rest) ∙ walk keys at Start line (10 ∷ (text ++ rest)) one ∙ at_feed keys at (after Start line) (text ++ rest)
-    ∙ ap (λ r. r >>= (λ later. keys_from later (at + 1) Start (text ++ rest))) (line_said keys at line said says (front_few keys said others few) fits.0)
-    ∙ past_lines (keys ++ said) (at + 1) text others before rest lines (subst (λ l. length l ≤ MAX_KEYS) (sym (append_assoc keys said others)) few) fits.1
-    ∙ ap (λ k. keys_from k (at + 1 + before) Start rest) (append_assoc keys said others) ∙ ap (λ n. keys_from (keys ++ (said ++ others)) n Start rest) next_at
+    ap (said_from keys at Start) (append_assoc line (10 ∷ text) rest) ∙ walk keys at Start line (10 ∷ (text ++ rest)) one ∙ at_feed keys at (after Start line) (text ++ rest)
+    ∙ ap (λ r. r >>= (λ later. said_from later (at + 1) Start (text ++ rest))) (line_said keys at line said says fits.0)
+    ∙ past_lines (keys ++ said) (at + 1) text others before rest lines fits.1
+    ∙ ap (λ k. said_from k (at + 1 + before) Start rest) (append_assoc keys said others) ∙ ap (λ n. said_from (keys ++ (said ++ others)) n Start rest) next_at
 
-line_stops : (keys : List ℕ) (at : ℕ) (so_far : LineSoFar) (rest : List ℕ) (e : TextFault) → EndsLine rest → with_line keys at so_far ≡ Err e → keys_from keys at so_far rest ≡ Err e
-line_stops keys at so_far rest e (inl end) h = ap (keys_from keys at so_far) end ∙ at_end keys at so_far ∙ h
-line_stops keys at so_far rest e (inr feed) h = ap (keys_from keys at so_far) feed.1 ∙ at_feed keys at so_far feed.0 ∙ ap (λ r. r >>= (λ later. keys_from later (at + 1) Start feed.0)) h
+line_stops : (keys : List ℕ) (at : ℕ) (so_far : LineSoFar) (rest : List ℕ) (e : TextFault) → EndsLine rest → with_line keys at so_far ≡ (keys, Some e) → said_from keys at so_far rest ≡ (keys, Some e)
+line_stops keys at so_far rest e (inl end) h = ap (said_from keys at so_far) end ∙ at_end keys at so_far ∙ h
+line_stops keys at so_far rest e (inr feed) h = ap (said_from keys at so_far) feed.1 ∙ at_feed keys at so_far feed.0 ∙ ap (λ r. r >>= (λ later. said_from later (at + 1) Start feed.0)) h
 
-text_stops : (text keys : List ℕ) (at : ℕ) (line : List ℕ) (e : TextFault) → ComesTo text keys at line → with_line keys at (after Start line) ≡ Err e → text_keys text ≡ Err e
-text_stops text keys at line e to h =
-    ap text_keys to.split ∙ past_lines [] 1 to.front keys to.before (line ++ to.rest) to.lines to.few to.in_range
-    ∙ ap (λ n. keys_from keys n Start (line ++ to.rest)) (sym to.counted) ∙ walk keys at Start line to.rest to.one
-    ∙ line_stops keys at (after Start line) to.rest e to.ends h
+comes_to_line : (text keys : List ℕ) (at : ℕ) (line : List ℕ) → (to : ComesTo text keys at line) → text_said text ≡ said_from keys at (after Start line) to.rest
+comes_to_line text keys at line to =
+    ap text_said to.split ∙ past_lines [] 1 to.front keys to.before (line ++ to.rest) to.lines to.in_range
+    ∙ ap (λ n. said_from keys n Start (line ++ to.rest)) (sym to.counted) ∙ walk keys at Start line to.rest to.one
+
+text_stops : (text keys : List ℕ) (at : ℕ) (line : List ℕ) (e : TextFault) → ComesTo text keys at line → with_line keys at (after Start line) ≡ (keys, Some e) → text_said text ≡ (keys, Some e)
+text_stops text keys at line e to h = comes_to_line text keys at line to ∙ line_stops keys at (after Start line) to.rest e to.ends h
 
 -- a line that says nothing the grammar knows
-no_key : (keys : List ℕ) (at : ℕ) (so_far : LineSoFar) (line : List ℕ) → Means so_far line → ((numbers : List ℕ) → Says line numbers → ⊥) → with_line keys at so_far ≡ Err (NotAKey at)
+no_key : (keys : List ℕ) (at : ℕ) (so_far : LineSoFar) (line : List ℕ) → Means so_far line → ((numbers : List ℕ) → Says line numbers → ⊥) → with_line keys at so_far ≡ (keys, Some (NotAKey at))
 no_key keys at Start line told not = absurd (not [] (subst (λ l. Says l []) (sym told) (blank [] [] tt (inl refl))))
 no_key keys at Blank line told not = absurd (not [] (subst (λ l. Says l []) (append-nil line) (blank line [] told (inl refl))))
 no_key keys at Comment line told not = absurd (not [] (subst (λ l. Says l []) (sym told.1) (comment told.0)))
@@ -53,15 +56,31 @@ no_key keys at Other line told not = refl
 number_in : (keys : List ℕ) (at : ℕ) (line : List ℕ) (n : ℕ) → Says line (n ∷ []) → with_line keys at (after Start line) ≡ with_key keys at (capped n)
 number_in keys at line n (number before digits spaces return are is after_are ends) = number_at keys at before digits spaces return are is after_are ends
 
-pub not_a_key : (text keys : List ℕ) (at : ℕ) (line : List ℕ) → ComesTo text keys at line → ((numbers : List ℕ) → Says line numbers → ⊥) → text_keys text ≡ Err (NotAKey at)
-not_a_key text keys at line to not =
+pub not_a_key_said : (text keys : List ℕ) (at : ℕ) (line : List ℕ) → ComesTo text keys at line → ((numbers : List ℕ) → Says line numbers → ⊥) → text_said text ≡ (keys, Some (NotAKey at))
+not_a_key_said text keys at line to not =
     text_stops text keys at line (NotAKey at) to (no_key keys at (after Start line) line (means_after Start [] line refl) not)
 
-pub out_of_range : (text keys : List ℕ) (at : ℕ) (line : List ℕ) (n : ℕ) → ComesTo text keys at line → Says line (n ∷ []) → MAX_KEY < n → text_keys text ≡ Err (OutOfRange at)
-out_of_range text keys at line n to says large =
+pub out_of_range_said : (text keys : List ℕ) (at : ℕ) (line : List ℕ) (n : ℕ) → ComesTo text keys at line → Says line (n ∷ []) → MAX_KEY < n → text_said text ≡ (keys, Some (OutOfRange at))
+out_of_range_said text keys at line n to says large =
     text_stops text keys at line (OutOfRange at) to (number_in keys at line n says ∙ rw (lt-ltb MAX_KEY (capped n) (omega (arith, large))) refl)
+
+pub not_a_key : (text keys : List ℕ) (at : ℕ) (line : List ℕ) → ComesTo text keys at line → length keys ≤ MAX_KEYS → ((numbers : List ℕ) → Says line numbers → ⊥) → text_keys text ≡ Err (NotAKey at)
+not_a_key text keys at line to few not = the_fault (text_said text) keys (NotAKey at) (not_a_key_said text keys at line to not) few
+
+pub out_of_range : (text keys : List ℕ) (at : ℕ) (line : List ℕ) (n : ℕ) → ComesTo text keys at line → length keys ≤ MAX_KEYS → Says line (n ∷ []) → MAX_KEY < n → text_keys text ≡ Err (OutOfRange at)
+out_of_range text keys at line n to few says large = the_fault (text_said text) keys (OutOfRange at) (out_of_range_said text keys at line n to says large) few
+
+-- a line that says a key, and what comes after it
+line_goes_on : (keys : List ℕ) (at : ℕ) (so_far : LineSoFar) (rest more : List ℕ) → EndsLine rest → with_line keys at so_far ≡ (more, None) → Begins more (said_from keys at so_far rest)
+line_goes_on keys at so_far rest more (inl end) h = subst (Begins more) (sym (ap (said_from keys at so_far) end ∙ at_end keys at so_far ∙ h)) ([], sym (append-nil more))
+line_goes_on keys at so_far rest more (inr feed) h =
+    subst (Begins more) (sym (ap (said_from keys at so_far) feed.1 ∙ at_feed keys at so_far feed.0 ∙ ap (λ r. r >>= (λ later. said_from later (at + 1) Start feed.0)) h))
+    (begins more (at + 1) Start feed.0)
 
 pub too_many : (text keys : List ℕ) (at : ℕ) (line : List ℕ) (n : ℕ) → ComesTo text keys at line → Says line (n ∷ []) → n ≤ MAX_KEY → length keys ≡ MAX_KEYS → text_keys text ≡ Err TooMany
 too_many text keys at line n to says small many =
-    text_stops text keys at line TooMany to
-    (number_in keys at line n says ∙ rw (le-ltb MAX_KEY (capped n) (omega (arith, small)), le-leb MAX_KEYS (length keys) (omega (arith, many))) refl)
+    let key : capped n ≡ n = omega (arith, small) in
+    let is : with_line keys at (after Start line) ≡ (keys ++ (capped n ∷ []), None) = number_in keys at line n says ∙ rw (le-ltb MAX_KEY (capped n) (omega (arith, small))) refl in
+    too_many_said (text_said text) (keys ++ (capped n ∷ []))
+    (subst (Begins (keys ++ (capped n ∷ []))) (sym (comes_to_line text keys at line to)) (line_goes_on keys at (after Start line) to.rest (keys ++ (capped n ∷ [])) to.ends is))
+    (omega (arith, many, length-append keys (capped n ∷ [])))

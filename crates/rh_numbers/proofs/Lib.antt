@@ -1,6 +1,7 @@
 -- A text is read part by part, and each part byte by byte; the proofs join the parts to the text, and tell its keys or
 -- its first fault.
 -- SoFar: what is so of a line of which the reader has come so far.
+-- Fronts: the keys that were read come first among those that are said.
 -- Parts: a text that is read in parts.
 -- Taken: how much of a text is taken up to its first fault.
 -- Meaning: what is read is a text of its keys.
@@ -9,6 +10,7 @@
 -- Lines: numbers written one after another.
 
 pub mod Lines
+pub mod Fronts
 pub mod Parts
 pub mod Taken
 pub mod SoFar

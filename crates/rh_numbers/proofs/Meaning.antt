@@ -1,17 +1,18 @@
 -- What is read is a text of its keys.
-use Rattle.std.proofs.Common.{◌≡◌, ◌≢◌, ℕ, ◌+◌, ◌<◌, ◌≤◌, List, [], ◌∷◌, ◌++◌, length, Option, Some, None, Result, Ok, Err, inl, inr, refl, sym, ap, subst, ◌∙◌, arith, append_assoc, append-nil, length-append}
-use Rattle.std.specs.Prelude.{All, IfOk, nat_eq, nat_lt, nat_le}
+use Rattle.std.proofs.Common.{◌≡◌, ◌≢◌, ℕ, ◌+◌, ◌≤◌, List, [], ◌∷◌, ◌++◌, length, Option, Some, None, Result, Ok, Err, inl, inr, refl, sym, ap, subst, ◌∙◌, arith, append_assoc, append-nil}
+use Rattle.std.specs.Prelude.{All, IfOk, nat_eq, nat_lt}
 use Rattle.std.specs.Str.Parse.{digits_value}
-use Rattle.std.proofs.lemmas.Bool.{cases_Bool, eqb-true, eqb-false, ltb-false, leb-false}
+use Rattle.std.proofs.lemmas.Bool.{cases_Bool, eqb-true, eqb-false, ltb-false}
 use Rattle.std.proofs.lemmas.List.Elements.{All-nil, All-cons, All-append}
 use Rattle.rh_layout.specs.Key.{IsKey}
 use Rattle.rh_layout.specs.declared.limits.TheConstants.{MAX_KEY}
 use Rattle.rh_files.specs.declared.parts.TheConstants.{MAX_KEYS}
 use Rattle.rh_numbers.specs.declared.fault.TextFault.{TextFault}
+use Rattle.rh_numbers.specs.declared.fault.TextFault.TheVariants.{NotAKey, OutOfRange, TooMany}
 use Rattle.rh_numbers.specs.declared.line_so_far.LineSoFar.{LineSoFar}
 use Rattle.rh_numbers.specs.declared.line_so_far.LineSoFar.TheVariants.{Start, Blank, Comment, Number, After, Return, Other}
-use Rattle.rh_numbers.specs.Grammar.{AreLines, IsKeyText, IsOneLine, IsReturn, Says, blank, comment, last, more, number}
-use Rattle.rh_numbers.specs.Reading.{◌>>=◌, IsReadFrom, Reads, keys_from, next, text_keys, with_key, with_line}
+use Rattle.rh_numbers.specs.Grammar.{AreLines, IsKeyText, IsOneLine, IsReturn, IsText, Says, blank, comment, last, more, number}
+use Rattle.rh_numbers.specs.Reading.{◌>>=◌, IsReadFrom, Reads, Said, if_no_fault, limited, next, said_from, text_keys, text_said, with_key, with_line}
 use Rattle.rh_numbers.proofs.SoFar.{Means, Numeral, capped, means_next, no_spaces}
 
 -- what a line or a text gave: these keys, after those before
@@ -20,30 +21,28 @@ record Gave (Spells : List ℕ → Type 0) (keys all : List ℕ) : Type 0 where
   spells : Spells given
   whole : all ≡ keys ++ given
   fit : All IsKey given
-  few : length keys ≤ MAX_KEYS → length all ≤ MAX_KEYS
 
-abbrev read_to : List ℕ → Result (List ℕ) TextFault
-read_to keys = Ok keys
+abbrev said_all : List ℕ → Said
+said_all keys = (keys, None)
 
-same_keys : (xs ys : List ℕ) → read_to xs ≡ Ok ys → xs ≡ ys
-same_keys xs ys h = cc
+same_keys : (xs ys : List ℕ) → said_all xs ≡ said_all ys → xs ≡ ys
+same_keys xs ys h = ap (λ s. s.0) h
 
-nothing : (line keys all : List ℕ) → Says line [] → read_to keys ≡ Ok all → Gave (Says line) keys all
+nothing : (line keys all : List ℕ) → Says line [] → said_all keys ≡ said_all all → Gave (Says line) keys all
 nothing line keys all says h =
     let same = same_keys keys all h in
-    record { given = []; spells = says; whole = sym same ∙ sym (append-nil keys); fit = All-nil IsKey; few = λ few. subst (λ l. length l ≤ MAX_KEYS) same few }
+    record { given = []; spells = says; whole = sym same ∙ sym (append-nil keys); fit = All-nil IsKey }
+
+-- a fault is none
+no_fault : (keys : List ℕ) (e : TextFault) (all : List ℕ) → (keys, Some e) ≡ said_all all → ⊥
+no_fault keys e all h = let bad = ap (λ s. s.1) h in cc
 
 -- a number that was taken is a key
-taken : (keys : List ℕ) (line n : ℕ) (all : List ℕ) → with_key keys line n ≡ Ok all → (n ≤ MAX_KEY) × (length keys < MAX_KEYS) × (all ≡ keys ++ (n ∷ []))
+taken : (keys : List ℕ) (line n : ℕ) (all : List ℕ) → with_key keys line n ≡ said_all all → (n ≤ MAX_KEY) × (all ≡ keys ++ (n ∷ []))
 taken keys line n all h =
     elim (cases_Bool (nat_lt MAX_KEY n)) [
-      | inl t ↦ absurd (let bad = rw t at h in cc)
-      | inr f ↦
-          let h' = rw f at h in
-          elim (cases_Bool (nat_le MAX_KEYS (length keys))) [
-            | inl t ↦ absurd (let bad = rw t at h' in cc)
-            | inr g ↦ (ltb-false MAX_KEY n f, leb-false MAX_KEYS (length keys) g, sym (same_keys _ all (rw g at h')))
-          ]
+      | inl t ↦ absurd (no_fault keys (OutOfRange line) all (rw t at h))
+      | inr f ↦ (ltb-false MAX_KEY n f, sym (same_keys _ all (rw f at h)))
     ]
 
 -- the number that a line says, of any size
@@ -59,12 +58,12 @@ says_key n line return m ends small =
     let value : s.0 ≡ n = omega (arith, s.1) in
     subst (λ v. Says (line ++ return) (v ∷ [])) value s.2
 
-a_number : (keys : List ℕ) (at n : ℕ) (line all : List ℕ) → (n ≤ MAX_KEY → Says line (n ∷ [])) → with_key keys at n ≡ Ok all → Gave (Says line) keys all
+a_number : (keys : List ℕ) (at n : ℕ) (line all : List ℕ) → (n ≤ MAX_KEY → Says line (n ∷ [])) → with_key keys at n ≡ said_all all → Gave (Says line) keys all
 a_number keys at n line all says h =
     let t = taken keys at n all h in
-    record { given = n ∷ []; spells = says t.0; whole = t.2; fit = All-cons IsKey n [] t.0 (All-nil IsKey); few = λ few. subst (λ l. length l ≤ MAX_KEYS) (sym t.2) (omega (arith, length-append keys (n ∷ []), t.1)) }
+    record { given = n ∷ []; spells = says t.0; whole = t.1; fit = All-cons IsKey n [] t.0 (All-nil IsKey) }
 
-ended : (keys : List ℕ) (at : ℕ) (so_far : LineSoFar) (line all : List ℕ) → Means so_far line → with_line keys at so_far ≡ Ok all → Gave (Says line) keys all
+ended : (keys : List ℕ) (at : ℕ) (so_far : LineSoFar) (line all : List ℕ) → Means so_far line → with_line keys at so_far ≡ said_all all → Gave (Says line) keys all
 ended keys at Start line all told h = nothing line keys all (subst (λ l. Says l []) (sym told) (blank [] [] tt (inl refl))) h
 ended keys at Blank line all told h = nothing line keys all (subst (λ l. Says l []) (append-nil line) (blank line [] told (inl refl))) h
 ended keys at Comment line all told h = nothing line keys all (subst (λ l. Says l []) (sym told.1) (comment told.0)) h
@@ -72,27 +71,27 @@ ended keys at (Number n) line all told h = a_number keys at n line all (λ small
 ended keys at (After n) line all told h = a_number keys at n line all (λ small. subst (λ l. Says l (n ∷ [])) (append-nil line) (says_key n line [] told (inl refl) small)) h
 ended keys at (Return None) line all told h = nothing line keys all (subst (λ l. Says l []) (sym told.1) (blank told.0 (13 ∷ []) told.2 (inr refl))) h
 ended keys at (Return (Some n)) line all told h = a_number keys at n line all (λ small. subst (λ l. Says l (n ∷ [])) (sym told.1) (says_key n told.0 (13 ∷ []) told.2 (inr refl) small)) h
-ended keys at Other line all told h = absurd cc
+ended keys at Other line all told h = absurd (no_fault keys (NotAKey at) all h)
 
-then_ok : {A B : Type 0} (r : Result A TextFault) (f : A → Result B TextFault) (y : B) → (r >>= f) ≡ Ok y → (x : A) × (r ≡ Ok x) × (f x ≡ Ok y)
-then_ok (Ok x) f y h = (x, refl, h)
-then_ok (Err e) f y h = absurd cc
+then_all : (said : Said) (f : List ℕ → Said) (all : List ℕ) → (said >>= f) ≡ said_all all → (keys : List ℕ) × (said ≡ said_all keys) × (f keys ≡ said_all all)
+then_all (keys, None) f all h = (keys, refl, h)
+then_all (keys, Some e) f all h = absurd (no_fault keys e all h)
 
 one_line_push : (line : List ℕ) (b : ℕ) → IsOneLine line → b ≢ 10 → IsOneLine (line ++ (b ∷ []))
 one_line_push [] b one not = (not, tt)
 one_line_push (x ∷ line) b one not = (one.0, one_line_push line b one.1 not)
 
 -- the lines from here on, with what stands before in the first one
-lines_read : (keys : List ℕ) (at : ℕ) (so_far : LineSoFar) (line bytes all : List ℕ) → IsOneLine line → Means so_far line → keys_from keys at so_far bytes ≡ Ok all
+lines_read : (keys : List ℕ) (at : ℕ) (so_far : LineSoFar) (line bytes all : List ℕ) → IsOneLine line → Means so_far line → said_from keys at so_far bytes ≡ said_all all
     → Gave (AreLines (line ++ bytes)) keys all
-unfolding keys_from
+unfolding said_from
 lines_read keys at so_far line [] all one told h =
     let g = ended keys at so_far line all told h in
-    record { given = g.given; spells = subst (λ l. AreLines l g.given) (sym (append-nil line)) (last line g.given one g.spells); whole = g.whole; fit = g.fit; few = g.few }
+    record { given = g.given; spells = subst (λ l. AreLines l g.given) (sym (append-nil line)) (last line g.given one g.spells); whole = g.whole; fit = g.fit }
 lines_read keys at so_far line (b ∷ bytes) all one told h =
     elim (cases_Bool (nat_eq b 10)) [
       | inl t ↦
-          let s = then_ok (with_line keys at so_far) (λ later. keys_from later (at + 1) Start bytes) all (rw t at h) in
+          let s = then_all (with_line keys at so_far) (λ later. said_from later (at + 1) Start bytes) all (rw t at h) in
           let g = ended keys at so_far line s.0 told s.1 in
           let k = lines_read s.0 (at + 1) Start [] bytes all tt refl s.2 in
           record {
@@ -100,17 +99,43 @@ lines_read keys at so_far line (b ∷ bytes) all one told h =
             spells = subst (λ c. AreLines (line ++ (c ∷ bytes)) (g.given ++ k.given)) (sym (eqb-true b 10 t)) (more line g.given bytes k.given one g.spells k.spells);
             whole = k.whole ∙ ap (λ l. l ++ k.given) g.whole ∙ append_assoc keys g.given k.given;
             fit = All-append IsKey g.given k.given g.fit k.fit;
-            few = λ few. k.few (g.few few);
           }
       | inr f ↦
           let k = lines_read keys at (next so_far b) (line ++ (b ∷ [])) bytes all (one_line_push line b one (eqb-false b 10 f)) (means_next so_far line b told) (rw f at h) in
-          record { given = k.given; spells = subst (λ l. AreLines l k.given) (append_assoc line (b ∷ []) bytes) k.spells; whole = k.whole; fit = k.fit; few = k.few }
+          record { given = k.given; spells = subst (λ l. AreLines l k.given) (append_assoc line (b ∷ []) bytes) k.spells; whole = k.whole; fit = k.fit }
     ]
+
+pub any_text_read : (text keys : List ℕ) → text_said text ≡ (keys, None) → IsText text keys
+any_text_read text keys h =
+    let g = lines_read [] 1 Start [] text keys tt refl h in
+    record { lines = subst (AreLines text) (sym g.whole) g.spells; in_range = subst (All IsKey) (sym g.whole) g.fit }
+
+abbrev refused : TextFault → Result (List ℕ) TextFault
+refused e = Err e
+
+ok_keys : (xs ys : List ℕ) → if_no_fault xs None ≡ Ok ys → xs ≡ ys
+ok_keys xs ys h = cc
+
+-- of so many keys or fewer all were said, and no fault
+within : (said : Said) (keys : List ℕ) → limited said ≡ Ok keys → (said ≡ said_all keys) × (length keys ≤ MAX_KEYS)
+within said keys h =
+    elim (cases_Bool (nat_lt MAX_KEYS (length said.0))) [
+      | inl t ↦ absurd (too_many_is_no_text keys (rw t at h))
+      | inr f ↦ none_told said keys (ltb-false MAX_KEYS (length said.0) f) (rw f at h)
+    ]
+  where
+    too_many_is_no_text : (keys : List ℕ) → refused TooMany ≡ Ok keys → ⊥
+    too_many_is_no_text keys h = cc
+
+    none_told : (said : Said) (keys : List ℕ) → length said.0 ≤ MAX_KEYS → if_no_fault said.0 said.1 ≡ Ok keys → (said ≡ said_all keys) × (length keys ≤ MAX_KEYS)
+    none_told (given, None) keys few h = let same = ok_keys given keys h in (ap said_all same, subst (λ l. length l ≤ MAX_KEYS) same few)
+    none_told (given, Some e) keys few h = absurd (let bad = h in cc)
 
 pub text_read : (text keys : List ℕ) → text_keys text ≡ Ok keys → IsKeyText text keys
 text_read text keys h =
-    let g = lines_read [] 1 Start [] text keys tt refl h in
-    record { lines = subst (AreLines text) (sym g.whole) g.spells; few = g.few (omega arith); in_range = subst (All IsKey) (sym g.whole) g.fit }
+    let w = within (text_said text) keys h in
+    let t = any_text_read text keys w.0 in
+    record { lines = t.lines; few = w.1; in_range = t.in_range }
 
 -- what a reader's known bytes were read to
 pub read_from : {X : Type 0} (a b : Option (List ℕ)) (view : X → List ℕ) (r : Result X TextFault) → Reads a b view r → IfOk r (λ x. IsReadFrom a b (view x))

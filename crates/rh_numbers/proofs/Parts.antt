@@ -1,13 +1,17 @@
 -- A text that is read in parts.
-use Rattle.std.proofs.Common.{◌≡◌, ℕ, zero, suc, ◌+◌, ◌<◌, ◌≤◌, List, [], ◌∷◌, ◌++◌, length, take, drop, get_or, Option, Some, None, Result, Ok, Err, refl, sym, ap, subst, ◌∙◌, arith, length-append}
-use Rattle.std.specs.Prelude.{MatchResult}
+use Rattle.std.proofs.Common.{◌≡◌, Bool, true, false, ℕ, zero, suc, ◌+◌, ◌<◌, ◌≤◌, List, [], ◌∷◌, ◌++◌, length, take, drop, get_or, Option, Some, None, Result, Ok, Err, refl, sym, ap, subst, ◌∙◌, arith, append-nil, length-append}
+use Rattle.std.specs.Prelude.{MatchOption, ◌≢◌}
 use Rattle.std.specs.Io.KnownBytes.{Consumes, IsAtEnd}
+use Rattle.rh_files.specs.declared.parts.TheConstants.{MAX_KEYS}
 use Rattle.rh_numbers.specs.declared.fault.TextFault.{TextFault}
 use Rattle.rh_numbers.specs.declared.fault.TextFault.TheVariants as faults
 use Rattle.rh_numbers.specs.declared.fault.TextFault.TheVariants.{NotAKey, OutOfRange, TooMany, TooLong}
-use Rattle.rh_numbers.specs.declared.limits.TheConstants.{MAX_BYTES}
+use Rattle.rh_numbers.specs.declared.limits.TheConstants.{MAX_BYTES, PART_BYTES}
 use Rattle.rh_numbers.specs.declared.line_so_far.LineSoFar.{LineSoFar}
-use Rattle.rh_numbers.specs.Reading.{Fails, Reads, Stops, keys_from, text_keys, with_line}
+use Rattle.rh_numbers.specs.declared.reading.Reading.{Reading}
+use Rattle.rh_numbers.specs.Parts.{PartGives, keys_of, said_by}
+use Rattle.rh_numbers.specs.Reading.{Fails, Reads, Said, Stops, said_from, text_said, with_line}
+use Rattle.rh_numbers.proofs.Fronts.{all_said, the_fault, too_many_said}
 
 -- the byte at a position, with what stands before and after it
 pub at_place : (bytes rest : List ℕ) (i : ℕ) → i < length bytes → bytes ++ rest ≡ take i bytes ++ (get_or bytes i 0 ∷ (drop (suc i) bytes ++ rest))
@@ -19,64 +23,107 @@ at_place (b ∷ bytes) rest (suc i) lt = ap (λ l. b ∷ l) (at_place bytes rest
 abbrev pub GoesOn : Option (List ℕ) → Option (List ℕ) → (n : ℕ) (keys : List ℕ) (line : ℕ) → LineSoFar → Type 0
 GoesOn None b n keys line so_far = Unit {0}
 GoesOn (Some bytes) None n keys line so_far = ⊥
-GoesOn (Some bytes) (Some rest) n keys line so_far = (text_keys bytes ≡ keys_from keys line so_far rest) × (length bytes ≡ n + length rest)
+GoesOn (Some bytes) (Some rest) n keys line so_far = (text_said bytes ≡ said_from keys line so_far rest) × (length bytes ≡ n + length rest)
 
-pub begins : (a : Option (List ℕ)) (keys : List ℕ) (line : ℕ) (so_far : LineSoFar) → keys_from keys line so_far ≡ text_keys → GoesOn a a 0 keys line so_far
+pub begins : (a : Option (List ℕ)) (keys : List ℕ) (line : ℕ) (so_far : LineSoFar) → said_from keys line so_far ≡ text_said → GoesOn a a 0 keys line so_far
 begins None keys line so_far same = tt
 begins (Some bytes) keys line so_far same = (ap (λ f. f bytes) (sym same), omega arith)
 
 pub goes_on : (a b c : Option (List ℕ)) (n m : ℕ) (part keys later : List ℕ) (line next : ℕ) (so_far then : LineSoFar) → GoesOn a b n keys line so_far → Consumes b c part → length part ≡ m
-    → ((rest : List ℕ) → keys_from keys line so_far (part ++ rest) ≡ keys_from later next then rest) → GoesOn a c (n + m) later next then
+    → ((rest : List ℕ) → said_from keys line so_far (part ++ rest) ≡ said_from later next then rest) → GoesOn a c (n + m) later next then
 goes_on None b c n m part keys later line next so_far then h read many step = tt
 goes_on (Some bytes) None c n m part keys later line next so_far then h read many step = absurd h
 goes_on (Some bytes) (Some rest) None n m part keys later line next so_far then h read many step = absurd read
 goes_on (Some bytes) (Some rest) (Some more) n m part keys later line next so_far then h read many step =
-    (h.0 ∙ ap (keys_from keys line so_far) read ∙ step more, omega (arith, h.1, ap length read, length-append part more, many))
+    (h.0 ∙ ap (said_from keys line so_far) read ∙ step more, omega (arith, h.1, ap length read, length-append part more, many))
 
-stops : (e : TextFault) (bytes : List ℕ) (said : Result (List ℕ) TextFault) → text_keys bytes ≡ said → Stops e said → Fails e bytes
-stops faults.Memory bytes said is h = tt
-stops faults.Read bytes said is h = absurd h
-stops TooLong bytes said is h = absurd h
-stops (NotAKey line) bytes said is h = is ∙ h
-stops (OutOfRange line) bytes said is h = is ∙ h
-stops TooMany bytes said is h = is ∙ h
+-- ---- one part
 
-pub part_stops : {X : Type 0} (a b c : Option (List ℕ)) (n : ℕ) (part keys : List ℕ) (line : ℕ) (so_far : LineSoFar) (view : X → List ℕ) (e : TextFault) → GoesOn a b n keys line so_far → Consumes b c part
-    → ((rest : List ℕ) → Stops e (keys_from keys line so_far (part ++ rest))) → Reads a c view (Err e)
-part_stops None b c n part keys line so_far view e h read step = tt
-part_stops (Some bytes) None c n part keys line so_far view e h read step = absurd h
-part_stops (Some bytes) (Some rest) None n part keys line so_far view e h read step = absurd read
-part_stops (Some bytes) (Some rest) (Some more) n part keys line so_far view e h read step =
-    stops e bytes (keys_from keys line so_far (part ++ more)) (h.0 ∙ ap (keys_from keys line so_far) read) (step more)
+-- the line ends with the text
+pub part_ends : (part before keys : List ℕ) (line next : ℕ) (so_far then : LineSoFar) → ((rest : List ℕ) → said_from before line so_far (part ++ rest) ≡ said_from keys next then rest)
+    → said_from before line so_far part ≡ with_line keys next then
+unfolding said_from
+part_ends part before keys line next so_far then step = ap (said_from before line so_far) (sym (append-nil part)) ∙ step []
 
--- the text ends here
-ends : {X : Type 0} (a b : Option (List ℕ)) (n : ℕ) (keys : List ℕ) (line : ℕ) (so_far : LineSoFar) (view : X → List ℕ) (x : X) → GoesOn a b n keys line so_far → IsAtEnd b
-    → with_line keys line so_far ≡ Ok (view x) → Reads a b view (Ok x)
-unfolding keys_from
-ends None b n keys line so_far view x h end is = tt
-ends (Some bytes) None n keys line so_far view x h end is = absurd h
-ends (Some bytes) (Some rest) n keys line so_far view x h end is = (h.0 ∙ ap (keys_from keys line so_far) end ∙ is, end)
+pub end_stops : (left : Option (List ℕ)) (part before keys after : List ℕ) (line next : ℕ) (so_far then : LineSoFar) (e : TextFault) → IsAtEnd left
+    → ((rest : List ℕ) → said_from before line so_far (part ++ rest) ≡ said_from keys next then rest) → Stops e after (with_line keys next then)
+    → MatchOption left (Unit {0}) (λ rest. Stops e after (said_from before line so_far (part ++ rest)))
+unfolding said_from
+end_stops None part before keys after line next so_far then e end step stops = tt
+end_stops (Some rest) part before keys after line next so_far then e end step stops =
+    subst (Stops e after) (sym (step rest ∙ ap (said_from keys next then) end)) stops
 
-end_stops : {X : Type 0} (a b : Option (List ℕ)) (n : ℕ) (keys : List ℕ) (line : ℕ) (so_far : LineSoFar) (view : X → List ℕ) (e : TextFault) → GoesOn a b n keys line so_far → IsAtEnd b
-    → Stops e (with_line keys line so_far) → Reads a b view (Err e)
-unfolding keys_from
-end_stops None b n keys line so_far view e h end is = tt
-end_stops (Some bytes) None n keys line so_far view e h end is = absurd h
-end_stops (Some bytes) (Some rest) n keys line so_far view e h end is =
-    stops e bytes (with_line keys line so_far) (h.0 ∙ ap (keys_from keys line so_far) end) is
+pub stops_if_known : (left : Option (List ℕ)) (part before after : List ℕ) (line : ℕ) (so_far : LineSoFar) (e : TextFault)
+    → ((rest : List ℕ) → Stops e after (said_from before line so_far (part ++ rest)))
+    → MatchOption left (Unit {0}) (λ rest. Stops e after (said_from before line so_far (part ++ rest)))
+stops_if_known None part before after line so_far e stops = tt
+stops_if_known (Some rest) part before after line so_far e stops = stops rest
+
+-- what a part gives where the text goes on, and where it ends
+pub whole_part : (part : List ℕ) (left : Option (List ℕ)) (old new : Reading) (on : Bool) → on ≡ true → PartGives part left old new (Ok on)
+    → (length part ≡ PART_BYTES) × ((rest : List ℕ) → said_by old (part ++ rest) ≡ said_by new rest)
+whole_part part left old new true is gives = gives
+whole_part part left old new false is gives = absurd cc
+
+pub last_part : (part : List ℕ) (left : Option (List ℕ)) (old new : Reading) (on : Bool) → on ≡ false → PartGives part left old new (Ok on) → IsAtEnd left × (said_by old part ≡ (keys_of new, None))
+last_part part left old new true is gives = absurd cc
+last_part part left old new false is gives = gives
+
+-- ---- a text of at most a million keys
+
+stops : (e : TextFault) (bytes keys : List ℕ) (said : Said) → text_said bytes ≡ said → length keys ≤ MAX_KEYS → Stops e keys said → Fails e bytes
+stops faults.Memory bytes keys said is few h = tt
+stops faults.Read bytes keys said is few h = absurd h
+stops TooLong bytes keys said is few h = absurd h
+stops (NotAKey line) bytes keys said is few h = the_fault (text_said bytes) keys (NotAKey line) (is ∙ h) few
+stops (OutOfRange line) bytes keys said is few h = the_fault (text_said bytes) keys (OutOfRange line) (is ∙ h) few
+stops TooMany bytes keys said is few (full, key, more, h) =
+    too_many_said (text_said bytes) (keys ++ (key ∷ more)) ([], ap (λ s. s.0) is ∙ h ∙ sym (append-nil (keys ++ (key ∷ more)))) (omega (arith, full, length-append keys (key ∷ more)))
+
+unread : {X : Type 0} (a c : Option (List ℕ)) (view : X → List ℕ) → Reads a c view (Err faults.Read)
+unread None c view = tt
+unread (Some bytes) c view = tt
+
+-- the fault of a part, which is no failed read
+found : {X : Type 0} (a b c : Option (List ℕ)) (n : ℕ) (part keys after : List ℕ) (line : ℕ) (so_far : LineSoFar) (view : X → List ℕ) (e : TextFault) → GoesOn a b n keys line so_far → Consumes b c part
+    → length after ≤ MAX_KEYS → MatchOption c (Unit {0}) (λ rest. Stops e after (said_from keys line so_far (part ++ rest))) → Reads a c view (Err e)
+found None b c n part keys after line so_far view e h read few stop = tt
+found (Some bytes) None c n part keys after line so_far view e h read few stop = absurd h
+found (Some bytes) (Some rest) None n part keys after line so_far view e h read few stop = absurd read
+found (Some bytes) (Some rest) (Some more) n part keys after line so_far view e h read few stop =
+    stops e bytes after (said_from keys line so_far (part ++ more)) (h.0 ∙ ap (said_from keys line so_far) read) few stop
+
+pub refused : {X : Type 0} (a b c : Option (List ℕ)) (n : ℕ) (part keys after : List ℕ) (line : ℕ) (so_far : LineSoFar) (view : X → List ℕ) (e : TextFault) → GoesOn a b n keys line so_far → Consumes b c part
+    → length after ≤ MAX_KEYS → (e ≢ faults.Read → MatchOption c (Unit {0}) (λ rest. Stops e after (said_from keys line so_far (part ++ rest)))) → Reads a c view (Err e)
+refused a b c n part keys after line so_far view faults.Read h read few stop = unread a c view
+refused a b c n part keys after line so_far view faults.Memory h read few stop = found a b c n part keys after line so_far view faults.Memory h read few (stop (λ is. absurd cc))
+refused a b c n part keys after line so_far view TooLong h read few stop = found a b c n part keys after line so_far view TooLong h read few (stop (λ is. absurd cc))
+refused a b c n part keys after line so_far view TooMany h read few stop = found a b c n part keys after line so_far view TooMany h read few (stop (λ is. absurd cc))
+refused a b c n part keys after line so_far view (NotAKey bad) h read few stop = found a b c n part keys after line so_far view (NotAKey bad) h read few (stop (λ is. absurd cc))
+refused a b c n part keys after line so_far view (OutOfRange bad) h read few stop = found a b c n part keys after line so_far view (OutOfRange bad) h read few (stop (λ is. absurd cc))
+
+pub finished : {X : Type 0} (a b c : Option (List ℕ)) (n : ℕ) (part keys : List ℕ) (line : ℕ) (so_far : LineSoFar) (view : X → List ℕ) (x : X) → GoesOn a b n keys line so_far → Consumes b c part → IsAtEnd c
+    → length (view x) ≤ MAX_KEYS → said_from keys line so_far part ≡ (view x, None) → Reads a c view (Ok x)
+finished None b c n part keys line so_far view x h read end few is = tt
+finished (Some bytes) None c n part keys line so_far view x h read end few is = absurd h
+finished (Some bytes) (Some rest) None n part keys line so_far view x h read end few is = absurd read
+finished (Some bytes) (Some rest) (Some more) n part keys line so_far view x h read end few is =
+    let whole : rest ≡ part = read ∙ ap (λ l. part ++ l) end ∙ append-nil part in
+    (all_said (text_said bytes) (view x) (h.0 ∙ ap (said_from keys line so_far) whole ∙ is) few, end)
 
 pub too_long : {X : Type 0} (a b : Option (List ℕ)) (n : ℕ) (keys : List ℕ) (line : ℕ) (so_far : LineSoFar) (view : X → List ℕ) → GoesOn a b n keys line so_far → MAX_BYTES ≤ n → Reads a b view (Err TooLong)
 too_long None b n keys line so_far view h long = tt
 too_long (Some bytes) None n keys line so_far view h long = absurd h
 too_long (Some bytes) (Some rest) n keys line so_far view h long = omega (arith, h.1, long)
 
-pub finished : {X : Type 0} (a b : Option (List ℕ)) (n : ℕ) (keys : List ℕ) (line : ℕ) (so_far : LineSoFar) (view : X → List ℕ) (r : Result X TextFault) → GoesOn a b n keys line so_far → IsAtEnd b
-    → MatchResult r (λ x. with_line keys line so_far ≡ Ok (view x)) (λ e. Stops e (with_line keys line so_far)) → Reads a b view r
-finished a b n keys line so_far view (Ok x) h end is = ends a b n keys line so_far view x h end is
-finished a b n keys line so_far view (Err e) h end is = end_stops a b n keys line so_far view e h end is
+-- ---- the bytes alone give no failed read, and no end of what may be read
 
--- the bytes alone give no failed read
-pub is_no_read : {X : Type 0} (e : TextFault) (said : Result (List ℕ) TextFault) (r : Result X TextFault) → r ≡ Err e → Stops e said → r ≡ Err faults.Read → ⊥
-is_no_read e said r is h read =
+pub is_no_read : {X : Type 0} (e : TextFault) (keys : List ℕ) (said : Said) (r : Result X TextFault) → r ≡ Err e → Stops e keys said → r ≡ Err faults.Read → ⊥
+is_no_read e keys said r is h read =
     let same : e ≡ faults.Read = cc in
-    subst (λ e. Stops e said) same h
+    subst (λ e. Stops e keys said) same h
+
+pub is_no_limit : {X : Type 0} (e : TextFault) (keys : List ℕ) (said : Said) (r : Result X TextFault) → r ≡ Err e → Stops e keys said → r ≡ Err TooLong → ⊥
+is_no_limit e keys said r is h long =
+    let same : e ≡ TooLong = cc in
+    subst (λ e. Stops e keys said) same h

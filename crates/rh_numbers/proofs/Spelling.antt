@@ -1,9 +1,9 @@
 -- A text of keys is read to them.
-use Rattle.std.proofs.Common.{◌≡◌, ℕ, ◌+◌, ◌*◌, ◌<◌, ◌≤◌, ◌^◌, true, List, [], ◌∷◌, ◌++◌, length, Result, Ok, inl, inr, refl, sym, ap, subst, ◌∙◌, arith, append_assoc, append-nil, length-append}
+use Rattle.std.proofs.Common.{◌≡◌, ℕ, ◌+◌, ◌*◌, ◌<◌, ◌≤◌, ◌^◌, true, List, [], ◌∷◌, ◌++◌, length, None, Ok, inl, inr, refl, sym, ap, subst, ◌∙◌, arith, append_assoc, append-nil}
 use Rattle.std.specs.Prelude.{All, decimal, fold, nat_le}
 use Rattle.std.specs.Char.{digit_value, is_ascii_digit}
 use Rattle.std.specs.Str.Parse.{AllDigits, IsNumeral, digits_value, digits_value_after}
-use Rattle.std.proofs.lemmas.Bool.{and_from, le-leb, le-ltb, lt-leb, ne_eqb}
+use Rattle.std.proofs.lemmas.Bool.{and_from, le-leb, le-ltb, ne_eqb}
 use Rattle.std.proofs.lemmas.Fmt.{decimal_is_IsNumeral}
 use Rattle.std.proofs.lemmas.List.Elements.{All-nil, All-cons, All-head, All-tail}
 use Rattle.std.proofs.lemmas.List.Sums.{fold-append}
@@ -11,11 +11,10 @@ use Rattle.std.proofs.lemmas.Str.Parse.{digit_from_value}
 use Rattle.rh_layout.specs.Key.{IsKey}
 use Rattle.rh_layout.specs.declared.limits.TheConstants.{MAX_KEY}
 use Rattle.rh_files.specs.declared.parts.TheConstants.{MAX_KEYS}
-use Rattle.rh_numbers.specs.declared.fault.TextFault.{TextFault}
 use Rattle.rh_numbers.specs.declared.line_so_far.LineSoFar.{LineSoFar}
 use Rattle.rh_numbers.specs.declared.line_so_far.LineSoFar.TheVariants.{Start, Blank, Comment, Number, After}
-use Rattle.rh_numbers.specs.Grammar.{AreLines, AreSpaces, IsKeyText, IsOneLine, IsReturn, Says, blank, comment, last, more, number}
-use Rattle.rh_numbers.specs.Reading.{◌>>=◌, first, keys_from, next, text_keys, with_key, with_line}
+use Rattle.rh_numbers.specs.Grammar.{AreLines, AreSpaces, IsKeyText, IsOneLine, IsReturn, IsText, Says, blank, comment, last, more, number}
+use Rattle.rh_numbers.specs.Reading.{◌>>=◌, Said, first, limited, next, said_from, text_keys, text_said, with_key, with_line}
 use Rattle.rh_numbers.specs.Writing.{text_of}
 use Rattle.rh_numbers.proofs.SoFar.{capped, grown_capped}
 
@@ -78,16 +77,15 @@ after_numeral so_far (b ∷ digits) is begins =
 
 -- ---- a line
 
-abbrev pub keys_to : List ℕ → Result (List ℕ) TextFault
-keys_to keys = Ok keys
+abbrev pub said_all : List ℕ → Said
+said_all keys = (keys, None)
 
-key_fits : (keys : List ℕ) (at v : ℕ) → v ≤ MAX_KEY → length keys < MAX_KEYS → with_key keys at (capped v) ≡ Ok (keys ++ (v ∷ []))
-key_fits keys at v small few =
+key_fits : (keys : List ℕ) (at v : ℕ) → v ≤ MAX_KEY → with_key keys at (capped v) ≡ said_all (keys ++ (v ∷ []))
+key_fits keys at v small =
     let same : capped v ≡ v = omega arith in
-    subst (λ n. with_key keys at n ≡ Ok (keys ++ (v ∷ []))) (sym same)
-    (rw (le-ltb MAX_KEY v small, lt-leb MAX_KEYS (length keys) few) refl)
+    subst (λ n. with_key keys at n ≡ said_all (keys ++ (v ∷ []))) (sym same) (rw (le-ltb MAX_KEY v small) refl)
 
-blank_line : (keys : List ℕ) (at : ℕ) (return : List ℕ) → IsReturn return → (with_line keys at (after Start return) ≡ keys_to keys) × (with_line keys at (after Blank return) ≡ keys_to keys)
+blank_line : (keys : List ℕ) (at : ℕ) (return : List ℕ) → IsReturn return → (with_line keys at (after Start return) ≡ said_all keys) × (with_line keys at (after Blank return) ≡ said_all keys)
 blank_line keys at return (inl is) = rw is (refl, refl)
 blank_line keys at return (inr is) = rw is (refl, refl)
 
@@ -106,35 +104,31 @@ number_at keys at before digits spaces return are is ends_spaces ends =
     ap (with_line keys at) (fold-append next Start ((before ++ digits) ++ spaces) return ∙ ap (λ p. after p return) (fold-append next Start (before ++ digits) spaces ∙ ap (λ p. after p spaces) begun))
     ∙ after_number (λ p. with_line keys at (after p return) ≡ with_key keys at (capped v)) (capped v) spaces ends_spaces r.0 r.1
 
-pub line_said : (keys : List ℕ) (at : ℕ) (line numbers : List ℕ) → Says line numbers → length (keys ++ numbers) ≤ MAX_KEYS → All IsKey numbers → with_line keys at (after Start line) ≡ Ok (keys ++ numbers)
-line_said keys at line numbers (comment rest) few fit = ap (with_line keys at) (after_comment rest) ∙ ap keys_to (sym (append-nil keys))
-line_said keys at line numbers (blank spaces return are ends) few fit =
+pub line_said : (keys : List ℕ) (at : ℕ) (line numbers : List ℕ) → Says line numbers → All IsKey numbers → with_line keys at (after Start line) ≡ said_all (keys ++ numbers)
+line_said keys at line numbers (comment rest) fit = ap (with_line keys at) (after_comment rest) ∙ ap said_all (sym (append-nil keys))
+line_said keys at line numbers (blank spaces return are ends) fit =
     let r = blank_line keys at return ends in
     ap (with_line keys at) (fold-append next Start spaces return)
-    ∙ after_start (λ p. with_line keys at (after p return) ≡ keys_to keys) spaces are r.0 r.1 ∙ ap keys_to (sym (append-nil keys))
-line_said keys at line numbers (number before digits spaces return are is ends_spaces ends) few fit =
+    ∙ after_start (λ p. with_line keys at (after p return) ≡ said_all keys) spaces are r.0 r.1 ∙ ap said_all (sym (append-nil keys))
+line_said keys at line numbers (number before digits spaces return are is ends_spaces ends) fit =
     let v : ℕ = digits_value 10 digits in
     number_at keys at before digits spaces return are is ends_spaces ends
-    ∙ key_fits keys at v (All-head IsKey v [] fit) (omega (arith, length-append keys (v ∷ []), few))
+    ∙ key_fits keys at v (All-head IsKey v [] fit)
 
 -- ---- a text
 
-pub walk : (keys : List ℕ) (at : ℕ) (so_far : LineSoFar) (line rest : List ℕ) → IsOneLine line → keys_from keys at so_far (line ++ rest) ≡ keys_from keys at (after so_far line) rest
-unfolding keys_from
+pub walk : (keys : List ℕ) (at : ℕ) (so_far : LineSoFar) (line rest : List ℕ) → IsOneLine line → said_from keys at so_far (line ++ rest) ≡ said_from keys at (after so_far line) rest
+unfolding said_from
 walk keys at so_far [] rest one = refl
 walk keys at so_far (b ∷ line) rest one = rw (ne_eqb b 10 one.0) (walk keys at (next so_far b) line rest one.1)
 
-pub at_feed : (keys : List ℕ) (at : ℕ) (so_far : LineSoFar) (rest : List ℕ) → keys_from keys at so_far (10 ∷ rest) ≡ (with_line keys at so_far >>= (λ later. keys_from later (at + 1) Start rest))
-unfolding keys_from
+pub at_feed : (keys : List ℕ) (at : ℕ) (so_far : LineSoFar) (rest : List ℕ) → said_from keys at so_far (10 ∷ rest) ≡ (with_line keys at so_far >>= (λ later. said_from later (at + 1) Start rest))
+unfolding said_from
 at_feed keys at so_far rest = refl
 
-pub at_end : (keys : List ℕ) (at : ℕ) (so_far : LineSoFar) → keys_from keys at so_far [] ≡ with_line keys at so_far
-unfolding keys_from
+pub at_end : (keys : List ℕ) (at : ℕ) (so_far : LineSoFar) → said_from keys at so_far [] ≡ with_line keys at so_far
+unfolding said_from
 at_end keys at so_far = refl
-
-pub front_few : (keys some others : List ℕ) → length (keys ++ (some ++ others)) ≤ MAX_KEYS → length (keys ++ some) ≤ MAX_KEYS
-front_few keys some others few =
-    omega (arith, length-append keys (some ++ others), length-append some others, length-append keys some, few)
 
 pub All-parts : (P : ℕ → Type 0) (xs ys : List ℕ) → All P (xs ++ ys) → All P xs × All P ys
 All-parts P [] ys all = (All-nil P, all)
@@ -142,18 +136,23 @@ All-parts P (x ∷ xs) ys all =
     let rest = All-parts P xs ys (All-tail P x (xs ++ ys) all) in
     (All-cons P x xs (All-head P x (xs ++ ys) all) rest.0, rest.1)
 
-lines_given : (keys : List ℕ) (at : ℕ) (text numbers : List ℕ) → AreLines text numbers → length (keys ++ numbers) ≤ MAX_KEYS → All IsKey numbers → keys_from keys at Start text ≡ Ok (keys ++ numbers)
-lines_given keys at text numbers (last line said one says) few fit =
-    ap (keys_from keys at Start) (sym (append-nil text)) ∙ walk keys at Start text [] one ∙ at_end keys at (after Start text) ∙ line_said keys at text numbers says few fit
-lines_given keys at text numbers (more line said rest others one says lines) few fit =
+lines_given : (keys : List ℕ) (at : ℕ) (text numbers : List ℕ) → AreLines text numbers → All IsKey numbers → said_from keys at Start text ≡ said_all (keys ++ numbers)
+lines_given keys at text numbers (last line said one says) fit =
+    ap (said_from keys at Start) (sym (append-nil text)) ∙ walk keys at Start text [] one ∙ at_end keys at (after Start text) ∙ line_said keys at text numbers says fit
+lines_given keys at text numbers (more line said rest others one says lines) fit =
     let fits = All-parts IsKey said others fit in
     walk keys at Start line (10 ∷ rest) one ∙ at_feed keys at (after Start line) rest
-    ∙ ap (λ r. r >>= (λ later. keys_from later (at + 1) Start rest)) (line_said keys at line said says (front_few keys said others few) fits.0)
-    ∙ lines_given (keys ++ said) (at + 1) rest others lines (subst (λ l. length l ≤ MAX_KEYS) (sym (append_assoc keys said others)) few) fits.1
-    ∙ ap keys_to (append_assoc keys said others)
+    ∙ ap (λ r. r >>= (λ later. said_from later (at + 1) Start rest)) (line_said keys at line said says fits.0)
+    ∙ lines_given (keys ++ said) (at + 1) rest others lines fits.1
+    ∙ ap said_all (append_assoc keys said others)
+
+pub any_text_given : (text keys : List ℕ) → IsText text keys → text_said text ≡ said_all keys
+any_text_given text keys t = lines_given [] 1 text keys t.lines t.in_range
 
 pub text_given : (text keys : List ℕ) → IsKeyText text keys → text_keys text ≡ Ok keys
-text_given text keys t = lines_given [] 1 text keys t.lines t.few t.in_range
+text_given text keys t =
+    ap limited (any_text_given text keys (record { lines = t.lines; in_range = t.in_range }))
+    ∙ rw (le-ltb MAX_KEYS (length keys) t.few) refl
 
 -- ---- what is written
 

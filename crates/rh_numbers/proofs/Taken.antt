@@ -1,46 +1,37 @@
 -- How much of a text is taken up to its first fault.
-use Rattle.std.proofs.Common.{◌≡◌, ◌∙◌, ap, sym, ℕ, ◌≤◌, List, [], ◌++◌, length, Option, Result, Ok, Err, OnErr, append_assoc, arith}
+use Rattle.std.proofs.Common.{◌≡◌, ◌∙◌, ap, sym, ℕ, ◌≤◌, List, [], ◌++◌, length, Option, append_assoc, arith}
 use Rattle.std.specs.Io.KnownBytes.{Consumes}
 use Rattle.std.proofs.KnownBytes.{Consumes-nil, Consumes-trans}
-use Rattle.rh_files.specs.Taking.{TakesAtMost}
+use Rattle.rh_files.specs.declared.parts.TheConstants.{MAX_KEYS}
 use Rattle.rh_numbers.specs.declared.line_so_far.LineSoFar.{LineSoFar}
 use Rattle.rh_numbers.specs.declared.limits.TheConstants.{PART_BYTES}
-use Rattle.rh_numbers.specs.Reading.{TakesToFault, keys_from, text_keys}
+use Rattle.rh_numbers.specs.Reading.{TakesToFault, said_from, text_said}
 
 -- Whatever comes after these bytes, reading goes on from here.
 abbrev pub ReadsOn : (before keys : List ℕ) (line : ℕ) → LineSoFar → Type 0
-ReadsOn before keys line so_far = (rest : List ℕ) → text_keys (before ++ rest) ≡ keys_from keys line so_far rest
+ReadsOn before keys line so_far = (rest : List ℕ) → text_said (before ++ rest) ≡ said_from keys line so_far rest
 
 -- So much was read, and reading goes on from here.
 abbrev pub Fresh : (start now : Option (List ℕ)) (keys : List ℕ) (line : ℕ) → LineSoFar → Type 0
 Fresh start now keys line so_far = (before : List ℕ) × Consumes start now before × ReadsOn before keys line so_far
 
-pub fresh_at_first : (a : Option (List ℕ)) (keys : List ℕ) (line : ℕ) (so_far : LineSoFar) → keys_from keys line so_far ≡ text_keys → Fresh a a keys line so_far
+pub fresh_at_first : (a : Option (List ℕ)) (keys : List ℕ) (line : ℕ) (so_far : LineSoFar) → said_from keys line so_far ≡ text_said → Fresh a a keys line so_far
 fresh_at_first a keys line so_far same = ([], Consumes-nil a, λ rest. ap (λ f. f rest) (sym same))
 
 pub fresh_after : (a b c : Option (List ℕ)) (part keys later : List ℕ) (line next : ℕ) (so_far then : LineSoFar) → Fresh a b keys line so_far → Consumes b c part
-    → ((rest : List ℕ) → keys_from keys line so_far (part ++ rest) ≡ keys_from later next then rest) → Fresh a c later next then
+    → ((rest : List ℕ) → said_from keys line so_far (part ++ rest) ≡ said_from later next then rest) → Fresh a c later next then
 fresh_after a b c part keys later line next so_far then (before, taken, on) read step =
-    (before ++ part, Consumes-trans a b c before part taken read, λ rest. ap text_keys (append_assoc before part rest) ∙ on (part ++ rest) ∙ step rest)
+    (before ++ part, Consumes-trans a b c before part taken read, λ rest. ap text_said (append_assoc before part rest) ∙ on (part ++ rest) ∙ step rest)
 
-pub taken_to_fault : (a b c : Option (List ℕ)) (part keys : List ℕ) (line : ℕ) (so_far : LineSoFar) → Fresh a b keys line so_far → Consumes b c part → length part ≤ PART_BYTES → TakesToFault a c
-taken_to_fault a b c part keys line so_far (before, taken, on) read few = record {
+pub taken_to_fault : (a b c : Option (List ℕ)) (part keys : List ℕ) (line : ℕ) (so_far : LineSoFar) → Fresh a b keys line so_far → length keys ≤ MAX_KEYS → Consumes b c part → length part ≤ PART_BYTES → TakesToFault a c
+taken_to_fault a b c part keys line so_far (before, taken, on) many read few = record {
   before = before;
   last = part;
   taken = Consumes-trans a b c before part taken read;
   short = few;
-  no_fault = (keys, line, so_far, on);
+  no_fault = (keys, many, (line, so_far, on));
 }
 
--- a read failed within a part
-pub taken_to_failure : (a b c : Option (List ℕ)) (keys : List ℕ) (line : ℕ) (so_far : LineSoFar) → Fresh a b keys line so_far → TakesAtMost b c PART_BYTES → TakesToFault a c
-taken_to_failure a b c keys line so_far fresh read = taken_to_fault a b c read.taken keys line so_far fresh read.consumed read.few
-
 -- all that may be read was read
-pub taken_to_limit : (a b : Option (List ℕ)) (keys : List ℕ) (line : ℕ) (so_far : LineSoFar) → Fresh a b keys line so_far → TakesToFault a b
-taken_to_limit a b keys line so_far fresh = taken_to_fault a b b [] keys line so_far fresh (Consumes-nil b) (omega arith)
-
--- what holds of each refusal
-pub if_refused : {X E : Type 0} (r : Result X E) (P : Type 0) → P → OnErr r P
-if_refused (Ok x) P p = tt
-if_refused (Err e) P p = p
+pub taken_to_limit : (a b : Option (List ℕ)) (keys : List ℕ) (line : ℕ) (so_far : LineSoFar) → Fresh a b keys line so_far → length keys ≤ MAX_KEYS → TakesToFault a b
+taken_to_limit a b keys line so_far fresh many = taken_to_fault a b b [] keys line so_far fresh many (Consumes-nil b) (omega arith)

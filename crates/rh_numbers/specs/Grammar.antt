@@ -34,6 +34,11 @@ pub data AreWholeLines : (text numbers : List ℕ) (count : ℕ) → Type 0 wher
   none : AreWholeLines [] [] 0
   one_more : (line numbers text others : List ℕ) (count : ℕ) → IsOneLine line → Says line numbers → AreWholeLines text others count → AreWholeLines (line ++ (10 ∷ text)) (numbers ++ others) (suc count)
 
+-- the text is one of these keys, however many
+pub record IsText (text keys : List ℕ) : Type 0 where
+  pub lines : AreLines text keys
+  pub in_range : All IsKey keys
+
 -- the text is one of these keys: its numbers are keys, and not too many
 pub record IsKeyText (text keys : List ℕ) : Type 0 where
   pub lines : AreLines text keys
@@ -51,7 +56,6 @@ pub record ComesTo (text keys : List ℕ) (number : ℕ) (line : List ℕ) : Typ
   pub before : ℕ
   pub split : text ≡ front ++ (line ++ rest)
   pub lines : AreWholeLines front keys before
-  pub few : length keys ≤ MAX_KEYS
   pub in_range : All IsKey keys
   pub counted : number ≡ 1 + before
   pub one : IsOneLine line

@@ -1,3 +1,4 @@
 pub mod Grammar
 pub mod Reading
+pub mod Parts
 pub mod Writing

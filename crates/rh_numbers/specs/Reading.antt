@@ -1,5 +1,5 @@
 -- Reading a text of numbers from left to right, byte by byte, up to its first fault.
-use Rattle.std.specs.Prelude.{◌≡◌, ℕ, ◌+◌, ◌-◌, ◌*◌, ◌≤◌, min, ◌==◌, nat_lt, nat_le, if◌then◌else◌, List, [], ◌∷◌, ◌++◌, length, Option, Some, None, Result, Ok, Err}
+use Rattle.std.specs.Prelude.{◌≡◌, ℕ, ◌+◌, ◌-◌, ◌*◌, ◌≤◌, min, ◌==◌, nat_lt, if◌then◌else◌, List, [], ◌∷◌, ◌++◌, length, Option, Some, None, Result, Ok, Err}
 use Rattle.std.specs.Char.{is_ascii_digit}
 use Rattle.std.specs.Io.KnownBytes.{Consumes}
 use Rattle.rh_layout.specs.declared.limits.TheConstants.{MAX_KEY}
@@ -36,48 +36,62 @@ next (After n) b = past (After n) (Some n) b
 next (Return said) b = Other
 next Other b = Other
 
+-- what a text has said: the keys before its first fault, and that fault if there is one
+abbrev pub Said : Type 0
+Said = List ℕ × Option TextFault
+
 -- the keys, and this number, in this line
-abbrev pub with_key : (keys : List ℕ) (line n : ℕ) → Result (List ℕ) TextFault
-with_key keys line n =
-    if nat_lt MAX_KEY n then Err (OutOfRange line)
-    else if nat_le MAX_KEYS (length keys) then Err TooMany
-    else Ok (keys ++ n ∷ [])
+abbrev pub with_key : (keys : List ℕ) (line n : ℕ) → Said
+with_key keys line n = if nat_lt MAX_KEY n then (keys, Some (OutOfRange line)) else (keys ++ n ∷ [], None)
 
 -- the keys, and what this line said, which ends here
-abbrev pub with_line : (keys : List ℕ) (line : ℕ) → LineSoFar → Result (List ℕ) TextFault
+abbrev pub with_line : (keys : List ℕ) (line : ℕ) → LineSoFar → Said
 with_line keys line (Number n) = with_key keys line n
 with_line keys line (After n) = with_key keys line n
 with_line keys line (Return (Some n)) = with_key keys line n
-with_line keys line Other = Err (NotAKey line)
-with_line keys line _ = Ok keys
+with_line keys line Other = (keys, Some (NotAKey line))
+with_line keys line _ = (keys, None)
 
 -- ---- a text
 
--- one step, and then the next
+-- what was said, and, where that has no fault, what is said then
 infixl 10 ◌>>=◌
-abbrev pub ◌>>=◌ : {A B : Type 0} → Result A TextFault → (A → Result B TextFault) → Result B TextFault
-(Ok x) >>= f = f x
-(Err e) >>= f = Err e
+abbrev pub ◌>>=◌ : Said → (List ℕ → Said) → Said
+(keys, None) >>= f = f keys
+(keys, Some e) >>= f = (keys, Some e)
 
--- what there is to read after these keys, where this line has said so much so far
-unfoldable pub keys_from : (keys : List ℕ) (line : ℕ) → LineSoFar → List ℕ → Result (List ℕ) TextFault
-keys_from keys line so_far [] = with_line keys line so_far
-keys_from keys line so_far (b ∷ bytes) =
-    if b == 10 then with_line keys line so_far >>= (λ more. keys_from more (line + 1) Start bytes)
-    else keys_from keys line (next so_far b) bytes
+-- what is said with what comes after these keys, where this line has said so much so far
+unfoldable pub said_from : (keys : List ℕ) (line : ℕ) → LineSoFar → List ℕ → Said
+said_from keys line so_far [] = with_line keys line so_far
+said_from keys line so_far (b ∷ bytes) =
+    if b == 10 then with_line keys line so_far >>= (λ more. said_from more (line + 1) Start bytes)
+    else said_from keys line (next so_far b) bytes
 
--- What was to be read stops at this fault. Want of memory says nothing of it, and the bytes alone give no other.
-abbrev pub Stops : TextFault → Result (List ℕ) TextFault → Type 0
-Stops faults.Memory said = Unit {0}
-Stops faults.Read said = ⊥
-Stops TooLong said = ⊥
-Stops (NotAKey line) said = said ≡ Err (NotAKey line)
-Stops (OutOfRange line) said = said ≡ Err (OutOfRange line)
-Stops TooMany said = said ≡ Err TooMany
+-- a text of any length
+abbrev pub text_said : List ℕ → Said
+text_said text = said_from [] 1 Start text
 
--- the keys of a text, or the first fault in it
+abbrev pub if_no_fault : List ℕ → Option TextFault → Result (List ℕ) TextFault
+if_no_fault keys None = Ok keys
+if_no_fault keys (Some e) = Err e
+
+-- one key more than there may be is a fault too
+abbrev pub limited : Said → Result (List ℕ) TextFault
+limited said = if nat_lt MAX_KEYS (length said.0) then Err TooMany else if_no_fault said.0 said.1
+
+-- the keys of a text that may have a million, or the first fault in it
 abbrev pub text_keys : List ℕ → Result (List ℕ) TextFault
-text_keys text = keys_from [] 1 Start text
+text_keys text = limited (text_said text)
+
+-- What is said stops at this fault, after these keys. Want of memory and the limit come before another key; the bytes alone
+-- give no other fault.
+abbrev pub Stops : TextFault → (keys : List ℕ) → Said → Type 0
+Stops faults.Memory keys said = (more : List ℕ) × (said.0 ≡ keys ++ more)
+Stops faults.Read keys said = ⊥
+Stops TooLong keys said = ⊥
+Stops (NotAKey line) keys said = said ≡ (keys, Some (NotAKey line))
+Stops (OutOfRange line) keys said = said ≡ (keys, Some (OutOfRange line))
+Stops TooMany keys said = (MAX_KEYS ≤ length keys) × (key : ℕ) × (more : List ℕ) × (said.0 ≡ keys ++ (key ∷ more))
 
 -- ---- what is said of a reader's bytes
 
@@ -103,10 +117,14 @@ IsReadFrom None new keys = Unit {0}
 IsReadFrom (Some bytes) None keys = ⊥
 IsReadFrom (Some bytes) (Some rest) keys = IsKeyText bytes keys × (rest ≡ [])
 
--- Reading goes on after these bytes, whatever comes: they hold no fault.
+-- These bytes say these keys, and reading goes on after them, whatever comes: they hold no fault.
+abbrev pub SayOnly : (bytes keys : List ℕ) → Type 0
+SayOnly bytes keys =
+    (line : ℕ) × (so_far : LineSoFar) × ((rest : List ℕ) → text_said (bytes ++ rest) ≡ said_from keys line so_far rest)
+
+-- They hold no fault, nor too many keys.
 abbrev pub HoldNoFault : List ℕ → Type 0
-HoldNoFault bytes =
-    (keys : List ℕ) × (line : ℕ) × (so_far : LineSoFar) × ((rest : List ℕ) → text_keys (bytes ++ rest) ≡ keys_from keys line so_far rest)
+HoldNoFault bytes = (keys : List ℕ) × (length keys ≤ MAX_KEYS) × SayOnly bytes keys
 
 -- Of the bytes that were taken those before the last part hold no fault.
 pub record TakesToFault (old new : Option (List ℕ)) : Type 0 where

@@ -1,12 +1,12 @@
 //! The laws of texts of numbers, as functions that do nothing.
 
-ghost use Rattle.std.specs.Prelude.{◌≡◌, ◌≤◌, ◌<◌, ℕ, List, [], ◌∷◌, All, Err, Ok, length};
+ghost use Rattle.std.specs.Prelude.{◌≡◌, ◌≤◌, ◌<◌, ℕ, List, [], ◌∷◌, All, Err, None, Ok, Some, length};
 ghost use Rattle.rh_layout.specs.Key.{IsKey};
 ghost use Rattle.rh_files.specs.declared.parts.TheConstants.{MAX_KEYS};
 ghost use Rattle.rh_layout.specs.declared.limits.TheConstants.{MAX_KEY};
 ghost use Rattle.rh_numbers.specs.declared.fault.TextFault.TheVariants.{NotAKey, OutOfRange, TooMany};
-ghost use Rattle.rh_numbers.specs.Grammar.{ComesTo, IsKeyText, Says};
-ghost use Rattle.rh_numbers.specs.Reading.{text_keys};
+ghost use Rattle.rh_numbers.specs.Grammar.{ComesTo, IsKeyText, IsText, Says};
+ghost use Rattle.rh_numbers.specs.Reading.{text_keys, text_said};
 ghost use Rattle.rh_numbers.specs.Writing.{text_of};
 
 /// A text has one meaning: what the grammar calls a text of these keys is read to them, with no
@@ -23,13 +23,27 @@ pub fn one_meaning(text: &[u8], keys: &[u64])
 /// too many.
 pub fn first_fault(text: &[u8])
     ensures not_a_key { (keys : List ℕ) (number : ℕ) (line : List ℕ) →
-        ComesTo text.now keys number line →
+        ComesTo text.now keys number line → length keys ≤ MAX_KEYS →
         ((numbers : List ℕ) → Says line numbers → ⊥) →
         text_keys text.now ≡ Err (NotAKey number) }
     ensures out_of_range { (keys : List ℕ) (number : ℕ) (line : List ℕ) (n : ℕ) →
-        ComesTo text.now keys number line → Says line (n ∷ []) → MAX_KEY < n →
+        ComesTo text.now keys number line → length keys ≤ MAX_KEYS →
+        Says line (n ∷ []) → MAX_KEY < n →
         text_keys text.now ≡ Err (OutOfRange number) }
     ensures too_many { (keys : List ℕ) (number : ℕ) (line : List ℕ) (n : ℕ) →
         ComesTo text.now keys number line → Says line (n ∷ []) → n ≤ MAX_KEY →
         length keys ≡ MAX_KEYS → text_keys text.now ≡ Err TooMany }
+{}
+
+/// A text of any length has one meaning too, and its first faulty line gives its fault.
+pub fn any_length(text: &[u8], keys: &[u64])
+    ensures given { IsText text.now keys.now → text_said text.now ≡ (keys.now, None) }
+    ensures read { text_said text.now ≡ (keys.now, None) → IsText text.now keys.now }
+    ensures not_a_key { (number : ℕ) (line : List ℕ) →
+        ComesTo text.now keys.now number line →
+        ((numbers : List ℕ) → Says line numbers → ⊥) →
+        text_said text.now ≡ (keys.now, Some (NotAKey number)) }
+    ensures out_of_range { (number : ℕ) (line : List ℕ) (n : ℕ) →
+        ComesTo text.now keys.now number line → Says line (n ∷ []) → MAX_KEY < n →
+        text_said text.now ≡ (keys.now, Some (OutOfRange number)) }
 {}

@@ -10,7 +10,8 @@ mod text;
 mod writing;
 
 pub use fault::TextFault;
-pub use laws::{first_fault, one_meaning};
-pub use limits::MAX_BYTES;
+pub use laws::{any_length, first_fault, one_meaning};
+pub use limits::{MAX_BYTES, MAX_READS, PART_BYTES};
+pub use reading::Reading;
 pub use text::read_numbers;
 pub use writing::write_numbers;

@@ -1,9 +1,10 @@
 //! The limit of a text, and the parts that it is read in.
 
 /// A text of so many bytes, 2^63, or more is not read to its end.
-pub const MAX_BYTES: u64 = PART_BYTES as u64 * MAX_PARTS;
+pub const MAX_BYTES: u64 = PART_BYTES as u64 * MAX_READS;
 
 /// A text is read in parts of so many bytes.
-pub(crate) const PART_BYTES: usize = 8192;
+pub const PART_BYTES: usize = 8192;
 
-pub(crate) const MAX_PARTS: u64 = 1 << 50;
+/// The most parts that are read of a text.
+pub const MAX_READS: u64 = 1 << 50;

@@ -1,20 +1,20 @@
 //! A text on the way: what was read of it, and how it goes on.
 
-ghost use Rattle.std.specs.Prelude.{◌≡◌, ◌≤◌, ◌<◌, ◌+◌, ◌^◌, ℕ, List, [], ◌∷◌, ◌++◌, length, All};
-ghost use Rattle.std.specs.Prelude.{IfOk, MatchResult, OnOk, Ok};
+ghost use Rattle.std.specs.Prelude.{◌≤◌, length, All};
 ghost use Rattle.rh_layout.specs.Key.{IsKey};
 ghost use Rattle.rh_files.specs.declared.parts.TheConstants.{MAX_KEYS};
-ghost use Rattle.rh_numbers.specs.Reading.{Stops, keys_from, with_key, with_line};
 
 use crate::fault::TextFault;
+use crate::limits::PART_BYTES;
 use crate::line_so_far::LineSoFar;
-use rh_files::MAX_KEYS;
+use rh_files::{Counted, MAX_KEYS, fill};
 use rh_layout::MAX_KEY;
 use std::alloc::Global;
+use std::io::Read;
 
-/// How far a text was read.
+/// How far a text was read, and the keys that it gave and that were not cleared.
 #[derive(Drop)]
-pub(crate) struct Reading {
+pub struct Reading {
     pub(crate) keys: Vec<u64>,
     /// The number of the line, from 1 on.
     pub(crate) line: u64,
@@ -25,10 +25,18 @@ pub(crate) struct Reading {
 }
 
 impl Reading {
-    pub(crate) fn new(alloc: Global) -> Reading
-        ensures keys { result.keys.items ≡ [] }
-        ensures line { result.line ≡ 1 }
-        ensures so_far { result.so_far ≡ LineSoFar.Start }
+    ghost use Rattle.std.specs.Prelude.{◌≡◌, ◌≢◌, ◌≤◌, ◌<◌, ◌+◌, ◌^◌, ℕ, List, [], ◌∷◌, ◌++◌};
+    ghost use Rattle.std.specs.Prelude.{IsErrOf, MatchResult, None, OnOk, Err};
+    ghost use Rattle.rh_files.specs.Counting.{Rose, failures_of, inner_of};
+    ghost use Rattle.rh_numbers.specs.Parts.{ReadsPart, keys_of, line_of, said_by, so_far_of};
+    ghost use Rattle.rh_numbers.specs.Reading.{Stops, with_key, with_line};
+    ghost use Rattle.rh_numbers.specs.declared.limits.TheConstants.{PART_BYTES};
+
+    /// Nothing was read yet.
+    pub fn new(alloc: Global) -> Reading
+        ensures keys { keys_of result ≡ [] }
+        ensures line { line_of result ≡ 1 }
+        ensures so_far { so_far_of result ≡ LineSoFar.Start }
     {
         Reading {
             keys: Vec::new(alloc),
@@ -37,16 +45,74 @@ impl Reading {
         }
     }
 
+    /// The keys that were read and not cleared, in the order of the text.
+    pub fn keys(&self) -> &[u64]
+        ensures keys { result.now ≡ keys_of self.now }
+        ensures in_range { All IsKey result.now }
+        ensures few { length result.now ≤ MAX_KEYS }
+    {
+        &self.keys
+    }
+
+    pub(crate) fn into_keys(self) -> Vec<u64>
+        ensures keys { result.items ≡ keys_of self }
+        ensures in_range { All IsKey result.items }
+        ensures few { length result.items ≤ MAX_KEYS }
+    {
+        self.keys
+    }
+
+    /// Drops the keys that were read. The text goes on where it was, and room for as many keys stays.
+    pub fn clear(&mut self)
+        ensures keys { keys_of self.new ≡ [] }
+        ensures line { line_of self.new ≡ line_of self.old }
+        ensures so_far { so_far_of self.new ≡ so_far_of self.old }
+    {
+        self.keys.clear();
+    }
+
+    /// Reads the next 8,192 bytes and adds their keys to those that are held, up to the first fault,
+    /// and tells whether the text may go on. Where it ends, so does its last line.
+    ///
+    /// `TooMany` says that `MAX_KEYS` are held and one more came; whoever clears them before each
+    /// part never meets it.
+    pub fn read_part<R: Read>(&mut self, reader: &mut Counted<R>) -> Result<bool, TextFault>
+        requires { line_of self.old + PART_BYTES < 2 ^ 64 }
+        ensures part { ReadsPart (R.remaining (inner_of reader.old))
+            (R.remaining (inner_of reader.new)) self.old self.new result }
+        ensures line { OnOk result (line_of self.new ≤ line_of self.old + PART_BYTES) }
+        ensures many { length (keys_of self.new) ≤ length (keys_of self.old) + PART_BYTES + 1 }
+        ensures full { IsErrOf result TextFault.TooMany → length (keys_of self.new) ≡ MAX_KEYS }
+        ensures unread { IsErrOf result TextFault.Read → keys_of self.new ≡ keys_of self.old }
+        ensures not_too_long { IsErrOf result TextFault.TooLong → ⊥ }
+        ensures read { IsErrOf result TextFault.Read →
+            Rose (failures_of reader.old) (failures_of reader.new) }
+        ensures fine { result ≢ Err TextFault.Read →
+            failures_of reader.new ≡ failures_of reader.old }
+    {
+        let mut part = [0; PART_BYTES];
+        let Some(n) = fill(reader, &mut part) else {
+            return Err(TextFault::Read);
+        };
+        self.read(&part[..n])?;
+        if n < PART_BYTES {
+            self.end_line()?;
+            return Ok(false);
+        }
+        Ok(true)
+    }
+
     /// Reads the next bytes.
-    pub(crate) fn read(&mut self, bytes: &[u8]) -> Result<(), TextFault>
+    fn read(&mut self, bytes: &[u8]) -> Result<(), TextFault>
         requires { self.old.line + length bytes.now < 2 ^ 64 }
         ensures line { OnOk result (self.new.line ≤ self.old.line + length bytes.now) }
+        ensures many { length self.new.keys.items ≤ length self.old.keys.items + length bytes.now }
+        ensures full { IsErrOf result TextFault.TooMany → length self.new.keys.items ≡ MAX_KEYS }
         ensures read { MatchResult result
             (λ _. (rest : List ℕ) →
-            keys_from self.old.keys.items self.old.line self.old.so_far (bytes.now ++ rest)
-            ≡ keys_from self.new.keys.items self.new.line self.new.so_far rest)
-            (λ fault. (rest : List ℕ) → Stops fault
-            (keys_from self.old.keys.items self.old.line self.old.so_far (bytes.now ++ rest))) }
+            said_by self.old (bytes.now ++ rest) ≡ said_by self.new rest)
+            (λ fault. (rest : List ℕ) →
+            Stops fault (keys_of self.new) (said_by self.old (bytes.now ++ rest))) }
     {
         for b in bytes {
             self.step(*b)?;
@@ -54,28 +120,16 @@ impl Reading {
         Ok(())
     }
 
-    /// The keys of the text, which ends here.
-    pub(crate) fn finish(mut self) -> Result<Vec<u64>, TextFault>
-        ensures in_range { IfOk result (λ keys. All IsKey keys.items) }
-        ensures few { IfOk result (λ keys. length keys.items ≤ MAX_KEYS) }
-        ensures keys { MatchResult result
-            (λ keys. with_line self.keys.items self.line self.so_far ≡ Ok keys.items)
-            (λ fault. Stops fault (with_line self.keys.items self.line self.so_far)) }
-    {
-        self.end_line()?;
-        Ok(self.keys)
-    }
-
-    #[tactic(auto, unfolding(crate::specs::Reading::keys_from))]
+    #[tactic(auto, unfolding(crate::specs::Reading::said_from))]
     fn step(&mut self, b: u8) -> Result<(), TextFault>
         requires { self.old.line + 1 < 2 ^ 64 }
         ensures line { OnOk result (self.new.line ≤ self.old.line + 1) }
+        ensures many { length self.new.keys.items ≤ length self.old.keys.items + 1 }
+        ensures full { IsErrOf result TextFault.TooMany → length self.new.keys.items ≡ MAX_KEYS }
         ensures read { MatchResult result
-            (λ _. (rest : List ℕ) →
-            keys_from self.old.keys.items self.old.line self.old.so_far (b ∷ rest)
-            ≡ keys_from self.new.keys.items self.new.line self.new.so_far rest)
-            (λ fault. (rest : List ℕ) → Stops fault
-            (keys_from self.old.keys.items self.old.line self.old.so_far (b ∷ rest))) }
+            (λ _. (rest : List ℕ) → said_by self.old (b ∷ rest) ≡ said_by self.new rest)
+            (λ fault. (rest : List ℕ) →
+            Stops fault (keys_of self.new) (said_by self.old (b ∷ rest))) }
     {
         if b == b'\n' {
             self.end_line()?;
@@ -89,11 +143,13 @@ impl Reading {
 
     /// Takes what the line said, which ends here.
     fn end_line(&mut self) -> Result<(), TextFault>
-        ensures line { OnOk result (self.new.line ≡ self.old.line) }
+        ensures line { self.new.line ≡ self.old.line }
+        ensures many { length self.new.keys.items ≤ length self.old.keys.items + 1 }
+        ensures full { IsErrOf result TextFault.TooMany → length self.new.keys.items ≡ MAX_KEYS }
         ensures keys { MatchResult result
             (λ _. with_line self.old.keys.items self.old.line self.old.so_far
-            ≡ Ok self.new.keys.items)
-            (λ fault. Stops fault
+            ≡ (self.new.keys.items, None))
+            (λ fault. Stops fault self.new.keys.items
             (with_line self.old.keys.items self.old.line self.old.so_far)) }
     {
         match self.so_far {
@@ -105,10 +161,13 @@ impl Reading {
     }
 
     fn take(&mut self, n: u64) -> Result<(), TextFault>
-        ensures line { OnOk result (self.new.line ≡ self.old.line) }
+        ensures line { self.new.line ≡ self.old.line }
+        ensures many { length self.new.keys.items ≤ length self.old.keys.items + 1 }
+        ensures full { IsErrOf result TextFault.TooMany → length self.new.keys.items ≡ MAX_KEYS }
         ensures keys { MatchResult result
-            (λ _. with_key self.old.keys.items self.old.line n ≡ Ok self.new.keys.items)
-            (λ fault. Stops fault (with_key self.old.keys.items self.old.line n)) }
+            (λ _. with_key self.old.keys.items self.old.line n ≡ (self.new.keys.items, None))
+            (λ fault. Stops fault self.new.keys.items
+            (with_key self.old.keys.items self.old.line n)) }
     {
         if n > MAX_KEY {
             return Err(TextFault::OutOfRange { line: self.line });

@@ -7,9 +7,9 @@ ghost use Rattle.rh_files.specs.Counting.{Rose, failures_of, inner_of};
 ghost use Rattle.rh_numbers.specs.Reading.{IsReadFrom, Reads, TakesToFault};
 
 use crate::fault::TextFault;
-use crate::limits::{MAX_PARTS, PART_BYTES};
+use crate::limits::MAX_READS;
 use crate::reading::Reading;
-use rh_files::{Counted, fill};
+use rh_files::Counted;
 use std::alloc::Global;
 use std::io::Read;
 
@@ -29,14 +29,9 @@ pub fn read_numbers<R: Read>(alloc: Global, reader: &mut Counted<R>) -> Result<V
     ensures fine { result ≢ Err TextFault.Read → failures_of reader.new ≡ failures_of reader.old }
 {
     let mut reading = Reading::new(alloc);
-    let mut part = [0; PART_BYTES];
-    for _ in 0..MAX_PARTS {
-        let Some(n) = fill(reader, &mut part) else {
-            return Err(TextFault::Read);
-        };
-        reading.read(&part[..n])?;
-        if n < PART_BYTES {
-            return reading.finish();
+    for _ in 0..MAX_READS {
+        if !reading.read_part(reader)? {
+            return Ok(reading.into_keys());
         }
     }
     Err(TextFault::TooLong)

@@ -1,2 +1,3 @@
 pub mod Pack
 pub mod List
+pub mod Files

@@ -6,6 +6,7 @@ use Rattle.rh_ledger.specs.declared.tally.Kind.{Kind}
 use Rattle.rh_ledger.specs.declared.tally.Tally.{Tally}
 use Rattle.rh_ledger.specs.declared.tally.Kind.TheVariants.{Ask}
 use Rattle.rh_ledger.specs.Phase.{set_after, tally_of}
+use Rattle.rh_runner.specs.Cells.{AreTheCells}
 use Rattle.rh_acts.specs.Workers.{tally_by}
 use Rattle.rh_descriptor.specs.declared.limits.TheConstants.{MAX_ROOM, MAX_WORKERS}
 use Rattle.rh_descriptor.specs.declared.shape.Rooms.{Rooms}
@@ -66,8 +67,9 @@ pub record IsWorkedOut (ph : Phase) (t : Table) (c : Crew) : Type 0 where
   pub finished : All IsFinished c.hands
   pub comes : Comes (phase t.shape ph.kind ph.opening ph.keys ph.positions) (views_of c.seat) c.hands
 
--- The new cells are the layout of the old ones' set after the keys, and this is the tally of one worker.
+-- The new cells are the one layout of the old ones' set after the keys, and this is the tally of one worker.
 pub record HasChanged (kind : Kind) (bits : ℕ) (old new keys : List ℕ) (told : Tally) : Type 0 where
   pub layout : IsLayout bits new
   pub keys_are : keys_of new ≡ set_after kind (keys_of old) keys
+  pub cells_are : AreTheCells bits (set_after kind (keys_of old) keys) new
   pub tally : told ≡ tally_of kind (keys_of old) keys

@@ -7,6 +7,7 @@ ghost use Rattle.rh_layout.specs.Layout.{IsLayout, keys_of};
 ghost use Rattle.rh_ledger.specs.Phase.{looked_up, most_added, set_after, tally_of};
 ghost use Rattle.rh_phase.specs.Crew.{AllMayStart};
 ghost use Rattle.rh_phase.specs.Made.{IsRooms, IsWorkers};
+ghost use Rattle.rh_runner.specs.Cells.{AreTheCells};
 
 use crate::crew::{AllStart, Starts};
 use crate::gate::Gate;
@@ -39,6 +40,8 @@ pub fn change<R: Threads + Wait + Sync, G: Gate + Sync>(
     ensures layout { OnOk result (IsLayout bits cells.new.items) }
     ensures keys { OnOk result
         (keys_of cells.new.items ≡ set_after kind (keys_of cells.old.items) keys.now) }
+    ensures cells { OnOk result (AreTheCells bits
+        (set_after kind (keys_of cells.old.items) keys.now) cells.new.items) }
     ensures tally { IfOk result (λ t. t ≡ tally_of kind (keys_of cells.old.items) keys.now) }
     ensures unchanged { OnErr result (cells.new.items ≡ cells.old.items) }
     ensures no_thread { IsErrOf result PhaseFault.NoThread → 1 < workers }
@@ -95,6 +98,8 @@ pub fn change_with<R: Threads + Wait + Sync, G: Gate + Sync, S: Starts + Sync>(
     ensures layout { OnOk result (IsLayout bits cells.new.items) }
     ensures keys { OnOk result
         (keys_of cells.new.items ≡ set_after kind (keys_of cells.old.items) keys.now) }
+    ensures cells { OnOk result (AreTheCells bits
+        (set_after kind (keys_of cells.old.items) keys.now) cells.new.items) }
     ensures tally { IfOk result (λ t. t ≡ tally_of kind (keys_of cells.old.items) keys.now) }
     ensures unchanged { OnErr result (cells.new.items ≡ cells.old.items) }
     ensures allowed { OnOk result (AllMayStart (S.allows starts.now) 0 workers) }

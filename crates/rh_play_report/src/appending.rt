@@ -6,7 +6,7 @@ ghost use Rattle.rh_play_report.specs.Appending.{Prints, joined};
 use std::alloc::AllocError;
 
 /// Appends the texts in turn. Where a growth was refused, the vector is as it was.
-pub(crate) fn push_texts(out: &mut Vec<u8>, texts: &[&[u8]]) -> Result<(), AllocError>
+pub fn push_texts(out: &mut Vec<u8>, texts: &[&[u8]]) -> Result<(), AllocError>
     ensures { Prints out.old.items out.new.items (joined texts.now) result }
 {
     let before = out.len();

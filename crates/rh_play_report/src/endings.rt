@@ -77,7 +77,8 @@ pub fn step_kind(step: Step) -> StepKind
     }
 }
 
-pub(crate) fn kind_word(kind: StepKind) -> &'static str
+/// The word of a kind of step.
+pub fn kind_word(kind: StepKind) -> &'static str
     ensures { result.now ≡ kind_word kind }
 {
     match kind {

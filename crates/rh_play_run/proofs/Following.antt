@@ -1,12 +1,12 @@
 -- How a schedule goes on: each turn, pass and order before what is still to come.
 use Rattle.std.proofs.lemmas.List.{drop_all}
-use Rattle.std.proofs.Common.{suc, ◌≡◌, ℕ, ◌+◌, ◌||◌, Bool, true, false, List, [], ◌∷◌, ◌++◌, length, inl, inr, refl, sym, ap, ◌∙◌, subst, add-one, append_assoc, append-nil, Some, slice_index, get_or, drop, drop-cons, ◌<◌, ◌≤◌, ◌↔◌, IsTrue, IsFalse, Result, Ok, Err, OnOk}
+use Rattle.std.proofs.Common.{suc, ◌≡◌, ℕ, ◌+◌, ◌||◌, Bool, true, false, List, [], ◌∷◌, ◌++◌, length, inl, inr, refl, sym, ap, ◌∙◌, subst, add-one, append_assoc, append-nil, Some, slice_index, get_or, drop, drop-cons, ◌<◌, ◌≤◌, ◌↔◌, IsTrue, IsFalse, Result, Ok, Err, OnOk, Vec, Global}
 use Rattle.rh_descriptor.specs.declared.steps.StepKind.{StepKind}
 use Rattle.rh_tagword.specs.declared.word.Word.{Word}
 use Rattle.rh_tagword.specs.Word.{word_in}
 use Rattle.rh_turns.specs.declared.turning.Turn.{Turn}
 use Rattle.rh_turns.specs.Game.{AllStopped, Game}
-use Rattle.rh_player.specs.Turned.{BeginsRound, Turned}
+use Rattle.rh_player.specs.Turned.{BeginsRound}
 use Rattle.rh_play.specs.declared.limits.TheConstants.{MAX_TURNS}
 use Rattle.rh_play.specs.declared.schedule.Order.{Order}
 use Rattle.rh_play.specs.declared.schedule.Order.TheVariants as order
@@ -17,60 +17,128 @@ use Rattle.rh_play_report.specs.declared.endings.Rest.{Rest}
 use Rattle.rh_play_report.specs.Appending.{Prints}
 use Rattle.rh_play_report.specs.Lines.{raw_line, rest_line, round_line, turn_line, until_line}
 use Rattle.rh_play_report.specs.Words.{step_kind}
-use Rattle.rh_play_run.specs.Schedule.{Does, Follows, Misses, Reaches, Rests, RestsWithin, Rounds, StandsAs, TurnOfEach, TurnsOf, TurnsUntil, last_of, makes_step, shown, word_line, words_shown}
+use Rattle.rh_play_run.specs.declared.log.Log.{Log}
+use Rattle.rh_play_run.specs.declared.log.Telling.{Telling}
+use Rattle.rh_play_run.specs.declared.log.Telling.TheVariants.{Orders, Steps, Records}
+use Rattle.rh_draw.specs.declared.records.Record.{Record}
+use Rattle.rh_play_run.specs.Pieces.{Piece, Tells, piece_records, piece_text, recorded, round_pieces, steps_after, steps_with, told}
+use Rattle.rh_play_run.specs.Schedule.{ATurn, Does, Follows, Misses, Reaches, Rests, RestsWithin, Rounds, StandsAs, TurnOfEach, TurnsOf, TurnsUntil, last_of, makes_step, shown, word_line, words_shown}
+
+-- ---- what is told
+
+pub nothing_told : (log : Log) → Tells log [] log
+nothing_told log = record { telling = refl; text = sym (append-nil log.text.items); records = sym (append-nil log.records.items); steps = refl }
+
+told_more : (telling : Telling) (n : ℕ) (ps qs : List Piece) → told telling n (ps ++ qs) ≡ told telling n ps ++ told telling (steps_after n ps) qs
+told_more telling n [] qs = refl
+told_more telling n (p ∷ ps) qs =
+    ap (λ (l : List ℕ). piece_text telling n p ++ l) (told_more telling (steps_with n p) ps qs)
+    ∙ sym (append_assoc (piece_text telling n p) (told telling (steps_with n p) ps) (told telling (steps_after (steps_with n p) ps) qs))
+
+records_more : (telling : Telling) (n : ℕ) (ps qs : List Piece) → recorded telling n (ps ++ qs) ≡ recorded telling n ps ++ recorded telling (steps_after n ps) qs
+records_more telling n [] qs = refl
+records_more telling n (p ∷ ps) qs =
+    ap (λ (l : List Record). piece_records telling n p ++ l) (records_more telling (steps_with n p) ps qs)
+    ∙ sym (append_assoc (piece_records telling n p) (recorded telling (steps_with n p) ps) (recorded telling (steps_after (steps_with n p) ps) qs))
+
+steps_more : (n : ℕ) (ps qs : List Piece) → steps_after n (ps ++ qs) ≡ steps_after (steps_after n ps) qs
+steps_more n [] qs = refl
+steps_more n (p ∷ ps) qs = steps_more (steps_with n p) ps qs
+
+pub then_tells : (a b c : Log) (ps qs : List Piece) → Tells a ps b → Tells b qs c → Tells a (ps ++ qs) c
+then_tells a b c ps qs one two = record {
+  telling = two.telling ∙ one.telling;
+  text =
+      two.text
+      ∙ ap (λ (l : List ℕ). l ++ told b.telling b.steps qs) one.text
+      ∙ ap (λ (t : Telling). (a.text.items ++ told a.telling a.steps ps) ++ told t b.steps qs) one.telling
+      ∙ ap (λ (n : ℕ). (a.text.items ++ told a.telling a.steps ps) ++ told a.telling n qs) one.steps
+      ∙ append_assoc a.text.items (told a.telling a.steps ps) (told a.telling (steps_after a.steps ps) qs)
+      ∙ ap (λ (l : List ℕ). a.text.items ++ l) (sym (told_more a.telling a.steps ps qs));
+  records =
+      two.records
+      ∙ ap (λ (l : List Record). l ++ recorded b.telling b.steps qs) one.records
+      ∙ ap (λ (t : Telling). (a.records.items ++ recorded a.telling a.steps ps) ++ recorded t b.steps qs) one.telling
+      ∙ ap (λ (n : ℕ). (a.records.items ++ recorded a.telling a.steps ps) ++ recorded a.telling n qs) one.steps
+      ∙ append_assoc a.records.items (recorded a.telling a.steps ps) (recorded a.telling (steps_after a.steps ps) qs)
+      ∙ ap (λ (l : List Record). a.records.items ++ l) (sym (records_more a.telling a.steps ps qs));
+  steps = two.steps ∙ ap (λ (n : ℕ). steps_after n qs) one.steps ∙ sym (steps_more a.steps ps qs);
+}
+
+-- the lines of an order were appended
+lines_text : (telling : Telling) (n : ℕ) (text : List ℕ) → piece_text telling n (Piece.lines text) ≡ text
+lines_text Orders n text = refl
+lines_text Steps n text = refl
+lines_text Records n text = refl
+
+no_records : (telling : Telling) (n : ℕ) (text : List ℕ) → piece_records telling n (Piece.lines text) ≡ []
+no_records Orders n text = refl
+no_records Steps n text = refl
+no_records Records n text = refl
+
+lines_told : (a b : Log) (text : List ℕ) → b.telling ≡ a.telling → b.steps ≡ a.steps → b.records ≡ a.records → b.text.items ≡ a.text.items ++ text → Tells a (Piece.lines text ∷ []) b
+lines_told a b text telling steps records appended = record {
+  telling = telling;
+  text = appended ∙ ap (λ (l : List ℕ). a.text.items ++ l) (sym (append-nil text) ∙ ap (λ (l : List ℕ). l ++ []) (sym (lines_text a.telling a.steps text)));
+  records =
+      ap (λ (r : Vec Record Global). r.items) records
+      ∙ sym (append-nil a.records.items)
+      ∙ ap (λ (l : List Record). a.records.items ++ (l ++ [])) (sym (no_records a.telling a.steps text));
+  steps = steps;
+}
 
 -- ---- turns of one worker
 
-pub no_turns : (who : ℕ) (g : Game) (told : Last) → TurnsOf who 0 g told told g
+pub no_turns : (who : ℕ) (g : Game) (told : Last) → TurnsOf who 0 g told told [] g
 unfolding TurnsOf
-no_turns who g told = (refl, refl)
+no_turns who g told = (refl, refl, refl)
 
-pub one_turn_more : (who more : ℕ) (g mid next : Game) (made : Turn) (before after told : Last) → Turned g who made mid → after ≡ last_of made
-    → TurnsOf who more mid after told next → TurnsOf who (suc more) g before told next
+pub one_turn_more : (who more : ℕ) (g mid next : Game) (made : Turn) (before after told : Last) (first others : List Piece) → ATurn g who made first mid → after ≡ last_of made
+    → TurnsOf who more mid after told others next → TurnsOf who (suc more) g before told (first ++ others) next
 unfolding TurnsOf
-one_turn_more who more g mid next made before after told turned is rest =
-    (made, mid, turned, subst (λ (l : Last). TurnsOf who more mid l told next) is rest)
+one_turn_more who more g mid next made before after told first others turned is rest =
+    (made, first, others, mid, turned, subst (λ (l : Last). TurnsOf who more mid l told others next) is rest, refl)
 
-pub until_limit : (who : ℕ) (kind : StepKind) (g : Game) → TurnsUntil 0 who kind g Limit g
+pub until_limit : (who : ℕ) (kind : StepKind) (g : Game) → TurnsUntil 0 who kind g Limit [] g
 unfolding TurnsUntil
-until_limit who kind g = (refl, refl)
+until_limit who kind g = (refl, refl, refl)
 
-pub until_reached : (more who : ℕ) (kind : StepKind) (g next : Game) (made : Turn) (told : Last) → Turned g who made next → Reaches kind made → told ≡ last_of made
-    → TurnsUntil (suc more) who kind g told next
+pub until_reached : (more who : ℕ) (kind : StepKind) (g next : Game) (made : Turn) (told : Last) (first : List Piece) → ATurn g who made first next → Reaches kind made → told ≡ last_of made
+    → TurnsUntil (suc more) who kind g told first next
 unfolding TurnsUntil
-until_reached more who kind g next made told turned reaches is = (made, next, turned, inl (reaches, is, refl))
+until_reached more who kind g next made told first turned reaches is = (made, first, next, turned, inl (reaches, is, refl, refl))
 
-pub until_more : (more who : ℕ) (kind : StepKind) (g mid next : Game) (made : Turn) (told : Last) → Turned g who made mid → Misses kind made
-    → TurnsUntil more who kind mid told next → TurnsUntil (suc more) who kind g told next
+pub until_more : (more who : ℕ) (kind : StepKind) (g mid next : Game) (made : Turn) (told : Last) (first others : List Piece) → ATurn g who made first mid → Misses kind made
+    → TurnsUntil more who kind mid told others next → TurnsUntil (suc more) who kind g told (first ++ others) next
 unfolding TurnsUntil
-until_more more who kind g mid next made told turned misses rest = (made, mid, turned, inr (misses, rest))
+until_more more who kind g mid next made told first others turned misses rest = (made, first, mid, turned, inr (misses, others, rest, refl))
 
 -- ---- turns of all workers
 
-pub no_worker_left : (from : ℕ) (g : Game) (some : Bool) → TurnOfEach 0 from g some some g
+pub no_worker_left : (from : ℕ) (g : Game) (some : Bool) → TurnOfEach 0 from g some some [] g
 unfolding TurnOfEach
-no_worker_left from g some = (refl, refl)
+no_worker_left from g some = (refl, refl, refl)
 
-pub one_worker_more : (count from : ℕ) (g mid next : Game) (made : Turn) (before after some : Bool) → Turned g from made mid → after ≡ before || makes_step made
-    → TurnOfEach count (from + 1) mid after some next → TurnOfEach (suc count) from g before some next
+pub one_worker_more : (count from : ℕ) (g mid next : Game) (made : Turn) (before after some : Bool) (first others : List Piece) → ATurn g from made first mid
+    → after ≡ before || makes_step made → TurnOfEach count (from + 1) mid after some others next → TurnOfEach (suc count) from g before some (first ++ others) next
 unfolding TurnOfEach
-one_worker_more count from g mid next made before after some turned is rest =
-    (made, mid, turned, subst (λ (b : Bool). TurnOfEach count (from + 1) mid b some next) is rest)
+one_worker_more count from g mid next made before after some first others turned is rest =
+    (made, first, others, mid, turned, subst (λ (b : Bool). TurnOfEach count (from + 1) mid b some others next) is rest, refl)
 
-pub last_pass : (more : ℕ) (g next : Game) (some : Bool) → TurnOfEach more 0 g false some next → Rests 0 more g next
+pub last_pass : (more : ℕ) (g next : Game) (some : Bool) (pieces : List Piece) → TurnOfEach more 0 g false some pieces next → Rests 0 more g pieces next
 unfolding Rests
-last_pass more g next some turns = (some, turns)
+last_pass more g next some pieces turns = (some, turns)
 
-pub quiet_pass : (passes more count : ℕ) (g next : Game) → length g.hands ≡ count → TurnOfEach count 0 g false false next → Rests (suc passes) more g next
+pub quiet_pass : (passes more count : ℕ) (g next : Game) (pieces : List Piece) → length g.hands ≡ count → TurnOfEach count 0 g false false pieces next → Rests (suc passes) more g pieces next
 unfolding Rests
-quiet_pass passes more count g next is turns =
-    (false, next, subst (λ (n : ℕ). TurnOfEach n 0 g false false next) (sym is) turns, refl)
+quiet_pass passes more count g next pieces is turns =
+    (false, pieces, [], next, subst (λ (n : ℕ). TurnOfEach n 0 g false false pieces next) (sym is) turns, (refl, refl), sym (append-nil pieces))
 
-pub one_pass_more : (passes more count : ℕ) (g mid next : Game) → length g.hands ≡ count → TurnOfEach count 0 g false true mid
-    → Rests passes more mid next → Rests (suc passes) more g next
+pub one_pass_more : (passes more count : ℕ) (g mid next : Game) (first others : List Piece) → length g.hands ≡ count → TurnOfEach count 0 g false true first mid
+    → Rests passes more mid others next → Rests (suc passes) more g (first ++ others) next
 unfolding Rests
-one_pass_more passes more count g mid next is turns rest =
-    (true, mid, subst (λ (n : ℕ). TurnOfEach n 0 g false true mid) (sym is) turns, rest)
+one_pass_more passes more count g mid next first others is turns rest =
+    (true, first, others, mid, subst (λ (n : ℕ). TurnOfEach n 0 g false true first mid) (sym is) turns, rest, refl)
 
 -- ---- orders
 
@@ -78,12 +146,12 @@ pub no_order : (g : Game) → Follows [] g [] g
 unfolding Follows
 no_order g = (refl, refl)
 
-pub one_order_more : (order : Order) (orders : List Order) (g mid next : Game) (first others : List ℕ) → Does order g first mid
+pub one_order_more : (order : Order) (orders : List Order) (g mid next : Game) (first others : List Piece) → Does order g first mid
     → Follows orders mid others next → Follows (order ∷ orders) g (first ++ others) next
 unfolding Follows
 one_order_more order orders g mid next first others does rest = (first, others, mid, does, rest, refl)
 
-pub orders_from : (orders : List Order) (i : ℕ) (other : Order) (g mid next : Game) (first others : List ℕ) → i < length orders → Does (get_or orders i other) g first mid
+pub orders_from : (orders : List Order) (i : ℕ) (other : Order) (g mid next : Game) (first others : List Piece) → i < length orders → Does (get_or orders i other) g first mid
     → Follows (drop (i + 1) orders) mid others next → Follows (drop i orders) g (first ++ others) next
 orders_from orders i other g mid next first others inside does rest =
     rw (drop-cons orders i other) (one_order_more (get_or orders i other) (drop (suc i) orders) g mid next first others does (rw add-one at rest))
@@ -96,37 +164,49 @@ a_round g next true decides begins stays = (decides.0 refl, begins refl)
 a_round g next false decides begins stays =
     (λ stopped. let no : false ≡ true = decides.1 stopped in absurd cc, stays refl)
 
--- ---- what an order prints
+-- ---- what is told of an order
 
--- The text was appended, and it is the one of the order.
-pub told_of : {X E : Type 0} (todo done : Order) (g next : Game) (text old new : List ℕ) (r : Result X E) → todo ≡ done → Prints old new text r → Does done g text next
-    → OnOk r ((x : List ℕ) × Does todo g x next × (new ≡ old ++ x))
-told_of todo done g next text old new (Ok x) is prints does = (text, subst (λ (o : Order). Does o g text next) (sym is) does, prints)
-told_of todo done g next text old new (Err e) is prints does = tt
+-- After its steps its lines were appended, and what is told is that of the order.
+told_after : (todo done : Order) (g next : Game) (steps : List Piece) (text : List ℕ) (old mid new : Log) → todo ≡ done → Tells old steps mid
+    → new.telling ≡ mid.telling → new.steps ≡ mid.steps → new.records ≡ mid.records → new.text.items ≡ mid.text.items ++ text → Does done g (steps ++ Piece.lines text ∷ []) next
+    → (pieces : List Piece) × Does todo g pieces next × Tells old pieces new
+told_after todo done g next steps text old mid new is before telling count records prints does = (
+  steps ++ Piece.lines text ∷ [],
+  subst (λ (o : Order). Does o g (steps ++ Piece.lines text ∷ []) next) (sym is) does,
+  then_tells old mid new steps (Piece.lines text ∷ []) before (lines_told mid new text telling count records prints),
+)
 
-pub told_so : {X E : Type 0} (todo done : Order) (g next : Game) (text old new : List ℕ) (r : Result X E) → todo ≡ done → OnOk r (new ≡ old ++ text) → Does done g text next
-    → OnOk r ((x : List ℕ) × Does todo g x next × (new ≡ old ++ x))
-told_so todo done g next text old new (Ok x) is prints does = (text, subst (λ (o : Order). Does o g text next) (sym is) does, prints)
-told_so todo done g next text old new (Err e) is prints does = tt
+pub told_of : {X E : Type 0} (todo done : Order) (g next : Game) (steps : List Piece) (text : List ℕ) (old mid new : Log) (r : Result X E) → todo ≡ done → Tells old steps mid
+    → new.telling ≡ mid.telling → new.steps ≡ mid.steps → new.records ≡ mid.records → Prints mid.text.items new.text.items text r → Does done g (steps ++ Piece.lines text ∷ []) next
+    → OnOk r ((pieces : List Piece) × Does todo g pieces next × Tells old pieces new)
+told_of todo done g next steps text old mid new (Ok x) is before telling count records prints does = told_after todo done g next steps text old mid new is before telling count records prints does
+told_of todo done g next steps text old mid new (Err e) is before telling count records prints does = tt
 
-pub turn_order : (worker turns : ℕ) (g : Game) (told : Last) (next : Game) → TurnsOf worker turns g Limit told next → Does (order.Turn worker turns) g (turn_line worker turns told) next
+pub told_so : {X E : Type 0} (todo done : Order) (g next : Game) (text : List ℕ) (old new : Log) (r : Result X E) → todo ≡ done
+    → new.telling ≡ old.telling → new.steps ≡ old.steps → new.records ≡ old.records → OnOk r (new.text.items ≡ old.text.items ++ text) → Does done g (Piece.lines text ∷ []) next
+    → OnOk r ((pieces : List Piece) × Does todo g pieces next × Tells old pieces new)
+told_so todo done g next text old new (Ok x) is telling count records prints does = told_after todo done g next [] text old old new is (nothing_told old) telling count records prints does
+told_so todo done g next text old new (Err e) is telling count records prints does = tt
+
+pub turn_order : (worker turns : ℕ) (g : Game) (told : Last) (steps : List Piece) (next : Game) → TurnsOf worker turns g Limit told steps next
+    → Does (order.Turn worker turns) g (steps ++ Piece.lines (turn_line worker turns told) ∷ []) next
 unfolding Does
-turn_order worker turns g told next made = (told, made, refl)
+turn_order worker turns g told steps next made = (told, steps, made, refl)
 
-pub until_order : (worker : ℕ) (step : Step) (kind : StepKind) (g : Game) (told : Last) (next : Game) → kind ≡ step_kind step → TurnsUntil MAX_TURNS worker kind g told next
-    → Does (order.Until worker step) g (until_line worker step told) next
+pub until_order : (worker : ℕ) (step : Step) (kind : StepKind) (g : Game) (told : Last) (steps : List Piece) (next : Game) → kind ≡ step_kind step
+    → TurnsUntil MAX_TURNS worker kind g told steps next → Does (order.Until worker step) g (steps ++ Piece.lines (until_line worker step told) ∷ []) next
 unfolding Does
-until_order worker step kind g told next is made = (told, subst (λ (k : StepKind). TurnsUntil MAX_TURNS worker k g told next) is made, refl)
+until_order worker step kind g told steps next is made = (told, steps, subst (λ (k : StepKind). TurnsUntil MAX_TURNS worker k g told steps next) is made, refl)
 
-pub rest_order : (g next : Game) (told : Rest) → RestsWithin MAX_TURNS g next → StandsAs told next → Does order.Rest g (rest_line told) next
+pub rest_order : (g next : Game) (told : Rest) (steps : List Piece) → RestsWithin MAX_TURNS g steps next → StandsAs told next → Does order.Rest g (steps ++ Piece.lines (rest_line told) ∷ []) next
 unfolding Does
-rest_order g next told made stands = (told, made, stands, refl)
+rest_order g next told steps made stands = (told, steps, made, stands, refl)
 
-pub round_order : (g next : Game) (began : Bool) → Rounds g began next → Does order.Round g (round_line began) next
+pub round_order : (g next : Game) (began : Bool) → Rounds g began next → Does order.Round g (round_pieces began ++ Piece.lines (round_line began) ∷ []) next
 unfolding Does
 round_order g next began made = (began, made, refl)
 
-pub show_order : (g : Game) → Does order.Show g (shown g) g
+pub show_order : (g : Game) → Does order.Show g (Piece.lines (shown g) ∷ []) g
 unfolding Does
 show_order g = (refl, refl)
 

@@ -9,7 +9,9 @@ use Rattle.rh_player.specs.Turned.{Turned}
 use Rattle.rh_play.specs.declared.schedule.Order.{Order}
 use Rattle.rh_play.specs.declared.schedule.Order.TheVariants as order
 use Rattle.rh_play_report.specs.declared.endings.Last.{Last}
-use Rattle.rh_play_run.specs.Schedule.{Does, Follows, Rests, Rounds, TurnOfEach, TurnsOf, TurnsUntil, last_of}
+use Rattle.rh_player.proofs.Turning.{turned_so}
+use Rattle.rh_play_run.specs.Pieces.{Piece}
+use Rattle.rh_play_run.specs.Schedule.{ATurn, Does, Follows, Rests, Rounds, TurnOfEach, TurnsOf, TurnsUntil, last_of}
 
 -- the keys, the table's size and first cells, and the number of workers
 pub record Keeps (g next : Game) : Type 0 where
@@ -44,44 +46,47 @@ round_keeps g true next h =
     subst (Keeps g) (sym h.1.next_is) (record { kind = refl; shape = refl; opening = refl; keys = refl; workers = h.1.workers })
 round_keeps g false next h = stays g next h.1
 
-turns_keep : (who turns : ℕ) (g : Game) (before told : Last) (next : Game) → TurnsOf who turns g before told next → Keeps g next
+a_turn_keeps : (g : Game) (who : ℕ) (made : Turn) (pieces : List Piece) (next : Game) → ATurn g who made pieces next → Keeps g next
+a_turn_keeps g who made pieces next h = turn_keeps g who made next (turned_so g who made h.touched next h.traced)
+
+turns_keep : (who turns : ℕ) (g : Game) (before told : Last) (pieces : List Piece) (next : Game) → TurnsOf who turns g before told pieces next → Keeps g next
 unfolding TurnsOf
-turns_keep who zero g before told next h = stays g next h.1
-turns_keep who (suc turns) g before told next (made, mid, turned, rest) =
-    then_keeps g mid next (turn_keeps g who made mid turned) (turns_keep who turns mid (last_of made) told next rest)
+turns_keep who zero g before told pieces next h = stays g next h.2
+turns_keep who (suc turns) g before told pieces next (made, first, others, mid, turned, rest, is) =
+    then_keeps g mid next (a_turn_keeps g who made first mid turned) (turns_keep who turns mid (last_of made) told others next rest)
 
-until_keeps : (limit who : ℕ) (kind : StepKind) (g : Game) (told : Last) (next : Game) → TurnsUntil limit who kind g told next → Keeps g next
+until_keeps : (limit who : ℕ) (kind : StepKind) (g : Game) (told : Last) (pieces : List Piece) (next : Game) → TurnsUntil limit who kind g told pieces next → Keeps g next
 unfolding TurnsUntil
-until_keeps zero who kind g told next h = stays g next h.1
-until_keeps (suc limit) who kind g told next (made, mid, turned, inl reached) =
-    then_keeps g mid next (turn_keeps g who made mid turned) (stays mid next reached.2)
-until_keeps (suc limit) who kind g told next (made, mid, turned, inr missed) =
-    then_keeps g mid next (turn_keeps g who made mid turned) (until_keeps limit who kind mid told next missed.1)
+until_keeps zero who kind g told pieces next h = stays g next h.2
+until_keeps (suc limit) who kind g told pieces next (made, first, mid, turned, inl reached) =
+    then_keeps g mid next (a_turn_keeps g who made first mid turned) (stays mid next reached.3)
+until_keeps (suc limit) who kind g told pieces next (made, first, mid, turned, inr (missed, others, rest, is)) =
+    then_keeps g mid next (a_turn_keeps g who made first mid turned) (until_keeps limit who kind mid told others next rest)
 
-pub each_keeps : (count from : ℕ) (g : Game) (before some : Bool) (next : Game) → TurnOfEach count from g before some next → Keeps g next
+pub each_keeps : (count from : ℕ) (g : Game) (before some : Bool) (pieces : List Piece) (next : Game) → TurnOfEach count from g before some pieces next → Keeps g next
 unfolding TurnOfEach
-each_keeps zero from g before some next h = stays g next h.1
-each_keeps (suc count) from g before some next (made, mid, turned, rest) =
-    then_keeps g mid next (turn_keeps g from made mid turned) (each_keeps count (from + 1) mid _ some next rest)
+each_keeps zero from g before some pieces next h = stays g next h.2
+each_keeps (suc count) from g before some pieces next (made, first, others, mid, turned, rest, is) =
+    then_keeps g mid next (a_turn_keeps g from made first mid turned) (each_keeps count (from + 1) mid _ some others next rest)
 
-rests_keep : (passes more : ℕ) (g next : Game) → Rests passes more g next → Keeps g next
+rests_keep : (passes more : ℕ) (g : Game) (pieces : List Piece) (next : Game) → Rests passes more g pieces next → Keeps g next
 unfolding Rests
-rests_keep zero more g next (some, turns) = each_keeps more 0 g false some next turns
-rests_keep (suc passes) more g next (true, mid, turns, rest) =
-    then_keeps g mid next (each_keeps (length g.hands) 0 g false true mid turns) (rests_keep passes more mid next rest)
-rests_keep (suc passes) more g next (false, mid, turns, same) =
-    then_keeps g mid next (each_keeps (length g.hands) 0 g false false mid turns) (stays mid next same)
+rests_keep zero more g pieces next (some, turns) = each_keeps more 0 g false some pieces next turns
+rests_keep (suc passes) more g pieces next (true, first, others, mid, turns, rest, is) =
+    then_keeps g mid next (each_keeps (length g.hands) 0 g false true first mid turns) (rests_keep passes more mid others next rest)
+rests_keep (suc passes) more g pieces next (false, first, others, mid, turns, same, is) =
+    then_keeps g mid next (each_keeps (length g.hands) 0 g false false first mid turns) (stays mid next same.1)
 
-pub order_keeps : (todo : Order) (g : Game) (text : List ℕ) (next : Game) → Does todo g text next → Keeps g next
+pub order_keeps : (todo : Order) (g : Game) (pieces : List Piece) (next : Game) → Does todo g pieces next → Keeps g next
 unfolding Does
-order_keeps (order.Turn worker turns) g text next (told, h, is) = turns_keep worker turns g _ told next h
-order_keeps (order.Until worker step) g text next (told, h, is) = until_keeps _ worker _ g told next h
-order_keeps order.Rest g text next (told, h, stands, is) = rests_keep _ _ g next h
-order_keeps order.Round g text next (began, h, is) = round_keeps g began next h
-order_keeps order.Show g text next (same, is) = stays g next same
+order_keeps (order.Turn worker turns) g pieces next (told, steps, h, is) = turns_keep worker turns g _ told steps next h
+order_keeps (order.Until worker step) g pieces next (told, steps, h, is) = until_keeps _ worker _ g told steps next h
+order_keeps order.Rest g pieces next (told, steps, h, stands, is) = rests_keep _ _ g steps next h
+order_keeps order.Round g pieces next (began, h, is) = round_keeps g began next h
+order_keeps order.Show g pieces next (same, is) = stays g next same
 
-pub schedule_keeps : (orders : List Order) (g : Game) (text : List ℕ) (next : Game) → Follows orders g text next → Keeps g next
+pub schedule_keeps : (orders : List Order) (g : Game) (pieces : List Piece) (next : Game) → Follows orders g pieces next → Keeps g next
 unfolding Follows
-schedule_keeps [] g text next h = stays g next h.1
-schedule_keeps (todo ∷ orders) g text next (first, others, mid, does, rest, is) =
+schedule_keeps [] g pieces next h = stays g next h.1
+schedule_keeps (todo ∷ orders) g pieces next (first, others, mid, does, rest, is) =
     then_keeps g mid next (order_keeps todo g first mid does) (schedule_keeps orders mid others next rest)

@@ -18,6 +18,8 @@ use Rattle.rh_play_run.specs.Beginning.{Begins, bits_of, held_of, keys_in}
 use Rattle.rh_play_run.specs.declared.fault.PlayRunFault.{PlayRunFault}
 use Rattle.rh_play_run.specs.declared.fault.PlayRunFault.TheVariants.{Read, Text, Start, Memory, Write}
 use Rattle.rh_play_run.specs.Run.{ClosesWith, IsAllFinished, tally_so_far, IsPlayRead, IsPlayed, IsUnplayed, Runs, SaysGoodPlay, closing}
+use Rattle.rh_play_run.specs.declared.log.Telling.{Telling}
+use Rattle.rh_play_run.specs.Pieces.{Piece, told}
 use Rattle.rh_play_run.specs.Schedule.{Follows}
 use Rattle.rh_play_run.proofs.Begun.{matches}
 use Rattle.rh_play_run.proofs.Keeping.{schedule_keeps}
@@ -29,9 +31,9 @@ pub record IsLast (play : Play) (g : Game) : Type 0 where
   pub held : held_first g ≡ held_of play
   pub keys : g.keys ≡ keys_in play.work
 
-pub last_game : (play : Play) (first last : Game) (text : List ℕ) → Begins play first → Follows play.schedule.items first text last → IsLast play last
-last_game play first last text begins follows =
-    let kept = schedule_keeps play.schedule.items first text last follows in
+pub last_game : (play : Play) (first last : Game) (pieces : List Piece) → Begins play first → Follows play.schedule.items first pieces last → IsLast play last
+last_game play first last pieces begins follows =
+    let kept = schedule_keeps play.schedule.items first pieces last follows in
     let start = matches play play.work begins.cells first begins.starts in
     record {
       kind = kept.kind ∙ start.kind;
@@ -57,17 +59,17 @@ same_closing close k l S T xs ys q r s is =
     (subst (λ (x : Keys). close ≡ closing (tally_of k x ys) true) r
     (subst (λ (x : List ℕ). close ≡ closing (tally_of k S x) true) s is))
 
-pub played : (play : Play) (first last : Game) (text body cells close : List ℕ) → Begins play first → Follows play.schedule.items first text last → body ≡ text → MadeSoFar last cells
-    → (AllFinished last → Layout cells last.shape.bits (set_after last.kind (held_first last) last.keys)) → ClosesWith last close
-    → (AllFinished last → close ≡ closing (tally_of last.kind (held_first last) last.keys) true) → IsPlayed play (body ++ (dump_text (bits_of play) cells ++ close))
-played play first last text body cells close begins follows is made layout closes closed =
-    let end = last_game play first last text begins follows in
+pub played : (telling : Telling) (play : Play) (first last : Game) (pieces : List Piece) (body cells close : List ℕ) → Begins play first → Follows play.schedule.items first pieces last
+    → body ≡ told telling 0 pieces → MadeSoFar last cells → (AllFinished last → Layout cells last.shape.bits (set_after last.kind (held_first last) last.keys)) → ClosesWith last close
+    → (AllFinished last → close ≡ closing (tally_of last.kind (held_first last) last.keys) true) → IsPlayed telling play (body ++ (dump_text (bits_of play) cells ++ close))
+played telling play first last pieces body cells close begins follows is made layout closes closed =
+    let end = last_game play first last pieces begins follows in
     record {
       first = first;
       last = last;
       begins = begins;
-      body = body;
-      follows = subst (λ (t : List ℕ). Follows play.schedule.items first t last) (sym is) follows;
+      pieces = pieces;
+      follows = follows;
       ending = dump_text (bits_of play) cells ++ close;
       ends = record { cells = cells; so_far = made; close = close; closes = closes; text_is = refl };
       as_one = λ done. record {
@@ -75,7 +77,7 @@ played play first last text body cells close begins follows is made layout close
         layout = same_layout cells _ _ _ _ _ _ _ _ end.bits end.kind end.held end.keys (layout done);
         text_is = ap (λ (t : List ℕ). dump_text (bits_of play) cells ++ t) (same_closing close _ _ _ _ _ _ end.kind end.held end.keys (closed done));
       };
-      text_is = refl;
+      text_is = ap (λ (t : List ℕ). t ++ (dump_text (bits_of play) cells ++ close)) is;
     }
 
 -- ---- the lines below the dump
@@ -100,12 +102,12 @@ closed_finished g empty first text tally whole finished counts tells none one tw
 
 -- ---- what comes of a run
 
-pub unplayed : (X : Type 0) (bytes old new : Option (List ℕ)) (play : Play) (fault : PlayRunFault) → IsPlayRead bytes play → IsUnplayed play fault → Runs {X = X} bytes old new (Err fault)
-unplayed X bytes old new play Read read why = absurd why
-unplayed X bytes old new play (Text fault) read why = absurd why
-unplayed X bytes old new play (Start fault) read why = (play, read, why)
-unplayed X bytes old new play Memory read why = tt
-unplayed X bytes old new play Write read why = absurd why
+pub unplayed : (X : Type 0) (telling : Telling) (bytes old new : Option (List ℕ)) (play : Play) (fault : PlayRunFault) → IsPlayRead bytes play → IsUnplayed play fault → Runs {X = X} telling bytes old new (Err fault)
+unplayed X telling bytes old new play Read read why = absurd why
+unplayed X telling bytes old new play (Text fault) read why = absurd why
+unplayed X telling bytes old new play (Start fault) read why = (play, read, why)
+unplayed X telling bytes old new play Memory read why = tt
+unplayed X telling bytes old new play Write read why = absurd why
 
 pub good_play : (X : Type 0) (bytes : Option (List ℕ)) (play : Play) (fault : PlayRunFault) → IsPlayRead bytes play → IsUnplayed play fault → IsErrOf {T = X} (Err fault) Memory → SaysGoodPlay bytes
 good_play X bytes play fault read why memory =
@@ -116,12 +118,12 @@ same_parts : (bits : ℕ) (body body' cells cells' close close' : List ℕ) → 
     → body' ++ (dump_text bits cells' ++ close') ≡ body ++ (dump_text bits cells ++ close)
 same_parts bits body body' cells cells' close close' p q r = rw (p, q, r) refl
 
-pub stopped : (X : Type 0) (bytes old new : Option (List ℕ)) (play : Play) (bits : ℕ) (body body' cells cells' close close' : List ℕ) → body' ≡ body → cells' ≡ cells → close' ≡ close
-    → IsPlayRead bytes play → IsPlayed play (body ++ (dump_text bits cells ++ close)) → AppendsFront old new (body' ++ (dump_text bits cells' ++ close')) → Runs {X = X} bytes old new (Err Write)
-stopped X bytes old new play bits body body' cells cells' close close' p q r read is front =
+pub stopped : (X : Type 0) (telling : Telling) (bytes old new : Option (List ℕ)) (play : Play) (bits : ℕ) (body body' cells cells' close close' : List ℕ) → body' ≡ body → cells' ≡ cells → close' ≡ close
+    → IsPlayRead bytes play → IsPlayed telling play (body ++ (dump_text bits cells ++ close)) → AppendsFront old new (body' ++ (dump_text bits cells' ++ close')) → Runs {X = X} telling bytes old new (Err Write)
+stopped X telling bytes old new play bits body body' cells cells' close close' p q r read is front =
     (body ++ (dump_text bits cells ++ close), (play, read, is), subst (λ (t : List ℕ). AppendsFront old new t) (same_parts bits body body' cells cells' close close' p q r) front)
 
-pub done : {X : Type 0} (bytes old new : Option (List ℕ)) (play : Play) (bits : ℕ) (body body' cells cells' close close' : List ℕ) (x : X) → body' ≡ body → cells' ≡ cells → close' ≡ close
-    → IsPlayRead bytes play → IsPlayed play (body ++ (dump_text bits cells ++ close)) → Appends old new (body' ++ (dump_text bits cells' ++ close')) → Runs {X = X} bytes old new (Ok x)
-done bytes old new play bits body body' cells cells' close close' x p q r read is written =
+pub done : {X : Type 0} (telling : Telling) (bytes old new : Option (List ℕ)) (play : Play) (bits : ℕ) (body body' cells cells' close close' : List ℕ) (x : X) → body' ≡ body → cells' ≡ cells → close' ≡ close
+    → IsPlayRead bytes play → IsPlayed telling play (body ++ (dump_text bits cells ++ close)) → Appends old new (body' ++ (dump_text bits cells' ++ close')) → Runs {X = X} telling bytes old new (Ok x)
+done telling bytes old new play bits body body' cells cells' close close' x p q r read is written =
     (body ++ (dump_text bits cells ++ close), (play, read, is), subst (λ (t : List ℕ). Appends old new t) (same_parts bits body body' cells cells' close close' p q r) written)

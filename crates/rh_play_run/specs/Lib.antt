@@ -1,3 +1,6 @@
 pub mod Beginning
+pub mod Devices
+pub mod Drawing
 pub mod Run
 pub mod Schedule
+pub mod Pieces

@@ -21,6 +21,8 @@ use Rattle.rh_play_report.specs.Lines.{end_line, tally_line}
 use Rattle.rh_play_run.specs.declared.fault.PlayRunFault.{PlayRunFault}
 use Rattle.rh_play_run.specs.declared.fault.PlayRunFault.TheVariants.{Read, Text, Start, Memory, Write}
 use Rattle.rh_play_run.specs.Beginning.{Begins, CanBegin, IsRefusedStart, bits_of, held_of, keys_in}
+use Rattle.rh_play_run.specs.declared.log.Telling.{Telling}
+use Rattle.rh_play_run.specs.Pieces.{Piece, told}
 use Rattle.rh_play_run.specs.Schedule.{Follows}
 
 -- ---- the end of a play
@@ -57,17 +59,17 @@ pub record EndsAsOne (play : Play) (text : List ℕ) : Type 0 where
 
 -- ---- the whole text
 
--- The schedule is followed from the beginning on, and then the end is told.
-pub record IsPlayed (play : Play) (text : List ℕ) : Type 0 where
+-- The schedule is followed from the beginning on, and told so; and then the end is told.
+pub record IsPlayed (telling : Telling) (play : Play) (text : List ℕ) : Type 0 where
   pub first : Game
   pub last : Game
   pub begins : Begins play first
-  pub body : List ℕ
-  pub follows : Follows play.schedule.items first body last
+  pub pieces : List Piece
+  pub follows : Follows play.schedule.items first pieces last
   pub ending : List ℕ
   pub ends : Ends (bits_of play) last ending
   pub as_one : AllFinished last → EndsAsOne play ending
-  pub text_is : text ≡ body ++ ending
+  pub text_is : text ≡ told telling 0 pieces ++ ending
 
 -- ---- what comes of a run
 
@@ -94,8 +96,8 @@ IsTextFault None fault = Unit {0}
 IsTextFault (Some bytes) fault = IsRefusedText bytes fault
 
 -- the text of the play that the bytes say
-abbrev pub IsRunOf : (bytes : Option (List ℕ)) (text : List ℕ) → Type 0
-IsRunOf bytes text = (play : Play) × IsPlayRead bytes play × IsPlayed play text
+abbrev pub IsRunOf : Telling → (bytes : Option (List ℕ)) (text : List ℕ) → Type 0
+IsRunOf telling bytes text = (play : Play) × IsPlayRead bytes play × IsPlayed telling play text
 
 -- The start of the play that the bytes say is refused by this fault.
 abbrev pub IsRefused : (bytes : Option (List ℕ)) → PlayFault → Type 0
@@ -123,10 +125,10 @@ IsUnplayed play Write = ⊥
 
 -- The bytes said a play, and its text or a front of it was written; or they said none; or it does not begin. Of a failed
 -- read and of want of memory other clauses speak.
-abbrev pub Runs : {X : Type 0} → (bytes old new : Option (List ℕ)) → Result X PlayRunFault → Type 0
-Runs bytes old new (Ok x) = (text : List ℕ) × IsRunOf bytes text × Appends old new text
-Runs bytes old new (Err Write) = (text : List ℕ) × IsRunOf bytes text × AppendsFront old new text
-Runs bytes old new (Err (Text fault)) = IsTextFault bytes fault
-Runs bytes old new (Err (Start fault)) = IsRefused bytes fault
-Runs bytes old new (Err Memory) = Unit {0}
-Runs bytes old new (Err Read) = Unit {0}
+abbrev pub Runs : {X : Type 0} → Telling → (bytes old new : Option (List ℕ)) → Result X PlayRunFault → Type 0
+Runs telling bytes old new (Ok x) = (text : List ℕ) × IsRunOf telling bytes text × Appends old new text
+Runs telling bytes old new (Err Write) = (text : List ℕ) × IsRunOf telling bytes text × AppendsFront old new text
+Runs telling bytes old new (Err (Text fault)) = IsTextFault bytes fault
+Runs telling bytes old new (Err (Start fault)) = IsRefused bytes fault
+Runs telling bytes old new (Err Memory) = Unit {0}
+Runs telling bytes old new (Err Read) = Unit {0}

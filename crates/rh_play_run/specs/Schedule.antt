@@ -7,7 +7,7 @@ use Rattle.rh_tagword.specs.Word.{word_in}
 use Rattle.rh_turns.specs.declared.turning.Turn.{Turn}
 use Rattle.rh_turns.specs.declared.turning.Turn.TheVariants as turn
 use Rattle.rh_turns.specs.Game.{AllFinished, AllStopped, Game}
-use Rattle.rh_player.specs.Turned.{BeginsRound, Turned}
+use Rattle.rh_player.specs.Turned.{BeginsRound, Traced}
 use Rattle.rh_play.specs.declared.limits.TheConstants.{MAX_TURNS}
 use Rattle.rh_play.specs.declared.schedule.Order.{Order}
 use Rattle.rh_play.specs.declared.schedule.Order.TheVariants as order
@@ -17,6 +17,8 @@ use Rattle.rh_play_report.specs.declared.endings.Rest.{Rest}
 use Rattle.rh_play_report.specs.declared.endings.Rest.TheVariants as rest
 use Rattle.rh_play_report.specs.Lines.{raw_line, rest_line, round_line, turn_line, until_line}
 use Rattle.rh_play_report.specs.Words.{step_kind}
+use Rattle.rh_recorder.specs.declared.recorder.Touched.{Touched}
+use Rattle.rh_play_run.specs.Pieces.{Piece, round_pieces, turn_pieces}
 
 -- ---- turns of one worker
 
@@ -27,11 +29,18 @@ last_of turn.Finished = last.Finished
 last_of turn.Spent = last.Spent
 last_of turn.NoSuchWorker = last.NoWorker
 
--- So many turns, of which the last came to this. Before them it was as told before.
-unfoldable pub TurnsOf : (who turns : ℕ) → Game → (before : Last) → (told : Last) → Game → Type 0
-TurnsOf who zero g before told next = (told ≡ before) × (next ≡ g)
-TurnsOf who (suc turns) g before told next =
-    (made : Turn) × (mid : Game) × Turned g who made mid × TurnsOf who turns mid (last_of made) told next
+-- One turn, and what is told of it.
+pub record ATurn (g : Game) (who : ℕ) (made : Turn) (pieces : List Piece) (next : Game) : Type 0 where
+  pub touched : Option Touched
+  pub traced : Traced g who made touched next
+  pub pieces_are : pieces ≡ turn_pieces who made touched
+
+-- So many turns, of which the last came to this, and their steps. Before them it was as told before.
+unfoldable pub TurnsOf : (who turns : ℕ) → Game → (before : Last) → (told : Last) → (pieces : List Piece) → Game → Type 0
+TurnsOf who zero g before told pieces next = (told ≡ before) × (pieces ≡ []) × (next ≡ g)
+TurnsOf who (suc turns) g before told pieces next =
+    (made : Turn) × (first : List Piece) × (others : List Piece) × (mid : Game) × ATurn g who made first mid × TurnsOf who turns mid (last_of made) told others next
+    × (pieces ≡ first ++ others)
 
 -- The turn is the last one where a step of this kind is wanted: it made one, or it made no step.
 abbrev pub Reaches : StepKind → Turn → Type 0
@@ -48,11 +57,12 @@ Misses kind turn.Spent = ⊥
 Misses kind turn.NoSuchWorker = ⊥
 
 -- Turns up to the first that makes a step of this kind or none, so many at most. It is told what that turn came to.
-unfoldable pub TurnsUntil : (limit who : ℕ) → StepKind → Game → (told : Last) → Game → Type 0
-TurnsUntil zero who kind g told next = (told ≡ last.Limit) × (next ≡ g)
-TurnsUntil (suc limit) who kind g told next =
-    (made : Turn) × (mid : Game) × Turned g who made mid
-    × ((Reaches kind made × (told ≡ last_of made) × (next ≡ mid)) ⊎ (Misses kind made × TurnsUntil limit who kind mid told next))
+unfoldable pub TurnsUntil : (limit who : ℕ) → StepKind → Game → (told : Last) → (pieces : List Piece) → Game → Type 0
+TurnsUntil zero who kind g told pieces next = (told ≡ last.Limit) × (pieces ≡ []) × (next ≡ g)
+TurnsUntil (suc limit) who kind g told pieces next =
+    (made : Turn) × (first : List Piece) × (mid : Game) × ATurn g who made first mid
+    × ((Reaches kind made × (told ≡ last_of made) × (pieces ≡ first) × (next ≡ mid))
+    ⊎ (Misses kind made × (others : List Piece) × TurnsUntil limit who kind mid told others next × (pieces ≡ first ++ others)))
 
 -- ---- turns of all workers
 
@@ -63,21 +73,23 @@ makes_step turn.Spent = false
 makes_step turn.NoSuchWorker = false
 
 -- One turn each of so many workers in order, from this one on: whether some turn made a step, or one before them.
-unfoldable pub TurnOfEach : (count from : ℕ) → Game → (before : Bool) → (some : Bool) → Game → Type 0
-TurnOfEach zero from g before some next = (some ≡ before) × (next ≡ g)
-TurnOfEach (suc count) from g before some next =
-    (made : Turn) × (mid : Game) × Turned g from made mid × TurnOfEach count (from + 1) mid (before || makes_step made) some next
+unfoldable pub TurnOfEach : (count from : ℕ) → Game → (before : Bool) → (some : Bool) → (pieces : List Piece) → Game → Type 0
+TurnOfEach zero from g before some pieces next = (some ≡ before) × (pieces ≡ []) × (next ≡ g)
+TurnOfEach (suc count) from g before some pieces next =
+    (made : Turn) × (first : List Piece) × (others : List Piece) × (mid : Game) × ATurn g from made first mid
+    × TurnOfEach count (from + 1) mid (before || makes_step made) some others next × (pieces ≡ first ++ others)
 
 -- Passes over all workers, up to the first in which no turn makes a step: so many at most, and where that is not enough so
 -- many turns of one more.
-unfoldable pub Rests : (passes more : ℕ) → Game → Game → Type 0
-Rests zero more g next = (some : Bool) × TurnOfEach more 0 g false some next
-Rests (suc passes) more g next =
-    (some : Bool) × (mid : Game) × TurnOfEach (length g.hands) 0 g false some mid × MatchBool some (Rests passes more mid next) (next ≡ mid)
+unfoldable pub Rests : (passes more : ℕ) → Game → (pieces : List Piece) → Game → Type 0
+Rests zero more g pieces next = (some : Bool) × TurnOfEach more 0 g false some pieces next
+Rests (suc passes) more g pieces next =
+    (some : Bool) × (first : List Piece) × (others : List Piece) × (mid : Game) × TurnOfEach (length g.hands) 0 g false some first mid
+    × MatchBool some (Rests passes more mid others next) ((others ≡ []) × (next ≡ mid)) × (pieces ≡ first ++ others)
 
 -- no more turns than a line may ask for
-abbrev pub RestsWithin : (turns : ℕ) → Game → Game → Type 0
-RestsWithin turns g next = Rests (turns / length g.hands) (turns % length g.hands) g next
+abbrev pub RestsWithin : (turns : ℕ) → Game → (pieces : List Piece) → Game → Type 0
+RestsWithin turns g pieces next = Rests (turns / length g.hands) (turns % length g.hands) g pieces next
 
 -- how the workers stand: all are finished, or none has a step left and some are spent, or one has a step left
 abbrev pub StandsAs : Rest → Game → Type 0
@@ -107,21 +119,23 @@ shown g = words_shown g.words (cell_count g.shape)
 
 -- ---- a schedule
 
--- What an order does to a game, and the text that it prints.
-unfoldable pub Does : Order → Game → (text : List ℕ) → Game → Type 0
-Does (order.Turn worker turns) g text next =
-    (told : Last) × TurnsOf worker turns g last.Limit told next × (text ≡ turn_line worker turns told)
-Does (order.Until worker step) g text next =
-    (told : Last) × TurnsUntil MAX_TURNS worker (step_kind step) g told next × (text ≡ until_line worker step told)
-Does order.Rest g text next = (told : Rest) × RestsWithin MAX_TURNS g next × StandsAs told next × (text ≡ rest_line told)
-Does order.Round g text next = (began : Bool) × Rounds g began next × (text ≡ round_line began)
-Does order.Show g text next = (next ≡ g) × (text ≡ shown g)
+-- What an order does to a game, and what is told of it: its steps, and then its lines.
+unfoldable pub Does : Order → Game → (pieces : List Piece) → Game → Type 0
+Does (order.Turn worker turns) g pieces next =
+    (told : Last) × (steps : List Piece) × TurnsOf worker turns g last.Limit told steps next × (pieces ≡ steps ++ Piece.lines (turn_line worker turns told) ∷ [])
+Does (order.Until worker step) g pieces next =
+    (told : Last) × (steps : List Piece) × TurnsUntil MAX_TURNS worker (step_kind step) g told steps next
+    × (pieces ≡ steps ++ Piece.lines (until_line worker step told) ∷ [])
+Does order.Rest g pieces next =
+    (told : Rest) × (steps : List Piece) × RestsWithin MAX_TURNS g steps next × StandsAs told next × (pieces ≡ steps ++ Piece.lines (rest_line told) ∷ [])
+Does order.Round g pieces next = (began : Bool) × Rounds g began next × (pieces ≡ round_pieces began ++ Piece.lines (round_line began) ∷ [])
+Does order.Show g pieces next = (next ≡ g) × (pieces ≡ Piece.lines (shown g) ∷ [])
 
--- The orders are carried out one after the other, and their texts follow one another.
-unfoldable pub Follows : List Order → Game → (text : List ℕ) → Game → Type 0
-Follows [] g text next = (text ≡ []) × (next ≡ g)
-Follows (order ∷ orders) g text next =
-    (first : List ℕ) × (others : List ℕ) × (mid : Game) × Does order g first mid × Follows orders mid others next × (text ≡ first ++ others)
+-- The orders are carried out one after the other, and what is told of them follows one another.
+unfoldable pub Follows : List Order → Game → (pieces : List Piece) → Game → Type 0
+Follows [] g pieces next = (pieces ≡ []) × (next ≡ g)
+Follows (order ∷ orders) g pieces next =
+    (first : List Piece) × (others : List Piece) × (mid : Game) × Does order g first mid × Follows orders mid others next × (pieces ≡ first ++ others)
 
 -- ---- its size
 

@@ -2,8 +2,12 @@
 #![tactic(auto)]
 
 mod beginning;
+mod draw_fault;
+mod drawing;
 mod ending;
 mod fault;
+mod laws;
+mod log;
 mod orders;
 mod reading;
 mod resting;
@@ -11,5 +15,9 @@ mod run;
 mod schedule;
 mod turns;
 
+pub use draw_fault::DrawFault;
+pub use drawing::draw_play;
 pub use fault::PlayRunFault;
-pub use run::run_play;
+pub use laws::steps_stand_between;
+pub use log::Telling;
+pub use run::{run_play, tell_play};

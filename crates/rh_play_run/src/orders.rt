@@ -1,9 +1,11 @@
 //! The orders of a schedule.
 
-ghost use Rattle.std.specs.Prelude.{◌≡◌, ◌++◌, List, OnOk, ℕ};
+ghost use Rattle.std.specs.Prelude.{◌≡◌, ◌++◌, List, OnOk};
 ghost use Rattle.rh_descriptor.specs.Parts.{cell_count};
+ghost use Rattle.rh_play_run.specs.Pieces.{Piece, Tells};
 ghost use Rattle.rh_play_run.specs.Schedule.{Does, HasSize, Rounds, shown};
 
+use crate::log::Log;
 use crate::resting::rest;
 use crate::turns::{take_turns, take_turns_until};
 use rh_play::{MAX_TURNS, Order};
@@ -18,35 +20,37 @@ pub(crate) struct Size {
     pub(crate) cells: usize,
 }
 
-/// Carries out an order, and appends what it prints.
+/// Carries out an order, and tells what came of it.
 pub(crate) fn carry_out(
     player: &mut Player,
     size: Size,
     order: Order,
-    out: &mut Vec<u8>,
+    log: &mut Log,
 ) -> Result<(), AllocError>
     requires { HasSize size.workers size.cells player.old }
-    ensures { OnOk result ((text : List ℕ) × Does order player.old text player.new
-        × (out.new.items ≡ out.old.items ++ text)) }
+    ensures { OnOk result ((pieces : List Piece) × Does order player.old pieces player.new
+        × Tells log.old pieces log.new) }
 {
     match order {
         Order::Turn { worker, turns } => {
-            let last = take_turns(player, worker as usize, turns);
-            push_turn(out, worker, turns, last)
+            let last = take_turns(player, worker as usize, turns, log)?;
+            push_turn(&mut log.text, worker, turns, last)
         }
         Order::Until { worker, step } => {
-            let last = take_turns_until(player, worker as usize, step_kind(step), MAX_TURNS);
-            push_until(out, worker, step, last)
+            let kind = step_kind(step);
+            let last = take_turns_until(player, worker as usize, kind, MAX_TURNS, log)?;
+            push_until(&mut log.text, worker, step, last)
         }
         Order::Rest => {
-            let rest = rest(player, size.workers, MAX_TURNS);
-            push_rest(out, rest)
+            let rest = rest(player, size.workers, MAX_TURNS, log)?;
+            push_rest(&mut log.text, rest)
         }
         Order::Round => {
             let began = begin_round(player);
-            push_round(out, began)
+            log.begin_round(began)?;
+            push_round(&mut log.text, began)
         }
-        Order::Show => show(player, size.cells, out),
+        Order::Show => show(player, size.cells, &mut log.text),
     }
 }
 

@@ -1,49 +1,75 @@
 //! Turns of all workers.
 
-ghost use Rattle.std.specs.Prelude.{◌≡◌, ◌<◌, length, false};
+ghost use Rattle.std.specs.Prelude.{◌≡◌, ◌<◌, IfOk, List, OnOk, length, false};
+ghost use Rattle.rh_play_run.specs.Pieces.{Piece, Tells};
 ghost use Rattle.rh_play_run.specs.Schedule.{Rests, RestsWithin, StandsAs, TurnOfEach, makes_step};
 
+use crate::log::Log;
+use crate::turns::take_turn;
 use rh_play_report::Rest;
 use rh_player::Player;
 use rh_turns::Turn;
+use std::alloc::AllocError;
 
 /// One turn of each worker in order, again and again, until in such a pass no turn makes a step. A
 /// turn that makes none counts too, and no more than so many are made.
-pub(crate) fn rest(player: &mut Player, workers: usize, turns: u64) -> Rest
+pub(crate) fn rest(
+    player: &mut Player,
+    workers: usize,
+    turns: u64,
+    log: &mut Log,
+) -> Result<Rest, AllocError>
     requires workers { length player.old.hands ≡ workers }
     requires some { 0 < workers }
-    ensures rests { RestsWithin turns player.old player.new }
-    ensures stands { StandsAs result player.new }
+    ensures rests { OnOk result ((pieces : List Piece)
+        × RestsWithin turns player.old pieces player.new × Tells log.old pieces log.new) }
+    ensures stands { IfOk result (λ rest. StandsAs rest player.new) }
 {
     let count = workers as u64;
-    take_passes(player, workers, turns / count, (turns % count) as usize);
-    stand(player)
+    take_passes(
+        player,
+        workers,
+        turns / count,
+        (turns % count) as usize,
+        log,
+    )?;
+    Ok(stand(player))
 }
 
 /// So many passes, or up to the first in which no turn makes a step; after them so many turns of one
 /// more.
-fn take_passes(player: &mut Player, workers: usize, passes: u64, more: usize)
+fn take_passes(
+    player: &mut Player,
+    workers: usize,
+    passes: u64,
+    more: usize,
+    log: &mut Log,
+) -> Result<(), AllocError>
     requires { length player.old.hands ≡ workers }
-    ensures { Rests passes more player.old player.new }
+    ensures { OnOk result ((pieces : List Piece)
+        × Rests passes more player.old pieces player.new × Tells log.old pieces log.new) }
 {
     'passes: for _ in 0..passes {
-        if !take_turn_of_each(player, workers) {
-            return;
+        let some = take_turn_of_each(player, workers, log)?;
+        if !some {
+            return Ok(());
         }
     }
-    take_turn_of_each(player, more);
+    take_turn_of_each(player, more, log)?;
+    Ok(())
 }
 
 /// One turn of each of so many workers in order, and whether one of these turns made a step.
-fn take_turn_of_each(player: &mut Player, count: usize) -> bool
-    ensures { TurnOfEach count 0 player.old false result player.new }
+fn take_turn_of_each(player: &mut Player, count: usize, log: &mut Log) -> Result<bool, AllocError>
+    ensures { IfOk result (λ some. (pieces : List Piece)
+        × TurnOfEach count 0 player.old false some pieces player.new × Tells log.old pieces log.new) }
 {
     let mut some = false;
     for worker in 0..count {
-        let made = makes_step(player.turn(worker));
+        let made = makes_step(take_turn(player, worker, log)?);
         some = some || made;
     }
-    some
+    Ok(some)
 }
 
 fn makes_step(turn: Turn) -> bool

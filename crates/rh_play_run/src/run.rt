@@ -1,17 +1,18 @@
 //! A play, from its text to what it prints.
 
-ghost use Rattle.std.specs.Prelude.{◌≡◌, ◌≢◌, ◌+◌, ◌++◌, ◌⊎◌, Err, IfErr, IfOk, IsErrOf, OnOk};
+ghost use Rattle.std.specs.Prelude.{◌≡◌, ◌+◌, ◌++◌, ◌⊎◌, IfErr, IfOk, IsErrOf};
 ghost use Rattle.rh_layout.specs.Layout.{IsLayout};
-ghost use Rattle.rh_files.specs.Counting.{Rose, failures_of, inner_of};
+ghost use Rattle.rh_files.specs.Counting.{failures_of, inner_of};
 ghost use Rattle.rh_files.specs.Dump.{dump_text};
-ghost use Rattle.rh_files.specs.Taking.{TakesAtMost};
-ghost use Rattle.rh_play.specs.declared.limits.TheConstants.{MAX_TEXT_BYTES};
 ghost use Rattle.rh_play_run.specs.Beginning.{IsBlank, workers_in};
+ghost use Rattle.rh_play_run.specs.Devices.{ReadsPlay, WritesLast};
 ghost use Rattle.rh_play_run.specs.Run.{IsPlayed, IsUnplayed, Runs, SaysGoodPlay};
+ghost use Rattle.rh_play_run.specs.declared.log.Telling.TheVariants.{Orders};
 
 use crate::beginning::{begin, blank_cells, cells_in};
 use crate::ending::{closing_lines, made_cells, write_parts};
 use crate::fault::PlayRunFault;
+use crate::log::{Log, Telling};
 use crate::orders::Size;
 use crate::reading::read_play;
 use crate::schedule::follow;
@@ -41,25 +42,36 @@ pub fn run_play<R: Read, W: Write>(
     reader: &mut Counted<R>,
     writer: &mut Counted<W>,
 ) -> Result<(), PlayRunFault>
-    ensures runs { Runs (R.remaining (inner_of reader.old)) (W.contents (inner_of writer.old))
+    ensures runs { Runs Orders (R.remaining (inner_of reader.old)) (W.contents (inner_of writer.old))
         (W.contents (inner_of writer.new)) result }
     ensures memory { IsErrOf result PlayRunFault.Memory →
         (reader.new ≡ reader.old) ⊎ SaysGoodPlay (R.remaining (inner_of reader.old)) }
-    ensures untouched { IfErr result (λ fault. fault ≢ PlayRunFault.Write →
-        writer.new ≡ writer.old) }
-    ensures taken { TakesAtMost (R.remaining (inner_of reader.old))
-        (R.remaining (inner_of reader.new)) (MAX_TEXT_BYTES + 1) }
-    ensures read { IsErrOf result PlayRunFault.Read →
-        Rose (failures_of reader.old) (failures_of reader.new) }
-    ensures fine { result ≢ Err PlayRunFault.Read →
-        failures_of reader.new ≡ failures_of reader.old }
-    ensures write { IsErrOf result PlayRunFault.Write →
-        Rose (failures_of writer.old) (failures_of writer.new) }
-    ensures written { OnOk result (failures_of writer.new ≡ failures_of writer.old) }
+    ensures reads { ReadsPlay PlayRunFault.Read (R.remaining (inner_of reader.old))
+        (R.remaining (inner_of reader.new)) (failures_of reader.old) (failures_of reader.new) result }
+    ensures writes { WritesLast PlayRunFault.Write writer.old writer.new result }
+{
+    tell_play(alloc, Telling::Orders, reader, writer)
+}
+
+/// `run_play`, which tells so much of the play: where its steps are told, a line for each stands before
+/// the line of its order, and all else is as `run_play` writes it.
+pub fn tell_play<R: Read, W: Write>(
+    alloc: Global,
+    telling: Telling,
+    reader: &mut Counted<R>,
+    writer: &mut Counted<W>,
+) -> Result<(), PlayRunFault>
+    ensures runs { Runs telling (R.remaining (inner_of reader.old)) (W.contents (inner_of writer.old))
+        (W.contents (inner_of writer.new)) result }
+    ensures memory { IsErrOf result PlayRunFault.Memory →
+        (reader.new ≡ reader.old) ⊎ SaysGoodPlay (R.remaining (inner_of reader.old)) }
+    ensures reads { ReadsPlay PlayRunFault.Read (R.remaining (inner_of reader.old))
+        (R.remaining (inner_of reader.new)) (failures_of reader.old) (failures_of reader.new) result }
+    ensures writes { WritesLast PlayRunFault.Write writer.old writer.new result }
 {
     let blank = blank_cells(alloc)?;
     let play = read_play(alloc, reader)?;
-    let played = perform(alloc, blank, &play)?;
+    let played = perform(alloc, telling, blank, &play)?;
     write_parts(
         writer,
         &played.body,
@@ -70,10 +82,15 @@ pub fn run_play<R: Read, W: Write>(
     Ok(())
 }
 
-/// Runs a play, whose table is made of blank cells.
-fn perform(alloc: Global, blank: Vec<u64>, play: &Play) -> Result<Played, PlayRunFault>
+/// Runs a play, whose table is made of blank cells, and tells so much of it.
+fn perform(
+    alloc: Global,
+    telling: Telling,
+    blank: Vec<u64>,
+    play: &Play,
+) -> Result<Played, PlayRunFault>
     requires { IsBlank blank.items }
-    ensures played { IfOk result (λ played. IsPlayed play.now (played.body.items
+    ensures played { IfOk result (λ played. IsPlayed telling play.now (played.body.items
         ++ (dump_text played.bits played.cells.items ++ played.closing.items))) }
     ensures layout { IfOk result (λ played. IsLayout played.bits played.cells.items) }
     ensures refused { IfErr result (IsUnplayed play.now) }
@@ -84,19 +101,19 @@ fn perform(alloc: Global, blank: Vec<u64>, play: &Play) -> Result<Played, PlayRu
         cells: cells_in(bits),
     };
     let mut player = begin(alloc, blank, play)?;
-    let mut body = Vec::new(alloc);
-    follow(&mut player, size, &play.schedule, &mut body)?;
+    let mut log = Log::new(alloc, telling);
+    follow(&mut player, size, &play.schedule, &mut log)?;
     let cells = made_cells(alloc, &player, size.cells)?;
     let closing = closing_lines(alloc, &player)?;
     Ok(Played {
-        body,
+        body: log.text,
         bits,
         cells,
         closing,
     })
 }
 
-fn workers_of(play: &Play) -> usize
+pub(crate) fn workers_of(play: &Play) -> usize
     ensures { result ≡ workers_in play.now.work }
 {
     match &play.work {

@@ -1,22 +1,46 @@
 //! Turns of one worker.
 
-ghost use Rattle.std.specs.Prelude.{◌≡◌, IsFalse, IsTrue};
-ghost use Rattle.rh_play_run.specs.Schedule.{Misses, Reaches, TurnsOf, TurnsUntil, last_of};
+ghost use Rattle.std.specs.Prelude.{◌≡◌, IfOk, IsFalse, IsTrue, List};
+ghost use Rattle.rh_play_run.specs.Pieces.{Piece, Tells};
+ghost use Rattle.rh_play_run.specs.Schedule.{ATurn, Misses, Reaches, TurnsOf, TurnsUntil, last_of};
 
+use crate::log::Log;
 use rh_descriptor::StepKind;
 use rh_play_report::Last;
 use rh_player::Player;
 use rh_turns::Turn;
+use std::alloc::AllocError;
+
+/// One turn of a worker, which is told.
+pub(crate) fn take_turn(
+    player: &mut Player,
+    worker: usize,
+    log: &mut Log,
+) -> Result<Turn, AllocError>
+    ensures { IfOk result (λ turn. (pieces : List Piece)
+        × ATurn player.old worker turn pieces player.new × Tells log.old pieces log.new) }
+{
+    let (turn, touched) = player.trace(worker);
+    log.take(worker, turn, touched)?;
+    Ok(turn)
+}
 
 /// So many turns of a worker, and what the last came to: `Limit` where there is none.
-pub(crate) fn take_turns(player: &mut Player, worker: usize, turns: u64) -> Last
-    ensures { TurnsOf worker turns player.old Last.Limit result player.new }
+pub(crate) fn take_turns(
+    player: &mut Player,
+    worker: usize,
+    turns: u64,
+    log: &mut Log,
+) -> Result<Last, AllocError>
+    ensures { IfOk result (λ last. (pieces : List Piece)
+        × TurnsOf worker turns player.old Last.Limit last pieces player.new
+        × Tells log.old pieces log.new) }
 {
     let mut last = Last::Limit;
     'turns: for _ in 0..turns {
-        last = last_of(player.turn(worker));
+        last = last_of(take_turn(player, worker, log)?);
     }
-    last
+    Ok(last)
 }
 
 /// Turns of a worker until one makes a step of this kind, or none, so many at most, and what the last
@@ -26,16 +50,19 @@ pub(crate) fn take_turns_until(
     worker: usize,
     kind: StepKind,
     limit: u64,
-) -> Last
-    ensures { TurnsUntil limit worker kind player.old result player.new }
+    log: &mut Log,
+) -> Result<Last, AllocError>
+    ensures { IfOk result (λ last. (pieces : List Piece)
+        × TurnsUntil limit worker kind player.old last pieces player.new
+        × Tells log.old pieces log.new) }
 {
     'turns: for _ in 0..limit {
-        let turn = player.turn(worker);
+        let turn = take_turn(player, worker, log)?;
         if reaches(turn, kind) {
-            return last_of(turn);
+            return Ok(last_of(turn));
         }
     }
-    Last::Limit
+    Ok(Last::Limit)
 }
 
 /// Whether a turn is the last one where a step of this kind is wanted.

@@ -7,3 +7,5 @@
 mod play;
 #[cfg(test)]
 mod play_report;
+#[cfg(test)]
+mod trace;

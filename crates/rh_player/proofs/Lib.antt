@@ -20,4 +20,4 @@ mod Showing
 mod Starting
 mod Stops
 pub mod Totals
-mod Turning
+pub mod Turning

@@ -1,30 +1,50 @@
 -- What a turn of a worker, and a further round, make of a game.
-use Rattle.std.specs.Prelude.{◌≡◌, ℕ, ◌<◌, ◌≤◌, ◌⊎◌, List, length, take, slice_index_or}
+use Rattle.std.specs.Prelude.{◌≡◌, ℕ, ◌<◌, ◌≤◌, ◌⊎◌, Option, None, List, length, take, slice_index_or}
 use Rattle.rh_descriptor.specs.declared.shape.Shape.{Shape}
 use Rattle.rh_descriptor.specs.declared.steps.StepKind.{StepKind}
 use Rattle.rh_descriptor.specs.Parts.{cell_count}
+use Rattle.rh_descriptor.specs.Steps.{StepsTo}
 use Rattle.rh_run.specs.Words.{IsWiped}
 use Rattle.rh_worker.specs.Worker.{HasNoRoom}
 use Rattle.rh_turns.specs.declared.hand.Hand.{Hand}
 use Rattle.rh_turns.specs.declared.turning.Turn.{Turn}
 use Rattle.rh_turns.specs.declared.turning.Turn.TheVariants.{Did, Finished, Spent, NoSuchWorker}
-use Rattle.rh_turns.specs.Hands.{IsFinished, IsSpent, TurnsOn, moment}
+use Rattle.rh_recorder.specs.Records.{Records}
+use Rattle.rh_recorder.specs.declared.recorder.Touched.{Touched}
+use Rattle.rh_turns.specs.Hands.{IsFinished, IsSpent, Making, TurnsBy, moment}
 use Rattle.rh_turns.specs.Game.{Game, keep}
 use Rattle.rh_turns.specs.Laws.{Begins, begun, hand, moment_of, turned}
 
--- This worker made one step of this kind, and nothing else changed.
-pub record Steps (g : Game) (who : ℕ) (k : StepKind) (next : Game) : Type 0 where
+-- This worker made one step of this kind, of which this is so, and nothing else changed.
+pub record Steps (made : Making) (g : Game) (who : ℕ) (k : StepKind) (next : Game) : Type 0 where
   pub worker : who < length g.hands
   pub stepped : Hand
   pub next_is : next ≡ turned g who (moment next.words next.answers stepped)
-  pub turns : (other : Hand) → TurnsOn g.shape g.keys (moment_of g who other) (Did k) (moment next.words next.answers stepped)
+  pub turns : (other : Hand) → TurnsBy made g.shape g.keys (moment_of g who other) (Did k) (moment next.words next.answers stepped)
 
 -- Where no step is made nothing changes.
+abbrev pub TurnedBy : (made : Making) → Game → (who : ℕ) → Turn → Game → Type 0
+TurnedBy made g who (Did k) next = Steps made g who k next
+TurnedBy made g who Finished next = (next ≡ g) × (who < length g.hands) × ((other : Hand) → IsFinished (hand g who other))
+TurnedBy made g who Spent next = (next ≡ g) × (who < length g.hands) × ((other : Hand) → IsSpent (hand g who other)) × HasNoRoom g.shape (keep g who)
+TurnedBy made g who NoSuchWorker next = (next ≡ g) × (length g.hands ≤ who)
+
 abbrev pub Turned : Game → (who : ℕ) → Turn → Game → Type 0
-Turned g who (Did k) next = Steps g who k next
-Turned g who Finished next = (next ≡ g) × (who < length g.hands) × ((other : Hand) → IsFinished (hand g who other))
-Turned g who Spent next = (next ≡ g) × (who < length g.hands) × ((other : Hand) → IsSpent (hand g who other)) × HasNoRoom g.shape (keep g who)
-Turned g who NoSuchWorker next = (next ≡ g) × (length g.hands ≤ who)
+Turned g who turn next = TurnedBy StepsTo g who turn next
+
+-- what was touched in the turn, where this was recorded last
+abbrev pub touched_in : Turn → (last : Option Touched) → Option Touched
+touched_in (Did k) last = last
+touched_in Finished last = None
+touched_in Spent last = None
+touched_in NoSuchWorker last = None
+
+-- What is told of a turn: of a step what it touched, and else nothing.
+abbrev pub Traced : Game → (who : ℕ) → Turn → Option Touched → Game → Type 0
+Traced g who (Did k) touched next = Steps (Records touched) g who k next
+Traced g who Finished touched next = Turned g who Finished next × (touched ≡ None)
+Traced g who Spent touched next = Turned g who Spent next × (touched ≡ None)
+Traced g who NoSuchWorker touched next = Turned g who NoSuchWorker next × (touched ≡ None)
 
 -- it has no step left in this round
 abbrev pub IsStopped : Hand → Type 0

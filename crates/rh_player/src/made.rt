@@ -1,10 +1,10 @@
 //! What the workers have made.
 
-ghost use Rattle.std.specs.Prelude.{◌≡◌, ◌<◌, None, Some, false, length, slice_index, true};
+ghost use Rattle.std.specs.Prelude.{◌≡◌, ◌<◌, None, Some, false, length, slice_index, take, true};
 ghost use Rattle.rh_layout.specs.Layout.{Layout};
 ghost use Rattle.rh_ledger.specs.Phase.{set_after, tally_of as tally_after};
 ghost use Rattle.rh_ledger.specs.declared.tally.Kind.TheVariants.{Ask};
-ghost use Rattle.rh_descriptor.specs.Parts.{cell_count};
+ghost use Rattle.rh_descriptor.specs.Parts.{IsShape, cell_count};
 ghost use Rattle.rh_tagword.specs.Word.{word_in};
 ghost use Rattle.rh_acts.specs.Workers.{tally_by};
 ghost use Rattle.rh_turns.specs.Game.{AllFinished, IsDoneAt, done_at, keys_at};
@@ -12,6 +12,7 @@ ghost use Rattle.rh_player.specs.Made.{AnswersAll, IsAnswer, MadeSoFar, TallySpe
 ghost use Rattle.rh_player.specs.Made.{done_count, held_first, is_shared, told_at, told_of};
 
 use crate::player::Player;
+use rh_descriptor::Shape;
 use rh_ledger::{Kind, Tally};
 use rh_tagword::{Word, unpack};
 use rh_turns::{Share, logical_value};
@@ -24,6 +25,22 @@ impl Player {
         self.shape.bits
     }
 
+    /// How large the table is.
+    pub fn shape(&self) -> Shape
+        ensures same { result ≡ self.now.shape }
+        ensures shape { IsShape result }
+    {
+        let Player { shape, .. } = self;
+        *shape
+    }
+
+    /// The words of the cells, as they stand.
+    pub fn words(&self) -> &[u64]
+        ensures { result.now ≡ take (cell_count self.now.shape) self.now.words }
+    {
+        &self.table.words[..self.shape.cells()]
+    }
+
     /// Writes what the cells stand for.
     pub fn logical(&self, cells: &mut [u64])
         requires { length cells.old ≡ cell_count self.now.shape }
@@ -32,7 +49,7 @@ impl Player {
             Layout cells.new self.now.shape.bits (set_after self.now.kind (held_first self.now) self.now.keys) }
     {
         for cell in 0..cells.len() {
-            cells[cell] = logical_value(&self.shape, &self.words, &self.hands, cell);
+            cells[cell] = logical_value(&self.shape, &self.table.words, &self.hands, cell);
         }
     }
 
@@ -42,7 +59,7 @@ impl Player {
         ensures { word_in (slice_index self.now.words cell) ≡ Some result }
     {
         // (each word of a cell is one of these)
-        unpack(self.words[cell]).unwrap()
+        unpack(self.table.words[cell]).unwrap()
     }
 
     /// What is counted of the keys that are done: how many they are, and of how many of them it was

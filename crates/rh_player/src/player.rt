@@ -2,6 +2,7 @@
 
 use rh_descriptor::Shape;
 use rh_ledger::Kind;
+use rh_recorder::Recorder;
 use rh_turns::Hand;
 use std::marker::Model;
 
@@ -13,7 +14,7 @@ pub struct Player {
     pub(crate) shape: Shape,
     /// What the cells held when the player was made: the promises of its calls speak of it.
     pub(crate) opening: Vec<u64>,
-    pub(crate) words: Vec<u64>,
+    pub(crate) table: Recorder,
     /// The keys of all workers, in one list, and what was told of each that is done.
     pub(crate) keys: Vec<u64>,
     pub(crate) answers: Vec<Option<bool>>,
@@ -29,7 +30,7 @@ impl Model for Player {
       kind = p.kind;
       shape = p.shape;
       opening = p.opening.items;
-      words = p.words.items;
+      words = p.table.words.items;
       keys = p.keys.items;
       answers = p.answers.items;
       hands = p.hands.items;
@@ -39,7 +40,7 @@ impl Model for Player {
       kind = p.kind;
       shape = p.shape;
       opening = p.opening.items;
-      words = p.words.items;
+      words = p.table.words.items;
       keys = p.keys.items;
       answers = p.answers.items;
       hands = p.hands.items;

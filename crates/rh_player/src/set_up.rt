@@ -13,6 +13,7 @@ ghost use Rattle.rh_player.specs.Start.{StartsWith, joined};
 use crate::player::Player;
 use rh_descriptor::Shape;
 use rh_ledger::Kind;
+use rh_recorder::Recorder;
 use rh_tagword::plain_word;
 use rh_turns::{Hand, Share};
 use rh_worker::Worker;
@@ -75,7 +76,7 @@ pub(crate) fn set_up(
         kind,
         shape,
         opening,
-        words,
+        table: Recorder { words, last: None },
         keys,
         answers,
         hands,

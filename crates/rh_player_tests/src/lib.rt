@@ -8,4 +8,6 @@ mod play_run;
 #[cfg(test)]
 mod player;
 #[cfg(test)]
+mod tracing;
+#[cfg(test)]
 mod worker;

@@ -9,6 +9,7 @@
 -- Knowing: a worker goes on knowing which cell it holds, from step to step.
 -- Saying: what a cell stands for, read off the words, and where a row has gone on off what the workers noted.
 -- Leaving: no step changes what the cells stand for but one that lets a descriptor succeed.
+-- Moving: a run goes on by its moves, so that at each moment it keeps the keys that are done.
 -- Alike: a run tells of the workers of its table alone.
 -- Growing: more is read, behind what was read before.
 
@@ -23,4 +24,5 @@ pub mod Ending
 pub mod Turning
 pub mod Sharing
 pub mod Alike
+mod Moving
 mod Leaving

@@ -4,6 +4,7 @@ ghost use Rattle.rh_run.specs.Laws.{WorkerStarts, WorkerSteps, WorkerClaims, Wor
 ghost use Rattle.rh_run.specs.Laws.{RunStarts, RunGathers, RunSteps, RunClaims, RunRounds, RunsAlike};
 ghost use Rattle.rh_run.specs.Laws.{LogicalWords, WordsStand, WordsLeadInside, OnlySuccessChanges};
 ghost use Rattle.rh_run.specs.Laws.{RunMoment, RunAnswers, RunEnds, RunSharedEnds};
+ghost use Rattle.rh_run.specs.Moves.{NoKeyIsLost};
 
 /// What a worker has done of its keys grows by its own steps alone, and stays in a further round.
 pub fn worker_goes_on()
@@ -40,6 +41,13 @@ pub fn run_stands()
 /// helper changes no cell.
 pub fn only_success_changes()
     ensures { OnlySuccessChanges }
+{}
+
+/// Helping loses no key. Whatever moves a run makes after its start, a worker's steps for its own
+/// descriptors and for those of others among them, each key that a worker has done shows in the set
+/// that the cells stand for: a key added is there, a key removed is not.
+pub fn no_key_is_lost()
+    ensures { NoKeyIsLost }
 {}
 
 /// Where all keys are done and all workers are at rest, the cells and the tally are those of one worker

@@ -4,4 +4,6 @@
 
 mod laws;
 
-pub use laws::{only_success_changes, run_ends, run_goes_on, run_stands, worker_goes_on};
+pub use laws::{
+    no_key_is_lost, only_success_changes, run_ends, run_goes_on, run_stands, worker_goes_on,
+};

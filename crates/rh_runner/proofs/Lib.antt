@@ -1,3 +1,4 @@
+pub mod CellsLemmas
 pub mod ChosenLemmas
 pub mod ListLemmas
 pub mod SingleLemmas

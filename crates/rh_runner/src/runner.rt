@@ -7,6 +7,7 @@ ghost use Rattle.rh_layout.specs.Key.{IsKey};
 ghost use Rattle.rh_layout.specs.Layout.{IsLayout, keys_of};
 ghost use Rattle.rh_files.specs.Counting.{Rose};
 ghost use Rattle.rh_ledger.specs.Phase.{set_after, tally_of, looked_up, most_added};
+ghost use Rattle.rh_runner.specs.Cells.{AreTheCells};
 
 use crate::lists::{LOOK_UPS, PHASE};
 use rh_ledger::{Kind, Tally};
@@ -70,6 +71,8 @@ pub trait Runner {
         ensures layout { OnOk result (IsLayout bits cells.new.items) }
         ensures keys { OnOk result
             (keys_of cells.new.items ≡ set_after kind (keys_of cells.old.items) keys.now) }
+        ensures cells { OnOk result (AreTheCells bits
+            (set_after kind (keys_of cells.old.items) keys.now) cells.new.items) }
         ensures tally { IfOk result (λ t. t ≡ tally_of kind (keys_of cells.old.items) keys.now) }
         ensures unchanged { OnErr result (cells.new.items ≡ cells.old.items) }
         ensures same { workers self.new ≡ workers self.old }

@@ -6,6 +6,7 @@ ghost use Rattle.rh_layout.specs.Key.{IsKey};
 ghost use Rattle.rh_layout.specs.Layout.{IsLayout, keys_of};
 ghost use Rattle.rh_ledger.specs.declared.tally.Kind.TheVariants.{Insert, Remove};
 ghost use Rattle.rh_ledger.specs.Phase.{set_after, tally_of};
+ghost use Rattle.rh_runner.specs.Cells.{AreTheCells};
 
 use crate::lists::BATCH;
 use crate::runner::{PhaseFault, Runner};
@@ -70,6 +71,7 @@ fn insert_all(bits: u32, cells: &mut [u64], keys: &[u64]) -> Tally
     requires room { set.len (keys_of cells.old) + length keys.now < 2 ^ bits }
     ensures layout { IsLayout bits cells.new }
     ensures keys { keys_of cells.new ≡ set_after Insert (keys_of cells.old) keys.now }
+    ensures cells { AreTheCells bits (set_after Insert (keys_of cells.old) keys.now) cells.new }
     ensures tally { result ≡ tally_of Insert (keys_of cells.old) keys.now }
 {
     let mut added = 0;
@@ -92,6 +94,7 @@ fn remove_all(bits: u32, cells: &mut [u64], keys: &[u64]) -> Tally
     requires room { set.len (keys_of cells.old) < 2 ^ bits }
     ensures layout { IsLayout bits cells.new }
     ensures keys { keys_of cells.new ≡ set_after Remove (keys_of cells.old) keys.now }
+    ensures cells { AreTheCells bits (set_after Remove (keys_of cells.old) keys.now) cells.new }
     ensures tally { result ≡ tally_of Remove (keys_of cells.old) keys.now }
 {
     let mut removed = 0;

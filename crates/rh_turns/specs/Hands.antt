@@ -135,13 +135,17 @@ pub record Moment : Type 0 where
 abbrev pub moment : (words : List ℕ) (answers : List (Option Bool)) (hand : Hand) → Moment
 moment words answers hand = record { words = words; answers = answers; hand = hand }
 
+-- what is so of a step that is made: between which words and what is kept of its worker, and which word it found
+abbrev pub Making : Type 1
+Making = Shape → Step → List ℕ → View → ℕ → List ℕ → View → Type 0
+
 -- One step of this kind on the next key of a worker that is not spent; the key is done by it or is not. With the step that
 -- closes a descriptor which the worker had withdrawn it is spent.
-pub record StepsOn (z : Shape) (keys : List ℕ) (k : StepKind) (m next : Moment) : Type 0 where
+pub record StepsBy (made : Making) (z : Shape) (keys : List ℕ) (k : StepKind) (m next : Moment) : Type 0 where
   pub unspent : IsSpent m.hand → ⊥
   pub next_key : HasNext m.hand.share m.hand.done
   pub within : position_now m.hand < length keys
-  pub makes : Makes Shows StepsTo z k m.words (view_of m.hand) next.words (view_of next.hand)
+  pub makes : Makes Shows made z k m.words (view_of m.hand) next.words (view_of next.hand)
   pub done : Option Bool
   pub advances : Advances z m.hand.worker.kind (slice_index keys (position_now m.hand)) (view_of m.hand) (view_of next.hand) done
   pub gives_up : GivesUp (view_of m.hand) (view_of next.hand) → IsSpent next.hand
@@ -150,11 +154,11 @@ pub record StepsOn (z : Shape) (keys : List ℕ) (k : StepKind) (m next : Moment
   pub told_is : next.answers ≡ answered m.answers (position_now m.hand) done
 
 -- One Claim of a worker that is at no key.
-pub record ClaimsOn (z : Shape) (m next : Moment) : Type 0 where
+pub record ClaimsBy (made : Making) (z : Shape) (m next : Moment) : Type 0 where
   pub idle : IsIdle m.hand
   pub word : ℕ
   pub allowed : Allowed z (view_of m.hand) Step.claims
-  pub steps : StepsTo z Step.claims m.words (view_of m.hand) word next.words (view_of next.hand)
+  pub steps : made z Step.claims m.words (view_of m.hand) word next.words (view_of next.hand)
   pub claiming : IsClaiming m.hand × IsClaiming next.hand
   pub counts : (next.hand.done ≡ m.hand.done) × (next.hand.changed ≡ m.hand.changed)
   pub told_is : next.answers ≡ m.answers
@@ -163,8 +167,18 @@ pub record ClaimsOn (z : Shape) (m next : Moment) : Type 0 where
 abbrev pub IsSame : (m next : Moment) → Type 0
 IsSame m next = (next.words ≡ m.words) × (next.answers ≡ m.answers) × (next.hand ≡ m.hand)
 
+abbrev pub TurnsBy : (made : Making) → Shape → (keys : List ℕ) → (m : Moment) → Turn → (next : Moment) → Type 0
+TurnsBy made z keys m (Did k) next = StepsBy made z keys k m next ⊎ ((k ≡ kind.Claim) × ClaimsBy made z m next)
+TurnsBy made z keys m Finished next = IsSame m next × IsFinished m.hand
+TurnsBy made z keys m Spent next = IsSame m next × IsSpent m.hand × HasNoRoom z (view_of m.hand)
+TurnsBy made z keys m NoSuchWorker next = ⊥
+
+-- The step was made, whatever else is so of it.
+abbrev pub StepsOn : Shape → (keys : List ℕ) → StepKind → (m next : Moment) → Type 0
+StepsOn z keys k m next = StepsBy StepsTo z keys k m next
+
+abbrev pub ClaimsOn : Shape → (m next : Moment) → Type 0
+ClaimsOn z m next = ClaimsBy StepsTo z m next
+
 abbrev pub TurnsOn : Shape → (keys : List ℕ) → (m : Moment) → Turn → (next : Moment) → Type 0
-TurnsOn z keys m (Did k) next = StepsOn z keys k m next ⊎ ((k ≡ kind.Claim) × ClaimsOn z m next)
-TurnsOn z keys m Finished next = IsSame m next × IsFinished m.hand
-TurnsOn z keys m Spent next = IsSame m next × IsSpent m.hand × HasNoRoom z (view_of m.hand)
-TurnsOn z keys m NoSuchWorker next = ⊥
+TurnsOn z keys m turn next = TurnsBy StepsTo z keys m turn next

@@ -1,16 +1,22 @@
 -- How the program ends.
 use Rattle.rh_cli.specs.Endings.{ending_by as ending_by_program}
 use Rattle.rh_cli.specs.declared.status.Status.{Status}
-use Rattle.rh_cli.specs.declared.status.Status.TheVariants.{Refused, Memory, Write}
+use Rattle.rh_cli.specs.declared.status.Status.TheVariants.{Refused, CommandLine, Memory, Write}
 use Rattle.rh_files.specs.declared.fault.KeyFault.{KeyFault}
 use Rattle.rh_files.specs.declared.fault.KeyFault.TheVariants as keys
 use Rattle.rh_snapshot.specs.declared.fault.SnapFault.{SnapFault}
 use Rattle.rh_snapshot.specs.declared.fault.SnapFault.TheVariants as snap
 use Rattle.rh_numbers.specs.declared.fault.TextFault.{TextFault}
 use Rattle.rh_numbers.specs.declared.fault.TextFault.TheVariants as text
+use Rattle.rh_shelf.specs.declared.shelf.ShelfFault.TheVariants as shelf
+use Rattle.rh_packing.specs.declared.files.FileFault.{FileFault}
+use Rattle.rh_packing.specs.declared.files.FileFault.TheVariants as file
 use Rattle.rh_packing.specs.declared.packing.PackFault.TheVariants as pack
 use Rattle.rh_packing.specs.declared.listing.ListFault.TheVariants as list
 use Rattle.rh_packing.specs.declared.snapshot.HeldFault.TheVariants as held
+use Rattle.rh_splitting.specs.declared.fault.FilesFault.{FilesFault}
+use Rattle.rh_splitting.specs.declared.fault.FilesFault.TheVariants as files
+use Rattle.rh_splitting.specs.declared.fault.SplitFault.TheVariants as split
 use Rattle.rhkeys.specs.declared.status.Fault.{Fault}
 use Rattle.rhkeys.specs.declared.status.Fault.TheVariants as fault
 
@@ -29,6 +35,25 @@ abbrev pub ending_by_snapshot : SnapFault → Status
 ending_by_snapshot snap.Memory = Memory
 ending_by_snapshot fault = Refused
 
+-- how a run ends one of whose files was not listed
+abbrev pub ending_by_file : FileFault → Status
+ending_by_file (file.Shelf shelf.Missing) = Refused
+ending_by_file (file.Shelf shelf.Memory) = Memory
+ending_by_file (file.Shelf shelf.Write) = Write
+ending_by_file (file.Keys fault) = ending_by_keys fault
+ending_by_file (file.Snap fault) = ending_by_snapshot fault
+ending_by_file file.Write = Write
+
+-- how a run ends whose list was not split
+abbrev pub ending_by_split : FilesFault → Status
+ending_by_split (files.Split (split.Text fault)) = ending_by_text fault
+ending_by_split (files.Split (split.Keys fault)) = ending_by_keys fault
+ending_by_split (files.Split (split.TooMany part)) = Refused
+ending_by_split (files.Split (split.Write part)) = Write
+ending_by_split (files.Create part) = Write
+ending_by_split (files.Write part) = Write
+ending_by_split files.Memory = Memory
+
 -- how a run ends that a fault ended early
 abbrev pub ending_by : Fault → Status
 ending_by (fault.Program fault) = ending_by_program fault
@@ -38,3 +63,6 @@ ending_by (fault.List (list.Keys fault)) = ending_by_keys fault
 ending_by (fault.List list.Write) = Write
 ending_by (fault.Held (held.Snap fault)) = ending_by_snapshot fault
 ending_by (fault.Held held.Write) = Write
+ending_by (fault.File path fault) = ending_by_file fault
+ending_by (fault.Split fault) = ending_by_split fault
+ending_by fault.Name = CommandLine

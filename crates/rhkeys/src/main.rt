@@ -1,7 +1,9 @@
 //! The program `rhkeys`: texts of numbers become key files, and key files and snapshots texts.
 #![tactic(auto)]
 
-ghost use Rattle.std.specs.Prelude.{◌≡◌};
+ghost use Rattle.std.specs.Prelude.{◌≡◌, ◌≤◌, ◌<◌, length, true};
+ghost use Rattle.rh_ranges.specs.declared.part.TheConstants.{MAX_PARTS};
+ghost use Rattle.rh_splitting.specs.Name.{is_name};
 ghost use Rattle.rhkeys.specs.Endings.{ending_by};
 
 mod status;
@@ -10,10 +12,14 @@ use rh_cli::keys_line::{Line, line};
 use rh_cli::{
     LineFault, ProgramFault, Status, answer, buffered_reader, buffered_writer, words, write_out,
 };
-use rh_files::Counted;
-use rh_packing::{list_keys, list_snapshot, pack};
+use rh_files::{Counted, KeyFault};
+use rh_packing::{FaultAt, FileFault, Form, list_files, list_keys, list_snapshot, pack};
+use rh_shelf::{FileShelf, ShelfFault};
+use rh_snapshot::SnapFault;
+use rh_splitting::{FilesFault, Part, PartFiles, Source, is_name, split_source, write_plan};
 use status::Fault;
 use std::env::Env;
+use std::fs::Files;
 use std::io;
 use std::process::ExitCode;
 
@@ -25,12 +31,35 @@ fn main(rt: HostRuntime) -> ExitCode {
     ExitCode::from(status)
 }
 
-fn carry_out(rt: &(impl Env + Input + Print + Eprint + AllocGlobal)) -> Result<Status, Fault> {
+fn carry_out(
+    rt: &(impl Env + Files + Input + Print + Eprint + AllocGlobal),
+) -> Result<Status, Fault> {
     let words = words(rt)?;
     match line(rt.alloc(), &words) {
         Ok(Line::Pack) => pack_streams(rt),
-        Ok(Line::List { snapshot: false }) => list_streams(rt),
-        Ok(Line::List { snapshot: true }) => list_held(rt),
+        Ok(Line::List { snapshot, files }) => {
+            let form = if snapshot { Form::Snapshot } else { Form::Keys };
+            if files.is_empty() {
+                list_input(rt, form)
+            } else {
+                list_paths(rt, files, form)
+            }
+        }
+        Ok(
+            Line::Split {
+                parts,
+                key_file,
+                plan,
+                name,
+            },
+        ) => {
+            let source = if key_file { Source::Keys } else { Source::Text };
+            match (is_name(&name), plan) {
+                (false, _) => Err(Fault::Name),
+                (true, true) => plan_streams(rt, source, parts as u64),
+                (true, false) => split_streams(rt, source, parts as u64, &name),
+            }
+        }
         Err(LineFault::Words(error)) => Ok(answer(rt, &error)?),
         Err(LineFault::Memory) => Err(Fault::Program(ProgramFault::Memory)),
     }
@@ -46,24 +75,97 @@ fn pack_streams(rt: &(impl Input + Print + AllocGlobal)) -> Result<Status, Fault
     Ok(Status::Done)
 }
 
-// Lists the key file on standard input to standard output. Both go through a buffer.
-fn list_streams(rt: &(impl Input + Print + AllocGlobal)) -> Result<Status, Fault> {
+// Lists what stands on standard input to standard output. Both go through a buffer.
+fn list_input(rt: &(impl Input + Print + AllocGlobal), form: Form) -> Result<Status, Fault> {
     let input = buffered_reader(rt.alloc(), rt.reader())?;
     let output = buffered_writer(rt.alloc(), io::writer(rt))?;
     let mut reader = Counted::new(input);
     let mut writer = Counted::new(output);
-    list_keys(rt.alloc(), &mut reader, &mut writer)?;
+    match form {
+        Form::Keys => list_keys(rt.alloc(), &mut reader, &mut writer)?,
+        Form::Snapshot => list_snapshot(rt.alloc(), &mut reader, &mut writer)?,
+    }
     write_out(&mut writer.into_inner())?;
     Ok(Status::Done)
 }
 
-// Lists the keys of the snapshot on standard input. Both streams go through a buffer.
-fn list_held(rt: &(impl Input + Print + AllocGlobal)) -> Result<Status, Fault> {
-    let input = buffered_reader(rt.alloc(), rt.reader())?;
+// Lists the files at these paths to standard output, one after the other. It goes through a buffer.
+fn list_paths(
+    rt: &(impl Files + Print + AllocGlobal),
+    paths: Vec<String>,
+    form: Form,
+) -> Result<Status, Fault> {
     let output = buffered_writer(rt.alloc(), io::writer(rt))?;
-    let mut reader = Counted::new(input);
+    let mut shelf = FileShelf::new(rt);
     let mut writer = Counted::new(output);
-    list_snapshot(rt.alloc(), &mut reader, &mut writer)?;
+    let listed = list_files(rt.alloc(), &mut shelf, &paths, form, &mut writer);
+    // What was listed of the files before one that is refused is written all the same.
+    let written = write_out(&mut writer.into_inner());
+    match listed {
+        Ok(()) => {
+            written?;
+            Ok(Status::Done)
+        }
+        Err(fault) => Err(file_fault(paths, &fault)),
+    }
+}
+
+// The fault, with the path of its file. Want of memory and a failed write are no faults of the file.
+fn file_fault(mut paths: Vec<String>, fault: &FaultAt) -> Fault
+    requires { fault.now.index < length paths.items }
+{
+    match fault.fault {
+        FileFault::Write => Fault::Program(ProgramFault::Write),
+        FileFault::Shelf(ShelfFault::Memory)
+        | FileFault::Keys(KeyFault::Memory)
+        | FileFault::Snap(SnapFault::Memory) => Fault::Program(ProgramFault::Memory),
+        other => Fault::File {
+            path: paths.swap_remove(fault.index),
+            fault: other,
+        },
+    }
+}
+
+// Splits what stands on standard input into key files below the current folder. It is read in parts,
+// with no other buffer.
+fn split_streams(
+    rt: &(impl Files + Input + AllocGlobal),
+    source: Source,
+    parts: u64,
+    name: &str,
+) -> Result<Status, Fault>
+    requires some { 0 < parts }
+    requires few { parts ≤ MAX_PARTS }
+    requires name { is_name name.now ≡ true }
+{
+    let mut reader = Counted::new(rt.reader());
+    let mut files = PartFiles::new(rt.alloc(), rt);
+    files.split(rt.alloc(), &mut reader, source, parts, name)?;
+    Ok(Status::Done)
+}
+
+// Writes to standard output how many keys of standard input each part would have, and no file.
+fn plan_streams(
+    rt: &(impl Input + Print + AllocGlobal),
+    source: Source,
+    count: u64,
+) -> Result<Status, Fault>
+    requires some { 0 < count }
+    requires few { count ≤ MAX_PARTS }
+{
+    let output = buffered_writer(rt.alloc(), io::writer(rt))?;
+    let mut parts = Vec::new(rt.alloc());
+    for _ in 0..count {
+        let Ok(()) = parts.push(Part::new(io::sink())) else {
+            return Err(Fault::Program(ProgramFault::Memory));
+        };
+    }
+    let mut reader = Counted::new(rt.reader());
+    split_source(rt.alloc(), &mut reader, source, &mut parts).map_err(FilesFault::Split)?;
+    let mut writer = Counted::new(output);
+    if write_plan(&parts, &mut writer).is_err() {
+        return Err(Fault::Program(ProgramFault::Write));
+    }
     write_out(&mut writer.into_inner())?;
     Ok(Status::Done)
 }

@@ -14,6 +14,7 @@ use Rattle.rh_player.specs.declared.fault.PlayFault.{PlayFault}
 use Rattle.rh_player.specs.declared.fault.PlayFault.TheVariants as starts
 use Rattle.rh_play_run.specs.declared.fault.PlayRunFault.{PlayRunFault}
 use Rattle.rh_play_run.specs.declared.fault.PlayRunFault.TheVariants as plays
+use Rattle.rh_play_run.specs.declared.draw_fault.DrawFault.TheVariants as draw
 use Rattle.rh_commands.specs.declared.check.CheckFault.TheVariants as check
 use Rattle.rh_commands.specs.declared.dump.DumpFault.TheVariants as dump
 use Rattle.rhset.specs.declared.status.Fault.{Fault}
@@ -69,3 +70,5 @@ ending_by (fault.Check check.Write) = Write
 ending_by (fault.Script fault) = ending_by_line fault.kind
 ending_by (fault.Run fault) = ending_by_cause fault.cause
 ending_by (fault.Play fault) = ending_by_play fault
+ending_by (fault.Draw (draw.Play fault)) = ending_by_play fault
+ending_by (fault.Draw draw.TooMany) = Refused

@@ -1,7 +1,8 @@
 //! The program `rhset`: a set of whole numbers in one Robin Hood table, and commands on it.
 #![tactic(auto)]
 
-ghost use Rattle.std.specs.Prelude.{◌≡◌};
+ghost use Rattle.std.specs.Prelude.{◌≡◌, ◌≤◌};
+ghost use Rattle.rh_draw.specs.declared.limits.TheConstants.{MAX_STEPS};
 ghost use Rattle.rhset.specs.Endings.{ending_by};
 
 mod input;
@@ -15,7 +16,7 @@ use rh_cli::{
 };
 use rh_commands::{check_snapshot, dump_keys};
 use rh_files::Counted;
-use rh_play_run::run_play;
+use rh_play_run::{Telling, draw_play, tell_play};
 use script::run_script;
 use status::Fault;
 use std::env::Env;
@@ -43,7 +44,9 @@ fn carry_out(
             run_script(rt, workers, &script)?;
             Ok(Status::Done)
         }
-        Ok(Line::Play { file }) => play_file(rt, &file),
+        Ok(Line::Play { file }) => play_file(rt, Telling::Orders, &file),
+        Ok(Line::Trace { file }) => play_file(rt, Telling::Steps, &file),
+        Ok(Line::Draw { from, steps, file }) => draw_file(rt, from as u64, steps as u64, &file),
         Ok(Line::Check { snapshot }) => check_file(rt, &snapshot),
         Err(LineFault::Words(error)) => Ok(answer(rt, &error)?),
         Err(LineFault::Memory) => Err(Fault::Program(ProgramFault::Memory)),
@@ -61,14 +64,39 @@ fn dump_streams(rt: &(impl Input + Print + AllocGlobal)) -> Result<Status, Fault
     Ok(Status::Done)
 }
 
-// Runs the play at the path and writes what it prints to standard output. Both go through a buffer.
-fn play_file(rt: &(impl Files + Print + AllocGlobal), path: &str) -> Result<Status, Fault> {
+// Runs the play at the path, and writes so much of it to standard output. Both go through a buffer.
+fn play_file(
+    rt: &(impl Files + Print + AllocGlobal),
+    telling: Telling,
+    path: &str,
+) -> Result<Status, Fault> {
     let file = open(rt, path)?;
     let input = buffered_reader(rt.alloc(), file)?;
     let output = buffered_writer(rt.alloc(), io::writer(rt))?;
     let mut reader = Counted::new(input);
     let mut writer = Counted::new(output);
-    run_play(rt.alloc(), &mut reader, &mut writer)?;
+    tell_play(rt.alloc(), telling, &mut reader, &mut writer)?;
+    write_out(&mut writer.into_inner())?;
+    Ok(Status::Done)
+}
+
+// Draws the play at the path: so many steps from this number on, where 0 stands for all. The text is read
+// through a buffer, and the picture is one write.
+fn draw_file(
+    rt: &(impl Files + Print + AllocGlobal),
+    from: u64,
+    steps: u64,
+    path: &str,
+) -> Result<Status, Fault>
+    requires { steps ≤ MAX_STEPS }
+{
+    let file = open(rt, path)?;
+    let input = buffered_reader(rt.alloc(), file)?;
+    let output = buffered_writer(rt.alloc(), io::writer(rt))?;
+    let mut reader = Counted::new(input);
+    let mut writer = Counted::new(output);
+    let steps = if steps == 0 { None } else { Some(steps) };
+    draw_play(rt.alloc(), from, steps, &mut reader, &mut writer)?;
     write_out(&mut writer.into_inner())?;
     Ok(Status::Done)
 }

@@ -7,7 +7,7 @@ use rh_cli::{ProgramFault, Status};
 use rh_commands::{CheckFault, DumpFault};
 use rh_planner::{Cause, RunFault};
 use rh_play::PlayTextKind;
-use rh_play_run::PlayRunFault;
+use rh_play_run::{DrawFault, PlayRunFault};
 use rh_player::PlayFault;
 use rh_script::{ScriptFault, ScriptFaultKind};
 use rh_snapshot::SnapFault;
@@ -33,6 +33,8 @@ pub enum Fault {
     Run(#[from] RunFault),
     #[error(transparent)]
     Play(#[from] PlayRunFault),
+    #[error(transparent)]
+    Draw(#[from] DrawFault),
 }
 
 impl Fault {
@@ -60,7 +62,8 @@ impl Fault {
                 Cause::Put | Cause::Write => Status::Write,
                 _ => Status::Refused,
             },
-            Fault::Play(fault) => status_of_play(fault),
+            Fault::Play(fault) | Fault::Draw(DrawFault::Play(fault)) => status_of_play(fault),
+            Fault::Draw(DrawFault::TooMany) => Status::Refused,
         }
     }
 }

@@ -76,6 +76,9 @@ once, and the commands after them take it. No PATH of a `snapshot` is that of an
 `snapshot`, and no PATH of a `use` that of an earlier `snapshot`. `rhset dump --help` says what a
 key file is, `rhset check --help` what a snapshot is.
 
+A key file has at most 1000000 keys, and the table at most 196608. Larger lists are split into ranges
+of keys, each a job of its own: see `rhkeys split --help`.
+
 Example of a script:
   use a three.keys
   add a
@@ -129,6 +132,61 @@ Example of a play:
   until 0 place
   show
   rest";
+
+/// The command `trace`, in a line.
+pub const TRACE: &str = "Plays, and tells each step";
+
+/// The command `trace`, on `rhset trace --help` alone.
+pub const TRACE_AT_LENGTH: &str = "\
+Reads a play, has its workers take the steps that it says, as `rhset play` does, and writes to
+standard output a line for each step, before the line of `rhset play` in which it was made.";
+
+/// What `trace` reads and writes.
+pub const TRACES: &str = "\
+`rhset play --help` says what a play is. A step is told by the line
+  STEP WORKER KIND PART found WORD
+and ` now WORD` at its end where it changed the word. STEP counts from 1, WORKER from 0. KIND is
+write, open, read, place, settle, decide, release or claim. PART is the word that it touched:
+  cell C                      a cell of the table
+  control W                   how the descriptor of worker W is decided
+  serial W, length W          the number of that descriptor, and of its entries
+  entry W E cell, old or new  of its entry E the cell, the old and the new word
+  mark W serial, desc, entry  the number of a mark of worker W, its descriptor and its entry
+  note W O                    what worker W tells worker O: where its descriptor failed
+  counter                     how many keys of a shared list were claimed
+
+A WORD is `empty`, `key K`, `mark W N` or `desc W N` in a cell and in an entry; `N undecided`,
+`N succeeded`, `N withdrawn` or `N failed D`, by worker D, in a control; `desc W N` as the
+descriptor of a mark; else a number. `rhset play` writes the same lines without those of steps.
+
+Example, of a play in which worker 0 adds the key 9 to an empty table of 8 cells; its first step:
+  1 0 read cell 4 found empty";
+
+/// The command `draw`, in a line.
+pub const DRAW: &str = "Plays, and draws the steps";
+
+/// The command `draw`, on `rhset draw --help` alone.
+pub const DRAW_AT_LENGTH: &str = "\
+Reads a play, has its workers take the steps that it says, as `rhset play` does, and writes a
+picture of them to standard output, an SVG that a browser shows.";
+
+/// The argument `--from`.
+pub const FROM: &str = "The number of the first step that is drawn";
+
+/// The argument `--steps`.
+pub const STEPS: &str = "\
+How many steps are drawn, up to 2000; 0 for all from the first one on, if they are no more than 2000";
+
+/// What `draw` reads and writes.
+pub const DRAWINGS: &str = "\
+`rhset play --help` says what a play is, `rhset trace --help` what a step is. Time goes down. Each
+worker has a lane with a mark for each of its steps, which tells the step's line where the pointer
+rests on it, and a line to the lane of the worker whose descriptor it is about. Each cell that changes
+has a column, which shows what stands there and, in italics, what the cell stands for. A line across
+all of them is an act: the moment at which a descriptor succeeds, with the cells that change.
+
+Example:
+  rhset draw examples/helping.play > helping.svg";
 
 /// The command `check`, in a line.
 pub const CHECK: &str = "Tells of a snapshot what table it holds";

@@ -4,16 +4,16 @@ ghost use Rattle.std.specs.Prelude.{◌≡◌, [], IfOk, IfErr, codes, false};
 ghost use Rattle.clap.specs.Words.{app_of, fault_of, found_of, rows_of, rule_of};
 ghost use Rattle.clap.specs.Words.{subcommand_of, subcommand_rows_of};
 ghost use Rattle.rh_cli.specs.Faults.{IsOneOf};
-ghost use Rattle.rh_cli.specs.SetLine.{Asks, Gives, GivesNumber, HasNumber, HasRunArguments};
-ghost use Rattle.rh_cli.specs.SetLine.{HasText, IsCommand, Says, check_app, dump_app, path_rule};
-ghost use Rattle.rh_cli.specs.SetLine.{play_app, rhset_app, run_app, workers_rule};
-ghost use Rattle.rh_cli.specs.Words.{Finds, texts_of};
+ghost use Rattle.rh_cli.specs.SetLine.{Asks, HasRunArguments, IsCommand, Says, check_app, dump_app};
+ghost use Rattle.rh_cli.specs.SetLine.{HasDrawArguments, draw_app, from_rule, play_app, rhset_app};
+ghost use Rattle.rh_cli.specs.SetLine.{run_app, steps_rule, trace_app, workers_rule};
+ghost use Rattle.rh_cli.specs.Words.{Finds, HasText, texts_of};
 
 use super::asked::Line;
 use super::help;
 use crate::fault::LineFault;
-use crate::limits::MAX_WORKERS;
-use crate::parsing::{described, parsed, program_command, with_subcommand};
+use crate::limits::{MAX_DRAWN, MAX_FROM, MAX_WORKERS};
+use crate::parsing::{described, number, parsed, program_command, text, text_arg, with_subcommand};
 use clap::{Arg, ArgAction, ArgMatches, Command, value_parser};
 use std::alloc::{AllocError, Global};
 
@@ -40,6 +40,8 @@ fn asked(alloc: Global, matches: &ArgMatches<'_>) -> Result<Line, AllocError>
         Some(("dump", _)) => Ok(Line::Dump),
         Some(("run", given)) => run_asked(alloc, given),
         Some(("play", given)) => play_asked(alloc, given),
+        Some(("trace", given)) => trace_asked(alloc, given),
+        Some(("draw", given)) => draw_asked(alloc, given),
         Some(("check", given)) => check_asked(alloc, given),
         _ => unreachable!(),
     }
@@ -49,7 +51,7 @@ fn run_asked(alloc: Global, given: &ArgMatches<'_>) -> Result<Line, AllocError>
     requires { HasRunArguments (rows_of (found_of given.now)) }
     ensures { IfOk result (λ l. Says (codes "run") (rows_of (found_of given.now)) l) }
 {
-    let workers = workers(given);
+    let workers = number(given, "workers", 1, MAX_WORKERS);
     let script = text(alloc, given, "script")?;
     Ok(Line::Run { workers, script })
 }
@@ -62,27 +64,30 @@ fn play_asked(alloc: Global, given: &ArgMatches<'_>) -> Result<Line, AllocError>
     Ok(Line::Play { file })
 }
 
+fn trace_asked(alloc: Global, given: &ArgMatches<'_>) -> Result<Line, AllocError>
+    requires { HasText (codes "file") (rows_of (found_of given.now)) }
+    ensures { IfOk result (λ l. Says (codes "trace") (rows_of (found_of given.now)) l) }
+{
+    let file = text(alloc, given, "file")?;
+    Ok(Line::Trace { file })
+}
+
+fn draw_asked(alloc: Global, given: &ArgMatches<'_>) -> Result<Line, AllocError>
+    requires { HasDrawArguments (rows_of (found_of given.now)) }
+    ensures { IfOk result (λ l. Says (codes "draw") (rows_of (found_of given.now)) l) }
+{
+    let from = number(given, "from", 1, MAX_FROM);
+    let steps = number(given, "steps", 0, MAX_DRAWN);
+    let file = text(alloc, given, "file")?;
+    Ok(Line::Draw { from, steps, file })
+}
+
 fn check_asked(alloc: Global, given: &ArgMatches<'_>) -> Result<Line, AllocError>
     requires { HasText (codes "snapshot") (rows_of (found_of given.now)) }
     ensures { IfOk result (λ l. Says (codes "check") (rows_of (found_of given.now)) l) }
 {
     let snapshot = text(alloc, given, "snapshot")?;
     Ok(Line::Check { snapshot })
-}
-
-// The text for an argument that has to be given.
-fn text(alloc: Global, given: &ArgMatches<'_>, id: &str) -> Result<String, AllocError>
-    requires { HasText id.now (rows_of (found_of given.now)) }
-    ensures { IfOk result (λ t. Gives id.now (rows_of (found_of given.now)) t) }
-{
-    String::from_str(alloc, given.get_str(id).unwrap())
-}
-
-fn workers(given: &ArgMatches<'_>) -> usize
-    requires { HasNumber (codes "workers") 1 MAX_WORKERS (rows_of (found_of given.now)) }
-    ensures { GivesNumber (codes "workers") 1 MAX_WORKERS (rows_of (found_of given.now)) result }
-{
-    given.get_one("workers").unwrap()
 }
 
 fn command<'a>(alloc: Global) -> Result<Command<'a>, AllocError>
@@ -98,7 +103,9 @@ fn command<'a>(alloc: Global) -> Result<Command<'a>, AllocError>
     let with_dump = with_subcommand(program, Ok(dump_command(alloc)));
     let with_run = with_subcommand(with_dump, run_command(alloc));
     let with_play = with_subcommand(with_run, play_command(alloc));
-    with_subcommand(with_play, check_command(alloc))
+    let with_trace = with_subcommand(with_play, trace_command(alloc));
+    let with_draw = with_subcommand(with_trace, draw_command(alloc));
+    with_subcommand(with_draw, check_command(alloc))
 }
 
 fn dump_command<'a>(alloc: Global) -> Command<'a>
@@ -118,20 +125,49 @@ fn run_command<'a>(alloc: Global) -> Result<Command<'a>, AllocError>
 {
     described(alloc, "run", help::RUN, help::RUN_AT_LENGTH, help::SCRIPTS)
         .arg(workers_arg(alloc))?
-        .arg(path_arg(alloc, "script", "SCRIPT", help::SCRIPT))
+        .arg(text_arg(alloc, "script", "SCRIPT", help::SCRIPT))
 }
 
 fn play_command<'a>(alloc: Global) -> Result<Command<'a>, AllocError>
     ensures { IfOk result (λ c. app_of c ≡ play_app) }
 {
-    let file = path_arg(alloc, "file", "FILE", help::FILE);
+    let file = text_arg(alloc, "file", "FILE", help::FILE);
     described(alloc, "play", help::PLAY, help::PLAY_AT_LENGTH, help::PLAYS).arg(file)
+}
+
+fn trace_command<'a>(alloc: Global) -> Result<Command<'a>, AllocError>
+    ensures { IfOk result (λ c. app_of c ≡ trace_app) }
+{
+    let file = text_arg(alloc, "file", "FILE", help::FILE);
+    described(
+        alloc,
+        "trace",
+        help::TRACE,
+        help::TRACE_AT_LENGTH,
+        help::TRACES,
+    )
+    .arg(file)
+}
+
+fn draw_command<'a>(alloc: Global) -> Result<Command<'a>, AllocError>
+    ensures { IfOk result (λ c. app_of c ≡ draw_app) }
+{
+    described(
+        alloc,
+        "draw",
+        help::DRAW,
+        help::DRAW_AT_LENGTH,
+        help::DRAWINGS,
+    )
+    .arg(from_arg(alloc))?
+    .arg(steps_arg(alloc))?
+    .arg(text_arg(alloc, "file", "FILE", help::FILE))
 }
 
 fn check_command<'a>(alloc: Global) -> Result<Command<'a>, AllocError>
     ensures { IfOk result (λ c. app_of c ≡ check_app) }
 {
-    let snapshot = path_arg(alloc, "snapshot", "SNAPSHOT", help::SNAPSHOT);
+    let snapshot = text_arg(alloc, "snapshot", "SNAPSHOT", help::SNAPSHOT);
     described(
         alloc,
         "check",
@@ -140,6 +176,32 @@ fn check_command<'a>(alloc: Global) -> Result<Command<'a>, AllocError>
         help::CHECK_FORMATS,
     )
     .arg(snapshot)
+}
+
+fn from_arg<'a>(alloc: Global) -> Arg<'a>
+    ensures rule { rule_of result ≡ from_rule }
+    ensures local { result.global ≡ false }
+{
+    Arg::new(alloc, "from")
+        .long("from")
+        .value_name("STEP")
+        .action(ArgAction::Set)
+        .value_parser(value_parser!(usize).range(1..=MAX_FROM as i64))
+        .default_value("1")
+        .help(help::FROM)
+}
+
+fn steps_arg<'a>(alloc: Global) -> Arg<'a>
+    ensures rule { rule_of result ≡ steps_rule }
+    ensures local { result.global ≡ false }
+{
+    Arg::new(alloc, "steps")
+        .long("steps")
+        .value_name("N")
+        .action(ArgAction::Set)
+        .value_parser(value_parser!(usize).range(0..=MAX_DRAWN as i64))
+        .default_value("0")
+        .help(help::STEPS)
 }
 
 fn workers_arg<'a>(alloc: Global) -> Arg<'a>
@@ -153,16 +215,4 @@ fn workers_arg<'a>(alloc: Global) -> Arg<'a>
         .value_parser(value_parser!(usize).range(1..=MAX_WORKERS as i64))
         .default_value("1")
         .help(help::WORKERS)
-}
-
-// A path that has to be given.
-fn path_arg<'a>(alloc: Global, id: &'a str, name: &'a str, help: &'a str) -> Arg<'a>
-    ensures rule { rule_of result ≡ path_rule id.now }
-    ensures local { result.global ≡ false }
-{
-    Arg::new(alloc, id)
-        .value_name(name)
-        .required(true)
-        .action(ArgAction::Set)
-        .help(help)
 }

@@ -1,65 +1,44 @@
-use Rattle.std.proofs.Common.{◌≡◌, ◌≤◌, ◌+◌, ◌*◌, [], take, length, subst, arith, rules}
+use Rattle.std.proofs.Common.{◌≡◌, ◌+◌, ◌*◌, subst, arith, rules}
 use Rattle.std.proofs.lemmas.Result.{err_from_is_err_and}
 use Rattle.rh_numbers.specs.declared.limits.TheConstants.{PART_BYTES}
-use Rattle.rh_numbers.proofs.Parts.{GoesOn, finished, goes_on, is_no_read, part_stops}
-use Rattle.rh_numbers.proofs.Taken.{fresh_after, if_refused, taken_to_failure, taken_to_fault, taken_to_limit}
-use Rattle.rh_files.specs.Taking.{TakesAtMost}
+use Rattle.rh_numbers.specs.Parts.{keys_of, line_of, so_far_of}
 use Rattle.rh_numbers.proofs.Meaning.{read_from}
+use Rattle.rh_numbers.proofs.Parts.{GoesOn, finished, goes_on, refused, whole_part, last_part}
+use Rattle.rh_numbers.proofs.Taken.{fresh_after, taken_to_fault}
 use Rattle.rh_numbers.proofs.text.read_numbers.Goals as goal
 
-pub returns-in_err-read-clause-known : goal.returns-in_err-read-clause-known
-returns-in_err-read-clause-known g c =
+pub returns-in_err-read_part-clause-known : goal.returns-in_err-read_part-clause-known
+returns-in_err-read_part-clause-known g c =
     let p = err_from_is_err_and c.from_residual.result c.from_residual.ensures.1 in
-    rw (p.1, p.2) (part_stops _ _ _ _ (take c.in-Some.n c.fill.new.buf) _ _ _ _ _ c.loop.invariant.going c.in-Some.ensures.bytes c.in_err-read.ensures.read)
+    let part = c.in_err-read_part.ensures.part in
+    rw (p.1, p.2) (refused _ _ _ _ part.part _ _ _ _ _ c.in_err-read_part.field-0.0 c.loop.invariant.going part.taken (search rules) part.gives)
 
-pub returns-in_err-read-clause-read : goal.returns-in_err-read-clause-read
-returns-in_err-read-clause-read g c =
+pub returns-in_err-read_part-clause-takes : goal.returns-in_err-read_part-clause-takes
+returns-in_err-read_part-clause-takes g c =
     let p = err_from_is_err_and c.from_residual.result c.from_residual.ensures.1 in
-    λ read. absurd (is_no_read c.in_err-read.field-0.0 _ c.from_residual.result (rw p.2 at p.1) (c.in_err-read.ensures.read []) read)
+    let part = c.read_part.ensures.part in
+    rw p.1 (taken_to_fault _ _ _ part.part _ _ _ c.loop.invariant.fresh (search rules) part.taken part.short)
 
-pub returns-then-n-lt-PART_BYTES-clause-known : goal.returns-then-n-lt-PART_BYTES-clause-known
-returns-then-n-lt-PART_BYTES-clause-known g c =
-    let many : length (take c.in-Some.n c.fill.new.buf) ≡ c.in-Some.n = search rules in
-    finished _ _ _ _ _ _ (λ v. v.items) c.finish.result
-    (goes_on _ _ _ _ _ (take c.in-Some.n c.fill.new.buf) _ _ _ _ _ _ c.loop.invariant.going c.in-Some.ensures.bytes many c.in_ok-read.ensures.read)
-    (c.in-Some.ensures.end (search rules)) c.finish.ensures.keys
+pub returns-then-not-branch-clause-known : goal.returns-then-not-branch-clause-known
+returns-then-not-branch-clause-known g c =
+    let part = c.in_ok-read_part.ensures.part in
+    let last = last_part part.part (g.R.Read.remaining c.read_part.new.reader.inner) c.loop.reading c.read_part.new.self c.in_ok-read_part.field-0 (search rules) part.gives in
+    finished _ _ _ _ part.part _ _ _ (λ v. v.items) c.into_keys.result c.loop.invariant.going part.taken last.0 c.into_keys.ensures.few (rw c.into_keys.ensures.keys last.1)
 
-pub returns-then-n-lt-PART_BYTES-clause-spelled : goal.returns-then-n-lt-PART_BYTES-clause-spelled
-returns-then-n-lt-PART_BYTES-clause-spelled g c = read_from _ _ (λ v. v.items) _ (returns-then-n-lt-PART_BYTES-clause-known g c)
+pub returns-then-not-branch-clause-spelled : goal.returns-then-not-branch-clause-spelled
+returns-then-not-branch-clause-spelled g c = read_from _ _ (λ v. v.items) _ (returns-then-not-branch-clause-known g c)
 
 pub loop-preserved : goal.loop-preserved
 loop-preserved g c =
     let start = g.R.Read.remaining c.args.reader.now.inner in
-    let now = g.R.Read.remaining c.fill.new.reader.inner in
-    let next = c.read.new.self in
-    let part = take c.in-Some.n c.fill.new.buf in
-    let many : length part ≡ c.in-Some.n = search rules in
-    let whole : c.in-Some.n ≡ PART_BYTES = search rules in
-    let place : 8192 * c.loop.counter + c.in-Some.n ≡ 8192 * (c.loop.counter + 1) = omega (arith, whole) in
+    let now = g.R.Read.remaining c.read_part.new.reader.inner in
+    let next = c.read_part.new.self in
+    let part = c.in_ok-read_part.ensures.part in
+    let whole = whole_part part.part now c.loop.reading next c.in_ok-read_part.field-0 (search rules) part.gives in
+    let place : 8192 * c.loop.counter + PART_BYTES ≡ 8192 * (c.loop.counter + 1) = omega arith in
     record {
-      going = subst (λ n. GoesOn start now n next.keys.items next.line next.so_far) place (goes_on _ _ _ (8192 * c.loop.counter) c.in-Some.n part _ _ _ _ _ _ c.loop.invariant.going c.in-Some.ensures.bytes many c.in_ok-read.ensures.read);
-      fresh = fresh_after _ _ _ part _ _ _ _ _ _ c.loop.invariant.fresh c.in-Some.ensures.bytes c.in_ok-read.ensures.read;
-      line = omega (arith, c.loop.invariant.line, c.in_ok-read.ensures.line, many, whole);
+      going = subst (λ n. GoesOn start now n (keys_of next) (line_of next) (so_far_of next)) place (goes_on _ _ _ (8192 * c.loop.counter) PART_BYTES part.part _ _ _ _ _ _ c.loop.invariant.going part.taken whole.0 whole.1);
+      fresh = fresh_after _ _ _ part.part _ _ _ _ _ _ c.loop.invariant.fresh part.taken whole.1;
+      line = omega (arith, c.loop.invariant.line, c.in_ok-read_part.ensures.line);
       fine = search rules;
     }
-
-pub returns-in_default-clause-takes : goal.returns-in_default-clause-takes
-returns-in_default-clause-takes g c =
-    let whole : length c.fill.new.buf ≡ PART_BYTES = search rules in
-    taken_to_failure _ _ _ _ _ _ c.loop.invariant.fresh (subst (TakesAtMost (g.R.Read.remaining c.loop.reader.inner) (g.R.Read.remaining c.fill.new.reader.inner)) whole c.fill.ensures.takes)
-
-pub returns-in_err-read-clause-takes : goal.returns-in_err-read-clause-takes
-returns-in_err-read-clause-takes g c =
-    let p = err_from_is_err_and c.from_residual.result c.from_residual.ensures.1 in
-    let part = take c.in-Some.n c.fill.new.buf in
-    let few : length part ≤ PART_BYTES = search rules in
-    rw p.1 (taken_to_fault _ _ _ part _ _ _ c.loop.invariant.fresh c.in-Some.ensures.bytes few)
-
-pub returns-then-n-lt-PART_BYTES-clause-takes : goal.returns-then-n-lt-PART_BYTES-clause-takes
-returns-then-n-lt-PART_BYTES-clause-takes g c =
-    let part = take c.in-Some.n c.fill.new.buf in
-    let few : length part ≤ PART_BYTES = search rules in
-    if_refused c.finish.result _ (taken_to_fault _ _ _ part _ _ _ c.loop.invariant.fresh c.in-Some.ensures.bytes few)
-
-pub returns-clause-takes : goal.returns-clause-takes
-returns-clause-takes g c = taken_to_limit _ _ _ _ _ c.loop.invariant.fresh

@@ -1,4 +1,4 @@
 use Rattle.rh_play_run.proofs.resting.rest.Goals as goal
 
-pub returns : goal.returns
-returns c = record { rests = rw c.requires.workers c.take_passes.ensures; stands = c.stand.ensures }
+pub returns-clause-rests : goal.returns-clause-rests
+returns-clause-rests c = rw c.requires.workers c.in_ok-take_passes.ensures

@@ -1,13 +1,14 @@
-use Rattle.std.proofs.Common.{ℕ, List, [], ◌++◌, sym, ap, ◌∙◌, subst, append-nil, append_assoc}
+use Rattle.std.proofs.Common.{List, [], ◌++◌, sym, ap, ◌∙◌, subst, append-nil, append_assoc}
 use Rattle.rh_descriptor.specs.declared.shape.Shape.{Shape}
 use Rattle.rh_descriptor.specs.Parts.{cell_count}
+use Rattle.rh_play_run.specs.Pieces.{Piece}
 use Rattle.rh_play_run.specs.Schedule.{Follows}
-use Rattle.rh_play_run.proofs.Following.{all_followed, orders_from}
+use Rattle.rh_play_run.proofs.Following.{all_followed, nothing_told, orders_from, then_tells}
 use Rattle.rh_play_run.proofs.Keeping.{order_keeps}
 use Rattle.rh_play_run.proofs.schedule.follow.Goals as goal
 
 pub loop-order-init : goal.loop-order-init
-loop-order-init c = record { size = c.requires; printed = []; out = sym (append-nil _); follows = λ others next rest. rest }
+loop-order-init c = record { size = c.requires; done = []; tells = nothing_told _; follows = λ others next rest. rest }
 
 pub loop-order-preserved : goal.loop-order-preserved
 loop-order-preserved c =
@@ -16,16 +17,15 @@ loop-order-preserved c =
     let kept = order_keeps _ _ _ _ step.1 in
     record {
       size = (kept.workers ∙ before.size.0, ap (λ (z : Shape). cell_count z) kept.shape ∙ before.size.1, before.size.2);
-      printed = before.printed ++ step.0;
-      out = step.2 ∙ ap (λ (l : List ℕ). l ++ step.0) before.out ∙ append_assoc c.args.out.now.items before.printed step.0;
+      done = before.done ++ step.0;
+      tells = then_tells _ _ _ before.done step.0 before.tells step.2;
       follows = λ others next rest.
-          subst (λ (text : List ℕ). Follows c.args.orders.now c.args.player.now text next) (sym (append_assoc before.printed step.0 others))
+          subst (λ (pieces : List Piece). Follows c.args.orders.now c.args.player.now pieces next) (sym (append_assoc before.done step.0 others))
           (before.follows (step.0 ++ others) next (orders_from _ _ _ _ _ _ _ _ c.loop-order-test.true step.1 rest));
     }
 
 pub returns : goal.returns
 returns c =
     let followed = c.loop-order.invariant in
-    let text = followed.printed in
     let done = followed.follows [] c.loop-order.player (all_followed _ _ _ c.loop-order-test.false) in
-    (text, subst (λ (l : List ℕ). Follows c.args.orders.now c.args.player.now l c.loop-order.player) (append-nil text) done, followed.out)
+    (followed.done, subst (λ (pieces : List Piece). Follows c.args.orders.now c.args.player.now pieces c.loop-order.player) (append-nil followed.done) done, followed.tells)

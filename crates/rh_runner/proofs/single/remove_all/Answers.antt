@@ -1,6 +1,9 @@
-use Rattle.std.proofs.Common.{◌∙◌, arith}
+use Rattle.std.proofs.Common.{◌∙◌, ap, arith}
+use Rattle.std.proofs.lemmas.List.{take_all}
 use Rattle.rh_layout.specs.Layout.{keys_of}
 use Rattle.rh_ledger.specs.declared.tally.Kind.TheVariants.{Remove}
+use Rattle.rh_ledger.specs.Phase.{set_after}
+use Rattle.rh_runner.proofs.CellsLemmas.{only_cells}
 use Rattle.rh_runner.proofs.SingleLemmas.{room_to_remove, set_goes_on, one_removed, none_removed}
 use Rattle.rh_runner.proofs.single.remove_all.Goals.{then-remove, else-remove}
 use Rattle.rh_runner.proofs.single.remove_all.Goals as goal
@@ -28,3 +31,10 @@ loop-key-preserved c =
         few = omega (arith, w.removed-is);
       }
     ]
+
+pub returns-clause-cells : goal.returns-clause-cells
+returns-clause-cells c =
+    let keys = c.args.keys.now in
+    let old = c.args.cells.now in
+    let all = ap (set_after Remove (keys_of old)) (take_all c.loop-key.key-index keys (omega arith)) in
+    only_cells Remove c.args.bits keys old c.loop-key.cells c.loop-key.invariant.layout (c.loop-key.invariant.keys ∙ all) (omega (arith, c.requires.room))

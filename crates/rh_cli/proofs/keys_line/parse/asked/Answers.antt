@@ -13,7 +13,8 @@ unreachable-requires c =
     elim c.in_default.branch [
       | in_default-via-in-Some+in_default w ↦ elim named.2 [
         | inl pack ↦ grind (arith, named.1, pack, w.in_default.is)
-        | inr list ↦ grind (arith, named.1, list, w.in_default.is)
+        | inr (inl list) ↦ grind (arith, named.1, list, w.in_default.is)
+        | inr (inr split) ↦ grind (arith, named.1, split.0, w.in_default.is)
       ]
       | in_default-via-in_default w ↦ grind (arith, named.1, w.in_default.is)
     ]

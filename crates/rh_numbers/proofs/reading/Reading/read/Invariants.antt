@@ -1,9 +1,10 @@
-use Rattle.std.proofs.Common.{◌≡◌, ◌≤◌, ◌+◌, ◌++◌, List, ℕ, take}
-use Rattle.rh_numbers.specs.Reading.{keys_from}
+use Rattle.std.proofs.Common.{◌≡◌, ◌≤◌, ◌+◌, ◌++◌, List, ℕ, length, take}
+use Rattle.rh_numbers.specs.Parts.{said_by}
 use Rattle.rh_numbers.proofs.reading.Reading.read.Given as goal
 
 abbrev pub invariant-loop-b : goal.invariant-loop-b
 invariant-loop-b l = record {
   line : l.self.line ≤ l.fn.self.line + l.b-index;
-  read : (rest : List ℕ) → keys_from l.fn.self.keys.items l.fn.self.line l.fn.self.so_far (take l.b-index l.bytes ++ rest) ≡ keys_from l.self.keys.items l.self.line l.self.so_far rest;
+  many : length l.self.keys.items ≤ length l.fn.self.keys.items + l.b-index;
+  read : (rest : List ℕ) → said_by l.fn.self (take l.b-index l.bytes ++ rest) ≡ said_by l.self rest;
 }

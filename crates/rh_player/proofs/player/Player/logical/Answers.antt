@@ -28,7 +28,7 @@ loop-cell-preserved c =
     let at = c.loop-cell.cell in
     let value = c.logical_value.result in
     let g = c.args.self.now in
-    let inside = subst (λ (hands : List Hand). IsValueOf c.self.inside.shape c.self.inside.words.items (views_of hands) at value) c.deref-in-loop-cell.ensures.value
+    let inside = subst (λ (hands : List Hand). IsValueOf c.self.inside.shape c.self.inside.table.words.items (views_of hands) at value) c.deref-in-loop-cell.ensures.value
     (subst (λ (words : List ℕ). IsValueOf c.self.inside.shape words (views_of c.deref-in-loop-cell.result.now) at value) c.deref.ensures.value c.logical_value.ensures) in
     record {
       size = length-set c.loop-cell.cells at value ∙ c.loop-cell.invariant.size;

@@ -10,7 +10,7 @@ use Rattle.rh_player.proofs.player.Player.raw.Goals as goal
 pub unwrap-requires : goal.unwrap-requires
 unwrap-requires c =
     let plays : Plays c.args.self.now = subst Plays c.self.view_is c.self.invariant in
-    let items = c.self.inside.words.items in
+    let items = c.self.inside.table.words.items in
     let inside : c.args.cell < length items = omega (arith, c.requires, plays_sized c.args.self.now plays, ap (λ (g : Game). length g.words) c.self.view_is) in
     let same : slice_index c.args.self.now.words c.args.cell ≡ c.index.result.now =
     ap (λ (g : Game). slice_index g.words c.args.cell) (sym c.self.view_is) ∙ get_or_default items c.args.cell 0 c.index.result.now inside ∙ sym c.index.ensures in

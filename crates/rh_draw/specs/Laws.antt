@@ -1,0 +1,63 @@
+-- Which marks and which columns a picture has.
+use Rattle.std.specs.Prelude.{◌≡◌, ℕ, ◌<◌, ◌==◌, if◌then◌else◌, List, [], ◌∷◌, ◌++◌, length, slice_index}
+use Rattle.std.specs.List.{flat_map, list_any}
+use Rattle.rh_descriptor.specs.declared.shape.Shape.{Shape}
+use Rattle.rh_draw.specs.Changes.{changed_cells}
+use Rattle.rh_draw.specs.Frame.{fixed}
+use Rattle.rh_svg.specs.Markup.{Content, Nothing, Text, Element}
+use Rattle.rh_draw.specs.Picture.{picture, plan}
+use Rattle.rh_draw.specs.Places.{lane_x, moment_of, moment_y}
+use Rattle.rh_draw.specs.Records.{is_drawn}
+use Rattle.rh_draw.specs.Words.{all_words, words_after}
+use Rattle.rh_draw.specs.declared.records.Record.{Record}
+use Rattle.rh_draw.specs.declared.records.Record.TheVariants.{Step, Round}
+use Rattle.rh_draw.specs.declared.records.Window.{Window}
+use Rattle.rh_svg.specs.declared.tags.Tag.{Tag}
+use Rattle.rh_svg.specs.declared.tags.Tag.TheVariants.{Svg, Style, Definitions, Outline, Title, Box, Line, Dot, Label, Mark}
+
+abbrev pub mark_at : Tag → List Tag
+mark_at (Svg width height) = []
+mark_at Style = []
+mark_at Definitions = []
+mark_at (Outline kind) = []
+mark_at Title = []
+mark_at (Box x y width height look) = []
+mark_at (Line x y to_x to_y look) = []
+mark_at (Dot x y look) = []
+mark_at (Label x y look) = []
+mark_at (Mark x y kind) = Mark x y kind ∷ []
+
+-- the marks of contents, in their order
+abbrev pub marks_in : Content → List Tag
+marks_in Nothing = []
+marks_in (Text text after) = marks_in after
+marks_in (Element tag inside after) = mark_at tag ++ (marks_in inside ++ marks_in after)
+
+-- of a step of the window its mark: in the lane of its worker, at the height of its number
+abbrev pub mark_of : Window → Record → List Tag
+mark_of window (Round next) = []
+mark_of window (Step step) =
+    if is_drawn window step.number
+    then Mark (lane_x step.worker) (moment_y (moment_of window step.number)) step.kind ∷ []
+    else []
+
+-- Beside the marks of the legend a picture has one for each step of its window, in their order, and no other.
+abbrev pub MarksAreSteps : Type 0
+MarksAreSteps =
+    (z : Shape) (cells : List ℕ) (given : List Record) (window : Window) →
+    marks_in (picture z cells given window) ≡ marks_in fixed ++ flat_map (mark_of window) given
+
+-- the cells that the steps of the window change, step by step
+abbrev pub changes_in : Shape → Window → (words : List ℕ) → List Record → List ℕ
+changes_in z window words [] = []
+changes_in z window words (Round next ∷ more) = changes_in z window words more
+changes_in z window words (Step step ∷ more) =
+    (if is_drawn window step.number then changed_cells z words step.touched else [])
+    ++ changes_in z window (words_after z words step.touched) more
+
+-- A cell has a column exactly where a step of the window changes it.
+abbrev pub ColumnsAreChanges : Type 0
+ColumnsAreChanges =
+    (z : Shape) (cells : List ℕ) (given : List Record) (window : Window) (cell : ℕ) → cell < length cells →
+    slice_index (plan z cells given window).flags cell
+    ≡ (if list_any (λ changed. changed == cell) (changes_in z window (all_words z cells) given) then 1 else 0)

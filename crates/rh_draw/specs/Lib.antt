@@ -1,0 +1,14 @@
+pub mod Boxes
+pub mod Changes
+pub mod Columns
+pub mod Frame
+pub mod History
+pub mod Laws
+pub mod Legend
+pub mod Notices
+pub mod Picture
+pub mod Places
+pub mod Plans
+pub mod Records
+pub mod Rows
+pub mod Words

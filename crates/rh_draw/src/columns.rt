@@ -1,0 +1,80 @@
+//! Which cells have a column, and where.
+
+ghost use Rattle.std.specs.Prelude.{◌≡◌, ◌≤◌, IfOk, OnOk, length};
+ghost use Rattle.rh_descriptor.specs.Parts.{IsShape};
+ghost use Rattle.rh_draw.specs.Columns.{column_count, flags_after, flagged, places_of};
+
+use crate::changes::{list_changes, put_all};
+use crate::records::{Record, Window};
+use crate::words::follow_words;
+use rh_descriptor::Shape;
+use rh_trace::Traced;
+use std::alloc::{AllocError, Global};
+
+/// Flags the cells of which a step within the window changes the word or the value, by 1. The words
+/// are those before the first record, and the list is for what one step changes.
+pub(crate) fn flag_changes(
+    shape: &Shape,
+    window: Window,
+    words: &mut [u64],
+    flags: &mut [u64],
+    records: &[Record],
+    cells: &mut Vec<u64>,
+) -> Result<(), AllocError>
+    requires { IsShape shape.now }
+    ensures { OnOk result (flags.new ≡ flags_after shape.now window words.old flags.old records.now) }
+{
+    for record in records {
+        if let Record::Step(step) = record {
+            flag_step(shape, window, words, flags, step, cells)?;
+            follow_words(shape, words, step.touched);
+        }
+    }
+    Ok(())
+}
+
+fn flag_step(
+    shape: &Shape,
+    window: Window,
+    words: &[u64],
+    flags: &mut [u64],
+    step: &Traced,
+    cells: &mut Vec<u64>,
+) -> Result<(), AllocError>
+    requires { IsShape shape.now }
+    ensures { OnOk result (flags.new ≡ flagged shape.now window words.now flags.old step.now) }
+{
+    if window.has(step.number) {
+        list_changes(shape, words, step.touched, cells)?;
+        put_all(flags, cells, 1);
+    }
+    Ok(())
+}
+
+/// How many columns there are.
+pub(crate) fn column_count(flags: &[u64]) -> u64
+    ensures { result ≡ column_count flags.now }
+{
+    let mut count = 0;
+    for flag in flags {
+        if *flag != 0 {
+            count += 1;
+        }
+    }
+    count
+}
+
+/// For each cell, how many columns are to the left of its own.
+pub(crate) fn place_columns(alloc: Global, flags: &[u64]) -> Result<Vec<u64>, AllocError>
+    ensures { IfOk result (λ places. places.items ≡ places_of 0 flags.now) }
+{
+    let mut places = Vec::new(alloc);
+    let mut count = 0;
+    for flag in flags {
+        places.push(count)?;
+        if *flag != 0 {
+            count += 1;
+        }
+    }
+    Ok(places)
+}

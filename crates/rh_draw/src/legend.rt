@@ -1,0 +1,288 @@
+//! What is the same in each picture: the style sheet, the outlines, the legend.
+
+ghost use Rattle.std.specs.Prelude.{◌≡◌};
+ghost use Rattle.rh_draw.specs.Legend.{says_text};
+
+use rh_descriptor::StepKind;
+use rh_play_report::kind_word;
+use rh_svg::{Look, Tag};
+
+/// The style sheet. The colours of the kinds and of the first seven workers are those of Okabe and Ito,
+/// which most colour-blind readers can tell apart.
+pub(crate) const STYLE: &str =
+    "svg{font:10px sans-serif}text{fill:#222}use{stroke:#222;stroke-width:1}\
+.ground{fill:#fff}.number{fill:#666}\
+.head{font-weight:bold;font-size:9px;text-anchor:middle;stroke:#fff;stroke-width:3px;paint-order:stroke}\
+.w0{fill:#e69f00;stroke:#e69f00}.w1{fill:#56b4e9;stroke:#56b4e9}.w2{fill:#009e73;stroke:#009e73}\
+.w3{fill:#cc79a7;stroke:#cc79a7}.w4{fill:#0072b2;stroke:#0072b2}.w5{fill:#d55e00;stroke:#d55e00}\
+.w6{fill:#b8a800;stroke:#b8a800}.w7{fill:#6a3d9a;stroke:#6a3d9a}.w8{fill:#8c5a2b;stroke:#8c5a2b}\
+.w9{fill:#00b3b3;stroke:#00b3b3}.w10{fill:#7cc242;stroke:#7cc242}.w11{fill:#a3195b;stroke:#a3195b}\
+.w12{fill:#2b3a8f;stroke:#2b3a8f}.w13{fill:#ff8f80;stroke:#ff8f80}.w14{fill:#5f6b1e;stroke:#5f6b1e}\
+.w15{fill:#444;stroke:#444}\
+.lane{stroke-width:5;stroke-opacity:.35}.help{stroke-width:3}\
+.act{stroke:#000;stroke-width:2.5}.decision{stroke:#000;stroke-width:1.5;stroke-dasharray:2 4}\
+.late{stroke:#c00;stroke-width:2;stroke-dasharray:10 4}.round{stroke:#666}.saying{fill:#000}\
+.empty{fill:#fff;stroke:#ccc}.key{fill:#eee;stroke:#999}.odd{fill:#fcc;stroke:#c00}\
+.mark{fill-opacity:.2;stroke-dasharray:4 3;stroke-width:2}.desc{fill-opacity:.55;stroke-width:2}\
+.value{font-style:italic}\
+use.write{fill:#fff}use.open{fill:#009e73}use.read{fill:#bbb}use.place{fill:#56b4e9}\
+use.settle{fill:#0072b2}use.decide{fill:#d55e00}use.release{fill:#e69f00}use.claim{fill:#cc79a7}";
+
+/// The outlines of the kinds.
+pub(crate) const OUTLINES: &[Tag] = &[
+    Tag::Outline(StepKind::Write),
+    Tag::Outline(StepKind::Open),
+    Tag::Outline(StepKind::Read),
+    Tag::Outline(StepKind::Place),
+    Tag::Outline(StepKind::Settle),
+    Tag::Outline(StepKind::Decide),
+    Tag::Outline(StepKind::Release),
+    Tag::Outline(StepKind::Claim),
+];
+
+/// What the legend says beside a sign.
+#[derive(Clone, Copy)]
+pub(crate) enum Says {
+    Kind(StepKind),
+    Help,
+    Act,
+    Decision,
+    Late,
+    Round,
+    Mark,
+    Desc,
+    Italic,
+    Value,
+}
+
+/// Where it says it.
+#[derive(Clone, Copy)]
+pub(crate) struct Caption {
+    pub(crate) x: u64,
+    pub(crate) y: u64,
+    pub(crate) look: Look,
+    pub(crate) says: Says,
+}
+
+impl Says {
+    pub(crate) fn text(self) -> &'static str
+        ensures { result.now ≡ says_text self }
+    {
+        match self {
+            Says::Kind(kind) => kind_word(kind),
+            Says::Help => "step for that worker",
+            Says::Act => "act: the descriptor succeeds",
+            Says::Decision => "another decision",
+            Says::Late => "late promotion of a mark",
+            Says::Round => "a further round begins",
+            Says::Mark => "mark of that worker",
+            Says::Desc => "descriptor of that worker",
+            Says::Italic => "italic",
+            Says::Value => "what the cell stands for",
+        }
+    }
+}
+
+/// The signs of the legend.
+pub(crate) const SIGNS: &[Tag] = &[
+    Tag::Mark {
+        x: 18,
+        y: 18,
+        kind: StepKind::Write,
+    },
+    Tag::Mark {
+        x: 112,
+        y: 18,
+        kind: StepKind::Open,
+    },
+    Tag::Mark {
+        x: 206,
+        y: 18,
+        kind: StepKind::Read,
+    },
+    Tag::Mark {
+        x: 300,
+        y: 18,
+        kind: StepKind::Place,
+    },
+    Tag::Mark {
+        x: 18,
+        y: 40,
+        kind: StepKind::Settle,
+    },
+    Tag::Mark {
+        x: 112,
+        y: 40,
+        kind: StepKind::Decide,
+    },
+    Tag::Mark {
+        x: 206,
+        y: 40,
+        kind: StepKind::Release,
+    },
+    Tag::Mark {
+        x: 300,
+        y: 40,
+        kind: StepKind::Claim,
+    },
+    Tag::Line {
+        x: 12,
+        y: 62,
+        to_x: 42,
+        to_y: 62,
+        look: Look::Help(0),
+    },
+    Tag::Dot {
+        x: 42,
+        y: 62,
+        look: Look::Help(0),
+    },
+    Tag::Line {
+        x: 200,
+        y: 62,
+        to_x: 230,
+        to_y: 62,
+        look: Look::Act,
+    },
+    Tag::Box {
+        x: 12,
+        y: 74,
+        width: 30,
+        height: 12,
+        look: Look::Mark(0),
+    },
+    Tag::Line {
+        x: 200,
+        y: 80,
+        to_x: 230,
+        to_y: 80,
+        look: Look::Decision,
+    },
+    Tag::Box {
+        x: 12,
+        y: 92,
+        width: 30,
+        height: 12,
+        look: Look::Desc(0),
+    },
+    Tag::Line {
+        x: 200,
+        y: 98,
+        to_x: 230,
+        to_y: 98,
+        look: Look::Late,
+    },
+    Tag::Line {
+        x: 200,
+        y: 116,
+        to_x: 230,
+        to_y: 116,
+        look: Look::Round,
+    },
+];
+
+/// What the legend says of them.
+pub(crate) const CAPTIONS: &[Caption] = &[
+    Caption {
+        x: 32,
+        y: 22,
+        look: Look::Word,
+        says: Says::Kind(StepKind::Write),
+    },
+    Caption {
+        x: 126,
+        y: 22,
+        look: Look::Word,
+        says: Says::Kind(StepKind::Open),
+    },
+    Caption {
+        x: 220,
+        y: 22,
+        look: Look::Word,
+        says: Says::Kind(StepKind::Read),
+    },
+    Caption {
+        x: 314,
+        y: 22,
+        look: Look::Word,
+        says: Says::Kind(StepKind::Place),
+    },
+    Caption {
+        x: 32,
+        y: 44,
+        look: Look::Word,
+        says: Says::Kind(StepKind::Settle),
+    },
+    Caption {
+        x: 126,
+        y: 44,
+        look: Look::Word,
+        says: Says::Kind(StepKind::Decide),
+    },
+    Caption {
+        x: 220,
+        y: 44,
+        look: Look::Word,
+        says: Says::Kind(StepKind::Release),
+    },
+    Caption {
+        x: 314,
+        y: 44,
+        look: Look::Word,
+        says: Says::Kind(StepKind::Claim),
+    },
+    Caption {
+        x: 52,
+        y: 66,
+        look: Look::Word,
+        says: Says::Help,
+    },
+    Caption {
+        x: 238,
+        y: 66,
+        look: Look::Word,
+        says: Says::Act,
+    },
+    Caption {
+        x: 52,
+        y: 84,
+        look: Look::Word,
+        says: Says::Mark,
+    },
+    Caption {
+        x: 238,
+        y: 84,
+        look: Look::Word,
+        says: Says::Decision,
+    },
+    Caption {
+        x: 52,
+        y: 102,
+        look: Look::Word,
+        says: Says::Desc,
+    },
+    Caption {
+        x: 238,
+        y: 102,
+        look: Look::Word,
+        says: Says::Late,
+    },
+    Caption {
+        x: 12,
+        y: 120,
+        look: Look::Value,
+        says: Says::Italic,
+    },
+    Caption {
+        x: 52,
+        y: 120,
+        look: Look::Word,
+        says: Says::Value,
+    },
+    Caption {
+        x: 238,
+        y: 120,
+        look: Look::Word,
+        says: Says::Round,
+    },
+];

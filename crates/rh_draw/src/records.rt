@@ -1,0 +1,84 @@
+//! What a picture is made from.
+
+ghost use Rattle.std.specs.Prelude.{◌≡◌, ◌≤◌, IsTrue, length};
+ghost use Rattle.rh_draw.specs.Places.{moment_of};
+ghost use Rattle.rh_draw.specs.Records.{count_from, drawn_count, is_before, is_drawn, is_past};
+
+use rh_trace::Traced;
+
+/// What happened in a play.
+#[derive(Clone, Copy)]
+pub enum Record {
+    Step(Traced),
+    /// A further round began, before the step of this number. What it changes in the rows, the steps
+    /// that follow write anew.
+    Round { next: u64 },
+}
+
+/// Which steps are drawn: so many, from this number on.
+#[derive(Clone, Copy, Debug, PartialEq, Eq)]
+pub struct Window {
+    pub from: u64,
+    pub steps: u64,
+}
+
+impl Window {
+    pub(crate) fn has(self, number: u64) -> bool
+        ensures { result ≡ is_drawn self number }
+    {
+        number >= self.from && number - self.from < self.steps
+    }
+
+    /// Whether the step comes after those that are drawn.
+    pub(crate) fn is_before(self, number: u64) -> bool
+        ensures { result ≡ is_past self number }
+    {
+        number >= self.from && number - self.from >= self.steps
+    }
+
+    /// Whether the moment before this step is drawn: it is one before a step of the window or after one.
+    pub(crate) fn has_before(self, next: u64) -> bool
+        ensures { result ≡ is_before self next }
+    {
+        next >= self.from && next - self.from <= self.steps
+    }
+
+    /// The moment after a step of the window: so many steps are made by then.
+    pub(crate) fn moment(self, number: u64) -> u64
+        requires { IsTrue (is_drawn self number) }
+        ensures { result ≡ moment_of self number }
+    {
+        number - self.from + 1
+    }
+}
+
+/// How many steps a picture from this number on would have.
+pub fn steps_from(records: &[Record], from: u64) -> usize
+    ensures { result ≡ count_from from records.now }
+{
+    let mut count = 0;
+    for record in records {
+        if let Record::Step(step) = record {
+            if step.number >= from {
+                count += 1;
+            }
+        }
+    }
+    count
+}
+
+/// How many steps the picture of a window has.
+pub(crate) fn steps_drawn(records: &[Record], window: Window) -> usize
+    ensures count { result ≡ drawn_count window records.now }
+    ensures within { result ≤ length records.now }
+{
+    let mut count = 0;
+    for record in records {
+        if let Record::Step(step) = record {
+            if window.has(step.number) {
+                count += 1;
+            }
+        }
+    }
+    count
+}

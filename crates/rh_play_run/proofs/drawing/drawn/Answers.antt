@@ -1,0 +1,19 @@
+use Rattle.std.proofs.lemmas.Result.{err_from_is_err_and}
+use Rattle.rh_play_run.proofs.Drawn.{drawn, too_many, undrawn}
+use Rattle.rh_play_run.proofs.drawing.drawn.Goals as goal
+
+pub returns-in_err-recorded-clause-refused : goal.returns-in_err-recorded-clause-refused
+returns-in_err-recorded-clause-refused g c =
+    let fault = err_from_is_err_and c.from_residual-in_err-recorded.result c.from_residual-in_err-recorded.ensures.1 in
+    rw (fault.1, fault.2) (undrawn _ c.args.from c.args.steps c.in_ok-play.play c.in_ok-play.ensures.read c.in_err-recorded.field-0.0 c.in_err-recorded.ensures.refused)
+
+pub returns-in_err-window-clause-refused : goal.returns-in_err-window-clause-refused
+returns-in_err-window-clause-refused g c =
+    let fault = err_from_is_err_and c.from_residual-in_err-window.result c.from_residual-in_err-window.ensures.1 in
+    rw (fault.1, fault.2)
+    (too_many _ c.args.from c.args.steps c.in_ok-play.play c.in_ok-play.ensures.read _ _ _ _ c.in_ok-recorded.ensures.recorded c.deref.ensures.value c.in_err-window.field-0.0 c.in_err-window.ensures.refused)
+
+pub returns-clause-drawn : goal.returns-clause-drawn
+returns-clause-drawn g c =
+    drawn _ c.args.from c.args.steps c.in_ok-play.play c.in_ok-play.ensures.read _ _ _ _ c.in_ok-recorded.ensures.recorded c.deref.ensures.value
+    _ _ c.in_ok-window.window _ c.deref-2.ensures.value c.deref-3.ensures.value c.in_ok-window.ensures.window c.in_ok-draw.ensures.drawn

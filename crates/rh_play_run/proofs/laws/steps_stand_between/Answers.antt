@@ -1,0 +1,20 @@
+use Rattle.std.proofs.Common.{refl}
+use Rattle.rh_play_run.proofs.laws.steps_stand_between.Goals as goal
+
+pub returns : goal.returns
+returns c play text is = (
+  is.pieces,
+  is.ending,
+  is.text_is,
+  record {
+    first = is.first;
+    last = is.last;
+    begins = is.begins;
+    pieces = is.pieces;
+    follows = is.follows;
+    ending = is.ending;
+    ends = is.ends;
+    as_one = is.as_one;
+    text_is = refl;
+  },
+)

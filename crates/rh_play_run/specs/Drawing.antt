@@ -1,0 +1,82 @@
+-- The picture that is drawn of a play.
+use Rattle.std.specs.Prelude.{◌≡◌, ℕ, ◌<◌, ◌≤◌, List, length, take, Option, Some, None, Result, Ok, Err}
+use Rattle.std.specs.Io.KnownBytes.{Appends}
+use Rattle.rh_descriptor.specs.declared.shape.Shape.{Shape}
+use Rattle.rh_descriptor.specs.Parts.{IsShape, cell_count}
+use Rattle.rh_turns.specs.Game.{Game}
+use Rattle.rh_svg.specs.Markup.{render}
+use Rattle.rh_draw.specs.Picture.{picture}
+use Rattle.rh_draw.specs.Records.{count_from}
+use Rattle.rh_draw.specs.declared.limits.TheConstants.{MAX_STEPS}
+use Rattle.rh_draw.specs.declared.records.Record.{Record}
+use Rattle.rh_draw.specs.declared.records.Window.{Window}
+use Rattle.rh_files.specs.Counting.{AppendsFront}
+use Rattle.rh_play.specs.declared.play.Play.{Play}
+use Rattle.rh_play_run.specs.declared.draw_fault.DrawFault.{DrawFault}
+use Rattle.rh_play_run.specs.declared.draw_fault.DrawFault.TheVariants as draw
+use Rattle.rh_play_run.specs.declared.fault.PlayRunFault.TheVariants as plays
+use Rattle.rh_play_run.specs.declared.log.Telling.TheVariants.{Records}
+use Rattle.rh_play_run.specs.Beginning.{Begins}
+use Rattle.rh_play_run.specs.Pieces.{Piece, recorded}
+use Rattle.rh_play_run.specs.Run.{IsPlayRead, IsRefused, IsTextFault}
+use Rattle.rh_play_run.specs.Schedule.{Follows}
+
+-- The play was carried out: the table, the words of its cells at first, and what happened.
+pub record IsRecorded (play : Play) (z : Shape) (cells : List ℕ) (records : List Record) : Type 0 where
+  pub first : Game
+  pub last : Game
+  pub begins : Begins play first
+  pub pieces : List Piece
+  pub follows : Follows play.schedule.items first pieces last
+  pub shape : IsShape z
+  pub shape_is : z ≡ first.shape
+  pub long : length cells ≡ cell_count z
+  pub cells_are : cells ≡ take (cell_count z) first.words
+  pub records_are : records ≡ recorded Records 0 pieces
+
+-- So many steps from this number on, or all from it on, which are not too many.
+abbrev pub IsWindow : (from : ℕ) → (steps : Option ℕ) → List Record → Window → Type 0
+IsWindow from (Some n) records window = (window ≡ record { from = from; steps = n }) × (n ≤ MAX_STEPS)
+IsWindow from None records window = (window ≡ record { from = from; steps = count_from from records }) × (count_from from records ≤ MAX_STEPS)
+
+-- The text is the picture of these steps of the play.
+pub record IsDrawn (play : Play) (from : ℕ) (steps : Option ℕ) (text : List ℕ) : Type 0 where
+  pub table : Shape
+  pub cells : List ℕ
+  pub records : List Record
+  pub run : IsRecorded play table cells records
+  pub window : Window
+  pub chosen : IsWindow from steps records window
+  pub text_is : text ≡ render (picture table cells records window)
+
+-- No steps were chosen, and the play has too many.
+pub record HasTooMany (play : Play) (from : ℕ) (steps : Option ℕ) : Type 0 where
+  pub table : Shape
+  pub cells : List ℕ
+  pub records : List Record
+  pub run : IsRecorded play table cells records
+  pub all : steps ≡ None
+  pub many : MAX_STEPS < count_from from records
+
+-- the picture of the play that the bytes say
+abbrev pub IsDrawnOf : (bytes : Option (List ℕ)) (from : ℕ) (steps : Option ℕ) (text : List ℕ) → Type 0
+IsDrawnOf bytes from steps text = (play : Play) × IsPlayRead bytes play × IsDrawn play from steps text
+
+-- Nothing was drawn. Of a failed read and of want of memory other clauses speak.
+abbrev pub IsUndrawn : (bytes : Option (List ℕ)) (from : ℕ) (steps : Option ℕ) → DrawFault → Type 0
+IsUndrawn bytes from steps (draw.Play plays.Read) = Unit {0}
+IsUndrawn bytes from steps (draw.Play (plays.Text fault)) = IsTextFault bytes fault
+IsUndrawn bytes from steps (draw.Play (plays.Start fault)) = IsRefused bytes fault
+IsUndrawn bytes from steps (draw.Play plays.Memory) = Unit {0}
+IsUndrawn bytes from steps (draw.Play plays.Write) = ⊥
+IsUndrawn bytes from steps draw.TooMany = (play : Play) × IsPlayRead bytes play × HasTooMany play from steps
+
+-- The picture or a front of it was written; or none was drawn.
+abbrev pub Draws : {X : Type 0} → (from : ℕ) (steps : Option ℕ) (bytes old new : Option (List ℕ)) → Result X DrawFault → Type 0
+Draws from steps bytes old new (Ok x) = (text : List ℕ) × IsDrawnOf bytes from steps text × Appends old new text
+Draws from steps bytes old new (Err (draw.Play plays.Write)) = (text : List ℕ) × IsDrawnOf bytes from steps text × AppendsFront old new text
+Draws from steps bytes old new (Err (draw.Play plays.Read)) = Unit {0}
+Draws from steps bytes old new (Err (draw.Play (plays.Text fault))) = IsTextFault bytes fault
+Draws from steps bytes old new (Err (draw.Play (plays.Start fault))) = IsRefused bytes fault
+Draws from steps bytes old new (Err (draw.Play plays.Memory)) = Unit {0}
+Draws from steps bytes old new (Err draw.TooMany) = IsUndrawn bytes from steps draw.TooMany

@@ -1,0 +1,85 @@
+-- What is told of a play, piece by piece.
+use Rattle.std.specs.Prelude.{◌≡◌, ℕ, ◌+◌, ◌-◌, ◌^◌, min, Bool, true, false, List, [], ◌∷◌, ◌++◌, Option, Some, None}
+use Rattle.rh_descriptor.specs.declared.steps.StepKind.{StepKind}
+use Rattle.rh_recorder.specs.declared.recorder.Touched.{Touched}
+use Rattle.rh_turns.specs.declared.turning.Turn.{Turn}
+use Rattle.rh_turns.specs.declared.turning.Turn.TheVariants as turn
+use Rattle.rh_trace.specs.Telling.{step_line}
+use Rattle.rh_trace.specs.declared.traced.Traced.{Traced}
+use Rattle.rh_draw.specs.declared.records.Record.{Record}
+use Rattle.rh_draw.specs.declared.records.Record.TheVariants.{Step, Round}
+use Rattle.rh_play_run.specs.declared.log.Log.{Log}
+use Rattle.rh_play_run.specs.declared.log.Telling.{Telling}
+use Rattle.rh_play_run.specs.declared.log.Telling.TheVariants.{Orders, Steps, Records}
+
+pub data Piece : Type 0 where
+  -- a step of a worker, and what it touched
+  step : (worker : ℕ) → StepKind → Touched → Piece
+  -- a further round began
+  round : Piece
+  -- the lines of an order
+  lines : (text : List ℕ) → Piece
+
+-- what is told of a turn: a step, or nothing
+abbrev pub turn_pieces : (worker : ℕ) → Turn → Option Touched → List Piece
+turn_pieces worker (turn.Did kind) (Some touched) = Piece.step worker kind touched ∷ []
+turn_pieces worker (turn.Did kind) None = []
+turn_pieces worker turn.Finished touched = []
+turn_pieces worker turn.Spent touched = []
+turn_pieces worker turn.NoSuchWorker touched = []
+
+-- what is told of an order for a further round, before its line
+abbrev pub round_pieces : (began : Bool) → List Piece
+round_pieces true = Piece.round ∷ []
+round_pieces false = []
+
+-- the steps with one more, up to the greatest number
+abbrev pub counted : (steps : ℕ) → ℕ
+counted steps = min (steps + 1) (2 ^ 64 - 1)
+
+-- how many steps were made after it
+abbrev pub steps_with : (steps : ℕ) → Piece → ℕ
+steps_with steps (Piece.step worker kind touched) = counted steps
+steps_with steps Piece.round = steps
+steps_with steps (Piece.lines text) = steps
+
+-- the step that comes after so many
+abbrev pub traced : (steps worker : ℕ) → StepKind → Touched → Traced
+traced steps worker kind touched = record { number = counted steps; worker = worker; kind = kind; touched = touched }
+
+-- its text after so many steps
+abbrev pub piece_text : Telling → (steps : ℕ) → Piece → List ℕ
+piece_text Orders steps (Piece.step worker kind touched) = []
+piece_text Steps steps (Piece.step worker kind touched) = step_line (traced steps worker kind touched)
+piece_text Records steps (Piece.step worker kind touched) = []
+piece_text telling steps Piece.round = []
+piece_text telling steps (Piece.lines text) = text
+
+-- its record after so many steps, where records are kept
+abbrev pub piece_records : Telling → (steps : ℕ) → Piece → List Record
+piece_records Orders steps piece = []
+piece_records Steps steps piece = []
+piece_records Records steps (Piece.step worker kind touched) = Step (traced steps worker kind touched) ∷ []
+piece_records Records steps Piece.round = Round (counted steps) ∷ []
+piece_records Records steps (Piece.lines text) = []
+
+-- the text of all of them
+abbrev pub told : Telling → (steps : ℕ) → List Piece → List ℕ
+told telling steps [] = []
+told telling steps (p ∷ pieces) = piece_text telling steps p ++ told telling (steps_with steps p) pieces
+
+-- the records of all of them
+abbrev pub recorded : Telling → (steps : ℕ) → List Piece → List Record
+recorded telling steps [] = []
+recorded telling steps (p ∷ pieces) = piece_records telling steps p ++ recorded telling (steps_with steps p) pieces
+
+abbrev pub steps_after : (steps : ℕ) → List Piece → ℕ
+steps_after steps [] = steps
+steps_after steps (p ∷ pieces) = steps_after (steps_with steps p) pieces
+
+-- These were told.
+pub record Tells (old : Log) (pieces : List Piece) (new : Log) : Type 0 where
+  pub telling : new.telling ≡ old.telling
+  pub text : new.text.items ≡ old.text.items ++ told old.telling old.steps pieces
+  pub records : new.records.items ≡ old.records.items ++ recorded old.telling old.steps pieces
+  pub steps : new.steps ≡ steps_after old.steps pieces

@@ -1,0 +1,128 @@
+//! A play, drawn.
+
+ghost use Rattle.std.specs.Prelude.{◌≡◌, ◌≢◌, ◌+◌, ◌<◌, ◌≤◌, Err, IfErr, IfOk, IfSome, IsErrOf, None};
+ghost use Rattle.rh_files.specs.Counting.{Rose, failures_of, inner_of};
+ghost use Rattle.rh_files.specs.Taking.{TakesAtMost};
+ghost use Rattle.rh_draw.specs.Records.{count_from};
+ghost use Rattle.rh_draw.specs.declared.limits.TheConstants.{MAX_STEPS};
+ghost use Rattle.rh_play.specs.declared.limits.TheConstants.{MAX_TEXT_BYTES};
+ghost use Rattle.rh_play_run.specs.Beginning.{IsBlank};
+ghost use Rattle.rh_play_run.specs.Devices.{ReadsPlay, WritesLast};
+ghost use Rattle.rh_play_run.specs.Drawing.{Draws, IsDrawnOf, IsRecorded, IsUndrawn, IsWindow};
+ghost use Rattle.rh_play_run.specs.Run.{IsUnplayed};
+
+use crate::beginning::{begin, blank_cells, cells_in};
+use crate::draw_fault::DrawFault;
+use crate::fault::PlayRunFault;
+use crate::log::{Log, Telling};
+use crate::orders::Size;
+use crate::reading::read_play;
+use crate::run::workers_of;
+use crate::schedule::follow;
+use rh_descriptor::Shape;
+use rh_draw::{MAX_STEPS, Record, Window, draw, steps_from};
+use rh_files::{Counted, write_texts};
+use rh_play::Play;
+use std::alloc::Global;
+use std::io::{Read, Write};
+
+/// What a play leaves to draw: its table, the words of the cells at first, and its steps and rounds.
+#[derive(Drop)]
+struct Recorded {
+    shape: Shape,
+    cells: Vec<u64>,
+    records: Vec<Record>,
+}
+
+/// Reads the text of a play, runs the play, and writes the picture of its steps, an SVG: of so many of
+/// them from this number on, or of all from it on, where they are no more than `MAX_STEPS`.
+///
+/// All memory is taken before the first byte is written, and all is written at once.
+pub fn draw_play<R: Read, W: Write>(
+    alloc: Global,
+    from: u64,
+    steps: Option<u64>,
+    reader: &mut Counted<R>,
+    writer: &mut Counted<W>,
+) -> Result<(), DrawFault>
+    requires { IfSome steps (λ n. n ≤ MAX_STEPS) }
+    ensures draws { Draws from steps (R.remaining (inner_of reader.old))
+        (W.contents (inner_of writer.old)) (W.contents (inner_of writer.new)) result }
+    ensures reads { ReadsPlay (DrawFault.Play PlayRunFault.Read) (R.remaining (inner_of reader.old))
+        (R.remaining (inner_of reader.new)) (failures_of reader.old) (failures_of reader.new) result }
+    ensures writes { WritesLast (DrawFault.Play PlayRunFault.Write) writer.old writer.new result }
+{
+    let picture = drawn(alloc, from, steps, reader)?;
+    write_texts(writer, &[&picture])?;
+    Ok(())
+}
+
+/// The picture of the play that a reader gives.
+fn drawn<R: Read>(
+    alloc: Global,
+    from: u64,
+    steps: Option<u64>,
+    reader: &mut Counted<R>,
+) -> Result<Vec<u8>, DrawFault>
+    requires { IfSome steps (λ n. n ≤ MAX_STEPS) }
+    ensures drawn { IfOk result (λ picture.
+        IsDrawnOf (R.remaining (inner_of reader.old)) from steps picture.items) }
+    ensures refused { IfErr result (IsUndrawn (R.remaining (inner_of reader.old)) from steps) }
+    ensures taken { TakesAtMost (R.remaining (inner_of reader.old))
+        (R.remaining (inner_of reader.new)) (MAX_TEXT_BYTES + 1) }
+    ensures read { IsErrOf result (DrawFault.Play PlayRunFault.Read) →
+        Rose (failures_of reader.old) (failures_of reader.new) }
+    ensures fine { result ≢ Err (DrawFault.Play PlayRunFault.Read) →
+        failures_of reader.new ≡ failures_of reader.old }
+{
+    let blank = blank_cells(alloc)?;
+    let play = read_play(alloc, reader)?;
+    let recorded = record(alloc, blank, &play)?;
+    let Recorded {
+        shape,
+        cells,
+        records,
+    } = recorded;
+    let window = window(&records, from, steps)?;
+    Ok(draw(alloc, &shape, &cells, &records, window)?)
+}
+
+/// Runs a play, whose table is made of blank cells, for its records.
+fn record(alloc: Global, blank: Vec<u64>, play: &Play) -> Result<Recorded, PlayRunFault>
+    requires { IsBlank blank.items }
+    ensures recorded { IfOk result (λ r.
+        IsRecorded play.now r.shape r.cells.items r.records.items) }
+    ensures refused { IfErr result (IsUnplayed play.now) }
+{
+    let size = Size {
+        workers: workers_of(play),
+        cells: cells_in(play.bits.value as u32),
+    };
+    let mut player = begin(alloc, blank, play)?;
+    let shape = player.shape();
+    let cells = player.words().to_vec(alloc)?;
+    let mut log = Log::new(alloc, Telling::Records);
+    follow(&mut player, size, &play.schedule, &mut log)?;
+    Ok(Recorded {
+        shape,
+        cells,
+        records: log.records,
+    })
+}
+
+/// The steps to draw.
+fn window(records: &[Record], from: u64, steps: Option<u64>) -> Result<Window, DrawFault>
+    requires { IfSome steps (λ n. n ≤ MAX_STEPS) }
+    ensures window { IfOk result (IsWindow from steps records.now) }
+    ensures refused { IfErr result (λ fault. (fault ≡ DrawFault.TooMany) × (steps ≡ None)
+        × (MAX_STEPS < count_from from records.now)) }
+{
+    let steps = match steps {
+        Some(steps) => steps,
+        None => steps_from(records, from) as u64,
+    };
+    if steps > MAX_STEPS {
+        return Err(DrawFault::TooMany);
+    }
+    Ok(Window { from, steps })
+}

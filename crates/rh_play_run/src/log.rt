@@ -1,0 +1,92 @@
+//! What is told of a play so far.
+
+ghost use Rattle.std.specs.Prelude.{◌≡◌, [], ◌∷◌, OnOk};
+ghost use Rattle.rh_play_run.specs.Pieces.{Tells, round_pieces, turn_pieces};
+ghost use Rattle.rh_play_run.specs.Pieces.Piece.{step as step_piece};
+
+use rh_descriptor::StepKind;
+use rh_draw::Record;
+use rh_recorder::Touched;
+use rh_trace::{Traced, push_step};
+use rh_turns::Turn;
+use std::alloc::{AllocError, Global};
+
+/// How much is told of a play.
+#[derive(Clone, Copy, Debug, PartialEq, Eq)]
+pub enum Telling {
+    /// The lines of its schedule.
+    Orders,
+    /// These, and before each of them a line for each of its steps.
+    Steps,
+    /// The lines of its schedule; and the steps and the further rounds are kept as records.
+    Records,
+}
+
+/// What is told of a play so far, and how many steps were made. Their count stops at the greatest
+/// `u64`.
+#[derive(Drop)]
+pub(crate) struct Log {
+    pub(crate) telling: Telling,
+    pub(crate) text: Vec<u8>,
+    pub(crate) records: Vec<Record>,
+    pub(crate) steps: u64,
+}
+
+impl Log {
+    pub(crate) fn new(alloc: Global, telling: Telling) -> Log
+        ensures telling { result.telling ≡ telling }
+        ensures text { result.text.items ≡ [] }
+        ensures records { result.records.items ≡ [] }
+        ensures steps { result.steps ≡ 0 }
+    {
+        Log {
+            telling,
+            text: Vec::new(alloc),
+            records: Vec::new(alloc),
+            steps: 0,
+        }
+    }
+
+    /// Tells a turn of this worker.
+    pub(crate) fn take(
+        &mut self,
+        worker: usize,
+        turn: Turn,
+        touched: Option<Touched>,
+    ) -> Result<(), AllocError>
+        ensures { OnOk result (Tells self.old (turn_pieces worker turn touched) self.new) }
+    {
+        match (turn, touched) {
+            (Turn::Did(kind), Some(touched)) => self.step(worker, kind, touched),
+            _ => Ok(()),
+        }
+    }
+
+    fn step(&mut self, worker: usize, kind: StepKind, touched: Touched) -> Result<(), AllocError>
+        ensures { OnOk result (Tells self.old (step_piece worker kind touched ∷ []) self.new) }
+    {
+        self.steps = self.steps.saturating_add(1);
+        let step = Traced {
+            number: self.steps,
+            worker,
+            kind,
+            touched,
+        };
+        match self.telling {
+            Telling::Orders => Ok(()),
+            Telling::Steps => push_step(&mut self.text, &step),
+            Telling::Records => Ok(self.records.push(Record::Step(step))?),
+        }
+    }
+
+    /// Tells of a further round, where it began.
+    pub(crate) fn begin_round(&mut self, began: bool) -> Result<(), AllocError>
+        ensures { OnOk result (Tells self.old (round_pieces began) self.new) }
+    {
+        if began && self.telling == Telling::Records {
+            let next = self.steps.saturating_add(1);
+            self.records.push(Record::Round { next })?;
+        }
+        Ok(())
+    }
+}

@@ -1,0 +1,2 @@
+-- ChosenLemmas: what is chosen for a note allows it.
+pub mod ChosenLemmas

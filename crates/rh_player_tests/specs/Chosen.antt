@@ -1,0 +1,72 @@
+-- What a worker has to know for a step to be allowed. A trace does not tell what its worker knew: so it is chosen for each
+-- step, and for contracts alone.
+use Rattle.std.specs.Prelude.{ℕ, ◌+◌, List, [], ◌∷◌, Option, Some, None}
+use Rattle.rh_world.specs.World.{Ref}
+use Rattle.rh_world.specs.Notes.{Note}
+use Rattle.rh_world.specs.Notes.Note.{known, size_is, target_is, old_is, desc_is, which_is, over, passed, found, may_promote, may_demote, mismatch}
+use Rattle.rh_world.specs.Sides.{new_side}
+use Rattle.rh_descriptor.specs.Parts.{mark_row}
+use Rattle.rh_descriptor.specs.View.{View, Written, new_view}
+use Rattle.rh_descriptor.specs.Words.{desc_number, ref_of}
+use Rattle.rh_descriptor.specs.declared.shape.Part.{Part}
+use Rattle.rh_descriptor.specs.declared.shape.Part.TheVariants as part
+use Rattle.rh_descriptor.specs.declared.shape.Shape.{Shape}
+use Rattle.rh_descriptor.specs.declared.steps.Ask.{Ask}
+use Rattle.rh_descriptor.specs.declared.steps.Ask.TheVariants as ask
+
+-- an entry at which the first descriptor of a note's owner failed
+abbrev pub write_notes : Part → List Note
+write_notes (part.Cell c) = []
+write_notes (part.Control worker) = []
+write_notes (part.Serial worker) = []
+write_notes (part.Length worker) = []
+write_notes (part.EntryCell worker entry) = []
+write_notes (part.EntryOld worker entry) = []
+write_notes (part.EntryNew worker entry) = []
+write_notes (part.MarkSerial worker) = []
+write_notes (part.MarkDesc worker) = []
+write_notes (part.MarkEntry worker) = []
+write_notes (part.Note worker owner) = mismatch (record { worker = owner; number = 0 }) 0 0 ∷ []
+write_notes part.Counter = []
+
+-- what it takes to swap a mark to this value, or to its descriptor
+abbrev pub settle_notes : (x d : Ref) → (e c : ℕ) → Option ℕ → List Note
+settle_notes x d e c None = found x c ∷ desc_is x d ∷ which_is x e ∷ may_promote x c ∷ []
+settle_notes x d e c (Some old) = found x c ∷ desc_is x d ∷ which_is x e ∷ may_demote x ∷ old_is d e old ∷ []
+
+abbrev pub notes_for : Ask → List Note
+notes_for (ask.Write p word) = write_notes p
+notes_for (ask.Open size) = []
+notes_for (ask.Read r) = []
+notes_for (ask.Place p old) =
+    known (ref_of p.desc) ∷ size_is (ref_of p.desc) (p.entry + 1) ∷ target_is (ref_of p.desc) p.entry p.cell
+    ∷ old_is (ref_of p.desc) p.entry old ∷ []
+notes_for (ask.Settle x p old) = settle_notes (ref_of x) (ref_of p.desc) p.entry p.cell old
+notes_for (ask.Decide d state) = known (ref_of d) ∷ size_is (ref_of d) 0 ∷ mismatch (ref_of d) 0 0 ∷ []
+notes_for (ask.Release p state value) =
+    size_is (ref_of p.desc) (p.entry + 1) ∷ target_is (ref_of p.desc) p.entry p.cell ∷ old_is (ref_of p.desc) p.entry value
+    ∷ over (ref_of p.desc) ∷ passed (ref_of p.desc) ∷ []
+notes_for ask.Claim = []
+
+-- the words of its rows: of the next descriptor, with an entry, or of the next mark
+abbrev pub written_for : Shape → (next_number marks_used : ℕ) → Ask → List Written
+written_for z next_number marks_used (ask.Write p word) = []
+written_for z next_number marks_used (ask.Open size) =
+    record { row = 1; word = next_number } ∷ record { row = 2; word = 1 } ∷ []
+written_for z next_number marks_used (ask.Read r) = []
+written_for z next_number marks_used (ask.Place p old) =
+    record { row = mark_row z 0; word = marks_used } ∷ record { row = mark_row z 1; word = desc_number (ref_of p.desc) }
+    ∷ record { row = mark_row z 2; word = p.entry } ∷ []
+written_for z next_number marks_used (ask.Settle x p old) = []
+written_for z next_number marks_used (ask.Decide d state) = []
+written_for z next_number marks_used (ask.Release p state value) = []
+written_for z next_number marks_used ask.Claim = []
+
+abbrev pub chosen : Shape → (worker next_number control marks_used : ℕ) → Ask → View
+chosen z worker next_number control marks_used asked = record (new_view [] worker) {
+  side = record new_side { notes = notes_for asked };
+  next_number = next_number;
+  control = control;
+  marks_used = marks_used;
+  written = written_for z next_number marks_used asked;
+}

@@ -1,0 +1,10 @@
+use Rattle.std.proofs.Common.{◌≡◌}
+use Rattle.rh_splitting.specs.Files.{made_of, placed_of, whole_of}
+use Rattle.rh_splitting.proofs.files.PartFiles.create.Given as goal
+
+abbrev pub invariant-loop-number : goal.invariant-loop-number
+invariant-loop-number g l = record {
+  made : made_of l.self ≡ made_of l.fn.self;
+  whole : whole_of l.self ≡ whole_of l.fn.self;
+  placed : placed_of l.self ≡ placed_of l.fn.self;
+}

@@ -1,0 +1,5 @@
+pub mod Parts
+pub mod Splitting
+pub mod Plan
+pub mod Files
+pub mod Name

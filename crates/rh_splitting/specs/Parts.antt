@@ -1,0 +1,32 @@
+-- A part of a list that is split, and what it was given.
+use Rattle.std.specs.Prelude.{◌≡◌, ℕ, ◌+◌, List, length, Option, Some, slice_get}
+use Rattle.std.specs.Io.KnownBytes.{Appends}
+use Rattle.rh_files.specs.Counting.{failures_of, inner_of}
+use Rattle.rh_files.specs.KeyFile.{spelled_keys}
+use Rattle.rh_files.specs.declared.counted.Counted.{Counted}
+use Rattle.rh_files.specs.declared.parts.TheConstants.{MAX_KEYS}
+use Rattle.rh_ranges.specs.Ranges.{in_part}
+use Rattle.rh_splitting.specs.declared.part.Part.{Part}
+
+abbrev pub writer_of : {W : Type 0} → Part W → Counted W
+writer_of part = part.writer
+
+-- how many keys it was given
+abbrev pub count_of : {W : Type 0} → Part W → ℕ
+count_of part = part.count
+
+-- The part was given these keys: they were written one after the other, and counted, and no write failed.
+pub record Got {W : Type 0} (contents : W → Option (List ℕ)) (old new : Part W) (keys : List ℕ) : Type 0 where
+  pub written : Appends (contents (inner_of (writer_of old))) (contents (inner_of (writer_of new))) (spelled_keys keys)
+  pub counted : count_of new ≡ count_of old + length keys
+  pub fine : failures_of (writer_of new) ≡ failures_of (writer_of old)
+
+-- Each part was given its keys of the list, in the order of the list.
+pub record EachGot {W : Type 0} (contents : W → Option (List ℕ)) (old new : List (Part W)) (keys : List ℕ) : Type 0 where
+  pub many : length new ≡ length old
+  pub each : (part : ℕ) (before after : Part W) → slice_get old part ≡ Some before → slice_get new part ≡ Some after
+      → Got contents before after (in_part (length old) part keys)
+
+-- the part of this number has as many keys as it may have
+abbrev pub IsFull : {W : Type 0} → List (Part W) → ℕ → Type 0
+IsFull {W} parts part = (full : Part W) × (slice_get parts part ≡ Some full) × (count_of full ≡ MAX_KEYS)

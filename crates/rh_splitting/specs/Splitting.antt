@@ -1,0 +1,102 @@
+-- What becomes of a list that is split.
+use Rattle.std.specs.Prelude.{◌≡◌, ℕ, ◌≤◌, List, [], ◌∷◌, ◌++◌, length, Option, Some, None, Result, Ok, Err, slice_get}
+use Rattle.std.specs.Io.KnownBytes.{Consumes}
+use Rattle.rh_files.specs.Counting.{Rose, failures_of}
+use Rattle.rh_files.specs.Reading as files
+use Rattle.rh_files.specs.declared.fault.KeyFault.{KeyFault}
+use Rattle.rh_numbers.specs.Grammar.{IsText}
+use Rattle.rh_numbers.specs.Reading.{SayOnly, text_said}
+use Rattle.rh_numbers.specs.declared.fault.TextFault.{TextFault}
+use Rattle.rh_numbers.specs.declared.fault.TextFault.TheVariants as faults
+use Rattle.rh_numbers.specs.declared.limits.TheConstants.{MAX_BYTES, PART_BYTES}
+use Rattle.rh_ranges.specs.Ranges.{part_of}
+use Rattle.rh_splitting.specs.declared.fault.SplitFault.{SplitFault}
+use Rattle.rh_splitting.specs.declared.fault.SplitFault.TheVariants.{Keys, Text, TooMany, Write}
+use Rattle.rh_splitting.specs.declared.part.Part.{Part}
+use Rattle.rh_splitting.specs.declared.source.Source.{Source}
+use Rattle.rh_splitting.specs.declared.source.Source.TheVariants as sources
+use Rattle.rh_splitting.specs.Parts.{EachGot, IsFull, writer_of}
+
+-- a write of the part of this number failed
+abbrev pub FailedAt : {W : Type 0} → (old new : List (Part W)) → ℕ → Type 0
+FailedAt {W} old new part = (before after : Part W) × (slice_get old part ≡ Some before) × (slice_get new part ≡ Some after)
+    × Rose (failures_of (writer_of before)) (failures_of (writer_of after))
+
+-- A part of a list: these keys, this one, and others after it.
+abbrev pub Stands : (keys front : List ℕ) (key : ℕ) → Type 0
+Stands keys front key = (more : List ℕ) × (keys ≡ front ++ (key ∷ more))
+
+-- Each part was given its keys; or the first key for which its part had no room, or whose write failed.
+abbrev pub Puts : {W X : Type 0} (contents : W → Option (List ℕ)) (old new : List (Part W)) (keys : List ℕ) → Result X SplitFault → Type 0
+Puts contents old new keys (Ok x) = EachGot contents old new keys
+Puts contents old new keys (Err (TooMany part)) =
+    (front : List ℕ) × (key : ℕ) × Stands keys front key × (part_of (length old) key ≡ part) × EachGot contents old new front × IsFull new part
+Puts contents old new keys (Err (Write part)) =
+    (front : List ℕ) × (key : ℕ) × Stands keys front key × (part_of (length old) key ≡ part) × FailedAt old new part
+Puts contents old new keys (Err (Text fault)) = ⊥
+Puts contents old new keys (Err (Keys fault)) = ⊥
+
+-- ---- a text
+
+-- Known bytes are a text of these keys, however many, and none is left.
+abbrev pub IsTextFrom : Option (List ℕ) → Option (List ℕ) → List ℕ → Type 0
+IsTextFrom None left keys = Unit {0}
+IsTextFrom (Some bytes) None keys = ⊥
+IsTextFrom (Some bytes) (Some rest) keys = IsText bytes keys × (rest ≡ [])
+
+-- Known bytes say these keys first.
+abbrev pub SayFirst : Option (List ℕ) → List ℕ → Type 0
+SayFirst None keys = Unit {0}
+SayFirst (Some bytes) keys = (more : List ℕ) × ((text_said bytes).0 ≡ keys ++ more)
+
+-- Known bytes say these keys, and then comes this fault. A failed read and want of memory may come at any key.
+abbrev pub SayThen : Option (List ℕ) → List ℕ → TextFault → Type 0
+SayThen None keys fault = Unit {0}
+SayThen (Some bytes) keys faults.Read = SayFirst (Some bytes) keys
+SayThen (Some bytes) keys faults.Memory = SayFirst (Some bytes) keys
+SayThen (Some bytes) keys faults.TooLong = (MAX_BYTES ≤ length bytes) × SayFirst (Some bytes) keys
+SayThen (Some bytes) keys faults.TooMany = ⊥
+SayThen (Some bytes) keys fault = text_said bytes ≡ (keys, Some fault)
+
+-- The bytes were a text of keys, and each part was given its keys; or the first fault of the text, which comes after those that
+-- the parts were given, or the first key that its part did not take.
+abbrev pub Splits : {W X : Type 0} (bytes left : Option (List ℕ)) (contents : W → Option (List ℕ)) (old new : List (Part W)) → Result X SplitFault → Type 0
+Splits bytes left contents old new (Ok x) = (keys : List ℕ) × IsTextFrom bytes left keys × EachGot contents old new keys
+Splits bytes left contents old new (Err (Text fault)) = (keys : List ℕ) × SayThen bytes keys fault × EachGot contents old new keys
+Splits bytes left contents old new (Err (TooMany part)) =
+    (front : List ℕ) × (key : ℕ) × SayFirst bytes (front ++ (key ∷ [])) × (part_of (length old) key ≡ part) × EachGot contents old new front × IsFull new part
+Splits bytes left contents old new (Err (Write part)) =
+    (front : List ℕ) × (key : ℕ) × SayFirst bytes (front ++ (key ∷ [])) × (part_of (length old) key ≡ part) × FailedAt old new part
+Splits bytes left contents old new (Err (Keys fault)) = ⊥
+
+-- Of the bytes that were taken those before the last part of them hold no fault.
+pub record TakesText (old new : Option (List ℕ)) : Type 0 where
+  pub before : List ℕ
+  pub last : List ℕ
+  pub taken : Consumes old new (before ++ last)
+  pub short : length last ≤ PART_BYTES
+  pub keys : List ℕ
+  pub no_fault : SayOnly before keys
+
+-- ---- a key file
+
+-- Known bytes are no key file, and this is the first fault in them.
+abbrev pub IsFirstFault : Option (List ℕ) → KeyFault → Type 0
+IsFirstFault None fault = Unit {0}
+IsFirstFault (Some bytes) fault = files.Fails {X = List ℕ × List ℕ} fault (files.file_keys bytes)
+
+-- The bytes were a key file, and its keys were given to their parts; or they were none, and no part was given any.
+abbrev pub SplitsFile : {W X : Type 0} (bytes left : Option (List ℕ)) (contents : W → Option (List ℕ)) (old new : List (Part W)) → Result X SplitFault → Type 0
+SplitsFile bytes left contents old new (Err (Keys fault)) = IsFirstFault bytes fault × (new ≡ old)
+SplitsFile bytes left contents old new r = (keys : List ℕ) × files.IsReadFrom bytes left keys × Puts contents old new keys r
+
+-- the fault that was found in the key file, if one was
+abbrev pub fault_in_file : {X : Type 0} → Result X SplitFault → Option KeyFault
+fault_in_file (Err (Keys fault)) = Some fault
+fault_in_file r = None
+
+-- ---- either of them
+
+abbrev pub SplitsSource : {W X : Type 0} → Source → (bytes left : Option (List ℕ)) (contents : W → Option (List ℕ)) (old new : List (Part W)) → Result X SplitFault → Type 0
+SplitsSource sources.Text bytes left contents old new r = Splits bytes left contents old new r
+SplitsSource sources.Keys bytes left contents old new r = SplitsFile bytes left contents old new r

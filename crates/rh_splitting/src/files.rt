@@ -1,0 +1,248 @@
+//! The key files of a list that is split, in folders of the current one.
+
+ghost use Rattle.std.specs.Prelude.{◌≤◌, length};
+
+use crate::fault::FilesFault;
+use crate::part::Part;
+use crate::source::{Source, split_source};
+use rh_files::{Counted, write_header};
+use std::alloc::Global;
+use std::fs::{self, Files, OpenFile};
+use std::io::{self, BufWriter, ErrorKind, Read, Seek, SeekFrom, Write};
+
+/// What is written beside a place, before it takes that, has this at the end of its name, and a number.
+const BESIDE: &str = ".rhset-part-";
+
+/// How many names are tried for it: a run that was cut may have left some.
+const NAMES: u32 = 100;
+
+/// Where the key file of a part is written, and where it stands in the end.
+#[derive(Drop)]
+struct PartFile {
+    beside: String,
+    place: String,
+}
+
+impl PartFile {
+    fn new(alloc: Global, part: u64, name: &str, number: u32) -> Result<PartFile, FilesFault> {
+        let Ok(place) = format!(in alloc; "{part:03}/{name}.keys") else {
+            return Err(FilesFault::Memory);
+        };
+        let Ok(beside) = format!(in alloc; "{place}{BESIDE}{number}") else {
+            return Err(FilesFault::Memory);
+        };
+        Ok(PartFile { beside, place })
+    }
+}
+
+/// The key files of a list that is split: part 7 of the list NAME takes the place `007/NAME.keys`. Each
+/// is written beside its place, and takes it once all are whole.
+#[derive(Drop)]
+pub struct PartFiles<'a, F> {
+    files: &'a F,
+    made: Vec<PartFile>,
+    /// How many of them are whole, with their header, and on the disk.
+    whole: u64,
+    /// How many of them stand at their places.
+    placed: u64,
+    ghost in_turn: { placed ≤ whole },
+    ghost of_those: { whole ≤ length made.items },
+}
+
+impl<'a, F> PartFiles<'a, F> {
+    ghost use Rattle.std.specs.Prelude.{◌≡◌};
+    ghost use Rattle.rh_splitting.specs.Files.{made_of, placed_of, whole_of};
+
+    /// No file was made yet.
+    pub fn new(alloc: Global, files: &'a F) -> PartFiles<'a, F>
+        ensures made { made_of result ≡ 0 }
+        ensures whole { whole_of result ≡ 0 }
+        ensures placed { placed_of result ≡ 0 }
+    {
+        PartFiles {
+            files,
+            made: Vec::new(alloc),
+            whole: 0,
+            placed: 0,
+        }
+    }
+}
+
+impl<F: Files> PartFiles<'_, F> {
+    ghost use Rattle.std.specs.Prelude.{◌≡◌, ◌≤◌, ◌<◌, ◌+◌, length, IfOk, OnErr, OnOk, true};
+    ghost use Rattle.rh_ranges.specs.declared.part.TheConstants.{MAX_PARTS};
+    ghost use Rattle.rh_splitting.specs.Files.{made_of, placed_of, whole_of};
+    ghost use Rattle.rh_splitting.specs.Name.{is_name};
+
+    /// Splits what the reader gives into so many parts, and writes the key file of each.
+    ///
+    /// Each part has an open file and a buffer of 8,192 bytes. On a fault none of the files is left, as
+    /// far as the system removes them; folders that were made stay.
+    pub fn split<R: Read>(
+        &mut self,
+        alloc: Global,
+        reader: &mut Counted<R>,
+        source: Source,
+        count: u64,
+        name: &str,
+    ) -> Result<(), FilesFault>
+        requires some { 0 < count }
+        requires few { count ≤ MAX_PARTS }
+        requires none { made_of self.old ≡ 0 }
+        requires name { is_name name.now ≡ true }
+        ensures made { OnOk result (made_of self.new ≡ count) }
+        ensures whole { OnOk result (whole_of self.new ≡ count) }
+        ensures placed { OnOk result (placed_of self.new ≡ count) }
+        ensures none_left { OnErr result (made_of self.new ≡ 0) }
+    {
+        let outcome = self.write_whole(alloc, reader, source, count, name);
+        if outcome.is_err() {
+            self.remove_all();
+        }
+        outcome
+    }
+
+    fn write_whole<R: Read>(
+        &mut self,
+        alloc: Global,
+        reader: &mut Counted<R>,
+        source: Source,
+        count: u64,
+        name: &str,
+    ) -> Result<(), FilesFault>
+        requires some { 0 < count }
+        requires few { count ≤ MAX_PARTS }
+        requires none { made_of self.old ≡ 0 }
+        ensures made { OnOk result (made_of self.new ≡ count) }
+        ensures whole { OnOk result (whole_of self.new ≡ count) }
+        ensures placed { OnOk result (placed_of self.new ≡ count) }
+    {
+        let mut parts = self.begin_all(alloc, count, name)?;
+        split_source(alloc, reader, source, &mut parts)?;
+        self.end_all(parts)?;
+        self.place_all()
+    }
+
+    /// Makes the files of all parts.
+    fn begin_all(&mut self, alloc: Global, count: u64, name: &str) -> Result<Parts<F>, FilesFault>
+        requires { made_of self.old ≡ 0 }
+        ensures made { OnOk result (made_of self.new ≡ count) }
+        ensures whole { whole_of self.new ≡ whole_of self.old }
+        ensures placed { placed_of self.new ≡ placed_of self.old }
+        ensures parts { IfOk result (λ parts. length parts.items ≡ count) }
+    {
+        let mut parts = Vec::new(alloc);
+        for number in 0..count {
+            let file = self.create(alloc, number, name)?;
+            let Ok(writer) = BufWriter::new(alloc, file) else {
+                return Err(FilesFault::Memory);
+            };
+            let Ok(part) = Part::begin(writer) else {
+                return Err(FilesFault::Write { part: number });
+            };
+            parts.push(part)?;
+        }
+        Ok(parts)
+    }
+
+    /// Writes out what the parts still hold, and the header of each, from the last one on.
+    fn end_all(&mut self, mut parts: Parts<F>) -> Result<(), FilesFault>
+        requires { whole_of self.old + length parts.items ≤ made_of self.old }
+        ensures made { made_of self.new ≡ made_of self.old }
+        ensures whole { OnOk result (whole_of self.new ≡ whole_of self.old + length parts.items) }
+        ensures placed { placed_of self.new ≡ placed_of self.old }
+    {
+        while let Some(part) = parts.pop() {
+            if end(part).is_err() {
+                let part = parts.len() as u64;
+                return Err(FilesFault::Write { part });
+            }
+            self.whole += 1;
+        }
+        Ok(())
+    }
+
+    /// Makes the file of a part, beside its place, and its folder where that is not there.
+    fn create(&mut self, alloc: Global, part: u64, name: &str) -> Result<F::File, FilesFault>
+        ensures made { OnOk result (made_of self.new ≡ made_of self.old + 1) }
+        ensures whole { whole_of self.new ≡ whole_of self.old }
+        ensures placed { placed_of self.new ≡ placed_of self.old }
+    {
+        let Ok(folder) = format!(in alloc; "{part:03}") else {
+            return Err(FilesFault::Memory);
+        };
+        if fs::create_dir_all(self.files, &folder).is_err() {
+            return Err(FilesFault::Create { part });
+        }
+        for number in 0..NAMES {
+            let named = PartFile::new(alloc, part, name, number)?;
+            // What was made is always noted: there is room for it before.
+            self.made.reserve(1)?;
+            match fs::File::create_new(self.files, &named.beside) {
+                Ok(file) => {
+                    self.made.push(named)?;
+                    return Ok(file);
+                }
+                Err(error) if error.kind() == ErrorKind::AlreadyExists => {}
+                Err(_) => return Err(FilesFault::Create { part }),
+            }
+        }
+        Err(FilesFault::Create { part })
+    }
+
+    /// Puts each file at its place, once all are whole.
+    fn place_all(&mut self) -> Result<(), FilesFault>
+        requires whole { whole_of self.old ≡ made_of self.old }
+        requires none { placed_of self.old ≡ 0 }
+        ensures made { made_of self.new ≡ made_of self.old }
+        ensures whole { whole_of self.new ≡ whole_of self.old }
+        ensures placed { OnOk result (placed_of self.new ≡ made_of self.new) }
+    {
+        let mut part = 0;
+        for file in &self.made {
+            if fs::rename(self.files, &file.beside, &file.place).is_err() {
+                self.placed = part;
+                return Err(FilesFault::Write { part });
+            }
+            part += 1;
+        }
+        self.placed = part;
+        Ok(())
+    }
+
+    /// Removes the files, as far as that can be done.
+    fn remove_all(&mut self)
+        ensures { made_of self.new ≡ 0 }
+    {
+        let mut placed = self.placed;
+        for file in &self.made {
+            let path = if placed > 0 {
+                &file.place
+            } else {
+                &file.beside
+            };
+            let _ = fs::remove_file(self.files, path);
+            placed = placed.saturating_sub(1);
+        }
+        self.placed = 0;
+        self.whole = 0;
+        self.made.clear();
+    }
+}
+
+/// The parts, each with its file behind a buffer.
+type Parts<F> = Vec<Part<BufWriter<<F as Files>::File>>>;
+
+/// Writes the header where there is room for it. The file is on the disk once this is done.
+fn end<T: Write + Seek + OpenFile + Drop>(part: Part<BufWriter<T>>) -> io::Result<()> {
+    let count = part.count();
+    let mut writer = part.into_writer().into_inner();
+    writer.seek(SeekFrom::Start(0))?;
+    let mut writer = Counted::new(writer);
+    if write_header(count, &mut writer).is_err() {
+        return Err(io::Error::from(ErrorKind::WriteZero));
+    }
+    let mut writer = writer.into_inner();
+    writer.flush()?;
+    writer.get_ref().sync_all()
+}

@@ -1,0 +1,101 @@
+//! One part of a list that is split.
+
+ghost use Rattle.std.specs.Prelude.{◌≤◌};
+ghost use Rattle.rh_files.specs.declared.parts.TheConstants.{MAX_KEYS};
+
+use byteorder::{BigEndian, ByteOrder};
+use rh_files::{Counted, MAX_KEYS, WriteFault, write_header, write_texts};
+use std::io::Write;
+
+/// Why a part did not take a key.
+#[derive(Clone, Copy, Debug, PartialEq, Eq)]
+pub(crate) enum PartFault {
+    /// It has `MAX_KEYS` keys.
+    Full,
+    Write,
+}
+
+/// A part of a list: the writer that its keys go to, and how many it was given.
+#[derive(Drop)]
+pub struct Part<W> {
+    writer: Counted<W>,
+    count: u64,
+    ghost few: { count ≤ MAX_KEYS },
+}
+
+impl<W> Part<W> {
+    ghost use Rattle.std.specs.Prelude.{◌≡◌, ◌≤◌};
+    ghost use Rattle.rh_files.specs.Counting.{failures_of, inner_of};
+    ghost use Rattle.rh_splitting.specs.Parts.{count_of, writer_of};
+
+    /// A part that was given no key.
+    pub fn new(writer: W) -> Part<W>
+        ensures writer { inner_of (writer_of result) ≡ writer }
+        ensures failures { failures_of (writer_of result) ≡ 0 }
+        ensures count { count_of result ≡ 0 }
+    {
+        Part {
+            writer: Counted::new(writer),
+            count: 0,
+        }
+    }
+
+    /// How many keys it was given.
+    pub fn count(&self) -> u64
+        ensures count { result ≡ count_of self.now }
+        ensures few { result ≤ MAX_KEYS }
+    {
+        self.count
+    }
+
+    /// The writer, behind the keys that the part was given.
+    pub fn into_writer(self) -> Counted<W>
+        ensures { result ≡ writer_of self }
+    {
+        self.writer
+    }
+}
+
+impl<W: Write> Part<W> {
+    ghost use Rattle.std.specs.Prelude.{◌≡◌, [], ◌∷◌, IfOk, IsErrOf, OnOk};
+    ghost use Rattle.std.specs.Io.KnownBytes.{Appends};
+    ghost use Rattle.rh_files.specs.Counting.{Rose, failures_of, inner_of};
+    ghost use Rattle.rh_files.specs.KeyFile.{header};
+    ghost use Rattle.rh_files.specs.declared.version.Version.TheVariants.{Second};
+    ghost use Rattle.rh_splitting.specs.Parts.{Got, count_of, writer_of};
+
+    /// A part that was given no key, with room for the header of its key file.
+    pub fn begin(writer: W) -> Result<Part<W>, WriteFault>
+    where
+        W: Drop,
+        ensures room { IfOk result (λ part. Appends (W.contents writer)
+            (W.contents (inner_of (writer_of part))) (header Second 0)) }
+        ensures failures { IfOk result (λ part. failures_of (writer_of part) ≡ 0) }
+        ensures count { IfOk result (λ part. count_of part ≡ 0) }
+    {
+        let mut writer = Counted::new(writer);
+        write_header(0, &mut writer)?;
+        Ok(Part { writer, count: 0 })
+    }
+
+    /// Writes the key behind those that the part was given.
+    pub(crate) fn put(&mut self, key: u64) -> Result<(), PartFault>
+        ensures put { OnOk result (Got W.contents self.old self.new (key ∷ [])) }
+        ensures full { IsErrOf result PartFault.Full → count_of self.old ≡ MAX_KEYS }
+        ensures unchanged { IsErrOf result PartFault.Full → self.new ≡ self.old }
+        ensures write { IsErrOf result PartFault.Write →
+            Rose (failures_of (writer_of self.old)) (failures_of (writer_of self.new)) }
+    {
+        let Part { writer, count } = self;
+        if *count >= MAX_KEYS {
+            return Err(PartFault::Full);
+        }
+        let mut eight = [0; 8];
+        BigEndian::write_u64(&mut eight, key);
+        let Ok(()) = write_texts(writer, &[&eight]) else {
+            return Err(PartFault::Write);
+        };
+        *count += 1;
+        Ok(())
+    }
+}

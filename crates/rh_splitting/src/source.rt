@@ -1,0 +1,46 @@
+//! Where the keys that are split come from.
+
+ghost use Rattle.std.specs.Prelude.{◌≡◌, ◌<◌, ◌≤◌, IsErrOf, OnOk, length};
+ghost use Rattle.rh_files.specs.Counting.{Rose, failures_of, inner_of};
+ghost use Rattle.rh_ranges.specs.declared.part.TheConstants.{MAX_PARTS};
+ghost use Rattle.rh_splitting.specs.Splitting.{SplitsSource};
+
+use crate::fault::SplitFault;
+use crate::part::Part;
+use crate::splitting::{split_file, split_text};
+use rh_files::{Counted, KeyFault};
+use rh_numbers::TextFault;
+use std::alloc::Global;
+use std::io::{Read, Write};
+
+/// What is split.
+#[derive(Clone, Copy, Debug, PartialEq, Eq)]
+pub enum Source {
+    /// A text of numbers.
+    Text,
+    /// A key file, of either version.
+    Keys,
+}
+
+/// Gives each key that the reader has to its part, in their order.
+pub fn split_source<R: Read, W: Write>(
+    alloc: Global,
+    reader: &mut Counted<R>,
+    source: Source,
+    parts: &mut [Part<W>],
+) -> Result<(), SplitFault>
+    requires some { 0 < length parts.old }
+    requires few { length parts.old ≤ MAX_PARTS }
+    ensures split { SplitsSource source (R.remaining (inner_of reader.old))
+        (R.remaining (inner_of reader.new)) W.contents parts.old parts.new result }
+    ensures text_read { IsErrOf result (SplitFault.Text TextFault.Read) →
+        Rose (failures_of reader.old) (failures_of reader.new) }
+    ensures keys_read { IsErrOf result (SplitFault.Keys KeyFault.Read) →
+        Rose (failures_of reader.old) (failures_of reader.new) }
+    ensures fine { OnOk result (failures_of reader.new ≡ failures_of reader.old) }
+{
+    match source {
+        Source::Text => split_text(alloc, reader, parts),
+        Source::Keys => split_file(alloc, reader, parts),
+    }
+}

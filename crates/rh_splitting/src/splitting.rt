@@ -1,0 +1,93 @@
+//! A list of keys is split into parts.
+
+ghost use Rattle.std.specs.Prelude.{◌≡◌, ◌≢◌, ◌<◌, ◌≤◌, All, Err, IfErr, IsErrOf, length};
+ghost use Rattle.rh_layout.specs.Key.{IsKey};
+ghost use Rattle.rh_files.specs.Counting.{Rose, failures_of, inner_of};
+ghost use Rattle.rh_ranges.specs.declared.part.TheConstants.{MAX_PARTS};
+ghost use Rattle.rh_files.specs.Limits.{NoReadFailed, TakesOfFile};
+ghost use Rattle.rh_files.specs.Reading.{BeginsWithHeader};
+ghost use Rattle.rh_splitting.specs.Splitting.{Puts, Splits, SplitsFile, TakesText, fault_in_file};
+
+use crate::fault::SplitFault;
+use crate::part::{Part, PartFault};
+use rh_files::{Counted, KeyFault, read_keys};
+use rh_numbers::{MAX_READS, Reading, TextFault};
+use rh_ranges::part_of;
+use std::alloc::Global;
+use std::io::{Read, Write};
+
+/// Reads a text of numbers of any length, and gives each key to its part, in the order of the text.
+///
+/// The text is read once. Memory is taken for the keys of one read of 8,192 bytes at a time.
+pub fn split_text<R: Read, W: Write>(
+    alloc: Global,
+    reader: &mut Counted<R>,
+    parts: &mut [Part<W>],
+) -> Result<(), SplitFault>
+    requires some { 0 < length parts.old }
+    requires few { length parts.old ≤ MAX_PARTS }
+    ensures split { Splits (R.remaining (inner_of reader.old)) (R.remaining (inner_of reader.new))
+        W.contents parts.old parts.new result }
+    ensures takes { TakesText (R.remaining (inner_of reader.old))
+        (R.remaining (inner_of reader.new)) }
+    ensures not_too_many { IsErrOf result (SplitFault.Text TextFault.TooMany) → ⊥ }
+    ensures read { IsErrOf result (SplitFault.Text TextFault.Read) →
+        Rose (failures_of reader.old) (failures_of reader.new) }
+    ensures fine { result ≢ Err (SplitFault.Text TextFault.Read) →
+        failures_of reader.new ≡ failures_of reader.old }
+{
+    let mut reading = Reading::new(alloc);
+    for _ in 0..MAX_READS {
+        // The keys before a fault come first, as one of them may have no room in its part.
+        let outcome = reading.read_part(reader);
+        split_keys(reading.keys(), parts)?;
+        reading.clear();
+        if !outcome? {
+            return Ok(());
+        }
+    }
+    Err(SplitFault::Text(TextFault::TooLong))
+}
+
+/// Gives each key to its part, in the order of the list.
+pub fn split_keys<W: Write>(keys: &[u64], parts: &mut [Part<W>]) -> Result<(), SplitFault>
+    requires some { 0 < length parts.old }
+    requires few { length parts.old ≤ MAX_PARTS }
+    requires keys { All IsKey keys.now }
+    ensures { Puts W.contents parts.old parts.new keys.now result }
+{
+    for key in keys {
+        let part = part_of(parts.len() as u64, *key);
+        match parts[part as usize].put(*key) {
+            Ok(()) => {}
+            Err(PartFault::Full) => return Err(SplitFault::TooMany { part }),
+            Err(PartFault::Write) => return Err(SplitFault::Write { part }),
+        }
+    }
+    Ok(())
+}
+
+/// Reads a key file of either version, and gives each key to its part, in the order of the file.
+///
+/// The file is read to its end before a key is given.
+pub fn split_file<R: Read, W: Write>(
+    alloc: Global,
+    reader: &mut Counted<R>,
+    parts: &mut [Part<W>],
+) -> Result<(), SplitFault>
+    requires some { 0 < length parts.old }
+    requires few { length parts.old ≤ MAX_PARTS }
+    ensures split { SplitsFile (R.remaining (inner_of reader.old))
+        (R.remaining (inner_of reader.new)) W.contents parts.old parts.new result }
+    ensures takes { TakesOfFile (R.remaining (inner_of reader.old))
+        (R.remaining (inner_of reader.new)) (fault_in_file result) }
+    ensures read { IsErrOf result (SplitFault.Keys KeyFault.Read) →
+        Rose (failures_of reader.old) (failures_of reader.new) }
+    ensures memory { IsErrOf result (SplitFault.Keys KeyFault.Memory) →
+        BeginsWithHeader (R.remaining (inner_of reader.old)) }
+    ensures fine { NoReadFailed (fault_in_file result) →
+        failures_of reader.new ≡ failures_of reader.old }
+{
+    let keys = read_keys(alloc, reader)?;
+    split_keys(&keys, parts)
+}

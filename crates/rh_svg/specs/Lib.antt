@@ -1,0 +1,4 @@
+pub mod Looks
+pub mod Markup
+pub mod Outlines
+pub mod Tags
