@@ -69,8 +69,16 @@ const REFUSALS: &[(&str, Form, FileFault)] = &[
     ("lost", Form::Keys, FileFault::Shelf(ShelfFault::Missing)),
     ("text", Form::Keys, FileFault::Keys(KeyFault::NotKeys)),
     ("long", Form::Keys, FileFault::Keys(KeyFault::Long)),
-    ("lost", Form::Snapshot, FileFault::Shelf(ShelfFault::Missing)),
-    ("three", Form::Snapshot, FileFault::Snap(SnapFault::NotSnapshot)),
+    (
+        "lost",
+        Form::Snapshot,
+        FileFault::Shelf(ShelfFault::Missing),
+    ),
+    (
+        "three",
+        Form::Snapshot,
+        FileFault::Snap(SnapFault::NotSnapshot),
+    ),
 ];
 
 #[test]
@@ -85,7 +93,12 @@ fn the_first_file_that_is_refused_is_told(rt: HostRuntime) -> Result<(), Fail> {
         if form == Form::Snapshot {
             continue;
         }
-        let told = listed(rt.alloc(), &mut shelf, &["three", "four", name, "lost"], form)?;
+        let told = listed(
+            rt.alloc(),
+            &mut shelf,
+            &["three", "four", name, "lost"],
+            form,
+        )?;
         assert_eq!(rt; told.0.as_slice(), b"17\n1\n9\n4\n".as_slice(), "{name}");
         assert_eq!(rt; told.1, Some(FaultAt { index: 2, fault }), "{name}");
     }
@@ -131,7 +144,10 @@ fn each_write_fails(rt: HostRuntime) -> Result<(), Fail> {
 #[test]
 fn a_fault_of_a_file_can_be_printed(rt: HostRuntime) -> Result<(), Fail> {
     for (fault, text) in [
-        (FileFault::Shelf(ShelfFault::Missing), "cannot open the file"),
+        (
+            FileFault::Shelf(ShelfFault::Missing),
+            "cannot open the file",
+        ),
         (FileFault::Keys(KeyFault::NotKeys), "not a key file"),
         (FileFault::Snap(SnapFault::Damaged), "seal does not match"),
         (FileFault::Write, "cannot write the output"),
