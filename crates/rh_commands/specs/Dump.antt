@@ -5,13 +5,13 @@ use Rattle.std.specs.Io.KnownBytes.{Appends}
 use Rattle.rh_layout.specs.declared.limits.TheConstants.{MIN_BITS, MAX_BITS}
 use Rattle.rh_layout.specs.Layout.{Layout}
 use Rattle.rh_grow.specs.Growth.{Fits, IsCapacity}
-use Rattle.rh_files.specs.declared.fault.KeyFault.{KeyFault}
-use Rattle.rh_files.specs.declared.fault.KeyFault.TheVariants as faults
-use Rattle.rh_files.specs.Counting.{AppendsFront}
-use Rattle.rh_files.specs.Limits.{header_bytes}
-use Rattle.rh_files.specs.Taking.{TakesAtMost}
-use Rattle.rh_files.specs.Reading.{BeginsWithHeader, Fails, IsReadFrom, file_keys}
-use Rattle.rh_files.specs.Dump.{dump_text}
+use Rattle.rh_key_files.specs.declared.fault.KeyFault.{KeyFault}
+use Rattle.rh_key_files.specs.declared.fault.KeyFault.TheVariants as faults
+use Rattle.rh_key_files.specs.Counting.{AppendsFront}
+use Rattle.rh_key_files.specs.Limits.{header_bytes}
+use Rattle.rh_key_files.specs.Taking.{TakesAtMost}
+use Rattle.rh_key_files.specs.Reading.{BeginsWithHeader, Fails, IsReadFrom, file_keys}
+use Rattle.rh_key_files.specs.Dump.{dump_text}
 use Rattle.rh_commands.specs.declared.dump.DumpFault.{DumpFault}
 use Rattle.rh_commands.specs.declared.dump.DumpFault.TheVariants.{Keys, TooLarge, Memory, Write}
 

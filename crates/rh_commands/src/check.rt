@@ -2,14 +2,14 @@
 
 ghost use Rattle.std.specs.Prelude.{◌≡◌, ◌≢◌, IfErr, IsErrOf, OnErr, OnOk};
 ghost use Rattle.hex.specs.Hex.{encode_lower};
-ghost use Rattle.rh_files.specs.Counting.{Rose, Writes, failures_of, inner_of};
+ghost use Rattle.rh_key_files.specs.Counting.{Rose, Writes, failures_of, inner_of};
 ghost use Rattle.rh_snapshot.specs.Reading.{BeginsWithHeader, table_as};
-ghost use Rattle.rh_files.specs.Taking.{TakesAtMost};
+ghost use Rattle.rh_key_files.specs.Taking.{TakesAtMost};
 ghost use Rattle.rh_snapshot.specs.Limits.{TakesOfFile, most_bytes};
 ghost use Rattle.rh_commands.specs.Check.{Checks, check_text, fault_in};
 
 use itoa::Buffer;
-use rh_files::{Counted, WriteFault, write_texts};
+use rh_key_files::{Counted, WriteFault, write_texts};
 use rh_snapshot::{SnapFault, Snapshot, read_snapshot};
 use std::alloc::Global;
 use std::io::{Read, Write};

@@ -1,14 +1,14 @@
 //! The command `dump`: the table of the keys of a key file.
 
 ghost use Rattle.std.specs.Prelude.{◌≡◌, ◌≢◌, IfErr, IsErrOf, OnOk};
-ghost use Rattle.rh_files.specs.Counting.{Rose, failures_of, inner_of};
-ghost use Rattle.rh_files.specs.Taking.{TakesAtMost};
-ghost use Rattle.rh_files.specs.Limits.{NoReadFailed, TakesOfFile, most_bytes};
+ghost use Rattle.rh_key_files.specs.Counting.{Rose, failures_of, inner_of};
+ghost use Rattle.rh_key_files.specs.Taking.{TakesAtMost};
+ghost use Rattle.rh_key_files.specs.Limits.{NoReadFailed, TakesOfFile, most_bytes};
 ghost use Rattle.rh_commands.specs.Dump.{Dumps, fault_in};
 
 use rh_edit::SeqSet;
-use rh_files::{Counted, KeyFault, WriteFault, read_keys, write_dump};
 use rh_grow::bits_for;
+use rh_key_files::{Counted, KeyFault, WriteFault, read_keys, write_dump};
 use rh_layout::MIN_BITS;
 use std::alloc::{AllocError, Global};
 use std::io::{Read, Write};

@@ -6,7 +6,7 @@ use Rattle.rh_draw.specs.declared.legend.Says.{Says}
 use Rattle.rh_draw.specs.declared.legend.Says.TheVariants.{Kind, Help, Act, Decision, Late, Round, Mark, Desc, Italic, Value}
 use Rattle.rh_svg.specs.declared.tags.Tag.{Tag}
 use Rattle.rh_svg.specs.declared.tags.Tag.TheVariants as tags
-use Rattle.rh_play_report.specs.Words.{kind_word}
+use Rattle.rh_play.specs.Words.{kind_word}
 
 abbrev pub says_text : Says → List ℕ
 says_text (Kind kind) = kind_word kind

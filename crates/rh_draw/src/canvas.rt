@@ -7,7 +7,7 @@ ghost use Rattle.rh_tagword.specs.Word.{word_in};
 
 use itoa::Buffer;
 use rh_descriptor::Part;
-use rh_play_report::push_texts;
+use rh_play::push_texts;
 use rh_svg::{Tag, labelled};
 use rh_trace::{Traced, push_step_text, push_word};
 use std::alloc::{AllocError, Global};

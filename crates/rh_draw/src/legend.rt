@@ -4,7 +4,7 @@ ghost use Rattle.std.specs.Prelude.{◌≡◌};
 ghost use Rattle.rh_draw.specs.Legend.{says_text};
 
 use rh_descriptor::StepKind;
-use rh_play_report::kind_word;
+use rh_play::kind_word;
 use rh_svg::{Look, Tag};
 
 /// The style sheet. The colours of the kinds and of the first seven workers are those of Okabe and Ito,

@@ -3,7 +3,7 @@
 
 ghost use Rattle.std.specs.Prelude.{◌≡◌, ◌++◌, IfOk, OnOk};
 ghost use Rattle.rh_descriptor.specs.Parts.{IsShape};
-ghost use Rattle.rh_play_report.specs.Appending.{Prints};
+ghost use Rattle.rh_play.specs.Appending.{Prints};
 ghost use Rattle.rh_draw.specs.Changes.{decided, entry_count};
 ghost use Rattle.rh_draw.specs.Notices.{change_text, decision_look, decision_text, desc_in, entries_text, entry_text, is_over, late, late_look, late_text, notice_at, notice_line, notice_look, notice_text, promoted, verdict_text};
 ghost use Rattle.rh_draw.specs.Plans.{plan_of, standing_of};
@@ -20,7 +20,7 @@ use crate::sight::{Sight, View};
 use crate::words::word_at;
 use itoa::Buffer;
 use rh_descriptor::{Part, Shape};
-use rh_play_report::push_texts;
+use rh_play::push_texts;
 use rh_svg::{Look, Tag, labelled, leaf};
 use rh_tagword::{Word, unpack, unpack_control};
 use rh_trace::{Touched, push_word};

@@ -4,9 +4,9 @@
 
 ghost use Rattle.std.specs.Prelude.{◌≤◌, All, length};
 ghost use Rattle.rh_layout.specs.Key.{IsKey};
-ghost use Rattle.rh_files.specs.declared.parts.TheConstants.{MAX_KEYS};
+ghost use Rattle.rh_key_files.specs.declared.parts.TheConstants.{MAX_KEYS};
 
-use rh_engine::{
+use rh_planner::{
     Counted, MemShelf, Shelf, Single, Threads, WriteFault, parse, run_twice, write_keys,
 };
 use std::alloc::Global;

@@ -1,8 +1,8 @@
 use rh_commands::*;
 use rh_edit::SeqSet;
 use rh_faulty::{FaultyReader, FaultyWriter, Refusal};
-use rh_files::{Counted, KeyFault, write_dump};
 use rh_grow::grow;
+use rh_key_files::{Counted, KeyFault, write_dump};
 use rh_layout::is_layout;
 use std::alloc::{AllocError, Global};
 use std::io::Read;

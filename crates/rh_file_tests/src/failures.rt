@@ -1,6 +1,6 @@
 use crate::files::THREE_KEYS;
 use rh_faulty::{FaultyReader, FaultyWriter, Refusal};
-use rh_files::*;
+use rh_key_files::*;
 use std::io::{Read, Write};
 use std::test::*;
 

@@ -1,5 +1,5 @@
 use rh_faulty::{FaultyReader, FaultyWriter, Refusal};
-use rh_files::*;
+use rh_key_files::*;
 use rh_layout::is_layout;
 use std::alloc::Global;
 use std::io::Read;

@@ -1,8 +1,8 @@
 -- Numbers written one after another.
 use Rattle.std.proofs.Common.{◌≡◌, ℕ, zero, suc, ◌<◌, List, [], ◌∷◌, ◌++◌, length, take, drop, get_or, Option, refl, sym, ap, ◌∙◌, arith, append_assoc}
 use Rattle.std.specs.Io.KnownBytes.{Appends}
-use Rattle.rh_files.specs.Counting.{AppendsFront}
-use Rattle.rh_files.proofs.Writing.{front_stops}
+use Rattle.rh_key_files.specs.Counting.{AppendsFront}
+use Rattle.rh_key_files.proofs.Writing.{front_stops}
 use Rattle.rh_numbers.specs.Writing.{line_of, text_of}
 
 text_split : (numbers : List ℕ) (i : ℕ) → i < length numbers → text_of numbers ≡ (text_of (take i numbers) ++ line_of (get_or numbers i 0)) ++ text_of (drop (suc i) numbers)

@@ -1,13 +1,13 @@
 -- A list that is read again: its keys, or why it is refused.
 use Rattle.std.proofs.Common.{◌≡◌, ◌∙◌, ap, sym, subst, refl, ℕ, ◌+◌, inl, inr, Bool, true, List, length, Option, Some, None, Result, Ok, Err, IsOk, is_ok}
 use Rattle.std.proofs.lemmas.Bool.{eq-eqb}
-use Rattle.rh_files.specs.declared.version.Version.{Version}
-use Rattle.rh_files.specs.declared.fault.KeyFault.{KeyFault}
-use Rattle.rh_files.specs.declared.fault.KeyFault.TheVariants as faults
-use Rattle.rh_files.specs.Counting.{Rose}
-use Rattle.rh_files.specs.Reading.{Fails, file_keys, header_at}
-use Rattle.rh_files.specs.Source.{AllCome, Coming, ComesFrom, FaultComes, keys_of_file}
-use Rattle.rh_files.proofs.Coming.{counts}
+use Rattle.rh_key_files.specs.declared.version.Version.{Version}
+use Rattle.rh_key_files.specs.declared.fault.KeyFault.{KeyFault}
+use Rattle.rh_key_files.specs.declared.fault.KeyFault.TheVariants as faults
+use Rattle.rh_key_files.specs.Counting.{Rose}
+use Rattle.rh_key_files.specs.Reading.{Fails, file_keys, header_at}
+use Rattle.rh_key_files.specs.Source.{AllCome, Coming, ComesFrom, FaultComes, keys_of_file}
+use Rattle.rh_key_files.proofs.Coming.{counts}
 use Rattle.rh_runner.specs.declared.runner.PhaseFault.TheVariants as phase_faults
 use Rattle.rh_runner.specs.declared.fault.ListFault.{ListFault}
 use Rattle.rh_runner.specs.declared.fault.ListFault.TheVariants as list_faults

@@ -1,7 +1,7 @@
 -- Why an operation is refused: by what was found, or by a cause from outside. `failed` says that the shelf failed, and
 -- `refused` that the start of a thread was refused.
 use Rattle.std.specs.Prelude.{◌≡◌, ◌≢◌, ℕ, ◌⊎◌, List, length, Result, Ok, Err, IsOk}
-use Rattle.rh_files.specs.declared.fault.KeyFault.TheVariants as faults
+use Rattle.rh_key_files.specs.declared.fault.KeyFault.TheVariants as faults
 use Rattle.rh_snapshot.specs.declared.fault.SnapFault.TheVariants as snap_faults
 use Rattle.rh_operations.specs.declared.cause.Cause.{Cause}
 use Rattle.rh_operations.specs.declared.cause.Cause.TheVariants.{Missing, Keys, Snap, Changed, Memory, NoThread, Put}

@@ -4,7 +4,7 @@ ghost use Rattle.std.specs.Prelude.{◌≡◌};
 ghost use Rattle.rh_operations.specs.declared.cause.Cause.TheVariants.{Memory, Write};
 ghost use Rattle.rh_operations.specs.Causes.{of_keys, of_list, of_snapshot};
 
-use rh_files::{KeyFault, WriteFault};
+use rh_key_files::{KeyFault, WriteFault};
 use rh_runner::{ListFault, PhaseFault};
 use rh_snapshot::SnapFault;
 use std::alloc::{AllocError, AllocFailed};

@@ -1,9 +1,9 @@
 //! Opening a list at its beginning.
 
 ghost use Rattle.std.specs.Prelude.{◌≡◌, ◌⊎◌, ℕ, List, Some, Ok, IfOk, IfErr, OnOk};
-ghost use Rattle.rh_files.specs.Counting.{Rose, inner_of};
-ghost use Rattle.rh_files.specs.Source.{ComesFrom};
-ghost use Rattle.rh_files.specs.Stream.{coming_of, left_in, left_of, state_of};
+ghost use Rattle.rh_key_files.specs.Counting.{Rose, inner_of};
+ghost use Rattle.rh_key_files.specs.Source.{ComesFrom};
+ghost use Rattle.rh_key_files.specs.Stream.{coming_of, left_in, left_of, state_of};
 ghost use Rattle.rh_shelf.specs.Shelf.{Files, Finds, Lacks};
 ghost use Rattle.rh_operations.specs.Leaves.{KeepsShelf};
 ghost use Rattle.rh_operations.specs.Refusals.{RefusedBy};
@@ -13,7 +13,7 @@ ghost use Rattle.rh_operations.specs.Refusals.{ListFails};
 
 use crate::cause::Cause;
 use crate::key_lists::{KeyList, ListReader, Source};
-use rh_files::{Counted, KeyStream, open_keys};
+use rh_key_files::{Counted, KeyStream, open_keys};
 use rh_shelf::{Shelf, ShelfFault};
 use std::alloc::Global;
 use std::io::Read;

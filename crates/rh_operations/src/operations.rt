@@ -3,7 +3,7 @@
 ghost use Rattle.std.specs.Prelude.{◌≡◌, ◌+◌, ◌^◌, ◌<◌, ℕ, true, false, List, [], Some, Ok};
 ghost use Rattle.std.specs.Prelude.{IfOk, IfErr, OnErr, OnOk, length};
 ghost use Rattle.std.specs.FinSet as finset;
-ghost use Rattle.rh_files.specs.Counting.{Rose};
+ghost use Rattle.rh_key_files.specs.Counting.{Rose};
 ghost use Rattle.rh_shelf.specs.Shelf.{Files};
 ghost use Rattle.rh_ledger.specs.Phase.{looked_up};
 ghost use Rattle.rh_runner.specs.Lists.{Ran, chosen};
@@ -24,7 +24,7 @@ use crate::key_lists::{KeyList, Source};
 use crate::opening::{fetched, keys_again, open_list};
 use crate::size::{copied, grown};
 use rh_edit::SeqSet;
-use rh_files::{Counted, open_keys, write_keys};
+use rh_key_files::{Counted, open_keys, write_keys};
 use rh_layout::MIN_BITS;
 use rh_ledger::{Kind, Tally};
 use rh_runner::{

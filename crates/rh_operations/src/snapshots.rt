@@ -1,7 +1,7 @@
 //! Snapshots of the table on a shelf.
 
 ghost use Rattle.std.specs.Prelude.{◌≡◌, ℕ, List, Some, Ok, IfErr, IfOk, OnErr, OnOk};
-ghost use Rattle.rh_files.specs.Counting.{Rose};
+ghost use Rattle.rh_key_files.specs.Counting.{Rose};
 ghost use Rattle.rh_shelf.specs.Shelf.{Files, InDoubt, Puts};
 ghost use Rattle.rh_operations.specs.Operations.{IsSnapshotOf};
 ghost use Rattle.rh_operations.specs.Leaves.{KeepsShelf};
@@ -12,7 +12,7 @@ ghost use Rattle.rh_operations.specs.Refusals.{PutFails, RestoreFails};
 use crate::cause::Cause;
 use crate::opening::fetched;
 use rh_edit::SeqSet;
-use rh_files::Counted;
+use rh_key_files::Counted;
 use rh_shelf::{Shelf, ShelfFault};
 use rh_snapshot::{read_snapshot, write_snapshot};
 use std::alloc::Global;

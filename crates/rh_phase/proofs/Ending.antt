@@ -16,7 +16,7 @@ use Rattle.rh_acts.specs.Shared.{IsSharedOut}
 use Rattle.rh_acts.specs.Workers.{LeavesRoom, how_many, tally_by}
 use Rattle.rh_descriptor.specs.declared.known.Known.{Known}
 use Rattle.rh_descriptor.specs.Parts.{cell_count}
-use Rattle.rh_history.specs.History.{value_of}
+use Rattle.rh_run.specs.History.{value_of}
 use Rattle.rh_rule.specs.Seats.{AreMade, Spans}
 use Rattle.rh_rule.proofs.SeatsKept.{item_at, there}
 use Rattle.rh_run.specs.Claimed.{FoundEnd, all_claimed, claimed}

@@ -22,8 +22,8 @@ use Rattle.rh_rule.specs.Represents.{numbers_of}
 use Rattle.rh_helping.specs.Opening.{next_desc}
 use Rattle.rh_helping.specs.declared.machine.Ended.{Ended}
 use Rattle.rh_helping.specs.declared.machine.Ended.TheVariants as ended
-use Rattle.rh_history.specs.History.{act_of, is_current, kept_of, own_acts_of, value_of}
-use Rattle.rh_history.specs.OwnActs.{Orderly}
+use Rattle.rh_run.specs.History.{act_of, is_current, kept_of, own_acts_of, value_of}
+use Rattle.rh_run.specs.OwnActs.{Orderly}
 use Rattle.rh_run.specs.Known.{KnowsHeld}
 use Rattle.rh_run.specs.Laws.{furthered}
 use Rattle.rh_run.specs.Run.{Progress, ProgressInvariant}

@@ -7,7 +7,7 @@ use Rattle.rh_acts.specs.Act.{Act}
 use Rattle.rh_acts.specs.Done.{Does, IsTold, Kept}
 use Rattle.rh_descriptor.specs.declared.shape.Shape.{Shape}
 use Rattle.rh_descriptor.specs.View.{View}
-use Rattle.rh_history.specs.History.{kept_of, own_acts_of}
+use Rattle.rh_run.specs.History.{kept_of, own_acts_of}
 use Rattle.rh_kcas.specs.Rests.{Rests}
 use Rattle.rh_rdcss.specs.Calls.{view_of}
 use Rattle.rh_rdcss.specs.declared.seat.Seat.{Seat}

@@ -2,7 +2,7 @@
 
 ghost use Rattle.std.specs.Prelude.{◌≡◌, ◌<◌, All, IfNone, IfSome, IsTrue, false, length, slice_index, true};
 ghost use Rattle.rh_layout.specs.Key.{IsKey};
-ghost use Rattle.rh_history.specs.History.{own_acts_of};
+ghost use Rattle.rh_run.specs.History.{own_acts_of};
 ghost use Rattle.rh_kcas.specs.Rests.{Rests};
 ghost use Rattle.rh_ledger.specs.declared.tally.Kind.{Kind};
 ghost use Rattle.rh_phase.specs.Buffer.{HasRoom};

@@ -2,7 +2,7 @@
 
 ghost use Rattle.std.specs.Prelude.{◌≡◌, ◌^◌, ◌<◌, ◌≤◌, IfNone, IfSome, length};
 ghost use Rattle.rh_layout.specs.Key.{IsBits, IsKey};
-ghost use Rattle.rh_history.specs.History.{own_acts_of};
+ghost use Rattle.rh_run.specs.History.{own_acts_of};
 ghost use Rattle.rh_kcas.specs.Rests.{Rests};
 ghost use Rattle.rh_phase.specs.Keys.{Furthers, IsTriedSo, IsUndone, KeySpec, ScanSpec};
 ghost use Rattle.rh_rdcss.specs.Calls.{IsSame, view_of};

@@ -1,8 +1,11 @@
-pub mod Files
-pub mod Meaning
-pub mod Outside
-pub mod Environment
-pub mod Ends
-pub mod Steps
-pub mod Reached
-pub mod Agree
+-- What the contracts of the calls that this crate hands on speak of.
+pub use Rattle.rh_key_files.specs.Counting
+pub use Rattle.rh_script.specs.Grammar
+pub use Rattle.rh_script.specs.Script
+pub use Rattle.rh_script.specs.Plan
+pub use Rattle.rh_shelf.specs.Shelf
+pub use Rattle.rh_shelf.specs.Kinds
+pub use Rattle.rh_phase.specs.Made
+pub use Rattle.rh_script_run.specs.Meaning
+pub use Rattle.rh_script_run.specs.Environment
+pub use Rattle.rh_script_run.specs.Ends

@@ -1,17 +1,24 @@
-//! What a script does, and its run.
+//! What a program needs that carries out scripts itself: a script is read by `parse` and carried out by
+//! `run`, over the files of a `Shelf` and by a `Runner`, which is `Single` for one worker, or `Threads`
+//! for several that change one table at once. What is written, and the files that are left, are those
+//! that the script means, whichever the runner is: `run_twice` carries one out twice, and promises that
+//! both runs tell the same.
+//!
+//! ```text
+//! let mut shelf = MemShelf::new(alloc);                     // or `FileShelf::new(rt)`, or a `Shelf` of your own
+//! shelf.put(alloc, "a.keys", &file)?;
+//! let script = parse(alloc, b"use a a.keys\nadd a\ndump\n")?;
+//! let mut writer = Counted::new(Vec::new(alloc));           // or any other `Write`
+//! let report = run(rt, alloc, &script, &mut shelf, &mut Threads::new(4), &mut writer)?;
+//! ```
+//!
+//! The program `rh_example` carries out a script so, by one worker and by four.
 #![tactic(auto)]
 
-mod fault;
-mod laws;
-mod report;
-mod running;
-mod steps;
-mod tasks;
-mod twice;
-
-pub use fault::RunFault;
-pub use laws::{ends_as_meant, only_what_is_read_matters, runs_agree, texts_agree};
-pub use report::Report;
-pub use rh_operations::Cause;
-pub use running::run;
-pub use twice::run_twice;
+pub use rh_key_files::{Counted, KeyFault, WriteFault, write_keys};
+pub use rh_phase::Threads;
+pub use rh_runner::{PhaseFault, Runner, Single};
+pub use rh_script::{Plan, Script, ScriptFault, ScriptFaultKind, parse, plan};
+pub use rh_script_run::{Cause, Report, RunFault, run, run_twice};
+pub use rh_shelf::{FileShelf, MemShelf, Shelf, ShelfFault};
+pub use rh_snapshot::SnapFault;

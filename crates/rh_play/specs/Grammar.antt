@@ -4,6 +4,8 @@ use Rattle.std.specs.Char.{is_ascii_digit}
 use Rattle.std.specs.Str.{bytes_eq}
 use Rattle.std.specs.Str.Parse.{digits_value}
 use Rattle.std.specs.List.{list_all}
+use Rattle.rh_descriptor.specs.declared.steps.StepKind.{StepKind}
+use Rattle.rh_descriptor.specs.declared.steps.StepKind.TheVariants as steps
 use Rattle.rh_ledger.specs.declared.tally.Kind.{Kind}
 use Rattle.rh_ledger.specs.declared.tally.Kind.TheVariants.{Insert, Remove, Ask}
 use Rattle.rh_play.specs.declared.fault.PlayTextFault.{PlayTextFault}
@@ -12,8 +14,6 @@ use Rattle.rh_play.specs.declared.fault.PlayTextKind.TheVariants.{BadLine, TooLo
 use Rattle.rh_play.specs.declared.limits.TheConstants.{MAX_TEXT_BYTES, MIN_BITS, MAX_BITS, MAX_ROOM, MAX_TURNS, MAX_DIGITS}
 use Rattle.rh_play.specs.declared.schedule.Order.{Order}
 use Rattle.rh_play.specs.declared.schedule.Order.TheVariants.{Turn, Until, Rest, Round, Show}
-use Rattle.rh_play.specs.declared.schedule.Step.{Step}
-use Rattle.rh_play.specs.declared.schedule.Step.TheVariants as steps
 use Rattle.rh_play.specs.declared.verb.Verb.{Verb}
 use Rattle.rh_play.specs.declared.verb.Verb.TheVariants as verbs
 use Rattle.rh_play.specs.Saying.{Saying, Play, Bits, Held, Rooms, Work, Share, Schedule, Stage, AtStart, AfterPlay, AfterBits, AfterHeld, AfterRooms, AmongWork, AmongSchedule}
@@ -41,7 +41,7 @@ kind_of word =
     else if bytes_eq word (codes "ask") then Some Ask
     else None
 
-unfoldable pub step_of : List ℕ → Option Step
+unfoldable pub step_of : List ℕ → Option StepKind
 step_of word =
     if bytes_eq word (codes "write") then Some steps.Write
     else if bytes_eq word (codes "open") then Some steps.Open
@@ -92,7 +92,7 @@ unfoldable pub one_kind : List (List ℕ) → Result Kind PlayTextKind
 one_kind (word ∷ []) = known (kind_of word)
 one_kind _ = Err BadLine
 
-unfoldable pub number_and_step : List (List ℕ) → Result (ℕ × Step) PlayTextKind
+unfoldable pub number_and_step : List (List ℕ) → Result (ℕ × StepKind) PlayTextKind
 number_and_step (word ∷ step ∷ []) = number_of word >>= (λ n. known (step_of step) >>= (λ s. Ok (n, s)))
 number_and_step _ = Err BadLine
 

@@ -1,3 +1,6 @@
 pub mod Saying
+pub mod Appending
+pub mod Lines
+pub mod Words
 pub mod Grammar
 pub mod Play

@@ -9,9 +9,10 @@ ghost use Rattle.rh_play.specs.Play.{Answers, saying_as};
 use crate::fault::PlayTextKind;
 use crate::limits::{MAX_BITS, MAX_ROOM, MAX_TURNS, MIN_BITS};
 use crate::numbers::{number, numbers, one_number, two_numbers};
-use crate::schedule::{Order, Step};
+use crate::schedule::Order;
 use crate::verb::{Verb, kind_from_word, step_from_word};
 use crate::words::end_of_words;
+use rh_descriptor::StepKind;
 use rh_ledger::Kind;
 use rh_lines::{is_skipped, next_word, printable};
 use std::alloc::Global;
@@ -111,7 +112,7 @@ fn one_kind(rest: &str) -> Result<Kind, PlayTextKind>
 
 /// A worker and a kind of step, and nothing after them.
 #[tactic(auto, unfolding(crate::specs::Grammar::number_and_step))]
-fn number_and_step(rest: &str) -> Result<(u64, Step), PlayTextKind>
+fn number_and_step(rest: &str) -> Result<(u64, StepKind), PlayTextKind>
     ensures { result ≡ number_and_step (words_of rest.now) }
 {
     let (worker, rest) = next_word(rest).ok_or(PlayTextKind::BadLine)?;

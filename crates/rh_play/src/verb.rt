@@ -3,7 +3,7 @@
 ghost use Rattle.std.specs.Prelude.{◌≡◌};
 ghost use Rattle.rh_play.specs.Grammar.{kind_of, step_of, verb_of};
 
-use crate::schedule::Step;
+use rh_descriptor::StepKind;
 use rh_ledger::Kind;
 
 /// The lines without their words.
@@ -57,18 +57,18 @@ pub(crate) fn kind_from_word(word: &str) -> Option<Kind>
 }
 
 #[tactic(auto, unfolding(crate::specs::Grammar::step_of))]
-pub(crate) fn step_from_word(word: &str) -> Option<Step>
+pub(crate) fn step_from_word(word: &str) -> Option<StepKind>
     ensures { result ≡ step_of word.now }
 {
     match word {
-        "write" => Some(Step::Write),
-        "open" => Some(Step::Open),
-        "read" => Some(Step::Read),
-        "place" => Some(Step::Place),
-        "settle" => Some(Step::Settle),
-        "decide" => Some(Step::Decide),
-        "release" => Some(Step::Release),
-        "claim" => Some(Step::Claim),
+        "write" => Some(StepKind::Write),
+        "open" => Some(StepKind::Open),
+        "read" => Some(StepKind::Read),
+        "place" => Some(StepKind::Place),
+        "settle" => Some(StepKind::Settle),
+        "decide" => Some(StepKind::Decide),
+        "release" => Some(StepKind::Release),
+        "claim" => Some(StepKind::Claim),
         _ => None,
     }
 }

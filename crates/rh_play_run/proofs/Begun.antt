@@ -11,9 +11,9 @@ use Rattle.rh_edit.proofs.SetLemmas.{keeps_empty, keys_of_empty}
 use Rattle.rh_descriptor.specs.declared.shape.Rooms.{Rooms}
 use Rattle.rh_descriptor.specs.declared.shape.Shape.{Shape}
 use Rattle.rh_turns.specs.Game.{Game}
-use Rattle.rh_player.specs.declared.fault.PlayFault.{PlayFault}
-use Rattle.rh_player.specs.declared.fault.PlayFault.TheVariants.{NoRoom}
-use Rattle.rh_player.specs.Start.{Makes, Refuses, StartsPieces, StartsShared, StartsWith, are_keys, joined, start_fault}
+use Rattle.rh_stepper.specs.declared.fault.PlayFault.{PlayFault}
+use Rattle.rh_stepper.specs.declared.fault.PlayFault.TheVariants.{NoRoom}
+use Rattle.rh_stepper.specs.Start.{Makes, Refuses, StartsPieces, StartsShared, StartsWith, are_keys, joined, start_fault}
 use Rattle.rh_play.specs.declared.play.Play.{Play}
 use Rattle.rh_play.specs.declared.play.Work.{Work}
 use Rattle.rh_play.specs.declared.play.Work.TheVariants.{Pieces, Share}

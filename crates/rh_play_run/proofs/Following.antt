@@ -6,17 +6,15 @@ use Rattle.rh_tagword.specs.declared.word.Word.{Word}
 use Rattle.rh_tagword.specs.Word.{word_in}
 use Rattle.rh_turns.specs.declared.turning.Turn.{Turn}
 use Rattle.rh_turns.specs.Game.{AllStopped, Game}
-use Rattle.rh_player.specs.Turned.{BeginsRound}
+use Rattle.rh_stepper.specs.Turned.{BeginsRound}
 use Rattle.rh_play.specs.declared.limits.TheConstants.{MAX_TURNS}
 use Rattle.rh_play.specs.declared.schedule.Order.{Order}
 use Rattle.rh_play.specs.declared.schedule.Order.TheVariants as order
-use Rattle.rh_play.specs.declared.schedule.Step.{Step}
-use Rattle.rh_play_report.specs.declared.endings.Last.{Last}
-use Rattle.rh_play_report.specs.declared.endings.Last.TheVariants.{Limit}
-use Rattle.rh_play_report.specs.declared.endings.Rest.{Rest}
-use Rattle.rh_play_report.specs.Appending.{Prints}
-use Rattle.rh_play_report.specs.Lines.{raw_line, rest_line, round_line, turn_line, until_line}
-use Rattle.rh_play_report.specs.Words.{step_kind}
+use Rattle.rh_play.specs.declared.endings.Last.{Last}
+use Rattle.rh_play.specs.declared.endings.Last.TheVariants.{Limit}
+use Rattle.rh_play.specs.declared.endings.Rest.{Rest}
+use Rattle.rh_play.specs.Appending.{Prints}
+use Rattle.rh_play.specs.Lines.{raw_line, rest_line, round_line, turn_line, until_line}
 use Rattle.rh_play_run.specs.declared.log.Log.{Log}
 use Rattle.rh_play_run.specs.declared.log.Telling.{Telling}
 use Rattle.rh_play_run.specs.declared.log.Telling.TheVariants.{Orders, Steps, Records}
@@ -193,10 +191,10 @@ pub turn_order : (worker turns : ℕ) (g : Game) (told : Last) (steps : List Pie
 unfolding Does
 turn_order worker turns g told steps next made = (told, steps, made, refl)
 
-pub until_order : (worker : ℕ) (step : Step) (kind : StepKind) (g : Game) (told : Last) (steps : List Piece) (next : Game) → kind ≡ step_kind step
-    → TurnsUntil MAX_TURNS worker kind g told steps next → Does (order.Until worker step) g (steps ++ Piece.lines (until_line worker step told) ∷ []) next
+pub until_order : (worker : ℕ) (kind : StepKind) (g : Game) (told : Last) (steps : List Piece) (next : Game) → TurnsUntil MAX_TURNS worker kind g told steps next
+    → Does (order.Until worker kind) g (steps ++ Piece.lines (until_line worker kind told) ∷ []) next
 unfolding Does
-until_order worker step kind g told steps next is made = (told, steps, subst (λ (k : StepKind). TurnsUntil MAX_TURNS worker k g told steps next) is made, refl)
+until_order worker kind g told steps next made = (told, steps, made, refl)
 
 pub rest_order : (g next : Game) (told : Rest) (steps : List Piece) → RestsWithin MAX_TURNS g steps next → StandsAs told next → Does order.Rest g (steps ++ Piece.lines (rest_line told) ∷ []) next
 unfolding Does

@@ -5,11 +5,11 @@ use Rattle.rh_turns.specs.declared.turning.Turn.{Turn}
 use Rattle.rh_turns.specs.declared.turning.Turn.TheVariants.{Did, Finished, Spent, NoSuchWorker}
 use Rattle.rh_turns.specs.Game.{Game}
 use Rattle.rh_turns.specs.Laws.{turned}
-use Rattle.rh_player.specs.Turned.{Turned}
+use Rattle.rh_stepper.specs.Turned.{Turned}
 use Rattle.rh_play.specs.declared.schedule.Order.{Order}
 use Rattle.rh_play.specs.declared.schedule.Order.TheVariants as order
-use Rattle.rh_play_report.specs.declared.endings.Last.{Last}
-use Rattle.rh_player.proofs.Turning.{turned_so}
+use Rattle.rh_play.specs.declared.endings.Last.{Last}
+use Rattle.rh_stepper.proofs.Turning.{turned_so}
 use Rattle.rh_play_run.specs.Pieces.{Piece}
 use Rattle.rh_play_run.specs.Schedule.{ATurn, Does, Follows, Rests, Rounds, TurnOfEach, TurnsOf, TurnsUntil, last_of}
 

@@ -7,12 +7,12 @@ use Rattle.rh_ledger.specs.declared.tally.Kind.{Kind}
 use Rattle.rh_ledger.specs.Phase.{set_after, tally_of}
 use Rattle.rh_descriptor.specs.declared.shape.Shape.{Shape}
 use Rattle.rh_turns.specs.Game.{AllFinished, Game}
-use Rattle.rh_player.specs.Made.{MadeSoFar, TallySpec, held_first}
+use Rattle.rh_stepper.specs.Made.{MadeSoFar, TallySpec, held_first}
 use Rattle.std.specs.Io.KnownBytes.{Appends}
 use Rattle.rh_ledger.specs.declared.tally.Tally.{Tally}
-use Rattle.rh_files.specs.Counting.{AppendsFront}
-use Rattle.rh_play_report.specs.Lines.{end_line, tally_line}
-use Rattle.rh_files.specs.Dump.{dump_text}
+use Rattle.rh_key_files.specs.Counting.{AppendsFront}
+use Rattle.rh_play.specs.Lines.{end_line, tally_line}
+use Rattle.rh_key_files.specs.Dump.{dump_text}
 use Rattle.rh_play.specs.declared.play.Play.{Play}
 use Rattle.rh_play_run.specs.Beginning.{Begins, bits_of, held_of, keys_in}
 use Rattle.rh_play_run.specs.declared.fault.PlayRunFault.{PlayRunFault}

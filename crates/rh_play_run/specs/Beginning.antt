@@ -6,9 +6,9 @@ use Rattle.rh_layout.specs.Layout.{Keys, Layout}
 use Rattle.rh_descriptor.specs.Parts.{usual_rooms}
 use Rattle.rh_descriptor.specs.declared.shape.Rooms.{Rooms}
 use Rattle.rh_turns.specs.Game.{Game}
-use Rattle.rh_player.specs.declared.fault.PlayFault.{PlayFault}
-use Rattle.rh_player.specs.declared.fault.PlayFault.TheVariants.{BadKey, NoRoom}
-use Rattle.rh_player.specs.Start.{Refuses, StartsPieces, StartsShared, are_keys, joined, start_fault}
+use Rattle.rh_stepper.specs.declared.fault.PlayFault.{PlayFault}
+use Rattle.rh_stepper.specs.declared.fault.PlayFault.TheVariants.{BadKey, NoRoom}
+use Rattle.rh_stepper.specs.Start.{Refuses, StartsPieces, StartsShared, are_keys, joined, start_fault}
 use Rattle.rh_play.specs.declared.play.Play.{Play}
 use Rattle.rh_play.specs.declared.play.Rooms as said
 use Rattle.rh_play.specs.declared.play.Work.TheVariants.{Pieces, Share}

@@ -5,11 +5,11 @@ use Rattle.rh_layout.specs.Layout.{Layout}
 use Rattle.rh_ledger.specs.declared.tally.Tally.{Tally}
 use Rattle.rh_ledger.specs.Phase.{set_after, tally_of}
 use Rattle.rh_turns.specs.Game.{AllFinished, Game}
-use Rattle.rh_player.specs.declared.fault.PlayFault.{PlayFault}
+use Rattle.rh_stepper.specs.declared.fault.PlayFault.{PlayFault}
 use Rattle.rh_acts.specs.Workers.{tally_by}
-use Rattle.rh_player.specs.Made.{MadeSoFar, TallySpec, changed_count, done_count}
-use Rattle.rh_files.specs.Counting.{AppendsFront}
-use Rattle.rh_files.specs.Dump.{dump_text}
+use Rattle.rh_stepper.specs.Made.{MadeSoFar, TallySpec, changed_count, done_count}
+use Rattle.rh_key_files.specs.Counting.{AppendsFront}
+use Rattle.rh_key_files.specs.Dump.{dump_text}
 use Rattle.rh_play.specs.declared.fault.PlayTextFault.{PlayTextFault}
 use Rattle.rh_play.specs.declared.fault.PlayTextKind.TheVariants as kind
 use Rattle.rh_lines.specs.Lines.{lines_of}
@@ -17,7 +17,7 @@ use Rattle.rh_play.specs.declared.limits.TheConstants.{MAX_TEXT_BYTES}
 use Rattle.rh_play.specs.declared.play.Play.{Play}
 use Rattle.rh_play.specs.Grammar.{HasNoFaultBefore, sayings_of}
 use Rattle.rh_play.specs.Play.{said_of}
-use Rattle.rh_play_report.specs.Lines.{end_line, tally_line}
+use Rattle.rh_play.specs.Lines.{end_line, tally_line}
 use Rattle.rh_play_run.specs.declared.fault.PlayRunFault.{PlayRunFault}
 use Rattle.rh_play_run.specs.declared.fault.PlayRunFault.TheVariants.{Read, Text, Start, Memory, Write}
 use Rattle.rh_play_run.specs.Beginning.{Begins, CanBegin, IsRefusedStart, bits_of, held_of, keys_in}

@@ -7,16 +7,15 @@ use Rattle.rh_tagword.specs.Word.{word_in}
 use Rattle.rh_turns.specs.declared.turning.Turn.{Turn}
 use Rattle.rh_turns.specs.declared.turning.Turn.TheVariants as turn
 use Rattle.rh_turns.specs.Game.{AllFinished, AllStopped, Game}
-use Rattle.rh_player.specs.Turned.{BeginsRound, Traced}
+use Rattle.rh_stepper.specs.Turned.{BeginsRound, Traced}
 use Rattle.rh_play.specs.declared.limits.TheConstants.{MAX_TURNS}
 use Rattle.rh_play.specs.declared.schedule.Order.{Order}
 use Rattle.rh_play.specs.declared.schedule.Order.TheVariants as order
-use Rattle.rh_play_report.specs.declared.endings.Last.{Last}
-use Rattle.rh_play_report.specs.declared.endings.Last.TheVariants as last
-use Rattle.rh_play_report.specs.declared.endings.Rest.{Rest}
-use Rattle.rh_play_report.specs.declared.endings.Rest.TheVariants as rest
-use Rattle.rh_play_report.specs.Lines.{raw_line, rest_line, round_line, turn_line, until_line}
-use Rattle.rh_play_report.specs.Words.{step_kind}
+use Rattle.rh_play.specs.declared.endings.Last.{Last}
+use Rattle.rh_play.specs.declared.endings.Last.TheVariants as last
+use Rattle.rh_play.specs.declared.endings.Rest.{Rest}
+use Rattle.rh_play.specs.declared.endings.Rest.TheVariants as rest
+use Rattle.rh_play.specs.Lines.{raw_line, rest_line, round_line, turn_line, until_line}
 use Rattle.rh_recorder.specs.declared.recorder.Touched.{Touched}
 use Rattle.rh_play_run.specs.Pieces.{Piece, round_pieces, turn_pieces}
 
@@ -124,7 +123,7 @@ unfoldable pub Does : Order → Game → (pieces : List Piece) → Game → Type
 Does (order.Turn worker turns) g pieces next =
     (told : Last) × (steps : List Piece) × TurnsOf worker turns g last.Limit told steps next × (pieces ≡ steps ++ Piece.lines (turn_line worker turns told) ∷ [])
 Does (order.Until worker step) g pieces next =
-    (told : Last) × (steps : List Piece) × TurnsUntil MAX_TURNS worker (step_kind step) g told steps next
+    (told : Last) × (steps : List Piece) × TurnsUntil MAX_TURNS worker step g told steps next
     × (pieces ≡ steps ++ Piece.lines (until_line worker step told) ∷ [])
 Does order.Rest g pieces next =
     (told : Rest) × (steps : List Piece) × RestsWithin MAX_TURNS g steps next × StandsAs told next × (pieces ≡ steps ++ Piece.lines (rest_line told) ∷ [])

@@ -4,7 +4,7 @@ ghost use Rattle.std.specs.Prelude.{◌≡◌, ◌^◌, ◌<◌, All, IfErr, IfO
 ghost use Rattle.std.specs.FinSet as set;
 ghost use Rattle.rh_layout.specs.Key.{IsBits, IsKey};
 ghost use Rattle.rh_layout.specs.Layout.{Layout};
-ghost use Rattle.rh_player.specs.Start.{IsRooms, Makes, are_keys};
+ghost use Rattle.rh_stepper.specs.Start.{IsRooms, Makes, are_keys};
 ghost use Rattle.rh_play_run.specs.Beginning.{Begins, IsRefusedStart, IsBlank, StartsOn};
 ghost use Rattle.rh_play_run.specs.Beginning.{held_fault, player_fault};
 
@@ -12,7 +12,7 @@ use rh_descriptor::Rooms;
 use rh_edit::SeqSet;
 use rh_layout::MAX_BITS;
 use rh_play::{Play, Work};
-use rh_player::{PlayFault, Player, are_keys};
+use rh_stepper::{PlayFault, Player, are_keys};
 use std::alloc::{AllocError, Global};
 
 /// Empty cells for the table of any play. They are taken before the play is known, so that no fault of

@@ -2,7 +2,7 @@
 
 use crate::fault::PlayRunFault;
 use rh_draw::MAX_STEPS;
-use rh_files::WriteFault;
+use rh_key_files::WriteFault;
 use std::alloc::AllocError;
 use thiserror::Error;
 

@@ -1,8 +1,8 @@
 //! A play, drawn.
 
 ghost use Rattle.std.specs.Prelude.{◌≡◌, ◌≢◌, ◌+◌, ◌<◌, ◌≤◌, Err, IfErr, IfOk, IfSome, IsErrOf, None};
-ghost use Rattle.rh_files.specs.Counting.{Rose, failures_of, inner_of};
-ghost use Rattle.rh_files.specs.Taking.{TakesAtMost};
+ghost use Rattle.rh_key_files.specs.Counting.{Rose, failures_of, inner_of};
+ghost use Rattle.rh_key_files.specs.Taking.{TakesAtMost};
 ghost use Rattle.rh_draw.specs.Records.{count_from};
 ghost use Rattle.rh_draw.specs.declared.limits.TheConstants.{MAX_STEPS};
 ghost use Rattle.rh_play.specs.declared.limits.TheConstants.{MAX_TEXT_BYTES};
@@ -21,7 +21,7 @@ use crate::run::workers_of;
 use crate::schedule::follow;
 use rh_descriptor::Shape;
 use rh_draw::{MAX_STEPS, Record, Window, draw, steps_from};
-use rh_files::{Counted, write_texts};
+use rh_key_files::{Counted, write_texts};
 use rh_play::Play;
 use std::alloc::Global;
 use std::io::{Read, Write};

@@ -5,14 +5,14 @@ ghost use Rattle.rh_layout.specs.Layout.{IsLayout, Layout};
 ghost use Rattle.rh_ledger.specs.Phase.{set_after, tally_of};
 ghost use Rattle.rh_descriptor.specs.Parts.{cell_count};
 ghost use Rattle.rh_turns.specs.Game.{AllFinished};
-ghost use Rattle.rh_player.specs.Made.{MadeSoFar, held_first};
-ghost use Rattle.rh_files.specs.Counting.{Rose, Writes, failures_of, inner_of};
-ghost use Rattle.rh_files.specs.Dump.{dump_text};
+ghost use Rattle.rh_stepper.specs.Made.{MadeSoFar, held_first};
+ghost use Rattle.rh_key_files.specs.Counting.{Rose, Writes, failures_of, inner_of};
+ghost use Rattle.rh_key_files.specs.Dump.{dump_text};
 ghost use Rattle.rh_play_run.specs.Run.{ClosesWith, closing};
 
-use rh_files::{Counted, WriteFault, write_dump, write_texts};
-use rh_play_report::{push_end, push_tally};
-use rh_player::Player;
+use rh_key_files::{Counted, WriteFault, write_dump, write_texts};
+use rh_play::{push_end, push_tally};
+use rh_stepper::Player;
 use std::alloc::{AllocError, Global};
 use std::io::Write;
 

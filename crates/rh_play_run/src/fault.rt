@@ -1,8 +1,8 @@
 //! What can go wrong.
 
-use rh_files::WriteFault;
+use rh_key_files::WriteFault;
 use rh_play::PlayTextFault;
-use rh_player::PlayFault;
+use rh_stepper::PlayFault;
 use std::alloc::{AllocError, AllocFailed};
 use thiserror::Error;
 

@@ -8,9 +8,8 @@ ghost use Rattle.rh_play_run.specs.Schedule.{Does, HasSize, Rounds, shown};
 use crate::log::Log;
 use crate::resting::rest;
 use crate::turns::{take_turns, take_turns_until};
-use rh_play::{MAX_TURNS, Order};
-use rh_play_report::{push_raw, push_rest, push_round, push_turn, push_until, step_kind};
-use rh_player::Player;
+use rh_play::{MAX_TURNS, Order, push_raw, push_rest, push_round, push_turn, push_until};
+use rh_stepper::Player;
 use std::alloc::AllocError;
 
 /// How many workers and how many cells a player has.
@@ -37,8 +36,7 @@ pub(crate) fn carry_out(
             push_turn(&mut log.text, worker, turns, last)
         }
         Order::Until { worker, step } => {
-            let kind = step_kind(step);
-            let last = take_turns_until(player, worker as usize, kind, MAX_TURNS, log)?;
+            let last = take_turns_until(player, worker as usize, step, MAX_TURNS, log)?;
             push_until(&mut log.text, worker, step, last)
         }
         Order::Rest => {

@@ -2,13 +2,13 @@
 
 ghost use Rattle.std.specs.Prelude.{◌≡◌, ◌≢◌, ◌+◌, ◌<◌, ◌≤◌, length, IfErr, IfOk, IsErrOf, Err};
 ghost use Rattle.std.specs.Io.KnownBytes.{Consumes, IsAtEnd};
-ghost use Rattle.rh_files.specs.Counting.{Rose, failures_of, inner_of};
-ghost use Rattle.rh_files.specs.Taking.{TakesAtMost};
+ghost use Rattle.rh_key_files.specs.Counting.{Rose, failures_of, inner_of};
+ghost use Rattle.rh_key_files.specs.Taking.{TakesAtMost};
 ghost use Rattle.rh_play.specs.declared.limits.TheConstants.{MAX_TEXT_BYTES};
 ghost use Rattle.rh_play_run.specs.Run.{IsPlayRead, IsUnread};
 
 use crate::fault::PlayRunFault;
-use rh_files::{Counted, fill};
+use rh_key_files::{Counted, fill};
 use rh_play::{MAX_TEXT_BYTES, Play, parse_play};
 use std::alloc::Global;
 use std::io::Read;

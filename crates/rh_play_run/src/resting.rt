@@ -6,8 +6,8 @@ ghost use Rattle.rh_play_run.specs.Schedule.{Rests, RestsWithin, StandsAs, TurnO
 
 use crate::log::Log;
 use crate::turns::take_turn;
-use rh_play_report::Rest;
-use rh_player::Player;
+use rh_play::Rest;
+use rh_stepper::Player;
 use rh_turns::Turn;
 use std::alloc::AllocError;
 

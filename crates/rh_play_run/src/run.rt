@@ -2,8 +2,8 @@
 
 ghost use Rattle.std.specs.Prelude.{◌≡◌, ◌+◌, ◌++◌, ◌⊎◌, IfErr, IfOk, IsErrOf};
 ghost use Rattle.rh_layout.specs.Layout.{IsLayout};
-ghost use Rattle.rh_files.specs.Counting.{failures_of, inner_of};
-ghost use Rattle.rh_files.specs.Dump.{dump_text};
+ghost use Rattle.rh_key_files.specs.Counting.{failures_of, inner_of};
+ghost use Rattle.rh_key_files.specs.Dump.{dump_text};
 ghost use Rattle.rh_play_run.specs.Beginning.{IsBlank, workers_in};
 ghost use Rattle.rh_play_run.specs.Devices.{ReadsPlay, WritesLast};
 ghost use Rattle.rh_play_run.specs.Run.{IsPlayed, IsUnplayed, Runs, SaysGoodPlay};
@@ -16,7 +16,7 @@ use crate::log::{Log, Telling};
 use crate::orders::Size;
 use crate::reading::read_play;
 use crate::schedule::follow;
-use rh_files::Counted;
+use rh_key_files::Counted;
 use rh_play::{Play, Work};
 use std::alloc::Global;
 use std::io::{Read, Write};

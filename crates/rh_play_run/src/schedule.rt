@@ -7,7 +7,7 @@ ghost use Rattle.rh_play_run.specs.Schedule.{Follows, HasSize};
 use crate::log::Log;
 use crate::orders::{Size, carry_out};
 use rh_play::Order;
-use rh_player::Player;
+use rh_stepper::Player;
 use std::alloc::AllocError;
 
 /// Carries out the orders one after the other, and tells what comes of them.

@@ -6,8 +6,8 @@ ghost use Rattle.rh_play_run.specs.Schedule.{ATurn, Misses, Reaches, TurnsOf, Tu
 
 use crate::log::Log;
 use rh_descriptor::StepKind;
-use rh_play_report::Last;
-use rh_player::Player;
+use rh_play::Last;
+use rh_stepper::Player;
 use rh_turns::Turn;
 use std::alloc::AllocError;
 

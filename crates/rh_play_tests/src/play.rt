@@ -1,3 +1,4 @@
+use rh_descriptor::StepKind;
 use rh_ledger::Kind;
 use rh_play::*;
 use std::alloc::{AllocFailed, Global};
@@ -34,7 +35,7 @@ fn turn(worker: u64, turns: u64) -> Order {
     Order::Turn { worker, turns }
 }
 
-fn until(worker: u64, step: Step) -> Order {
+fn until(worker: u64, step: StepKind) -> Order {
     Order::Until { worker, step }
 }
 
@@ -50,9 +51,9 @@ turn 1 1000\nshow\nrest\n",
     assert_eq!(rt;
         play.schedule.as_slice(),
         [
-            until(0, Step::Place),
+            until(0, StepKind::Place),
             Order::Show,
-            until(1, Step::Decide),
+            until(1, StepKind::Decide),
             Order::Show,
             turn(1, 1000),
             Order::Show,
@@ -75,13 +76,13 @@ until 1 place\nshow\nturn 1 1\nturn 0 100\nuntil 1 settle\nshow\nturn 1 100\nsho
     assert_eq!(rt;
         play.schedule.as_slice(),
         [
-            until(0, Step::Settle),
-            until(1, Step::Place),
-            until(1, Step::Place),
+            until(0, StepKind::Settle),
+            until(1, StepKind::Place),
+            until(1, StepKind::Place),
             Order::Show,
             turn(1, 1),
             turn(0, 100),
-            until(1, Step::Settle),
+            until(1, StepKind::Settle),
             Order::Show,
             turn(1, 100),
             Order::Show,
@@ -141,9 +142,9 @@ show\nuntil 1 claim\nrest\n",
         [
             turn(1, 1),
             turn(0, 1),
-            until(1, Step::Decide),
+            until(1, StepKind::Decide),
             Order::Show,
-            until(1, Step::Claim),
+            until(1, StepKind::Claim),
             Order::Rest,
         ]
         .as_slice()

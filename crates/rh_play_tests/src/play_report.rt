@@ -1,7 +1,6 @@
 use rh_descriptor::StepKind;
 use rh_ledger::Tally;
-use rh_play::Step;
-use rh_play_report::*;
+use rh_play::*;
 use rh_tagword::Word;
 use std::alloc::AllocError;
 use std::test::*;
@@ -10,9 +9,9 @@ use std::test::*;
 #[derive(Clone, Copy)]
 enum Line {
     Turn(u64, u64, Last),
-    Until(u64, Step, Last),
+    Until(u64, StepKind, Last),
     /// The step that turns were made for.
-    Reached(u64, Step),
+    Reached(u64, StepKind),
     Rest(Rest),
     Round(bool),
     Empty(usize),
@@ -27,7 +26,7 @@ fn push(out: &mut Vec<u8>, line: Line) -> Result<(), AllocError> {
     match line {
         Line::Turn(worker, turns, last) => push_turn(out, worker, turns, last),
         Line::Until(worker, step, last) => push_until(out, worker, step, last),
-        Line::Reached(worker, step) => push_until(out, worker, step, Last::Did(step_kind(step))),
+        Line::Reached(worker, step) => push_until(out, worker, step, Last::Did(step)),
         Line::Rest(rest) => push_rest(out, rest),
         Line::Round(began) => push_round(out, began),
         Line::Empty(cell) => push_raw(out, cell, Word::Empty),
@@ -49,10 +48,10 @@ fn push(out: &mut Vec<u8>, line: Line) -> Result<(), AllocError> {
 
 const A_WORKER_HELPS: (&[Line], &str) = (
     &[
-        Line::Reached(0, Step::Place),
+        Line::Reached(0, StepKind::Place),
         Line::Empty(3),
         Line::Mark(4, 0, 0),
-        Line::Reached(1, Step::Decide),
+        Line::Reached(1, StepKind::Decide),
         Line::Desc(4, 0, 0),
         Line::Turn(1, 1000, Last::Finished),
         Line::Key(4, 1),
@@ -75,13 +74,13 @@ const A_WORKER_HELPS: (&[Line], &str) = (
 
 const A_MARK_IS_SETTLED_LATE: (&[Line], &str) = (
     &[
-        Line::Reached(0, Step::Settle),
-        Line::Reached(1, Step::Place),
+        Line::Reached(0, StepKind::Settle),
+        Line::Reached(1, StepKind::Place),
         Line::Desc(4, 0, 0),
         Line::Mark(5, 1, 0),
         Line::Turn(1, 1, Last::Did(StepKind::Read)),
         Line::Turn(0, 100, Last::Spent),
-        Line::Reached(1, Step::Settle),
+        Line::Reached(1, StepKind::Settle),
         Line::Key(4, 9),
         Line::Desc(5, 0, 0),
         Line::Turn(1, 100, Last::Spent),
@@ -112,7 +111,7 @@ const A_KEY_SLIPS_PAST_A_SCAN: (&[Line], &str) = (
         Line::Key(1, 5),
         Line::Key(7, 8),
         Line::Turn(0, 1, Last::Did(StepKind::Read)),
-        Line::Reached(0, Step::Decide),
+        Line::Reached(0, StepKind::Decide),
         Line::Rest(Rest::Finished),
         Line::Tally(2, 0, 2, 0),
         Line::End(true),
@@ -147,7 +146,7 @@ const KEYS_ARE_CLAIMED: (&[Line], &str) = (
     &[
         Line::Turn(1, 1, Last::Did(StepKind::Claim)),
         Line::Turn(0, 1, Last::Did(StepKind::Claim)),
-        Line::Reached(1, Step::Decide),
+        Line::Reached(1, StepKind::Decide),
         Line::Desc(4, 1, 0),
         Line::Rest(Rest::Finished),
     ],
@@ -161,13 +160,13 @@ const KEYS_ARE_CLAIMED: (&[Line], &str) = (
 /// What no play above prints.
 const OTHERS: (&[Line], &str) = (
     &[
-        Line::Reached(0, Step::Write),
-        Line::Reached(0, Step::Open),
-        Line::Reached(0, Step::Read),
-        Line::Reached(0, Step::Release),
-        Line::Reached(0, Step::Claim),
-        Line::Until(15, Step::Claim, Last::Limit),
-        Line::Until(u64::MAX, Step::Write, Last::NoWorker),
+        Line::Reached(0, StepKind::Write),
+        Line::Reached(0, StepKind::Open),
+        Line::Reached(0, StepKind::Read),
+        Line::Reached(0, StepKind::Release),
+        Line::Reached(0, StepKind::Claim),
+        Line::Until(15, StepKind::Claim, Last::Limit),
+        Line::Until(u64::MAX, StepKind::Write, Last::NoWorker),
         Line::Rest(Rest::Limit),
         Line::Mark(262_143, 15, 72_057_594_037_927_935),
         Line::Tally(4, 3, 2, 1),

@@ -2,7 +2,7 @@
 use Rattle.std.specs.Prelude.{◌≡◌, ℕ, ◌<◌, ◌^◌, Bool, List}
 use Rattle.std.specs.FinSet as set
 use Rattle.rh_layout.specs.Layout.{Keys, Layout}
-use Rattle.rh_files.specs.Dump.{dump_text}
+use Rattle.rh_key_files.specs.Dump.{dump_text}
 use Rattle.rh_report.specs.Texts.{used_text, added_text, dropped_text, asked_text, kept_text, flipped_text, saved_text, cleared_text, sealed_text, restored_text}
 
 -- `read` is the length of the list, `held` and `bits` are those of the table after the command

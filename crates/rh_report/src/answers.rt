@@ -1,11 +1,11 @@
 //! The report of look-ups.
 
 ghost use Rattle.std.specs.Prelude.{◌≡◌, ◌≤◌, ◌<◌, ◌++◌, OnErr, OnOk, codes, length, map};
-ghost use Rattle.rh_files.specs.Counting.{Rose, Writes, failures_of, inner_of};
+ghost use Rattle.rh_key_files.specs.Counting.{Rose, Writes, failures_of, inner_of};
 ghost use Rattle.rh_report.specs.Texts.{asked_head, asked_text, digit_of, digits_from};
 
 use itoa::Buffer;
-use rh_files::{Counted, WriteFault, write_texts};
+use rh_key_files::{Counted, WriteFault, write_texts};
 use std::io::Write;
 
 /// How many answers stand on a full line.

@@ -2,13 +2,13 @@
 //! so give them a writer with a buffer.
 
 ghost use Rattle.std.specs.Prelude.{◌≡◌, OnErr, OnOk};
-ghost use Rattle.rh_files.specs.Counting.{Rose, Writes, failures_of, inner_of};
+ghost use Rattle.rh_key_files.specs.Counting.{Rose, Writes, failures_of, inner_of};
 ghost use Rattle.rh_report.specs.Texts.{used_text, added_text, dropped_text, kept_text};
 ghost use Rattle.rh_report.specs.Texts.{flipped_text, saved_text, cleared_text};
 ghost use Rattle.rh_report.specs.Texts.{sealed_text, restored_text};
 
 use itoa::Buffer;
-use rh_files::{Counted, WriteFault, write_texts};
+use rh_key_files::{Counted, WriteFault, write_texts};
 use std::io::Write;
 
 /// `use NAME COUNT`: a list was read.

@@ -8,7 +8,7 @@ use Rattle.rh_acts.specs.Done.{Does, IsDone, Kept}
 use Rattle.rh_acts.specs.Workers.{Made, acts_of, own}
 use Rattle.rh_acts.proofs.ActLemmas.{contains_head}
 use Rattle.rh_acts.proofs.PhaseLemmas.{held_without_acts, piece_asked}
-use Rattle.rh_history.specs.History.{kept_of, own_acts_of}
+use Rattle.rh_run.specs.History.{kept_of, own_acts_of}
 use Rattle.rh_run.specs.Laws.{RunAnswers}
 use Rattle.rh_run.specs.Run.{Run, RunInvariant}
 use Rattle.rh_run.proofs.Standing.{all_made, each_does, was}

@@ -13,9 +13,9 @@ use Rattle.rh_acts.specs.Act.{Act, apply_acts}
 use Rattle.rh_acts.specs.Done.{IsDone, Kept, WereTrue}
 use Rattle.rh_acts.specs.Workers.{AreOf, LeavesRoom, Made, acts_of, counted, joined, own, piece, sum_of_all}
 use Rattle.rh_acts.proofs.PhaseLaws.{phase_is_of_joined_lists}
-use Rattle.rh_history.specs.History.{kept_of, logical_cells, own_acts_of, value_of}
-use Rattle.rh_history.specs.Laws.{RestSpec}
-use Rattle.rh_history.proofs.Resting.{at_rest}
+use Rattle.rh_run.specs.History.{kept_of, logical_cells, own_acts_of, value_of}
+use Rattle.rh_run.specs.Histories.{RestSpec}
+use Rattle.rh_run.proofs.Resting.{at_rest}
 use Rattle.rh_run.specs.Laws.{FinalSpec, RunEnds}
 use Rattle.rh_run.specs.Run.{Run, RunInvariant}
 use Rattle.rh_run.specs.Words.{AreNow, cells_held}

@@ -13,8 +13,8 @@ use Rattle.rh_descriptor.specs.View.{View}
 use Rattle.rh_descriptor.specs.Words.{cell_in, mark_number}
 use Rattle.rh_descriptor.specs.Steps.{Allowed, CanPlace, CanSettle, Step, decided_word, entries_of, is_none, next_entries, noted, own_desc, own_mark, size_in}
 use Rattle.rh_rule.specs.Sound.{Sound}
-use Rattle.rh_history.proofs.Learning.{steps_learn}
-use Rattle.rh_history.proofs.Noting.{Follows, a_control_word, a_reading, either}
+use Rattle.rh_run.proofs.Learning.{steps_learn}
+use Rattle.rh_run.proofs.Noting.{Follows, a_control_word, a_reading, either}
 use Rattle.rh_run.specs.Known.{KnowsHeld, NotesMark, NotesOld}
 
 -- ---- steps that place and settle nothing of the worker's own

@@ -1,4 +1,17 @@
--- The acts get keys here. The rounds are joined to one list of acts, and rh_acts says what that list makes of the set.
+-- First the acts of a world become acts on what cells hold. A worker's own step is judged by what is kept of that worker
+-- alone.
+-- Values: what an act of the world makes of the values of the cells.
+-- Happening: what the rule of a table says of the list of its acts at any moment.
+-- Resting: the same where all workers are at rest: the acts of each, and the cells.
+-- Noting: what a worker notes of the words that it reads: note by note, a read that is kept, or debts that are forgotten.
+-- Learning: what a worker knows only grows: its notes and its reads stay in each step.
+-- Finishing: the acts that a worker has finished, from step to step.
+-- Succeeding: a worker's acts in the list of all, at any moment, are its descriptors that succeeded.
+-- Ordered: under the rule what is kept of a worker's descriptors is in order.
+-- Joining: rounds of a table, one after the other.
+-- Filtered: what a filter keeps, where membership is by recursion.
+--
+-- Then the acts get keys. The rounds are joined to one list of acts, and rh_acts says what that list makes of the set.
 -- Stepping: a run goes on by a step of one of its workers: what the step adds to the keys that it has done.
 -- Turning: how a run starts, and how it goes on with a further round.
 -- Standing: what the cells of a run stand for: the acts of all its rounds are a phase over their own keys.
@@ -13,6 +26,16 @@
 -- Alike: a run tells of the workers of its table alone.
 -- Growing: more is read, behind what was read before.
 
+pub mod Values
+pub mod Filtered
+pub mod Happening
+pub mod Joining
+pub mod Noting
+pub mod Learning
+pub mod Finishing
+pub mod Ordered
+pub mod Succeeding
+pub mod Resting
 pub mod Growing
 pub mod Stepping
 pub mod Knowing

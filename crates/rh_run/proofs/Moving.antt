@@ -6,7 +6,7 @@ use Rattle.rh_descriptor.specs.Parts.{IsShape}
 use Rattle.rh_ledger.specs.Phase.{set_after}
 use Rattle.rh_acts.specs.Act.{apply_acts}
 use Rattle.rh_acts.specs.Workers.{LeavesRoom, acts_of}
-use Rattle.rh_history.specs.History.{history}
+use Rattle.rh_run.specs.History.{history}
 use Rattle.rh_run.specs.Laws.{started}
 use Rattle.rh_run.specs.Moves.{AreNext, IsNext, KeepsKeys, Move, NoKeyIsLost, after, after_all}
 use Rattle.rh_run.specs.Run.{Run, RunInvariant}

@@ -27,10 +27,10 @@ use Rattle.rh_acts.specs.Workers.{LeavesRoom, acts_of}
 use Rattle.rh_acts.proofs.ActLemmas.{contains_cases, contains_head, contains_none, contains_tail, contains_take}
 use Rattle.rh_acts.proofs.DoneLemmas.{does_insert, does_removal}
 use Rattle.rh_acts.proofs.Chain.{insertions_grow, removals_shrink}
-use Rattle.rh_history.specs.History.{act_of, history, is_current, is_finished, own_acts_of, world_act}
-use Rattle.rh_history.proofs.Filtered.{from_filtered}
-use Rattle.rh_history.proofs.Happening.{opened_act}
-use Rattle.rh_history.proofs.Values.{act_at, acts_length}
+use Rattle.rh_run.specs.History.{act_of, history, is_current, is_finished, own_acts_of, world_act}
+use Rattle.rh_run.proofs.Filtered.{from_filtered}
+use Rattle.rh_run.proofs.Happening.{opened_act}
+use Rattle.rh_run.proofs.Values.{act_at, acts_length}
 use Rattle.rh_run.specs.Laws.{Reflects}
 use Rattle.rh_run.specs.Run.{DoesOneOf}
 

@@ -24,13 +24,13 @@ use Rattle.rh_acts.proofs.FoldLemmas.{all_kept, all_there, len_part, there_cases
 use Rattle.rh_acts.proofs.InOrder.{acts_are_a_phase}
 use Rattle.rh_acts.proofs.OwnLemmas.{own_among}
 use Rattle.rh_acts.proofs.Told.{does_told}
-use Rattle.rh_history.specs.History.{act_of, history, kept_of, logical_cells, own_acts_of, value_of}
-use Rattle.rh_history.specs.Laws.{HistorySpec, OwnActsSpec}
-use Rattle.rh_history.specs.Rounds.{RoundsSpec}
-use Rattle.rh_history.proofs.Happening.{happened}
-use Rattle.rh_history.proofs.Joining.{rounds_join}
-use Rattle.rh_history.proofs.Succeeding.{own_so_far}
-use Rattle.rh_history.proofs.Values.{cells_length, get_cells}
+use Rattle.rh_run.specs.History.{act_of, history, kept_of, logical_cells, own_acts_of, value_of}
+use Rattle.rh_run.specs.Histories.{HistorySpec, OwnActsSpec}
+use Rattle.rh_run.specs.Rounds.{RoundsSpec}
+use Rattle.rh_run.proofs.Happening.{happened}
+use Rattle.rh_run.proofs.Joining.{rounds_join}
+use Rattle.rh_run.proofs.Succeeding.{own_so_far}
+use Rattle.rh_run.proofs.Values.{cells_length, get_cells}
 use Rattle.rh_run.specs.Laws.{ActsSoFar, MomentSpec, RunMoment, WorkerSpec}
 use Rattle.rh_run.specs.Run.{DoesOneOf, Run, RunInvariant}
 use Rattle.rh_run.specs.Known.{KnowsHeld}

@@ -19,12 +19,12 @@ use Rattle.rh_rule.proofs.StepLaw.{each_step_keeps}
 use Rattle.rh_acts.specs.Act.{Act}
 use Rattle.rh_acts.specs.Done.{Does, IsDone, IsTold, Kept, KeyDone}
 use Rattle.rh_acts.proofs.DoneLemmas.{key_more, more_read, one_more}
-use Rattle.rh_history.specs.History.{act_of, kept_of, opening_cells, own_acts_of, value_of}
-use Rattle.rh_history.specs.OwnActs.{Orderly, StepFinishes}
-use Rattle.rh_history.proofs.Finishing.{steps_finish}
-use Rattle.rh_history.proofs.Happening.{happened}
-use Rattle.rh_history.proofs.Joining.{rounds_follow}
-use Rattle.rh_history.proofs.Learning.{reads_stay}
+use Rattle.rh_run.specs.History.{act_of, kept_of, opening_cells, own_acts_of, value_of}
+use Rattle.rh_run.specs.OwnActs.{Orderly, StepFinishes}
+use Rattle.rh_run.proofs.Finishing.{steps_finish}
+use Rattle.rh_run.proofs.Happening.{happened}
+use Rattle.rh_run.proofs.Joining.{rounds_follow}
+use Rattle.rh_run.proofs.Learning.{reads_stay}
 use Rattle.rh_run.specs.Advance.{Advances, Fails, GoesOn, Opens, Succeeds}
 use Rattle.rh_run.specs.Laws.{RunClaims, RunGathers, RunSteps, WorkerClaims, WorkerSteps, furthered, stepped}
 use Rattle.rh_run.specs.Run.{DoesOneOf, Progress, ProgressInvariant, Run, RunInvariant, also_done, also_told, progress}

@@ -22,11 +22,11 @@ use Rattle.rh_acts.specs.Done.{IsDone, Kept}
 use Rattle.rh_acts.specs.Workers.{Made, acts_of}
 use Rattle.rh_acts.proofs.ActLemmas.{contains_none}
 use Rattle.rh_acts.proofs.OwnLemmas.{none_of_own}
-use Rattle.rh_history.specs.History.{history, kept_of, logical_cells, opening_cells, own_acts_of, value_of}
-use Rattle.rh_history.proofs.Happening.{happened}
-use Rattle.rh_history.proofs.Joining.{rounds_begin, rounds_follow}
-use Rattle.rh_history.proofs.Resting.{at_rest}
-use Rattle.rh_history.proofs.Values.{get_cells}
+use Rattle.rh_run.specs.History.{history, kept_of, logical_cells, opening_cells, own_acts_of, value_of}
+use Rattle.rh_run.proofs.Happening.{happened}
+use Rattle.rh_run.proofs.Joining.{rounds_begin, rounds_follow}
+use Rattle.rh_run.proofs.Resting.{at_rest}
+use Rattle.rh_run.proofs.Values.{get_cells}
 use Rattle.rh_run.specs.Laws.{RunRounds, RunStarts, WorkerStarts, WorkerTurns}
 use Rattle.rh_run.specs.Run.{ProgressInvariant, Run, RunInvariant, progress}
 use Rattle.rh_run.specs.Words.{IsWiped}

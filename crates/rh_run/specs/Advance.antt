@@ -8,8 +8,8 @@ use Rattle.rh_world.specs.Acts.{is_success}
 use Rattle.rh_acts.specs.Done.{Does, IsTold}
 use Rattle.rh_descriptor.specs.declared.shape.Shape.{Shape}
 use Rattle.rh_descriptor.specs.View.{OwnDesc, View, own_ref}
-use Rattle.rh_history.specs.History.{act_of, kept_of}
-use Rattle.rh_history.specs.OwnActs.{Closes}
+use Rattle.rh_run.specs.History.{act_of, kept_of}
+use Rattle.rh_run.specs.OwnActs.{Closes}
 
 -- no own descriptor was opened or closed
 pub record GoesOn (v next : View) : Type 0 where

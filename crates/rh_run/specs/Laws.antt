@@ -22,7 +22,7 @@ use Rattle.rh_rule.specs.Wipes.{row_total}
 use Rattle.rh_acts.specs.Act.{Act, AllMeet, apply_acts, changes}
 use Rattle.rh_acts.specs.Done.{IsDone, Kept, WereTrue}
 use Rattle.rh_acts.specs.Workers.{AreOf, LeavesRoom, Made, acts_of, counted, joined, own, piece, sum_of_all}
-use Rattle.rh_history.specs.History.{history, kept_of, own_acts_of, value_of}
+use Rattle.rh_run.specs.History.{history, kept_of, own_acts_of, value_of}
 use Rattle.rh_run.specs.Advance.{Advances}
 use Rattle.rh_run.specs.Known.{KnowsHeld}
 use Rattle.rh_run.specs.Run.{Progress, ProgressInvariant, Run, RunInvariant, also_done, also_told, progress}

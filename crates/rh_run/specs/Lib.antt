@@ -1,7 +1,11 @@
 pub mod Advance
 pub mod Claimed
+pub mod Histories
+pub mod History
 pub mod Known
 pub mod Laws
 pub mod Moves
+pub mod OwnActs
+pub mod Rounds
 pub mod Run
 pub mod Words

@@ -10,8 +10,8 @@ use Rattle.rh_rule.specs.Core.{Core}
 use Rattle.rh_acts.specs.Act.{Act, AllMeet, apply_acts}
 use Rattle.rh_acts.specs.Done.{Does, IsDone, Kept, WereTrue}
 use Rattle.rh_acts.specs.Workers.{Made, AreOf, acts_of, own}
-use Rattle.rh_history.specs.History.{act_of, kept_of, opening_cells, own_acts_of}
-use Rattle.rh_history.specs.OwnActs.{Orderly}
+use Rattle.rh_run.specs.History.{act_of, kept_of, opening_cells, own_acts_of}
+use Rattle.rh_run.specs.OwnActs.{Orderly}
 use Rattle.rh_run.specs.Known.{KnowsHeld}
 
 -- ---- the keys that are done, and what was told of each

@@ -16,7 +16,7 @@ use Rattle.rh_rule.specs.Represents.{HasItsRow, word_at}
 use Rattle.rh_rule.specs.Rest.{is_noted_success}
 use Rattle.rh_rule.specs.Wipes.{row_total}
 use Rattle.rh_acts.specs.Act.{Act}
-use Rattle.rh_history.specs.History.{act_of, cells_of, value_of}
+use Rattle.rh_run.specs.History.{act_of, cells_of, value_of}
 use Rattle.rh_run.specs.Known.{NotesOld}
 
 -- ---- what a cell stands for

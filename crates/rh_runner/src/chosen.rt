@@ -14,7 +14,7 @@ ghost use Rattle.rh_runner.specs.Lists.{Tells, is_wanted, chosen};
 use crate::fault::ListFault;
 use crate::lists::{NONE_YET, phase_room};
 use crate::runner::{PhaseFault, Runner};
-use rh_files::KeySource;
+use rh_key_files::KeySource;
 use rh_ledger::{Kind, Tally, joined};
 use std::alloc::Global;
 use std::sync::Wait;

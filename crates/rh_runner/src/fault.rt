@@ -1,7 +1,7 @@
 //! Why a list was not gone through.
 
 use crate::runner::PhaseFault;
-use rh_files::KeyFault;
+use rh_key_files::KeyFault;
 use std::alloc::AllocError;
 use thiserror::Error;
 

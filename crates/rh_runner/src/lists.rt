@@ -3,14 +3,14 @@
 ghost use Rattle.std.specs.Prelude.{◌≡◌, ◌≢◌, ◌+◌, ◌^◌, ◌<◌, ℕ, List, Some, IfOk, IfErr, OnOk, length};
 ghost use Rattle.std.specs.FinSet as set;
 ghost use Rattle.rh_layout.specs.Layout.{IsLayout, keys_of};
-ghost use Rattle.rh_files.specs.Source.{FaultComes};
+ghost use Rattle.rh_key_files.specs.Source.{FaultComes};
 ghost use Rattle.rh_ledger.specs.Phase.{looked_up};
 ghost use Rattle.rh_runner.specs.Lists.{Took, Ran, Refused, Tells, may_add};
 
 use crate::fault::ListFault;
 use crate::runner::{PhaseFault, Runner};
-use rh_files::{KeyFault, KeySource, MAX_KEYS};
 use rh_grow::{LOAD_DENOMINATOR, LOAD_NUMERATOR};
+use rh_key_files::{KeyFault, KeySource, MAX_KEYS};
 use rh_layout::MAX_BITS;
 use rh_ledger::{Kind, Tally, joined};
 use std::alloc::{AllocError, Global};

@@ -1,5 +1,5 @@
 use rh_faulty::{FaultyWriter, Refusal};
-use rh_files::{Counted, WriteFault};
+use rh_key_files::{Counted, WriteFault};
 use rh_report::*;
 use std::test::*;
 

@@ -4,9 +4,9 @@ use Rattle.std.specs.Prelude.{IsErrOf, slice_index}
 use Rattle.std.proofs.Math.Pow.{pow_mono}
 use Rattle.std.proofs.lemmas.Bool.{cases_Bool}
 use Rattle.rh_layout.specs.declared.limits.TheConstants.{MAX_BITS}
-use Rattle.rh_files.specs.Reading.{begins_with_bytes}
-use Rattle.rh_files.specs.Taking.{TakesAtMost}
-use Rattle.rh_files.proofs.Taking.{takes_of_unknown, takes_fewer, takes_then, takes_both}
+use Rattle.rh_key_files.specs.Reading.{begins_with_bytes}
+use Rattle.rh_key_files.specs.Taking.{TakesAtMost}
+use Rattle.rh_key_files.proofs.Taking.{takes_of_unknown, takes_fewer, takes_then, takes_both}
 use Rattle.rh_snapshot.specs.declared.version.Version.{Version}
 use Rattle.rh_snapshot.specs.declared.version.Version.TheVariants.{First, Second}
 use Rattle.rh_snapshot.specs.declared.header.Header.{Header}

@@ -17,9 +17,9 @@ use Rattle.rh_layout.specs.declared.limits.TheConstants.{MIN_BITS, MAX_BITS}
 use Rattle.rh_layout.specs.Layout.{IsLayout, keys_of}
 use Rattle.rh_layout.proofs.CountLemmas.{count_of_layout}
 use Rattle.rh_layout.proofs.TestLemmas.{layout_decided}
-use Rattle.rh_files.specs.KeyFile.{eight_bytes}
-use Rattle.rh_files.specs.Reading.{is_byte, begins_with_bytes}
-use Rattle.rh_files.proofs.Spelled.{begins, bytes_below, spelled_bytes}
+use Rattle.rh_key_files.specs.KeyFile.{eight_bytes}
+use Rattle.rh_key_files.specs.Reading.{is_byte, begins_with_bytes}
+use Rattle.rh_key_files.proofs.Spelled.{begins, bytes_below, spelled_bytes}
 use Rattle.rh_snapshot.specs.declared.version.Version.{Version}
 use Rattle.rh_snapshot.specs.declared.version.Version.TheVariants.{First, Second}
 use Rattle.rh_snapshot.specs.declared.header.Header.{Header}

@@ -1,4 +1,4 @@
--- A snapshot is read by steps, as a key file is in rh_files; its numbers are hashed as they come, and then the seal is
+-- A snapshot is read by steps, as a key file is in rh_key_files; its numbers are hashed as they come, and then the seal is
 -- tested.
 -- Reader: reading from a reader, one step after another.
 -- Steps: the steps of the header.

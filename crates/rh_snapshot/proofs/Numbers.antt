@@ -1,6 +1,6 @@
 -- Numbers one after the other, and their hash.
 use Rattle.std.proofs.Common.{◌≡◌, ℕ, suc, ◌+◌, ◌-◌, ◌<◌, List, [], ◌∷◌, ◌++◌, Option, Some, None, Result, Ok, Err, refl, sym, ap, ◌∙◌, subst, arith, append_assoc, append-nil}
-use Rattle.rh_files.specs.KeyFile.{eight_bytes}
+use Rattle.rh_key_files.specs.KeyFile.{eight_bytes}
 use Rattle.rh_snapshot.specs.declared.header.Header.{Header}
 use Rattle.rh_snapshot.specs.declared.fault.SnapFault.{SnapFault}
 use Rattle.rh_snapshot.specs.Snapshot.{spelled_header, spelled_numbers, text_of}

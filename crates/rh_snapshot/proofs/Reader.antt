@@ -2,7 +2,7 @@
 use Rattle.std.proofs.Common.{◌≡◌, ℕ, ◌≤◌, ◌<◌, List, ◌++◌, length, take, get_or, Option, Some, None, Result, Ok, Err, refl, ap, ◌∙◌, arith, append-nil}
 use Rattle.std.proofs.lemmas.List.{take_at, drop_at, length-take, take_all}
 use Rattle.std.specs.Io.KnownBytes.{Consumes, IsAtEnd}
-use Rattle.rh_files.proofs.Spelled.{are_bytes, begins, begins_not}
+use Rattle.rh_key_files.proofs.Spelled.{are_bytes, begins, begins_not}
 use Rattle.rh_snapshot.specs.declared.fault.SnapFault.{SnapFault}
 use Rattle.rh_snapshot.specs.declared.fault.SnapFault.TheVariants as faults
 use Rattle.rh_snapshot.specs.declared.fault.SnapFault.TheVariants.{NotSnapshot, Short, BadBits, Damaged, NotALayout, Long}

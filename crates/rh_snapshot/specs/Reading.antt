@@ -6,7 +6,7 @@ use Rattle.sha2.specs.Sha256.{sha256}
 use Rattle.rh_layout.specs.declared.limits.TheConstants.{MIN_BITS}
 use Rattle.rh_layout.specs.Key.{is_full}
 use Rattle.rh_layout.specs.Test.{layout_test}
-use Rattle.rh_files.specs.Reading.{begins_with_bytes}
+use Rattle.rh_key_files.specs.Reading.{begins_with_bytes}
 use Rattle.rh_snapshot.specs.declared.version.Version.{Version}
 use Rattle.rh_snapshot.specs.declared.version.Version.TheVariants.{First, Second}
 use Rattle.rh_snapshot.specs.declared.header.Header.{Header}

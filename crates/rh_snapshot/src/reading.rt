@@ -3,8 +3,8 @@
 ghost use Rattle.std.specs.Prelude.{◌≡◌, ◌≢◌, ◌<◌, ◌^◌, Err, IfOk, IsErrOf};
 ghost use Rattle.std.specs.FinSet as set;
 ghost use Rattle.rh_layout.specs.Layout.{IsLayout, keys_of};
-ghost use Rattle.rh_files.specs.Counting.{Rose, failures_of, inner_of};
-ghost use Rattle.rh_files.specs.Taking.{TakesAtMost};
+ghost use Rattle.rh_key_files.specs.Counting.{Rose, failures_of, inner_of};
+ghost use Rattle.rh_key_files.specs.Taking.{TakesAtMost};
 ghost use Rattle.rh_snapshot.specs.Limits.{TakesOfFile, fault_of, most_bytes};
 ghost use Rattle.rh_snapshot.specs.Reading.{BeginsWithHeader, IsReadFrom, Reads, file_table};
 ghost use Rattle.rh_snapshot.specs.Reading.{table_as};
@@ -13,7 +13,7 @@ use crate::cells::table_in;
 use crate::fault::SnapFault;
 use crate::parts::{read_end, read_header, read_numbers, read_seal};
 use crate::snapshot::Snapshot;
-use rh_files::Counted;
+use rh_key_files::Counted;
 use std::alloc::Global;
 use std::io::Read;
 

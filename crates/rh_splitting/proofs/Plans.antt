@@ -3,8 +3,8 @@ use Rattle.std.proofs.Common.{◌≡◌, ℕ, zero, suc, ◌+◌, List, [], ◌�
 use Rattle.std.specs.Prelude.{slice_get}
 use Rattle.std.specs.Io.KnownBytes.{Appends}
 use Rattle.std.proofs.KnownBytes.{Appends-trans}
-use Rattle.rh_files.specs.Counting.{AppendsFront}
-use Rattle.rh_files.proofs.Writing.{front_stops}
+use Rattle.rh_key_files.specs.Counting.{AppendsFront}
+use Rattle.rh_key_files.proofs.Writing.{front_stops}
 use Rattle.rh_splitting.specs.declared.part.Part.{Part}
 use Rattle.rh_splitting.specs.Parts.{count_of}
 use Rattle.rh_splitting.specs.Plan.{line_of, lines_from, plan_text}

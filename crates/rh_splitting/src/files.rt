@@ -5,7 +5,7 @@ ghost use Rattle.std.specs.Prelude.{◌≤◌, length};
 use crate::fault::FilesFault;
 use crate::part::Part;
 use crate::source::{Source, split_source};
-use rh_files::{Counted, write_header};
+use rh_key_files::{Counted, write_header};
 use std::alloc::Global;
 use std::fs::{self, Files, OpenFile};
 use std::io::{self, BufWriter, ErrorKind, Read, Seek, SeekFrom, Write};

@@ -2,9 +2,9 @@
 
 ghost use Rattle.std.specs.Prelude.{◌≤◌, ◌++◌, ℕ, List, All, length};
 ghost use Rattle.rh_layout.specs.Key.{IsKey};
-ghost use Rattle.rh_files.specs.KeyFile.{KeyFile, header, spelled_keys};
-ghost use Rattle.rh_files.specs.declared.parts.TheConstants.{MAX_KEYS};
-ghost use Rattle.rh_files.specs.declared.version.Version.TheVariants.{Second};
+ghost use Rattle.rh_key_files.specs.KeyFile.{KeyFile, header, spelled_keys};
+ghost use Rattle.rh_key_files.specs.declared.parts.TheConstants.{MAX_KEYS};
+ghost use Rattle.rh_key_files.specs.declared.version.Version.TheVariants.{Second};
 ghost use Rattle.rh_ranges.specs.Ranges.{in_part};
 
 /// The header of as many keys as a part of a list has, and these keys, are the key file of the part.

@@ -1,10 +1,10 @@
 //! One part of a list that is split.
 
 ghost use Rattle.std.specs.Prelude.{◌≤◌};
-ghost use Rattle.rh_files.specs.declared.parts.TheConstants.{MAX_KEYS};
+ghost use Rattle.rh_key_files.specs.declared.parts.TheConstants.{MAX_KEYS};
 
 use byteorder::{BigEndian, ByteOrder};
-use rh_files::{Counted, MAX_KEYS, WriteFault, write_header, write_texts};
+use rh_key_files::{Counted, MAX_KEYS, WriteFault, write_header, write_texts};
 use std::io::Write;
 
 /// Why a part did not take a key.
@@ -25,7 +25,7 @@ pub struct Part<W> {
 
 impl<W> Part<W> {
     ghost use Rattle.std.specs.Prelude.{◌≡◌, ◌≤◌};
-    ghost use Rattle.rh_files.specs.Counting.{failures_of, inner_of};
+    ghost use Rattle.rh_key_files.specs.Counting.{failures_of, inner_of};
     ghost use Rattle.rh_splitting.specs.Parts.{count_of, writer_of};
 
     /// A part that was given no key.
@@ -59,9 +59,9 @@ impl<W> Part<W> {
 impl<W: Write> Part<W> {
     ghost use Rattle.std.specs.Prelude.{◌≡◌, [], ◌∷◌, IfOk, IsErrOf, OnOk};
     ghost use Rattle.std.specs.Io.KnownBytes.{Appends};
-    ghost use Rattle.rh_files.specs.Counting.{Rose, failures_of, inner_of};
-    ghost use Rattle.rh_files.specs.KeyFile.{header};
-    ghost use Rattle.rh_files.specs.declared.version.Version.TheVariants.{Second};
+    ghost use Rattle.rh_key_files.specs.Counting.{Rose, failures_of, inner_of};
+    ghost use Rattle.rh_key_files.specs.KeyFile.{header};
+    ghost use Rattle.rh_key_files.specs.declared.version.Version.TheVariants.{Second};
     ghost use Rattle.rh_splitting.specs.Parts.{Got, count_of, writer_of};
 
     /// A part that was given no key, with room for the header of its key file.

@@ -4,7 +4,7 @@ ghost use Rattle.std.specs.Prelude.{◌≡◌, ◌++◌, OnOk};
 ghost use Rattle.rh_svg.specs.Markup.{Draws, escaped, escaped_byte, labelled, leaf, text_of};
 
 use crate::tags::{Tag, close, open};
-use rh_play_report::push_texts;
+use rh_play::push_texts;
 use std::alloc::AllocError;
 
 // Appends a text so that it has no markup.

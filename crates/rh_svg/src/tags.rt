@@ -1,7 +1,7 @@
 //! The tags of the elements.
 
 ghost use Rattle.std.specs.Prelude.{◌≡◌};
-ghost use Rattle.rh_play_report.specs.Appending.{Prints};
+ghost use Rattle.rh_play.specs.Appending.{Prints};
 ghost use Rattle.rh_svg.specs.Tags.{end_tag, name, start_tag};
 ghost use Rattle.rh_svg.specs.declared.tags.Tag.TheVariants.{Box, Dot, Label, Line, Mark, Outline, Svg};
 
@@ -9,7 +9,7 @@ use crate::looks::Look;
 use crate::outlines::{outline, reference};
 use itoa::Buffer;
 use rh_descriptor::StepKind;
-use rh_play_report::{kind_word, push_texts};
+use rh_play::{kind_word, push_texts};
 use std::alloc::AllocError;
 
 /// The vocabulary of the elements.

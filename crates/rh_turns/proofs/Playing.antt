@@ -30,7 +30,7 @@ use Rattle.rh_run.specs.Claimed.{claimed}
 use Rattle.rh_run.proofs.Saying.{logical_words, words_lead_inside}
 use Rattle.rh_run.proofs.Standing.{run_moment}
 use Rattle.rh_run.specs.Laws.{MomentSpec}
-use Rattle.rh_history.specs.History.{history}
+use Rattle.rh_run.specs.History.{history}
 use Rattle.rh_turns.specs.declared.hand.Hand.{Hand}
 use Rattle.rh_turns.specs.declared.hand.Share.{Share}
 use Rattle.rh_turns.specs.declared.hand.Share.TheVariants.{Piece, Claims}

@@ -15,7 +15,7 @@ use Rattle.rh_rule.specs.Wipes.{row_total}
 use Rattle.rh_acts.specs.Workers.{LeavesRoom, how_many, sum_of_all, tally_by}
 use Rattle.rh_steps.specs.Relies.{Relies, Serves, Shows}
 use Rattle.rh_worker.specs.Worker.{IsBusy, IsWorker}
-use Rattle.rh_history.specs.History.{history}
+use Rattle.rh_run.specs.History.{history}
 use Rattle.rh_run.specs.Laws.{MomentSpec}
 use Rattle.rh_run.specs.Words.{AreNow, IsWiped, cells_held}
 use Rattle.rh_turns.specs.declared.hand.Hand.{Hand}

@@ -4,7 +4,7 @@ use Rattle.rh_world.specs.World.{Ref}
 use Rattle.rh_descriptor.specs.declared.shape.Shape.{Shape}
 use Rattle.rh_descriptor.specs.View.{View, new_view}
 use Rattle.rh_descriptor.specs.Words.{IsPlain, cell_in}
-use Rattle.rh_history.specs.History.{value_of}
+use Rattle.rh_run.specs.History.{value_of}
 use Rattle.rh_run.specs.Known.{NotesOld}
 use Rattle.rh_run.specs.Words.{Holds, IsLogicalWord, LeadsInside}
 use Rattle.rh_worker.specs.Worker.{IsWorker}

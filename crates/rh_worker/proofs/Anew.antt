@@ -11,7 +11,7 @@ use Rattle.rh_acts.proofs.ActLemmas.{contains_head}
 use Rattle.rh_run.specs.Advance.{GoesOn}
 use Rattle.rh_layout.specs.Round.{cell_ahead}
 use Rattle.rh_layout.specs.Order.{home_of}
-use Rattle.rh_history.specs.History.{kept_of, value_of}
+use Rattle.rh_run.specs.History.{kept_of, value_of}
 use Rattle.rh_descriptor.specs.declared.shape.Shape.{Shape}
 use Rattle.rh_descriptor.specs.Parts.{cell_count}
 use Rattle.rh_descriptor.specs.View.{View}

@@ -8,9 +8,9 @@ use Rattle.rh_world.specs.Notes.Note.{decided}
 use Rattle.rh_world.specs.Acts.{is_success}
 use Rattle.rh_ledger.specs.declared.tally.Kind.{Kind}
 use Rattle.rh_acts.specs.Done.{Does}
-use Rattle.rh_history.specs.History.{act_of}
-use Rattle.rh_history.specs.OwnActs.{Closes}
-use Rattle.rh_history.proofs.Learning.{steps_grow}
+use Rattle.rh_run.specs.History.{act_of}
+use Rattle.rh_run.specs.OwnActs.{Closes}
+use Rattle.rh_run.proofs.Learning.{steps_grow}
 use Rattle.rh_descriptor.specs.declared.steps.StepKind.{StepKind}
 use Rattle.rh_helping.specs.Next.Outcome.{Closed}
 use Rattle.rh_helping.specs.declared.machine.Ended.{Ended}

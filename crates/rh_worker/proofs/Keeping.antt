@@ -7,8 +7,8 @@ use Rattle.rh_tagword.specs.Word.{IsValue, plain_number}
 use Rattle.rh_acts.specs.Done.{Kept, kept}
 use Rattle.rh_acts.proofs.ActLemmas.{contains_head}
 use Rattle.rh_world.specs.Sides.{KeptRead, claim_side}
-use Rattle.rh_history.specs.History.{kept_of, value_of}
-use Rattle.rh_history.proofs.Learning.{reads_stay}
+use Rattle.rh_run.specs.History.{kept_of, value_of}
+use Rattle.rh_run.proofs.Learning.{reads_stay}
 use Rattle.rh_descriptor.specs.declared.shape.Shape.{Shape}
 use Rattle.rh_descriptor.specs.declared.steps.StepKind.{StepKind}
 use Rattle.rh_descriptor.specs.Parts.{cell_count}

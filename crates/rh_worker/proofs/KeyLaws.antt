@@ -5,9 +5,9 @@ use Rattle.rh_ledger.specs.declared.tally.Kind.{Kind}
 use Rattle.rh_descriptor.specs.declared.shape.Shape.{Shape}
 use Rattle.rh_descriptor.specs.View.{View}
 use Rattle.rh_rule.specs.Sound.{Sound}
-use Rattle.rh_history.specs.History.{act_of, own_acts_of}
-use Rattle.rh_history.specs.OwnActs.{StepFinishes}
-use Rattle.rh_history.proofs.Finishing.{steps_finish}
+use Rattle.rh_run.specs.History.{act_of, own_acts_of}
+use Rattle.rh_run.specs.OwnActs.{StepFinishes}
+use Rattle.rh_run.proofs.Finishing.{steps_finish}
 use Rattle.rh_run.specs.Advance.{Advances, GoesOn}
 use Rattle.rh_worker.specs.Laws.{AfterStep, KeyIsDone, KeysAreDone}
 

@@ -8,7 +8,7 @@ use Rattle.rh_ledger.specs.declared.tally.Kind.TheVariants.{Insert, Remove, Ask}
 use Rattle.rh_world.proofs.Updated.{same_nat}
 use Rattle.rh_layout.specs.declared.entry.Entry.{Entry}
 use Rattle.rh_acts.specs.Done.{IsTold, Kept, kept}
-use Rattle.rh_history.specs.History.{kept_of}
+use Rattle.rh_run.specs.History.{kept_of}
 use Rattle.rh_descriptor.specs.declared.shape.Shape.{Shape}
 use Rattle.rh_descriptor.specs.Parts.{cell_count}
 use Rattle.rh_descriptor.specs.View.{View}

@@ -6,8 +6,8 @@ use Rattle.rh_acts.specs.Done.{KeyDone}
 use Rattle.rh_descriptor.specs.declared.shape.Shape.{Shape}
 use Rattle.rh_descriptor.specs.View.{View}
 use Rattle.rh_rule.specs.Sound.{Sound}
-use Rattle.rh_history.specs.History.{kept_of, own_acts_of}
-use Rattle.rh_history.specs.OwnActs.{Orderly}
+use Rattle.rh_run.specs.History.{kept_of, own_acts_of}
+use Rattle.rh_run.specs.OwnActs.{Orderly}
 use Rattle.rh_run.specs.Advance.{Advances}
 use Rattle.rh_worker.specs.Makes.{Moves}
 

@@ -21,8 +21,8 @@ use Rattle.rh_helping.specs.Opening.{IsOpening, kind_of_opening}
 use Rattle.rh_helping.specs.Work.{Stands, kind_of_work}
 use Rattle.rh_helping.specs.Machine.{looking_of, work_of}
 use Rattle.rh_helping.specs.declared.machine.Machine.{Machine}
-use Rattle.rh_history.specs.History.{kept_of}
-use Rattle.rh_history.specs.OwnActs.{Closes}
+use Rattle.rh_run.specs.History.{kept_of}
+use Rattle.rh_run.specs.OwnActs.{Closes}
 use Rattle.rh_worker.specs.Deciding.{IsPlan}
 use Rattle.rh_worker.specs.ScanBuffer.{HasRoom}
 use Rattle.rh_worker.specs.declared.stage.Plan.{Plan}

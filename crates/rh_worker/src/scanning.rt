@@ -9,7 +9,7 @@ ghost use Rattle.rh_worker.specs.Worker.{IsAt, IsWorker, KeepsKey};
 ghost use Rattle.rh_worker.specs.declared.stage.Stage.TheVariants as stage;
 ghost use Rattle.rh_acts.specs.Done.{IsTold, Kept};
 ghost use Rattle.rh_worker.specs.Reading.{HasRead, IsToldAnew, ReadsAnew, TellsAnew, seen_at};
-ghost use Rattle.rh_history.specs.History.{kept_of};
+ghost use Rattle.rh_run.specs.History.{kept_of};
 ghost use Rattle.rh_helping.specs.Goal.{IsClear};
 ghost use Rattle.rh_helping.specs.Looking.{kind_of_looking};
 ghost use Rattle.rh_helping.specs.Machine.{looking_of};

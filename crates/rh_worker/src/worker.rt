@@ -13,7 +13,7 @@ ghost use Rattle.rh_steps.specs.Relies.{Relies, Went};
 ghost use Rattle.rh_worker.specs.Worker.{EndsAt, GivesUp, IsBusy, IsWorker, KeepsKey};
 ghost use Rattle.rh_worker.specs.Reading.{ReadsAnew, TellsAnew};
 ghost use Rattle.rh_acts.specs.Done.{Kept};
-ghost use Rattle.rh_history.specs.History.{kept_of};
+ghost use Rattle.rh_run.specs.History.{kept_of};
 ghost use Rattle.rh_helping.specs.Held.{IsHeld};
 ghost use Rattle.rh_worker.specs.declared.stage.Stage.TheVariants as stage;
 

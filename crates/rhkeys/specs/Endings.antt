@@ -2,18 +2,18 @@
 use Rattle.rh_cli.specs.Endings.{ending_by as ending_by_program}
 use Rattle.rh_cli.specs.declared.status.Status.{Status}
 use Rattle.rh_cli.specs.declared.status.Status.TheVariants.{Refused, CommandLine, Memory, Write}
-use Rattle.rh_files.specs.declared.fault.KeyFault.{KeyFault}
-use Rattle.rh_files.specs.declared.fault.KeyFault.TheVariants as keys
+use Rattle.rh_key_files.specs.declared.fault.KeyFault.{KeyFault}
+use Rattle.rh_key_files.specs.declared.fault.KeyFault.TheVariants as keys
 use Rattle.rh_snapshot.specs.declared.fault.SnapFault.{SnapFault}
 use Rattle.rh_snapshot.specs.declared.fault.SnapFault.TheVariants as snap
 use Rattle.rh_numbers.specs.declared.fault.TextFault.{TextFault}
 use Rattle.rh_numbers.specs.declared.fault.TextFault.TheVariants as text
 use Rattle.rh_shelf.specs.declared.shelf.ShelfFault.TheVariants as shelf
-use Rattle.rh_packing.specs.declared.files.FileFault.{FileFault}
-use Rattle.rh_packing.specs.declared.files.FileFault.TheVariants as file
-use Rattle.rh_packing.specs.declared.packing.PackFault.TheVariants as pack
-use Rattle.rh_packing.specs.declared.listing.ListFault.TheVariants as list
-use Rattle.rh_packing.specs.declared.snapshot.HeldFault.TheVariants as held
+use Rattle.rh_commands.specs.declared.files.FileFault.{FileFault}
+use Rattle.rh_commands.specs.declared.files.FileFault.TheVariants as file
+use Rattle.rh_commands.specs.declared.packing.PackFault.TheVariants as pack
+use Rattle.rh_commands.specs.declared.listing.ListFault.TheVariants as list
+use Rattle.rh_commands.specs.declared.snapshot.HeldFault.TheVariants as held
 use Rattle.rh_splitting.specs.declared.fault.FilesFault.{FilesFault}
 use Rattle.rh_splitting.specs.declared.fault.FilesFault.TheVariants as files
 use Rattle.rh_splitting.specs.declared.fault.SplitFault.TheVariants as split

@@ -12,8 +12,8 @@ use rh_cli::keys_line::{Line, line};
 use rh_cli::{
     LineFault, ProgramFault, Status, answer, buffered_reader, buffered_writer, words, write_out,
 };
-use rh_files::{Counted, KeyFault};
-use rh_packing::{FaultAt, FileFault, Form, list_files, list_keys, list_snapshot, pack};
+use rh_commands::{FaultAt, FileFault, Form, list_files, list_keys, list_snapshot, pack};
+use rh_key_files::{Counted, KeyFault};
 use rh_shelf::{FileShelf, ShelfFault};
 use rh_snapshot::SnapFault;
 use rh_splitting::{FilesFault, Part, PartFiles, Source, is_name, split_source, write_plan};

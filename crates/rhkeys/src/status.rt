@@ -4,9 +4,9 @@ ghost use Rattle.std.specs.Prelude.{◌≡◌};
 ghost use Rattle.rhkeys.specs.Endings.{ending_by_file, ending_by_keys, ending_by_snapshot, ending_by_split};
 
 use rh_cli::{ProgramFault, Status};
-use rh_files::KeyFault;
+use rh_commands::{FileFault, HeldFault, ListFault, PackFault};
+use rh_key_files::KeyFault;
 use rh_numbers::TextFault;
-use rh_packing::{FileFault, HeldFault, ListFault, PackFault};
 use rh_shelf::ShelfFault;
 use rh_snapshot::SnapFault;
 use rh_splitting::{FilesFault, SplitFault};

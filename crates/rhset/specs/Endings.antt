@@ -10,8 +10,8 @@ use Rattle.rh_operations.specs.declared.cause.Cause.{Cause}
 use Rattle.rh_operations.specs.declared.cause.Cause.TheVariants as causes
 use Rattle.rh_play.specs.declared.fault.PlayTextKind.{PlayTextKind}
 use Rattle.rh_play.specs.declared.fault.PlayTextKind.TheVariants as texts
-use Rattle.rh_player.specs.declared.fault.PlayFault.{PlayFault}
-use Rattle.rh_player.specs.declared.fault.PlayFault.TheVariants as starts
+use Rattle.rh_stepper.specs.declared.fault.PlayFault.{PlayFault}
+use Rattle.rh_stepper.specs.declared.fault.PlayFault.TheVariants as starts
 use Rattle.rh_play_run.specs.declared.fault.PlayRunFault.{PlayRunFault}
 use Rattle.rh_play_run.specs.declared.fault.PlayRunFault.TheVariants as plays
 use Rattle.rh_play_run.specs.declared.draw_fault.DrawFault.TheVariants as draw

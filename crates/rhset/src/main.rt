@@ -15,7 +15,7 @@ use rh_cli::{
     LineFault, ProgramFault, Status, answer, buffered_reader, buffered_writer, words, write_out,
 };
 use rh_commands::{check_snapshot, dump_keys};
-use rh_files::Counted;
+use rh_key_files::Counted;
 use rh_play_run::{Telling, draw_play, tell_play};
 use script::run_script;
 use status::Fault;

@@ -5,12 +5,12 @@ ghost use Rattle.rhset.specs.Endings.{ending_by, ending_by_play};
 
 use rh_cli::{ProgramFault, Status};
 use rh_commands::{CheckFault, DumpFault};
-use rh_planner::{Cause, RunFault};
 use rh_play::PlayTextKind;
 use rh_play_run::{DrawFault, PlayRunFault};
-use rh_player::PlayFault;
 use rh_script::{ScriptFault, ScriptFaultKind};
+use rh_script_run::{Cause, RunFault};
 use rh_snapshot::SnapFault;
+use rh_stepper::PlayFault;
 use thiserror::Error;
 
 /// Why a run ends early, in the words that the user is told.

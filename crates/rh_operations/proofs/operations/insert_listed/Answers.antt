@@ -1,7 +1,7 @@
 use Rattle.std.proofs.Common.{◌∙◌, ◌+◌, ◌^◌, ◌<◌, ap, arith, inl, length, subst, sym}
 use Rattle.std.proofs.lemmas.Result.{err_from_is_err_and}
-use Rattle.rh_files.specs.Counting.{Rose}
-use Rattle.rh_files.specs.Stream.{coming_of}
+use Rattle.rh_key_files.specs.Counting.{Rose}
+use Rattle.rh_key_files.specs.Stream.{coming_of}
 use Rattle.rh_operations.specs.Found.{keys_found}
 use Rattle.rh_operations.specs.KeyLists.{bytes_at, bytes_left}
 use Rattle.rh_operations.proofs.AgainLemmas.{again_refused, gave, is_again, not_again, not_opened}

@@ -1,7 +1,7 @@
 use Rattle.std.proofs.Common.{◌≡◌, ◌∙◌, ◌++◌, [], ap, sym, length, rules}
 use Rattle.rh_edit.specs.Rising.{rising_keys}
-use Rattle.rh_files.specs.declared.version.Version.TheVariants.{Second}
-use Rattle.rh_files.specs.KeyFile.{spelling}
+use Rattle.rh_key_files.specs.declared.version.Version.TheVariants.{Second}
+use Rattle.rh_key_files.specs.KeyFile.{spelling}
 use Rattle.rh_operations.proofs.SavedLemmas.{spelled_in_memory}
 use Rattle.rh_operations.proofs.operations.saved.Goals as goal
 

@@ -1,7 +1,7 @@
 use Rattle.std.proofs.Common.{◌≡◌, ◌<◌, ◌≤◌, ℕ, length}
 use Rattle.std.specs.Prelude.{slice_index}
 use Rattle.rh_tagword.specs.Word.{IsValue}
-use Rattle.rh_history.specs.History.{kept_of}
+use Rattle.rh_run.specs.History.{kept_of}
 use Rattle.rh_kcas.specs.Rests.{Rests}
 use Rattle.rh_rdcss.specs.Calls.{IsSame, view_of}
 use Rattle.rh_worker.specs.Reading.{HasRead}

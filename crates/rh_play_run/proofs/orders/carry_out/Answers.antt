@@ -11,7 +11,7 @@ returns-in_ok-last-in-Turn c =
 pub returns-in_ok-last-in-Until : goal.returns-in_ok-last-in-Until
 returns-in_ok-last-in-Until c =
     let turns = c.in_ok-last-in-Until.ensures in
-    told_of _ _ _ _ turns.0 _ _ _ _ _ c.in-Until.is turns.2 refl refl refl c.push_until.ensures (until_order _ _ _ _ _ turns.0 _ c.step_kind-kind.ensures.kind turns.1)
+    told_of _ _ _ _ turns.0 _ _ _ _ _ c.in-Until.is turns.2 refl refl refl c.push_until.ensures (until_order _ _ _ _ turns.0 _ turns.1)
 
 pub returns-in_ok-rest-in-Rest : goal.returns-in_ok-rest-in-Rest
 returns-in_ok-rest-in-Rest c =

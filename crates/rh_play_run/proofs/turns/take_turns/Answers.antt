@@ -1,5 +1,5 @@
 use Rattle.std.proofs.Common.{◌≡◌, ℕ, suc, ◌+◌, List, [], ◌++◌, append-nil, append_assoc, arith, subst, sym}
-use Rattle.rh_play_report.specs.declared.endings.Last.TheVariants.{Limit}
+use Rattle.rh_play.specs.declared.endings.Last.TheVariants.{Limit}
 use Rattle.rh_play_run.specs.Pieces.{Piece}
 use Rattle.rh_play_run.specs.Schedule.{TurnsOf}
 use Rattle.rh_play_run.proofs.Following.{no_turns, nothing_told, one_turn_more, then_tells}

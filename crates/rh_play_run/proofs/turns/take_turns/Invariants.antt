@@ -1,7 +1,7 @@
 use Rattle.std.proofs.Common.{◌≡◌, ℕ, ◌+◌, List, ◌++◌}
 use Rattle.rh_turns.specs.Game.{Game}
-use Rattle.rh_play_report.specs.declared.endings.Last.{Last}
-use Rattle.rh_play_report.specs.declared.endings.Last.TheVariants.{Limit}
+use Rattle.rh_play.specs.declared.endings.Last.{Last}
+use Rattle.rh_play.specs.declared.endings.Last.TheVariants.{Limit}
 use Rattle.rh_play_run.specs.Pieces.{Piece, Tells}
 use Rattle.rh_play_run.specs.Schedule.{TurnsOf}
 use Rattle.rh_play_run.proofs.turns.take_turns.Given as goal

@@ -1,6 +1,6 @@
 use Rattle.std.proofs.Common.{◌≡◌, ℕ, ◌+◌, List, ◌++◌}
 use Rattle.rh_turns.specs.Game.{Game}
-use Rattle.rh_play_report.specs.declared.endings.Last.{Last}
+use Rattle.rh_play.specs.declared.endings.Last.{Last}
 use Rattle.rh_play_run.specs.Pieces.{Piece, Tells}
 use Rattle.rh_play_run.specs.Schedule.{TurnsUntil}
 use Rattle.rh_play_run.proofs.turns.take_turns_until.Given as goal

@@ -4,7 +4,7 @@ use Rattle.rh_snapshot.specs.Reading.{is_sealed, table_as}
 use Rattle.rh_snapshot.proofs.Whole.{header_faults, numbers_fault, seal_faults, refused, end_faults, whole_ok, damaged, no_layout, is_good}
 use Rattle.rh_snapshot.proofs.Keys.{good}
 use Rattle.rh_snapshot.proofs.Grammar.{read_from}
-use Rattle.rh_files.proofs.Taking.{takes_then}
+use Rattle.rh_key_files.proofs.Taking.{takes_then}
 use Rattle.rh_snapshot.specs.declared.fault.SnapFault.TheVariants.{Damaged, NotALayout}
 use Rattle.rh_snapshot.specs.Limits.{fault_of, sealed_bytes, whole_bytes, header_bytes}
 use Rattle.rh_snapshot.proofs.Bounds.{takes_within, takes_sealed, file_stops_in_numbers, file_stops_in_seal, file_stops_at_end, takes_of_any_file}

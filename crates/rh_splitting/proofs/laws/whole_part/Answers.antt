@@ -1,5 +1,5 @@
 use Rattle.std.proofs.Common.{append_assoc, codes, length}
-use Rattle.rh_files.specs.KeyFile.{eight_bytes, spelled_keys}
+use Rattle.rh_key_files.specs.KeyFile.{eight_bytes, spelled_keys}
 use Rattle.rh_ranges.specs.Ranges.{in_part}
 use Rattle.rh_splitting.proofs.Given.{keys_in_part}
 use Rattle.rh_splitting.proofs.laws.whole_part.Goals as goal

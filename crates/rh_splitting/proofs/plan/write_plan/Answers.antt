@@ -3,7 +3,7 @@ use Rattle.std.specs.Prelude.{slice_get}
 use Rattle.std.specs.Io.KnownBytes.{Appends}
 use Rattle.std.proofs.lemmas.Option.{slice_get_read}
 use Rattle.std.proofs.lemmas.Result.{err_from_is_err_and}
-use Rattle.rh_files.specs.Counting.{AppendsFront, inner_of}
+use Rattle.rh_key_files.specs.Counting.{AppendsFront, inner_of}
 use Rattle.rh_splitting.specs.Parts.{count_of}
 use Rattle.rh_splitting.specs.Plan.{line_of}
 use Rattle.rh_splitting.proofs.Plans.{line_goes_on, line_stops}

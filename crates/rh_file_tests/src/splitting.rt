@@ -1,0 +1,185 @@
+use rh_faulty::{FaultyReader, FaultyWriter, Refusal};
+use rh_key_files::{Counted, KeyFault};
+use rh_numbers::TextFault;
+use rh_ranges::MAX_PARTS;
+use rh_splitting::*;
+use std::alloc::Global;
+use std::io::Read;
+use std::process::Abort;
+use std::test::*;
+
+// Keys of three of four parts, and the bounds of two; part 2 has none.
+const TEXT: &[u8] =
+    b"# keys\n5\n1152921504606846976\n0\n1152921504606846975\n4611686018427387902\n5";
+
+// What each part is given, and how many keys these are.
+const PARTS: [(&[u8], u64); 4] = [
+    (
+        b"\0\0\0\0\0\0\0\x05\0\0\0\0\0\0\0\0\x0f\xff\xff\xff\xff\xff\xff\xff\0\0\0\0\0\0\0\x05",
+        4,
+    ),
+    (b"\x10\0\0\0\0\0\0\0", 1),
+    (b"", 0),
+    (b"\x3f\xff\xff\xff\xff\xff\xff\xfe", 1),
+];
+
+fn in_memory(alloc: Global) -> [Part<Vec<u8>>; 4] {
+    [
+        Part::new(Vec::new(alloc)),
+        Part::new(Vec::new(alloc)),
+        Part::new(Vec::new(alloc)),
+        Part::new(Vec::new(alloc)),
+    ]
+}
+
+fn assert_given(rt: &impl Abort, parts: [Part<Vec<u8>>; 4]) {
+    let [first, second, third, fourth] = parts;
+    assert_got(rt, first, PARTS[0]);
+    assert_got(rt, second, PARTS[1]);
+    assert_got(rt, third, PARTS[2]);
+    assert_got(rt, fourth, PARTS[3]);
+}
+
+// The part was given these bytes, and so many keys.
+fn assert_got(rt: &impl Abort, part: Part<Vec<u8>>, got: (&[u8], u64)) {
+    assert_eq!(rt; part.count(), got.1);
+    assert_eq!(rt; part.into_writer().into_inner().as_slice(), got.0);
+}
+
+#[test]
+fn each_key_goes_to_its_part(rt: HostRuntime) {
+    let mut parts = in_memory(rt.alloc());
+    let outcome = split_text(rt.alloc(), &mut Counted::new(TEXT), &mut parts);
+    assert_eq!(rt; outcome, Ok(()));
+    let mut plan = Counted::new(Vec::new(rt.alloc()));
+    assert!(rt; write_plan(&parts, &mut plan).is_ok());
+    assert_eq!(rt;
+        plan.into_inner().as_slice(),
+        b"000 4\n001 1\n002 0\n003 1\n".as_slice()
+    );
+    assert_given(&rt, parts);
+}
+
+#[test]
+fn a_key_file_is_split_too(rt: HostRuntime) -> Result<(), Fail> {
+    let mut file = Vec::new(rt.alloc());
+    file.extend_from_slice(b"RHK2\0\0\0\0\0\0\0\x06")?;
+    for at in [0..8, 8..16, 16..24, 24..32] {
+        file.extend_from_slice(&PARTS[0].0[at])?;
+    }
+    file.extend_from_slice(PARTS[3].0)?;
+    file.extend_from_slice(PARTS[1].0)?;
+    let mut parts = in_memory(rt.alloc());
+    let mut reader = Counted::new(file.as_slice());
+    let outcome = split_source(rt.alloc(), &mut reader, Source::Keys, &mut parts);
+    assert_eq!(rt; outcome, Ok(()));
+    assert_given(&rt, parts);
+    let mut parts = in_memory(rt.alloc());
+    let outcome = split_file(rt.alloc(), &mut Counted::new(TEXT), &mut parts);
+    assert_eq!(rt; outcome, Err(SplitFault::Keys(KeyFault::NotKeys)));
+    for part in &parts {
+        assert_eq!(rt; part.count(), 0);
+    }
+    Ok(())
+}
+
+fn fault_of(alloc: Global, reader: &mut Counted<impl Read>) -> Option<SplitFault> {
+    let mut parts = in_memory(alloc);
+    split_source(alloc, reader, Source::Text, &mut parts).err()
+}
+
+#[test]
+fn the_first_fault_is_told(rt: HostRuntime) {
+    for (text, fault) in [
+        (b"1\n2x\n".as_slice(), TextFault::NotAKey { line: 2 }),
+        (b"4611686018427387903", TextFault::OutOfRange { line: 1 }),
+    ] {
+        let told = fault_of(rt.alloc(), &mut Counted::new(text));
+        assert_eq!(rt; told, Some(SplitFault::Text(fault)));
+    }
+}
+
+// The text and its end.
+#[test]
+fn each_read_fails(rt: HostRuntime) {
+    for n in 1..4u64 {
+        let mut reader = Counted::new(FaultyReader::new(TEXT, n));
+        let told = fault_of(rt.alloc(), &mut reader);
+        assert_eq!(rt; told, (n < 3).then_some(SplitFault::Text(TextFault::Read)));
+        assert_eq!(rt; reader.failures(), u64::from(n < 3));
+    }
+}
+
+// The first part writes four keys.
+#[test]
+fn each_write_fails(rt: HostRuntime) {
+    for refusal in [Refusal::Error, Refusal::TakesNothing] {
+        for n in 1..6u64 {
+            let mut parts = [
+                Part::new(FaultyWriter::new(rt.alloc(), n, refusal)),
+                Part::new(FaultyWriter::new(rt.alloc(), 0, refusal)),
+                Part::new(FaultyWriter::new(rt.alloc(), 0, refusal)),
+                Part::new(FaultyWriter::new(rt.alloc(), 0, refusal)),
+            ];
+            let outcome = split_text(rt.alloc(), &mut Counted::new(TEXT), &mut parts);
+            assert_eq!(rt;
+                outcome.err(),
+                (n < 5).then_some(SplitFault::Write { part: 0 })
+            );
+        }
+    }
+}
+
+#[test]
+fn the_numbers(rt: HostRuntime) {
+    assert_eq!(rt; MAX_PARTS, 1_000);
+    assert_eq!(rt; MAX_NAME_BYTES, 200);
+}
+
+#[test]
+fn names_are_told_apart(rt: HostRuntime) {
+    for name in ["spring", "a.b-c_1", "\u{e9}t\u{e9}"] {
+        assert!(rt; is_name(name), "{name}");
+    }
+    for name in ["", "a/b", "a b", "a\tb", "\x7f"] {
+        assert!(rt; !is_name(name), "{name}");
+    }
+}
+
+#[test]
+fn a_fault_can_be_printed(rt: HostRuntime) -> Result<(), Fail> {
+    for (fault, text) in [
+        (
+            SplitFault::TooMany { part: 7 },
+            "part 007: more than 1000000 keys",
+        ),
+        (
+            SplitFault::Write { part: 999 },
+            "part 999: cannot write the key file",
+        ),
+        (
+            SplitFault::Text(TextFault::NotAKey { line: 7 }),
+            "line 7: not a key",
+        ),
+    ] {
+        let told = format!(in rt.alloc(); "{fault}")?;
+        assert_eq!(rt; told.as_str(), text);
+        let told = format!(in rt.alloc(); "{}", FilesFault::Split(fault))?;
+        assert_eq!(rt; told.as_str(), text);
+    }
+    for (fault, text) in [
+        (
+            FilesFault::Create { part: 0 },
+            "part 000: cannot make the key file",
+        ),
+        (
+            FilesFault::Write { part: 12 },
+            "part 012: cannot write the key file",
+        ),
+        (FilesFault::Memory, "out of memory"),
+    ] {
+        let told = format!(in rt.alloc(); "{fault}")?;
+        assert_eq!(rt; told.as_str(), text);
+    }
+    Ok(())
+}

@@ -1,5 +1,0 @@
-use Rattle.rh_history.proofs.Resting.{at_rest}
-use Rattle.rh_history.proofs.laws.at_rest.Goals as goal
-
-pub returns : goal.returns
-returns c = at_rest

@@ -1,4 +1,0 @@
-pub mod History
-pub mod Laws
-pub mod OwnActs
-pub mod Rounds

@@ -1,0 +1,147 @@
+-- What is still to come of a stream of keys.
+use Rattle.std.proofs.Common.{◌≡◌, ◌≢◌, ◌∙◌, refl, sym, ap, subst, ℕ, zero, suc, ◌+◌, ◌-◌, ◌<◌, min, List, [], ◌++◌, length, take, Option, Some, None, Result, Ok, Err, IfOk, arith}
+use Rattle.std.specs.Prelude.{option_map}
+use Rattle.std.proofs.lemmas.Bool.{ne_eqb}
+use Rattle.rh_key_files.specs.declared.version.Version.{Version}
+use Rattle.rh_key_files.specs.declared.fault.KeyFault.{KeyFault}
+use Rattle.rh_key_files.specs.declared.fault.KeyFault.TheVariants as faults
+use Rattle.rh_key_files.specs.declared.fault.KeyFault.TheVariants.{NotKeys, Short, TooMany, BadKey, Long}
+use Rattle.rh_key_files.specs.declared.stream.State.{State}
+use Rattle.rh_key_files.specs.declared.stream.State.TheVariants.{Open, Ended, Failed}
+use Rattle.rh_key_files.specs.Reading.{◌>>=◌, Fails, Reads, front_of, header_at, keys_at, end_at, batch_at, after_header, ended, file_keys}
+use Rattle.rh_key_files.specs.Source.{Gives, ComesFrom, FaultComes, HasCount, keys_in, keys_of_file, keys_then}
+use Rattle.rh_key_files.specs.Stream.{answer_again, coming_in, keys_to_end, state_after}
+use Rattle.rh_key_files.proofs.Reading.{Fails-then}
+use Rattle.rh_key_files.proofs.Next.{none_left, some_left}
+use Rattle.rh_key_files.proofs.Batches.{keys_at-add, and_next, with_front}
+use Rattle.rh_key_files.proofs.Grammar.{then_ok, keys_read, same_value}
+
+abbrev Read : Type 0
+Read = Result (List ℕ × List ℕ) KeyFault
+
+-- ---- faults
+
+fails_itself : (e : KeyFault) → Fails {X = List ℕ} e (Err e)
+fails_itself faults.Read = tt
+fails_itself faults.Memory = tt
+fails_itself NotKeys = refl
+fails_itself Short = refl
+fails_itself TooMany = refl
+fails_itself (BadKey index) = refl
+fails_itself Long = refl
+
+keys_fail : (e : KeyFault) (r : Read) → Fails e r → Fails e (keys_in r)
+keys_fail faults.Read r h = tt
+keys_fail faults.Memory r h = tt
+keys_fail NotKeys r h = rw h refl
+keys_fail Short r h = rw h refl
+keys_fail TooMany r h = rw h refl
+keys_fail (BadKey index) r h = rw h refl
+keys_fail Long r h = rw h refl
+
+-- ---- the keys of a batch, and then the others
+
+in_two : (version : Version) (index left many : ℕ) (bytes : List ℕ) → many + (left - many) ≡ left → keys_at version index left bytes ≡ (keys_at version index many bytes >>= and_next version (index + many) (left - many))
+in_two version index left many bytes whole =
+    ap (λ n. keys_at version index n bytes) (sym whole) ∙ keys_at-add version index many (left - many) bytes
+
+end_last : (front keys : List ℕ) (r : Read) → keys_in (r >>= (λ end. Ok (front ++ keys, end.1))) ≡ keys_then front (keys_in (r >>= (λ end. Ok (keys, end.1))))
+end_last front keys (Ok p) = refl
+end_last front keys (Err e) = refl
+
+front_first : (front : List ℕ) (r : Read) → keys_in ((r >>= with_front front) >>= ended) ≡ keys_then front (keys_in (r >>= ended))
+front_first front (Ok p) = end_last front p.0 (end_at p.1)
+front_first front (Err e) = refl
+
+batch_fault : (version : Version) (index left room : ℕ) (bytes : List ℕ) (e : KeyFault) → Fails e (batch_at version index left room bytes) → Fails e (keys_to_end version index left bytes)
+unfolding keys_at
+batch_fault version index zero room bytes e h =
+    keys_fail e (end_at bytes >>= (λ end. Ok ([], end.1))) (Fails-then e (end_at bytes) (λ end. Ok ([], end.1)) (subst (Fails e) (none_left version index 0 room bytes refl) h))
+batch_fault version index (suc left) room bytes e h =
+    let many : ℕ = min room (suc left) in
+    let first : Read = keys_at version index many bytes in
+    let both : List ℕ × List ℕ → Read = and_next version (index + many) (suc left - many) in
+    let fails : Fails e first = subst (Fails e) (some_left version index (suc left) room many bytes (omega arith) refl) h in
+    let whole : many + (suc left - many) ≡ suc left = omega arith in
+    subst (λ r. Fails e (keys_in (r >>= ended))) (sym (in_two version index (suc left) many bytes whole))
+    (keys_fail e ((first >>= both) >>= ended) (Fails-then e (first >>= both) ended (Fails-then e first both fails)))
+
+no_batch : (version : Version) (index left room : ℕ) (bytes keys rest : List ℕ) → left ≡ 0 → batch_at version index left room bytes ≡ Ok (keys, rest) → keys_to_end version index left bytes ≡ Ok []
+unfolding keys_at
+no_batch version index left room bytes keys rest none h =
+    let end : end_at bytes ≡ Ok (keys, rest) = sym (none_left version index left room bytes none) ∙ h in
+    ap (λ n. keys_to_end version index n bytes) none ∙ ap (λ (r : Read). keys_in (r >>= (λ end. Ok ([], end.1)))) end
+
+one_batch : (version : Version) (index left room many : ℕ) (bytes keys rest : List ℕ) → 0 < left → many ≡ min room left → batch_at version index left room bytes ≡ Ok (keys, rest) → keys_to_end version index left bytes ≡ keys_then keys (keys_to_end version (index + many) (left - many) rest)
+one_batch version index left room many bytes keys rest some is h =
+    let first : keys_at version index many bytes ≡ Ok (keys, rest) = sym (some_left version index left room many bytes some is) ∙ h in
+    let whole : many + (left - many) ≡ left = omega (arith, is) in
+    ap (λ (r : Read). keys_in (r >>= ended)) (in_two version index left many bytes whole ∙ ap (λ (r : Read). r >>= and_next version (index + many) (left - many)) first)
+    ∙ front_first keys (keys_at version (index + many) (left - many) rest)
+
+-- ---- a stream
+
+still_open : (left n : ℕ) → 0 < left → state_after left (Ok n) ≡ Open
+still_open left n some = rw (ne_eqb left 0 (λ z. omega (arith, z, some))) refl
+
+pub gives : (before now : State) (version : Version) (index left room : ℕ) (a b : Option (List ℕ)) (later : List ℕ → Result (List ℕ) KeyFault) (batch : List ℕ) (r : Result ℕ KeyFault)
+    → 0 < room
+    → (before ≡ Open → Reads a b (batch_at version index left room) (front_of batch) r)
+    → (before ≡ Open → IfOk r (λ n. n ≡ min room left))
+    → (before ≡ Open → now ≡ state_after left r)
+    → (before ≢ Open → r ≡ answer_again before)
+    → ((n : ℕ) → before ≡ Open → r ≡ Ok n → later ≡ keys_to_end version (index + n) (left - n))
+    → Gives (coming_in before (option_map (keys_to_end version index left) a)) (coming_in now (option_map later b)) batch r
+gives Ended now version index left room a b later batch r some reads many goes_on again then =
+    subst (Gives (Some (Ok [])) (coming_in now (option_map later b)) batch) (sym (again (λ e. cc))) refl
+gives (Failed e) now version index left room a b later batch r some reads many goes_on again then =
+    subst (Gives (Some (Err e)) (coming_in now (option_map later b)) batch) (sym (again (λ e. cc))) (fails_itself e)
+gives Open now version index left room None b later batch r some reads many goes_on again then = tt
+gives Open now version index left room (Some x) b later batch (Err e) some reads many goes_on again then =
+    batch_fault version index left room x e (reads refl)
+gives Open now version index left room (Some x) None later batch (Ok m) some reads many goes_on again then = absurd (reads refl)
+gives Open now version index left room (Some x) (Some y) later batch (Ok zero) some reads many goes_on again then =
+    let none : left ≡ 0 = omega (arith, some, many refl) in
+    no_batch version index left room x [] y none (reads refl)
+gives Open now version index left room (Some x) (Some y) later batch (Ok (suc m)) some reads many goes_on again then =
+    let left_some : 0 < left = omega (arith, many refl) in
+    let goes : now ≡ Open = goes_on refl ∙ still_open left (suc m) left_some in
+    let coming : coming_in now (option_map later (Some y)) ≡ Some (keys_to_end version (index + suc m) (left - suc m) y) =
+    ap (λ s. coming_in s (Some (later y))) goes ∙ ap (λ (f : List ℕ → Result (List ℕ) KeyFault). Some (f y)) (then (suc m) refl refl) in
+    subst (λ c. Gives (Some (keys_to_end version index left x)) c batch (Ok (suc m))) (sym coming)
+    (one_batch version index left room (suc m) x (take (suc m) batch) y left_some (many refl) (reads refl))
+
+pub moved_on : (header later : Version × ℕ) (taken now : ℕ) (r : Result ℕ KeyFault) → later ≡ header → IfOk r (λ n. now ≡ taken + n) → (n : ℕ) → r ≡ Ok n → keys_to_end later.0 now (later.1 - now) ≡ keys_to_end header.0 (taken + n) (header.1 - taken - n)
+moved_on header later taken now r same taken_too n is =
+    let on : now ≡ taken + n = subst (λ r. IfOk r (λ n. now ≡ taken + n)) is taken_too in
+    let left : header.1 - (taken + n) ≡ header.1 - taken - n = omega arith in
+    ap (λ (h : Version × ℕ). keys_to_end h.0 now (h.1 - now)) same ∙ ap (λ i. keys_to_end header.0 i (header.1 - i)) on ∙ ap (keys_to_end header.0 (taken + n)) left
+
+-- ---- at the beginning
+
+pub comes : (version : Version) (count : ℕ) (a b : Option (List ℕ)) → Reads a b header_at (λ (h : Version × ℕ). h) (Ok (version, count)) → ComesFrom a (option_map (keys_to_end version 0 count) b)
+unfolding file_keys
+comes version count None b h = tt
+comes version count (Some x) None h = absurd h
+comes version count (Some x) (Some y) h = rw h refl
+
+pub does_not_come : (a : Option (List ℕ)) (e : KeyFault) → Reads a None header_at (λ (h : Version × ℕ). h) (Err e) → FaultComes (option_map keys_of_file a) e
+unfolding file_keys
+does_not_come None e h = tt
+does_not_come (Some x) e h = keys_fail e (header_at x >>= after_header) (Fails-then e (header_at x) after_header h)
+
+keys_told : (r : Read) (keys : List ℕ) → keys_in r ≡ Ok keys → (p : List ℕ × List ℕ) × (r ≡ Ok p) × (p.0 ≡ keys)
+keys_told (Ok p) keys h = (p, refl, ap (λ (r : Result (List ℕ) KeyFault). elim r [ Ok k ↦ k | Err e ↦ p.0 ]) h)
+keys_told (Err e) keys h = absurd cc
+
+pub counts : (version : Version) (count : ℕ) (a b : Option (List ℕ)) → Reads a b header_at (λ (h : Version × ℕ). h) (Ok (version, count)) → HasCount a count
+unfolding file_keys
+counts version count None b h = tt
+counts version count (Some x) None h = absurd h
+counts version count (Some x) (Some y) h = λ keys is.
+    let here : keys_in (keys_at version 0 count y >>= ended) ≡ Ok keys = rw h at is in
+    let p = keys_told (keys_at version 0 count y >>= ended) keys here in
+    let t = then_ok (keys_at version 0 count y) ended p.0 p.1 in
+    let u = then_ok (end_at t.0.1) (λ end. Ok (t.0.0, end.1)) p.0 t.2 in
+    let same : t.0.0 ≡ keys = same_value (t.0.0, u.0.1) p.0 u.2 ∙ p.2 in
+    ap length (sym same) ∙ (keys_read version 0 count y t.0 t.1).many

@@ -1,0 +1,70 @@
+-- How many bytes of a key file the reading calls take, by what they answer.
+use Rattle.std.specs.Prelude.{ℕ, ◌+◌, ◌-◌, ◌*◌, min, ◌==◌, if◌then◌else◌, List, Option, Some, None, Result, Ok, Err}
+use Rattle.rh_key_files.specs.declared.version.Version.{Version}
+use Rattle.rh_key_files.specs.declared.parts.TheConstants.{MAX_KEYS}
+use Rattle.rh_key_files.specs.declared.batch.TheConstants.{PART_KEYS}
+use Rattle.rh_key_files.specs.declared.fault.KeyFault.{KeyFault}
+use Rattle.rh_key_files.specs.declared.fault.KeyFault.TheVariants.{NotKeys, TooMany, BadKey, Read, Memory}
+use Rattle.rh_key_files.specs.Reading.{header_at}
+use Rattle.rh_key_files.specs.Taking.{TakesAtMost}
+
+abbrev pub magic_bytes : ℕ
+magic_bytes = 4
+
+-- the magic and the number of keys
+abbrev pub header_bytes : ℕ
+header_bytes = magic_bytes + 8
+
+-- the fault that a call tells
+abbrev pub fault_of : {X : Type 0} → Result X KeyFault → Option KeyFault
+fault_of (Ok x) = None
+fault_of (Err e) = Some e
+
+-- What a call tells says that no read failed. A key out of range does not: it may stand in a part before a failed read.
+abbrev pub NoReadFailed : Option KeyFault → Type 0
+NoReadFailed (Some Read) = ⊥
+NoReadFailed (Some (BadKey index)) = ⊥
+NoReadFailed fault = Unit {0}
+
+-- of a header, by its fault
+abbrev pub header_taken : Option KeyFault → ℕ
+header_taken (Some NotKeys) = magic_bytes
+header_taken fault = header_bytes
+
+-- of n keys, of which the first has this index: the part in which a key out of range stands is the last that is read
+abbrev pub keys_taken : (index n : ℕ) → Option KeyFault → ℕ
+keys_taken index n (Some (BadKey bad)) = min n (bad - index + PART_KEYS)
+keys_taken index n fault = n
+
+-- of a batch, where so many keys are left: the keys that it has room for, or the byte that shows whether the file ends
+abbrev pub batch_bytes : (index left room : ℕ) → Option KeyFault → ℕ
+batch_bytes index left room fault = if left == 0 then 1 else 8 * keys_taken index (min room left) fault
+
+-- the header, so many keys, and the byte that shows whether the file ends
+abbrev pub whole_bytes : ℕ → ℕ
+whole_bytes count = header_bytes + 8 * count + 1
+
+-- of a file of so many keys
+abbrev pub file_bytes : ℕ → Option KeyFault → ℕ
+file_bytes count (Some NotKeys) = magic_bytes
+file_bytes count (Some TooMany) = header_bytes
+file_bytes count (Some Memory) = header_bytes
+file_bytes count (Some (BadKey index)) = header_bytes + 8 * min count (index + PART_KEYS)
+file_bytes count fault = whole_bytes count
+
+-- of any file
+abbrev pub most_bytes : ℕ
+most_bytes = whole_bytes MAX_KEYS
+
+abbrev pub count_in : Result ((Version × ℕ) × List ℕ) KeyFault → ℕ
+count_in (Ok header) = header.0.1
+count_in (Err e) = 0
+
+-- the number of keys that the header says, where the bytes are known and begin with one
+abbrev pub count_said : Option (List ℕ) → ℕ
+count_said None = 0
+count_said (Some bytes) = count_in (header_at bytes)
+
+-- A whole file was read, up to this fault if there is one, and the bytes behind that are still there.
+abbrev pub TakesOfFile : (old new : Option (List ℕ)) → Option KeyFault → Type 0
+TakesOfFile old new fault = TakesAtMost old new (file_bytes (count_said old) fault)

@@ -1,0 +1,89 @@
+-- What is known of a stream of keys: its header, how far it is, and what it answers once it is over.
+use Rattle.std.specs.Prelude.{ℕ, ◌-◌, List, [], Option, Some, None, Result, Ok, Err, ◌==◌, if◌then◌else◌, option_map}
+use Rattle.std.specs.Borrow.{GName}
+use Rattle.rh_key_files.specs.declared.counted.Counted.{Counted}
+use Rattle.rh_key_files.specs.Counting.{inner_of}
+use Rattle.rh_key_files.specs.Reading.{◌>>=◌, Reads, ended, header_at, keys_at}
+use Rattle.rh_key_files.specs.Source.{Coming, keys_in}
+use Rattle.rh_key_files.specs.declared.fault.KeyFault.{KeyFault}
+use Rattle.rh_key_files.specs.declared.version.Version.{Version}
+use Rattle.rh_key_files.specs.declared.stream.KeyStream.{KeyStream}
+use Rattle.rh_key_files.specs.declared.stream.State.{State}
+use Rattle.rh_key_files.specs.declared.stream.State.TheVariants.{Open, Ended, Failed}
+
+-- the reader that the stream took on loan
+abbrev pub reader_of : {R : Type 0} → KeyStream R → Counted R
+reader_of s = s.reader.now
+
+abbrev pub version_of : {R : Type 0} → KeyStream R → Version
+version_of s = s.version
+
+-- the header's number of keys
+abbrev pub count_of : {R : Type 0} → KeyStream R → ℕ
+count_of s = s.count
+
+-- how many keys were given
+abbrev pub taken_of : {R : Type 0} → KeyStream R → ℕ
+taken_of s = s.taken
+
+abbrev pub left_of : {R : Type 0} → KeyStream R → ℕ
+left_of s = count_of s - taken_of s
+
+abbrev pub state_of : {R : Type 0} → KeyStream R → State
+state_of s = s.state
+
+-- the reference that it was lent by
+abbrev pub lender_of : {R : Type 0} → KeyStream R → GName
+lender_of s = s.reader.ghost_name
+
+-- the header that a stream was made from
+abbrev pub header_of : {R : Type 0} → KeyStream R → Version × ℕ
+header_of s = (version_of s, count_of s)
+
+-- A fault ends the stream, and so does the 0 where no key is left.
+abbrev pub state_after : ℕ → Result ℕ KeyFault → State
+state_after left (Ok n) = if left == 0 then Ended else Open
+state_after left (Err e) = Failed e
+
+-- what a stream that is over answers
+abbrev pub answer_again : State → Result ℕ KeyFault
+answer_again Open = Ok 0
+answer_again Ended = Ok 0
+answer_again (Failed e) = Err e
+
+abbrev as_ok : Version × ℕ → Result (Version × ℕ) KeyFault
+as_ok header = Ok header
+
+abbrev as_err : KeyFault → Result (Version × ℕ) KeyFault
+as_err e = Err e
+
+-- The header was read as the reader's bytes say, where they are known.
+abbrev pub ReadsHeader : {R : Type 0} → (R → Option (List ℕ)) → R → Result (KeyStream R) KeyFault → Type 0
+ReadsHeader remaining old (Ok s) = Reads (remaining old) (remaining (inner_of (reader_of s))) header_at (λ h. h) (as_ok (header_of s))
+ReadsHeader remaining old (Err e) = Reads (remaining old) None header_at (λ h. h) (as_err e)
+
+-- n keys, of which the first has this index, and then the end
+abbrev pub keys_to_end : Version → ℕ → ℕ → List ℕ → Result (List ℕ) KeyFault
+keys_to_end version index n bytes = keys_in (keys_at version index n bytes >>= ended)
+
+-- what is to come, of which an open stream would read this
+abbrev pub coming_in : State → Coming → Coming
+coming_in Open read = read
+coming_in Ended read = Some (Ok [])
+coming_in (Failed e) read = Some (Err e)
+
+-- the keys that a stream is to give, or the fault that comes before their end, where the bytes are known
+abbrev pub coming_of : {R : Type 0} → (R → Option (List ℕ)) → KeyStream R → Coming
+coming_of remaining s = coming_in (state_of s) (option_map (keys_to_end (version_of s) (taken_of s) (left_of s)) (remaining (inner_of (reader_of s))))
+
+-- the fault that it told
+abbrev pub told_in : State → Option KeyFault
+told_in Open = None
+told_in Ended = None
+told_in (Failed e) = Some e
+
+-- how many keys are to come, where n would be in an open stream
+abbrev pub left_in : State → ℕ → ℕ
+left_in Open n = n
+left_in Ended n = 0
+left_in (Failed e) n = 0

@@ -1,0 +1,56 @@
+//! Key files, written.
+
+ghost use Rattle.std.specs.Prelude.{◌≡◌, ◌≤◌, All, OnErr, OnOk, length};
+ghost use Rattle.rh_layout.specs.Key.{IsKey};
+ghost use Rattle.rh_key_files.specs.Counting.{Rose, Writes, failures_of, inner_of};
+ghost use Rattle.rh_key_files.specs.KeyFile.{header, spelled_keys, spelling};
+ghost use Rattle.rh_key_files.specs.declared.parts.TheConstants.{MAX_KEYS};
+ghost use Rattle.rh_key_files.specs.declared.version.Version.TheVariants.{Second};
+
+use crate::bytes::{put, write_texts};
+use crate::counted::Counted;
+use crate::fault::WriteFault;
+use byteorder::{BigEndian, ByteOrder};
+use std::io::Write;
+
+/// Writes the keys as a key file of the second version, in their order. `read_keys` takes it back
+/// to the same list. It takes no memory. Each number is a write of its own, so give it a writer
+/// with a buffer.
+pub fn write_keys<W: Write>(keys: &[u64], writer: &mut Counted<W>) -> Result<(), WriteFault>
+    requires few { length keys.now ≤ MAX_KEYS }
+    requires keys { All IsKey keys.now }
+    ensures text { Writes (W.contents (inner_of writer.old)) (W.contents (inner_of writer.new))
+        (spelling Second keys.now) result }
+    ensures failed { OnErr result (Rose (failures_of writer.old) (failures_of writer.new)) }
+    ensures fine { OnOk result (failures_of writer.new ≡ failures_of writer.old) }
+{
+    write_header(keys.len() as u64, writer)?;
+    put_keys(keys, writer)
+}
+
+/// Writes what stands before the keys of a key file of the second version that has so many: 12 bytes
+/// in two writes.
+pub fn write_header<W: Write>(count: u64, writer: &mut Counted<W>) -> Result<(), WriteFault>
+    ensures text { Writes (W.contents (inner_of writer.old)) (W.contents (inner_of writer.new))
+        (header Second count) result }
+    ensures failed { OnErr result (Rose (failures_of writer.old) (failures_of writer.new)) }
+    ensures fine { OnOk result (failures_of writer.new ≡ failures_of writer.old) }
+{
+    let mut eight = [0; 8];
+    BigEndian::write_u64(&mut eight, count);
+    write_texts(writer, &[b"RHK2", &eight])
+}
+
+fn put_keys<W: Write>(keys: &[u64], writer: &mut Counted<W>) -> Result<(), WriteFault>
+    ensures text { Writes (W.contents writer.old.inner) (W.contents writer.new.inner)
+        (spelled_keys keys.now) result }
+    ensures failed { OnErr result (Rose writer.old.failures writer.new.failures) }
+    ensures fine { OnOk result (writer.new.failures ≡ writer.old.failures) }
+{
+    for key in keys {
+        let mut eight = [0; 8];
+        BigEndian::write_u64(&mut eight, *key);
+        put(writer, &eight)?;
+    }
+    Ok(())
+}

@@ -1,0 +1,51 @@
+//! The beginning of a key file.
+
+ghost use Rattle.std.specs.Prelude.{◌≡◌, ◌≢◌, Err, IfErr, IfOk, IsErrOf, option_map};
+ghost use Rattle.std.specs.Borrow.{sem, RestsIfErr};
+ghost use Rattle.rh_key_files.specs.contracts.counted.Counted.{the_row};
+ghost use Rattle.rh_key_files.specs.Counting.{Rose, failures_of, inner_of};
+ghost use Rattle.rh_key_files.specs.Taking.{TakesAtMost};
+ghost use Rattle.rh_key_files.specs.Limits.{fault_of, header_bytes, header_taken};
+ghost use Rattle.rh_key_files.specs.Source.{ComesFrom, FaultComes, HasCount, keys_of_file};
+ghost use Rattle.rh_key_files.specs.Stream.{ReadsHeader, reader_of, lender_of, taken_of, state_of};
+ghost use Rattle.rh_key_files.specs.Stream.{coming_of, count_of};
+
+use crate::counted::Counted;
+use crate::fault::KeyFault;
+use crate::parts::read_header;
+use crate::stream::{KeyStream, State};
+use std::io::Read;
+
+/// Reads the header: the version and the number of keys.
+#[tactic(auto, using(crate::proofs::Coming::comes, crate::proofs::Coming::counts, crate::proofs::Coming::does_not_come))]
+pub fn open_keys<R: Read>(reader: &mut Counted<R>) -> Result<KeyStream<'_, R>, KeyFault>
+    ensures header { ReadsHeader R.remaining (inner_of reader.old) result }
+    ensures coming { IfOk result (λ s.
+        ComesFrom (R.remaining (inner_of reader.old)) (coming_of R.remaining s)) }
+    ensures count { IfOk result (λ s. HasCount (R.remaining (inner_of reader.old)) (count_of s)) }
+    ensures fault { IfErr result (λ e.
+        FaultComes (option_map keys_of_file (R.remaining (inner_of reader.old))) e) }
+    ensures takes { IfOk result (λ s. TakesAtMost (R.remaining (inner_of reader.old))
+        (R.remaining (inner_of (reader_of s))) header_bytes) }
+    ensures none_taken { IfOk result (λ s. taken_of s ≡ 0) }
+    ensures open { IfOk result (λ s. state_of s ≡ State.Open) }
+    ensures fine { IfOk result (λ s. failures_of (reader_of s) ≡ failures_of reader.old) }
+    ensures no_memory { IsErrOf result KeyFault.Memory → ⊥ }
+
+    // The stream holds the reader; a refusal gives it back.
+    ensures same_reference { IfOk result (λ s. lender_of s ≡ reader.entry.ghost_name) }
+    ensures* refused { sem 𝓛 (RestsIfErr (the_row R.row) reader.entry lender_of result (λ new.
+        (IsErrOf result KeyFault.Read → Rose (failures_of reader.old) (failures_of new))
+        × (result ≢ Err KeyFault.Read → failures_of new ≡ failures_of reader.old)
+        × TakesAtMost (R.remaining (inner_of reader.old)) (R.remaining (inner_of new))
+        (header_taken (fault_of result)))) }
+{
+    let (version, count) = read_header(reader)?;
+    Ok(KeyStream {
+        reader,
+        version,
+        count,
+        taken: 0,
+        state: State::Open,
+    })
+}

@@ -1,0 +1,141 @@
+//! The keys of a key file, read in batches.
+
+ghost use Rattle.std.specs.Prelude.{◌≤◌, ◌≢◌};
+ghost use Rattle.rh_key_files.specs.declared.fault.KeyFault.TheVariants.{Memory};
+ghost use Rattle.rh_key_files.specs.declared.parts.TheConstants.{MAX_KEYS};
+ghost use Rattle.rh_key_files.specs.declared.stream.State.TheVariants.{Failed};
+
+use crate::batch::read_batch;
+use crate::counted::Counted;
+use crate::fault::KeyFault;
+use crate::parts::MAX_KEYS;
+use crate::source::KeySource;
+use crate::version::Version;
+use std::io::Read;
+
+/// Whether a stream goes on, and if not what it answers from now on.
+#[derive(Clone, Copy)]
+pub(crate) enum State {
+    Open,
+    Ended,
+    Failed(KeyFault),
+}
+
+/// The keys of a key file whose header was read.
+#[derive(Drop)]
+pub struct KeyStream<'a, R> {
+    pub(crate) reader: &'a mut Counted<R>,
+    pub(crate) version: Version,
+    pub(crate) count: u64,
+    pub(crate) taken: u64,
+    pub(crate) state: State,
+    ghost within: { taken ≤ count },
+    ghost few: { count ≤ MAX_KEYS },
+    ghost no_memory: { state ≢ Failed Memory },
+}
+
+impl<R: Read> KeyStream<'_, R> {
+    ghost use Rattle.std.specs.Prelude.{◌≡◌, ◌≢◌, ◌⊎◌, ◌<◌, ◌+◌, min, length, IfOk, IsErrOf, Err};
+    ghost use Rattle.std.specs.Prelude.{All, take, drop};
+    ghost use Rattle.rh_layout.specs.Key.{IsKey};
+    ghost use Rattle.rh_key_files.specs.Counting.{Rose, failures_of, inner_of};
+    ghost use Rattle.rh_key_files.specs.Taking.{TakesAtMost};
+    ghost use Rattle.rh_key_files.specs.Limits.{NoReadFailed, batch_bytes, fault_of};
+    ghost use Rattle.rh_key_files.specs.Reading.{CutShort, Reads, front_of, batch_at};
+    ghost use Rattle.rh_key_files.specs.Stream.{reader_of, lender_of, header_of, version_of, count_of};
+    ghost use Rattle.rh_key_files.specs.Stream.{taken_of, left_of, state_of, state_after, answer_again};
+
+    /// The header's number of keys.
+    pub fn count(&self) -> u64
+        ensures value { result ≡ count_of self.now }
+        ensures few { result ≤ MAX_KEYS }
+    {
+        self.count
+    }
+
+    /// Puts the next keys at the front of the batch and answers how many they are. Where none is
+    /// left, it tests the end, and answers 0. After that 0, or a fault, it answers the same again
+    /// and reads nothing.
+    pub fn next_batch(&mut self, batch: &mut [u64]) -> Result<usize, KeyFault>
+        requires { 0 < length batch.old }
+        ensures same_reference { lender_of self.new ≡ lender_of self.old }
+        ensures same_header { header_of self.new ≡ header_of self.old }
+
+        // While the stream is open.
+        ensures known { state_of self.old ≡ State.Open →
+            Reads (R.remaining (inner_of (reader_of self.old)))
+            (R.remaining (inner_of (reader_of self.new)))
+            (batch_at (version_of self.old) (taken_of self.old) (left_of self.old)
+            (length batch.new))
+            (front_of batch.new) result }
+        ensures tested { state_of self.old ≡ State.Open → IsErrOf result KeyFault.Read →
+            0 < left_of self.old →
+            CutShort (R.remaining (inner_of (reader_of self.old)))
+            (R.remaining (inner_of (reader_of self.new)))
+            (batch_at (version_of self.old) (taken_of self.old) (left_of self.old)
+            (length batch.new)) }
+        ensures takes { state_of self.old ≡ State.Open →
+            TakesAtMost (R.remaining (inner_of (reader_of self.old)))
+            (R.remaining (inner_of (reader_of self.new)))
+            (batch_bytes (taken_of self.old) (left_of self.old) (length batch.new)
+            (fault_of result)) }
+        ensures many { state_of self.old ≡ State.Open →
+            IfOk result (λ n. n ≡ min (length batch.new) (left_of self.old)) }
+        ensures taken { state_of self.old ≡ State.Open →
+            IfOk result (λ n. taken_of self.new ≡ taken_of self.old + n) }
+        ensures goes_on { state_of self.old ≡ State.Open →
+            state_of self.new ≡ state_after (left_of self.old) result }
+
+        // Once it is over.
+        ensures again { state_of self.old ≢ State.Open → result ≡ answer_again (state_of self.old) }
+        ensures still_over { state_of self.old ≢ State.Open →
+            state_of self.new ≡ state_of self.old }
+        ensures reads_nothing { state_of self.old ≢ State.Open →
+            reader_of self.new ≡ reader_of self.old }
+        ensures same_batch { state_of self.old ≢ State.Open → batch.new ≡ batch.old }
+
+        ensures in_range { IfOk result (λ n. All IsKey (take n batch.new)) }
+        ensures rest { IfOk result (λ n. drop n batch.new ≡ drop n batch.old) }
+        ensures read { IsErrOf result KeyFault.Read →
+            (state_of self.old ≡ State.Failed KeyFault.Read)
+            ⊎ Rose (failures_of (reader_of self.old)) (failures_of (reader_of self.new)) }
+        ensures no_memory { IsErrOf result KeyFault.Memory → ⊥ }
+        ensures fine { NoReadFailed (fault_of result) →
+            failures_of (reader_of self.new) ≡ failures_of (reader_of self.old) }
+    {
+        match self.state {
+            State::Ended => return Ok(0),
+            State::Failed(fault) => return Err(fault),
+            State::Open => {}
+        }
+        let left = self.count - self.taken;
+        let outcome = read_batch(self.reader, self.version, self.taken, left, batch);
+        match outcome {
+            Ok(0) => self.state = State::Ended,
+            Ok(n) => self.taken += n as u64,
+            Err(fault) => self.state = State::Failed(fault),
+        }
+        outcome
+    }
+}
+
+impl<R: Read> KeySource for KeyStream<'_, R> {
+    ghost use Rattle.rh_key_files.specs.Stream.{coming_of, left_in, left_of, state_of, told_in};
+
+    ghost coming = { coming_of R.remaining };
+
+    ghost left_of = { λ s. left_in (state_of s) (left_of s) };
+
+    ghost told_by = { λ s. told_in (state_of s) };
+
+    fn left(&self) -> u64 {
+        match self.state {
+            State::Open => self.count - self.taken,
+            State::Ended | State::Failed(_) => 0,
+        }
+    }
+
+    fn next_keys(&mut self, batch: &mut [u64]) -> Result<usize, KeyFault> {
+        self.next_batch(batch)
+    }
+}

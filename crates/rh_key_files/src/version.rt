@@ -1,0 +1,32 @@
+//! The versions of the key file.
+
+ghost use Rattle.std.specs.Prelude.{◌≡◌, ◌↔◌, IsTrue};
+ghost use Rattle.rh_key_files.specs.KeyFile.{least_key, IsKeyIn};
+ghost use Rattle.rh_key_files.specs.Reading.{is_key_in};
+
+use rh_layout::MAX_KEY;
+
+/// The versions of the key file: the second allows key 0.
+#[derive(Clone, Copy, Debug, PartialEq, Eq)]
+pub enum Version {
+    First,
+    Second,
+}
+
+impl Version {
+    fn least_key(self) -> u64
+        ensures { result ≡ least_key self }
+    {
+        match self {
+            Version::First => 1,
+            Version::Second => 0,
+        }
+    }
+
+    /// Whether a file of this version may hold the key.
+    pub(crate) fn allows(self, key: u64) -> bool
+        ensures { result ≡ is_key_in self key }
+    {
+        self.least_key() <= key && key <= MAX_KEY
+    }
+}

@@ -1,3 +1,0 @@
-pub mod Pack
-pub mod List
-pub mod Files

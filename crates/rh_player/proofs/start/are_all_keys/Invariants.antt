@@ -1,6 +1,0 @@
-use Rattle.std.proofs.Common.{◌≡◌, take, true}
-use Rattle.rh_player.specs.Start.{are_keys, joined}
-use Rattle.rh_player.proofs.start.are_all_keys.Given as goal
-
-abbrev pub invariant-loop-piece : goal.invariant-loop-piece
-invariant-loop-piece l = are_keys (joined (take l.piece-index l.pieces)) ≡ true

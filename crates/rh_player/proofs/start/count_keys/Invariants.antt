@@ -1,7 +1,0 @@
-use Rattle.std.proofs.Common.{◌≡◌, length, take}
-use Rattle.rh_player.specs.Made.{cut}
-use Rattle.rh_player.specs.Start.{joined}
-use Rattle.rh_player.proofs.start.count_keys.Given as goal
-
-abbrev pub invariant-loop-piece : goal.invariant-loop-piece
-invariant-loop-piece l = l.count ≡ cut (length (joined (take l.piece-index l.pieces)))

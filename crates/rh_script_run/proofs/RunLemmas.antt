@@ -1,0 +1,307 @@
+-- A script step by step.
+use Rattle.std.proofs.Common.{◌≡◌, ◌∙◌, ap, sym, subst, refl, arith, false, ℕ, zero, suc, ◌+◌, ◌<◌, ◌≤◌, List, [], ◌∷◌, ◌++◌, length, take, drop, get_or, append_assoc, append-nil, Some, Result, Ok, Err}
+use Rattle.std.proofs.Common.{slice_index_or, take-append-drop}
+use Rattle.std.proofs.lemmas.List.{take_all, take_more, length-append, length-map}
+use Rattle.std.proofs.lemmas.Grind.{flat_map-append}
+use Rattle.std.specs.Prelude.{map}
+use Rattle.std.specs.FinSet as finset
+use Rattle.rh_layout.specs.declared.limits.TheConstants.{MIN_BITS}
+use Rattle.rh_script.specs.declared.task.Task.{Task}
+use Rattle.rh_script.specs.declared.task.Task.TheVariants as tasks
+use Rattle.rh_script.specs.declared.task.PlannedStep.{PlannedStep}
+use Rattle.rh_script.specs.Tasks.{planned_as, task_as}
+use Rattle.std.proofs.KnownBytes.{Appends-nil, Appends-trans}
+use Rattle.rh_edit.specs.Held.{Held}
+use Rattle.rh_report.specs.Account.{Account, Says}
+use Rattle.rh_script.specs.Instruction.{Instruction, Numbered, Use, Add, Drop, Ask, Keep, Flip, Save, Clear, Dump, Snapshot, Restore}
+use Rattle.rh_script.specs.Names.{SnapshotsAreNew, file_of, files_in, given_by, is_given, names_in}
+use Rattle.rh_script.specs.Plan.{Planned, number_after, plan_of, planned_after}
+use Rattle.rh_shelf.specs.Shelf.{Files}
+use Rattle.rh_operations.specs.declared.cause.Cause.{Cause}
+use Rattle.rh_script_run.specs.declared.fault.RunFault.{RunFault}
+use Rattle.rh_operations.specs.declared.key_lists.KeyList.{KeyList}
+use Rattle.rh_script_run.specs.Files.{HasFiles, given_files}
+use Rattle.rh_operations.specs.KeyLists.{paths_of}
+use Rattle.rh_operations.specs.Sequence.{◌>>=◌}
+use Rattle.rh_operations.specs.Size.{size_for}
+use Rattle.rh_script_run.specs.Meaning.{ScriptState, Outcome, at_line, keys_in, meaning, outcome_of, start, table_in}
+use Rattle.rh_script_run.specs.Environment.{Environment}
+use Rattle.rh_script_run.specs.Ends.{Done, EndsBy, LeavesFiles, SaysAll, Stopped, step_in}
+use Rattle.rh_script_run.specs.Steps.{HasList, IsApart, ListsStand, Named, StepDone, names_of, world_of}
+use Rattle.rh_script_run.specs.Reached.{CarriedOut, Moment, Reached}
+use Rattle.rh_script_run.proofs.FileLemmas.{given_file}
+use Rattle.rh_script_run.proofs.ListLemmas.{place_inside}
+
+-- ---- what a step does to the names
+
+abbrev as_ok : ScriptState × Account → Outcome
+as_ok done = Ok done
+
+abbrev lists_of : Outcome → Named
+lists_of (Ok done) = done.0.lists
+lists_of (Err cause) = []
+
+pub then_ok : {A B E : Type 0} (r : Result A E) (f : A → Result B E) (y : B) → (r >>= f) ≡ Ok y → (x : A) × (r ≡ Ok x) × (f x ≡ Ok y)
+then_ok (Ok x) f y h = (x, refl, h)
+then_ok (Err e) f y h = absurd cc
+
+same_names : (w v : ScriptState) (done : ScriptState × Account) (account : Account) → as_ok (v, account) ≡ Ok done → v.lists ≡ w.lists → names_of done.0.lists ≡ names_of w.lists ++ []
+same_names w v done account is same = ap (λ (o : Outcome). names_of (lists_of o)) (sym is) ∙ ap names_of same ∙ sym (append-nil (names_of w.lists))
+
+names_push : (named : Named) (name keys : List ℕ) → names_of (named ++ (name, keys) ∷ []) ≡ names_of named ++ name ∷ []
+names_push [] name keys = refl
+names_push (n ∷ named) name keys = ap (λ l. n.0 ∷ l) (names_push named name keys)
+
+names_after : (w : ScriptState) (said : Instruction) (done : ScriptState × Account) → outcome_of w said ≡ Ok done → names_of done.0.lists ≡ names_of w.lists ++ given_by said
+unfolding outcome_of
+names_after w (Use name path) done is =
+    let s = then_ok (keys_in (w.files path)) _ done is in
+    ap (λ (o : Outcome). names_of (lists_of o)) (sym s.2) ∙ names_push w.lists name s.0
+names_after w (Add name) done is = let s = then_ok (size_for _ _) _ done is in same_names w _ done _ s.2 refl
+names_after w (Drop name) done is = same_names w _ done _ is refl
+names_after w (Ask name) done is = same_names w w done _ is refl
+names_after w (Keep name) done is = let s = then_ok (size_for _ _) _ done is in same_names w _ done _ s.2 refl
+names_after w (Flip name) done is = let s = then_ok (size_for _ _) _ done is in same_names w _ done _ s.2 refl
+names_after w (Save name) done is = ap (λ (o : Outcome). names_of (lists_of o)) (sym is) ∙ names_push w.lists name _
+names_after w Clear done is = same_names w _ done _ is refl
+names_after w Dump done is = same_names w w done _ is refl
+names_after w (Snapshot path) done is = same_names w _ done _ is refl
+names_after w (Restore path) done is = let s = then_ok (table_in (w.files path)) _ done is in same_names w _ done _ s.2 refl
+
+-- ---- one step more
+
+abbrev pub Course : Type 0
+Course = Result (ScriptState × List Account) RunFault
+
+abbrev pub reached_in : ScriptState × List Account → Course → ScriptState × List Account
+reached_in d (Ok x) = x
+reached_in d (Err e) = d
+
+meaning_more : (w : ScriptState) (before : List Numbered) (step : Numbered) (v : ScriptState) (accounts : List Account) (done : ScriptState × Account) → meaning w before ≡ Ok (v, accounts) → outcome_of v step.instruction ≡ Ok done → meaning w (before ++ step ∷ []) ≡ Ok (done.0, accounts ++ done.1 ∷ [])
+unfolding meaning
+meaning_more w [] step v accounts done means is =
+    let here : (w, []) ≡ (v, accounts) = ap (reached_in (w, [])) means in
+    let there : outcome_of w step.instruction ≡ Ok done = ap (λ (x : ScriptState × List Account). outcome_of x.0 step.instruction) here ∙ is in
+    ap (λ o. at_line step.line o >>= (λ d. Ok (d.0, d.1 ∷ []))) there ∙ ap (λ (x : ScriptState × List Account). Ok (done.0, x.1 ++ done.1 ∷ [])) here
+meaning_more w (s ∷ before) step v accounts done means is =
+    let first = then_ok (at_line s.line (outcome_of w s.instruction)) _ (v, accounts) means in
+    let rest = then_ok (meaning first.0.0 before) _ (v, accounts) first.2 in
+    let here : (rest.0.0, first.0.1 ∷ rest.0.1) ≡ (v, accounts) = ap (reached_in (v, accounts)) rest.2 in
+    let there : outcome_of rest.0.0 step.instruction ≡ Ok done = ap (λ (x : ScriptState × List Account). outcome_of x.0 step.instruction) here ∙ is in
+    let more = meaning_more first.0.0 before step rest.0.0 rest.0.1 done rest.1 there in
+    ap (λ r. r >>= (λ d. meaning d.0 (before ++ step ∷ []) >>= (λ others. Ok (others.0, d.1 ∷ others.1)))) first.1
+    ∙ ap (λ (r : Course). r >>= (λ others. Ok (others.0, first.0.1 ∷ others.1))) more
+    ∙ ap (λ (x : ScriptState × List Account). Ok (done.0, x.1 ++ done.1 ∷ [])) here
+
+pub says_more : (accounts : List Account) (text : List ℕ) (account : Account) (more : List ℕ) → SaysAll accounts text → Says account more → SaysAll (accounts ++ account ∷ []) (text ++ more)
+says_more [] text account more says new = (more, [], new, refl, ap (λ l. l ++ more) says ∙ sym (append-nil more))
+says_more (a ∷ accounts) text account more says new =
+    (says.0, says.1 ++ more, says.2, says_more accounts says.1 account more says.3 new, ap (λ l. l ++ more) says.4 ∙ append_assoc says.0 says.1 more)
+
+-- ---- the plan
+
+names_more : (before : List Numbered) (step : Numbered) → names_in (before ++ step ∷ []) ≡ names_in before ++ given_by step.instruction
+unfolding names_in
+names_more [] step = append-nil (given_by step.instruction)
+names_more (s ∷ before) step = ap (λ l. given_by s.instruction ++ l) (names_more before step) ∙ sym (append_assoc (given_by s.instruction) (names_in before) (given_by step.instruction))
+
+files_more : (before : List Numbered) (step : Numbered) → files_in (before ++ step ∷ []) ≡ files_in before ++ file_of step.instruction
+unfolding files_in
+files_more before step =
+    flat_map-append (λ (s : Numbered). file_of s.instruction) before (step ∷ [])
+    ∙ ap (λ paths. files_in before ++ paths) (append-nil (file_of step.instruction))
+
+planned_at : (given : List (List ℕ)) (steps : List Numbered) (i : ℕ) (d : Planned) (e : Numbered) → i < length steps
+    → get_or (planned_after given steps) i d ≡ record { line = (get_or steps i e).line; instruction = (get_or steps i e).instruction; list = number_after (given ++ names_in (take i steps)) (get_or steps i e).instruction }
+unfolding planned_after names_in
+planned_at given [] i d e inside = absurd (omega (arith, inside))
+planned_at given (s ∷ steps) zero d e inside = ap (λ g. record { line = s.line; instruction = s.instruction; list = number_after g s.instruction }) (sym (append-nil given))
+planned_at given (s ∷ steps) (suc i) d e inside =
+    planned_at (given ++ given_by s.instruction) steps i d e (omega (arith, inside))
+    ∙ ap (λ g. record { line = (get_or steps i e).line; instruction = (get_or steps i e).instruction; list = number_after g (get_or steps i e).instruction }) (append_assoc given (given_by s.instruction) (names_in (take i steps)))
+
+planned_long : (given : List (List ℕ)) (steps : List Numbered) → length (planned_after given steps) ≡ length steps
+unfolding planned_after
+planned_long given [] = refl
+planned_long given (s ∷ steps) = ap suc (planned_long (given ++ given_by s.instruction) steps)
+
+-- ---- the loop over the plan
+
+module _ (files : Files) (before : List Numbered) (step : Numbered) (old : Environment) (now next : Moment) (so_far : Reached files before old now) where
+  abbrev world : ScriptState
+  world = world_of now.set so_far.done.named so_far.done.made
+
+  reached_more : (did : StepDone (step_in world step.instruction now.environment next.environment) next.set next.lists) → paths_of next.lists ≡ paths_of now.lists ++ file_of step.instruction → Reached files (before ++ step ∷ []) old next
+  reached_more did paths = record {
+    done = record {
+      named = did.named;
+      made = did.files;
+      accounts = so_far.done.accounts ++ did.account ∷ [];
+      text = so_far.done.text ++ did.told.0;
+      means = meaning_more (start files) before step world so_far.done.accounts (world_of next.set did.named did.files, did.account) so_far.done.means did.is;
+      has = did.has;
+      says = says_more so_far.done.accounts so_far.done.text did.account did.told.0 so_far.done.says did.told.1;
+      written = Appends-trans old.text now.environment.text next.environment.text so_far.done.text did.told.0 so_far.done.written did.told.2;
+    };
+    stand = did.stand;
+    names = names_after world step.instruction (world_of next.set did.named did.files, did.account) did.is ∙ ap (λ l. l ++ given_by step.instruction) so_far.names ∙ sym (names_more before step);
+    paths = paths ∙ ap (λ l. l ++ file_of step.instruction) so_far.paths ∙ sym (files_more before step);
+  }
+
+pub reached_start : (files : Files) (old : Environment) (set : Held) (lists : List KeyList) → old.files ≡ Some files → set.keys ≡ finset.empty → set.bits ≡ MIN_BITS → lists ≡ [] → Reached files [] old (record { set = set; lists = lists; environment = old })
+unfolding meaning names_in files_in
+reached_start files old set lists known keys bits none = record {
+  done = record {
+    named = [];
+    made = given_files files;
+    accounts = [];
+    text = [];
+    means = λ i. Ok (record { held = sym keys i; bits = sym bits i; lists = []; files = given_files files }, []);
+    has = subst (HasFiles (given_files files)) (sym known) (λ path. given_file (files path));
+    says = refl;
+    written = Appends-nil old.text;
+  };
+  stand = subst (λ l. ListsStand old.files l []) (sym none) tt;
+  names = refl;
+  paths = ap paths_of none;
+}
+
+-- ---- a step of a plan
+
+-- the step that the plan has at this position is the script's, and has its number
+pub record StepAt (steps : List Numbered) (i : ℕ) (step : PlannedStep) : Type 0 where
+  pub numbered : Numbered
+  pub parts : steps ≡ take i steps ++ numbered ∷ drop (i + 1) steps
+  pub more : take (i + 1) steps ≡ take i steps ++ numbered ∷ []
+  pub line : step.line ≡ numbered.line
+  pub said : (task_as step.task).0 ≡ numbered.instruction
+  pub number : number_after (names_in (take i steps)) (task_as step.task).0 ≡ (task_as step.task).1
+
+map_at : (items : List PlannedStep) (i : ℕ) (d : PlannedStep) (e : Planned) → i < length items → get_or (map planned_as items) i e ≡ planned_as (get_or items i d)
+map_at [] i d e inside = absurd (omega (arith, inside))
+map_at (x ∷ items) zero d e inside = refl
+map_at (x ∷ items) (suc i) d e inside = map_at items i d e (omega (arith, inside))
+
+drop_at_place : (steps : List Numbered) (i : ℕ) (e : Numbered) → i < length steps → drop i steps ≡ get_or steps i e ∷ drop (i + 1) steps
+drop_at_place [] i e inside = absurd (omega (arith, inside))
+drop_at_place (s ∷ steps) zero e inside = refl
+drop_at_place (s ∷ steps) (suc i) e inside =
+    let next : suc i + 1 ≡ suc (i + 1) = omega arith in
+    drop_at_place steps i e (omega (arith, inside)) ∙ ap (λ j. get_or steps i e ∷ drop j (s ∷ steps)) (sym next)
+
+all_planned : (items : List PlannedStep) (steps : List Numbered) → map planned_as items ≡ plan_of steps → length items ≡ length steps
+all_planned items steps planned = sym (length-map items planned_as) ∙ ap length planned ∙ planned_long [] steps
+
+pub step_at : (items : List PlannedStep) (steps : List Numbered) (i : ℕ) (d : PlannedStep) → map planned_as items ≡ plan_of steps → i < length items → StepAt steps i (slice_index_or items i d)
+step_at items steps i d planned inside =
+    let step = slice_index_or items i d in
+    let e : Numbered = record { line = 0; instruction = Clear } in
+    let long = all_planned items steps planned in
+    let here : i < length steps = omega (arith, long, inside) in
+    let is = sym (map_at items i d (planned_as d) inside) ∙ ap (λ (l : List Planned). get_or l i (planned_as d)) planned ∙ planned_at [] steps i (planned_as d) e here in
+    let said = ap (λ (p : Planned). p.instruction) is in
+    record {
+      numbered = get_or steps i e;
+      parts = sym (take-append-drop i steps) ∙ ap (λ l. take i steps ++ l) (drop_at_place steps i e here);
+      more = take_more steps i e here;
+      line = ap (λ (p : Planned). p.line) is;
+      said = said;
+      number = ap (number_after (names_in (take i steps))) said ∙ sym (ap (λ (p : Planned). p.list) is);
+    }
+
+module _ (lists : List KeyList) where
+  apart_of : (task : Task) (said : Instruction) → (task_as task).0 ≡ said → ((path : List ℕ) → said ≡ Snapshot path → is_given path (paths_of lists) ≡ false) → IsApart task lists
+  apart_of (tasks.Use list name path) said is apart = tt
+  apart_of (tasks.Add list name) said is apart = tt
+  apart_of (tasks.Drop list name) said is apart = tt
+  apart_of (tasks.Ask list name) said is apart = tt
+  apart_of (tasks.Keep list name) said is apart = tt
+  apart_of (tasks.Flip list name) said is apart = tt
+  apart_of (tasks.Save list name) said is apart = tt
+  apart_of tasks.Clear said is apart = tt
+  apart_of tasks.Dump said is apart = tt
+  apart_of (tasks.Snapshot path) said is apart = apart path.now (sym is)
+  apart_of (tasks.Restore path) said is apart = tt
+
+  pub is_apart : (steps : List Numbered) (i : ℕ) (step : PlannedStep) → SnapshotsAreNew steps → StepAt steps i step → paths_of lists ≡ files_in (take i steps) → IsApart step.task lists
+  is_apart steps i step new here paths =
+      apart_of step.task here.numbered.instruction here.said (λ path is.
+      subst (λ given. is_given path given ≡ false) (sym paths) (new (take i steps) (drop (i + 1) steps) here.numbered path here.parts is).0)
+
+pub has_list : (task : Task) (given : List (List ℕ)) (n : ℕ) → number_after given (task_as task).0 ≡ (task_as task).1 → n ≡ length given → HasList task n
+unfolding number_after
+has_list (tasks.Use list name path) given n number is = tt
+has_list (tasks.Add list name) given n number is = rw is (place_inside name.now given list number)
+has_list (tasks.Drop list name) given n number is = rw is (place_inside name.now given list number)
+has_list (tasks.Ask list name) given n number is = rw is (place_inside name.now given list number)
+has_list (tasks.Keep list name) given n number is = rw is (place_inside name.now given list number)
+has_list (tasks.Flip list name) given n number is = rw is (place_inside name.now given list number)
+has_list (tasks.Save list name) given n number is = tt
+has_list tasks.Clear given n number is = tt
+has_list tasks.Dump given n number is = tt
+has_list (tasks.Snapshot path) given n number is = tt
+has_list (tasks.Restore path) given n number is = tt
+
+pub more_lists : (steps : List Numbered) (i : ℕ) (step : Numbered) (said : Instruction) (n m : ℕ) → take (i + 1) steps ≡ take i steps ++ step ∷ [] → said ≡ step.instruction → n ≡ length (names_in (take i steps)) → m ≡ n + length (given_by said) → m ≡ length (names_in (take (i + 1) steps))
+more_lists steps i step said n m more is so_far grown =
+    let both : length (names_in (take i steps) ++ given_by step.instruction) ≡ length (names_in (take i steps)) + length (given_by step.instruction) = length-append (names_in (take i steps)) (given_by step.instruction) in
+    let same : length (given_by said) ≡ length (given_by step.instruction) = ap (λ s. length (given_by s)) is in
+    let now : length (names_in (take (i + 1) steps)) ≡ length (names_in (take i steps) ++ given_by step.instruction) = ap length (ap names_in more ∙ names_more (take i steps) step) in
+    omega (arith, both, same, now, so_far, grown)
+
+module _ (files : Files) (steps : List Numbered) (i : ℕ) (step : PlannedStep) (old : Environment) (now : Moment) (here : StepAt steps i step) (so_far : Reached files (take i steps) old now) where
+  abbrev world_here : ScriptState
+  world_here = world_of now.set so_far.done.named so_far.done.made
+
+  pub its_number : number_after (names_of so_far.done.named) (task_as step.task).0 ≡ (task_as step.task).1
+  its_number = subst (λ given. number_after given (task_as step.task).0 ≡ (task_as step.task).1) (sym so_far.names) here.number
+
+  pub goes_on : (next : Moment) → StepDone (step_in world_here (task_as step.task).0 now.environment next.environment) next.set next.lists → paths_of next.lists ≡ paths_of now.lists ++ file_of (task_as step.task).0 → Reached files (take (i + 1) steps) old next
+  goes_on next did paths =
+      let its = subst (λ said. StepDone (step_in world_here said now.environment next.environment) next.set next.lists) here.said did in
+      let its_paths = subst (λ said. paths_of next.lists ≡ paths_of now.lists ++ file_of said) here.said paths in
+      subst (λ l. Reached files l old next) (sym here.more) (reached_more files (take i steps) here.numbered old now next so_far its its_paths)
+
+  pub stops_here : (new : Environment) (cause : Cause) → now.environment.failures ≡ old.failures → now.environment.refused_starts ≡ old.refused_starts
+      → EndsBy (step_in world_here (task_as step.task).0 now.environment new) cause × LeavesFiles (step_in world_here (task_as step.task).0 now.environment new) so_far.done.made cause
+      → Stopped files steps old new (record { line = step.line; cause = cause })
+  stops_here new cause fine started ends = record {
+    before = take i steps;
+    step = here.numbered;
+    after = drop (i + 1) steps;
+    parts = here.parts;
+    line = here.line;
+    world = world_here;
+    accounts = so_far.done.accounts;
+    text = so_far.done.text;
+    means = so_far.done.means;
+    says = so_far.done.says;
+    middle = now.environment;
+    written = so_far.done.written;
+    fine = fine;
+    started = started;
+    ends = subst (λ said. EndsBy (step_in world_here said now.environment new) cause) here.said ends.0;
+    files_now = subst (λ said. LeavesFiles (step_in world_here said now.environment new) so_far.done.made cause) here.said ends.1;
+  }
+
+pub all_carried_out : (files : Files) (items : List PlannedStep) (steps : List Numbered) (i : ℕ) (old : Environment) (now : Moment) → map planned_as items ≡ plan_of steps → length items ≤ i → Reached files (take i steps) old now → CarriedOut files steps now.set old now.environment
+all_carried_out files items steps i old now planned ended so_far =
+    let all : take i steps ≡ steps = take_all i steps (omega (arith, all_planned items steps planned, ended)) in
+    subst (λ l. CarriedOut files l now.set old now.environment) all so_far.done
+
+pub steps_of_plan : (planned : List Planned) (steps : List Numbered) → planned ≡ plan_of steps → length planned ≡ length steps
+steps_of_plan planned steps is = ap length is ∙ planned_long [] steps
+
+pub all_done : (files : Files) (steps : List Numbered) (set : Held) (old new : Environment) (commands held bits : ℕ) → CarriedOut files steps set old new → commands ≡ length steps → held ≡ finset.len set.keys → bits ≡ set.bits → new.failures ≡ old.failures → new.refused_starts ≡ old.refused_starts → Done files steps old new (record { commands = commands; held = held; bits = bits })
+all_done files steps set old new commands held bits carried many held_is bits_is fine started = record {
+  world = world_of set carried.named carried.made;
+  accounts = carried.accounts;
+  text = carried.text;
+  means = carried.means;
+  says = carried.says;
+  written = carried.written;
+  files_now = carried.has;
+  told = λ i. record { commands = many i; held = held_is i; bits = bits_is i };
+  fine = fine;
+  started = started;
+}

@@ -1,0 +1,54 @@
+use Rattle.std.proofs.Common.{◌∙◌, ap, refl, length, take}
+use Rattle.rh_script.specs.Names.{names_in}
+use Rattle.rh_script_run.proofs.RunLemmas.{all_carried_out, goes_on, has_list, is_apart, its_number, more_lists, reached_start, step_at, stops_here}
+use Rattle.rh_script_run.proofs.running.carry_out_all.Goals as goal
+
+pub carry_out-told-requires-after_bounds : goal.carry_out-told-requires-after_bounds
+carry_out-told-requires-after_bounds g c κs within =
+    let steps = c.requires.planned.0 in
+    let i = c.loop-step.step-index in
+    let here = step_at c.steps-step-items.result.now steps i _ (c.steps-step-items.ensures ∙ c.requires.planned.1) c.loop-step-test.true in
+    has_list _ (names_in (take i steps)) (length c.loop-step.lists.items) here.number (c.loop-step.invariant.many steps c.requires.planned.1)
+
+pub loop-step-init : goal.loop-step-init
+unfolding names_in
+loop-step-init g c = record {
+  still_unknown = λ unknown. unknown;
+  fine = refl;
+  started = refl;
+  written = refl;
+  many = λ steps planned. ap length c.new-lists.ensures.items;
+  reached = λ files steps known planned fresh. reached_start files _ c.args.set c.new-lists.result.items known c.requires.keys c.requires.bits c.new-lists.ensures.items;
+}
+
+pub returns-in-Err-clause-meant : goal.returns-in-Err-clause-meant
+returns-in-Err-clause-meant g c files steps known planned fresh =
+    let i = c.loop-step.step-index in
+    let here = step_at c.steps-step-items.result.now steps i _ (c.steps-step-items.ensures ∙ planned) c.loop-step-test.true in
+    let so_far = c.loop-step.invariant.reached files steps known planned fresh in
+    let apart = is_apart c.loop-step.lists.items steps i _ fresh here so_far.paths in
+    let ends = c.in-Err.ensures.step so_far.done.named so_far.done.made so_far.done.has so_far.stand (its_number files steps i _ _ _ here so_far) apart in
+    stops_here files steps i _ _ _ here so_far _ _ c.loop-step.invariant.fine c.loop-step.invariant.started ends
+
+pub loop-step-preserved : goal.loop-step-preserved
+loop-step-preserved g c =
+    let i = c.loop-step.step-index in
+    record {
+      still_unknown = λ unknown. c.in_default.ensures.shelf.still_unknown (c.loop-step.invariant.still_unknown unknown);
+      fine = c.in_default.ensures.shelf.fine ∙ c.loop-step.invariant.fine;
+      started = c.in_default.ensures.runner.fine ∙ c.loop-step.invariant.started;
+      written = c.in_default.ensures.writer.fine ∙ c.loop-step.invariant.written;
+      many = λ steps planned.
+          let here = step_at c.steps-step-items.result.now steps i _ (c.steps-step-items.ensures ∙ planned) c.loop-step-test.true in
+          more_lists steps i here.numbered _ _ _ here.more here.said (c.loop-step.invariant.many steps planned) c.in_default.ensures.lists;
+      reached = λ files steps known planned fresh.
+          let here = step_at c.steps-step-items.result.now steps i _ (c.steps-step-items.ensures ∙ planned) c.loop-step-test.true in
+          let so_far = c.loop-step.invariant.reached files steps known planned fresh in
+          let apart = is_apart c.loop-step.lists.items steps i _ fresh here so_far.paths in
+          let did = c.in_default.ensures.step so_far.done.named so_far.done.made so_far.done.has so_far.stand (its_number files steps i _ _ _ here so_far) apart in
+          goes_on files steps i _ _ _ here so_far _ did c.in_default.ensures.paths;
+    }
+
+pub returns-clause-meant : goal.returns-clause-meant
+returns-clause-meant g c files steps known planned fresh =
+    all_carried_out files c.steps-step-items.result.now steps c.loop-step.step-index _ _ (c.steps-step-items.ensures ∙ planned) c.loop-step-test.false (c.loop-step.invariant.reached files steps known planned fresh)

@@ -1,0 +1,24 @@
+use Rattle.std.proofs.Common.{◌≡◌, List, None, Some, length, take}
+use Rattle.rh_script.specs.Instruction.{Numbered}
+use Rattle.rh_script.specs.Names.{SnapshotsAreNew, names_in}
+use Rattle.rh_script.specs.Plan.{plan_of}
+use Rattle.rh_script.specs.Tasks.{planned_of}
+use Rattle.rh_shelf.specs.Shelf.{Files}
+use Rattle.rh_script_run.specs.Environment.{environment}
+use Rattle.rh_script_run.specs.Reached.{Reached}
+use Rattle.rh_script_run.proofs.running.carry_out_all.Given as goal
+
+abbrev pub invariant-loop-step : goal.invariant-loop-step
+invariant-loop-step g l = record {
+  still_unknown : g.S.Shelf.files l.fn.shelf ≡ None → g.S.Shelf.files l.shelf ≡ None;
+  fine : g.S.Shelf.failures l.shelf ≡ g.S.Shelf.failures l.fn.shelf;
+  started : g.N.Runner.refused_starts l.runner ≡ g.N.Runner.refused_starts l.fn.runner;
+  written : l.writer.failures ≡ l.fn.writer.failures;
+  many : (steps : List Numbered) → planned_of l.fn.plan ≡ plan_of steps → length l.lists.items ≡ length (names_in (take l.step-index steps));
+  reached : (files : Files) (steps : List Numbered) → g.S.Shelf.files l.fn.shelf ≡ Some files → planned_of l.fn.plan ≡ plan_of steps → SnapshotsAreNew steps
+      → Reached files (take l.step-index steps) (environment (g.S.Shelf.files l.fn.shelf) (g.S.Shelf.failures l.fn.shelf) (g.N.Runner.refused_starts l.fn.runner) (g.W.Write.contents l.fn.writer.inner)) (record {
+        set = l.set;
+        lists = l.lists.items;
+        environment = environment (g.S.Shelf.files l.shelf) (g.S.Shelf.failures l.shelf) (g.N.Runner.refused_starts l.runner) (g.W.Write.contents l.writer.inner);
+      });
+}

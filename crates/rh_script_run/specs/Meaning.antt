@@ -1,0 +1,152 @@
+-- What a script means: what its commands make, one after the other, of a set, the bits of its
+-- table, the lists that have a name and the files, and what each has to report. It ends at the first command that is
+-- refused.
+use Rattle.std.specs.Prelude.{ℕ, ◌+◌, true, false, List, [], ◌∷◌, ◌++◌, length, Option, Some, None, Result, Ok, Err, unwrap_or}
+use Rattle.std.specs.FinSet as set
+use Rattle.std.specs.Str.{bytes_eq}
+use Rattle.std.specs.Map.{lookup}
+use Rattle.rh_layout.specs.Layout.{Keys}
+use Rattle.rh_layout.specs.declared.limits.TheConstants.{MIN_BITS}
+use Rattle.rh_edit.specs.Held.{Held}
+use Rattle.rh_edit.specs.Rising.{rising_keys}
+use Rattle.rh_ledger.specs.declared.tally.Kind.TheVariants.{Insert, Remove}
+use Rattle.rh_ledger.specs.Phase.{set_after, tally_of, looked_up}
+use Rattle.rh_key_files.specs.declared.fault.KeyFault.TheVariants.{NotKeys}
+use Rattle.rh_key_files.specs.Source.{keys_of_file}
+use Rattle.rh_snapshot.specs.Reading.{file_table}
+use Rattle.rh_runner.specs.Lists.{chosen}
+use Rattle.rh_script.specs.Instruction.{Instruction, Numbered}
+use Rattle.rh_script.specs.Instruction as instructions
+use Rattle.rh_shelf.specs.Shelf.{Files}
+use Rattle.rh_report.specs.Account.{Account, Used, Added, Dropped, Asked, Kept, Flipped, Saved, Cleared, Dumped, Restored}
+use Rattle.rh_report.specs.Account as accounts
+use Rattle.rh_operations.specs.declared.cause.Cause.{Cause}
+use Rattle.rh_operations.specs.declared.cause.Cause.TheVariants as causes
+use Rattle.rh_operations.specs.declared.cause.Cause.TheVariants.{Missing}
+use Rattle.rh_operations.specs.Found.{keys_or_cause, table_or_cause}
+use Rattle.rh_operations.specs.Sequence.{◌>>=◌}
+use Rattle.rh_operations.specs.Size.{size_for}
+use Rattle.rh_script_run.specs.declared.fault.RunFault.{RunFault}
+use Rattle.rh_script_run.specs.Files.{File, FileMap, Bytes, Sealed, given_files, with_snapshot}
+
+-- what there is between two commands: the keys that are held, the bits of their table, the lists by their names in the
+-- order in which they were given, and the files
+pub record ScriptState : Type 0 where
+  pub held : Keys
+  pub bits : ℕ
+  pub lists : List (List ℕ × List ℕ)
+  pub files : FileMap
+
+-- before the first command
+abbrev pub start : Files → ScriptState
+start files = record { held = set.empty; bits = MIN_BITS; lists = []; files = given_files files }
+
+-- the list of this name; a script names no other
+abbrev pub list_of : (name : List ℕ) → List (List ℕ × List ℕ) → List ℕ
+list_of name lists = unwrap_or (lookup (λ other. bytes_eq other name) lists) []
+
+-- ---- what a command makes, or why it is refused
+
+abbrev pub Outcome : Type 0
+Outcome = Result (ScriptState × Account) Cause
+
+-- the keys of the file at a path, or why it has none; a snapshot is no key file
+abbrev pub keys_in : Option File → Result (List ℕ) Cause
+keys_in None = Err Missing
+keys_in (Some (Bytes bytes)) = keys_or_cause (keys_of_file bytes)
+keys_in (Some (Sealed table)) = Err (causes.Keys NotKeys)
+
+-- the table of the snapshot at a path, or why there is none
+abbrev pub table_in : Option File → Result Held Cause
+table_in None = Err Missing
+table_in (Some (Bytes bytes)) = table_or_cause (file_table bytes)
+table_in (Some (Sealed table)) = Ok table
+
+-- the list has a name from now on
+abbrev pub named : ScriptState → (name keys : List ℕ) → ScriptState
+named w name keys = record w { lists = w.lists ++ (name, keys) ∷ [] }
+
+abbrev pub uses : ScriptState → (name path : List ℕ) → Outcome
+uses w name path = keys_in (w.files path) >>= (λ keys. Ok (named w name keys, Used name (length keys)))
+
+-- the keys of the list are held too
+abbrev pub adds : ScriptState → (name keys : List ℕ) → Outcome
+adds w name keys =
+    let held = set_after Insert w.held keys in
+    size_for w.bits (set.len w.held + length keys)
+    >>= (λ bits. Ok (record w { held = held; bits = bits }, Added name (length keys) (tally_of Insert w.held keys).added (set.len held) bits))
+
+-- the keys of the list are held no more
+abbrev pub drops : ScriptState → (name keys : List ℕ) → Outcome
+drops w name keys =
+    let held = set_after Remove w.held keys in
+    Ok (record w { held = held }, Dropped name (length keys) (tally_of Remove w.held keys).removed (set.len held) w.bits)
+
+-- the keys of the list are looked up
+abbrev pub asks : ScriptState → (name keys : List ℕ) → Outcome
+asks w name keys = Ok (w, Asked name (looked_up w.held keys))
+
+-- of the keys that are held, those of the list are kept
+abbrev pub keeps : ScriptState → (name keys : List ℕ) → Outcome
+keeps w name keys =
+    let found = chosen true w.held keys in
+    let held = set_after Insert set.empty found in
+    size_for MIN_BITS (length found)
+    >>= (λ bits. Ok (record w { held = held; bits = bits }, Kept name (length keys) (length found) (set.len held) bits))
+
+-- the keys of the list that are held are dropped, and the others are added
+abbrev pub flips : ScriptState → (name keys : List ℕ) → Outcome
+flips w name keys =
+    let others = chosen false w.held keys in
+    let left = set_after Remove w.held keys in
+    let held = set_after Insert left others in
+    size_for w.bits (set.len left + length others)
+    >>= (λ bits. Ok (record w { held = held; bits = bits }, Flipped name (length keys) (tally_of Remove w.held keys).removed (tally_of Insert left others).added (set.len held) bits))
+
+-- the keys that are held become a list, in rising order
+abbrev pub saves : ScriptState → (name : List ℕ) → Outcome
+saves w name = Ok (named w name (rising_keys w.held), Saved name (set.len w.held))
+
+abbrev pub clears : ScriptState → Outcome
+clears w = Ok (record w { held = set.empty; bits = MIN_BITS }, Cleared)
+
+abbrev pub dumps : ScriptState → Outcome
+dumps w = Ok (w, Dumped w.held w.bits)
+
+abbrev pub table_of : ScriptState → Held
+table_of w = record { bits = w.bits; keys = w.held }
+
+-- the path has a snapshot of the table from now on
+abbrev pub snapshots : ScriptState → (path : List ℕ) → Outcome
+snapshots w path = Ok (record w { files = with_snapshot w.files path (table_of w) }, accounts.Sealed path (set.len w.held) w.bits)
+
+-- the table is that of the snapshot
+abbrev pub restores : ScriptState → (path : List ℕ) → Outcome
+restores w path =
+    table_in (w.files path)
+    >>= (λ table. Ok (record w { held = table.keys; bits = table.bits }, Restored path (set.len table.keys) table.bits))
+
+unfoldable pub outcome_of : ScriptState → Instruction → Outcome
+outcome_of w (instructions.Use name path) = uses w name path
+outcome_of w (instructions.Add name) = adds w name (list_of name w.lists)
+outcome_of w (instructions.Drop name) = drops w name (list_of name w.lists)
+outcome_of w (instructions.Ask name) = asks w name (list_of name w.lists)
+outcome_of w (instructions.Keep name) = keeps w name (list_of name w.lists)
+outcome_of w (instructions.Flip name) = flips w name (list_of name w.lists)
+outcome_of w (instructions.Save name) = saves w name
+outcome_of w instructions.Clear = clears w
+outcome_of w instructions.Dump = dumps w
+outcome_of w (instructions.Snapshot path) = snapshots w path
+outcome_of w (instructions.Restore path) = restores w path
+
+-- ---- the steps of a script
+
+abbrev pub at_line : ℕ → Outcome → Result (ScriptState × Account) RunFault
+at_line line (Ok done) = Ok done
+at_line line (Err cause) = Err (record { line = line; cause = cause })
+
+-- what the steps make, and their accounts; or the first refusal
+unfoldable pub meaning : ScriptState → List Numbered → Result (ScriptState × List Account) RunFault
+meaning w [] = Ok (w, [])
+meaning w (step ∷ steps) =
+    at_line step.line (outcome_of w step.instruction) >>= (λ done. meaning done.0 steps >>= (λ rest. Ok (rest.0, done.1 ∷ rest.1)))

@@ -1,0 +1,309 @@
+use rh_edit::SeqSet;
+use rh_key_files::{HeldKeys, KeySource};
+use rh_ledger::{Kind, Tally};
+use rh_runner::*;
+use std::alloc::Global;
+use std::process::Abort;
+use std::sync::Wait;
+use std::test::*;
+use std::thread::Threads;
+
+mod batches;
+
+// The bits of a table that takes a long list.
+const BITS: u32 = 18;
+
+const NOTHING: Tally = Tally {
+    read: 0,
+    added: 0,
+    removed: 0,
+    found: 0,
+};
+
+// The keys from 1 to 200,000: more than one phase has.
+fn many_keys(alloc: Global) -> Result<Vec<u64>, Fail> {
+    let mut keys = vec![in alloc; 0; 200_000]?;
+    for (i, key) in keys.iter_mut().enumerate() {
+        *key = i as u64 + 1;
+    }
+    Ok(keys)
+}
+
+fn list_of<'a>(rt: &impl Abort, keys: &'a [u64]) -> HeldKeys<'a> {
+    assert!(rt; keys.iter().all(|key| *key <= 200_000));
+    HeldKeys::new(keys)
+}
+
+fn table_of(rt: &(impl Abort + AllocGlobal), keys: &[u64]) -> Result<SeqSet, Fail> {
+    assert!(rt; keys.len() <= 200_000 && keys.iter().all(|key| *key <= 200_000));
+    Ok(SeqSet::from_keys(rt.alloc(), BITS, keys)?)
+}
+
+// A small table of 1, 9 and 17.
+fn three_keys(alloc: Global) -> Result<SeqSet, Fail> {
+    Ok(SeqSet::from_keys(alloc, 3, &[1, 9, 17])?)
+}
+
+// What a change of the table of these keys told, and the cells after it.
+type Changed = (Result<Tally, ListFault>, Vec<u64>);
+
+fn change(
+    rt: &(impl Threads + Wait + Sync + Abort + AllocGlobal),
+    runner: &mut impl Runner,
+    kind: Kind,
+    held: &[u64],
+    list: &mut impl KeySource,
+) -> Result<Changed, Fail> {
+    let set = table_of(rt, held)?;
+    assert!(rt; set.bits() == BITS && set.len() < 10 && list.left() <= 200_000);
+    assert!(rt; kind != Kind::Ask);
+    let mut cells = set.into_cells();
+    let told = change_all(rt, rt.alloc(), runner, kind, BITS, &mut cells, list);
+    Ok((told, cells))
+}
+
+// Which keys of a list are in the table of 1, 9 and 17.
+fn look_up(
+    rt: &(impl Threads + Wait + Sync + Abort + AllocGlobal),
+    runner: &mut impl Runner,
+    list: &mut impl KeySource,
+) -> Result<Result<Vec<bool>, ListFault>, Fail> {
+    let set = three_keys(rt.alloc())?;
+    let (alloc, bits, cells) = (rt.alloc(), set.bits(), set.cells());
+    Ok(ask_all(rt, alloc, runner, bits, cells, list))
+}
+
+// How many keys of a list are in the table of 1, 9 and 17, or are not.
+fn count(
+    rt: &(impl Threads + Wait + Sync + Abort + AllocGlobal),
+    runner: &mut impl Runner,
+    wanted: bool,
+    list: &mut impl KeySource,
+) -> Result<Result<u64, ListFault>, Fail> {
+    let set = three_keys(rt.alloc())?;
+    let (alloc, bits, cells) = (rt.alloc(), set.bits(), set.cells());
+    Ok(count_chosen(rt, alloc, runner, wanted, bits, cells, list))
+}
+
+// Inserts the keys of a list that are in the table of 1, 9 and 17, or are not, which an earlier
+// reading found to be so many.
+fn insert(
+    rt: &(impl Threads + Wait + Sync + Abort + AllocGlobal),
+    wanted: bool,
+    many: u64,
+    held: &[u64],
+    list: &mut impl KeySource,
+) -> Result<Changed, Fail> {
+    let set = table_of(rt, held)?;
+    assert!(rt; set.bits() == BITS && set.len() < 10 && many <= 200_000);
+    let mut cells = set.into_cells();
+    let old = three_keys(rt.alloc())?;
+    let (alloc, runner) = (rt.alloc(), &mut Single);
+    let (bits, old) = (old.bits(), old.cells());
+    let told = insert_chosen(
+        rt, alloc, runner, wanted, many, bits, old, BITS, &mut cells, list,
+    );
+    Ok((told, cells))
+}
+
+// Removes the keys of a list, and counts those that another table does not hold.
+fn remove(
+    rt: &(impl Threads + Wait + Sync + Abort + AllocGlobal),
+    old: &[u64],
+    held: &[u64],
+    list: &mut impl KeySource,
+) -> Result<(Result<(Tally, u64), ListFault>, Vec<u64>), Fail> {
+    let old = table_of(rt, old)?;
+    let set = table_of(rt, held)?;
+    assert!(rt; old.bits() == BITS && set.bits() == BITS);
+    let mut cells = set.into_cells();
+    let (alloc, old) = (rt.alloc(), old.cells());
+    let told = remove_and_count_absent(rt, alloc, &mut Single, BITS, old, &mut cells, list);
+    Ok((told, cells))
+}
+
+// The cells are those of the table of these keys.
+fn assert_holds(rt: &(impl Abort + AllocGlobal), cells: &[u64], keys: &[u64]) -> Result<(), Fail> {
+    assert!(rt; cells == table_of(rt, keys)?.cells());
+    Ok(())
+}
+
+#[test]
+fn a_long_list_changes_a_table(rt: HostRuntime) -> Result<(), Fail> {
+    let keys = many_keys(rt.alloc())?;
+    let mut list = list_of(&rt, &keys);
+    let (told, cells) = change(&rt, &mut Single, Kind::Insert, &[], &mut list)?;
+    let tally = Tally {
+        read: 200_000,
+        added: 200_000,
+        ..NOTHING
+    };
+    assert_eq!(rt; told, Ok(tally));
+    assert_holds(&rt, &cells, &keys)
+}
+
+#[test]
+fn a_long_list_is_looked_up(rt: HostRuntime) -> Result<(), Fail> {
+    let keys = many_keys(rt.alloc())?;
+    let found = look_up(&rt, &mut Single, &mut list_of(&rt, &keys))??;
+    assert_eq!(rt; found.len(), 200_000);
+    assert!(rt;
+        found
+            .iter()
+            .zip(1..)
+            .all(|(there, key)| *there == [1, 9, 17].contains(&key))
+    );
+    Ok(())
+}
+
+#[test]
+fn the_found_of_a_long_list_are_counted(rt: HostRuntime) -> Result<(), Fail> {
+    let keys = many_keys(rt.alloc())?;
+    for (wanted, many) in [(true, 3), (false, 199_997)] {
+        let told = count(&rt, &mut Single, wanted, &mut list_of(&rt, &keys))?;
+        assert_eq!(rt; told, Ok(many));
+    }
+    Ok(())
+}
+
+#[test]
+fn a_long_list_is_read_through(rt: HostRuntime) -> Result<(), Fail> {
+    let keys = many_keys(rt.alloc())?;
+    assert_eq!(rt; read_through(&mut list_of(&rt, &keys)), Ok(()));
+    Ok(())
+}
+
+const CHANGED: Result<Tally, ListFault> = Err(ListFault::Changed);
+
+// How many of the long list an earlier reading found, and what comes of it.
+const MANY_CHOICES: &[(u64, Result<Tally, ListFault>)] = &[
+    (199_996, CHANGED),
+    (
+        199_997,
+        Ok(Tally {
+            read: 199_997,
+            added: 199_997,
+            ..NOTHING
+        }),
+    ),
+    (199_998, CHANGED),
+];
+
+#[test]
+fn chosen_keys_of_a_long_list(rt: HostRuntime) -> Result<(), Fail> {
+    let keys = many_keys(rt.alloc())?;
+    for &(many, told) in MANY_CHOICES {
+        let (found, _) = insert(&rt, false, many, &[], &mut list_of(&rt, &keys))?;
+        assert_eq!(rt; found, told);
+    }
+    Ok(())
+}
+
+// Each row: whether the keys are wanted that are there, how many an earlier reading found, and what
+// comes of the list 9, 3, 3, 17 in the table of 1, 9 and 17.
+const FEW_CHOICES: &[(bool, u64, Result<Tally, ListFault>)] = &[
+    (false, 1, CHANGED),
+    (
+        false,
+        2,
+        Ok(Tally {
+            read: 2,
+            added: 1,
+            ..NOTHING
+        }),
+    ),
+    (false, 3, CHANGED),
+    (true, 2, Ok(Tally { read: 2, ..NOTHING })),
+    (true, 0, CHANGED),
+];
+
+#[test]
+fn chosen_keys_of_a_short_list(rt: HostRuntime) -> Result<(), Fail> {
+    for &(wanted, many, told) in FEW_CHOICES {
+        let mut list = list_of(&rt, &[9, 3, 3, 17]);
+        let (found, _) = insert(&rt, wanted, many, &[1, 9, 17], &mut list)?;
+        assert_eq!(rt; found, told);
+    }
+    Ok(())
+}
+
+#[test]
+fn keys_are_removed_and_the_absent_counted(rt: HostRuntime) -> Result<(), Fail> {
+    let mut list = list_of(&rt, &[9, 3, 3, 9]);
+    let (told, cells) = remove(&rt, &[1, 9, 17], &[1, 9, 17, 3], &mut list)?;
+    let tally = Tally {
+        read: 4,
+        removed: 2,
+        ..NOTHING
+    };
+    assert_eq!(rt; told, Ok((tally, 2)));
+    assert_holds(&rt, &cells, &[1, 17])
+}
+
+// It is refused memory for each change, and the start of a thread for each look-up.
+#[derive(Drop)]
+struct Refusing {
+    refused: u64,
+}
+
+impl Runner for Refusing {
+    ghost refused_starts = { λ r. r.refused };
+
+    ghost workers = { λ _. 2 };
+
+    fn change<R: Threads + Wait + Sync>(
+        &mut self,
+        _rt: &R,
+        _alloc: Global,
+        _kind: Kind,
+        _bits: u32,
+        _cells: &mut Vec<u64>,
+        _keys: &[u64],
+    ) -> Result<Tally, PhaseFault> {
+        Err(PhaseFault::Memory)
+    }
+
+    fn ask<R: Threads + Wait + Sync>(
+        &mut self,
+        _rt: &R,
+        _alloc: Global,
+        _bits: u32,
+        _cells: &[u64],
+        _keys: &[u64],
+    ) -> Result<Vec<bool>, PhaseFault> {
+        self.refused = self.refused.saturating_add(1);
+        Err(PhaseFault::NoThread)
+    }
+}
+
+#[test]
+fn faults_of_the_runner_are_told(rt: HostRuntime) -> Result<(), Fail> {
+    let mut refusing = Refusing { refused: 0 };
+    let list = list_of(&rt, &[9, 3]);
+    let no_thread = ListFault::Phase(PhaseFault::NoThread);
+    let asked = look_up(&rt, &mut refusing, &mut { list })?;
+    assert_eq!(rt; asked.err(), Some(no_thread));
+    let counted = count(&rt, &mut refusing, true, &mut { list })?;
+    assert_eq!(rt; counted.err(), Some(no_thread));
+    let (told, _) = change(&rt, &mut refusing, Kind::Remove, &[9], &mut { list })?;
+    assert_eq!(rt; told.err(), Some(ListFault::Phase(PhaseFault::Memory)));
+    Ok(())
+}
+
+#[test]
+fn batches_and_phases_are_so_long(rt: HostRuntime) {
+    assert_eq!(rt; BATCH, 4_096);
+    assert_eq!(rt; PHASE, 196_608);
+    assert_eq!(rt; LOOK_UPS, 1_000_000);
+}
+
+#[test]
+fn faults_of_a_phase_can_be_printed(rt: HostRuntime) -> Result<(), Fail> {
+    for (fault, text) in [
+        (PhaseFault::Memory, "out of memory"),
+        (PhaseFault::NoThread, "cannot start a worker"),
+    ] {
+        assert_eq!(rt; format!(in rt.alloc(); "{fault}")?.as_str(), text);
+    }
+    Ok(())
+}

@@ -1,0 +1,7 @@
+use Rattle.std.proofs.Common.{◌≡◌, length, take}
+use Rattle.rh_stepper.specs.Made.{cut}
+use Rattle.rh_stepper.specs.Start.{joined}
+use Rattle.rh_stepper.proofs.start.count_keys.Given as goal
+
+abbrev pub invariant-loop-piece : goal.invariant-loop-piece
+invariant-loop-piece l = l.count ≡ cut (length (joined (take l.piece-index l.pieces)))

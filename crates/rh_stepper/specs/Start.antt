@@ -1,0 +1,78 @@
+-- Why no player is made, and what one is that was made.
+use Rattle.std.specs.Prelude.{◌≡◌, ℕ, ◌+◌, ◌^◌, ◌<◌, ◌≤◌, Option, Some, None, Bool, if◌then◌else◌, ◌&&◌, not, List, length, nat_le, count_by, slice_index_or, All, Result, Ok, Err, Vec}
+use Rattle.std.specs.List.{flat_map, list_all}
+use Rattle.std.specs.Global.{Global}
+use Rattle.rh_layout.specs.Key.{is_full}
+use Rattle.rh_layout.specs.Test.{layout_test}
+use Rattle.rh_layout.specs.declared.limits.TheConstants.{MAX_KEY}
+use Rattle.rh_ledger.specs.declared.tally.Kind.{Kind}
+use Rattle.rh_ledger.specs.Phase.{most_added}
+use Rattle.rh_descriptor.specs.declared.limits.TheConstants.{MAX_ROOM, MAX_WORKERS}
+use Rattle.rh_descriptor.specs.declared.shape.Rooms.{Rooms}
+use Rattle.rh_descriptor.specs.declared.shape.Shape.{Shape}
+use Rattle.rh_turns.specs.Game.{Game, keys_at}
+use Rattle.rh_turns.specs.Laws.{Starts, WillClaim}
+use Rattle.rh_stepper.specs.declared.fault.PlayFault.{PlayFault}
+use Rattle.rh_stepper.specs.declared.fault.PlayFault.TheVariants.{NotALayout, NoRoom, BadWorkers, BadKey, Memory}
+
+-- ---- why none is made
+
+-- of the table and the workers, where so many keys may be added
+abbrev pub table_fault : (bits : ℕ) (cells : List ℕ) (workers more : ℕ) → Option PlayFault
+table_fault bits cells workers more =
+    if not (layout_test bits cells) then Some NotALayout
+    else if nat_le (2 ^ bits) (count_by is_full cells + more) then Some NoRoom
+    else if not (nat_le 1 workers && nat_le workers MAX_WORKERS) then Some BadWorkers
+    else None
+
+abbrev pub are_keys : List ℕ → Bool
+are_keys keys = list_all (λ k. nat_le k MAX_KEY) keys
+
+abbrev pub then_keys : Option PlayFault → List ℕ → Option PlayFault
+then_keys (Some fault) keys = Some fault
+then_keys None keys = if are_keys keys then None else Some BadKey
+
+-- the first of the faults, but for want of memory
+abbrev pub start_fault : Kind → (bits : ℕ) (cells : List ℕ) (workers : ℕ) (keys : List ℕ) → Option PlayFault
+start_fault kind bits cells workers keys = then_keys (table_fault bits cells workers (most_added kind keys)) keys
+
+-- Want of memory is a fault where there is no other.
+abbrev pub Refuses : Option PlayFault → PlayFault → Type 0
+Refuses None fault = fault ≡ Memory
+Refuses (Some first) fault = fault ≡ first
+
+-- ---- what one is
+
+abbrev pub IsRooms : Rooms → Type 0
+IsRooms rooms = (rooms.descriptors ≤ MAX_ROOM) × (rooms.marks ≤ MAX_ROOM)
+
+-- with this length of the list that is shared, 0 if none is
+abbrev pub shape_for : (bits workers : ℕ) → Rooms → (shared : ℕ) → Shape
+shape_for bits workers rooms shared = record { bits = bits; workers = workers; keys = shared; rooms = rooms }
+
+-- It does these keys on a table of these cells, and no step is made yet.
+pub record StartsWith (kind : Kind) (z : Shape) (cells keys : List ℕ) (g : Game) : Type 0 where
+  pub kind_is : g.kind ≡ kind
+  pub shape_is : g.shape ≡ z
+  pub opening_is : g.opening ≡ cells
+  pub keys_are : g.keys ≡ keys
+  pub starts : Starts g
+
+-- the keys of all pieces, one piece after the other
+abbrev pub joined : List (Vec ℕ Global) → List ℕ
+joined pieces = flat_map (λ piece. piece.items) pieces
+
+-- each worker has its piece
+pub record StartsPieces (kind : Kind) (bits : ℕ) (rooms : Rooms) (cells : List ℕ) (pieces : List (Vec ℕ Global)) (g : Game) : Type 0 where
+  pub start : StartsWith kind (shape_for bits (length pieces) rooms 0) cells (joined pieces) g
+  pub pieces_are : (v : ℕ) (other : Vec ℕ Global) → v < length pieces → keys_at g v ≡ (slice_index_or pieces v other).items
+
+-- so many workers claim the keys
+pub record StartsShared (kind : Kind) (bits workers : ℕ) (rooms : Rooms) (cells keys : List ℕ) (g : Game) : Type 0 where
+  pub start : StartsWith kind (shape_for bits workers rooms (length keys)) cells keys g
+  pub claims : All WillClaim g.hands
+
+-- what comes of a call that makes a player
+abbrev pub Makes : Option PlayFault → (Game → Type 0) → Result Game PlayFault → Type 0
+Makes fault IsMade (Ok g) = (fault ≡ None) × IsMade g
+Makes fault IsMade (Err given) = Refuses fault given
