@@ -1,0 +1,20 @@
+//! One given interleaving of the workers of a phase, a step a turn: a `Player`, whose turns the caller
+//! orders; and plays, which are texts of such orders.
+//!
+//! ```text
+//! let mut player = Player::new(alloc, 3, &[0; 8], Kind::Insert, &pieces)?;
+//! while player.turn(0) != Turn::Did(StepKind::Decide) {}        // up to its first act
+//! let word = player.raw(home(3, 17));                           // what stands in a cell now
+//! run_play(alloc, reader, &mut writer)?;                        // a text of turns, and what it prints
+//! ```
+//!
+//! It hands on what `rh_stepper`, `rh_play` and `rh_play_run` do, with their contracts: each turn is one
+//! step of the protocol on words, and at each moment each key that is done shows in the set.
+#![tactic(auto)]
+
+pub use rh_descriptor::{Rooms, StepKind};
+pub use rh_ledger::{Kind, Tally};
+pub use rh_play::{Order, Play, PlayTextFault, PlayTextKind, parse_play};
+pub use rh_play_run::{DrawFault, PlayRunFault, Telling, draw_play, run_play, tell_play};
+pub use rh_stepper::{PlayFault, Player};
+pub use rh_turns::Turn;
