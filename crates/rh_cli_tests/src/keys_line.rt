@@ -35,8 +35,14 @@ fn listing_of(alloc: Global, words: &[&str]) -> Result<Option<(bool, bool)>, Fai
 // The files that are to be listed, of words that are `list`.
 fn files_of(alloc: Global, words: &[&str]) -> Result<Option<Vec<String>>, Fail> {
     Ok(match line_of(alloc, words)? {
-        Ok(Line::List { files, .. }) => Some(files),
-        Ok(_) | Err(_) => None,
+        Ok(line) => match line {
+            Line::List {
+                files,
+                snapshot: _snapshot,
+            } => Some(files),
+            Line::Pack | Line::Split { .. } => None,
+        },
+        Err(_fault) => None,
     })
 }
 
