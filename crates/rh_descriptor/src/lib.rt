@@ -8,6 +8,7 @@
 //! let shape = Shape { bits: 3, workers: 2, keys: 0, rooms: Rooms::usual() };
 //! shape.words()                                          // 73
 //! shape.index(Part::EntryOld { worker: 1, entry: 0 })    // 44
+//! let mut words = [0u64; 73];                            // no key, and nothing opened
 //! let mut side = Side::new(1, &[0; 8]);                  // of worker 1: it takes no memory
 //! let number = claim_key(&shape, &mut words, &mut side); // 0, and the counter is 1
 //! ```
