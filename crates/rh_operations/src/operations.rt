@@ -1,5 +1,5 @@
-//! What the commands do with the set that is held and with the lists. They take shelf, runner and set
-//! one by one, and no record of them: so what a command leaves alone is seen at its arguments.
+//! What the commands do with the set that is held and with the lists. They take shelf, runner and
+//! set one by one, and no record of them: so what a command leaves alone is seen at its arguments.
 
 ghost use Rattle.std.specs.Prelude.{◌≡◌, ◌+◌, ◌^◌, ◌<◌, ℕ, true, false, List, [], Some, Ok};
 ghost use Rattle.std.specs.Prelude.{IfOk, IfErr, OnErr, OnOk, length};
