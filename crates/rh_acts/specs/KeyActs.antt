@@ -21,6 +21,7 @@ pub record IsFrontAct (n h : ℕ) (act : Act) (olds news : List ℕ) : Type 0 wh
   pub only : (e : Entry) → Contains act e → (p : ℕ) × (p < length olds) × (e ≡ entry (cell_ahead n h p) (slice_index olds p) (slice_index news p))
 
 -- The act puts k in: `seen` is what it finds from the home of k to the first empty cell from where k goes.
+-- In the table of 1, of 3 bits, that of 9 has the entries 4: 2 to 2 and 5: 0 to 10.
 pub record PutsIn (b k : ℕ) (seen : List ℕ) (act : Act) : Type 0 where
   pub key : IsKey k
   pub offset : ℕ
@@ -31,6 +32,8 @@ pub record PutsIn (b k : ℕ) (seen : List ℕ) (act : Act) : Type 0 where
   pub front : IsFrontAct (2 ^ b) (home_of b k) act seen (inserted_at (cell_of k) seen offset)
 
 -- The act takes k out: `seen` is what it finds from the home of k to the first stop after k.
+-- In the table of 8, 16, 21 and 5 that of 8 has the entries 0: 17 to 22, 1: 22 to 6, 2: 6 to 0, 3: 0 to 0 and 7: 9 to 17; the
+-- front begins at cell 7.
 pub record TakesOut (b k : ℕ) (seen : List ℕ) (act : Act) : Type 0 where
   pub offset : ℕ
   pub last : ℕ
@@ -40,6 +43,7 @@ pub record TakesOut (b k : ℕ) (seen : List ℕ) (act : Act) : Type 0 where
   pub front : IsFrontAct (2 ^ b) (home_of b k) act seen (shifted_back seen offset)
 
 -- The act changes nothing: `seen` is what it finds from the home of k to the offset that shows that k is not there.
+-- In the table of 1, 9 and 17 that of 22 has the cells 4 to 7.
 pub record ShowsAbsent (b k : ℕ) (seen : List ℕ) (act : Act) : Type 0 where
   pub offset : ℕ
   pub goes : Finds b k seen (Goes offset)

@@ -55,6 +55,7 @@ sum_of_all tally zero = none_yet
 sum_of_all tally (suc n) = sum_of (sum_of_all tally n) (tally n)
 
 -- where keys are inserted, a cell is free at the end
+-- (that two cells are free before each act follows from it)
 abbrev pub LeavesRoom : Kind → (b : ℕ) (S : Keys) (keys : List ℕ) → Type 0
 LeavesRoom Insert b S keys = set.len (set_after Insert S keys) < 2 ^ b
 LeavesRoom Remove b S keys = Unit {0}

@@ -51,6 +51,7 @@ IsCommand name rows =
     (name ≡ codes "pack") ⊎ ((name ≡ codes "list") ⊎ ((name ≡ codes "split") × HasSplitArguments rows))
 
 -- the flag is told as given: `true` is the text that clap has for a flag that is
+-- (`get_flag` of clap promises nothing of texts that no flag has)
 abbrev pub IsGiven : Text → List Row → Type 0
 IsGiven id rows = first_of id rows ≡ Some (codes "true")
 

@@ -88,6 +88,7 @@ IsCommand name rows =
 -- ---- what a line says
 
 -- the line is the command, with the texts that were found for it
+-- `run --workers=+1 s` and `run s` both say one worker and the script s; `run --workers 17 s` is refused
 abbrev pub Says : Text → List Row → Line → Type 0
 Says name rows Dump = name ≡ codes "dump"
 Says name rows (Run workers script) =

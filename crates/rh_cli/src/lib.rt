@@ -1,4 +1,21 @@
 //! The command lines of the two programs, their streams, and how a program ends.
+//!
+//! `rhset` and `rhkeys` stand on it.
+//!
+//! Proved:
+//!
+//! - `line` of `set_line`: the command is the one that the words name, by the rules of `clap`, with
+//!   what they give. It is refused exactly by the kinds of fault that those rules give.
+//! - `line` of `keys_line`: as for `rhset`. A flag is given exactly where the text that `clap`
+//!   found for it is `true`.
+//! - `ProgramFault::status`, `answer`: the exit status of the faults that any command may meet, and
+//!   of what `clap` answers, by the table `specs/Endings.antt`. A failed write is told only of a
+//!   text that was asked for.
+//! - `words`: its fault is a word that is no text, or want of memory, and never a failed write.
+//! - `buffered_reader`, `buffered_writer`: the stream behind an empty buffer of 8,192 bytes, or
+//!   want of memory.
+//! - `write_out`: the buffer is empty, and of a writer that tells its bytes all is written; or a
+//!   write failed, and none is lost or comes twice.
 #![tactic(auto)]
 
 mod fault;

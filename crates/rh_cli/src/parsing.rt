@@ -61,6 +61,8 @@ pub fn with_subcommand<'a>(
 }
 
 /// What the command finds in the words.
+/// Want of memory may be told whatever the words say: what `clap` is told of the commands takes
+/// some.
 pub fn parsed<'a>(command: Command<'a>, words: &'a [String]) -> Result<ArgMatches<'a>, LineFault>
     requires { is_simple_and_free (app_of command) ≡ true }
     ensures found { IfOk result (λ m.

@@ -49,6 +49,8 @@ mark_row z word = HEAD_WORDS + entry_words z + word
 abbrev pub note_row : Shape → (owner : ℕ) → ℕ
 note_row z owner = HEAD_WORDS + entry_words z + MARK_WORDS + owner
 
+-- With 3 bits and two workers there are 8 + 2 * 32 + 1 = 73 words. Worker 0 has its control in word 8, its row in 9 to 34 with
+-- entry 0 in 11 to 13, its mark row in 35 to 37 and its notes in 38 and 39. Worker 1 begins at 40, and the counter is word 72.
 abbrev pub index_of : Shape → Part → ℕ
 index_of z (Cell c) = c
 index_of z (Control worker) = row_index z worker 0

@@ -20,6 +20,9 @@ use Rattle.rh_descriptor.specs.View.RowWord.{length_word, cell_word, old_word, n
 use Rattle.rh_descriptor.specs.View.MarkWord.{desc_word, entry_word}
 use Rattle.rh_descriptor.specs.Words.{IsPlain, mark_number, desc_number, number_of, with_entry, serial_in, cell_in, read_control, desc_in, ref_of}
 
+-- Cell 4 of the table beside `index_of`, from empty to key 1, by descriptor 0 of worker 0: the Open takes word 8 from 0 to 1, the
+-- Place word 4 from 0 to 1, the Settle that from 1 to 2, the Decide word 8 from 1 to 2, the Release word 4 from 2 to 8. The next
+-- Open takes word 8 from 2 to 257.
 pub data Step : Type 0 where
   -- Write of a word of an own row
   writes : Part → (word : ℕ) → Step
@@ -89,6 +92,7 @@ HasSerial z v = row_word v.written (mark_row z 0) ≡ v.marks_used
 
 -- The worker knows that an entry of a descriptor of this owner did not hold its old value, and decided no descriptor of the
 -- owner as failed that is not older than that one: so no note to the owner is lost that it is to read.
+-- That any own Decide counts, also one to another result, would be stricter, and cost each worker a list of its own Decides.
 pub record MayNote (v : View) (owner : ℕ) : Type 0 where
   pub desc : Ref
   pub entry : ℕ
@@ -99,6 +103,7 @@ pub record MayNote (v : View) (owner : ℕ) : Type 0 where
 -- This word may be written there: to the descriptor row, while nothing is open, and then the number of the next descriptor
 -- before all else; to the mark row, once the mark that it was of is settled, and then the number of the next mark first; or
 -- to the note to an owner.
+-- Once a row is of the next one, its words may be written in any order, and again: more than the protocol needs.
 abbrev pub IsFree : Shape → View → Part → (word : ℕ) → Type 0
 IsFree z v (part.Cell c) u = ⊥
 IsFree z v (part.Control worker) u = ⊥
@@ -171,6 +176,7 @@ IsNewest v d = (d.worker ≡ v.worker) × (suc d.number ≡ v.next_number)
 -- What is noted of it is true: what a row says is noted only of a descriptor that is known as opened, or of a mark that
 -- was found, and then only once its row is seen to be still of it; that a mark may be settled, only where its control is
 -- read after it was found; a note to the worker, only of its newest descriptor, which that other one decided.
+-- The old value may be read on two grounds: who settles a mark that it met needs to know no more of the descriptor.
 abbrev pub IsNoted : View → Reading → Type 0
 IsNoted v (reading.Word p) = Unit {0}
 IsNoted v (reading.Cell c) = Unit {0}
@@ -201,6 +207,8 @@ pub record CanPlace (z : Shape) (v : View) (d : Ref) (e c old : ℕ) : Type 0 wh
   pub settled : v.side.unsettled ≡ None
 
 -- that the mark may be swapped to its descriptor, or to this old value
+-- Any Read of the control after the mark was found would do; but what is kept of a worker does not tell which Read came after
+-- which finding, so only one that was made for the mark counts.
 abbrev pub MaySettle : View → (x : Ref) → (c : ℕ) → (d : Ref) → (e : ℕ) → Option ℕ → Type 0
 MaySettle v x c d e None = In (may_promote x c) v.side.notes
 MaySettle v x c d e (Some old) = In (may_demote x) v.side.notes × In (old_is d e old) v.side.notes

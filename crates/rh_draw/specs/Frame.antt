@@ -63,5 +63,6 @@ abbrev pub heads_in : Plan → (part : ℕ) → Content
 heads_in plan part = heads plan (moment_y (part * HEAD_STEPS) - HEAD_RISE)
 
 -- at the top and again after so many steps each
+-- (no part of a picture stays in sight, and it has no script)
 abbrev pub all_heads : Plan → Content
 all_heads plan = each (heads_in plan) (plan.end / HEAD_STEPS + 1)

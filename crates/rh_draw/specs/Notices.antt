@@ -44,6 +44,7 @@ abbrev pub verdict_text : (worker control : ℕ) → List ℕ
 verdict_text worker control = codes "desc " ++ (decimal worker ++ (codes " " ++ word_text (Control worker) control))
 
 -- and where that is an act, the values that change
+-- (in one line: two workers may decide in steps that follow one another)
 abbrev pub decision_text : Shape → Standing → (worker : ℕ) → Touched → Option State → List ℕ
 decision_text z s worker touched None = []
 decision_text z s worker touched (Some state) =
@@ -74,6 +75,7 @@ is_over number None = false
 is_over number (Some control) = if number == control.0 then is_decided control.1 else nat_lt number control.0
 
 -- a descriptor to which a cell is swapped, if it is over by then
+-- (it decides nothing, and is told all the same: the order of two lines shows that it comes after the decision)
 abbrev pub late : Shape → (words : List ℕ) → (desc : Option (ℕ × ℕ)) → Option (ℕ × ℕ)
 late z words None = None
 late z words (Some desc) = if is_over desc.1 (control_in (word_at z words (Control desc.0))) then Some desc else None

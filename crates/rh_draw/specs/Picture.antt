@@ -31,6 +31,7 @@ plan z cells given window = record {
 abbrev pub beginning : Shape → (cells : List ℕ) → Standing
 beginning z cells = record { words = all_words z cells; values = cells; since = replicate (length cells) 0 }
 
+-- what comes later stands above: a decision crosses the columns, and the marks stand above all lines
 abbrev pub inside : Plan → Standing → List Record → (width height : ℕ) → Content
 inside plan s given width height =
     beside (frame plan width height)

@@ -76,6 +76,7 @@ abbrev pub mark : (y : ℕ) → Traced → Content
 mark y step = Element (tags.Mark (lane_x step.worker) y step.kind) (labelled tags.Title (step_text step)) Nothing
 
 -- what stands at the height of a step
+-- Step 31 of examples/helping.play, a Decide of worker 1 at the control of worker 0, has a star in lane 1 and a line to lane 0.
 abbrev pub row : (y : ℕ) → Traced → Content
 row y step =
     beside (labelled (tags.Label NUMBERS (y + HALF_LETTER) looks.Number) (decimal step.number))

@@ -1,4 +1,27 @@
 //! A play as a picture: one SVG from the records of its steps.
+//!
+//! `rh_play_run` stands on it. What a picture shows is told by the records and the opening cells
+//! alone.
+//!
+//! Proved:
+//!
+//! - `draw`, `drawn`: where memory is there, the bytes are those of the picture of the steps of the
+//!   window. It is a tree of elements that definitions make of the records, piece by piece.
+//! - Each step of the window has one mark, in the lane of its worker, at the height of its number.
+//!   Its line is there for a browser to tell on hover (`row`).
+//! - Each cell of which such a step changes the word or the value has one column (`heads`), with
+//!   what stood there from each change to the next (`history`).
+//! - Each decision has a line across all lanes and columns, with the values that change where it is
+//!   an act. So has each swap of a mark to a descriptor that was decided before (`notices`), and
+//!   each round that begins there (`rows`).
+//! - `draw`, `well_formed`: the bytes are the text of one element with what it holds. No text has a
+//!   `<`, a `>` or a `&` of its own, nor a byte that is no printable character.
+//! - `marks_are_steps`: beside the marks of its legend a picture has one mark for each step of its
+//!   window, in their order, lanes and heights, and no other.
+//! - `columns_are_changes`: a cell has a column exactly where a step of the window changes its word
+//!   or its value.
+//! - `steps_from`: how many steps there are from a number on, by which a caller can see whether
+//!   they are more than `MAX_STEPS`.
 #![tactic(auto)]
 
 mod boxes;

@@ -1,4 +1,9 @@
 //! Test devices: a reader, a writer and a shelf over memory that fail once.
+//!
+//! The test crates stand on it, and no program does.
+//!
+//! Proved: `FaultyReader`, `FaultyWriter` and `FaultyShelf` fail once, at the call that was asked
+//! for. At each other call they do what a reader, a writer and a shelf over memory do.
 #![tactic(auto)]
 
 mod reader;

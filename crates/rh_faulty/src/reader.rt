@@ -9,6 +9,8 @@ use std::io::{self, AsBytes, Cursor, ErrorKind, Read};
 
 /// A reader over bytes in memory. One of its calls fails once, with an interruption, which std's
 /// own loops would try again; every other call reads on.
+/// So a call that leant on such a loop would pass over the failure, and a test would show it. How
+/// many bytes a call takes is not said: the reader of std below does not promise it.
 #[derive(Drop)]
 pub struct FaultyReader<T> {
     bytes: Cursor<T>,

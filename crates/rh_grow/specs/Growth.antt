@@ -4,6 +4,7 @@ use Rattle.rh_layout.specs.declared.limits.TheConstants.{MAX_BITS}
 use Rattle.rh_grow.specs.declared.capacity.TheConstants.{LOAD_NUMERATOR, LOAD_DENOMINATOR}
 
 -- n keys are no more than the share of 2 ^ b cells that a table may fill
+-- 6 keys fit 3 bits (24 <= 24), 7 do not (28 > 24) and take 4; 196,608 keys fit 18 bits exactly
 abbrev pub Fits : (b n : ℕ) → Type 0
 Fits b n = LOAD_DENOMINATOR * n ≤ LOAD_NUMERATOR * 2 ^ b
 

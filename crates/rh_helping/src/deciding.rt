@@ -175,6 +175,8 @@ impl<T: Steps> Stage<T> for Withdraw {
     }
 }
 
+/// Reads the decider's note before the entries are released, so that a swap ends with its last
+/// Release in each case.
 pub(crate) struct Reason;
 
 impl<T: Steps> Stage<T> for Reason {

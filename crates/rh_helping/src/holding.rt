@@ -12,6 +12,8 @@ use rh_descriptor::{Ask, Part, Reading, Ref, Shape, Side, desc_word, mark_word};
 use rh_steps::Steps;
 
 /// Takes the mark row for the next mark, before all else that is written there.
+/// It comes before the cell is looked at: a worker without marks gives up even where every cell
+/// holds its descriptor.
 pub(crate) struct MarkSerial;
 
 impl<T: Steps> Stage<T> for MarkSerial {
@@ -289,6 +291,9 @@ impl<T: Steps> Stage<T> for Demote {
     }
 }
 
+/// Reads the control once the mark is settled. Whatever a Settle found, its placer owes the cell
+/// until it has released the descriptor there or read it as undecided: less would do in some cases,
+/// but then what is owed would depend on what was found.
 pub(crate) struct Recheck;
 
 impl<T: Steps> Stage<T> for Recheck {

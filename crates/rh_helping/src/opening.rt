@@ -13,6 +13,7 @@ use rh_layout::Entry;
 use rh_steps::Steps;
 
 /// The next step with an own descriptor that is to be opened.
+/// A machine of its own, as the look at a cell is: workers of keys and swaps of cells both use it.
 #[derive(Clone, Copy)]
 pub enum Opening {
     /// Write of its serial number into the own row, before all else that is written there.

@@ -16,6 +16,8 @@ use std::alloc::{AllocError, Global};
 use std::snapshot::Snapshot;
 
 /// A table whose cells hold these values, and the seat of all its workers.
+/// It takes values, as `close` hands them out; `kcas` and `read` speak of words, as entries do. The
+/// cells are kept for contracts alone, so that one vector is filled.
 pub fn make(alloc: Global, shape: Shape, cells: &[u64]) -> Result<(Table, Seat), AllocError>
     requires shape { IsShape shape }
     requires some { 0 < shape.workers }

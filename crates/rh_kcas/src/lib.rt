@@ -1,4 +1,51 @@
-//! Compare-and-swap of several cells of a table that threads share (Harris, Fraser and Pratt 2002).
+//! Compare-and-swap of several cells of a table that threads share (Harris, Fraser and Pratt 2002),
+//! and the tables themselves.
+//!
+//! `rh_crew` and `rh_phase` stand on it. A phase uses the tables, the seats, `claim`, `read` and
+//! `kcas`; so does whoever swaps cells by hand. What is promised holds whatever other threads do
+//! meanwhile.
+//!
+//! ```text
+//! let (table, mut first) = make(alloc, shape, &cells)?;   // the seat of all workers of the shape
+//! let second = split(&table, &mut first, 1);              // worker 0 has one, the others another
+//! let both = [change(4, 0, 10), change(5, 10, 0)];        // in rising order of their cells
+//! match kcas(rt, &table, &mut first, &both) {
+//!     Outcome::Done => {}                // both cells changed, in one act
+//!     Outcome::Failed { entry } => {}    // none did: the cell of this entry held another value
+//!     Outcome::Spent => {}               // none did: no number or no mark is left before a wipe
+//! }
+//! join(&table, &mut first, second);
+//! close(table, first, &mut cells);
+//! ```
+//!
+//! `src/threads.rt` of `rh_kcas_tests` has two threads that do this, with all conditions.
+//!
+//! Proved:
+//!
+//! - `kcas`: `Done` exactly where the worker's own acts grew by these entries, in one act. On
+//!   `Failed` and `Spent` they are as before.
+//! - `Failed` names one of the entries: a descriptor of just these entries, opened in this call, is
+//!   noted as failed there. `Spent` comes only where no number was left for a descriptor, or none
+//!   is left for a mark. A call that opened a descriptor took one number.
+//! - `help`: the descriptor is noted as decided, or as over, or no mark is left.
+//! - `read`: a plain word that is kept as read of this cell, after all reads before, with the
+//!   number of the worker's next descriptor. None is answered only where no mark is left.
+//! - `claim`: the number that one Claim found, or that it found the end. After each call the worker
+//!   is at rest, and its own acts are the same but for a K-CAS that is done.
+//! - `failures_tell`, `reads_tell`: after some first acts of all workers the entry's cell did not
+//!   hold the old value, or the cell held the word that was read. Among these are all acts that the
+//!   worker had made before the call, and no later one of it; they never get fewer.
+//! - `open`, `carry_out`: the two parts of a K-CAS, for who does something between. `are_entries`:
+//!   exactly whether a descriptor may have these entries. `change`: the entry from one value to
+//!   another.
+//! - `make`: a table with these cells and the seat of all workers, who have done nothing; or the
+//!   refusal of a growth. `split`, `join`: what is kept of each worker goes with its seat.
+//! - `wipe`: all rows are unused again, and a round begins with the cells. `close`: the values of
+//!   the cells. In both the cells are those at the start of the round, changed by all acts since;
+//!   such values there are too where `discard` frees the table.
+//!
+//! No contract says that a call which takes a `Wait` returns: `kcas`, `carry_out`, `help` and
+//! `read`.
 #![tactic(auto)]
 
 mod claiming;

@@ -30,6 +30,8 @@ pub enum Outcome {
 }
 
 /// Changes the cells of the entries from their old words to their new ones, all in one act, or none.
+/// Where no number is left for a descriptor, or no mark, it makes no step: its descriptor would be
+/// withdrawn all the same. Later it is `Spent` only where the last mark was used up on the way.
 pub fn kcas<R: Wait>(rt: &R, table: &Table, seat: &mut Seat, entries: &[Entry]) -> Outcome
     requires rests { Rests table.now seat.old }
     requires entries { AreEntries table.now.shape entries.now }

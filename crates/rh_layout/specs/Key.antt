@@ -10,6 +10,7 @@ abbrev pub IsBits : ℕ → Type 0
 IsBits b = (MIN_BITS ≤ b) × (b ≤ MAX_BITS)
 
 -- What a cell holds of a key. 0 is an empty cell.
+-- cell_of 17 = 18; a cell with 1 holds key 0
 abbrev pub cell_of : ℕ → ℕ
 cell_of k = k + 1
 

@@ -21,6 +21,9 @@ IsBeatenAt cells b c k = (j : ℕ) × Holds cells c j × Beats b c j k
 
 -- The cells are a table of the keys of S, each in one cell and nothing else in any, and each cell on the
 -- way from a key's home to the key holds a key that beats it there.
+-- (Celis 1986, as a relation on a whole table)
+-- [0, 0, 0, 0, 2, 10, 18, 0] is the layout of 1, 9 and 17, all of home 4. [17, 22, 6, 0, 0, 0, 0, 9] is that of 5, 8, 16 and 21,
+-- round the end: 5 gave way to 16 at its home 0, and to 21 at cell 1.
 pub record Layout (cells : List ℕ) (b : ℕ) (S : Keys) : Type 0 where
   pub bits : IsBits b
   pub size : length cells ≡ 2 ^ b

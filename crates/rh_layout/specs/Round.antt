@@ -2,6 +2,7 @@
 use Rattle.std.specs.Prelude.{ℕ, ◌+◌, ◌-◌, ◌%◌, ◌<◌, ◌≡◌, ◌⊎◌}
 
 -- how many steps lead from cell `from` round to cell `to`
+-- steps_round 8 7 1 = 2: from 7 to 0, and from 0 to 1
 unfoldable pub steps_round : (n from to : ℕ) → ℕ
 steps_round n from to = (to + n - from) % n
 

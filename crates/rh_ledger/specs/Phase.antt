@@ -24,11 +24,13 @@ abbrev pub set_after : Kind → Keys → List ℕ → Keys
 set_after kind S [] = S
 set_after kind S (k ∷ keys) = set_after kind (set_with kind S k) keys
 
+-- Insert of [9, 9] into no key: 2 read, 1 added. Ask for [1, 2, 9] in 1, 9 and 17: 3 read, 2 found.
 abbrev pub tally_of : Kind → Keys → List ℕ → Tally
 tally_of kind S [] = none_yet
 tally_of kind S (k ∷ keys) = sum_of (count_of kind S k) (tally_of kind (set_with kind S k) keys)
 
 -- the look-ups, in list order
+-- [1, 2, 9] in 1, 9 and 17: [true, false, true]
 abbrev pub looked_up : Keys → List ℕ → List Bool
 looked_up S keys = map (contains S) keys
 

@@ -24,6 +24,7 @@ ended (last ∷ []) = if has_bytes last then last ∷ [] else []
 ended (part ∷ parts) = part ∷ ended parts
 
 -- the lines, without their line feeds
+-- "#a\r\n  b c\n" has two, of which the first is skipped
 unfoldable pub lines_of : List ℕ → List (List ℕ)
 lines_of text = ended (slice_split is_line_feed text)
 
@@ -36,5 +37,6 @@ unfoldable pub is_skipped : List ℕ → Bool
 is_skipped line = starts_with nat_eq line (codes "#") || list_all is_space line
 
 -- the words between the spaces
+-- "  b c" has b and c
 unfoldable pub words_of : List ℕ → List (List ℕ)
 words_of line = filter has_bytes (slice_split is_space line)

@@ -1,4 +1,18 @@
 //! Lines of a text, and the words of a line.
+//!
+//! Scripts (`rh_script`) and plays (`rh_play`) are cut by it, so that both have one rule. It knows
+//! no fault.
+//!
+//! Proved:
+//!
+//! - `next_line`: the first line of a text, without its line feed, and all that stands after that.
+//!   A text without a line feed is one line.
+//! - `without_return`: the line without the carriage return that it ends with, and every other line
+//!   as it is.
+//! - `is_skipped`: true exactly of the lines that begin with `#` or have no word.
+//! - `printable`: the line as a text, exactly where each of its bytes is a space or 33 to 126.
+//! - `next_word`: the first word of a line, and what stands after it; none exactly where the line
+//!   has no word.
 #![tactic(auto)]
 
 mod lines;

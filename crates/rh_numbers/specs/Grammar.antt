@@ -40,6 +40,7 @@ pub record IsText (text keys : List ℕ) : Type 0 where
   pub in_range : All IsKey keys
 
 -- the text is one of these keys: its numbers are keys, and not too many
+-- "# 3\n 007\r\n\n9" is one of 7 and 9
 pub record IsKeyText (text keys : List ℕ) : Type 0 where
   pub lines : AreLines text keys
   pub few : length keys ≤ MAX_KEYS

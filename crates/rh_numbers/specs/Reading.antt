@@ -1,4 +1,5 @@
--- Reading a text of numbers from left to right, byte by byte, up to its first fault.
+-- Reading a text of numbers from left to right, byte by byte, up to its first fault. What a text is, is a relation on its lines
+-- (`Grammar`); the laws `one_meaning` and `first_fault` tie the two, so that no reader of a contract has to trust this walk.
 use Rattle.std.specs.Prelude.{◌≡◌, ℕ, ◌+◌, ◌-◌, ◌*◌, ◌≤◌, min, ◌==◌, nat_lt, if◌then◌else◌, List, [], ◌∷◌, ◌++◌, length, Option, Some, None, Result, Ok, Err}
 use Rattle.std.specs.Char.{is_ascii_digit}
 use Rattle.std.specs.Io.KnownBytes.{Consumes}

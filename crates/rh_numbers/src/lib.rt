@@ -1,4 +1,26 @@
 //! Texts of numbers: keys in decimal digits, one a line.
+//!
+//! `rh_commands` and `rh_splitting` stand on it.
+//!
+//! Proved:
+//!
+//! - `read_numbers`: a text of keys is read to them, in order and with repeats. Other texts are
+//!   refused by the first fault of their first faulty line, with its number.
+//! - `Read` comes only where the reader's count of failures rose, and `text too long` only of a
+//!   text of 2^63 bytes or more.
+//! - Where a text is refused, for want of memory too, all that was taken but for a last part of at
+//!   most 8,192 bytes holds no fault.
+//! - `Reading::read_part`: of the next 8,192 bytes the keys were added, in order, up to the first
+//!   fault, and the line goes on after the part. So texts of any length are read by whoever clears
+//!   the keys. `new`, `keys` and `clear` are exact.
+//! - `write_numbers`: the text of the numbers, one a line, or a front of it where the writer
+//!   failed.
+//! - `one_meaning`: what the grammar calls a text of these keys is read to them, what is read is
+//!   such a text, and so is what is written of keys.
+//! - `first_fault`: after whole lines of keys, a line that the grammar does not know gives `not a
+//!   key` with its number. A number above the greatest key gives `out of range`. A key after a
+//!   million gives `more than 1000000 keys`.
+//! - `any_length`: both laws hold of texts of any length, without that limit.
 #![tactic(auto)]
 
 mod fault;

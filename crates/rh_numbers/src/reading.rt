@@ -13,6 +13,8 @@ use std::alloc::Global;
 use std::io::Read;
 
 /// How far a text was read, and the keys that it gave and that were not cleared.
+/// Its keys are taken part by part: to be given them one by one would need a trait whose law says
+/// what a row of calls comes to, also of writers whose bytes are not known.
 #[derive(Drop)]
 pub struct Reading {
     pub(crate) keys: Vec<u64>,

@@ -10,6 +10,7 @@ pub struct KeyList<'a> {
 }
 
 /// Where the key file of a list stands. It is read anew each time.
+/// A saved list is a key file in memory, so that every list is read in one way and counted again.
 #[derive(Drop)]
 pub enum Source<'a> {
     Path(&'a str),

@@ -1,4 +1,5 @@
-//! What the commands do with the set that is held and with the lists.
+//! What the commands do with the set that is held and with the lists. They take shelf, runner and
+//! set one by one, and no record of them: so what a command leaves alone is seen at its arguments.
 
 ghost use Rattle.std.specs.Prelude.{◌≡◌, ◌+◌, ◌^◌, ◌<◌, ℕ, true, false, List, [], Some, Ok};
 ghost use Rattle.std.specs.Prelude.{IfOk, IfErr, OnErr, OnOk, length};
@@ -57,6 +58,8 @@ pub fn use_file<S: Shelf>(alloc: Global, shelf: &mut S, path: &str) -> Result<u6
 }
 
 /// Adds the keys of the list to the set, in a table that has grown for them.
+/// It works on a copy of the cells until its end, as the others do: a refused command leaves the
+/// set as it was.
 pub fn add<T: Threads + Wait + Sync, S: Shelf, N: Runner>(
     rt: &T,
     alloc: Global,
@@ -220,6 +223,7 @@ fn count_found<T: Threads + Wait + Sync, S: Shelf, N: Runner>(
 
 /// Inserts into the cells those keys of the list that the set holds, or where `wanted` is false,
 /// those that it does not hold. `many` is how many positions an earlier reading chose.
+/// They are looked up again, so that a file that changed is found where its count of such keys did.
 fn insert_listed<T: Threads + Wait + Sync, S: Shelf, N: Runner>(
     rt: &T,
     alloc: Global,

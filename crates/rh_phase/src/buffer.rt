@@ -20,6 +20,8 @@ const NO_ENTRY: Entry = Entry {
 /// Room for what the cells from a key's home on hold, what they are to hold after its act, and the
 /// act's entries. It does for as many as the table has cells, of which as many are in use as a scan
 /// has needed so far: the memory behind is never touched.
+/// All of it is taken before the first worker starts, so that no growth is refused in the middle;
+/// to fill it would touch 10 MB a worker at 18 bits.
 #[derive(Drop)]
 pub(crate) struct Buffer {
     pub seen: Vec<u64>,

@@ -52,6 +52,8 @@ pub(crate) enum Refused {
 
 /// Workers of a phase that follow one another, and their seat. The list is cut and glued without
 /// memory.
+/// A half goes to its thread and comes back by value, which is how its thread can promise what it
+/// did.
 #[derive(Drop)]
 pub(crate) struct Crew {
     pub seat: Seat,

@@ -144,6 +144,7 @@ fits (Schedule (Turn worker turns)) = is_within 1 MAX_TURNS turns
 fits _ = true
 
 -- how far a text has come after a line, if that may stand there
+-- `play ask`, `bits 3`, `held 9`, `work 1`, `rest` are a play; its first three lines alone are a bad line at line 4
 unfoldable pub follow : Stage → Saying → Option Stage
 follow AtStart (Play kind) = Some AfterPlay
 follow AfterPlay (Bits bits) = Some AfterBits

@@ -37,6 +37,7 @@ abbrev pub reference_line : (cell : ℕ) → (name : List ℕ) → (worker numbe
 reference_line cell name worker number = with_number (codes "raw ") cell (with_number name worker (with_number (codes " ") number (codes "\n")))
 
 -- what the word of a cell says; an empty cell has no line
+-- a cell 4 with the descriptor 0 of worker 1: "raw 4 desc 1 0\n"
 abbrev pub raw_line : (cell : ℕ) → Word → List ℕ
 raw_line cell Empty = []
 raw_line cell (Key key) = key_line cell key

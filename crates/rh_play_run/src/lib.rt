@@ -1,4 +1,30 @@
 //! Plays: workers take turns as a text says, and what comes of it is written.
+//!
+//! `rhset` stands on it for `play`, `trace` and `draw`.
+//!
+//! Proved:
+//!
+//! - `run_play`: where it answers `Ok`, the bytes said a play, and what was written is the text of
+//!   that play. For each order it has what the turns made and the last one came to; then come the
+//!   dump of the cells that the workers made, and what was counted.
+//! - Where all workers are finished, these are the dump and the tally of one worker that does all
+//!   keys.
+//! - A text that says no play is refused by its first fault, and a play that cannot begin by the
+//!   first fault of its start.
+//! - Want of memory is told at a line of the text, as by `parse_play`; or as the start's, and then
+//!   the play can begin. Or it is `Memory`: then the reader is as it was, or the bytes said a play
+//!   that can begin.
+//! - Nothing is written but by `Ok` and `Write`, and by `Write` a front of the text. `Read` and
+//!   `Write` come only where the device's count of failures rose. Of a play's file at most
+//!   1,048,577 bytes are taken.
+//! - `tell_play`: the same of a text that tells the steps too, each by its line before the line of
+//!   its order. Worker, kind, part and words are those of the step that was made.
+//! - `draw_play`: where it answers `Ok`, what was written is the picture (`rh_draw`) of the steps
+//!   that were made, from a number on, and of the cells at first. `TooMany` comes only where no
+//!   number of steps was chosen and they are more than 2,000.
+//! - `steps_stand_between`: such a text is, without the lines of its steps, what the play prints.
+//!
+//! Of readers and writers whose bytes are not known nothing is said of bytes.
 #![tactic(auto)]
 
 mod beginning;

@@ -24,6 +24,7 @@ pub enum Telling {
 
 /// What is told of a play so far, and how many steps were made. Their count stops at the greatest
 /// `u64`.
+/// It is one text in memory, of some 40 bytes for each step that is told.
 #[derive(Drop)]
 pub(crate) struct Log {
     pub(crate) telling: Telling,

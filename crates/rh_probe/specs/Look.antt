@@ -16,6 +16,7 @@ abbrev pub AllPassed : (b k : ℕ) (seen : List ℕ) (i : ℕ) → Type 0
 AllPassed b k seen i = (p : ℕ) → p < i → IsPassedAt b k seen p
 
 -- The key stands at the first offset that does not, or that offset does not hold it, or there is no such offset.
+-- (Celis 1986) Finds 3 22 [2, 10, 18, 0] (Goes 3): 1, 9 and 17 are each as far from home as 22 would be there, and smaller
 abbrev pub Finds : (b k : ℕ) (seen : List ℕ) → Look → Type 0
 Finds b k seen (Here i) = (i < length seen) × AllPassed b k seen i × (slice_index seen i ≡ cell_of k)
 Finds b k seen (Goes i) = (i < length seen) × AllPassed b k seen i × (slice_index seen i ≡ cell_of k → ⊥) × (IsPassedAt b k seen i → ⊥)

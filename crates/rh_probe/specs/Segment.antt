@@ -21,6 +21,7 @@ abbrev pub IsAway : (b c value : ℕ) → Type 0
 IsAway b c value = (k : ℕ) × (value ≡ cell_of k) × (home_of b k ≡ c → ⊥)
 
 -- j is the first offset after i that is empty or holds a key at its home, where h is the cell of offset 0
+-- (backward shift, as is common with linear probing)
 pub record IsFirstStop (b h : ℕ) (seen : List ℕ) (i j : ℕ) : Type 0 where
   pub from : i < j
   pub within : j < length seen

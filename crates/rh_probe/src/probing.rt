@@ -11,6 +11,7 @@ ghost use Rattle.rh_probe.specs.Look.{IsProbeLength};
 use rh_layout::{beats, cell_of, home, key_in};
 
 /// The cell after this one. Cell 0 comes after the last.
+/// It is found by a comparison, as a division costs more than the rest of a probe.
 #[tactic(auto, using(crate::proofs::ProbeLemmas::next_is))]
 pub fn next_cell(size: usize, cell: usize) -> usize
     requires { cell < size }
@@ -34,6 +35,8 @@ pub fn cell_after(size: usize, from: usize, steps: usize) -> usize
 
 /// How many steps from its home the key stands, or else where it goes: the first cell that is empty
 /// or holds a key that does not beat it there (Celis 1986).
+/// `find` and the edits of a whole table share it. Phases of several workers go by `look`, which
+/// takes what was copied.
 pub fn probe_length(bits: u32, cells: &[u64], key: u64) -> usize
     requires bits { IsBits bits }
     requires size { length cells.now ≡ 2 ^ bits }

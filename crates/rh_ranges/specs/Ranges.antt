@@ -10,6 +10,7 @@ use Rattle.rh_ledger.specs.declared.tally.Kind.TheVariants.{Insert, Remove}
 use Rattle.rh_runner.specs.Lists.{chosen}
 
 -- the part of so many in which a key stands
+-- of 4 parts, part 1 has the keys from 2^60 to 2^61 - 1
 abbrev pub part_of : (parts key : ℕ) → ℕ
 part_of parts key = key * parts / 2 ^ 62
 

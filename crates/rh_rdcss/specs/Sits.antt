@@ -14,6 +14,7 @@ pub record Sits (z : Shape) (t : OnTable) (v : View) : Type 0 where
   pub view : t.seat.now.me ≡ (known v ∷ [], [])
 
 -- it is the same seat at the same table, lent by the same borrow
+-- (So a loop over a lent seat needs no fact of the table but that it is the same.)
 pub record Stays (t then : OnTable) : Type 0 where
   pub table : then.table ≡ t.table
   pub seat : then.seat.now.table_id ≡ t.seat.now.table_id

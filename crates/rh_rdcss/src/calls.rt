@@ -69,6 +69,7 @@ pub fn status(table: &Table, seat: &mut Seat, desc: Ref) -> Option<State>
 /// Places the worker's next mark for an entry of a descriptor. The length, the cell and the old value are
 /// read in the row, and whether it is still of the descriptor; then the three words of the mark row are
 /// written, and one compare-and-swap of the cell is made.
+/// How many entries there are a caller cannot know, so it may answer `Absent`.
 #[inline(always)]
 pub fn place(table: &Table, seat: &mut Seat, desc: Ref, entry: usize) -> Placed
     requires here { IsHere table.now seat.old }

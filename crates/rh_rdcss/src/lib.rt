@@ -1,6 +1,40 @@
-//! Restricted double-compare single-swap (Harris, Fraser, Pratt 2002) on a table that threads share:
-//! the table under the rule of rows as a carrier of a worker's steps, and the calls by which one
-//! worker reads a cell or a control, places a mark of its own, and settles a mark.
+//! Restricted double-compare single-swap (Harris, Fraser, Pratt 2002) on a table that threads
+//! share. It has the table as a carrier of a worker's steps, and the calls by which one worker
+//! reads a cell or a control, places a mark, and settles one.
+//!
+//! `rh_kcas` stands on it. What is promised holds whatever other threads do meanwhile.
+//!
+//! ```text
+//! let Some(State::Undecided) = status(&table, &mut seat, desc) else { return Ok(()) };
+//! if let Placed::Mine = place(&table, &mut seat, desc, 1) {  // it stands in the cell of entry 1
+//!     let own = seat.placed.unwrap();
+//!     settle(&table, &mut seat, own.piece.cell, own.mark);
+//! }
+//! ```
+//!
+//! `rh_kcas_tests` has this whole, with its conditions.
+//!
+//! Proved:
+//!
+//! - `make` and `own_word` of a worker's seat at the table: just the step that is asked for, as one
+//!   atomic step, with what may be relied on then. The word of an own row is answered as it was
+//!   written.
+//! - `peek_cell`, `status`: one read of a cell, or of how far a descriptor is, and what the worker
+//!   knows by it. `status` answers no state just where the control was of a later descriptor of
+//!   that worker, and `Unused` where it was of an earlier one.
+//! - `place` is for a descriptor that the worker opened or whose control it read as not `Unused`.
+//!   The length and the entry are read in its row, and the mark row is written. Then the next own
+//!   mark is put into the cell where the old value was found; else that other word is told.
+//! - `place` answers `Passed` just where the descriptor's row had gone on and `Absent` just where
+//!   it has fewer entries; no mark was used then. `Spent` comes just where no mark was left, and
+//!   nothing was done.
+//! - `settle` of another worker's mark: its row is read, then the control of its descriptor. The
+//!   mark is swapped for the descriptor where that is undecided, else for the old value; the answer
+//!   is the word that the swap found.
+//! - `settle` answers no word just where the mark's row, or its descriptor's, had gone on; no swap
+//!   was made then.
+//! - `settle` of the own mark that was placed last: the same by the old value that the seat keeps,
+//!   also where the row has gone on. A swap is always made, and no own mark is unsettled then.
 #![tactic(auto)]
 
 mod calls;

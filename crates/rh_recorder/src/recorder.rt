@@ -16,6 +16,8 @@ pub struct Touched {
 
 /// The words of a table, and what the last step on them touched, if one was made. One thread makes the
 /// steps.
+/// It records whether steps are told or not: what makes a step is what knows it, and no worker has
+/// to tell more.
 #[derive(Drop)]
 pub struct Recorder {
     pub words: Vec<u64>,

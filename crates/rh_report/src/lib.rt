@@ -1,4 +1,9 @@
 //! The text of each command's report.
+//!
+//! `rh_script_run` stands on it.
+//!
+//! Proved: `write_added` and its like write the text of each command's report. `fixed_numbers`: a
+//! line of answers has 64, but for the last.
 #![tactic(auto)]
 
 mod answers;

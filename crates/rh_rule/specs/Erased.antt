@@ -6,6 +6,7 @@ use Rattle.rh_world.specs.Notes.Note.{met, known, size_is, target_is, old_is, ne
 use Rattle.rh_world.specs.Sides.{KeptRead, Side}
 use Rattle.rh_descriptor.specs.Words.{without_entry}
 
+-- So what a step notes is a function of the word that it found. That there are such numbers the rule says.
 abbrev pub erased_note : Note → Note
 erased_note (met d) = met d
 erased_note (known d) = known d

@@ -40,7 +40,7 @@ pub record Controls (z : Shape) (words : List ℕ) (w : World) : Type 0 where
   pub newest : (d : Ref) → d.worker < z.workers → suc d.number ≡ w.next_number d.worker
       → IsOpened (w.control d) × (word_at z words (part.Control d.worker) ≡ number_of d.number (w.control d))
   pub descs : (d : Ref) → IsOpened (w.control d) → IsDesc z d
-  -- a descriptor is withdrawn only where no mark of its worker is left
+  -- a descriptor is withdrawn only where no mark of its worker is left (worlds do not know how many there is room for)
   pub withdrawals : (d : Ref) → w.control d ≡ withdrawn → z.rooms.marks ≤ w.marks_used d.worker
   -- who decided that a descriptor failed tells its owner at which entry, until the owner opens the next one
   pub deciders : (d : Ref) (e by : ℕ) → w.control d ≡ failed e by → by < z.workers

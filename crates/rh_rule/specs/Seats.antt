@@ -92,6 +92,7 @@ ViewsJoin = (z : Shape) (id : ℕ) (vs : List Known) (other : ℕ) (us : List Kn
 
 -- Where all workers of a seat's view are at rest: the words of the table, which is ruled, and its cells, as words. These are
 -- those that it was made or wiped with, changed by all acts since, act by act.
+-- (The rule itself is told, and not only what follows from it for the cells: the laws of runs begin from it.)
 pub record AreMade (z : Shape) (vs : List Known) : Type 0 where
   pub cells : List ℕ
   pub long : length cells ≡ cell_count z

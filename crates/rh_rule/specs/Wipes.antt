@@ -33,6 +33,8 @@ pub record ShareOut (z : Shape) (words : List ℕ) (keep : ℕ → View) : Type 
   pub share : Claims (opening_world z.workers z.keys (word_at z words part.Counter) (λ c. 0)) (λ v. record new_side { claims = claims v })
   pub beyond : (v : ℕ) → z.workers ≤ v → claims v ≡ []
 
+-- That row words are 0 is said while the wipe is under way: that the cells are kept would not give the whole rule back at its
+-- end. A wipe reads no cell, since one step may note what all of them are.
 pub record Wiped (z : Shape) (words : List ℕ) (keep : ℕ → View) : Type 0 where
   pub cells : List ℕ
   pub cleared : ℕ

@@ -55,6 +55,7 @@ logical_cells w z = cells_of z (cells_after w w.act_count)
 -- ---- of what is kept of a worker
 
 -- what the cells of the table held that it read
+-- (The rule does not say that each read that is kept is of a cell that has a word: others are left out.)
 abbrev pub kept_of : Shape → View → List Kept
 kept_of z v = map (λ r. kept r.cell (value_of r.word)) (filter (λ r. nat_lt r.cell (cell_count z)) v.side.reads)
 

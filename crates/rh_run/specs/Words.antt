@@ -55,6 +55,8 @@ pub record GoneStandsFor (z : Shape) (words : List ℕ) (keep : ℕ → View) (c
 
 -- what a cell with this stands for: a plain word for itself, a mark for the old value of its entry, and a descriptor for the
 -- value of its entry for the cell
+-- A cell with descriptor 0 of worker 0, whose entry takes it from 0 to 8, stands for 0 before the decision and for 8, key 1,
+-- after it.
 abbrev pub StandsFor : Shape → (words : List ℕ) → (keep : ℕ → View) → (c : ℕ) → Cell → (word : ℕ) → Type 0
 StandsFor z words keep c (plain u) word = u ≡ word
 StandsFor z words keep c (mark x) word = MarkStandsFor keep c x word

@@ -120,6 +120,7 @@ fn insert_batch<T: Threads + Wait + Sync, N: Runner>(
 /// Inserts the keys of a list that the old table holds, or where `wanted` is false, those that it
 /// does not hold. `many` is how many places of the list an earlier reading chose: where this one
 /// chooses more or fewer, the list has `Changed`. On a fault the cells may hold some of the keys.
+/// It is told as soon as too many are chosen, so a bad key behind them may be told first or not.
 pub fn insert_chosen<T: Threads + Wait + Sync, N: Runner, K: KeySource>(
     rt: &T,
     alloc: Global,

@@ -38,6 +38,8 @@ impl From<AllocError> for PhaseFault {
 /// Carries out phases on the cells of a table, with the meaning of one worker that takes the keys
 /// in list order. A call may start threads, and wait for ever; what it promises holds where it
 /// returns. `shared` is what the bound `R: Sync` says, for the proofs of those who implement this.
+/// A trait that names the runtime as a parameter would let `Single` do without one; the toolchain
+/// proves no generic function that passes such a runner on.
 pub trait Runner {
     /// How often the start of a thread was refused. The count stops at the greatest `u64`.
     ghost refused_starts: { Self → ℕ };

@@ -47,6 +47,8 @@ known given = if given then Ok tt else Err Unknown
 
 -- Whether an instruction may stand after these steps. A name is given once. No path is both read as keys and written
 -- as a snapshot, and no snapshot is written twice.
+-- `use a x` and then `use a y`: given twice. `add a` alone: unknown name. `use a x` and then `snapshot x`: given twice; and then
+-- `restore x`: fine.
 unfoldable pub admitted : List Numbered → Instruction → Result (Unit {0}) ScriptFaultKind
 admitted before (Use name path) = once (is_given path (snapshots_in before) || is_given name (names_in before))
 admitted before (Add name) = known (is_given name (names_in before))

@@ -1,4 +1,17 @@
 //! Scripts: their commands, read from a text.
+//!
+//! `rh_script_run` carries out what it reads.
+//!
+//! Proved:
+//!
+//! - `parse`: a script is read exactly by the grammar of scripts. Other texts are refused by the
+//!   first fault of their first faulty line, or for want of memory. A fault stands at a line before
+//!   which no line has one, want of memory too.
+//! - In what it answers each name is given once, and before it is used. No path is both read as
+//!   keys and written as a snapshot, and no snapshot is written twice.
+//! - `plan`: one step for each command, with its line and the number of its list. No `snapshot` of
+//!   the script has the path of an earlier `use` or `snapshot`.
+//! - `fixed_numbers`: the limits of a script, each by its value.
 #![tactic(auto)]
 
 mod command;

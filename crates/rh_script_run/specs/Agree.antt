@@ -15,6 +15,7 @@ use Rattle.rh_script_run.specs.declared.report.Report.{Report}
 use Rattle.rh_script_run.specs.Meaning.{ScriptState}
 
 -- A cause that can only have been found in the script and the files. `failed` says that the shelf failed.
+-- A shelf that failed answers `Missing` as one does that has no such file, so names of causes alone do not tell.
 abbrev pub IsFound : (failed : Type 0) → Cause → Type 0
 IsFound failed Missing = failed → ⊥
 IsFound failed (Keys fault) = fault ≢ key_faults.Read
@@ -29,6 +30,7 @@ EndsByItself failures failures' (Ok report) = Unit {0}
 EndsByItself failures failures' (Err fault) = IsFound (Rose failures failures') fault.cause
 
 -- one text was appended to both, where they are known
+-- (what the two were before may differ)
 abbrev pub AppendSame : (old new old' new' : Option (List ℕ)) → Type 0
 AppendSame old new old' new' = (text : List ℕ) × Appends old new text × Appends old' new' text
 

@@ -64,6 +64,7 @@ EndsBy step cause =
     ⊎ ((cause ≡ Write) × (done : ScriptState × Account) × (step.outcome ≡ Ok done) × TellsFront done.1 step.before.text step.after.text)
 
 -- What a command that was refused leaves of the files: those that it found, but for the path of a snapshot.
+-- (That path is in doubt also where memory ran out: the shelf may have begun to write.)
 abbrev pub LeavesOthers : Instruction → FileMap → (now : Option Files) → Type 0
 LeavesOthers (Snapshot path) files now = HasOthers path files now
 LeavesOthers _ files now = HasFiles files now

@@ -126,6 +126,8 @@ restores w path =
     table_in (w.files path)
     >>= (λ table. Ok (record w { held = table.keys; bits = table.bits }, Restored path (set.len table.keys) table.bits))
 
+-- With 1 and 2 held in 4 bits `keep b` of the list 1, 2 leaves both, in 3 bits. `snapshot s`, `clear` and `restore s` leave what
+-- was held before, in the same bits.
 unfoldable pub outcome_of : ScriptState → Instruction → Outcome
 outcome_of w (instructions.Use name path) = uses w name path
 outcome_of w (instructions.Add name) = adds w name (list_of name w.lists)

@@ -66,6 +66,7 @@ impl<F: Files> Shelf for FileShelf<'_, F> {
 
     /// The bytes are written to a new file beside the path, which then takes its place: a run that is
     /// cut leaves there what stood there before. No other file is touched.
+    /// A link or a device at the path is replaced, and not what it leads to.
     fn put(&mut self, alloc: Global, path: &str, bytes: &[u8]) -> Result<(), ShelfFault> {
         match put_whole(alloc, self.files, path, bytes) {
             Ok(()) => Ok(()),

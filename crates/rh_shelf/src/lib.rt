@@ -1,4 +1,13 @@
-//! Where the files of a script stand.
+//! Where the files of a script stand: in memory (`MemShelf`), or real ones (`FileShelf`).
+//!
+//! `rh_operations`, `rh_commands` and both programs stand on it.
+//!
+//! Proved:
+//!
+//! - `MemShelf` is a map from paths to bytes.
+//! - `FileShelf` is real files, of which no contract tells the bytes. Each answer that a file could
+//!   not be opened or written has raised its count, and an answer without a fault leaves it.
+//! - Want of memory raises the count of either.
 #![tactic(auto)]
 
 mod file;

@@ -27,6 +27,7 @@ abbrev pub cell_of_first : ℕ → ℕ
 cell_of_first n = if is_full n then cell_of n else 0
 
 -- the cells that the numbers of a file stand for
+-- cells_as First [0, 0, 0, 0, 1, 9, 17, 0] = [0, 0, 0, 0, 2, 10, 18, 0]; the seals of the two files differ
 abbrev pub cells_as : Version → List ℕ → List ℕ
 cells_as First numbers = map cell_of_first numbers
 cells_as Second numbers = numbers

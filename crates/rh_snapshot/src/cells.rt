@@ -27,6 +27,8 @@ fn cell_of_first(number: u64) -> Option<u64>
 
 /// Makes the numbers of a first version cells, in place. False: one stands for no key, and some may
 /// be cells already.
+/// They stay as they were read until the seal was tested: before that a number that stands for no
+/// key is a damaged byte like any other.
 fn make_cells(numbers: &mut [u64]) -> bool
     ensures made { IsTrue result → numbers.new ≡ map cell_of_first numbers.old }
     ensures refused { result ≡ false → (c : ℕ) × (c < length numbers.old)

@@ -16,6 +16,7 @@ use std::alloc::AllocError;
 
 /// Appends a snapshot of the table, of the second version. `read_snapshot` takes it back to the
 /// same cells. Where a growth of the vector was refused, the vector is as it was.
+/// It takes no allocator: the vector brings its own.
 pub fn write_snapshot(bits: u32, cells: &[u64], out: &mut Vec<u8>) -> Result<(), AllocError>
     requires layout { IsLayout bits cells.now }
     requires free { set.len (keys_of cells.now) < 2 ^ bits }

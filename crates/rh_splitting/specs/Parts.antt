@@ -22,6 +22,7 @@ pub record Got {W : Type 0} (contents : W → Option (List ℕ)) (old new : Part
   pub fine : failures_of (writer_of new) ≡ failures_of (writer_of old)
 
 -- Each part was given its keys of the list, in the order of the list.
+-- Of 4 parts and 0, 5 and 4611686018427387902, part 0 is given 0 and 5, and part 3 the other.
 pub record EachGot {W : Type 0} (contents : W → Option (List ℕ)) (old new : List (Part W)) (keys : List ℕ) : Type 0 where
   pub many : length new ≡ length old
   pub each : (part : ℕ) (before after : Part W) → slice_get old part ≡ Some before → slice_get new part ≡ Some after

@@ -37,6 +37,8 @@ impl PartFile {
 
 /// The key files of a list that is split: part 7 of the list NAME takes the place `007/NAME.keys`. Each
 /// is written beside its place, and takes it once all are whole.
+/// Each stays open to the end, so that there is one pass. A rename that fails is rare: what the
+/// others replaced is gone then, as to keep it each old file would need a name of its own.
 #[derive(Drop)]
 pub struct PartFiles<'a, F> {
     files: &'a F,

@@ -1,4 +1,29 @@
 //! Splitting a list of any length into parts by ranges of keys.
+//!
+//! `rhkeys` stands on it for `split`.
+//!
+//! Proved:
+//!
+//! - `split_text`: where it answers `Ok`, the bytes read were a text of some keys, however many.
+//!   Each part was given exactly those that stand in it, in the order of the text. They were
+//!   written one after the other as in a key file, and counted.
+//! - Else the parts were given the keys before the fault: the first fault of the text, the first
+//!   key whose part has 1,000,000, or a key whose write failed. That last part's count of failures
+//!   rose.
+//! - All that was taken but for a last part of at most 8,192 bytes holds no fault.
+//! - `split_file`: the same of a key file, of which a refused one gives no part a key.
+//!   `split_keys`: of keys in memory. `split_source`: of either.
+//! - `Part`: `new`, `count` and `into_writer` are exact; `begin` leaves room for the header.
+//!   `whole_part`: the header of as many keys as a part of a list has, and these keys, are its key
+//!   file.
+//! - `write_plan`: a line for each part, its number in three digits and its count, or a front of
+//!   these where the writer failed.
+//! - `PartFiles::split`: where it answers `Ok`, as many files as there are parts were made, made
+//!   whole, and then put at their places. Else each that was made was removed again. Files are put
+//!   at their places only once all are whole.
+//! - `is_name` is exact.
+//!
+//! Of real files no contract says which bytes stand there, nor that the system removes one.
 #![tactic(auto)]
 
 mod fault;

@@ -22,6 +22,7 @@ pub data Content : Type 0 where
   Text : (text : List ℕ) → (after : Content) → Content
   Element : (tag : Tag) → (inside after : Content) → Content
 
+-- the text `a<b` in a Title: `<title>a&lt;b</title>`
 unfoldable pub render : Content → List ℕ
 render Nothing = []
 render (Text text after) = escaped text ++ render after

@@ -1,4 +1,15 @@
 //! The elements of which pictures of plays are made, and their text.
+//!
+//! `rh_draw` stands on it. A tag is a kind of element with its places, and no list of attributes.
+//!
+//! Proved:
+//!
+//! - `open`, `close`: the text grew by exactly the start tag or the end tag, or, where memory was
+//!   refused, it is as it was. The two have one name, and a start tag has no two attributes of one
+//!   name.
+//! - `leaf`, `labelled`: where memory is there, the text grew by exactly that of an element that
+//!   holds nothing, or this text. In a text each `<`, `>` and `&` stands as a reference, and what
+//!   is no printable character as a `?`.
 #![tactic(auto)]
 
 mod looks;

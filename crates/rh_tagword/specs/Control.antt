@@ -16,6 +16,8 @@ IsState (Failed decider) = decider < 2 ^ WORKER_BITS
 abbrev pub IsControl : (serial : ℕ) → State → Type 0
 IsControl serial state = (serial < 2 ^ NUMBER_BITS) × IsState state
 
+-- A control tells who decided that a swap failed, and not at which entry, which would take the room of the serial numbers: the
+-- owner reads that in the decider's note.
 abbrev pub state_number : State → ℕ
 state_number Unused = UNUSED
 state_number Undecided = UNDECIDED
@@ -23,6 +25,7 @@ state_number Succeeded = SUCCEEDED
 state_number Withdrawn = WITHDRAWN
 state_number (Failed decider) = FAILED + decider
 
+-- That descriptor 5 failed, as worker 3 decided, is 5 * 256 + 64 + 3 = 1347.
 abbrev pub control_number : (serial : ℕ) → State → ℕ
 control_number serial state = serial * 2 ^ STATE_BITS + state_number state
 

@@ -46,6 +46,8 @@ IsWord (Key k) = IsKey k
 IsWord (Mark worker number) = IsRef worker number
 IsWord (Desc worker number) = IsRef worker number
 
+-- Empty is 0, and Key 17 is 4 * 18 = 72. Mark 5 of worker 2 is 4 * (2 * 2^56 + 5) + 1 = 576460752303423509, and Desc 1 of worker
+-- 0 is 4 * 1 + 2 = 6. The number 3 is no word.
 abbrev pub word_number : Word → ℕ
 word_number Empty = plain_number 0
 word_number (Key k) = plain_number (cell_of k)

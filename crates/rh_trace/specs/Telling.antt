@@ -69,6 +69,7 @@ control_text word (Some control) = decimal control.0 ++ state_text control.1
 control_text word None = decimal word
 
 -- what a word of this part says
+-- 40 is "key 9" in a cell and "40" as a length; as a control 2 is "0 succeeded"
 abbrev pub word_text : Part → (word : ℕ) → List ℕ
 word_text (Cell c) word = held_text word (word_in word)
 word_text (Control worker) word = control_text word (control_in word)

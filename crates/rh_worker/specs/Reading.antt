@@ -21,6 +21,7 @@ seen_back z k seen (suc n) = kept (cell_ahead (cell_count z) (home_of z.bits k) 
 
 -- These were kept as read before the key was begun. Of those since, the newest are of the first n cells from its home on,
 -- in their order, and held what was seen.
+-- (What is kept of a worker is not cut where a key begins: its reads in a round are one list.)
 pub record HasRead (z : Shape) (before : List Kept) (v : View) (k : ℕ) (seen : List ℕ) (n : ℕ) : Type 0 where
   pub since : List Kept
   pub reads : kept_of z v ≡ seen_back z k seen n ++ (since ++ before)

@@ -31,6 +31,8 @@ use Rattle.rh_worker.specs.declared.stage.Stage.TheVariants as stage
 use Rattle.rh_worker.specs.declared.scan_buffer.ScanBuffer.{ScanBuffer}
 use Rattle.rh_worker.specs.declared.worker.Worker.{Worker}
 
+-- A worker alone inserts key 9 into an empty table of 3 bits in 17 steps: a Read of cell 4, five Writes of its row, an Open, a
+-- Read of its control, three Writes of the mark row, a Place, a Read, a Settle, a Read, a Decide, a Release.
 abbrev pub kind_of_stage : Machine → Stage → StepKind
 kind_of_stage m stage.Idle = kind.Read
 kind_of_stage m stage.Spent = kind.Read

@@ -15,6 +15,9 @@ ends_found keys side (suc n) = cond (found_end keys (side n).claims) (suc (ends_
 
 -- The numbers that were found are those below the counter, each by one worker and once. Beyond the keys it counts the
 -- workers that found the end.
+-- With two workers and one key the Claims of both find 0, the key's number, and 1, the end.
+-- This is said of every number below the counter, and not only of those that name a key: the bound on the counter follows from
+-- it.
 pub record Claims (w : World) (side : ℕ → Side) : Type 0 where
   pub all : (n : ℕ) → n < w.counter → (v : ℕ) × (v < w.workers) × In n (side v).claims
   pub below : (v n : ℕ) → In n (side v).claims → n < w.counter

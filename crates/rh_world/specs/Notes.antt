@@ -63,6 +63,7 @@ HoldsIn w (held d e) = IsOpened (w.control d) × (w.control d ≡ undecided → 
 HoldsIn w (mismatch d e n) = IsOpened (w.control d) × (w.control d ≡ undecided → IsMismatch w d e n)
 
 -- which part of the rule says that the note holds
+-- Each note belongs to one part, so that each part is kept by the parts before it alone.
 pub data Part : Type 0 where
   of_rows of_acts of_prefixes : Part
 
