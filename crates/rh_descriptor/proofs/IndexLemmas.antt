@@ -5,8 +5,8 @@ use Rattle.std.proofs.lemmas.Bool.{false_from_ne_true, lt-ltb, ltb-true}
 use Rattle.std.proofs.lemmas.Nat.{div-mul-add, mod-mul-add, mul-add-lt}
 use Rattle.rh_descriptor.specs.declared.shape.Shape.{Shape}
 use Rattle.rh_descriptor.specs.declared.shape.Part.{Part}
-use Rattle.rh_descriptor.specs.declared.shape.Part.TheVariants.{Cell, Control, Serial, Length, EntryCell, EntryOld, EntryNew, MarkSerial, MarkDesc, MarkEntry, Note, Counter}
-use Rattle.rh_descriptor.specs.Parts.{IsPart, cell_count, entry_row, entry_words, mark_row, note_row, index_of, row_count, row_index}
+use Rattle.rh_descriptor.specs.declared.shape.Part.TheVariants.{Cell, Control, Serial, Length, EntryCell, EntryOld, EntryNew, MarkSerial, MarkDesc, MarkEntry, Reason, Counter}
+use Rattle.rh_descriptor.specs.Parts.{IsPart, cell_count, entry_row, entry_words, mark_row, reason_row, index_of, row_count, row_index}
 
 pub entry_inside : (cells entry word workers : ℕ) → entry < cells → word < 3 → 3 + (3 * entry + word) < 3 + 3 * cells + 3 + workers
 entry_inside cells entry word workers inside below = omega (arith, inside, below)
@@ -30,7 +30,7 @@ abbrev tail_part : (worker row : ℕ) → Part
 tail_part worker zero = MarkSerial worker
 tail_part worker (suc zero) = MarkDesc worker
 tail_part worker (suc (suc zero)) = MarkEntry worker
-tail_part worker (suc (suc (suc owner))) = Note worker owner
+tail_part worker (suc (suc (suc owner))) = Reason worker owner
 
 abbrev row_part : Shape → (worker row : ℕ) → Part
 row_part z worker row =
@@ -95,11 +95,11 @@ module _ (z : Shape) where
   found_at (MarkSerial worker) here = tail_at worker 0 here (omega arith)
   found_at (MarkDesc worker) here = tail_at worker 1 here (omega arith)
   found_at (MarkEntry worker) here = tail_at worker 2 here (omega arith)
-  found_at (Note worker owner) here =
-      let row : note_row z owner ≡ mark_row z (3 + owner) = omega arith in
+  found_at (Reason worker owner) here =
+      let row : reason_row z owner ≡ mark_row z (3 + owner) = omega arith in
       ap (λ (n : ℕ). part_at z (row_index z worker n)) row ∙ tail_at worker (3 + owner) here.0 (let h = here.1 in omega (arith, h)) ∙ three owner
     where
-      three : (owner : ℕ) → tail_part worker (3 + owner) ≡ Note worker owner
+      three : (owner : ℕ) → tail_part worker (3 + owner) ≡ Reason worker owner
       three owner = ap (tail_part worker) (let q : 3 + owner ≡ suc (suc (suc owner)) = omega arith in q)
   found_at Counter here =
       let beyond : nat_lt (index_of z Counter) (cell_count z) ≡ false = is_not_less _ _ (λ h. omega (arith, h)) in

@@ -4,8 +4,8 @@
 use Rattle.std.specs.Prelude.{zero, suc, ◌≡◌, ℕ, ◌+◌, ◌<◌, ◌≤◌, ◌%◌, ◌^◌, ◌==◌, ◌&&◌, ◌||◌, ◌⊎◌, Option, Some, None, Bool, true, false, cond, List, [], ◌∷◌, ◌++◌, length, slice_index, slice_set}
 use Rattle.rh_world.specs.World.{Ref, Control, In, is_ref}
 use Rattle.rh_world.specs.World.Control.{unused, undecided, succeeded, withdrawn, failed}
-use Rattle.rh_world.specs.Notes.{Note}
-use Rattle.rh_world.specs.Notes.Note.{met, known, size_is, target_is, old_is, new_is, desc_is, which_is, decided, over, passed, failed_at, found, may_promote, may_demote, held, mismatch}
+use Rattle.rh_world.specs.Facts.{Fact}
+use Rattle.rh_world.specs.Facts.Fact.{met, known, size_is, target_is, old_is, new_is, desc_is, which_is, decided, over, passed, failed_at, found, may_promote, may_demote, held, mismatch}
 use Rattle.rh_world.specs.Sides.{Side, is_number, note_side, open_side, paid_side, claim_side}
 use Rattle.rh_world.specs.Moves.{Entries, HasSeen, MayWork, MayDecide, note_entries, cell_noted, control_noted, mark_noted, place_noted, settle_noted, release_noted, note_all}
 use Rattle.rh_layout.specs.declared.entry.Entry.{Entry}
@@ -14,7 +14,7 @@ use Rattle.rh_descriptor.specs.declared.shape.Part.{Part}
 use Rattle.rh_descriptor.specs.declared.shape.Part.TheVariants as part
 use Rattle.rh_descriptor.specs.declared.reference.Reading.{Reading}
 use Rattle.rh_descriptor.specs.declared.reference.Reading.TheVariants as reading
-use Rattle.rh_descriptor.specs.Parts.{cell_count, word_count, entry_row, mark_row, note_row, index_of}
+use Rattle.rh_descriptor.specs.Parts.{cell_count, word_count, entry_row, mark_row, reason_row, index_of}
 use Rattle.rh_descriptor.specs.View.{MarkWord, OwnDesc, Raw, RawRow, RowWord, Written, View}
 use Rattle.rh_descriptor.specs.View.RowWord.{length_word, cell_word, old_word, new_word}
 use Rattle.rh_descriptor.specs.View.MarkWord.{desc_word, entry_word}
@@ -91,18 +91,18 @@ HasSerial z v = row_word v.written (mark_row z 0) ≡ v.marks_used
 -- ---- when it is allowed
 
 -- The worker knows that an entry of a descriptor of this owner did not hold its old value, and decided no descriptor of the
--- owner as failed that is not older than that one: so no note to the owner is lost that it is to read.
+-- owner as failed that is not older than that one: so no reason to the owner is lost that it is to read.
 -- That any own Decide counts, also one to another result, would be stricter, and cost each worker a list of its own Decides.
-pub record MayNote (v : View) (owner : ℕ) : Type 0 where
+pub record MayGiveReason (v : View) (owner : ℕ) : Type 0 where
   pub desc : Ref
   pub entry : ℕ
   pub of_owner : desc.worker ≡ owner
-  pub mismatch : (n : ℕ) × In (Note.mismatch desc entry n) v.side.notes
-  pub older : (d : Ref) → d.worker ≡ owner → In (decided d (failed 0 v.worker)) v.side.notes → d.number < desc.number
+  pub mismatch : (n : ℕ) × In (Fact.mismatch desc entry n) v.side.facts
+  pub older : (d : Ref) → d.worker ≡ owner → In (decided d (failed 0 v.worker)) v.side.facts → d.number < desc.number
 
 -- This word may be written there: to the descriptor row, while nothing is open, and then the number of the next descriptor
 -- before all else; to the mark row, once the mark that it was of is settled, and then the number of the next mark first; or
--- to the note to an owner.
+-- to the reason to an owner.
 -- Once a row is of the next one, its words may be written in any order, and again: more than the protocol needs.
 abbrev pub IsFree : Shape → View → Part → (word : ℕ) → Type 0
 IsFree z v (part.Cell c) u = ⊥
@@ -115,7 +115,7 @@ IsFree z v (part.EntryNew worker entry) u = (worker ≡ v.worker) × (v.side.cur
 IsFree z v (part.MarkSerial worker) u = (worker ≡ v.worker) × (v.side.unsettled ≡ None) × (u ≡ v.marks_used) × (u < z.rooms.marks)
 IsFree z v (part.MarkDesc worker) u = (worker ≡ v.worker) × (v.side.unsettled ≡ None) × HasSerial z v
 IsFree z v (part.MarkEntry worker) u = (worker ≡ v.worker) × (v.side.unsettled ≡ None) × HasSerial z v
-IsFree z v (part.Note worker owner) u = (worker ≡ v.worker) × (owner < z.workers) × MayNote v owner
+IsFree z v (part.Reason worker owner) u = (worker ≡ v.worker) × (owner < z.workers) × MayGiveReason v owner
 IsFree z v part.Counter u = ⊥
 
 -- the table may have this descriptor, or this mark
@@ -142,8 +142,8 @@ pub record CanOpen (z : Shape) (v : View) (size : ℕ) : Type 0 where
   pub closed : v.side.current ≡ None
 
 -- the worker knows that d was opened: it has seen it so, or met it in a cell
-abbrev pub IsKnown : List Note → Ref → Type 0
-IsKnown notes d = HasSeen notes d ⊎ In (met d) notes
+abbrev pub IsKnown : List Fact → Ref → Type 0
+IsKnown facts d = HasSeen facts d ⊎ In (met d) facts
 
 -- the table has the word that is read
 abbrev pub IsRead : Shape → Reading → Type 0
@@ -162,12 +162,12 @@ IsRead z (reading.MarkEntry x) = IsMark z (ref_of x)
 IsRead z (reading.Reason d by) = IsDesc z (ref_of d) × (by < z.workers)
 
 -- the row of a mark for entry e of d is known: so d was opened, and has that entry
-abbrev pub KnowsMark : List Note → Ref → (e : ℕ) → Type 0
-KnowsMark notes d e = (x : Ref) × In (desc_is x d) notes × In (which_is x e) notes
+abbrev pub KnowsMark : List Fact → Ref → (e : ℕ) → Type 0
+KnowsMark facts d e = (x : Ref) × In (desc_is x d) facts × In (which_is x e) facts
 
 -- d is known as opened, or a mark of it is known
-abbrev pub WasOpened : List Note → Ref → Type 0
-WasOpened notes d = IsKnown notes d ⊎ ((x : Ref) × In (desc_is x d) notes)
+abbrev pub WasOpened : List Fact → Ref → Type 0
+WasOpened facts d = IsKnown facts d ⊎ ((x : Ref) × In (desc_is x d) facts)
 
 -- d is the newest descriptor of the worker
 abbrev pub IsNewest : View → Ref → Type 0
@@ -175,22 +175,22 @@ IsNewest v d = (d.worker ≡ v.worker) × (suc d.number ≡ v.next_number)
 
 -- What is noted of it is true: what a row says is noted only of a descriptor that is known as opened, or of a mark that
 -- was found, and then only once its row is seen to be still of it; that a mark may be settled, only where its control is
--- read after it was found; a note to the worker, only of its newest descriptor, which that other one decided.
+-- read after it was found; a reason to the worker, only of its newest descriptor, which that other one decided.
 -- The old value may be read on two grounds: who settles a mark that it met needs to know no more of the descriptor.
 abbrev pub IsNoted : View → Reading → Type 0
 IsNoted v (reading.Word p) = Unit {0}
 IsNoted v (reading.Cell c) = Unit {0}
 IsNoted v (reading.Control d) = Unit {0}
-IsNoted v (reading.MarkControl x c d) = In (found (ref_of x) c) v.side.notes × In (desc_is (ref_of x) (ref_of d)) v.side.notes
-IsNoted v (reading.Serial d) = WasOpened v.side.notes (ref_of d)
-IsNoted v (reading.Length d) = IsKnown v.side.notes (ref_of d)
+IsNoted v (reading.MarkControl x c d) = In (found (ref_of x) c) v.side.facts × In (desc_is (ref_of x) (ref_of d)) v.side.facts
+IsNoted v (reading.Serial d) = WasOpened v.side.facts (ref_of d)
+IsNoted v (reading.Length d) = IsKnown v.side.facts (ref_of d)
 IsNoted v (reading.EntryCell d e) = MayWork v.side (ref_of d) e
-IsNoted v (reading.EntryOld d e) = MayWork v.side (ref_of d) e ⊎ KnowsMark v.side.notes (ref_of d) e
+IsNoted v (reading.EntryOld d e) = MayWork v.side (ref_of d) e ⊎ KnowsMark v.side.facts (ref_of d) e
 IsNoted v (reading.EntryNew d e) = MayWork v.side (ref_of d) e
-IsNoted v (reading.MarkSerial x) = (c : ℕ) × In (found (ref_of x) c) v.side.notes
-IsNoted v (reading.MarkDesc x) = (c : ℕ) × In (found (ref_of x) c) v.side.notes
-IsNoted v (reading.MarkEntry x) = (c : ℕ) × In (found (ref_of x) c) v.side.notes
-IsNoted v (reading.Reason d by) = IsNewest v (ref_of d) × In (decided (ref_of d) (failed 0 by)) v.side.notes
+IsNoted v (reading.MarkSerial x) = (c : ℕ) × In (found (ref_of x) c) v.side.facts
+IsNoted v (reading.MarkDesc x) = (c : ℕ) × In (found (ref_of x) c) v.side.facts
+IsNoted v (reading.MarkEntry x) = (c : ℕ) × In (found (ref_of x) c) v.side.facts
+IsNoted v (reading.Reason d by) = IsNewest v (ref_of d) × In (decided (ref_of d) (failed 0 by)) v.side.facts
 
 -- the next own mark is left, the mark row is of it and names the entry, the entry is known, the worker opened the descriptor or
 -- read its control as not unused, and no own mark is unsettled
@@ -201,26 +201,26 @@ pub record CanPlace (z : Shape) (v : View) (d : Ref) (e c old : ℕ) : Type 0 wh
   pub desc : row_word v.written (mark_row z 1) ≡ desc_number d
   pub entry : row_word v.written (mark_row z 2) ≡ e
   pub work : MayWork v.side d e
-  pub seen : HasSeen v.side.notes d
-  pub knows_cell : In (target_is d e c) v.side.notes
-  pub knows_old : In (old_is d e old) v.side.notes
+  pub seen : HasSeen v.side.facts d
+  pub knows_cell : In (target_is d e c) v.side.facts
+  pub knows_old : In (old_is d e old) v.side.facts
   pub settled : v.side.unsettled ≡ None
 
 -- that the mark may be swapped to its descriptor, or to this old value
 -- Any Read of the control after the mark was found would do; but what is kept of a worker does not tell which Read came after
 -- which finding, so only one that was made for the mark counts.
 abbrev pub MaySettle : View → (x : Ref) → (c : ℕ) → (d : Ref) → (e : ℕ) → Option ℕ → Type 0
-MaySettle v x c d e None = In (may_promote x c) v.side.notes
-MaySettle v x c d e (Some old) = In (may_demote x) v.side.notes × In (old_is d e old) v.side.notes
+MaySettle v x c d e None = In (may_promote x c) v.side.facts
+MaySettle v x c d e (Some old) = In (may_demote x) v.side.facts × In (old_is d e old) v.side.facts
 
 -- the mark was found in that cell, and its row was read or written
 pub record CanSettle (z : Shape) (v : View) (x : Ref) (c : ℕ) (d : Ref) (e : ℕ) (old : Option ℕ) : Type 0 where
   pub cell : c < cell_count z
   pub mark : IsMark z x
   pub desc : IsDesc z d
-  pub found : In (Note.found x c) v.side.notes
-  pub desc_is : In (Note.desc_is x d) v.side.notes
-  pub which_is : In (Note.which_is x e) v.side.notes
+  pub found : In (Fact.found x c) v.side.facts
+  pub desc_is : In (Fact.desc_is x d) v.side.facts
+  pub which_is : In (Fact.which_is x e) v.side.facts
   pub may : MaySettle v x c d e old
 
 -- of how it is decided: a word tells it, so the entry is 0; the worker names itself; a descriptor is withdrawn only where no
@@ -232,13 +232,13 @@ IsResult z v succeeded = Unit {0}
 IsResult z v withdrawn = z.rooms.marks ≤ v.marks_used
 IsResult z v (failed e by) = (e ≡ 0) × (by ≡ v.worker)
 
--- the entry at which it fails is that of the own note to its owner
+-- the entry at which it fails is that of the own reason to its owner
 abbrev pub decided_so : Shape → View → Ref → Control → Control
-decided_so z v d k = with_entry (row_word v.written (note_row z d.worker)) k
+decided_so z v d k = with_entry (row_word v.written (reason_row z d.worker)) k
 
 pub record CanDecide (z : Shape) (v : View) (d : Ref) (k : Control) : Type 0 where
   pub desc : IsDesc z d
-  pub known : In (Note.known d) v.side.notes
+  pub known : In (Fact.known d) v.side.facts
   pub may : MayDecide v.side v.worker d (decided_so z v d k)
   pub result : IsResult z v k
 
@@ -246,23 +246,23 @@ pub record CanDecide (z : Shape) (v : View) (d : Ref) (k : Control) : Type 0 whe
 abbrev pub IsReleased : View → Ref → (e : ℕ) → Control → (value : ℕ) → Type 0
 IsReleased v d e unused value = ⊥
 IsReleased v d e undecided value = ⊥
-IsReleased v d e succeeded value = In (new_is d e value) v.side.notes
-IsReleased v d e withdrawn value = In (old_is d e value) v.side.notes
-IsReleased v d e (failed f by) value = In (old_is d e value) v.side.notes
+IsReleased v d e succeeded value = In (new_is d e value) v.side.facts
+IsReleased v d e withdrawn value = In (old_is d e value) v.side.facts
+IsReleased v d e (failed f by) value = In (old_is d e value) v.side.facts
 
 -- how the descriptor was decided is known, and which value counts; or that it was, and that its row has gone on, so that it
 -- is not the own open one: then it is the old one, as a descriptor that succeeded stands nowhere any more
 abbrev pub KnowsValue : View → Ref → (e : ℕ) → Option Control → (value : ℕ) → Type 0
 KnowsValue v d e None value =
-    In (over d) v.side.notes × In (passed d) v.side.notes × In (old_is d e value) v.side.notes × (d.worker ≡ v.worker → v.side.current ≡ Some d.number → ⊥)
-KnowsValue v d e (Some k) value = In (decided d k) v.side.notes × IsReleased v d e k value
+    In (over d) v.side.facts × In (passed d) v.side.facts × In (old_is d e value) v.side.facts × (d.worker ≡ v.worker → v.side.current ≡ Some d.number → ⊥)
+KnowsValue v d e (Some k) value = In (decided d k) v.side.facts × IsReleased v d e k value
 
 -- the entry is known, and what its cell gets
 pub record CanRelease (z : Shape) (v : View) (d : Ref) (e c : ℕ) (k : Option Control) (value : ℕ) : Type 0 where
   pub cell : c < cell_count z
   pub desc : IsDesc z d
   pub work : MayWork v.side d e
-  pub knows_cell : In (target_is d e c) v.side.notes
+  pub knows_cell : In (target_is d e c) v.side.facts
   pub knows_value : KnowsValue v d e k value
 
 -- nothing of the worker is open, and no earlier Claim of it found the end
@@ -301,7 +301,7 @@ index_read z (reading.EntryNew d e) = index_of z (part.EntryNew d.worker e)
 index_read z (reading.MarkSerial x) = index_of z (part.MarkSerial x.worker)
 index_read z (reading.MarkDesc x) = index_of z (part.MarkDesc x.worker)
 index_read z (reading.MarkEntry x) = index_of z (part.MarkEntry x.worker)
-index_read z (reading.Reason d by) = index_of z (part.Note by d.worker)
+index_read z (reading.Reason d by) = index_of z (part.Reason by d.worker)
 
 abbrev pub index : Shape → View → Step → ℕ
 index z v (writes p u) = index_of z p
@@ -347,32 +347,32 @@ row_of z (part.EntryNew worker entry) = entry_row entry 2
 row_of z (part.MarkSerial worker) = mark_row z 0
 row_of z (part.MarkDesc worker) = mark_row z 1
 row_of z (part.MarkEntry worker) = mark_row z 2
-row_of z (part.Note worker owner) = note_row z owner
+row_of z (part.Reason worker owner) = reason_row z owner
 row_of z part.Counter = 0
 
 abbrev pub with_side : View → Side → View
 with_side v s = record v { side = s }
 
 -- what the words that were read in a row say of its descriptor, or of its mark
-abbrev pub desc_row_said : Ref → RowWord → Note
+abbrev pub desc_row_said : Ref → RowWord → Fact
 desc_row_said d (length_word u) = size_is d u
 desc_row_said d (cell_word e u) = target_is d e u
 desc_row_said d (old_word e u) = old_is d e u
 desc_row_said d (new_word e u) = new_is d e u
 
-abbrev pub rows_said : List RawRow → Ref → List Note
+abbrev pub rows_said : List RawRow → Ref → List Fact
 rows_said [] d = []
 rows_said (r ∷ rs) d = cond (is_ref r.desc d) (desc_row_said d r.word ∷ rows_said rs d) (rows_said rs d)
 
-abbrev pub desc_said : Ref → Option Ref → List Note
+abbrev pub desc_said : Ref → Option Ref → List Fact
 desc_said x None = []
 desc_said x (Some d) = desc_is x d ∷ []
 
-abbrev pub mark_said : Ref → MarkWord → List Note
+abbrev pub mark_said : Ref → MarkWord → List Fact
 mark_said x (desc_word u) = desc_said x (desc_in u)
 mark_said x (entry_word u) = which_is x u ∷ []
 
-abbrev pub row_said : List Raw → Ref → List Note
+abbrev pub row_said : List Raw → Ref → List Fact
 row_said [] x = []
 row_said (r ∷ rs) x = cond (is_ref r.mark x) (mark_said x r.word ++ row_said rs x) (row_said rs x)
 
@@ -380,8 +380,8 @@ row_said (r ∷ rs) x = cond (is_ref r.mark x) (mark_said x r.word ++ row_said r
 abbrev pub gone_noted : Side → Ref → Side
 gone_noted s d = note_side (note_side s (over d)) (passed d)
 
--- whether a note says that d was opened
-abbrev pub tells_opened : Note → Ref → Bool
+-- whether a fact says that d was opened
+abbrev pub tells_opened : Fact → Ref → Bool
 tells_opened (met f) d = is_ref f d
 tells_opened (known f) d = is_ref f d
 tells_opened (size_is f n) d = false
@@ -400,14 +400,14 @@ tells_opened (may_demote x) d = false
 tells_opened (held f e) d = false
 tells_opened (mismatch f e n) d = false
 
-abbrev pub is_known : List Note → Ref → Bool
+abbrev pub is_known : List Fact → Ref → Bool
 is_known [] d = false
 is_known (n ∷ ns) d = tells_opened n d || is_known ns d
 
 -- A control word with the number of d tells how d is. With another one it tells that d has gone on, if it was opened.
 abbrev pub control_read : Side → Ref → (word : ℕ) → Side
 control_read s d word =
-    cond (serial_in word == d.number) (control_noted s d (read_control word)) (cond (is_known s.notes d) (gone_noted s d) s)
+    cond (serial_in word == d.number) (control_noted s d (read_control word)) (cond (is_known s.facts d) (gone_noted s d) s)
 
 -- the same of the control of a mark that was found in a cell
 abbrev pub mark_control_read : Side → (x : Ref) → (c : ℕ) → (d : Ref) → (word : ℕ) → Side

@@ -9,7 +9,7 @@ ghost use Rattle.rh_descriptor.specs.Words.{control_of, ref_of};
 use crate::reference::{Piece, Reading, Ref};
 use crate::shape::{Part, Shape};
 use crate::side::Side;
-use crate::steps::{Ask, make_step};
+use crate::steps::{Request, make_step};
 use rh_tagword::State;
 
 /// Writes a word of an own row.
@@ -19,7 +19,7 @@ pub fn write_word(shape: &Shape, words: &mut [u64], side: &mut Side, part: Part,
     requires allowed { Allowed shape.now side.old.known.view (writes part word) }
     ensures { Makes shape.now (writes part word) words.old side.old.known.view words.new side.new.known.view }
 {
-    make_step(shape, words, side, Ask::Write { part, word });
+    make_step(shape, words, side, Request::Write { part, word });
 }
 
 /// Opens the next own descriptor, whose row says so many entries.
@@ -29,7 +29,7 @@ pub fn open_desc(shape: &Shape, words: &mut [u64], side: &mut Side, entries: usi
     requires allowed { Allowed shape.now side.old.known.view (opens entries) }
     ensures { Makes shape.now (opens entries) words.old side.old.known.view words.new side.new.known.view }
 {
-    make_step(shape, words, side, Ask::Open { entries });
+    make_step(shape, words, side, Request::Open { entries });
 }
 
 /// Reads a word.
@@ -39,7 +39,7 @@ pub fn read_word(shape: &Shape, words: &mut [u64], side: &mut Side, reading: Rea
     requires allowed { Allowed shape.now side.old.known.view (reads reading) }
     ensures { StepsTo shape.now (reads reading) words.old side.old.known.view result words.new side.new.known.view }
 {
-    make_step(shape, words, side, Ask::Read(reading))
+    make_step(shape, words, side, Request::Read(reading))
 }
 
 /// Swaps a cell from the old value of an entry to the next own mark. Answers the word that stood there.
@@ -50,7 +50,7 @@ pub fn place_mark(shape: &Shape, words: &mut [u64], side: &mut Side, piece: Piec
     ensures { StepsTo shape.now (places (ref_of piece.desc) piece.entry piece.cell old)
         words.old side.old.known.view result words.new side.new.known.view }
 {
-    make_step(shape, words, side, Ask::Place { piece, old })
+    make_step(shape, words, side, Request::Place { piece, old })
 }
 
 /// Swaps a cell from a mark to its descriptor, or to this old value. Answers the word that stood there.
@@ -68,7 +68,7 @@ pub fn settle_mark(
     ensures { StepsTo shape.now (settles (ref_of mark) piece.cell (ref_of piece.desc) piece.entry old)
         words.old side.old.known.view result words.new side.new.known.view }
 {
-    make_step(shape, words, side, Ask::Settle { mark, piece, old })
+    make_step(shape, words, side, Request::Settle { mark, piece, old })
 }
 
 /// Swaps the control of a descriptor from undecided to this state. Answers the word that stood there.
@@ -85,7 +85,7 @@ pub fn decide_desc(
     ensures { StepsTo shape.now (decides (ref_of desc) (control_of state))
         words.old side.old.known.view result words.new side.new.known.view }
 {
-    make_step(shape, words, side, Ask::Decide { desc, state })
+    make_step(shape, words, side, Request::Decide { desc, state })
 }
 
 /// Swaps a cell from a descriptor that is decided so, or whose row has gone on, to this value. Answers the
@@ -109,7 +109,7 @@ pub fn release_cell(
         shape,
         words,
         side,
-        Ask::Release {
+        Request::Release {
             piece,
             state,
             value,
@@ -124,5 +124,5 @@ pub fn claim_key(shape: &Shape, words: &mut [u64], side: &mut Side) -> u64
     requires allowed { Allowed shape.now side.old.known.view claims }
     ensures { StepsTo shape.now claims words.old side.old.known.view result words.new side.new.known.view }
 {
-    make_step(shape, words, side, Ask::Claim)
+    make_step(shape, words, side, Request::Claim)
 }

@@ -1,7 +1,7 @@
 //! Where descriptors and marks stand in a table that several workers share, and the steps of one
 //! worker on its words.
 //!
-//! A step is a value (`Ask`): which word it touches, and what becomes of it. `rh_rule` says that
+//! A step is a value (`Request`): which word it touches, and what becomes of it. `rh_rule` says that
 //! each allowed one keeps the rule, and `rh_steps` who carries it out.
 //!
 //! ```text
@@ -17,7 +17,7 @@
 //!
 //! - `Shape::cells`, `words` and `index`: how many cells and words a table has, and in which word
 //!   each part stands, exactly. `one_part`: no two parts stand in one word.
-//! - `Ask::index`, `Ask::effect`, `Side::note`: of a step, on the condition of its kind, which word
+//! - `Request::index`, `Request::effect`, `Side::note`: of a step, on the condition of its kind, which word
 //!   it touches, what becomes of it, and what is kept of the worker after it, exactly.
 //! - `make_step`: one such step on a slice of words, and the word that it found. `write_word`,
 //!   `open_desc`, `read_word`, `place_mark`, `settle_mark`, `decide_desc`, `release_cell` and
@@ -50,5 +50,5 @@ pub use reference::{Piece, Reading, Ref};
 pub use rh_layout::Entry;
 pub use shape::{Part, Rooms, Shape};
 pub use side::Side;
-pub use steps::{Ask, Effect, StepKind, make_step};
+pub use steps::{Effect, Request, StepKind, make_step};
 pub use words::{decided_word, desc_word, mark_word};

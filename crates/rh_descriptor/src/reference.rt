@@ -50,7 +50,7 @@ pub enum Reading {
     MarkDesc(Ref),
     /// The entry of a mark.
     MarkEntry(Ref),
-    /// The note of the worker that decided that this own descriptor failed: at which entry.
+    /// The reason of the worker that decided that this own descriptor failed: at which entry.
     Reason { desc: Ref, decider: usize },
 }
 
@@ -78,7 +78,7 @@ impl Reading {
             Reading::MarkSerial(mark) => shape.mark_word(mark.worker, 0),
             Reading::MarkDesc(mark) => shape.mark_word(mark.worker, 1),
             Reading::MarkEntry(mark) => shape.mark_word(mark.worker, 2),
-            Reading::Reason { desc, decider } => shape.note_word(decider, desc.worker),
+            Reading::Reason { desc, decider } => shape.reason_word(decider, desc.worker),
         }
     }
 }

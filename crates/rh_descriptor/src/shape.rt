@@ -60,7 +60,7 @@ pub enum Part {
     /// The entry that it is for, counted from 0 in its descriptor.
     MarkEntry { worker: usize },
     /// What a worker tells the owner of a descriptor: the entry at which it decided that it failed.
-    Note { worker: usize, owner: usize },
+    Reason { worker: usize, owner: usize },
     /// How many Claims were made.
     Counter,
 }
@@ -68,7 +68,7 @@ pub enum Part {
 impl Shape {
     ghost use Rattle.rh_descriptor.specs.declared.limits.TheConstants.{HEAD_WORDS, MARK_WORDS, WORDS_PER_ENTRY};
     ghost use Rattle.rh_descriptor.specs.Parts.{IsPart, IsShape, cell_count, entry_words, index_of};
-    ghost use Rattle.rh_descriptor.specs.Parts.{entry_row, mark_row, note_row, row_count, row_index, word_count};
+    ghost use Rattle.rh_descriptor.specs.Parts.{entry_row, mark_row, reason_row, row_count, row_index, word_count};
     ghost use Rattle.rh_descriptor.specs.declared.shape.Part.TheVariants.{Counter};
 
     /// How many cells there are.
@@ -126,7 +126,7 @@ impl Shape {
             Part::MarkSerial { worker } => self.mark_word(worker, 0),
             Part::MarkDesc { worker } => self.mark_word(worker, 1),
             Part::MarkEntry { worker } => self.mark_word(worker, 2),
-            Part::Note { worker, owner } => self.note_word(worker, owner),
+            Part::Reason { worker, owner } => self.reason_word(worker, owner),
             Part::Counter => self.counter(),
         }
     }
@@ -156,11 +156,11 @@ impl Shape {
     }
 
     #[inline(always)]
-    pub(crate) fn note_word(&self, worker: usize, owner: usize) -> usize
+    pub(crate) fn reason_word(&self, worker: usize, owner: usize) -> usize
         requires shape { IsShape self.now }
         requires worker { worker < self.now.workers }
         requires owner { owner < self.now.workers }
-        ensures value { result ≡ row_index self.now worker (note_row self.now owner) }
+        ensures value { result ≡ row_index self.now worker (reason_row self.now owner) }
         ensures within { result < word_count self.now }
     {
         self.row_word(worker, HEAD_WORDS + self.entry_words() + MARK_WORDS + owner)

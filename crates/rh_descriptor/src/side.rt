@@ -2,7 +2,7 @@
 //! and knows is kept for contracts alone.
 
 ghost use Rattle.std.specs.Prelude.{◌≡◌};
-ghost use Rattle.rh_descriptor.specs.Asks.{step_of};
+ghost use Rattle.rh_descriptor.specs.Requests.{step_of};
 ghost use Rattle.rh_descriptor.specs.Parts.{IsShape};
 ghost use Rattle.rh_descriptor.specs.Steps.{Allowed, control_seen, noted};
 ghost use Rattle.rh_descriptor.specs.View.{new_view, round_view};
@@ -11,7 +11,7 @@ ghost use Rattle.rh_descriptor.specs.Words.{ref_of};
 use crate::known::{Change, First, Known};
 use crate::reference::{Reading, Ref};
 use crate::shape::Shape;
-use crate::steps::Ask;
+use crate::steps::Request;
 use crate::words::decided_word;
 use rh_tagword::{State, pack_control};
 
@@ -47,7 +47,7 @@ impl Change<&[u64]> for Renewed {
 
 struct Noted;
 
-impl Change<(Shape, Ask, u64)> for Noted {
+impl Change<(Shape, Request, u64)> for Noted {
     ghost after = { λ v a. noted a.0 v (step_of a.1) a.2 };
 }
 
@@ -79,16 +79,19 @@ impl Side {
 
     /// Notes a step that was made and found this word.
     #[inline(always)]
-    pub fn note(&mut self, shape: &Shape, ask: Ask, word: u64)
+    pub fn note(&mut self, shape: &Shape, request: Request, word: u64)
         requires shape { IsShape shape.now }
-        requires allowed { Allowed shape.now self.old.known.view (step_of ask) }
-        ensures { self.new.known.view ≡ noted shape.now self.old.known.view (step_of ask) word }
+        requires allowed { Allowed shape.now self.old.known.view (step_of request) }
+        ensures { self.new.known.view ≡ noted shape.now self.old.known.view (step_of request) word }
     {
-        let control = self.control_after(shape, ask, word);
-        let known = Known::next::<Noted, (Shape, Ask, u64)>(&self.known, &(*shape, ask, word));
-        match ask {
-            Ask::Open { .. } => self.next_number += 1,
-            Ask::Place { old, .. } => {
+        let control = self.control_after(shape, request, word);
+        let known = Known::next::<Noted, (Shape, Request, u64)>(
+            &self.known,
+            &(*shape, request, word),
+        );
+        match request {
+            Request::Open { .. } => self.next_number += 1,
+            Request::Place { old, .. } => {
                 if word == old {
                     self.marks_used += 1;
                 }
@@ -101,17 +104,20 @@ impl Side {
 
     // The own control as the step shows it.
     #[inline(always)]
-    fn control_after(&self, shape: &Shape, ask: Ask, word: u64) -> u64
+    fn control_after(&self, shape: &Shape, request: Request, word: u64) -> u64
         requires shape { IsShape shape.now }
-        requires allowed { Allowed shape.now self.now.known.view (step_of ask) }
-        ensures { result ≡ (noted shape.now self.now.known.view (step_of ask) word).control }
+        requires allowed { Allowed shape.now self.now.known.view (step_of request) }
+        ensures { result ≡ (noted shape.now self.now.known.view (step_of request) word).control }
     {
         let _ = shape;
-        match ask {
-            Ask::Open { .. } => pack_control(self.next_number, State::Undecided),
-            Ask::Read(Reading::Control(desc)) => self.control_seen(desc, word),
-            Ask::Read(Reading::MarkControl { desc, .. }) => self.control_seen(desc, word),
-            Ask::Decide { desc, state } => self.control_seen(desc, decided_word(desc, state, word)),
+        match request {
+            Request::Open { .. } => pack_control(self.next_number, State::Undecided),
+            Request::Read(Reading::Control(desc)) => self.control_seen(desc, word),
+            Request::Read(Reading::MarkControl { desc, .. }) => self.control_seen(desc, word),
+            Request::Decide { desc, state } => self.control_seen(
+                desc,
+                decided_word(desc, state, word),
+            ),
             _ => self.control,
         }
     }

@@ -1,7 +1,7 @@
 //! The steps of a worker, each of which touches one word of a table: as values, and on a slice of words.
 
 ghost use Rattle.std.specs.Prelude.{◌≡◌, ◌<◌, ℕ, length};
-ghost use Rattle.rh_descriptor.specs.Asks.{changed, step_of};
+ghost use Rattle.rh_descriptor.specs.Requests.{changed, step_of};
 ghost use Rattle.rh_descriptor.specs.Parts.{IsShape, word_count};
 ghost use Rattle.rh_descriptor.specs.Steps.{Allowed, StepsTo, index, word_after};
 
@@ -26,7 +26,7 @@ pub enum StepKind {
 
 /// A step that a worker is to make.
 #[derive(Clone, Copy)]
-pub enum Ask {
+pub enum Request {
     /// Write of a word of an own row.
     Write {
         part: Part,
@@ -48,7 +48,7 @@ pub enum Ask {
         piece: Piece,
         old: Option<u64>,
     },
-    /// Decide of a descriptor. At which entry it failed, the own note to its owner says.
+    /// Decide of a descriptor. At which entry it failed, the own reason to its owner says.
     Decide {
         desc: Ref,
         state: State,
@@ -74,7 +74,7 @@ pub enum Effect {
     Count,
 }
 
-impl Ask {
+impl Request {
     /// The word that the step touches.
     #[inline(always)]
     pub fn index(&self, shape: &Shape, side: &Side) -> usize
@@ -84,14 +84,14 @@ impl Ask {
         ensures within { result < word_count shape.now }
     {
         match *self {
-            Ask::Write { part, .. } => shape.index(part),
-            Ask::Open { .. } => shape.row_word(side.worker, 0),
-            Ask::Read(reading) => reading.index(shape),
-            Ask::Place { piece, .. } | Ask::Settle { piece, .. } | Ask::Release { piece, .. } => {
-                piece.cell
-            }
-            Ask::Decide { desc, .. } => shape.row_word(desc.worker, 0),
-            Ask::Claim => shape.counter(),
+            Request::Write { part, .. } => shape.index(part),
+            Request::Open { .. } => shape.row_word(side.worker, 0),
+            Request::Read(reading) => reading.index(shape),
+            Request::Place { piece, .. }
+            | Request::Settle { piece, .. }
+            | Request::Release { piece, .. } => { piece.cell }
+            Request::Decide { desc, .. } => shape.row_word(desc.worker, 0),
+            Request::Claim => shape.counter(),
         }
     }
 
@@ -103,13 +103,13 @@ impl Ask {
         ensures { (n : ℕ) → changed result n ≡ word_after side.now.known.view (step_of self.now) n }
     {
         match *self {
-            Ask::Write { word, .. } => Effect::Put(word),
-            Ask::Open { .. } => Effect::Swap {
+            Request::Write { word, .. } => Effect::Put(word),
+            Request::Open { .. } => Effect::Swap {
                 old: side.control,
                 new: pack_control(side.next_number, State::Undecided),
             },
-            Ask::Read(_) => Effect::Keep,
-            Ask::Place { old, .. } => Effect::Swap {
+            Request::Read(_) => Effect::Keep,
+            Request::Place { old, .. } => Effect::Swap {
                 old,
                 new: mark_word(
                     shape,
@@ -119,39 +119,39 @@ impl Ask {
                     },
                 ),
             },
-            Ask::Settle { mark, piece, old } => Effect::Swap {
+            Request::Settle { mark, piece, old } => Effect::Swap {
                 old: mark_word(shape, mark),
                 new: match old {
                     None => desc_word(shape, piece.desc),
                     Some(old) => old,
                 },
             },
-            Ask::Decide { desc, state } => Effect::Swap {
+            Request::Decide { desc, state } => Effect::Swap {
                 old: pack_control(desc.number, State::Undecided),
                 new: pack_control(desc.number, state),
             },
-            Ask::Release { piece, value, .. } => Effect::Swap {
+            Request::Release { piece, value, .. } => Effect::Swap {
                 old: desc_word(shape, piece.desc),
                 new: value,
             },
-            Ask::Claim => Effect::Count,
+            Request::Claim => Effect::Count,
         }
     }
 }
 
 /// Makes the step on a slice of words, and answers the word that was found.
 #[inline(always)]
-pub fn make_step(shape: &Shape, words: &mut [u64], side: &mut Side, ask: Ask) -> u64
+pub fn make_step(shape: &Shape, words: &mut [u64], side: &mut Side, request: Request) -> u64
     requires shape { IsShape shape.now }
     requires sized { length words.old ≡ word_count shape.now }
-    requires allowed { Allowed shape.now side.old.known.view (step_of ask) }
-    ensures { StepsTo shape.now (step_of ask) words.old side.old.known.view
+    requires allowed { Allowed shape.now side.old.known.view (step_of request) }
+    ensures { StepsTo shape.now (step_of request) words.old side.old.known.view
         result words.new side.new.known.view }
 {
-    let index = ask.index(shape, side);
+    let index = request.index(shape, side);
     let word = words[index];
-    words[index] = ask.effect(shape, side).on(word);
-    side.note(shape, ask, word);
+    words[index] = request.effect(shape, side).on(word);
+    side.note(shape, request, word);
     word
 }
 

@@ -2,7 +2,7 @@
 use Rattle.std.specs.Prelude.{ℕ, zero, suc, ◌==◌, min, Bool, true, false, if◌then◌else◌, List, [], ◌∷◌, ◌++◌, Option, Some, None, slice_set}
 use Rattle.rh_descriptor.specs.Parts.{cell_count}
 use Rattle.rh_descriptor.specs.declared.shape.Part.{Part}
-use Rattle.rh_descriptor.specs.declared.shape.Part.TheVariants.{Cell, Control, Serial, Length, EntryCell, EntryOld, EntryNew, MarkSerial, MarkDesc, MarkEntry, Note, Counter}
+use Rattle.rh_descriptor.specs.declared.shape.Part.TheVariants.{Cell, Control, Serial, Length, EntryCell, EntryOld, EntryNew, MarkSerial, MarkDesc, MarkEntry, Reason, Counter}
 use Rattle.rh_descriptor.specs.declared.shape.Shape.{Shape}
 use Rattle.rh_draw.specs.Words.{word_at}
 use Rattle.rh_tagword.specs.Control.{control_in, is_decided}
@@ -36,7 +36,7 @@ decided_at (EntryNew worker entry) touched = None
 decided_at (MarkSerial worker) touched = None
 decided_at (MarkDesc worker) touched = None
 decided_at (MarkEntry worker) touched = None
-decided_at (Note worker owner) touched = None
+decided_at (Reason worker owner) touched = None
 decided_at Counter touched = None
 
 -- what a step decided a descriptor to, if it did
@@ -84,7 +84,7 @@ cells_at z words (EntryNew worker entry) touched = []
 cells_at z words (MarkSerial worker) touched = []
 cells_at z words (MarkDesc worker) touched = []
 cells_at z words (MarkEntry worker) touched = []
-cells_at z words (Note worker owner) touched = []
+cells_at z words (Reason worker owner) touched = []
 cells_at z words Counter touched = []
 
 -- the cells of which a step changes the word or the value
@@ -102,7 +102,7 @@ values_at z words values (EntryNew worker entry) touched = values
 values_at z words values (MarkSerial worker) touched = values
 values_at z words values (MarkDesc worker) touched = values
 values_at z words values (MarkEntry worker) touched = values
-values_at z words values (Note worker owner) touched = values
+values_at z words values (Reason worker owner) touched = values
 values_at z words values Counter touched = values
 
 -- the values that the cells stand for after a step

@@ -1,7 +1,7 @@
 -- The moments at which a picture says something: a descriptor is decided, or a mark is settled to one that is over.
 use Rattle.std.specs.Prelude.{ℕ, zero, suc, ◌+◌, ◌-◌, ◌/◌, ◌==◌, nat_lt, Bool, false, if◌then◌else◌, List, [], ◌++◌, Option, Some, None, codes, decimal, slice_index}
 use Rattle.rh_descriptor.specs.declared.shape.Part.{Part}
-use Rattle.rh_descriptor.specs.declared.shape.Part.TheVariants.{Cell, Control, Serial, Length, EntryCell, EntryOld, EntryNew, MarkSerial, MarkDesc, MarkEntry, Note, Counter}
+use Rattle.rh_descriptor.specs.declared.shape.Part.TheVariants.{Cell, Control, Serial, Length, EntryCell, EntryOld, EntryNew, MarkSerial, MarkDesc, MarkEntry, Reason, Counter}
 use Rattle.rh_descriptor.specs.declared.shape.Shape.{Shape}
 use Rattle.rh_draw.specs.Changes.{decided, entry_count, is_act, is_success}
 use Rattle.rh_svg.specs.Markup.{Content, Nothing, beside, labelled, leaf}
@@ -103,7 +103,7 @@ notice_look z words (EntryNew worker entry) touched = None
 notice_look z words (MarkSerial worker) touched = None
 notice_look z words (MarkDesc worker) touched = None
 notice_look z words (MarkEntry worker) touched = None
-notice_look z words (Note worker owner) touched = None
+notice_look z words (Reason worker owner) touched = None
 notice_look z words Counter touched = None
 
 abbrev pub notice_text : Shape → Standing → Part → Touched → List ℕ
@@ -117,7 +117,7 @@ notice_text z s (EntryNew worker entry) touched = []
 notice_text z s (MarkSerial worker) touched = []
 notice_text z s (MarkDesc worker) touched = []
 notice_text z s (MarkEntry worker) touched = []
-notice_text z s (Note worker owner) touched = []
+notice_text z s (Reason worker owner) touched = []
 notice_text z s Counter touched = []
 
 -- a line across all lanes and columns, and at its end what it says

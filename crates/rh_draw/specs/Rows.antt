@@ -1,7 +1,7 @@
 -- The rows of the steps: numbers, marks and lines of helping; and where rounds begin.
 use Rattle.std.specs.Prelude.{ℕ, ◌+◌, ◌-◌, ◌/◌, ◌==◌, if◌then◌else◌, List, Option, Some, None, codes, decimal}
 use Rattle.rh_descriptor.specs.declared.shape.Part.{Part}
-use Rattle.rh_descriptor.specs.declared.shape.Part.TheVariants.{Cell, Control, Serial, Length, EntryCell, EntryOld, EntryNew, MarkSerial, MarkDesc, MarkEntry, Note, Counter}
+use Rattle.rh_descriptor.specs.declared.shape.Part.TheVariants.{Cell, Control, Serial, Length, EntryCell, EntryOld, EntryNew, MarkSerial, MarkDesc, MarkEntry, Reason, Counter}
 use Rattle.rh_descriptor.specs.declared.steps.StepKind.{StepKind}
 use Rattle.rh_descriptor.specs.declared.steps.StepKind.TheVariants as kinds
 use Rattle.rh_svg.specs.Markup.{Content, Nothing, Element, beside, for_all, labelled, leaf}
@@ -40,7 +40,7 @@ owner_in_cell kinds.Decide touched = None
 owner_in_cell kinds.Release touched = desc_owner (word_in touched.found)
 owner_in_cell kinds.Claim touched = None
 
--- a step at a row is about its worker, one at a note about the worker whom it is for
+-- a step at a row is about its worker, one at a reason about the worker whom it is for
 abbrev pub owner_at : Part → StepKind → Touched → Option ℕ
 owner_at (Cell c) kind touched = owner_in_cell kind touched
 owner_at (Control worker) kind touched = Some worker
@@ -52,7 +52,7 @@ owner_at (EntryNew worker entry) kind touched = Some worker
 owner_at (MarkSerial worker) kind touched = Some worker
 owner_at (MarkDesc worker) kind touched = Some worker
 owner_at (MarkEntry worker) kind touched = Some worker
-owner_at (Note worker owner) kind touched = Some owner
+owner_at (Reason worker owner) kind touched = Some owner
 owner_at Counter kind touched = None
 
 abbrev pub other_than : (worker : ℕ) → Option ℕ → Option ℕ

@@ -2,7 +2,7 @@
 use Rattle.std.specs.Prelude.{ℕ, ◌-◌, ◌++◌, replicate, nat_lt, Bool, true, false, if◌then◌else◌, List, slice_index, slice_set}
 use Rattle.rh_descriptor.specs.Parts.{cell_count, index_of, word_count}
 use Rattle.rh_descriptor.specs.declared.shape.Part.{Part}
-use Rattle.rh_descriptor.specs.declared.shape.Part.TheVariants.{Cell, Control, Serial, Length, EntryCell, EntryOld, EntryNew, MarkSerial, MarkDesc, MarkEntry, Note, Counter}
+use Rattle.rh_descriptor.specs.declared.shape.Part.TheVariants.{Cell, Control, Serial, Length, EntryCell, EntryOld, EntryNew, MarkSerial, MarkDesc, MarkEntry, Reason, Counter}
 use Rattle.rh_descriptor.specs.declared.shape.Shape.{Shape}
 use Rattle.rh_recorder.specs.declared.recorder.Touched.{Touched}
 
@@ -21,7 +21,7 @@ is_part z (EntryNew worker entry) = both (nat_lt worker z.workers) (nat_lt entry
 is_part z (MarkSerial worker) = nat_lt worker z.workers
 is_part z (MarkDesc worker) = nat_lt worker z.workers
 is_part z (MarkEntry worker) = nat_lt worker z.workers
-is_part z (Note worker owner) = both (nat_lt worker z.workers) (nat_lt owner z.workers)
+is_part z (Reason worker owner) = both (nat_lt worker z.workers) (nat_lt owner z.workers)
 is_part z Counter = true
 
 -- the word of a part; 0 where the table has no such part

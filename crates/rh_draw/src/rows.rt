@@ -51,7 +51,7 @@ fn owner_at(part: Part, kind: StepKind, touched: Touched) -> Option<u64>
         | Part::MarkSerial { worker }
         | Part::MarkDesc { worker }
         | Part::MarkEntry { worker } => Some(worker as u64),
-        Part::Note { owner, .. } => Some(owner as u64),
+        Part::Reason { owner, .. } => Some(owner as u64),
         Part::Counter => None,
     }
 }

@@ -26,7 +26,7 @@ fn has_part(shape: &Shape, part: Part) -> bool
         Part::EntryCell { worker, entry }
         | Part::EntryOld { worker, entry }
         | Part::EntryNew { worker, entry } => worker < shape.workers && entry < shape.cells(),
-        Part::Note { worker, owner } => worker < shape.workers && owner < shape.workers,
+        Part::Reason { worker, owner } => worker < shape.workers && owner < shape.workers,
         Part::Counter => true,
     }
 }

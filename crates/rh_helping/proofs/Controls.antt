@@ -6,8 +6,8 @@ use Rattle.rh_tagword.specs.declared.control.State.{State}
 use Rattle.rh_tagword.specs.declared.control.State.TheVariants.{Unused, Undecided, Succeeded, Withdrawn, Failed}
 use Rattle.rh_world.specs.World.{Control as WorldControl, In, IsDecided, IsOpened, Ref, is_ref}
 use Rattle.rh_world.specs.World.Control.{failed, succeeded, undecided, unused, withdrawn}
-use Rattle.rh_world.specs.Notes.{Note}
-use Rattle.rh_world.specs.Notes.Note.{decided, known, may_demote, may_promote, met, over, passed}
+use Rattle.rh_world.specs.Facts.{Fact}
+use Rattle.rh_world.specs.Facts.Fact.{decided, known, may_demote, may_promote, met, over, passed}
 use Rattle.rh_world.specs.Sides.{Debt, Side, note_side}
 use Rattle.rh_world.specs.Moves.{control_noted, mark_noted}
 use Rattle.rh_world.proofs.Tests.{eqb_not, eqb_yes}
@@ -81,7 +81,7 @@ opened_over Succeeded o ne = tt
 opened_over Withdrawn o ne = tt
 opened_over (Failed by) o ne = tt
 
-pub stands_undecided : (l : List Note) (d : Ref) (k : State) (e : ℕ) → StandsAt l d k e → is_decided k ≡ false → k ≡ Undecided
+pub stands_undecided : (l : List Fact) (d : Ref) (k : State) (e : ℕ) → StandsAt l d k e → is_decided k ≡ false → k ≡ Undecided
 stands_undecided l d Unused e h no_ = absurd h
 stands_undecided l d Undecided e h no_ = refl
 stands_undecided l d Succeeded e h no_ = absurd (true≢false no_)
@@ -100,15 +100,15 @@ some_state k q e = ap (state_or k) e
 is_ref_self : (d : Ref) → is_ref d d ≡ true
 is_ref_self d = ap (λ (b : Bool). b && eqb d.number d.number) (eq-eqb d.worker d.worker refl) ∙ eq-eqb d.number d.number refl
 
-known_is : (ns : List Note) (d : Ref) → IsKnown ns d → is_known ns d ≡ true
+known_is : (ns : List Fact) (d : Ref) → IsKnown ns d → is_known ns d ≡ true
 known_is [] d h = absurd (⊎_elim (⊎_elim (λ i. i) (λ q. q.1)) (λ i. i) h)
 known_is (n ∷ ns) d h = ⊎_elim (⊎_elim
     (λ i. ⊎_elim (said (known d) (is_ref_self d)) (λ j. there (known_is ns d (inl (inl j)))) i)
     (λ q. ⊎_elim (said (decided d q.0) (is_ref_self d)) (λ j. there (known_is ns d (inl (inr (q.0, j))))) q.1))
     (λ i. ⊎_elim (said (met d) (is_ref_self d)) (λ j. there (known_is ns d (inr j))) i) h
   where
-    said : (m : Note) → tells_opened m d ≡ true → m ≡ n → (tells_opened n d || is_known ns d) ≡ true
-    said m so e = ap (λ (b : Bool). b || is_known ns d) (ap (λ (k : Note). tells_opened k d) (sym e) ∙ so)
+    said : (m : Fact) → tells_opened m d ≡ true → m ≡ n → (tells_opened n d || is_known ns d) ≡ true
+    said m so e = ap (λ (b : Bool). b || is_known ns d) (ap (λ (k : Fact). tells_opened k d) (sym e) ∙ so)
 
     or_true : (b : Bool) → (b || true) ≡ true
     or_true true = refl
@@ -121,10 +121,10 @@ abbrev pub told_side : Side → Ref → Option WorldControl → Side
 told_side s d None = gone_noted s d
 told_side s d (Some k) = control_noted s d k
 
-told_is : (s : Side) (d : Ref) (word : ℕ) → is_known s.notes d ≡ true → control_read s d word ≡ told_side s d (state_said d.number word)
+told_is : (s : Side) (d : Ref) (word : ℕ) → is_known s.facts d ≡ true → control_read s d word ≡ told_side s d (state_said d.number word)
 told_is s d word is = by (eqb (serial_in word) d.number)
   where
-    by : (b : Bool) → cond b (control_noted s d (read_control word)) (cond (is_known s.notes d) (gone_noted s d) s)
+    by : (b : Bool) → cond b (control_noted s d (read_control word)) (cond (is_known s.facts d) (gone_noted s d) s)
         ≡ told_side s d (cond b (Some (read_control word)) None)
     by true = refl
     by false = ap (λ (c : Bool). cond c (gone_noted s d) s) is
@@ -177,7 +177,7 @@ debts_told debts d (Some Withdrawn) = debts
 debts_told debts d (Some (Failed by)) = debts
 
 abbrev pub ToldAs : View → Ref → Option State → Type 0
-ToldAs next d None = In (over d) next.side.notes × In (passed d) next.side.notes
+ToldAs next d None = In (over d) next.side.facts × In (passed d) next.side.facts
 ToldAs next d (Some k) = IsMet next d k 0
 
 -- it told this of d
@@ -206,12 +206,12 @@ module _ (v : View) (d : Ref) (c : ℕ) where
   abbrev pub told_view : Option State → View
   told_view r = record v { side = told_side v.side d (option_map control_of r); control = c }
 
-  met_decided : (k : State) → IsOver k → StandsAt (told_view (Some k)).side.notes d k 0 → (d.worker ≡ v.worker → suc d.number ≡ v.next_number) → IsMet (told_view (Some k)) d k 0
+  met_decided : (k : State) → IsOver k → StandsAt (told_view (Some k)).side.facts d k 0 → (d.worker ≡ v.worker → suc d.number ≡ v.next_number) → IsMet (told_view (Some k)) d k 0
   met_decided k o stands last = record { stands = stands; fresh = λ u. absurd (over_not k o u); last = last }
 
   saw : (r : Option State) → Known v d r → Saw v d r (told_view r)
   saw None h = record {
-    keeps = record { worker = refl; next_number = refl; notes = λ n i. inr (inr i) };
+    keeps = record { worker = refl; next_number = refl; facts = λ n i. inr (inr i) };
     marks_used = refl;
     opened = refl;
     written = refl;
@@ -225,7 +225,7 @@ module _ (v : View) (d : Ref) (c : ℕ) where
   }
   saw (Some Unused) h = absurd (h.0 refl)
   saw (Some Undecided) h = record {
-    keeps = record { worker = refl; next_number = refl; notes = λ n i. inr i };
+    keeps = record { worker = refl; next_number = refl; facts = λ n i. inr i };
     marks_used = refl;
     opened = refl;
     written = refl;
@@ -237,12 +237,12 @@ module _ (v : View) (d : Ref) (c : ℕ) where
     claims = refl;
     told = record {
       stands = (inl refl, λ f lt. no_entry_before _ f lt);
-      fresh = λ u f same i. h.1 u f same (none_note (failed 0 v.worker) (known d) v.side.notes refl f i);
+      fresh = λ u f same i. h.1 u f same (none_note (failed 0 v.worker) (known d) v.side.facts refl f i);
       last = h.2;
     };
   }
   saw (Some Succeeded) h = record {
-    keeps = record { worker = refl; next_number = refl; notes = λ n i. inr i };
+    keeps = record { worker = refl; next_number = refl; facts = λ n i. inr i };
     marks_used = refl;
     opened = refl;
     written = refl;
@@ -255,7 +255,7 @@ module _ (v : View) (d : Ref) (c : ℕ) where
     told = met_decided Succeeded tt (inl refl) h.2;
   }
   saw (Some Withdrawn) h = record {
-    keeps = record { worker = refl; next_number = refl; notes = λ n i. inr i };
+    keeps = record { worker = refl; next_number = refl; facts = λ n i. inr i };
     marks_used = refl;
     opened = refl;
     written = refl;
@@ -268,7 +268,7 @@ module _ (v : View) (d : Ref) (c : ℕ) where
     told = met_decided Withdrawn tt (inl refl) h.2;
   }
   saw (Some (Failed by)) h = record {
-    keeps = record { worker = refl; next_number = refl; notes = λ n i. inr i };
+    keeps = record { worker = refl; next_number = refl; facts = λ n i. inr i };
     marks_used = refl;
     opened = refl;
     written = refl;
@@ -282,9 +282,9 @@ module _ (v : View) (d : Ref) (c : ℕ) where
   }
 
 -- and one thing more is noted, that is no decision
-saw_more : (v : View) (d : Ref) (r : Option State) (next : View) (n : Note) → tells_decided n ≡ false → Saw v d r next → Saw v d r (record next { side = note_side next.side n })
+saw_more : (v : View) (d : Ref) (r : Option State) (next : View) (n : Fact) → tells_decided n ≡ false → Saw v d r next → Saw v d r (record next { side = note_side next.side n })
 saw_more v d r next n other h = record {
-  keeps = record { worker = h.keeps.worker; next_number = h.keeps.next_number; notes = λ m i. inr (h.keeps.notes m i) };
+  keeps = record { worker = h.keeps.worker; next_number = h.keeps.next_number; facts = λ m i. inr (h.keeps.facts m i) };
   marks_used = h.marks_used;
   opened = h.opened;
   written = h.written;
@@ -302,7 +302,7 @@ saw_more v d r next n other h = record {
 
     more : (r : Option State) → ToldAs next d r → ToldAs then d r
     more None h = (inr h.0, inr h.1)
-    more (Some k) h = met_sub next then (record { worker = refl; next_number = refl; notes = λ m i. inr i }) (none_note (failed 0 next.worker) n next.side.notes other) d k 0 h
+    more (Some k) h = met_sub next then (record { worker = refl; next_number = refl; facts = λ m i. inr i }) (none_note (failed 0 next.worker) n next.side.facts other) d k 0 h
 
 -- ---- by the word that was read
 
@@ -315,9 +315,9 @@ module _ (v : View) (d : Ref) (word : ℕ) (tells : ControlTells v d word) where
       (subst IsOpened (sym q.1) t.opened, (λ u f same i. t.older (sym q.1 ∙ ap control_of u) f same i), t.newest)
 
   -- who decided it, if this worker did, noted so
-  tells_had : (r : Option State) → option_map control_of r ≡ state_said d.number word → DecidesNone (failed 0 v.worker) v.side.notes (told_side v.side d (option_map control_of r)).notes
-  tells_had None is = none_then (failed 0 v.worker) v.side.notes (over d ∷ v.side.notes) (passed d ∷ over d ∷ v.side.notes)
-      (none_note (failed 0 v.worker) (over d) v.side.notes refl) (none_note (failed 0 v.worker) (passed d) (over d ∷ v.side.notes) refl)
+  tells_had : (r : Option State) → option_map control_of r ≡ state_said d.number word → DecidesNone (failed 0 v.worker) v.side.facts (told_side v.side d (option_map control_of r)).facts
+  tells_had None is = none_then (failed 0 v.worker) v.side.facts (over d ∷ v.side.facts) (passed d ∷ over d ∷ v.side.facts)
+      (none_note (failed 0 v.worker) (over d) v.side.facts refl) (none_note (failed 0 v.worker) (passed d) (over d ∷ v.side.facts) refl)
   tells_had (Some k) is =
       let q = said_some d.number word (control_of k) is in
       none_control (failed 0 v.worker) v.side d (control_of k) (λ e. (tells.tells q.0).noted 0 (sym q.1 ∙ e))
@@ -328,23 +328,23 @@ module _ (v : View) (d : Ref) (word : ℕ) (tells : ControlTells v d word) where
       said_none d.number word (sym (ap (λ (o : Option State). option_map control_of o) none) ∙ is) (tells.stays mine (own.last d.number current))
 
   module _ (r : Option State) (is : option_map control_of r ≡ state_said d.number word) (c : ℕ) (next : View) where
-    pub saw_control : IsKnown v.side.notes d → next ≡ record v { side = control_read v.side d word; control = c } → Saw v d r next × FailsNone v next
+    pub saw_control : IsKnown v.side.facts d → next ≡ record v { side = control_read v.side d word; control = c } → Saw v d r next × FailsNone v next
     saw_control opened next_is =
-        let side_is : control_read v.side d word ≡ told_side v.side d (option_map control_of r) = told_is v.side d word (known_is v.side.notes d opened) ∙ ap (told_side v.side d) (sym is) in
+        let side_is : control_read v.side d word ≡ told_side v.side d (option_map control_of r) = told_is v.side d word (known_is v.side.facts d opened) ∙ ap (told_side v.side d) (sym is) in
         subst (λ (x : View). Saw v d r x × FailsNone v x) (sym (next_is ∙ ap (λ (s : Side). record v { side = s; control = c }) side_is))
         (saw v d c r (tells_known r is), tells_had r is)
 
 -- ---- of a mark's descriptor
 
 abbrev pub MarkedAs : View → (x : Ref) → (c : ℕ) → Option State → Type 0
-MarkedAs next x c None = In (may_demote x) next.side.notes
+MarkedAs next x c None = In (may_demote x) next.side.facts
 MarkedAs next x c (Some Unused) = ⊥
-MarkedAs next x c (Some Undecided) = In (may_promote x c) next.side.notes
-MarkedAs next x c (Some Succeeded) = In (may_demote x) next.side.notes
-MarkedAs next x c (Some Withdrawn) = In (may_demote x) next.side.notes
-MarkedAs next x c (Some (Failed by)) = In (may_demote x) next.side.notes
+MarkedAs next x c (Some Undecided) = In (may_promote x c) next.side.facts
+MarkedAs next x c (Some Succeeded) = In (may_demote x) next.side.facts
+MarkedAs next x c (Some Withdrawn) = In (may_demote x) next.side.facts
+MarkedAs next x c (Some (Failed by)) = In (may_demote x) next.side.facts
 
-pub marked_demotes : (next : View) (x : Ref) (c : ℕ) (r : Option State) → MarkedAs next x c r → r ≢ Some Undecided → In (may_demote x) next.side.notes
+pub marked_demotes : (next : View) (x : Ref) (c : ℕ) (r : Option State) → MarkedAs next x c r → r ≢ Some Undecided → In (may_demote x) next.side.facts
 marked_demotes next x c None h ne = h
 marked_demotes next x c (Some Unused) h ne = absurd h
 marked_demotes next x c (Some Undecided) h ne = absurd (ne refl)
@@ -359,15 +359,15 @@ module _ (v : View) (x d : Ref) (at c : ℕ) where
   abbrev Marked : Option State → View → Type 0
   Marked r next = Saw v d r next × FailsNone v next × MarkedAs next x at r
 
-  marked_note : (r : Option State) (n : Note) → tells_decided n ≡ false → DecidesNone (failed 0 v.worker) v.side.notes (told_side v.side d (option_map control_of r)).notes → Known v d r
+  marked_note : (r : Option State) (n : Fact) → tells_decided n ≡ false → DecidesNone (failed 0 v.worker) v.side.facts (told_side v.side d (option_map control_of r)).facts → Known v d r
       → MarkedAs (record (told_view v d c r) { side = note_side (told_view v d c r).side n }) x at r → Marked r (record (told_view v d c r) { side = note_side (told_view v d c r).side n })
   marked_note r n other none h so = (
     saw_more v d r (told_view v d c r) n other (saw v d c r h),
-    none_then (failed 0 v.worker) v.side.notes (told_view v d c r).side.notes (n ∷ (told_view v d c r).side.notes) none (none_note (failed 0 v.worker) n (told_view v d c r).side.notes other),
+    none_then (failed 0 v.worker) v.side.facts (told_view v d c r).side.facts (n ∷ (told_view v d c r).side.facts) none (none_note (failed 0 v.worker) n (told_view v d c r).side.facts other),
     so,
   )
 
-  marked : (r : Option State) → DecidesNone (failed 0 v.worker) v.side.notes (told_side v.side d (option_map control_of r)).notes → Known v d r → Marked r (marked_view r)
+  marked : (r : Option State) → DecidesNone (failed 0 v.worker) v.side.facts (told_side v.side d (option_map control_of r)).facts → Known v d r → Marked r (marked_view r)
   marked None none h = marked_note None (may_demote x) refl none h (inl refl)
   marked (Some Unused) none h = absurd (h.0 refl)
   marked (Some Undecided) none h = marked_note (Some Undecided) (may_promote x at) refl none h (inl refl)
@@ -465,10 +465,10 @@ module _ (v : View) (d : Ref) (k : State) (over_k : IsOver k) (state : IsState k
       let serial = tells.stays mine (own.last d.number current) in
       gone (⊎_elim (λ swap. ap serial_in swap.0 ∙ serial_said_is d.number (control_of k) has_state) (λ same. ap serial_in same.0 ∙ serial) either)
 
-  pub saw_decided : IsKnown v.side.notes d → (r : Option State) → option_map control_of r ≡ state_said d.number word → (c : ℕ) (next : View)
+  pub saw_decided : IsKnown v.side.facts d → (r : Option State) → option_map control_of r ≡ state_said d.number word → (c : ℕ) (next : View)
       → next ≡ record v { side = control_read v.side d word; control = c } → Saw v d r next × ((q : State) → r ≡ Some q → IsOver q)
   saw_decided opened r is c next next_is =
-      let side_is : control_read v.side d word ≡ told_side v.side d (option_map control_of r) = told_is v.side d word (known_is v.side.notes d opened) ∙ ap (told_side v.side d) (sym is) in (
+      let side_is : control_read v.side d word ≡ told_side v.side d (option_map control_of r) = told_is v.side d word (known_is v.side.facts d opened) ∙ ap (told_side v.side d) (sym is) in (
         subst (Saw v d r) (sym (next_is ∙ ap (λ (s : Side). record v { side = s; control = c }) side_is)) (saw v d c r (decided_known r is)),
         λ q e. (now_over q (ap (λ (o : Option State). option_map control_of o) (sym e) ∙ is)).0,
       )

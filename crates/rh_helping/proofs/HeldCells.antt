@@ -3,7 +3,7 @@ use Rattle.std.proofs.Common.{◌≡◌, ℕ, inl, inr, refl, sym, subst, Bool, 
 use Rattle.rh_tagword.specs.declared.control.State.{State}
 use Rattle.rh_tagword.specs.declared.control.State.TheVariants.{Unused, Undecided, Succeeded, Withdrawn, Failed}
 use Rattle.rh_world.specs.World.{Ref, In}
-use Rattle.rh_world.specs.Notes.Note.{desc_is, found, old_is, size_is, target_is}
+use Rattle.rh_world.specs.Facts.Fact.{desc_is, found, old_is, size_is, target_is}
 use Rattle.rh_descriptor.specs.declared.shape.Shape.{Shape}
 use Rattle.rh_descriptor.specs.View.{View, own_ref}
 use Rattle.rh_descriptor.specs.Words.{ref_of}
@@ -24,21 +24,21 @@ goal_old : (v : View) (g : Goal) → KnowsGoal v g → KnowsOld v (owed_of g)
 goal_old v g h = record { work = record { size = g.task.size; known = h.task.size; within = h.entry }; cell = h.cell; old = h.old }
 
 -- of a task that is released it holds the cell that is owed
-released_held : (v : View) (d : Ref) (e size : ℕ) (o : Option Owed) → In (size_is d size) v.side.notes → v.side.unsettled ≡ None → OwesOne v d e size o → IsHeld v o
+released_held : (v : View) (d : Ref) (e size : ℕ) (o : Option Owed) → In (size_is d size) v.side.facts → v.side.unsettled ≡ None → OwesOne v d e size o → IsHeld v o
 released_held v d e size None known settled owes = (settled, owes)
 released_held v d e size (Some o) known settled owes =
     let at = owes.1 in
     let is : d ≡ ref_of o.piece.desc = sym at.of_desc in (
       record {
-        work = record { size = size; known = subst (λ (r : Ref). In (size_is r size) v.side.notes) is known; within = at.within };
-        cell = subst (λ (r : Ref). In (target_is r o.piece.entry o.piece.cell) v.side.notes) is at.cell;
-        old = subst (λ (r : Ref). In (old_is r o.piece.entry o.old) v.side.notes) is at.old;
+        work = record { size = size; known = subst (λ (r : Ref). In (size_is r size) v.side.facts) is known; within = at.within };
+        cell = subst (λ (r : Ref). In (target_is r o.piece.entry o.piece.cell) v.side.facts) is at.cell;
+        old = subst (λ (r : Ref). In (old_is r o.piece.entry o.old) v.side.facts) is at.old;
       },
       inr (settled, owes.0),
     )
 
 task_held : (v : View) (t : Task) (k : State) → t.state ≡ k → KnowsTask v t → OwesAs v t k → IsHeld v t.owed
-task_held v t Unused is h owes = absurd (subst (λ (s : State). StandsAt v.side.notes (ref_of t.desc) s t.entry) is h.met.stands)
+task_held v t Unused is h owes = absurd (subst (λ (s : State). StandsAt v.side.facts (ref_of t.desc) s t.entry) is h.met.stands)
 task_held v t Undecided is h owes = subst (IsHeld v) (sym (h.unowed is)) (none_held v owes)
 task_held v t Succeeded is h owes = released_held v (ref_of t.desc) t.entry t.size t.owed h.size owes.settled owes.owes
 task_held v t Withdrawn is h owes = released_held v (ref_of t.desc) t.entry t.size t.owed h.size owes.settled owes.owes
@@ -52,8 +52,8 @@ placed_held v p h =
         record {
           number = p.mark.number;
           unsettled = h.unsettled;
-          met = subst (λ (x : Ref). In (found x p.goal.cell) v.side.notes) own h.met;
-          names = subst (λ (x : Ref). In (desc_is x (ref_of p.goal.task.desc)) v.side.notes) own h.of_desc;
+          met = subst (λ (x : Ref). In (found x p.goal.cell) v.side.facts) own h.met;
+          names = subst (λ (x : Ref). In (desc_is x (ref_of p.goal.task.desc)) v.side.facts) own h.of_desc;
         },
         h.paid,
       ),
@@ -79,11 +79,11 @@ work_held z v (work.MarkControl p) h = placed_held v p h
 work_held z v (work.Promote p) h = placed_held v p h.0
 work_held z v (work.Demote p k) h = placed_held v p h.0
 work_held z v (work.Recheck g promoted) h = swapped_held v g promoted h
-work_held z v (work.Note t) h = none_held v (subst (OwesAs v t) h.undecided h.at.owes)
+work_held z v (work.WriteReason t) h = none_held v (subst (OwesAs v t) h.undecided h.at.owes)
 work_held z v (work.Fail t) h = none_held v (subst (OwesAs v t) h.0.undecided h.0.at.owes)
 work_held z v (work.Succeed t) h = none_held v h.3
 work_held z v (work.Withdraw d) h = none_held v h.0
-work_held z v (work.Reason t by) h = task_held v t t.state refl h.0.task h.0.owes
+work_held z v (work.ReadReason t by) h = task_held v t t.state refl h.0.task h.0.owes
 work_held z v (work.Release g) h = released_held v (ref_of g.task.desc) g.task.entry g.task.size g.task.owed h.0.task.size h.2.settled h.2.owes
 work_held z v (work.GiveBack o) h = (record { work = h.work; cell = h.cell; old = h.old }, inr (h.settled, h.owes))
 

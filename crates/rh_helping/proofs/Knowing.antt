@@ -17,8 +17,8 @@ module _ (z : Shape) (v : View) (trusts : Knows z v) where
   allowed s h = record { worker = trusts.worker; still = trusts.still; step = h }
 
   module _ (t : Task) (k : KnowsTask v t) where
-    pub task_known : IsKnown v.side.notes (ref_of t.desc)
-    task_known = stands_known v.side.notes (ref_of t.desc) t.state t.entry k.met.stands
+    pub task_known : IsKnown v.side.facts (ref_of t.desc)
+    task_known = stands_known v.side.facts (ref_of t.desc) t.state t.entry k.met.stands
 
     pub task_desc : IsDesc z (ref_of t.desc)
     task_desc = trusts.sound.descs (ref_of t.desc) task_known

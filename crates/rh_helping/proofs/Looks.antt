@@ -3,7 +3,7 @@ use Rattle.std.proofs.Common.{◌≡◌, ℕ, ◌<◌, Option, Some, None, inl, 
 use Rattle.rh_world.specs.World.{Cell}
 use Rattle.rh_world.specs.World.Cell.{desc, mark, plain}
 use Rattle.rh_world.specs.World.Control.{failed}
-use Rattle.rh_world.specs.Notes.Note.{found, met}
+use Rattle.rh_world.specs.Facts.Fact.{found, met}
 use Rattle.rh_world.specs.Moves.{cell_noted}
 use Rattle.rh_descriptor.specs.declared.shape.Shape.{Shape}
 use Rattle.rh_descriptor.specs.declared.reference.Reading.TheVariants as reading
@@ -32,7 +32,7 @@ abbrev pub noted_cell : View → (c : ℕ) → Cell → Option ℕ → View
 noted_cell v c k current = with_side v (cell_noted v.side c k current 0 v.next_number)
 
 pub cell_grows : (v : View) (c : ℕ) (k : Cell) (current : Option ℕ) → Grows v (noted_cell v c k current)
-cell_grows v c (plain u) None = grows_by v (cell_noted v.side c (plain u) None 0 v.next_number) v.control v.raw_rows v.raw refl refl refl refl (λ n i. i) (none_same (failed 0 v.worker) v.side.notes)
+cell_grows v c (plain u) None = grows_by v (cell_noted v.side c (plain u) None 0 v.next_number) v.control v.raw_rows v.raw refl refl refl refl (λ n i. i) (none_same (failed 0 v.worker) v.side.facts)
 cell_grows v c (plain u) (Some p) = grows_read v v.raw_rows v.raw
 cell_grows v c (mark x) current = grows_note v (found x c) refl
 cell_grows v c (desc d) current = grows_note v (met d) refl
@@ -58,19 +58,19 @@ module _ (z : Shape) (v : View) (c word : ℕ) where
     pub reads_value : plain word ≡ cell_in word → IsCell z (cell_in word) → Reads (Sees word) then
     reads_value is found_is = of_cell (plain word) (Sees word) is (
       subst (λ (q : Option ℕ). Leaves v.opened (reads_after v c (Sees word)) v (noted_cell v c (plain word) q)) (sym clear.own.current)
-          record { opened = refl; reads = refl; claims = refl; notes = λ n i. i },
+          record { opened = refl; reads = refl; claims = refl; facts = λ n i. i },
       (stays_clear (plain word) v.side.current, subst (IsCell z) (sym is) found_is),
     )
 
     pub reads_mark : (x : Reference) → mark (ref_of x) ≡ cell_in word → Reads (On (looking.Settle (settling.Desc x c))) then
     reads_mark x is = of_cell (mark (ref_of x)) (On (looking.Settle (settling.Desc x c))) is (
-      record { opened = refl; reads = refl; claims = refl; notes = λ n i. inr i },
+      record { opened = refl; reads = refl; claims = refl; facts = λ n i. inr i },
       (stays_clear (mark (ref_of x)) v.side.current, inl refl),
     )
 
     pub reads_desc : (d : Reference) → desc (ref_of d) ≡ cell_in word → Reads (On (looking.Help (work.Control d))) then
     reads_desc d is = of_cell (desc (ref_of d)) (On (looking.Help (work.Control d))) is (
-      record { opened = refl; reads = refl; claims = refl; notes = λ n i. inr i },
+      record { opened = refl; reads = refl; claims = refl; facts = λ n i. inr i },
       let h = stays_clear (desc (ref_of d)) v.side.current in (h.own, (h.owes, inr (inl refl))),
     )
 

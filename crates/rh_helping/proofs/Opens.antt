@@ -4,7 +4,7 @@ use Rattle.std.specs.Prelude.{nat_lt}
 use Rattle.std.proofs.lemmas.Bool.Decides.{nat_tests}
 use Rattle.rh_layout.specs.declared.entry.Entry.{Entry}
 use Rattle.rh_world.specs.World.{In, Ref}
-use Rattle.rh_world.specs.Notes.Note.{known, new_is, old_is, size_is, target_is}
+use Rattle.rh_world.specs.Facts.Fact.{known, new_is, old_is, size_is, target_is}
 use Rattle.rh_world.specs.Sides.{Side, open_side}
 use Rattle.rh_world.specs.Moves.{Entries, note_entries}
 use Rattle.rh_world.proofs.Tests.{by_cond}
@@ -43,7 +43,7 @@ with_row v r u = record v { written = row r u ∷ v.written }
 
 may_with : (z : Shape) (v : View) (es : List Entry) (r u : ℕ) → MayOpen z v es → MayOpen z (with_row v r u) es
 may_with z v es r u h = record {
-  owns = owns_sub v (with_row v r u) (record { worker = refl; next_number = refl; notes = λ n i. i }) None None refl h.owns.current h.owns.newest (λ n e. e) h.owns;
+  owns = owns_sub v (with_row v r u) (record { worker = refl; next_number = refl; facts = λ n i. i }) None None refl h.owns.current h.owns.newest (λ n e. e) h.owns;
   owes = record { settled = h.owes.settled; paid = h.owes.paid; unreleased = h.owes.unreleased };
   entries = h.entries;
   room = h.room;
@@ -136,23 +136,23 @@ module _ (s : Side) (d : Ref) (p : Entries) where
   entries_same zero = record { unsettled = refl; debts = refl; released = refl; claims = refl; reads = refl }
   entries_same (suc n) = let h = entries_same n in record { unsettled = h.unsettled; debts = h.debts; released = h.released; claims = h.claims; reads = h.reads }
 
-  entries_known : (n : ℕ) → In (known d) (note_entries s d p n).notes
+  entries_known : (n : ℕ) → In (known d) (note_entries s d p n).facts
   entries_known zero = inr (inl refl)
   entries_known (suc n) = inr (inr (inr (entries_known n)))
 
-  entries_size : (n : ℕ) → In (size_is d p.size) (note_entries s d p n).notes
+  entries_size : (n : ℕ) → In (size_is d p.size) (note_entries s d p n).facts
   entries_size zero = inl refl
   entries_size (suc n) = inr (inr (inr (entries_size n)))
 
-  entries_cell : (n e : ℕ) → e < n → In (target_is d e (p.target e)) (note_entries s d p n).notes
+  entries_cell : (n e : ℕ) → e < n → In (target_is d e (p.target e)) (note_entries s d p n).facts
   entries_cell zero e l = absurd (omega arith)
   entries_cell (suc n) e l = ⊎_elim (λ (q : e ≡ n). inr (inr (inl (ap (λ (f : ℕ). target_is d f (p.target f)) q)))) (λ (ne : e ≢ n). inr (inr (inr (entries_cell n e (omega arith))))) (same_nat e n)
 
-  entries_old : (n e : ℕ) → e < n → In (old_is d e (p.old e)) (note_entries s d p n).notes
+  entries_old : (n e : ℕ) → e < n → In (old_is d e (p.old e)) (note_entries s d p n).facts
   entries_old zero e l = absurd (omega arith)
   entries_old (suc n) e l = ⊎_elim (λ (q : e ≡ n). inr (inl (ap (λ (f : ℕ). old_is d f (p.old f)) q))) (λ (ne : e ≢ n). inr (inr (inr (entries_old n e (omega arith))))) (same_nat e n)
 
-  entries_new : (n e : ℕ) → e < n → In (new_is d e (p.new e)) (note_entries s d p n).notes
+  entries_new : (n e : ℕ) → e < n → In (new_is d e (p.new e)) (note_entries s d p n).facts
   entries_new zero e l = absurd (omega arith)
   entries_new (suc n) e l = ⊎_elim (λ (q : e ≡ n). inl (ap (λ (f : ℕ). new_is d f (p.new f)) q)) (λ (ne : e ≢ n). inr (inr (inr (entries_new n e (omega arith))))) (same_nat e n)
 
@@ -215,7 +215,7 @@ module _ (z : Shape) (v : View) (es : List Entry) (may : MayOpen z v es) (writte
         opened = ap (λ (o : OwnDesc). o ∷ v.opened) is_next;
         reads = same.reads;
         claims = same.claims;
-        notes = λ n i. entries_notes side (own_desc v) entries (length es) n i;
+        facts = λ n i. entries_notes side (own_desc v) entries (length es) n i;
       }
 
 -- ---- each step

@@ -3,7 +3,7 @@ use Rattle.std.proofs.Common.{◌≡◌, ℕ, ◌<◌, ◌⊎◌, Bool, true, fa
 use Rattle.rh_tagword.specs.declared.control.State.{State}
 use Rattle.rh_tagword.specs.declared.control.State.TheVariants.{Unused, Undecided, Succeeded, Withdrawn, Failed}
 use Rattle.rh_world.specs.World.{In, Ref, is_ref}
-use Rattle.rh_world.specs.Notes.Note.{old_is, over, passed, size_is, target_is}
+use Rattle.rh_world.specs.Facts.Fact.{old_is, over, passed, size_is, target_is}
 use Rattle.rh_world.specs.Moves.{MayWork}
 use Rattle.rh_world.specs.Sides.{Debt}
 use Rattle.rh_world.proofs.Updated.{ref_path, same_nat, some_injective, some_not_none}
@@ -40,7 +40,7 @@ module _ (v : View) (t : Task) (first : t.entry ≡ 0) where
 
   -- one cell is owed
   pub releases_one : (g : Goal) → t.owed ≡ Some (owed_of g) → ref_of g.task.desc ≡ ref_of t.desc → v.side.unsettled ≡ None → v.side.released ≡ [] → v.side.debts ≡ debt_of (owed_of g) ∷ []
-      → g.task.entry < t.size → In (target_is (ref_of t.desc) g.task.entry g.cell) v.side.notes → In (old_is (ref_of t.desc) g.task.entry g.old) v.side.notes → Releases v t
+      → g.task.entry < t.size → In (target_is (ref_of t.desc) g.task.entry g.cell) v.side.facts → In (old_is (ref_of t.desc) g.task.entry g.old) v.side.facts → Releases v t
   releases_one g owed same settled none debts lt cell old = record {
     settled = settled;
     owes = subst (λ (o : Option Owed). OwesOne v (ref_of t.desc) t.entry t.size o) (sym owed) (debts, record { of_desc = same; left = omega (arith, first); within = lt; cell = cell; old = old });
@@ -83,7 +83,7 @@ nothing_saw v next d r saw h = record {
 
 -- ---- a descriptor of another worker is left, as its row has gone on
 
-module _ (v next : View) (g : Grows v next) (t : Task) (h : IsAt v t) (foreign : IsForeign v (ref_of t.desc)) (gone : In (over (ref_of t.desc)) next.side.notes × In (passed (ref_of t.desc)) next.side.notes) where
+module _ (v next : View) (g : Grows v next) (t : Task) (h : IsAt v t) (foreign : IsForeign v (ref_of t.desc)) (gone : In (over (ref_of t.desc)) next.side.facts × In (passed (ref_of t.desc)) next.side.facts) where
   abbrev d : Ref
   d = ref_of t.desc
 
@@ -114,7 +114,7 @@ module _ (v next : View) (g : Grows v next) (t : Task) (h : IsAt v t) (foreign :
           is_some (Some q) = true
 
       by : (k : State) → t.state ≡ k → OwesAs v t k → Releases v t
-      by Unused is q = absurd (subst (λ (k : State). StandsAt v.side.notes d k t.entry) is h.task.met.stands)
+      by Unused is q = absurd (subst (λ (k : State). StandsAt v.side.facts d k t.entry) is h.task.met.stands)
       by Undecided is q = absurd (some_not (sym some ∙ h.task.unowed is))
       by Succeeded is q = q
       by Withdrawn is q = q
@@ -127,10 +127,10 @@ module _ (v next : View) (g : Grows v next) (t : Task) (h : IsAt v t) (foreign :
       let one = subst (λ (q : Option Owed). OwesOne v d t.entry t.size q) some r.owes in
       let same = sym one.1.of_desc in
       record {
-        gone = subst (HasGone next) same (record { known = known_sub v.side.notes next.side.notes g.notes d (stands_known v.side.notes d t.state t.entry h.task.met.stands); over = gone.0; passed = gone.1; other = λ mine current. foreign (mine ∙ g.worker) });
-        work = subst (λ (f : Ref). MayWork next.side f o.piece.entry) same (record { size = t.size; known = g.notes (size_is d t.size) h.task.size; within = one.1.within });
-        cell = subst (λ (f : Ref). In (target_is f o.piece.entry o.piece.cell) next.side.notes) same (g.notes (target_is d o.piece.entry o.piece.cell) one.1.cell);
-        old = subst (λ (f : Ref). In (old_is f o.piece.entry o.old) next.side.notes) same (g.notes (old_is d o.piece.entry o.old) one.1.old);
+        gone = subst (HasGone next) same (record { known = known_sub v.side.facts next.side.facts g.facts d (stands_known v.side.facts d t.state t.entry h.task.met.stands); over = gone.0; passed = gone.1; other = λ mine current. foreign (mine ∙ g.worker) });
+        work = subst (λ (f : Ref). MayWork next.side f o.piece.entry) same (record { size = t.size; known = g.facts (size_is d t.size) h.task.size; within = one.1.within });
+        cell = subst (λ (f : Ref). In (target_is f o.piece.entry o.piece.cell) next.side.facts) same (g.facts (target_is d o.piece.entry o.piece.cell) one.1.cell);
+        old = subst (λ (f : Ref). In (old_is f o.piece.entry o.old) next.side.facts) same (g.facts (old_is d o.piece.entry o.old) one.1.old);
         settled = g.unsettled ∙ r.settled;
         owes = g.debts ∙ one.0;
         unreleased = g.released ∙ unreleased r.released;

@@ -3,8 +3,8 @@ use Rattle.std.proofs.Common.{◌≡◌, ◌≢◌, ℕ, Bool, false, List, [], 
 use Rattle.rh_world.specs.World.{In, Ref, is_ref}
 use Rattle.rh_world.specs.World.Cell.{desc}
 use Rattle.rh_world.specs.World.Control.{failed}
-use Rattle.rh_world.specs.Notes.{Note}
-use Rattle.rh_world.specs.Notes.Note.{new_is, old_is, over, passed, target_is}
+use Rattle.rh_world.specs.Facts.{Fact}
+use Rattle.rh_world.specs.Facts.Fact.{new_is, old_is, over, passed, target_is}
 use Rattle.rh_world.specs.Sides.{Side, note_side}
 use Rattle.rh_world.specs.Moves.{note_all}
 use Rattle.rh_world.proofs.Tests.{by_cond, is_desc_not}
@@ -25,10 +25,10 @@ use Rattle.rh_helping.proofs.Sides.{DecidesNone, more_all, none_all, none_note, 
 
 -- a Side that notes more, and what was read
 pub grows_by : (v : View) (s : Side) (c : ℕ) (rows : List RawRow) (raw : List Raw) → s.current ≡ v.side.current → s.released ≡ v.side.released
-    → s.unsettled ≡ v.side.unsettled → s.debts ≡ v.side.debts → Sub v.side.notes s.notes → DecidesNone (failed 0 v.worker) v.side.notes s.notes
+    → s.unsettled ≡ v.side.unsettled → s.debts ≡ v.side.debts → Sub v.side.facts s.facts → DecidesNone (failed 0 v.worker) v.side.facts s.facts
     → Grows v (record v { side = s; control = c; raw_rows = rows; raw = raw })
-grows_by v s c rows raw current released unsettled debts notes none = record {
-  keeps = record { worker = refl; next_number = refl; notes = notes };
+grows_by v s c rows raw current released unsettled debts facts none = record {
+  keeps = record { worker = refl; next_number = refl; facts = facts };
   failures = none;
   marks_used = refl;
   opened = refl;
@@ -41,28 +41,28 @@ grows_by v s c rows raw current released unsettled debts notes none = record {
 
 -- nothing is noted
 pub grows_read : (v : View) (rows : List RawRow) (raw : List Raw) → Grows v (record v { raw_rows = rows; raw = raw })
-grows_read v rows raw = grows_by v v.side v.control rows raw refl refl refl refl (λ n i. i) (none_same (failed 0 v.worker) v.side.notes)
+grows_read v rows raw = grows_by v v.side v.control rows raw refl refl refl refl (λ n i. i) (none_same (failed 0 v.worker) v.side.facts)
 
 -- one thing more is noted
-pub grows_note : (v : View) (n : Note) → tells_decided n ≡ false → Grows v (with_side v (note_side v.side n))
-grows_note v n other = grows_by v (note_side v.side n) v.control v.raw_rows v.raw refl refl refl refl (λ m i. inr i) (none_note (failed 0 v.worker) n v.side.notes other)
+pub grows_note : (v : View) (n : Fact) → tells_decided n ≡ false → Grows v (with_side v (note_side v.side n))
+grows_note v n other = grows_by v (note_side v.side n) v.control v.raw_rows v.raw refl refl refl refl (λ m i. inr i) (none_note (failed 0 v.worker) n v.side.facts other)
 
 -- several things more
 record Same (s t : Side) : Type 0 where
   pub unsettled : t.unsettled ≡ s.unsettled
   pub debts : t.debts ≡ s.debts
 
-same_all : (s : Side) (ns : List Note) → Same s (note_all s ns)
+same_all : (s : Side) (ns : List Fact) → Same s (note_all s ns)
 same_all s [] = record { unsettled = refl; debts = refl }
 same_all s (n ∷ ns) = let h = same_all s ns in record { unsettled = h.unsettled; debts = h.debts }
 
-pub grows_all : (v : View) (ns : List Note) → ((n : Note) → In n ns → tells_decided n ≡ false) → Grows v (with_side v (note_all v.side ns))
+pub grows_all : (v : View) (ns : List Fact) → ((n : Fact) → In n ns → tells_decided n ≡ false) → Grows v (with_side v (note_all v.side ns))
 grows_all v ns other =
     let m = more_all v.side ns in
     let h = same_all v.side ns in
-    grows_by v (note_all v.side ns) v.control v.raw_rows v.raw m.current m.released h.unsettled h.debts m.notes (none_all (failed 0 v.worker) v.side ns other)
+    grows_by v (note_all v.side ns) v.control v.raw_rows v.raw m.current m.released h.unsettled h.debts m.facts (none_all (failed 0 v.worker) v.side ns other)
 
-pub in_all : (s : Side) (ns : List Note) (n : Note) → In n ns → In n (note_all s ns).notes
+pub in_all : (s : Side) (ns : List Fact) (n : Fact) → In n ns → In n (note_all s ns).facts
 in_all s [] n i = absurd i
 in_all s (m ∷ ns) n i = ⊎_elim inl (λ j. inr (in_all s ns n j)) i
 
@@ -85,7 +85,7 @@ module _ (z : Shape) (v : View) (trusts : Knows z v) (t : Task) (h : IsAt v t) w
 
 in_rows : (rs : List RawRow) (d : Ref) (u : RowWord) → In (record { desc = d; word = u }) rs → In (desc_row_said d u) (rows_said rs d)
 in_rows [] d u i = absurd i
-in_rows (r ∷ rs) d u i = by_cond (λ (l : List Note). In (desc_row_said d u) l) (is_ref r.desc d) (desc_row_said d r.word ∷ rows_said rs d) (rows_said rs d)
+in_rows (r ∷ rs) d u i = by_cond (λ (l : List Fact). In (desc_row_said d u) l) (is_ref r.desc d) (desc_row_said d r.word ∷ rows_said rs d) (rows_said rs d)
     (λ yes. ⊎_elim
     (λ (e : record { desc = d; word = u } ≡ r). inl (ap (λ (q : RawRow). desc_row_said d q.word) e))
     (λ j. inr (in_rows rs d u j)) i)
@@ -101,21 +101,21 @@ module _ (v : View) (d : Ref) (word : ℕ) where
   serial_grows = by_cond (λ (s : Side). Grows v (with_side v s)) (eqb word d.number) (note_all v.side (rows_said v.raw_rows d)) (gone_noted v.side d)
       (λ yes. grows_all v (rows_said v.raw_rows d) (rows_tell v.raw_rows d))
       (λ no. grows_by v (gone_noted v.side d) v.control v.raw_rows v.raw refl refl refl refl (λ n i. inr (inr i))
-      (none_then (failed 0 v.worker) v.side.notes (over d ∷ v.side.notes) (passed d ∷ over d ∷ v.side.notes)
-      (none_note (failed 0 v.worker) (over d) v.side.notes refl) (none_note (failed 0 v.worker) (passed d) (over d ∷ v.side.notes) refl)))
+      (none_then (failed 0 v.worker) v.side.facts (over d ∷ v.side.facts) (passed d ∷ over d ∷ v.side.facts)
+      (none_note (failed 0 v.worker) (over d) v.side.facts refl) (none_note (failed 0 v.worker) (passed d) (over d ∷ v.side.facts) refl)))
 
   -- the row is of d still: so it says what was read there
-  pub serial_tells : word ≡ d.number → (u : RowWord) → HasReadRow v d u → In (desc_row_said d u) serial_view.side.notes
-  serial_tells is u had = subst (λ (s : Side). In (desc_row_said d u) s.notes) (sym (ap (λ (b : Bool). cond b (note_all v.side (rows_said v.raw_rows d)) (gone_noted v.side d)) (eq-eqb word d.number is)))
+  pub serial_tells : word ≡ d.number → (u : RowWord) → HasReadRow v d u → In (desc_row_said d u) serial_view.side.facts
+  serial_tells is u had = subst (λ (s : Side). In (desc_row_said d u) s.facts) (sym (ap (λ (b : Bool). cond b (note_all v.side (rows_said v.raw_rows d)) (gone_noted v.side d)) (eq-eqb word d.number is)))
       (in_all v.side (rows_said v.raw_rows d) (desc_row_said d u) (in_rows v.raw_rows d u had))
 
   -- it has gone on
-  pub serial_gone : word ≢ d.number → In (over d) serial_view.side.notes × In (passed d) serial_view.side.notes
-  serial_gone ne = subst (λ (s : Side). In (over d) s.notes × In (passed d) s.notes) (sym (ap (λ (b : Bool). cond b (note_all v.side (rows_said v.raw_rows d)) (gone_noted v.side d)) (ne_eqb word d.number ne)))
+  pub serial_gone : word ≢ d.number → In (over d) serial_view.side.facts × In (passed d) serial_view.side.facts
+  serial_gone ne = subst (λ (s : Side). In (over d) s.facts × In (passed d) s.facts) (sym (ap (λ (b : Bool). cond b (note_all v.side (rows_said v.raw_rows d)) (gone_noted v.side d)) (ne_eqb word d.number ne)))
       (inr (inl refl), inl refl)
 
 -- the goal that was read
-pub read_goal : (v next : View) (g : Goal) → Grows v next → IsAt v g.task → In (target_is (ref_of g.task.desc) g.task.entry g.cell) next.side.notes
-    → In (old_is (ref_of g.task.desc) g.task.entry g.old) next.side.notes → In (new_is (ref_of g.task.desc) g.task.entry g.new) next.side.notes
+pub read_goal : (v next : View) (g : Goal) → Grows v next → IsAt v g.task → In (target_is (ref_of g.task.desc) g.task.entry g.cell) next.side.facts
+    → In (old_is (ref_of g.task.desc) g.task.entry g.old) next.side.facts → In (new_is (ref_of g.task.desc) g.task.entry g.new) next.side.facts
     → KnowsGoal next g
 read_goal v next g grows h cell old new = record { task = task_grows v next grows g.task h.task; entry = h.left; cell = cell; old = old; new = new }

@@ -2,7 +2,7 @@
 use Rattle.std.proofs.Common.{◌≡◌, ◌≢◌, ℕ, ◌<◌, ◌≤◌, Option, None, List, refl, sym, ap, ◌∙◌, inl, ⊎_elim, arith}
 use Rattle.rh_tagword.specs.declared.control.State.{State}
 use Rattle.rh_world.specs.World.{In, Ref}
-use Rattle.rh_world.specs.Notes.Note.{size_is}
+use Rattle.rh_world.specs.Facts.Fact.{size_is}
 use Rattle.rh_world.proofs.Updated.{some_not_none}
 use Rattle.rh_descriptor.specs.declared.shape.Shape.{Shape}
 use Rattle.rh_descriptor.specs.declared.reference.Ref.{Ref as Reference}
@@ -20,7 +20,7 @@ use Rattle.rh_helping.proofs.Knowing.{allowed}
 use Rattle.rh_helping.proofs.Owing.{owes_as_from, releases_from}
 
 -- a descriptor that stands so is begun
-pub begins_first : (v : View) (d : Reference) (k : State) (n : ℕ) → In (size_is (ref_of d) n) v.side.notes → IsMet v (ref_of d) k 0 → OwesNothing v
+pub begins_first : (v : View) (d : Reference) (k : State) (n : ℕ) → In (size_is (ref_of d) n) v.side.facts → IsMet v (ref_of d) k 0 → OwesNothing v
     → Begins v (record { desc = d; size = n; state = k; entry = 0; owed = None; reason = None })
 begins_first v d k n sized met owes = record {
   task = record { size = sized; met = met; within = omega arith; unowed = λ u. refl };
@@ -55,12 +55,12 @@ left_below v t h ne = ⊎_elim (λ lt. lt) (λ u. below t.entry t.size h.task.wi
 -- ---- reading its control and its length
 
 module _ (z : Shape) (v : View) (trusts : Knows z v) (d : Reference) where
-  pub may_read_control : IsKnown v.side.notes (ref_of d) → Allowed z v (Step.reads (reading.Control d))
+  pub may_read_control : IsKnown v.side.facts (ref_of d) → Allowed z v (Step.reads (reading.Control d))
   may_read_control known = allowed z v trusts _ (trusts.sound.descs (ref_of d) known, tt)
 
   module _ (k : State) (met : IsMet v (ref_of d) k 0) where
-    met_known : IsKnown v.side.notes (ref_of d)
-    met_known = stands_known v.side.notes (ref_of d) k 0 met.stands
+    met_known : IsKnown v.side.facts (ref_of d)
+    met_known = stands_known v.side.facts (ref_of d) k 0 met.stands
 
     pub may_read_length : Allowed z v (Step.reads (reading.Length d))
     may_read_length = allowed z v trusts _ (trusts.sound.descs (ref_of d) met_known, met_known)

@@ -4,8 +4,8 @@ use Rattle.rh_tagword.specs.declared.control.State.{State}
 use Rattle.rh_tagword.specs.declared.control.State.TheVariants.{Unused, Undecided, Succeeded, Withdrawn, Failed}
 use Rattle.rh_world.specs.World.{Ref, In}
 use Rattle.rh_world.specs.World.Control.{failed}
-use Rattle.rh_world.specs.Notes.{Note}
-use Rattle.rh_world.specs.Notes.Note.{known, size_is, target_is, old_is, new_is, held, decided, failed_at}
+use Rattle.rh_world.specs.Facts.{Fact}
+use Rattle.rh_world.specs.Facts.Fact.{known, size_is, target_is, old_is, new_is, held, decided, failed_at}
 use Rattle.rh_world.specs.Sides.{Debt}
 use Rattle.rh_world.specs.Moves.{MayWork}
 use Rattle.rh_descriptor.specs.declared.reference.Piece.{Piece}
@@ -21,11 +21,11 @@ use Rattle.rh_helping.specs.declared.goal.OpenDesc.{OpenDesc}
 
 -- all that the rows of an own descriptor say is noted
 pub record IsAllNoted (v : View) (o : OwnDesc) : Type 0 where
-  pub known : In (known (own_ref v o.number)) v.side.notes
-  pub size : In (size_is (own_ref v o.number) (length o.entries)) v.side.notes
-  pub cells : (e : ℕ) → e < length o.entries → In (target_is (own_ref v o.number) e (entry_of o.entries e).cell) v.side.notes
-  pub olds : (e : ℕ) → e < length o.entries → In (old_is (own_ref v o.number) e (entry_of o.entries e).old) v.side.notes
-  pub news : (e : ℕ) → e < length o.entries → In (new_is (own_ref v o.number) e (entry_of o.entries e).new) v.side.notes
+  pub known : In (known (own_ref v o.number)) v.side.facts
+  pub size : In (size_is (own_ref v o.number) (length o.entries)) v.side.facts
+  pub cells : (e : ℕ) → e < length o.entries → In (target_is (own_ref v o.number) e (entry_of o.entries e).cell) v.side.facts
+  pub olds : (e : ℕ) → e < length o.entries → In (old_is (own_ref v o.number) e (entry_of o.entries e).old) v.side.facts
+  pub news : (e : ℕ) → e < length o.entries → In (new_is (own_ref v o.number) e (entry_of o.entries e).new) v.side.facts
 
 -- this own descriptor is the newest
 abbrev pub IsNewest : List OwnDesc → OwnDesc → Type 0
@@ -72,24 +72,24 @@ IsOther v d = d.worker ≡ v.worker → v.side.current ≡ Some d.number → ⊥
 
 -- each descriptor of its owner that this worker is noted to have decided as failed is older
 abbrev pub IsFresh : View → Ref → Type 0
-IsFresh v d = (f : Ref) → f.worker ≡ d.worker → In (decided f (failed 0 v.worker)) v.side.notes → f.number < d.number
+IsFresh v d = (f : Ref) → f.worker ≡ d.worker → In (decided f (failed 0 v.worker)) v.side.facts → f.number < d.number
 
 -- undecided, each entry before this one is held; or it is decided so
-abbrev pub StandsAt : List Note → Ref → State → (entry : ℕ) → Type 0
-StandsAt notes d Unused e = ⊥
-StandsAt notes d Undecided e = In (known d) notes × ((f : ℕ) → f < e → In (held d f) notes)
-StandsAt notes d Succeeded e = In (decided d (control_of Succeeded)) notes
-StandsAt notes d Withdrawn e = In (decided d (control_of Withdrawn)) notes
-StandsAt notes d (Failed by) e = In (decided d (control_of (Failed by))) notes
+abbrev pub StandsAt : List Fact → Ref → State → (entry : ℕ) → Type 0
+StandsAt facts d Unused e = ⊥
+StandsAt facts d Undecided e = In (known d) facts × ((f : ℕ) → f < e → In (held d f) facts)
+StandsAt facts d Succeeded e = In (decided d (control_of Succeeded)) facts
+StandsAt facts d Withdrawn e = In (decided d (control_of Withdrawn)) facts
+StandsAt facts d (Failed by) e = In (decided d (control_of (Failed by))) facts
 
 -- it stands so, as far as its entry e; an undecided one may still be failed by this worker, and an own one is the newest
 pub record IsMet (v : View) (d : Ref) (k : State) (e : ℕ) : Type 0 where
-  pub stands : StandsAt v.side.notes d k e
+  pub stands : StandsAt v.side.facts d k e
   pub fresh : k ≡ Undecided → IsFresh v d
   pub last : d.worker ≡ v.worker → suc d.number ≡ v.next_number
 
 pub record KnowsTask (v : View) (t : Task) : Type 0 where
-  pub size : In (size_is (ref_of t.desc) t.size) v.side.notes
+  pub size : In (size_is (ref_of t.desc) t.size) v.side.facts
   pub met : IsMet v (ref_of t.desc) t.state t.entry
   pub within : t.entry ≤ t.size
   pub unowed : t.state ≡ Undecided → t.owed ≡ None
@@ -97,9 +97,9 @@ pub record KnowsTask (v : View) (t : Task) : Type 0 where
 pub record KnowsGoal (v : View) (g : Goal) : Type 0 where
   pub task : KnowsTask v g.task
   pub entry : g.task.entry < g.task.size
-  pub cell : In (target_is (ref_of g.task.desc) g.task.entry g.cell) v.side.notes
-  pub old : In (old_is (ref_of g.task.desc) g.task.entry g.old) v.side.notes
-  pub new : In (new_is (ref_of g.task.desc) g.task.entry g.new) v.side.notes
+  pub cell : In (target_is (ref_of g.task.desc) g.task.entry g.cell) v.side.facts
+  pub old : In (old_is (ref_of g.task.desc) g.task.entry g.old) v.side.facts
+  pub new : In (new_is (ref_of g.task.desc) g.task.entry g.new) v.side.facts
 
 abbrev pub piece_of : Goal → Piece
 piece_of g = record { desc = g.task.desc; entry = g.task.entry; cell = g.cell }
@@ -145,8 +145,8 @@ pub record IsOwed (v : View) (d : Ref) (e size : ℕ) (o : Owed) : Type 0 where
   pub of_desc : ref_of o.piece.desc ≡ d
   pub left : e ≤ o.piece.entry
   pub within : o.piece.entry < size
-  pub cell : In (target_is d o.piece.entry o.piece.cell) v.side.notes
-  pub old : In (old_is d o.piece.entry o.old) v.side.notes
+  pub cell : In (target_is d o.piece.entry o.piece.cell) v.side.facts
+  pub old : In (old_is d o.piece.entry o.old) v.side.facts
 
 -- it owes no cell, or this one
 abbrev pub OwesOne : View → Ref → (e size : ℕ) → Option Owed → Type 0
@@ -181,23 +181,23 @@ pub record Releases (v : View) (t : Task) : Type 0 where
 -- of the own open descriptor it is known at which entry it failed
 abbrev pub HasReason : View → Task → Type 0
 HasReason v t = t.desc.worker ≡ v.worker → v.side.current ≡ Some t.desc.number → (by : ℕ) → t.state ≡ Failed by
-    → (e : ℕ) × (t.reason ≡ Some e) × In (failed_at (ref_of t.desc) e) v.side.notes
+    → (e : ℕ) × (t.reason ≡ Some e) × In (failed_at (ref_of t.desc) e) v.side.facts
 
 -- ---- a descriptor whose row has gone on
 
 -- it is decided, and not the own open one
 pub record HasGone (v : View) (d : Ref) : Type 0 where
-  pub known : IsKnown v.side.notes d
-  pub over : In (Note.over d) v.side.notes
-  pub passed : In (Note.passed d) v.side.notes
+  pub known : IsKnown v.side.facts d
+  pub over : In (Fact.over d) v.side.facts
+  pub passed : In (Fact.passed d) v.side.facts
   pub other : IsOther v d
 
 -- the one cell that is owed gets its old value back, should such a descriptor stand there
 pub record GivesBack (v : View) (o : Owed) : Type 0 where
   pub gone : HasGone v (ref_of o.piece.desc)
   pub work : MayWork v.side (ref_of o.piece.desc) o.piece.entry
-  pub cell : In (target_is (ref_of o.piece.desc) o.piece.entry o.piece.cell) v.side.notes
-  pub old : In (old_is (ref_of o.piece.desc) o.piece.entry o.old) v.side.notes
+  pub cell : In (target_is (ref_of o.piece.desc) o.piece.entry o.piece.cell) v.side.facts
+  pub old : In (old_is (ref_of o.piece.desc) o.piece.entry o.old) v.side.facts
   pub settled : v.side.unsettled ≡ None
   pub owes : v.side.debts ≡ debt_of o ∷ []
   pub unreleased : v.side.released ≡ []

@@ -1,7 +1,7 @@
 -- The cell that a worker holds between two of its steps: where its unsettled mark stands, or the one that it owes.
 use Rattle.std.specs.Prelude.{◌≡◌, ℕ, ◌⊎◌, Option, Some, None, [], ◌∷◌}
 use Rattle.rh_world.specs.World.{In}
-use Rattle.rh_world.specs.Notes.Note.{desc_is, found, old_is, target_is}
+use Rattle.rh_world.specs.Facts.Fact.{desc_is, found, old_is, target_is}
 use Rattle.rh_world.specs.Moves.{MayWork}
 use Rattle.rh_descriptor.specs.View.{View, own_ref}
 use Rattle.rh_descriptor.specs.Words.{ref_of}
@@ -28,11 +28,11 @@ held_by (work.MarkControl p) = Some (owed_of p.goal)
 held_by (work.Promote p) = Some (owed_of p.goal)
 held_by (work.Demote p k) = Some (owed_of p.goal)
 held_by (work.Recheck g promoted) = Some (owed_of g)
-held_by (work.Note t) = None
+held_by (work.WriteReason t) = None
 held_by (work.Fail t) = None
 held_by (work.Succeed t) = None
 held_by (work.Withdraw d) = None
-held_by (work.Reason t by) = t.owed
+held_by (work.ReadReason t by) = t.owed
 held_by (work.Release g) = g.task.owed
 held_by (work.GiveBack o) = Some o
 
@@ -46,14 +46,14 @@ held_in (looking.Help w) = held_by w
 pub record IsUnsettled (v : View) (o : Owed) : Type 0 where
   pub number : ℕ
   pub unsettled : v.side.unsettled ≡ Some number
-  pub met : In (found (own_ref v number) o.piece.cell) v.side.notes
-  pub names : In (desc_is (own_ref v number) (ref_of o.piece.desc)) v.side.notes
+  pub met : In (found (own_ref v number) o.piece.cell) v.side.facts
+  pub names : In (desc_is (own_ref v number) (ref_of o.piece.desc)) v.side.facts
 
 -- the cell is that of an entry whose old value is noted
 pub record KnowsOld (v : View) (o : Owed) : Type 0 where
   pub work : MayWork v.side (ref_of o.piece.desc) o.piece.entry
-  pub cell : In (target_is (ref_of o.piece.desc) o.piece.entry o.piece.cell) v.side.notes
-  pub old : In (old_is (ref_of o.piece.desc) o.piece.entry o.old) v.side.notes
+  pub cell : In (target_is (ref_of o.piece.desc) o.piece.entry o.piece.cell) v.side.facts
+  pub old : In (old_is (ref_of o.piece.desc) o.piece.entry o.old) v.side.facts
 
 -- it holds no cell, or this one
 abbrev pub IsHeld : View → Option Owed → Type 0

@@ -65,11 +65,11 @@ work_at stage.MarkControl m = work.MarkControl (placed_of m)
 work_at stage.Promote m = work.Promote (placed_of m)
 work_at stage.Demote m = work.Demote (placed_of m) m.told
 work_at stage.Recheck m = work.Recheck (goal_of m) m.promoted
-work_at stage.Note m = work.Note m.task
+work_at stage.WriteReason m = work.WriteReason m.task
 work_at stage.Fail m = work.Fail m.task
 work_at stage.Succeed m = work.Succeed m.task
 work_at stage.Withdraw m = work.Withdraw m.task.desc
-work_at stage.Reason m = work.Reason m.task m.decider
+work_at stage.ReadReason m = work.ReadReason m.task m.decider
 work_at stage.Release m = work.Release (goal_of m)
 work_at stage.GiveBack m = work.GiveBack (owed_of (goal_of m))
 

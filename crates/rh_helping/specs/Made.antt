@@ -1,7 +1,7 @@
 -- What a step that was made leaves of a worker's descriptors, reads and claims.
 use Rattle.std.specs.Prelude.{◌≡◌, ℕ, List}
 use Rattle.rh_world.specs.World.{In}
-use Rattle.rh_world.specs.Notes.{Note}
+use Rattle.rh_world.specs.Facts.{Fact}
 use Rattle.rh_world.specs.Sides.{KeptRead}
 use Rattle.rh_descriptor.specs.declared.shape.Shape.{Shape}
 use Rattle.rh_descriptor.specs.declared.steps.StepKind.{StepKind}
@@ -30,7 +30,7 @@ pub record HasStepped {T : Type 0} (shows : Shape → T → View → Type 0) (ma
   pub view_is : next ≡ noted z v step word
   pub steps : made z step t v word then next
   pub trusts : Trusts shows z then next
-  pub notes : (n : Note) → In n v.side.notes → In n next.side.notes
+  pub facts : (n : Fact) → In n v.side.facts → In n next.side.facts
   pub opened : next.opened ≡ descs
   pub reads : next.side.reads ≡ kept
   pub claims : next.side.claims ≡ v.side.claims

@@ -70,16 +70,16 @@ pub data Work : Type 0 where
   Demote : Placed → Option State → Work
   -- Read of the descriptor's control once it stands in the cell, if it came to stand there
   Recheck : Goal → (promoted : Bool) → Work
-  -- Write of the next entry, which did not hold its old value, into the own note to the owner
-  Note : Task → Work
+  -- Write of the next entry, which did not hold its old value, as the own reason to the owner
+  WriteReason : Task → Work
   -- Decide that it failed there
   Fail : Task → Work
   -- Decide that it succeeded
   Succeed : Task → Work
   -- Decide that it, the own open one, is withdrawn, as no mark is left
   Withdraw : Reference → Work
-  -- Read of the decider's note: at which entry the own open descriptor failed
-  Reason : Task → (decider : ℕ) → Work
+  -- Read of the decider's reason: at which entry the own open descriptor failed
+  ReadReason : Task → (decider : ℕ) → Work
   -- Release of an entry
   Release : Goal → Work
   -- Release of the one entry whose cell is owed, to its old value, as the descriptor's row has gone on

@@ -2,8 +2,8 @@
 use Rattle.std.specs.Prelude.{◌≡◌, Option, Some, None}
 use Rattle.rh_world.specs.World.{In, Ref}
 use Rattle.rh_world.specs.World.Control.{failed}
-use Rattle.rh_world.specs.Notes.{Note}
-use Rattle.rh_world.specs.Notes.Note.{decided, found, desc_is, which_is, may_demote, passed}
+use Rattle.rh_world.specs.Facts.{Fact}
+use Rattle.rh_world.specs.Facts.Fact.{decided, found, desc_is, which_is, may_demote, passed}
 use Rattle.rh_descriptor.specs.declared.reference.Ref.{Ref as Reference}
 use Rattle.rh_descriptor.specs.declared.reference.Piece.{Piece}
 use Rattle.rh_descriptor.specs.declared.steps.StepKind.{StepKind}
@@ -21,11 +21,11 @@ use Rattle.rh_helping.specs.Next.{Settles as settling}
 pub record Keeps (v next : View) : Type 0 where
   pub worker : next.worker ≡ v.worker
   pub next_number : next.next_number ≡ v.next_number
-  pub notes : (n : Note) → In n v.side.notes → In n next.side.notes
+  pub facts : (n : Fact) → In n v.side.facts → In n next.side.facts
 
 -- No descriptor is newly noted that this worker decided as failed: those it noted as it decided them.
 abbrev pub FailsNone : (v next : View) → Type 0
-FailsNone v next = (f : Ref) → In (decided f (failed 0 v.worker)) next.side.notes → In (decided f (failed 0 v.worker)) v.side.notes
+FailsNone v next = (f : Ref) → In (decided f (failed 0 v.worker)) next.side.facts → In (decided f (failed 0 v.worker)) v.side.facts
 
 -- and nothing else is changed
 pub record Grows (v next : View) : Type 0 where
@@ -51,21 +51,21 @@ kind_of_settling (settling.Settle x p old) = kind.Settle
 
 -- the mark was found in the piece's cell, and is for this piece
 pub record IsFound (v : View) (x : Reference) (p : Piece) : Type 0 where
-  pub met : In (found (ref_of x) p.cell) v.side.notes
-  pub of_desc : In (desc_is (ref_of x) (ref_of p.desc)) v.side.notes
-  pub of_entry : In (which_is (ref_of x) p.entry) v.side.notes
+  pub met : In (found (ref_of x) p.cell) v.side.facts
+  pub of_desc : In (desc_is (ref_of x) (ref_of p.desc)) v.side.facts
+  pub of_entry : In (which_is (ref_of x) p.entry) v.side.facts
 
 -- this word was read in the row of the mark
 abbrev pub HasRead : View → Reference → MarkWord → Type 0
 HasRead v x u = In (record { mark = ref_of x; word = u }) v.raw
 
 abbrev pub IsSettling : View → Settles → Type 0
-IsSettling v (settling.Desc x c) = In (found (ref_of x) c) v.side.notes
-IsSettling v (settling.Entry x c u) = In (found (ref_of x) c) v.side.notes × HasRead v x (desc_word u)
-IsSettling v (settling.Serial x c u e) = In (found (ref_of x) c) v.side.notes × HasRead v x (desc_word u) × HasRead v x (entry_word e)
+IsSettling v (settling.Desc x c) = In (found (ref_of x) c) v.side.facts
+IsSettling v (settling.Entry x c u) = In (found (ref_of x) c) v.side.facts × HasRead v x (desc_word u)
+IsSettling v (settling.Serial x c u e) = In (found (ref_of x) c) v.side.facts × HasRead v x (desc_word u) × HasRead v x (entry_word e)
 IsSettling v (settling.Control x p) = IsFound v x p
-IsSettling v (settling.Old x p) = IsFound v x p × In (may_demote (ref_of x)) v.side.notes
-IsSettling v (settling.OldSerial x p old) = IsFound v x p × In (may_demote (ref_of x)) v.side.notes × HasReadRow v (ref_of p.desc) (old_word p.entry old)
+IsSettling v (settling.Old x p) = IsFound v x p × In (may_demote (ref_of x)) v.side.facts
+IsSettling v (settling.OldSerial x p old) = IsFound v x p × In (may_demote (ref_of x)) v.side.facts × HasReadRow v (ref_of p.desc) (old_word p.entry old)
 IsSettling v (settling.Settle x p old) = IsFound v x p × MaySettle v (ref_of x) p.cell (ref_of p.desc) p.entry old
 
 -- The mark is left once it is settled, or where its row has gone on, and then nothing is noted of it, or that of its
@@ -74,9 +74,9 @@ abbrev pub EndsSettling : (v next : View) → Settles → Type 0
 EndsSettling v next (settling.Desc x c) = ⊥
 EndsSettling v next (settling.Entry x c u) = ⊥
 EndsSettling v next (settling.Serial x c u e) = next.side ≡ v.side
-EndsSettling v next (settling.Control x p) = In (passed (ref_of p.desc)) next.side.notes
+EndsSettling v next (settling.Control x p) = In (passed (ref_of p.desc)) next.side.facts
 EndsSettling v next (settling.Old x p) = ⊥
-EndsSettling v next (settling.OldSerial x p old) = In (passed (ref_of p.desc)) next.side.notes
+EndsSettling v next (settling.OldSerial x p old) = In (passed (ref_of p.desc)) next.side.facts
 EndsSettling v next (settling.Settle x p old) = Unit {0}
 
 -- what the step leads to: the next one, or none where the mark is left

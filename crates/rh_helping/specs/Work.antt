@@ -4,12 +4,12 @@ use Rattle.rh_tagword.specs.declared.control.State.{State}
 use Rattle.rh_tagword.specs.declared.control.State.TheVariants.{Unused, Undecided, Succeeded, Withdrawn, Failed}
 use Rattle.rh_world.specs.World.{Ref, In}
 use Rattle.rh_world.specs.World.Control.{failed, succeeded, withdrawn}
-use Rattle.rh_world.specs.Notes.Note.{held, mismatch, decided, failed_at, found, desc_is, which_is, may_promote, may_demote, passed}
+use Rattle.rh_world.specs.Facts.Fact.{held, mismatch, decided, failed_at, found, desc_is, which_is, may_promote, may_demote, passed}
 use Rattle.rh_descriptor.specs.declared.reference.Ref.{Ref as Reference}
 use Rattle.rh_descriptor.specs.declared.shape.Shape.{Shape}
 use Rattle.rh_descriptor.specs.declared.steps.StepKind.{StepKind}
 use Rattle.rh_descriptor.specs.declared.steps.StepKind.TheVariants as kind
-use Rattle.rh_descriptor.specs.Parts.{mark_row, note_row}
+use Rattle.rh_descriptor.specs.Parts.{mark_row, reason_row}
 use Rattle.rh_descriptor.specs.View.{OwnDesc, View, own_ref}
 use Rattle.rh_descriptor.specs.View.RowWord.{cell_word, length_word, new_word, old_word}
 use Rattle.rh_descriptor.specs.Words.{desc_number, ref_of}
@@ -41,11 +41,11 @@ kind_of_work (work.MarkControl p) = kind.Read
 kind_of_work (work.Promote p) = kind.Settle
 kind_of_work (work.Demote p k) = kind.Settle
 kind_of_work (work.Recheck g promoted) = kind.Read
-kind_of_work (work.Note t) = kind.Write
+kind_of_work (work.WriteReason t) = kind.Write
 kind_of_work (work.Fail t) = kind.Decide
 kind_of_work (work.Succeed t) = kind.Decide
 kind_of_work (work.Withdraw d) = kind.Decide
-kind_of_work (work.Reason t by) = kind.Read
+kind_of_work (work.ReadReason t by) = kind.Read
 kind_of_work (work.Release g) = kind.Release
 kind_of_work (work.GiveBack o) = kind.Release
 
@@ -128,9 +128,9 @@ pub record IsPlaced (v : View) (p : Placed) : Type 0 where
   pub unsettled : v.side.unsettled ≡ Some p.mark.number
   pub paid : v.side.debts ≡ []
   pub unreleased : v.side.released ≡ []
-  pub met : In (found (ref_of p.mark) p.goal.cell) v.side.notes
-  pub of_desc : In (desc_is (ref_of p.mark) (ref_of p.goal.task.desc)) v.side.notes
-  pub of_entry : In (which_is (ref_of p.mark) p.goal.task.entry) v.side.notes
+  pub met : In (found (ref_of p.mark) p.goal.cell) v.side.facts
+  pub of_desc : In (desc_is (ref_of p.mark) (ref_of p.goal.task.desc)) v.side.facts
+  pub of_entry : In (which_is (ref_of p.mark) p.goal.task.entry) v.side.facts
 
 -- the mark was swapped to its descriptor, or another worker settled it: the cell is owed
 pub record IsSwapped (v : View) (g : Goal) (promoted : Bool) : Type 0 where
@@ -139,7 +139,7 @@ pub record IsSwapped (v : View) (g : Goal) (promoted : Bool) : Type 0 where
   pub settled : v.side.unsettled ≡ None
   pub owes : v.side.debts ≡ debt_of (owed_of g) ∷ []
   pub unreleased : v.side.released ≡ []
-  pub holds : promoted ≡ true → In (held (ref_of g.task.desc) g.task.entry) v.side.notes
+  pub holds : promoted ≡ true → In (held (ref_of g.task.desc) g.task.entry) v.side.facts
 
 -- the descriptor is decided so, or its row has gone on
 abbrev pub IsOut : View → Ref → Option State → Type 0
@@ -148,17 +148,17 @@ IsOut v d (Some k) = IsOver k × IsMet v d k 0
 
 -- d is left, as its row has gone on: nothing is owed, or this cell
 abbrev pub IsLeft : View → Ref → Option Owed → Type 0
-IsLeft v d None = OwesNothing v × In (passed d) v.side.notes
+IsLeft v d None = OwesNothing v × In (passed d) v.side.facts
 IsLeft v d (Some o) = GivesBack v o
 
 -- an entry of an undecided task did not hold its old value
 pub record Mismatches (v : View) (t : Task) : Type 0 where
   pub at : IsAt v t
   pub undecided : t.state ≡ Undecided
-  pub seen : In (mismatch (ref_of t.desc) t.entry 0) v.side.notes
+  pub seen : In (mismatch (ref_of t.desc) t.entry 0) v.side.facts
 
 abbrev pub Stands : Shape → View → Work → Type 0
-Stands z v (work.Control d) = OwesNothing v × IsKnown v.side.notes (ref_of d)
+Stands z v (work.Control d) = OwesNothing v × IsKnown v.side.facts (ref_of d)
 Stands z v (work.Length d k) = OwesNothing v × IsMet v (ref_of d) k 0 × IsForeign v (ref_of d)
 Stands z v (work.LengthSerial d k n) = OwesNothing v × IsMet v (ref_of d) k 0 × IsForeign v (ref_of d) × HasReadRow v (ref_of d) (length_word n)
 Stands z v (work.EntryCell t) = IsAt v t × IsForeign v (ref_of t.desc)
@@ -172,14 +172,14 @@ Stands z v (work.MarkEntry g) = CanTry z v g × NamesDesc z v g
 Stands z v (work.Place g) = CanTry z v g × NamesEntry z v g
 Stands z v (work.Settle s g) = CanTry z v g × NamesEntry z v g × IsSettling v s
 Stands z v (work.MarkControl p) = IsPlaced v p
-Stands z v (work.Promote p) = IsPlaced v p × In (may_promote (ref_of p.mark) p.goal.cell) v.side.notes
-Stands z v (work.Demote p k) = IsPlaced v p × IsOut v (ref_of p.goal.task.desc) k × In (may_demote (ref_of p.mark)) v.side.notes
+Stands z v (work.Promote p) = IsPlaced v p × In (may_promote (ref_of p.mark) p.goal.cell) v.side.facts
+Stands z v (work.Demote p k) = IsPlaced v p × IsOut v (ref_of p.goal.task.desc) k × In (may_demote (ref_of p.mark)) v.side.facts
 Stands z v (work.Recheck g promoted) = IsSwapped v g promoted
-Stands z v (work.Note t) = Mismatches v t
-Stands z v (work.Fail t) = Mismatches v t × (row_word v.written (note_row z t.desc.worker) ≡ t.entry)
+Stands z v (work.WriteReason t) = Mismatches v t
+Stands z v (work.Fail t) = Mismatches v t × (row_word v.written (reason_row z t.desc.worker) ≡ t.entry)
 Stands z v (work.Succeed t) = KnowsTask v t × (t.entry ≡ t.size) × (t.state ≡ Undecided) × OwesNothing v
 Stands z v (work.Withdraw d) = OwesNothing v × (d.worker ≡ v.worker) × (v.side.current ≡ Some d.number) × (z.rooms.marks ≤ v.marks_used)
-Stands z v (work.Reason t by) = Begins v t × HasFailedOwn v t by
+Stands z v (work.ReadReason t by) = Begins v t × HasFailedOwn v t by
 Stands z v (work.Release g) = KnowsGoal v g × IsOver g.task.state × Releases v g.task × HasReason v g.task
 Stands z v (work.GiveBack o) = GivesBack v o
 
@@ -187,9 +187,9 @@ Stands z v (work.GiveBack o) = GivesBack v o
 
 -- d ended so; where it failed, at which entry is known
 abbrev pub HasEnded : View → Ref → Ended → Type 0
-HasEnded v d ended.Succeeded = In (decided d succeeded) v.side.notes
-HasEnded v d ended.Withdrawn = In (decided d withdrawn) v.side.notes
-HasEnded v d (ended.Failed e) = ((by : ℕ) × In (decided d (failed 0 by)) v.side.notes) × In (failed_at d e) v.side.notes
+HasEnded v d ended.Succeeded = In (decided d succeeded) v.side.facts
+HasEnded v d ended.Withdrawn = In (decided d withdrawn) v.side.facts
+HasEnded v d (ended.Failed e) = ((by : ℕ) × In (decided d (failed 0 by)) v.side.facts) × In (failed_at d e) v.side.facts
 
 -- where it failed, it was at one of its entries, of which there are so many
 abbrev pub IsWithin : (size : ℕ) → Ended → Type 0
@@ -197,7 +197,7 @@ IsWithin size ended.Succeeded = Unit {0}
 IsWithin size ended.Withdrawn = Unit {0}
 IsWithin size (ended.Failed e) = e < size
 
--- by its state, and by what its decider's note says
+-- by its state, and by what its decider's reason says
 abbrev pub ended_as : State → Option ℕ → Ended
 ended_as Unused e = ended.Withdrawn
 ended_as Undecided e = ended.Withdrawn
@@ -238,11 +238,11 @@ desc_of (work.MarkControl p) = p.goal.task.desc
 desc_of (work.Promote p) = p.goal.task.desc
 desc_of (work.Demote p k) = p.goal.task.desc
 desc_of (work.Recheck g promoted) = g.task.desc
-desc_of (work.Note t) = t.desc
+desc_of (work.WriteReason t) = t.desc
 desc_of (work.Fail t) = t.desc
 desc_of (work.Succeed t) = t.desc
 desc_of (work.Withdraw d) = d
-desc_of (work.Reason t by) = t.desc
+desc_of (work.ReadReason t by) = t.desc
 desc_of (work.Release g) = g.task.desc
 desc_of (work.GiveBack o) = o.piece.desc
 
@@ -253,6 +253,6 @@ ReleasesLast w = (g : Goal) × (w ≡ work.Release g) × (g.task.entry + 1 ≡ g
 -- Where marks are left, nothing else ends the work, but that the descriptor's row has gone on.
 abbrev pub MayEnd : View → Work → Outcome → Type 0
 MayEnd next w (On on) = Unit {0}
-MayEnd next w Over = ReleasesLast w ⊎ In (passed (ref_of (desc_of w))) next.side.notes
+MayEnd next w Over = ReleasesLast w ⊎ In (passed (ref_of (desc_of w))) next.side.facts
 MayEnd next w (Closed k) = ReleasesLast w
 MayEnd next w Spent = Unit {0}

@@ -1,10 +1,10 @@
-//! Deciding a descriptor. That it fails is told its owner first, by the own note: a control says no more
+//! Deciding a descriptor. That it fails is told its owner first, by the own reason: a control says no more
 //! than who decided.
 
 ghost use Rattle.rh_helping.specs.declared.machine.At.TheVariants as stage;
 ghost use Rattle.std.specs.Prelude.{◌≡◌};
 ghost use Rattle.rh_descriptor.specs.Words.{control_of, ref_of};
-ghost use Rattle.rh_helping.specs.Asked.{FollowsDecide};
+ghost use Rattle.rh_helping.specs.Requested.{FollowsDecide};
 ghost use Rattle.rh_helping.specs.Goal.{opened_by};
 ghost use Rattle.rh_helping.specs.Machine.{led};
 ghost use Rattle.rh_helping.specs.Next.{Work};
@@ -16,19 +16,19 @@ use crate::goal::{OpenDesc, Task};
 use crate::machine::{At, Machine, Progress};
 use crate::reading::state_told;
 use crate::stage::Stage;
-use rh_descriptor::{Ask, Part, Reading, Shape, Side, decided_word};
+use rh_descriptor::{Part, Reading, Request, Shape, Side, decided_word};
 use rh_steps::Steps;
 use rh_tagword::State;
 
-pub(crate) struct Note;
+pub(crate) struct WriteReason;
 
-impl<T: Steps> Stage<T> for Note {
-    ghost at = { stage.Note };
+impl<T: Steps> Stage<T> for WriteReason {
+    ghost at = { stage.WriteReason };
 
     #[inline(always)]
-    fn ask(machine: &Machine, _shape: &Shape, side: &Side) -> Ask {
-        Ask::Write {
-            part: Part::Note {
+    fn request(machine: &Machine, _shape: &Shape, side: &Side) -> Request {
+        Request::Write {
+            part: Part::Reason {
                 worker: side.worker,
                 owner: machine.task.desc.worker,
             },
@@ -56,8 +56,8 @@ impl<T: Steps> Stage<T> for Fail {
     ghost at = { stage.Fail };
 
     #[inline(always)]
-    fn ask(machine: &Machine, _shape: &Shape, side: &Side) -> Ask {
-        Ask::Decide {
+    fn request(machine: &Machine, _shape: &Shape, side: &Side) -> Request {
+        Request::Decide {
             desc: machine.task.desc,
             state: own_failure(side),
         }
@@ -82,8 +82,8 @@ impl<T: Steps> Stage<T> for Succeed {
     ghost at = { stage.Succeed };
 
     #[inline(always)]
-    fn ask(machine: &Machine, _shape: &Shape, _side: &Side) -> Ask {
-        Ask::Decide {
+    fn request(machine: &Machine, _shape: &Shape, _side: &Side) -> Request {
+        Request::Decide {
             desc: machine.task.desc,
             state: State::Succeeded,
         }
@@ -150,8 +150,8 @@ impl<T: Steps> Stage<T> for Withdraw {
     ghost at = { stage.Withdraw };
 
     #[inline(always)]
-    fn ask(machine: &Machine, _shape: &Shape, _side: &Side) -> Ask {
-        Ask::Decide {
+    fn request(machine: &Machine, _shape: &Shape, _side: &Side) -> Request {
+        Request::Decide {
             desc: machine.task.desc,
             state: State::Withdrawn,
         }
@@ -175,16 +175,16 @@ impl<T: Steps> Stage<T> for Withdraw {
     }
 }
 
-/// Reads the decider's note before the entries are released, so that a swap ends with its last
+/// Reads the decider's reason before the entries are released, so that a swap ends with its last
 /// Release in each case.
-pub(crate) struct Reason;
+pub(crate) struct ReadReason;
 
-impl<T: Steps> Stage<T> for Reason {
-    ghost at = { stage.Reason };
+impl<T: Steps> Stage<T> for ReadReason {
+    ghost at = { stage.ReadReason };
 
     #[inline(always)]
-    fn ask(machine: &Machine, _shape: &Shape, _side: &Side) -> Ask {
-        Ask::Read(Reading::Reason {
+    fn request(machine: &Machine, _shape: &Shape, _side: &Side) -> Request {
+        Request::Read(Reading::Reason {
             desc: machine.task.desc,
             decider: machine.decider,
         })

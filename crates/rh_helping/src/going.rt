@@ -9,7 +9,7 @@ ghost use Rattle.rh_helping.specs.Next.{Work};
 ghost use Rattle.rh_helping.specs.Work.{Begins, HasFailedOwn, IsNext, Leads, MayEnd, Owes, ReleasesLast, desc_of, failed_by};
 ghost use Rattle.rh_steps.specs.Relies.{Trusts};
 ghost use Rattle.rh_world.specs.World.{In};
-ghost use Rattle.rh_world.specs.Notes.Note.{passed};
+ghost use Rattle.rh_world.specs.Facts.Fact.{passed};
 
 use crate::goal::{OpenDesc, Task};
 use crate::machine::{At, Machine, Progress};
@@ -49,7 +49,7 @@ impl Machine {
         self.begin(shape, table, side, opens)
     }
 
-    /// The first step on a task. Where the own open descriptor failed, its decider's note tells at which
+    /// The first step on a task. Where the own open descriptor failed, its decider's reason tells at which
     /// entry.
     #[inline(always)]
     pub(crate) fn begin<T: Steps>(
@@ -69,7 +69,7 @@ impl Machine {
         match self.failed_own(side, opens) {
             Some(decider) => {
                 self.decider = decider as usize;
-                self.at = At::Reason;
+                self.at = At::ReadReason;
                 Progress::On
             }
             None => self.at_entry(shape, table, side, opens),
@@ -171,7 +171,7 @@ impl Machine {
         requires own { KnowsOwn side.now.known.view (opened_by opens) }
         requires owes { OwesNothing side.now.known.view }
         ensures leads { (z : Shape) → Leads z side.now.known.view (opened_by opens.entry) (led result self.new) }
-        ensures ends { (w : Work) → ReleasesLast w ⊎ In (passed (ref_of (desc_of w))) side.now.known.view.side.notes
+        ensures ends { (w : Work) → ReleasesLast w ⊎ In (passed (ref_of (desc_of w))) side.now.known.view.side.facts
             → MayEnd side.now.known.view w (led result self.new) }
     {
         match opens {

@@ -8,7 +8,7 @@ use crate::machine::{At, Machine, Progress};
 use crate::reading::{CellContent, state_told, what_stands};
 use crate::settling::Settling;
 use crate::stage::Stage;
-use rh_descriptor::{Ask, Part, Reading, Ref, Shape, Side, desc_word, mark_word};
+use rh_descriptor::{Part, Reading, Ref, Request, Shape, Side, desc_word, mark_word};
 use rh_steps::Steps;
 
 /// Takes the mark row for the next mark, before all else that is written there.
@@ -20,8 +20,8 @@ impl<T: Steps> Stage<T> for MarkSerial {
     ghost at = { stage.MarkSerial };
 
     #[inline(always)]
-    fn ask(_machine: &Machine, _shape: &Shape, side: &Side) -> Ask {
-        Ask::Write {
+    fn request(_machine: &Machine, _shape: &Shape, side: &Side) -> Request {
+        Request::Write {
             part: Part::MarkSerial {
                 worker: side.worker,
             },
@@ -49,8 +49,8 @@ impl<T: Steps> Stage<T> for MarkDesc {
     ghost at = { stage.MarkDesc };
 
     #[inline(always)]
-    fn ask(machine: &Machine, shape: &Shape, side: &Side) -> Ask {
-        Ask::Write {
+    fn request(machine: &Machine, shape: &Shape, side: &Side) -> Request {
+        Request::Write {
             part: Part::MarkDesc {
                 worker: side.worker,
             },
@@ -78,8 +78,8 @@ impl<T: Steps> Stage<T> for MarkEntry {
     ghost at = { stage.MarkEntry };
 
     #[inline(always)]
-    fn ask(machine: &Machine, _shape: &Shape, side: &Side) -> Ask {
-        Ask::Write {
+    fn request(machine: &Machine, _shape: &Shape, side: &Side) -> Request {
+        Request::Write {
             part: Part::MarkEntry {
                 worker: side.worker,
             },
@@ -108,8 +108,8 @@ impl<T: Steps> Stage<T> for Place {
     ghost at = { stage.Place };
 
     #[inline(always)]
-    fn ask(machine: &Machine, _shape: &Shape, _side: &Side) -> Ask {
-        Ask::Place {
+    fn request(machine: &Machine, _shape: &Shape, _side: &Side) -> Request {
+        Request::Place {
             piece: machine.piece(),
             old: machine.change.old,
         }
@@ -134,7 +134,7 @@ impl<T: Steps> Stage<T> for Place {
         }
         match what_stands(found) {
             CellContent::Value => {
-                machine.at = At::Note;
+                machine.at = At::WriteReason;
                 Progress::On
             }
             CellContent::Mark(mark) => {
@@ -163,8 +163,8 @@ impl<T: Steps> Stage<T> for Settle {
     ghost at = { stage.Settle };
 
     #[inline(always)]
-    fn ask(machine: &Machine, _shape: &Shape, _side: &Side) -> Ask {
-        machine.settling.ask()
+    fn request(machine: &Machine, _shape: &Shape, _side: &Side) -> Request {
+        machine.settling.request()
     }
 
     #[inline(always)]
@@ -191,8 +191,8 @@ impl<T: Steps> Stage<T> for MarkControl {
     ghost at = { stage.MarkControl };
 
     #[inline(always)]
-    fn ask(machine: &Machine, _shape: &Shape, _side: &Side) -> Ask {
-        Ask::Read(Reading::MarkControl {
+    fn request(machine: &Machine, _shape: &Shape, _side: &Side) -> Request {
+        Request::Read(Reading::MarkControl {
             mark: machine.mark,
             cell: machine.change.cell,
             desc: machine.task.desc,
@@ -232,8 +232,8 @@ impl<T: Steps> Stage<T> for Promote {
     ghost at = { stage.Promote };
 
     #[inline(always)]
-    fn ask(machine: &Machine, _shape: &Shape, _side: &Side) -> Ask {
-        Ask::Settle {
+    fn request(machine: &Machine, _shape: &Shape, _side: &Side) -> Request {
+        Request::Settle {
             mark: machine.mark,
             piece: machine.piece(),
             old: None,
@@ -261,8 +261,8 @@ impl<T: Steps> Stage<T> for Demote {
     ghost at = { stage.Demote };
 
     #[inline(always)]
-    fn ask(machine: &Machine, _shape: &Shape, _side: &Side) -> Ask {
-        Ask::Settle {
+    fn request(machine: &Machine, _shape: &Shape, _side: &Side) -> Request {
+        Request::Settle {
             mark: machine.mark,
             piece: machine.piece(),
             old: Some(machine.change.old),
@@ -300,8 +300,8 @@ impl<T: Steps> Stage<T> for Recheck {
     ghost at = { stage.Recheck };
 
     #[inline(always)]
-    fn ask(machine: &Machine, _shape: &Shape, _side: &Side) -> Ask {
-        Ask::Read(Reading::Control(machine.task.desc))
+    fn request(machine: &Machine, _shape: &Shape, _side: &Side) -> Request {
+        Request::Read(Reading::Control(machine.task.desc))
     }
 
     #[inline(always)]

@@ -16,7 +16,7 @@ use crate::goal::Owed;
 use crate::machine::{At, Machine, Progress};
 use crate::reading::{CellContent, what_stands};
 use crate::settling::Settling;
-use rh_descriptor::{Ask, Reading, Shape, Side, StepKind};
+use rh_descriptor::{Reading, Request, Shape, Side, StepKind};
 use rh_steps::Steps;
 
 /// Which step of a worker that looks at a cell is next. What it needs is in its machine.
@@ -121,7 +121,7 @@ impl Machine {
         ensures leads { LooksOn shape.now side.new.known.view (looked result self.new) }
         ensures ends { MayLookOn side.old.known.view side.new.known.view Looking.Read (looked result self.new) }
     {
-        let word = table.make(shape, side, Ask::Read(Reading::Cell(cell)));
+        let word = table.make(shape, side, Request::Read(Reading::Cell(cell)));
         match what_stands(word) {
             CellContent::Value => Sight::Sees(word),
             CellContent::Mark(mark) => {

@@ -59,16 +59,16 @@ pub enum At {
     Demote,
     /// Read of the descriptor's control once it stands in the cell, if it came to stand there.
     Recheck,
-    /// Write of the next entry, which did not hold its old value, into the own note to the owner.
-    Note,
+    /// Write of the next entry, which did not hold its old value, as the own reason to the owner.
+    WriteReason,
     /// Decide that it failed there.
     Fail,
     /// Decide that it succeeded.
     Succeed,
     /// Decide that the own open descriptor is withdrawn, as no mark is left.
     Withdraw,
-    /// Read of the decider's note: at which entry the own open descriptor failed.
-    Reason,
+    /// Read of the decider's reason: at which entry the own open descriptor failed.
+    ReadReason,
     /// Release of an entry.
     Release,
     /// Release of the one entry whose cell is owed, to its old value, as the descriptor's row has gone on.
@@ -148,7 +148,7 @@ impl Machine {
         ensures { result ≡ kind_of_work (work_of self.now) }
     {
         match self.at {
-            At::MarkSerial | At::MarkDesc | At::MarkEntry | At::Note => StepKind::Write,
+            At::MarkSerial | At::MarkDesc | At::MarkEntry | At::WriteReason => StepKind::Write,
             At::Place => StepKind::Place,
             At::Settle => self.settling.kind(),
             At::Promote | At::Demote => StepKind::Settle,
@@ -168,7 +168,7 @@ impl Machine {
             | At::EntryOld
             | At::EntryNew
             | At::EntrySerial
-            | At::Reason
+            | At::ReadReason
             | At::Release => self.task.owed,
             At::MarkControl | At::Promote | At::Demote | At::Recheck | At::GiveBack => {
                 Some(self.owed())

@@ -2,13 +2,13 @@
 //! from that of the last descriptor.
 
 ghost use Rattle.std.specs.Prelude.{◌≡◌, ◌<◌, length};
-ghost use Rattle.rh_descriptor.specs.Asks.{step_of};
+ghost use Rattle.rh_descriptor.specs.Requests.{step_of};
 ghost use Rattle.rh_descriptor.specs.Parts.{IsShape};
 ghost use Rattle.rh_helping.specs.Made.{HasStepped};
 ghost use Rattle.rh_helping.specs.Opening.{IsOpening, MayOpen, OpensOn, after_opening, kind_of_opening, opened_after, opening_step};
 ghost use Rattle.rh_steps.specs.Relies.{Relies};
 
-use rh_descriptor::{Ask, Part, Shape, Side, StepKind};
+use rh_descriptor::{Part, Request, Shape, Side, StepKind};
 use rh_layout::Entry;
 use rh_steps::Steps;
 
@@ -59,13 +59,13 @@ impl Opening {
         ensures leads { OpensOn shape.now entries.now side.old.known.view side.new.known.view result }
         ensures next { result ≡ after_opening (length entries.now) self }
     {
-        let ask = self.ask(shape, side, entries);
-        table.make(shape, side, ask);
+        let request = self.request(shape, side, entries);
+        table.make(shape, side, request);
         self.next(entries)
     }
 
     #[inline(always)]
-    fn ask(self, shape: &Shape, side: &Side, entries: &[Entry]) -> Ask
+    fn request(self, shape: &Shape, side: &Side, entries: &[Entry]) -> Request
         requires shape { IsShape shape.now }
         requires may { MayOpen shape.now side.now.known.view entries.now }
         requires opening { IsOpening side.now.known.view entries.now self }
@@ -73,27 +73,27 @@ impl Opening {
     {
         let worker = side.worker;
         match self {
-            Opening::Serial => Ask::Write {
+            Opening::Serial => Request::Write {
                 part: Part::Serial { worker },
                 word: side.next_number,
             },
-            Opening::Length => Ask::Write {
+            Opening::Length => Request::Write {
                 part: Part::Length { worker },
                 word: entries.len() as u64,
             },
-            Opening::Cell(at) => Ask::Write {
+            Opening::Cell(at) => Request::Write {
                 part: Part::EntryCell { worker, entry: at },
                 word: entries[at].cell as u64,
             },
-            Opening::Old(at) => Ask::Write {
+            Opening::Old(at) => Request::Write {
                 part: Part::EntryOld { worker, entry: at },
                 word: entries[at].old,
             },
-            Opening::New(at) => Ask::Write {
+            Opening::New(at) => Request::Write {
                 part: Part::EntryNew { worker, entry: at },
                 word: entries[at].new,
             },
-            Opening::Open => Ask::Open {
+            Opening::Open => Request::Open {
                 entries: entries.len(),
             },
         }

@@ -9,7 +9,7 @@ ghost use Rattle.rh_helping.specs.Goal.{KnowsGoal, KnowsOwn, KnowsTask, opened_b
 ghost use Rattle.rh_steps.specs.Relies.{Trusts};
 ghost use Rattle.rh_descriptor.specs.Steps.{IsKnown, row_word};
 ghost use Rattle.rh_world.specs.World.{In};
-ghost use Rattle.rh_world.specs.Notes.Note.{size_is};
+ghost use Rattle.rh_world.specs.Facts.Fact.{size_is};
 
 use crate::goal::{OpenDesc, Task};
 use rh_descriptor::{Part, Ref, Shape, Side};
@@ -43,9 +43,9 @@ pub(crate) fn own_size<T: Steps>(
     requires own { KnowsOwn side.now.known.view (opened_by opens) }
     requires worker { desc.worker ≡ side.now.worker }
     requires last { suc desc.number ≡ side.now.next_number }
-    requires known { IsKnown side.now.known.view.side.notes (ref_of desc) }
+    requires known { IsKnown side.now.known.view.side.facts (ref_of desc) }
     ensures same { table.new ≡ table.old }
-    ensures size { In (size_is (ref_of desc) result) side.now.known.view.side.notes }
+    ensures size { In (size_is (ref_of desc) result) side.now.known.view.side.facts }
 {
     match own_copy(opens, desc.number) {
         Some(entries) => entries.len(),

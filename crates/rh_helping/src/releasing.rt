@@ -9,7 +9,7 @@ ghost use Rattle.rh_tagword.specs.declared.control.State.TheVariants.{Failed};
 use crate::goal::{OpenDesc, Owed, Task};
 use crate::machine::{Ended, Machine, Progress};
 use crate::stage::Stage;
-use rh_descriptor::{Ask, Shape, Side};
+use rh_descriptor::{Request, Shape, Side};
 use rh_steps::Steps;
 use rh_tagword::State;
 
@@ -20,8 +20,8 @@ impl<T: Steps> Stage<T> for Release {
     ghost at = { stage.Release };
 
     #[inline(always)]
-    fn ask(machine: &Machine, _shape: &Shape, _side: &Side) -> Ask {
-        Ask::Release {
+    fn request(machine: &Machine, _shape: &Shape, _side: &Side) -> Request {
+        Request::Release {
             piece: machine.piece(),
             state: Some(machine.task.state),
             value: released_value(machine.task.state, machine.change.old, machine.change.new),
@@ -90,7 +90,7 @@ fn ended(task: Task) -> Ended
         State::Withdrawn => Ended::Withdrawn,
         State::Failed { .. } => match task.reason {
             Some(entry) => Ended::Failed { entry },
-            // (its decider's note was read)
+            // (its decider's reason was read)
             None => unreachable!(),
         },
         State::Unused | State::Undecided => unreachable!(),
@@ -106,8 +106,8 @@ impl<T: Steps> Stage<T> for GiveBack {
     ghost at = { stage.GiveBack };
 
     #[inline(always)]
-    fn ask(machine: &Machine, _shape: &Shape, _side: &Side) -> Ask {
-        Ask::Release {
+    fn request(machine: &Machine, _shape: &Shape, _side: &Side) -> Request {
+        Request::Release {
             piece: machine.piece(),
             state: None,
             value: machine.change.old,

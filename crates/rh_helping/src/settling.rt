@@ -1,10 +1,10 @@
 //! Settling a mark that was met in a cell, as RDCSS is helped (Harris, Fraser and Pratt 2002).
 
 ghost use Rattle.std.specs.Prelude.{◌≡◌};
-ghost use Rattle.rh_descriptor.specs.Asks.{step_of};
+ghost use Rattle.rh_descriptor.specs.Requests.{step_of};
 ghost use Rattle.rh_descriptor.specs.View.{View};
 ghost use Rattle.rh_descriptor.specs.declared.shape.Shape.{Shape};
-ghost use Rattle.rh_helping.specs.Asked.{FollowsSettling, SettledFrom, asked_of_mark};
+ghost use Rattle.rh_helping.specs.Requested.{FollowsSettling, SettledFrom, asked_of_mark};
 ghost use Rattle.rh_helping.specs.Goal.{OwesNothing};
 ghost use Rattle.rh_helping.specs.Machine.{left_on, settling_of};
 ghost use Rattle.rh_helping.specs.Made.{HasMade};
@@ -13,7 +13,7 @@ ghost use Rattle.rh_helping.specs.Settling.{Grows, IsSettling, LeadsOn, kind_of_
 ghost use Rattle.rh_steps.specs.Relies.{Relies};
 
 use crate::reading::{named_desc, state_told};
-use rh_descriptor::{Ask, Piece, Reading, Ref, Shape, Side, StepKind};
+use rh_descriptor::{Piece, Reading, Ref, Request, Shape, Side, StepKind};
 use rh_steps::Steps;
 
 /// Which step with the mark is next.
@@ -95,14 +95,14 @@ impl Settling {
         ensures grows { Grows side.old.known.view side.new.known.view }
         ensures leads { LeadsOn side.old.known.view side.new.known.view (settling_of self.old) (left_on result self.new) }
     {
-        let ask = self.ask();
-        let found = table.make(shape, side, ask);
+        let request = self.request();
+        let found = table.make(shape, side, request);
         self.after(side, found)
     }
 
     /// The step that is asked for.
     #[inline(always)]
-    pub(crate) fn ask(&self) -> Ask
+    pub(crate) fn request(&self) -> Request
         ensures { step_of result ≡ asked_of_mark (settling_of self.now) }
     {
         let Settling {
@@ -113,25 +113,25 @@ impl Settling {
             ..
         } = *self;
         match at {
-            SettlingAt::Desc => Ask::Read(Reading::MarkDesc(mark)),
-            SettlingAt::Entry => Ask::Read(Reading::MarkEntry(mark)),
-            SettlingAt::Serial => Ask::Read(Reading::MarkSerial(mark)),
-            SettlingAt::Control => Ask::Read(Reading::MarkControl {
+            SettlingAt::Desc => Request::Read(Reading::MarkDesc(mark)),
+            SettlingAt::Entry => Request::Read(Reading::MarkEntry(mark)),
+            SettlingAt::Serial => Request::Read(Reading::MarkSerial(mark)),
+            SettlingAt::Control => Request::Read(Reading::MarkControl {
                 mark,
                 cell: piece.cell,
                 desc: piece.desc,
             }),
-            SettlingAt::Old => Ask::Read(Reading::EntryOld {
+            SettlingAt::Old => Request::Read(Reading::EntryOld {
                 desc: piece.desc,
                 entry: piece.entry,
             }),
-            SettlingAt::OldSerial => Ask::Read(Reading::Serial(piece.desc)),
-            SettlingAt::Promote => Ask::Settle {
+            SettlingAt::OldSerial => Request::Read(Reading::Serial(piece.desc)),
+            SettlingAt::Promote => Request::Settle {
                 mark,
                 piece,
                 old: None,
             },
-            SettlingAt::Demote => Ask::Settle {
+            SettlingAt::Demote => Request::Settle {
                 mark,
                 piece,
                 old: Some(value),

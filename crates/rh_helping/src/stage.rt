@@ -1,9 +1,9 @@
 //! The stages of a machine. Each is one step: which one, and what follows from the word that it found.
 
 ghost use Rattle.std.specs.Prelude.{◌≡◌};
-ghost use Rattle.rh_descriptor.specs.Asks.{step_of};
+ghost use Rattle.rh_descriptor.specs.Requests.{step_of};
 ghost use Rattle.rh_descriptor.specs.Parts.{IsShape};
-ghost use Rattle.rh_helping.specs.Asked.{Follows, asked};
+ghost use Rattle.rh_helping.specs.Requested.{Follows, requested};
 ghost use Rattle.rh_helping.specs.Goal.{opened_by};
 ghost use Rattle.rh_helping.specs.Machine.{led, work_at};
 ghost use Rattle.rh_helping.specs.Work.{Stands, Leads, MayEnd};
@@ -11,7 +11,7 @@ ghost use Rattle.rh_steps.specs.Relies.{Knows, Trusts};
 
 use crate::goal::OpenDesc;
 use crate::machine::{Machine, Progress};
-use rh_descriptor::{Ask, Shape, Side};
+use rh_descriptor::{Request, Shape, Side};
 use rh_steps::Steps;
 
 pub(crate) trait Stage<T: Steps> {
@@ -21,11 +21,11 @@ pub(crate) trait Stage<T: Steps> {
     ghost at: { At };
 
     /// The step that the machine asks for.
-    fn ask(machine: &Machine, shape: &Shape, side: &Side) -> Ask
+    fn request(machine: &Machine, shape: &Shape, side: &Side) -> Request
         requires shape { IsShape shape.now }
         requires knows { Knows shape.now side.now.known.view }
         requires stands { Stands shape.now side.now.known.view (work_at at machine.now) }
-        ensures { step_of result ≡ asked side.now.known.view (work_at at machine.now) };
+        ensures { step_of result ≡ requested side.now.known.view (work_at at machine.now) };
 
     /// Goes on from the word that the step found. The table is there for own rows alone: no step is made.
     fn after(

@@ -7,7 +7,7 @@ ghost use Rattle.rh_helping.specs.Goal.{KnowsOwn, opened_by};
 ghost use Rattle.rh_helping.specs.Machine.{led, work_at, work_of};
 ghost use Rattle.rh_helping.specs.Work.{Stands, Leads, MayEnd, kind_of_work};
 
-use crate::deciding::{Fail, Note, Reason, Succeed, Withdraw};
+use crate::deciding::{Fail, ReadReason, Succeed, Withdraw, WriteReason};
 use crate::entering::{Control, EntryCell, EntryNew, EntryOld, EntrySerial, Length, LengthSerial};
 use crate::goal::OpenDesc;
 use crate::holding::{
@@ -117,11 +117,11 @@ impl Machine {
             At::Promote => self.make::<T, Promote>(shape, table, side, opens),
             At::Demote => self.make::<T, Demote>(shape, table, side, opens),
             At::Recheck => self.make::<T, Recheck>(shape, table, side, opens),
-            At::Note => self.make::<T, Note>(shape, table, side, opens),
+            At::WriteReason => self.make::<T, WriteReason>(shape, table, side, opens),
             At::Fail => self.make::<T, Fail>(shape, table, side, opens),
             At::Succeed => self.make::<T, Succeed>(shape, table, side, opens),
             At::Withdraw => self.make::<T, Withdraw>(shape, table, side, opens),
-            At::Reason => self.make::<T, Reason>(shape, table, side, opens),
+            At::ReadReason => self.make::<T, ReadReason>(shape, table, side, opens),
             At::Release => self.make::<T, Release>(shape, table, side, opens),
             At::GiveBack => self.make::<T, GiveBack>(shape, table, side, opens),
         }
@@ -144,8 +144,8 @@ impl Machine {
         ensures leads { Leads shape.now side.new.known.view (opened_by opens.entry) (led result self.new) }
         ensures ends { MayEnd side.new.known.view (work_at S.at self.old) (led result self.new) }
     {
-        let ask = S::ask(self, shape, side);
-        let found = table.make(shape, side, ask);
+        let request = S::request(self, shape, side);
+        let found = table.make(shape, side, request);
         S::after(self, shape, table, side, opens, found)
     }
 }

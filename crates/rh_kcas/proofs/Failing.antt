@@ -1,16 +1,16 @@
 -- What a K-CAS that failed says of the acts of all workers.
 use Rattle.std.proofs.Common.{ℕ, subst}
 use Rattle.rh_world.specs.World.{In}
-use Rattle.rh_world.specs.Notes.Note.{failed_at}
+use Rattle.rh_world.specs.Facts.Fact.{failed_at}
 use Rattle.rh_descriptor.specs.View.{own_ref}
 use Rattle.rh_helping.specs.Opening.{next_desc}
 use Rattle.rh_kcas.specs.Failures.{FailuresTell}
 
 pub failures_tell : FailuresTell
-failures_tell w z keep side told es v next e mine knows worker rest notes opened =
-    let noted : In (failed_at (own_ref v v.next_number) e) (keep v.worker).side.notes =
-    subst (λ (u : ℕ). In (failed_at (record { worker = u; number = v.next_number }) e) (keep v.worker).side.notes) worker
-    (notes (failed_at (own_ref next v.next_number) e) rest.result.1) in
+failures_tell w z keep side told es v next e mine knows worker rest facts opened =
+    let noted : In (failed_at (own_ref v v.next_number) e) (keep v.worker).side.facts =
+    subst (λ (u : ℕ). In (failed_at (record { worker = u; number = v.next_number }) e) (keep v.worker).side.facts) worker
+    (facts (failed_at (own_ref next v.next_number) e) rest.result.1) in
     let missed = told.missed v.worker (next_desc v es) e mine opened noted in
     record {
       entry = missed.entry;

@@ -17,4 +17,4 @@ told_saw v next d None saw = saw.told.0
 told_saw v next d (Some k) saw = saw.told.stands
 
 pub notes_saw : (v next : View) (d : Ref) (r : Option State) → Saw v d r next → next.opening ≡ v.opening → HasNoted v next
-notes_saw v next d r saw opening = record { worker = saw.keeps.worker; opening = opening; notes = saw.keeps.notes; opened = saw.opened; next_number = saw.keeps.next_number; reads = saw.reads; claims = saw.claims }
+notes_saw v next d r saw opening = record { worker = saw.keeps.worker; opening = opening; facts = saw.keeps.facts; opened = saw.opened; next_number = saw.keeps.next_number; reads = saw.reads; claims = saw.claims }

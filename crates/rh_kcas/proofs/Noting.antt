@@ -13,13 +13,13 @@ use Rattle.rh_helping.specs.Made.{HasMade}
 use Rattle.rh_kcas.specs.Swaps.{HasNoted, IsNotedOver, IsTold, is_over}
 
 pub noted_first : (v : View) → HasNoted v v
-noted_first v = record { worker = refl; opening = refl; notes = λ n i. i; opened = refl; next_number = refl; reads = refl; claims = refl }
+noted_first v = record { worker = refl; opening = refl; facts = λ n i. i; opened = refl; next_number = refl; reads = refl; claims = refl }
 
 pub noted_on : (u v w : View) → HasNoted u v → HasNoted v w → HasNoted u w
 noted_on u v w a b = record {
   worker = b.worker ∙ a.worker;
   opening = b.opening ∙ a.opening;
-  notes = λ n i. b.notes n (a.notes n i);
+  facts = λ n i. b.facts n (a.facts n i);
   opened = b.opened ∙ a.opened;
   next_number = b.next_number ∙ a.next_number;
   reads = b.reads ∙ a.reads;
@@ -53,7 +53,7 @@ pub made_notes : {T : Type 0} {shows : Shape → T → View → Type 0} {makes :
 made_notes z k t v then next m = record {
   worker = step_worker z v next m.step m.word m.view_is;
   opening = step_opening z v next m.step m.word m.view_is;
-  notes = m.notes;
+  facts = m.facts;
   opened = m.opened;
   next_number = step_number z v next m.step m.word m.view_is m.opened;
   reads = m.reads;

@@ -25,11 +25,11 @@ module _ (z : Shape) (v next : View) (c word : ℕ) (learned : Learned z (reads 
   pub peek_rested : IsRested v → IsRested next
   peek_rested rest = record {
     clear = clear_grows v next grows rest.clear;
-    over = over_same v next grows.worker grows.notes learned.knows.sound.one_result rest grows.opened;
+    over = over_same v next grows.worker grows.facts learned.knows.sound.one_result rest grows.opened;
   }
 
 -- the control of a descriptor that is known as opened
-module _ (z : Shape) (v next : View) (d : Reference) (k : Option State) (known : IsKnown v.side.notes (ref_of d)) (h : HasStatus z d v k next) where
+module _ (z : Shape) (v next : View) (d : Reference) (k : Option State) (known : IsKnown v.side.facts (ref_of d)) (h : HasStatus z d v k next) where
   pub status_saw : (r : Option State) × Saw v (ref_of d) r next
   status_saw =
       let r = control_told d.number h.word in
@@ -39,5 +39,5 @@ module _ (z : Shape) (v next : View) (d : Reference) (k : Option State) (known :
   status_rested rest =
       let saw = status_saw in record {
         clear = clear_saw v next (ref_of d) saw.0 saw.1 rest.clear;
-        over = over_same v next saw.1.keeps.worker saw.1.keeps.notes h.control.knows.sound.one_result rest saw.1.opened;
+        over = over_same v next saw.1.keeps.worker saw.1.keeps.facts h.control.knows.sound.one_result rest saw.1.opened;
       }

@@ -2,7 +2,7 @@
 use Rattle.std.specs.Prelude.{◌≡◌, ◌≢◌, ℕ, ◌<◌, ◌≤◌, List, length}
 use Rattle.rh_layout.specs.declared.entry.Entry.{Entry}
 use Rattle.rh_world.specs.World.{World, In}
-use Rattle.rh_world.specs.Notes.{IsPrefix, Note}
+use Rattle.rh_world.specs.Facts.{IsPrefix, Fact}
 use Rattle.rh_world.specs.Sides.{KeptRead, Side}
 use Rattle.rh_world.specs.Acts.{cells_after}
 use Rattle.rh_descriptor.specs.declared.shape.Shape.{Shape}
@@ -29,5 +29,5 @@ pub record HasFailedSo (w : World) (side : ℕ → Side) (es : List Entry) (v : 
 abbrev pub FailuresTell : Type 0
 FailuresTell = (w : World) (z : Shape) (keep : ℕ → View) (side : ℕ → Side) (told : Told w z keep side) (es : List Entry) (v next : View) (e : ℕ)
     → v.worker < z.workers → Knows z v → next.worker ≡ v.worker → RestSpec es v next (ended.Failed e)
-    → ((n : Note) → In n next.side.notes → In n (keep v.worker).side.notes) → In (next_desc v es) (keep v.worker).opened
+    → ((n : Fact) → In n next.side.facts → In n (keep v.worker).side.facts) → In (next_desc v es) (keep v.worker).opened
     → HasFailedSo w side es v e (told.foretold.failed_acts (own_ref v v.next_number))

@@ -1,7 +1,7 @@
 -- What a read says of the acts of all workers.
 use Rattle.std.specs.Prelude.{◌≡◌, ℕ, ◌<◌, ◌≤◌, Some, List, ◌∷◌, ◌++◌, map}
 use Rattle.rh_world.specs.World.{World, In}
-use Rattle.rh_world.specs.Notes.{IsPrefix}
+use Rattle.rh_world.specs.Facts.{IsPrefix}
 use Rattle.rh_world.specs.Sides.{KeptRead, Side}
 use Rattle.rh_world.specs.Acts.{cells_after}
 use Rattle.rh_descriptor.specs.declared.shape.Shape.{Shape}

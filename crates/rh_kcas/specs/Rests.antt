@@ -1,6 +1,6 @@
 -- A seat of one worker that rests at its table.
 use Rattle.rh_world.specs.World.{Control, In}
-use Rattle.rh_world.specs.Notes.Note.{decided}
+use Rattle.rh_world.specs.Facts.Fact.{decided}
 use Rattle.rh_descriptor.specs.View.{OwnDesc, View, own_ref}
 use Rattle.rh_helping.specs.Goal.{IsClear}
 use Rattle.rh_rdcss.specs.Calls.{IsHere, view_of}
@@ -11,7 +11,7 @@ use Rattle.rh_steps.specs.Relies.{Knows}
 -- no own descriptor is open, nothing is owed, and of each own descriptor it is noted how it was decided
 pub record IsRested (v : View) : Type 0 where
   pub clear : IsClear v
-  pub over : (o : OwnDesc) → In o v.opened → (k : Control) × In (decided (own_ref v o.number) k) v.side.notes
+  pub over : (o : OwnDesc) → In o v.opened → (k : Control) × In (decided (own_ref v o.number) k) v.side.facts
 
 pub record Rests (t : Table) (s : Seat) : Type 0 where
   pub here : IsHere t s

@@ -4,8 +4,8 @@ use Rattle.rh_layout.specs.declared.entry.Entry.{Entry}
 use Rattle.rh_tagword.specs.Control.{is_decided}
 use Rattle.rh_tagword.specs.declared.control.State.{State}
 use Rattle.rh_world.specs.World.{In, Ref, Control as Result}
-use Rattle.rh_world.specs.Notes.{Note}
-use Rattle.rh_world.specs.Notes.Note.{decided, over}
+use Rattle.rh_world.specs.Facts.{Fact}
+use Rattle.rh_world.specs.Facts.Fact.{decided, over}
 use Rattle.rh_descriptor.specs.declared.shape.Shape.{Shape}
 use Rattle.rh_descriptor.specs.View.{OwnDesc, View, own_ref}
 use Rattle.rh_descriptor.specs.Steps.{Step, noted}
@@ -24,7 +24,7 @@ use Rattle.rh_kcas.specs.declared.swapping.Outcome.TheVariants.{Done, Failed, Sp
 pub record HasNoted (v next : View) : Type 0 where
   pub worker : next.worker ≡ v.worker
   pub opening : next.opening ≡ v.opening
-  pub notes : (n : Note) → In n v.side.notes → In n next.side.notes
+  pub facts : (n : Fact) → In n v.side.facts → In n next.side.facts
   pub opened : next.opened ≡ v.opened
   pub next_number : next.next_number ≡ v.next_number
   pub reads : next.side.reads ≡ v.side.reads
@@ -36,7 +36,7 @@ pub record HasNoted (v next : View) : Type 0 where
 pub record HasOpened (v : View) (own : OwnDesc) (next : View) : Type 0 where
   pub worker : next.worker ≡ v.worker
   pub opening : next.opening ≡ v.opening
-  pub notes : (n : Note) → In n v.side.notes → In n next.side.notes
+  pub facts : (n : Fact) → In n v.side.facts → In n next.side.facts
   pub opened : next.opened ≡ own ∷ v.opened
   pub next_number : next.next_number ≡ suc v.next_number
   pub reads : next.side.reads ≡ v.side.reads
@@ -75,7 +75,7 @@ BecameOf z es v next Spent = HasNoRoom z v next × HasGivenUp es v next × (made
 pub record Swaps (z : Shape) (es : List Entry) (v next : View) (o : Outcome) : Type 0 where
   pub became : BecameOf z es v next o
   pub opening : next.opening ≡ v.opening
-  pub notes : (n : Note) → In n v.side.notes → In n next.side.notes
+  pub facts : (n : Fact) → In n v.side.facts → In n next.side.facts
   pub reads : next.side.reads ≡ v.side.reads
   pub claims : next.side.claims ≡ v.side.claims
 
@@ -83,8 +83,8 @@ pub record Swaps (z : Shape) (es : List Entry) (v next : View) (o : Outcome) : T
 
 -- d stands so, or is decided, as its worker has gone on
 abbrev pub IsTold : View → (d : Ref) → Option State → Type 0
-IsTold v d None = In (over d) v.side.notes
-IsTold v d (Some k) = StandsAt v.side.notes d k 0
+IsTold v d None = In (over d) v.side.facts
+IsTold v d (Some k) = StandsAt v.side.facts d k 0
 
 abbrev pub is_over : Option State → Bool
 is_over None = true
@@ -92,7 +92,7 @@ is_over (Some k) = is_decided k
 
 -- it is noted as decided, so or in some way
 abbrev pub IsNotedOver : View → (d : Ref) → Type 0
-IsNotedOver v d = ((k : Result) × In (decided d k) v.side.notes) ⊎ In (over d) v.side.notes
+IsNotedOver v d = ((k : Result) × In (decided d k) v.side.facts) ⊎ In (over d) v.side.facts
 
 -- the descriptor is noted as decided, or no mark is left; the own acts are the same
 pub record HasHelped (z : Shape) (d : Ref) (v next : View) : Type 0 where
@@ -110,7 +110,7 @@ pub record HasRead (z : Shape) (c : ℕ) (v next : View) (seen : Option ℕ) : T
   pub seen_is : IsSeen z c v next seen
   pub worker : next.worker ≡ v.worker
   pub opening : next.opening ≡ v.opening
-  pub notes : (n : Note) → In n v.side.notes → In n next.side.notes
+  pub facts : (n : Fact) → In n v.side.facts → In n next.side.facts
   pub opened : next.opened ≡ v.opened
   pub next_number : next.next_number ≡ v.next_number
   pub claims : next.side.claims ≡ v.side.claims

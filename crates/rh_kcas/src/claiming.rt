@@ -6,7 +6,7 @@ ghost use Rattle.rh_kcas.specs.Swaps.{Claims};
 ghost use Rattle.rh_rdcss.specs.Calls.{IsSame, view_of};
 ghost use Rattle.rh_world.specs.World.{In};
 
-use rh_descriptor::Ask;
+use rh_descriptor::Request;
 use rh_rdcss::{OnTable, Seat, Table};
 use rh_steps::Steps;
 
@@ -22,7 +22,7 @@ pub fn claim(table: &Table, seat: &mut Seat) -> Option<u64>
         table,
         seat: &mut seat.inner,
     };
-    let position = here.make(&table.shape, &mut seat.side, Ask::Claim);
+    let position = here.make(&table.shape, &mut seat.side, Request::Claim);
     if position < table.shape.keys {
         Some(position)
     } else {

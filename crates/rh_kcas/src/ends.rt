@@ -10,7 +10,7 @@ ghost use Rattle.rh_tagword.specs.Word.{IsValue, plain_number};
 
 use rh_descriptor::{Shape, Side};
 use rh_rdcss::{Seat, Table};
-use rh_rule::Opening;
+use rh_rule::TableKey;
 use rh_tagword::{plain_value, plain_word};
 use std::alloc::{AllocError, Global};
 use std::snapshot::Snapshot;
@@ -31,7 +31,7 @@ pub fn make(alloc: Global, shape: Shape, cells: &[u64]) -> Result<(Table, Seat),
 {
     let room = shape.words();
     let mut words = plain_words(alloc, room, cells)?;
-    let opening = Opening {
+    let opening = TableKey {
         shape,
         cells: Snapshot::of(&words),
     };

@@ -11,7 +11,7 @@ ghost use Rattle.rh_rdcss.specs.Sits.{Sits, Stays};
 ghost use Rattle.rh_rule.specs.Rest.{made};
 ghost use Rattle.rh_steps.specs.Relies.{Trusts};
 
-use rh_descriptor::{Ask, Reading, Ref, Shape, Side};
+use rh_descriptor::{Reading, Ref, Request, Shape, Side};
 use rh_helping::{Machine, Progress, state_told};
 use rh_rdcss::{OnTable, Seat, Table};
 use rh_steps::Steps;
@@ -22,7 +22,7 @@ use std::sync::Wait;
 /// decided. The seat owes nothing for it then.
 pub fn help<R: Wait>(rt: &R, table: &Table, seat: &mut Seat, desc: Ref)
     requires rests { Rests table.now seat.old }
-    requires known { IsKnown (view_of seat.old).side.notes (ref_of desc) }
+    requires known { IsKnown (view_of seat.old).side.facts (ref_of desc) }
     ensures rests { Rests table.now seat.new }
     ensures same { IsSame seat.old seat.new }
     ensures acts { made (view_of seat.new) ≡ made (view_of seat.old) }
@@ -38,7 +38,7 @@ pub fn help<R: Wait>(rt: &R, table: &Table, seat: &mut Seat, desc: Ref)
 fn go_about<R: Wait>(rt: &R, shape: &Shape, here: &mut OnTable, side: &mut Side, desc: Ref)
     requires trusts { Trusts Sits shape.now here.old side.old.known.view }
     requires clear { IsClear side.old.known.view }
-    requires known { IsKnown side.old.known.view.side.notes (ref_of desc) }
+    requires known { IsKnown side.old.known.view.side.facts (ref_of desc) }
     ensures trusts { Trusts Sits shape.now here.new side.new.known.view }
     ensures clear { IsClear side.new.known.view }
     ensures stays { Stays here.old here.new }
@@ -67,14 +67,14 @@ fn go_about<R: Wait>(rt: &R, shape: &Shape, here: &mut OnTable, side: &mut Side,
 fn state(shape: &Shape, here: &mut OnTable, side: &mut Side, desc: Ref) -> Option<State>
     requires trusts { Trusts Sits shape.now here.old side.old.known.view }
     requires clear { IsClear side.old.known.view }
-    requires known { IsKnown side.old.known.view.side.notes (ref_of desc) }
+    requires known { IsKnown side.old.known.view.side.facts (ref_of desc) }
     ensures trusts { Trusts Sits shape.now here.new side.new.known.view }
     ensures clear { IsClear side.new.known.view }
     ensures stays { Stays here.old here.new }
     ensures told { IsTold side.new.known.view (ref_of desc) result }
-    ensures notes { HasNoted side.old.known.view side.new.known.view }
+    ensures facts { HasNoted side.old.known.view side.new.known.view }
 {
-    let word = here.make(shape, side, Ask::Read(Reading::Control(desc)));
+    let word = here.make(shape, side, Request::Read(Reading::Control(desc)));
     state_told(desc, word)
 }
 

@@ -93,7 +93,7 @@ fn measure(
 }
 
 /// A table of cells that all hold nought, with the seat of as many workers as a table may have, of whom
-/// most rest: each has a note for each of them, so the words that one worker writes lie two lines of a
+/// most rest: each has a reason for each of them, so the words that one worker writes lie two lines of a
 /// cache from those of the next.
 fn empty_table(alloc: Global) -> Result<(Table, Seat), AllocError>
     ensures workers { IfOk result (λ r. r.0.shape.workers ≡ MAX_WORKERS) }

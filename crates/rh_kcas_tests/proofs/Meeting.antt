@@ -11,6 +11,6 @@ use Rattle.rh_rdcss.specs.Placing.{MayPlace}
 pub may_on : (z : Shape) (v next : View) (d : Reference) → HasNoted v next → IsClear next → MayPlace z v d → MayPlace z next d
 may_on z v next d n clear h = record {
   desc = h.desc;
-  seen = seen_sub v.side.notes next.side.notes n.notes (ref_of d) h.seen;
+  seen = seen_sub v.side.facts next.side.facts n.facts (ref_of d) h.seen;
   settled = clear.owes.settled;
 }

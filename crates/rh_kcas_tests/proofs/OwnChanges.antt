@@ -3,7 +3,7 @@ use Rattle.std.proofs.Common.{◌≡◌, ◌≢◌, ℕ, zero, suc, ◌<◌, ◌
 use Rattle.rh_layout.specs.declared.entry.Entry.{Entry}
 use Rattle.rh_world.specs.World.{Control, In, Ref, World}
 use Rattle.rh_world.specs.World.Control.{failed, succeeded, undecided, unused, withdrawn}
-use Rattle.rh_world.specs.Notes.Note.{decided}
+use Rattle.rh_world.specs.Facts.Fact.{decided}
 use Rattle.rh_world.specs.Sides.{Side}
 use Rattle.rh_world.specs.Acts.{cells_after, is_success, own_acts, successes_of}
 use Rattle.rh_world.specs.Logical.{changed_by}
@@ -74,7 +74,7 @@ module _ (w : World) (z : Shape) (keep : ℕ → View) (side : ℕ → Side) (to
       subst (λ (n : ℕ). n < u.next_number) (sym o.2) (knows.sound.numbers (own_ref u o.0.number) refl (inl (inl all.known)))
 
   module _ (es : List Entry) (number : ℕ) (older : List OwnDesc) (newest : u.opened ≡ record { number = number; entries = es } ∷ older)
-      (done : In (decided (own_ref u number) succeeded) u.side.notes) where
+      (done : In (decided (own_ref u number) succeeded) u.side.facts) where
     abbrev d : Ref
     d = own_ref u number
 
@@ -82,7 +82,7 @@ module _ (w : World) (z : Shape) (keep : ℕ → View) (side : ℕ → Side) (to
     newest_one = record { number = number; entries = es }
 
     succeeds : is_success (w.control d) ≡ true
-    succeeds = is_succeeded (w.control d) (told.results u.worker d succeeded knows.worker (subst (λ (v : View). In (decided d succeeded) v.side.notes) (sym now) done))
+    succeeds = is_succeeded (w.control d) (told.results u.worker d succeeded knows.worker (subst (λ (v : View). In (decided d succeeded) v.side.facts) (sym now) done))
 
     acts_are : own_acts w u.worker w.act_count ≡ number ∷ successes_of w u.worker (numbers_of older)
     acts_are = own ∙ ap (λ (os : List OwnDesc). successes_of w u.worker (numbers_of os)) newest
@@ -143,7 +143,7 @@ read_back z alone es fits e within v0 v1 v2 knows rest swaps tells (Some word) r
     let so = tells w z keep side told (entry_of es e).cell word v1 v2 [] (subst (λ (u : ℕ). u < z.workers) read.worker knows.worker) read
     (ap (λ (u : ℕ). (keep u).side.reads) same ∙ ap (λ (v : View). v.side.reads) now) in
     let spec : RestSpec es v0 v1 Succeeded = swaps.became.0 in
-    let done : In (decided (own_ref v2 v0.next_number) succeeded) v2.side.notes =
-    subst (λ (u : ℕ). In (decided (record { worker = u; number = v0.next_number }) succeeded) v2.side.notes) same (read.notes _ spec.result) in
+    let done : In (decided (own_ref v2 v0.next_number) succeeded) v2.side.facts =
+    subst (λ (u : ℕ). In (decided (record { worker = u; number = v0.next_number }) succeeded) v2.side.facts) same (read.facts _ spec.result) in
     reads_back w z keep side told alone v2 now knows rest es v0.next_number v0.opened (read.opened ∙ spec.opened) done fits e within word so.acts so.prefix.within
     (λ i from less mine. let p = so.prefix.high i from less (mine ∙ sym same) in let q = read.next_number in omega (arith, p, q)) so.holds

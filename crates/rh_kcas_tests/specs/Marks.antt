@@ -1,7 +1,7 @@
 -- Workers that make single calls with marks.
 use Rattle.std.specs.Prelude.{◌≡◌, ℕ, None}
 use Rattle.rh_world.specs.World.{In}
-use Rattle.rh_world.specs.Notes.Note.{found}
+use Rattle.rh_world.specs.Facts.Fact.{found}
 use Rattle.rh_descriptor.specs.declared.reference.Ref.{Ref}
 use Rattle.rh_descriptor.specs.Words.{ref_of}
 use Rattle.rh_rdcss.specs.Calls.{IsHere, view_of}
@@ -32,5 +32,5 @@ pub record HasPlaced (t : Table) (s : Seat) (d : Ref) (e : ℕ) : Type 0 where
 pub record HasFound (t : Table) (s : Seat) (mark : Ref) (c : ℕ) : Type 0 where
   pub here : IsHere t s
   pub knows : Knows t.shape (view_of s)
-  pub here_is : In (found (ref_of mark) c) (view_of s).side.notes
+  pub here_is : In (found (ref_of mark) c) (view_of s).side.facts
   pub foreign : mark.worker ≡ (view_of s).worker → ⊥

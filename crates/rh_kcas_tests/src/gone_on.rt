@@ -33,7 +33,7 @@ fn meet<R: Abort>(rt: &R, table: &Table, seat: &mut Seat, cell: usize) -> Ref
 fn found<R: Abort>(rt: &R, table: &Table, seat: &mut Seat, cell: usize) -> Ref
     requires { Rests table.now seat.old }
     ensures rests { Rests table.now seat.new }
-    ensures known { IsKnown (view_of seat.new).side.notes (ref_of result) }
+    ensures known { IsKnown (view_of seat.new).side.facts (ref_of result) }
 {
     assert!(rt; cell < table.shape.cells());
     let word = peek_cell(table, seat, cell);
@@ -42,7 +42,7 @@ fn found<R: Abort>(rt: &R, table: &Table, seat: &mut Seat, cell: usize) -> Ref
 
 fn is_undecided(table: &Table, seat: &mut Seat, desc: Ref) -> bool
     requires rests { Rests table.now seat.old }
-    requires known { IsKnown (view_of seat.old).side.notes (ref_of desc) }
+    requires known { IsKnown (view_of seat.old).side.facts (ref_of desc) }
     ensures { IsTrue result → HasMet table.now seat.new desc }
 {
     let Some(State::Undecided) = status(table, seat, desc) else {

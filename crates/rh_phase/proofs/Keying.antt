@@ -50,7 +50,7 @@ acts_of_made ds = reverse (map (λ o. act_of o.entries) ds)
 
 -- its own acts are those that are noted as succeeded
 own_made : (v : View) → IsRested v → own_acts_of v ≡ acts_of_made (made v)
-own_made v rest = ap (λ (c : Option ℕ). acts_of_made (filter (λ o. not (is_current c o.number) && is_noted_success v.side.notes (own_ref v o.number)) v.opened)) rest.clear.own.current
+own_made v rest = ap (λ (c : Option ℕ). acts_of_made (filter (λ o. not (is_current c o.number) && is_noted_success v.side.facts (own_ref v o.number)) v.opened)) rest.clear.own.current
 
 pub own_same : (v next : View) → IsRested v → IsRested next → made next ≡ made v → own_acts_of next ≡ own_acts_of v
 own_same v next a b same = own_made next b ∙ ap acts_of_made same ∙ sym (own_made v a)

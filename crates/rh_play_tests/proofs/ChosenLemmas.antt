@@ -1,19 +1,19 @@
--- What is chosen for the Write of a note allows it.
+-- What is chosen for the Write of a reason allows it.
 use Rattle.std.proofs.Common.{ℕ, inl, inr, [], ◌∷◌, refl}
 use Rattle.rh_world.specs.World.{Ref, Control, In}
-use Rattle.rh_world.specs.Notes.Note.{decided, mismatch}
-use Rattle.rh_descriptor.specs.Steps.{MayNote}
-use Rattle.rh_descriptor.specs.declared.shape.Part.TheVariants.{Note}
+use Rattle.rh_world.specs.Facts.Fact.{decided, mismatch}
+use Rattle.rh_descriptor.specs.Steps.{MayGiveReason}
+use Rattle.rh_descriptor.specs.declared.shape.Part.TheVariants.{Reason}
 use Rattle.rh_descriptor.specs.declared.shape.Shape.{Shape}
-use Rattle.rh_descriptor.specs.declared.steps.Ask.TheVariants.{Write}
+use Rattle.rh_descriptor.specs.declared.steps.Request.TheVariants.{Write}
 use Rattle.rh_play_tests.specs.Chosen.{chosen}
 
 none_decided : (d r : Ref) (k : Control) → In (decided d k) (mismatch r 0 0 ∷ []) → ⊥
 none_decided d r k (inl same) = cc
 none_decided d r k (inr none) = none
 
-pub may_note : (z : Shape) (who owner word : ℕ) → MayNote (chosen z who 0 0 0 (Write (Note who owner) word)) owner
-may_note z who owner word = record {
+pub may_give_reason : (z : Shape) (who owner word : ℕ) → MayGiveReason (chosen z who 0 0 0 (Write (Fact who owner) word)) owner
+may_give_reason z who owner word = record {
   desc = record { worker = owner; number = 0 };
   entry = 0;
   of_owner = refl;

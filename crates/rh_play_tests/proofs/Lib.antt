@@ -1,2 +1,2 @@
--- ChosenLemmas: what is chosen for a note allows it.
+-- ChosenLemmas: what is chosen for a reason allows it.
 pub mod ChosenLemmas

@@ -2,8 +2,8 @@
 -- step, and for contracts alone.
 use Rattle.std.specs.Prelude.{ℕ, ◌+◌, List, [], ◌∷◌, Option, Some, None}
 use Rattle.rh_world.specs.World.{Ref}
-use Rattle.rh_world.specs.Notes.{Note}
-use Rattle.rh_world.specs.Notes.Note.{known, size_is, target_is, old_is, desc_is, which_is, over, passed, found, may_promote, may_demote, mismatch}
+use Rattle.rh_world.specs.Facts.{Fact}
+use Rattle.rh_world.specs.Facts.Fact.{known, size_is, target_is, old_is, desc_is, which_is, over, passed, found, may_promote, may_demote, mismatch}
 use Rattle.rh_world.specs.Sides.{new_side}
 use Rattle.rh_descriptor.specs.Parts.{mark_row}
 use Rattle.rh_descriptor.specs.View.{View, Written, new_view}
@@ -11,11 +11,11 @@ use Rattle.rh_descriptor.specs.Words.{desc_number, ref_of}
 use Rattle.rh_descriptor.specs.declared.shape.Part.{Part}
 use Rattle.rh_descriptor.specs.declared.shape.Part.TheVariants as part
 use Rattle.rh_descriptor.specs.declared.shape.Shape.{Shape}
-use Rattle.rh_descriptor.specs.declared.steps.Ask.{Ask}
-use Rattle.rh_descriptor.specs.declared.steps.Ask.TheVariants as ask
+use Rattle.rh_descriptor.specs.declared.steps.Request.{Request}
+use Rattle.rh_descriptor.specs.declared.steps.Request.TheVariants as ask
 
--- an entry at which the first descriptor of a note's owner failed
-abbrev pub write_notes : Part → List Note
+-- an entry at which the first descriptor of a reason's owner failed
+abbrev pub write_notes : Part → List Fact
 write_notes (part.Cell c) = []
 write_notes (part.Control worker) = []
 write_notes (part.Serial worker) = []
@@ -26,15 +26,15 @@ write_notes (part.EntryNew worker entry) = []
 write_notes (part.MarkSerial worker) = []
 write_notes (part.MarkDesc worker) = []
 write_notes (part.MarkEntry worker) = []
-write_notes (part.Note worker owner) = mismatch (record { worker = owner; number = 0 }) 0 0 ∷ []
+write_notes (part.Reason worker owner) = mismatch (record { worker = owner; number = 0 }) 0 0 ∷ []
 write_notes part.Counter = []
 
 -- what it takes to swap a mark to this value, or to its descriptor
-abbrev pub settle_notes : (x d : Ref) → (e c : ℕ) → Option ℕ → List Note
+abbrev pub settle_notes : (x d : Ref) → (e c : ℕ) → Option ℕ → List Fact
 settle_notes x d e c None = found x c ∷ desc_is x d ∷ which_is x e ∷ may_promote x c ∷ []
 settle_notes x d e c (Some old) = found x c ∷ desc_is x d ∷ which_is x e ∷ may_demote x ∷ old_is d e old ∷ []
 
-abbrev pub notes_for : Ask → List Note
+abbrev pub notes_for : Request → List Fact
 notes_for (ask.Write p word) = write_notes p
 notes_for (ask.Open size) = []
 notes_for (ask.Read r) = []
@@ -49,7 +49,7 @@ notes_for (ask.Release p state value) =
 notes_for ask.Claim = []
 
 -- the words of its rows: of the next descriptor, with an entry, or of the next mark
-abbrev pub written_for : Shape → (next_number marks_used : ℕ) → Ask → List Written
+abbrev pub written_for : Shape → (next_number marks_used : ℕ) → Request → List Written
 written_for z next_number marks_used (ask.Write p word) = []
 written_for z next_number marks_used (ask.Open size) =
     record { row = 1; word = next_number } ∷ record { row = 2; word = 1 } ∷ []
@@ -62,9 +62,9 @@ written_for z next_number marks_used (ask.Decide d state) = []
 written_for z next_number marks_used (ask.Release p state value) = []
 written_for z next_number marks_used ask.Claim = []
 
-abbrev pub chosen : Shape → (worker next_number control marks_used : ℕ) → Ask → View
+abbrev pub chosen : Shape → (worker next_number control marks_used : ℕ) → Request → View
 chosen z worker next_number control marks_used asked = record (new_view [] worker) {
-  side = record new_side { notes = notes_for asked };
+  side = record new_side { facts = notes_for asked };
   next_number = next_number;
   control = control;
   marks_used = marks_used;

@@ -61,7 +61,7 @@ fn steps_are_told(rt: HostRuntime) -> Result<(), Fail> {
             3,
             StepKind::Write,
             touched(
-                Part::Note {
+                Part::Reason {
                     worker: 3,
                     owner: 2,
                 },

@@ -5,12 +5,12 @@
 ghost use Rattle.std.specs.Prelude.{◌≡◌, ◌<◌, IfSome, IsTrue, length};
 ghost use Rattle.rh_descriptor.specs.Parts.{IsPart, word_count};
 ghost use Rattle.rh_descriptor.specs.Steps.{IsFree};
-ghost use Rattle.rh_descriptor.specs.declared.steps.Ask.TheVariants.{Write};
+ghost use Rattle.rh_descriptor.specs.declared.steps.Request.TheVariants.{Write};
 ghost use Rattle.rh_play_tests.specs.Chosen.{chosen};
 ghost use Rattle.rh_play_tests.specs.declared.tracing.TheConstants.{SHAPE};
 
 use rh_descriptor::{
-    Ask, First, Known, Part, Piece, Reading, Ref, Rooms, Shape, Side, StepKind, claim_key,
+    First, Known, Part, Piece, Reading, Ref, Request, Rooms, Shape, Side, StepKind, claim_key,
     decide_desc, open_desc, place_mark, read_word, release_cell, settle_mark, write_word,
 };
 use rh_ledger::Kind;
@@ -45,13 +45,13 @@ const PLAYS: u64 = 30;
 
 struct Chosen;
 
-impl First<(usize, u64, u64, u64, Ask)> for Chosen {
+impl First<(usize, u64, u64, u64, Request)> for Chosen {
     ghost first = { λ a. chosen SHAPE a.0 a.1 a.2 a.3 a.4 };
 }
 
 /// A worker that counts and knows what it takes to make this step. What its worker knew, a trace does
 /// not tell.
-fn side_for(worker: usize, next_number: u64, control: u64, marks_used: u64, ask: Ask) -> Side
+fn side_for(worker: usize, next_number: u64, control: u64, marks_used: u64, ask: Request) -> Side
     ensures { result.known.view ≡ chosen SHAPE worker next_number control marks_used ask }
 {
     Side {
@@ -59,7 +59,7 @@ fn side_for(worker: usize, next_number: u64, control: u64, marks_used: u64, ask:
         next_number,
         control,
         marks_used,
-        known: Known::start::<Chosen, (usize, u64, u64, u64, Ask)>(&(
+        known: Known::start::<Chosen, (usize, u64, u64, u64, Request)>(&(
             worker,
             next_number,
             control,
@@ -86,7 +86,7 @@ fn has_part(part: Part) -> bool
         Part::EntryCell { worker, entry }
         | Part::EntryOld { worker, entry }
         | Part::EntryNew { worker, entry } => worker < WORKERS && entry < CELLS,
-        Part::Note { worker, owner } => worker < WORKERS && owner < WORKERS,
+        Part::Reason { worker, owner } => worker < WORKERS && owner < WORKERS,
         Part::Counter => true,
     }
 }
@@ -180,8 +180,14 @@ fn write_again(words: &mut [u64], who: usize, part: Part, word: u64) -> bool
                 word,
             )
         }
-        Part::Note { worker, owner } if worker == who && owner < 3 => {
-            write_own(words, who, (0, 0), Part::Note { worker: who, owner }, word)
+        Part::Reason { worker, owner } if worker == who && owner < 3 => {
+            write_own(
+                words,
+                who,
+                (0, 0),
+                Part::Reason { worker: who, owner },
+                word,
+            )
         }
         _ => write_row(words, who, part, word),
     }
@@ -251,7 +257,7 @@ fn write_own(words: &mut [u64], who: usize, numbers: (u64, u64), part: Part, wor
     requires free { IsFree SHAPE (chosen SHAPE who numbers.0 0 numbers.1 (Write part word)) part word }
     ensures { length words.new ≡ length words.old }
 {
-    let mut side = side_for(who, numbers.0, 0, numbers.1, Ask::Write { part, word });
+    let mut side = side_for(who, numbers.0, 0, numbers.1, Request::Write { part, word });
     write_word(&SHAPE, words, &mut side, part, word);
     true
 }
@@ -272,7 +278,7 @@ fn open_again(words: &mut [u64], who: usize) -> bool
     if number >= 2 {
         return false;
     }
-    let mut side = side_for(who, number, control, 0, Ask::Open { entries: 1 });
+    let mut side = side_for(who, number, control, 0, Request::Open { entries: 1 });
     open_desc(&SHAPE, words, &mut side, 1);
     true
 }
@@ -282,7 +288,7 @@ fn claim_again(words: &mut [u64], who: usize) -> bool
     requires sized { length words.old ≡ word_count SHAPE }
     ensures { length words.new ≡ length words.old }
 {
-    let mut side = side_for(who, 0, 0, 0, Ask::Claim);
+    let mut side = side_for(who, 0, 0, 0, Request::Claim);
     claim_key(&SHAPE, words, &mut side);
     true
 }
@@ -296,7 +302,7 @@ fn read_again(words: &mut [u64], who: usize, part: Part) -> bool
         return false;
     }
     let reading = Reading::Word(SHAPE.index(part));
-    let mut side = side_for(who, 0, 0, 0, Ask::Read(reading));
+    let mut side = side_for(who, 0, 0, 0, Request::Read(reading));
     read_word(&SHAPE, words, &mut side, reading);
     true
 }
@@ -326,7 +332,7 @@ fn place_again(words: &mut [u64], who: usize, cell: usize, touched: Touched) -> 
         return touched.left == touched.found;
     };
     let piece = Piece { desc, entry, cell };
-    let mut side = side_for(who, 0, 0, number, Ask::Place { piece, old });
+    let mut side = side_for(who, 0, 0, number, Request::Place { piece, old });
     place_mark(&SHAPE, words, &mut side, piece, old);
     true
 }
@@ -367,7 +373,7 @@ fn settle_again(words: &mut [u64], who: usize, cell: usize, touched: Touched) ->
         _ => Some(old_of(words, desc, entry).unwrap_or(touched.left)),
     };
     let piece = Piece { desc, entry, cell };
-    let mut side = side_for(who, 0, 0, 0, Ask::Settle { mark, piece, old });
+    let mut side = side_for(who, 0, 0, 0, Request::Settle { mark, piece, old });
     settle_mark(&SHAPE, words, &mut side, mark, piece, old);
     true
 }
@@ -398,7 +404,7 @@ fn decide_again(words: &mut [u64], who: usize, owner: usize, touched: Touched) -
         worker: owner,
         number,
     };
-    let mut side = side_for(who, 0, 0, 8, Ask::Decide { desc, state });
+    let mut side = side_for(who, 0, 0, 8, Request::Decide { desc, state });
     decide_desc(&SHAPE, words, &mut side, desc, state);
     true
 }
@@ -421,7 +427,7 @@ fn release_again(words: &mut [u64], who: usize, cell: usize, touched: Touched) -
     }
     let (entry, value) = released_of(words, desc, cell).unwrap_or((0, touched.left));
     let piece = Piece { desc, entry, cell };
-    let ask = Ask::Release {
+    let ask = Request::Release {
         piece,
         state: None,
         value,

@@ -1,6 +1,6 @@
 -- The length of a descriptor and the words of an entry are read in its row, and then the entry is known.
 use Rattle.std.proofs.Common.{ℕ, ◌<◌, Some, refl, sym, subst, inl, inr, ap, ◌∙◌, arith}
-use Rattle.rh_world.specs.Notes.Note.{size_is}
+use Rattle.rh_world.specs.Facts.Fact.{size_is}
 use Rattle.rh_descriptor.specs.declared.shape.Shape.{Shape}
 use Rattle.rh_descriptor.specs.declared.reference.Piece.{Piece}
 use Rattle.rh_descriptor.specs.declared.reference.Ref.{Ref as Reference}
@@ -26,14 +26,14 @@ use Rattle.rh_rdcss.specs.declared.calls.Placed.TheVariants as placed
 may_grows : (z : Shape) (v next : View) (d : Reference) → Grows v next → MayPlace z v d → MayPlace z next d
 may_grows z v next d g h = record {
   desc = h.desc;
-  seen = seen_sub v.side.notes next.side.notes g.notes (ref_of d) h.seen;
+  seen = seen_sub v.side.facts next.side.facts g.facts (ref_of d) h.seen;
   settled = g.unsettled ∙ h.settled;
 }
 
 has_grows : (z : Shape) (v next : View) (d : Reference) (e : ℕ) → Grows v next → HasEntry z v d e → HasEntry z next d e
 has_grows z v next d e g h = record {
   may = may_grows z v next d g h.may;
-  work = record { size = h.work.size; known = g.notes (size_is (ref_of d) h.work.size) h.work.known; within = h.work.within };
+  work = record { size = h.work.size; known = g.facts (size_is (ref_of d) h.work.size) h.work.known; within = h.work.within };
 }
 
 -- ---- its length

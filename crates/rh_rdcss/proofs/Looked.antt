@@ -13,7 +13,7 @@ use Rattle.rh_descriptor.specs.Steps.{control_read, gone_noted, is_known}
 use Rattle.rh_descriptor.specs.Words.{control_of, read_control, serial_in}
 use Rattle.rh_rdcss.specs.Calls.{Meets, SeenAs, status_said}
 
-pub meets : (s : Side) (c : ℕ) (k : Cell) (current : Option ℕ) (acts next : ℕ) → Meets c k (cell_noted s c k current acts next).notes
+pub meets : (s : Side) (c : ℕ) (k : Cell) (current : Option ℕ) (acts next : ℕ) → Meets c k (cell_noted s c k current acts next).facts
 meets s c (plain u) current acts next = tt
 meets s c (mark x) current acts next = inl refl
 meets s c (desc d) current acts next = inl refl
@@ -25,7 +25,7 @@ said_is k r opened true same e = absurd (opened (let q : k ≡ unused = cc in q)
 said_is k r opened false true e = (refl, (let q : k ≡ r = cc in sym q))
 said_is k r opened false false e = cc
 
-seen : (s : Side) (d : Ref) (k : Control) → k ≢ unused → HasSeen (control_noted s d k).notes d
+seen : (s : Side) (d : Ref) (k : Control) → k ≢ unused → HasSeen (control_noted s d k).facts d
 seen s d unused opened = absurd (opened refl)
 seen s d undecided opened = inl (inl refl)
 seen s d succeeded opened = inr (succeeded, inl refl)
@@ -40,14 +40,14 @@ control_settles_none s d withdrawn = refl
 control_settles_none s d (failed e by) = refl
 
 module _ (s : Side) (d : Ref) (word : ℕ) where
-  read_seen : (k : Control) → k ≢ unused → Some k ≡ status_said d.number word → HasSeen (control_read s d word).notes d
+  read_seen : (k : Control) → k ≢ unused → Some k ≡ status_said d.number word → HasSeen (control_read s d word).facts d
   read_seen k opened e =
       let q = said_is k (read_control word) opened (nat_lt (serial_in word) d.number) (eqb (serial_in word) d.number) e in
-      subst (λ (t : Side). HasSeen t.notes d)
-      (sym (ap (λ (b : Bool). cond b (control_noted s d (read_control word)) (cond (is_known s.notes d) (gone_noted s d) s)) q.0))
-      (subst (λ (r : Control). HasSeen (control_noted s d r).notes d) (sym q.1) (seen s d k opened))
+      subst (λ (t : Side). HasSeen t.facts d)
+      (sym (ap (λ (b : Bool). cond b (control_noted s d (read_control word)) (cond (is_known s.facts d) (gone_noted s d) s)) q.0))
+      (subst (λ (r : Control). HasSeen (control_noted s d r).facts d) (sym q.1) (seen s d k opened))
 
-  pub seen_as : (k : Option State) → option_map control_of k ≡ status_said d.number word → SeenAs d k (control_read s d word).notes
+  pub seen_as : (k : Option State) → option_map control_of k ≡ status_said d.number word → SeenAs d k (control_read s d word).facts
   seen_as None e = tt
   seen_as (Some Unused) e = tt
   seen_as (Some Undecided) e = read_seen undecided (λ q. cc) e
@@ -57,4 +57,4 @@ module _ (s : Side) (d : Ref) (word : ℕ) where
 
   pub same_unsettled : (control_read s d word).unsettled ≡ s.unsettled
   same_unsettled = by_cond (λ (t : Side). t.unsettled ≡ s.unsettled) (eqb (serial_in word) d.number) _ _ (λ yes. control_settles_none s d (read_control word))
-      (λ no. by_cond (λ (t : Side). t.unsettled ≡ s.unsettled) (is_known s.notes d) (gone_noted s d) s (λ h. refl) (λ h. refl))
+      (λ no. by_cond (λ (t : Side). t.unsettled ≡ s.unsettled) (is_known s.facts d) (gone_noted s d) s (λ h. refl) (λ h. refl))

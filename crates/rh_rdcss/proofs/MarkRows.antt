@@ -1,7 +1,7 @@
 -- The mark row is written, and then the mark may be placed; and where it stands, its worker keeps for what it is.
 use Rattle.std.proofs.Common.{◌≡◌, ℕ, suc, ◌<◌, ◌∷◌, Some, Bool, cond, eqb, ap, refl, sym, subst, ◌∙◌, inl, inr, eq-eqb}
 use Rattle.rh_world.specs.World.{Cell, In, Ref}
-use Rattle.rh_world.specs.Notes.Note.{desc_is, found, mismatch, which_is}
+use Rattle.rh_world.specs.Facts.Fact.{desc_is, found, mismatch, which_is}
 use Rattle.rh_world.specs.Sides.{Side, note_side}
 use Rattle.rh_world.specs.Moves.{place_noted, placed_noted}
 use Rattle.rh_world.proofs.Updated.{ref_path}
@@ -81,10 +81,10 @@ module _ (z : Shape) (v : View) (p : Piece) (old : ℕ) (knows : Knows z v) (may
         entry = refl;
         worker = worker;
         unsettled = ap Some (sym number);
-        here = subst (λ (y : Ref). In (found y p.cell) there.notes) mine (inl refl);
-        notes = record {
-          of_desc = subst (λ (y : Ref). In (desc_is y d) there.notes) mine (inr (inr (inl refl)));
-          of_entry = subst (λ (y : Ref). In (which_is y p.entry) there.notes) mine (inr (inl refl));
+        here = subst (λ (y : Ref). In (found y p.cell) there.facts) mine (inl refl);
+        facts = record {
+          of_desc = subst (λ (y : Ref). In (desc_is y d) there.facts) mine (inr (inr (inl refl)));
+          of_entry = subst (λ (y : Ref). In (which_is y p.entry) there.facts) mine (inr (inl refl));
           knows_old = inr (inr (inr may.knows_old));
         };
       }))

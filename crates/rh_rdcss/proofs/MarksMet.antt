@@ -6,7 +6,7 @@ use Rattle.rh_tagword.specs.declared.control.State.{State}
 use Rattle.rh_tagword.specs.declared.control.State.TheVariants.{Unused, Undecided, Succeeded, Withdrawn, Failed}
 use Rattle.rh_world.specs.World.{Control, In, Ref}
 use Rattle.rh_world.specs.World.Control.{failed, succeeded, undecided, unused, withdrawn}
-use Rattle.rh_world.specs.Notes.Note.{found, may_demote, old_is}
+use Rattle.rh_world.specs.Facts.Fact.{found, may_demote, old_is}
 use Rattle.rh_world.specs.Sides.{Side, is_number}
 use Rattle.rh_world.specs.Moves.{control_noted, mark_noted, settle_noted}
 use Rattle.rh_world.proofs.Tests.{by_cond}
@@ -35,9 +35,9 @@ use Rattle.rh_rdcss.proofs.Looked.{control_settles_none}
 
 -- ---- the row is read
 
-module _ (z : Shape) (v : View) (x : Reference) (c : ℕ) (here : In (found (ref_of x) c) v.side.notes) where
+module _ (z : Shape) (v : View) (x : Reference) (c : ℕ) (here : In (found (ref_of x) c) v.side.facts) where
   abbrev CellContent : View → Type 0
-  CellContent u = In (found (ref_of x) c) u.side.notes
+  CellContent u = In (found (ref_of x) c) u.side.facts
 
   met_entry : (named : ℕ) (first : View) → Learned z (reads (reading.MarkDesc x)) v named first → CellContent first
   met_entry named first l = subst CellContent (sym l.view_is) here
@@ -71,7 +71,7 @@ module _ (z : Shape) (v : View) (x : Reference) (c : ℕ) (here : In (found (ref
     pub row_tells : (p : Piece) → p.cell ≡ c → p.entry ≡ entry → serial ≡ x.number → desc_in named ≡ Some (ref_of p.desc) → IsFound next x p
     row_tells p at of_entry is names =
         subst (λ (u : View). IsFound u x p) (sym (r.of_serial.view_is ∙ ap (λ (u : View). noted z u (reads (reading.MarkSerial x)) serial) said_is))
-        (serial_tells said x serial p named is names (subst (λ (n : ℕ). In (found (ref_of x) n) v.side.notes) (sym at) here) (inr (inl refl))
+        (serial_tells said x serial p named is names (subst (λ (n : ℕ). In (found (ref_of x) n) v.side.facts) (sym at) here) (inr (inl refl))
         (subst (λ (n : ℕ). HasRead said x (entry_word n)) (sym of_entry) (inl refl)))
 
   pub row_met : (p : Piece) (next : View) → (p.cell ≡ c) × Named z x p v next → IsFound next x p
@@ -115,7 +115,7 @@ module _ (z : Shape) (v : View) (x : Reference) (p : Piece) (h : IsFound v x p) 
     pub then_row : Allowed z middle (reads (reading.Serial p.desc))
     then_row = may_read_row z middle m.knows x p met_middle
 
-  demotes : In (may_demote (ref_of x)) next.side.notes → (old : ℕ) (last : View) → ReadsOld z p old p.desc.number next last
+  demotes : In (may_demote (ref_of x)) next.side.facts → (old : ℕ) (last : View) → ReadsOld z p old p.desc.number next last
       → Allowed z last (settles (ref_of x) p.cell (ref_of p.desc) p.entry (Some old))
   demotes may old last r =
       let d = ref_of p.desc in
@@ -123,11 +123,11 @@ module _ (z : Shape) (v : View) (x : Reference) (p : Piece) (h : IsFound v x p) 
       let keeps : Keeps next r.middle = subst (Keeps next) (sym r.of_old.view_is) (grows_read next _ _).keeps in
       let last_keeps : Keeps r.middle last = subst (Keeps r.middle) (sym r.of_serial.view_is) (serial_grows r.middle d p.desc.number).keeps in
       may_settle z last r.of_serial.knows x p (found_keeps r.middle last last_keeps x p (met_middle old r.middle r.of_old)) (Some old) (
-        last_keeps.notes (may_demote (ref_of x)) (keeps.notes (may_demote (ref_of x)) may),
-        subst (λ (u : View). In (old_is d p.entry old) u.side.notes) (sym r.of_serial.view_is) (row_tells_so r.middle d p.desc.number refl (old_word p.entry old) said),
+        last_keeps.facts (may_demote (ref_of x)) (keeps.facts (may_demote (ref_of x)) may),
+        subst (λ (u : View). In (old_is d p.entry old) u.side.facts) (sym r.of_serial.view_is) (row_tells_so r.middle d p.desc.number refl (old_word p.entry old) said),
       )
 
-  by_old : In (may_demote (ref_of x)) next.side.notes → (to : Option ℕ) (last : View) → ByOld z p next (Some to) last
+  by_old : In (may_demote (ref_of x)) next.side.facts → (to : Option ℕ) (last : View) → ByOld z p next (Some to) last
       → Allowed z last (settles (ref_of x) p.cell (ref_of p.desc) p.entry to)
   by_old may None last none = absurd none
   by_old may (Some old) last r = demotes may old last r
@@ -149,7 +149,7 @@ module _ (z : Shape) (v : View) (x : Reference) (p : Piece) (h : IsFound v x p) 
   settles_next to last by = settles_so its.0 marked to last (subst (λ (k : Option Control). ByControl z p k next (Some to) last) (sym its.1) by)
 
 -- the own mark is settled by it, to the descriptor or to the old value that is noted
-pub own_settles : (z : Shape) (v : View) (x : Reference) (p : Piece) (h : IsFound v x p) (old : ℕ) → In (old_is (ref_of p.desc) p.entry old) v.side.notes
+pub own_settles : (z : Shape) (v : View) (x : Reference) (p : Piece) (h : IsFound v x p) (old : ℕ) → In (old_is (ref_of p.desc) p.entry old) v.side.facts
     → (word : ℕ) (next : View) → Learned z (reads (reading.MarkControl x p.cell p.desc)) v word next
     → Allowed z next (settles (ref_of x) p.cell (ref_of p.desc) p.entry (own_target (state_said p.desc.number word) old))
 own_settles z v x p h old noted word next l =
@@ -159,8 +159,8 @@ own_settles z v x p h old noted word next l =
     keeps : Keeps v next
     keeps = control_keeps z v x p h word next l
 
-    back : In (may_demote (ref_of x)) next.side.notes → Allowed z next (settles (ref_of x) p.cell (ref_of p.desc) p.entry (Some old))
-    back may = may_settle z next l.knows x p (met_then z v x p h word next l) (Some old) (may, keeps.notes (old_is (ref_of p.desc) p.entry old) noted)
+    back : In (may_demote (ref_of x)) next.side.facts → Allowed z next (settles (ref_of x) p.cell (ref_of p.desc) p.entry (Some old))
+    back may = may_settle z next l.knows x p (met_then z v x p h word next l) (Some old) (may, keeps.facts (old_is (ref_of p.desc) p.entry old) noted)
 
     so : (r : Option State) → MarkedAs next (ref_of x) p.cell r → Allowed z next (settles (ref_of x) p.cell (ref_of p.desc) p.entry (own_target (option_map control_of r) old))
     so None may = back may

@@ -5,8 +5,8 @@ use Rattle.rh_tagword.specs.declared.control.State.TheVariants.{Unused, Undecide
 use Rattle.rh_world.specs.World.{Cell, Control, In, Ref}
 use Rattle.rh_world.specs.World.Cell.{desc, mark, plain}
 use Rattle.rh_world.specs.World.Control.{unused}
-use Rattle.rh_world.specs.Notes.{Note}
-use Rattle.rh_world.specs.Notes.Note.{found, met}
+use Rattle.rh_world.specs.Facts.{Fact}
+use Rattle.rh_world.specs.Facts.Fact.{found, met}
 use Rattle.rh_world.specs.Moves.{HasSeen}
 use Rattle.rh_descriptor.specs.declared.shape.Shape.{Shape}
 use Rattle.rh_descriptor.specs.declared.reference.Reading.TheVariants as reading
@@ -44,10 +44,10 @@ pub record Learned (z : Shape) (s : Step) (v : View) (word : ℕ) (next : View) 
   pub knows : Knows z next
 
 -- what stood in a cell is noted
-abbrev pub Meets : (c : ℕ) → Cell → List Note → Type 0
-Meets c (plain u) notes = Unit {0}
-Meets c (mark x) notes = In (found x c) notes
-Meets c (desc d) notes = In (met d) notes
+abbrev pub Meets : (c : ℕ) → Cell → List Fact → Type 0
+Meets c (plain u) facts = Unit {0}
+Meets c (mark x) facts = In (found x c) facts
+Meets c (desc d) facts = In (met d) facts
 
 -- What a control with this word tells of its worker's descriptor of that number: where it is of an earlier one, that it is not
 -- opened yet; where it is of a later one, nothing, as its worker has gone on.
@@ -61,10 +61,10 @@ pub record HasStatus (z : Shape) (d : Reference) (v : View) (k : Option State) (
   pub control : Learned z (reads (reading.Control d)) v word next
 
 -- d was read as opened
-abbrev pub SeenAs : Ref → Option State → List Note → Type 0
-SeenAs d None notes = Unit {0}
-SeenAs d (Some Unused) notes = Unit {0}
-SeenAs d (Some Undecided) notes = HasSeen notes d
-SeenAs d (Some Succeeded) notes = HasSeen notes d
-SeenAs d (Some Withdrawn) notes = HasSeen notes d
-SeenAs d (Some (Failed by)) notes = HasSeen notes d
+abbrev pub SeenAs : Ref → Option State → List Fact → Type 0
+SeenAs d None facts = Unit {0}
+SeenAs d (Some Unused) facts = Unit {0}
+SeenAs d (Some Undecided) facts = HasSeen facts d
+SeenAs d (Some Succeeded) facts = HasSeen facts d
+SeenAs d (Some Withdrawn) facts = HasSeen facts d
+SeenAs d (Some (Failed by)) facts = HasSeen facts d

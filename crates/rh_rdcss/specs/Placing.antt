@@ -2,7 +2,7 @@
 -- an entry's old value stands. That each worker places marks of its own is this project's.
 use Rattle.std.specs.Prelude.{◌≡◌, ◌≢◌, ℕ, ◌<◌, ◌≤◌, ◌⊎◌, Option, None, Some}
 use Rattle.rh_world.specs.World.{In}
-use Rattle.rh_world.specs.Notes.Note.{desc_is, found, old_is, target_is, which_is}
+use Rattle.rh_world.specs.Facts.Fact.{desc_is, found, old_is, target_is, which_is}
 use Rattle.rh_world.specs.Moves.{HasSeen, MayWork}
 use Rattle.rh_descriptor.specs.declared.shape.Shape.{Shape}
 use Rattle.rh_descriptor.specs.declared.shape.Part.TheVariants as part
@@ -22,7 +22,7 @@ use Rattle.rh_rdcss.specs.Calls.{Learned, view_of}
 -- the worker opened the descriptor or read its control as not unused, and no own mark is unsettled
 pub record MayPlace (z : Shape) (v : View) (d : Reference) : Type 0 where
   pub desc : IsDesc z (ref_of d)
-  pub seen : HasSeen v.side.notes (ref_of d)
+  pub seen : HasSeen v.side.facts (ref_of d)
   pub settled : v.side.unsettled ≡ None
 
 -- its length was read in the row, and after it the number of the descriptor that the row is of by now
@@ -66,8 +66,8 @@ EntrySays z d e (Some (p, old)) v next = (p ≡ record { desc = d; entry = e; ce
 pub record KnowsPiece (z : Shape) (v : View) (p : Piece) (old : ℕ) : Type 0 where
   pub entry : HasEntry z v p.desc p.entry
   pub open entry use *
-  pub knows_cell : In (target_is (ref_of p.desc) p.entry p.cell) v.side.notes
-  pub knows_old : In (old_is (ref_of p.desc) p.entry old) v.side.notes
+  pub knows_cell : In (target_is (ref_of p.desc) p.entry p.cell) v.side.facts
+  pub knows_old : In (old_is (ref_of p.desc) p.entry old) v.side.facts
 
 -- the mark row is written: it is of the next own mark, and names the entry
 abbrev pub with_serial : Shape → View → View
@@ -119,9 +119,9 @@ Places z d e v placed.Spent next = (z.rooms.marks ≤ v.marks_used) × (next ≡
 
 -- the worker noted for what its mark is, and in place of which old value
 pub record NotesMark (v : View) (own : OwnMark) : Type 0 where
-  pub of_desc : In (desc_is (ref_of own.mark) (ref_of own.piece.desc)) v.side.notes
-  pub of_entry : In (which_is (ref_of own.mark) own.piece.entry) v.side.notes
-  pub knows_old : In (old_is (ref_of own.piece.desc) own.piece.entry own.old) v.side.notes
+  pub of_desc : In (desc_is (ref_of own.mark) (ref_of own.piece.desc)) v.side.facts
+  pub of_entry : In (which_is (ref_of own.mark) own.piece.entry) v.side.facts
+  pub knows_old : In (old_is (ref_of own.piece.desc) own.piece.entry own.old) v.side.facts
 
 -- the seat keeps its mark, which is unsettled, for this entry
 pub record IsMarkFor (d : Reference) (e : ℕ) (v : View) (own : OwnMark) : Type 0 where
@@ -129,8 +129,8 @@ pub record IsMarkFor (d : Reference) (e : ℕ) (v : View) (own : OwnMark) : Type
   pub entry : own.piece.entry ≡ e
   pub worker : own.mark.worker ≡ v.worker
   pub unsettled : v.side.unsettled ≡ Some own.mark.number
-  pub here : In (found (ref_of own.mark) own.piece.cell) v.side.notes
-  pub notes : NotesMark v own
+  pub here : In (found (ref_of own.mark) own.piece.cell) v.side.facts
+  pub facts : NotesMark v own
 
 abbrev pub IsMine : Reference → (e : ℕ) → Seat → Type 0
 IsMine d e s = (own : OwnMark) × (s.placed ≡ Some own) × IsMarkFor d e (view_of s) own

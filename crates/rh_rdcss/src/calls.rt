@@ -2,7 +2,7 @@
 
 ghost use Rattle.std.specs.Prelude.{◌≡◌, ◌<◌, None};
 ghost use Rattle.rh_world.specs.World.{In};
-ghost use Rattle.rh_world.specs.Notes.Note.{found};
+ghost use Rattle.rh_world.specs.Facts.Fact.{found};
 ghost use Rattle.rh_descriptor.specs.Parts.{cell_count};
 ghost use Rattle.rh_descriptor.specs.Steps.{IsDesc};
 ghost use Rattle.rh_descriptor.specs.Steps.Step.{reads};
@@ -19,7 +19,7 @@ use crate::reading::status_told;
 use crate::seat::Seat;
 use crate::settling::{settle_met, settle_own};
 use crate::table::Table;
-use rh_descriptor::{Ask, Reading, Ref};
+use rh_descriptor::{Reading, Ref, Request};
 use rh_tagword::State;
 
 /// What became of a mark that was to be placed.
@@ -45,9 +45,9 @@ pub fn peek_cell(table: &Table, seat: &mut Seat, cell: usize) -> u64
     requires cell { cell < cell_count table.now.shape }
     ensures same { IsSame seat.old seat.new }
     ensures read { Learned table.now.shape (reads (Reading.Cell cell)) (view_of seat.old) result (view_of seat.new) }
-    ensures meets { Meets cell (cell_in result) (view_of seat.new).side.notes }
+    ensures meets { Meets cell (cell_in result) (view_of seat.new).side.facts }
 {
-    make(table, seat, Ask::Read(Reading::Cell(cell)))
+    make(table, seat, Request::Read(Reading::Cell(cell)))
 }
 
 /// Reads how far a descriptor is, by one load: `Unused` where it is not opened yet, and none where its
@@ -59,10 +59,10 @@ pub fn status(table: &Table, seat: &mut Seat, desc: Ref) -> Option<State>
     requires desc { IsDesc table.now.shape (ref_of desc) }
     ensures same { IsSame seat.old seat.new }
     ensures read { HasStatus table.now.shape desc (view_of seat.old) result (view_of seat.new) }
-    ensures seen { SeenAs (ref_of desc) result (view_of seat.new).side.notes }
+    ensures seen { SeenAs (ref_of desc) result (view_of seat.new).side.facts }
     ensures unsettled { (view_of seat.new).side.unsettled ≡ (view_of seat.old).side.unsettled }
 {
-    let word = make(table, seat, Ask::Read(Reading::Control(desc)));
+    let word = make(table, seat, Request::Read(Reading::Control(desc)));
     status_told(desc, word)
 }
 
@@ -104,7 +104,7 @@ pub fn place(table: &Table, seat: &mut Seat, desc: Ref, entry: usize) -> Placed
 pub fn settle(table: &Table, seat: &mut Seat, cell: usize, mark: Ref) -> Option<u64>
     requires here { IsHere table.now seat.old }
     requires knows { Knows table.now.shape (view_of seat.old) }
-    requires found { In (found (ref_of mark) cell) (view_of seat.old).side.notes }
+    requires found { In (found (ref_of mark) cell) (view_of seat.old).side.facts }
     requires own { mark.worker ≡ (view_of seat.old).worker → Recalls (view_of seat.old) mark seat.old.placed }
     ensures same { IsSame seat.old seat.new }
     ensures knows { Knows table.now.shape (view_of seat.new) }

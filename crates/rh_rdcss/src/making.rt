@@ -1,6 +1,6 @@
 //! A step by the seat of one worker.
 
-ghost use Rattle.rh_descriptor.specs.Asks.{step_of};
+ghost use Rattle.rh_descriptor.specs.Requests.{step_of};
 ghost use Rattle.rh_descriptor.specs.Steps.{Allowed};
 ghost use Rattle.rh_steps.specs.Relies.{Knows};
 ghost use Rattle.rh_rdcss.specs.Calls.{IsHere, IsSame, Learned, view_of};
@@ -8,21 +8,21 @@ ghost use Rattle.rh_rdcss.specs.Calls.{IsHere, IsSame, Learned, view_of};
 use crate::on_table::OnTable;
 use crate::seat::Seat;
 use crate::table::Table;
-use rh_descriptor::Ask;
+use rh_descriptor::Request;
 use rh_steps::Steps;
 
 /// Makes the step, and answers the word that it found.
 #[inline(always)]
-pub(crate) fn make(table: &Table, seat: &mut Seat, ask: Ask) -> u64
+pub(crate) fn make(table: &Table, seat: &mut Seat, request: Request) -> u64
     requires here { IsHere table.now seat.old }
     requires knows { Knows table.now.shape (view_of seat.old) }
-    requires allowed { Allowed table.now.shape (view_of seat.old) (step_of ask) }
+    requires allowed { Allowed table.now.shape (view_of seat.old) (step_of request) }
     ensures same { IsSame seat.old seat.new }
-    ensures learned { Learned table.now.shape (step_of ask) (view_of seat.old) result (view_of seat.new) }
+    ensures learned { Learned table.now.shape (step_of request) (view_of seat.old) result (view_of seat.new) }
 {
     let mut here = OnTable {
         table,
         seat: &mut seat.inner,
     };
-    here.make(&table.shape, &mut seat.side, ask)
+    here.make(&table.shape, &mut seat.side, request)
 }

@@ -4,7 +4,7 @@ ghost use Rattle.std.specs.Prelude.{◌≡◌};
 
 use crate::steps::{count, exchange, load, swap};
 use crate::table::{Inner, Table};
-use rh_descriptor::{Ask, Effect, Part, Reading, Shape, Side};
+use rh_descriptor::{Effect, Part, Reading, Request, Shape, Side};
 use rh_steps::Steps;
 use std::marker::Brand;
 
@@ -25,21 +25,21 @@ impl<'a> Steps for OnTable<'a> {
     ghost made = { λ z s t v word then next. Stays t then };
 
     #[inline(always)]
-    fn make(&mut self, shape: &Shape, side: &mut Side, ask: Ask) -> u64 {
-        let at = ask.index(shape, side);
-        let word = match ask.effect(shape, side) {
-            Effect::Keep => load::<Brand>(self, side, ask, at),
-            Effect::Put(new) => exchange::<Brand>(self, side, ask, at, new),
-            Effect::Swap { old, new } => swap::<Brand>(self, side, ask, at, old, new),
-            Effect::Count => count::<Brand>(self, side, ask, at),
+    fn make(&mut self, shape: &Shape, side: &mut Side, request: Request) -> u64 {
+        let at = request.index(shape, side);
+        let word = match request.effect(shape, side) {
+            Effect::Keep => load::<Brand>(self, side, request, at),
+            Effect::Put(new) => exchange::<Brand>(self, side, request, at, new),
+            Effect::Swap { old, new } => swap::<Brand>(self, side, request, at, old, new),
+            Effect::Count => count::<Brand>(self, side, request, at),
         };
-        side.note(shape, ask, word);
+        side.note(shape, request, word);
         word
     }
 
     #[inline(always)]
     fn own_word(&mut self, shape: &Shape, side: &Side, part: Part) -> u64 {
         let at = shape.index(part);
-        load::<Brand>(self, side, Ask::Read(Reading::Word(at)), at)
+        load::<Brand>(self, side, Request::Read(Reading::Word(at)), at)
     }
 }

@@ -10,7 +10,7 @@ use crate::calls::Placed;
 use crate::making::make;
 use crate::seat::{OwnMark, Seat};
 use crate::table::Table;
-use rh_descriptor::{Ask, Part, Piece, Reading, Ref, desc_word};
+use rh_descriptor::{Part, Piece, Reading, Ref, Request, desc_word};
 
 /// Reads in the row of a descriptor how many entries it has, and then whether the row is still of it: if
 /// not, what was read says nothing of it.
@@ -22,8 +22,8 @@ pub(crate) fn read_length(table: &Table, seat: &mut Seat, desc: Ref) -> Option<u
     ensures same { IsSame seat.old seat.new }
     ensures says { LengthSays table.now.shape desc result (view_of seat.old) (view_of seat.new) }
 {
-    let length = make(table, seat, Ask::Read(Reading::Length(desc))) as usize;
-    let serial = make(table, seat, Ask::Read(Reading::Serial(desc)));
+    let length = make(table, seat, Request::Read(Reading::Length(desc))) as usize;
+    let serial = make(table, seat, Request::Read(Reading::Serial(desc)));
     (serial == desc.number).then_some(length)
 }
 
@@ -43,10 +43,10 @@ pub(crate) fn read_entry(
     ensures says { EntrySays table.now.shape desc entry result (view_of seat.old) (view_of seat.new) }
 {
     let reading = Reading::EntryCell { desc, entry };
-    let cell = make(table, seat, Ask::Read(reading)) as usize;
+    let cell = make(table, seat, Request::Read(reading)) as usize;
     let reading = Reading::EntryOld { desc, entry };
-    let old = make(table, seat, Ask::Read(reading));
-    let serial = make(table, seat, Ask::Read(Reading::Serial(desc)));
+    let old = make(table, seat, Request::Read(reading));
+    let serial = make(table, seat, Request::Read(Reading::Serial(desc)));
     if serial != desc.number {
         return None;
     }
@@ -92,12 +92,12 @@ pub(crate) fn place_next(table: &Table, seat: &mut Seat, piece: Piece, old: u64)
     let worker = seat.side.worker;
     let part = Part::MarkSerial { worker };
     let word = seat.side.marks_used;
-    make(table, seat, Ask::Write { part, word });
+    make(table, seat, Request::Write { part, word });
     let part = Part::MarkDesc { worker };
     let word = desc_word(&table.shape, piece.desc);
-    make(table, seat, Ask::Write { part, word });
+    make(table, seat, Request::Write { part, word });
     let part = Part::MarkEntry { worker };
     let word = piece.entry as u64;
-    make(table, seat, Ask::Write { part, word });
-    make(table, seat, Ask::Place { piece, old })
+    make(table, seat, Request::Write { part, word });
+    make(table, seat, Request::Place { piece, old })
 }

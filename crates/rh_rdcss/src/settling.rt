@@ -2,7 +2,7 @@
 
 ghost use Rattle.std.specs.Prelude.{◌≡◌, None};
 ghost use Rattle.rh_world.specs.World.{In};
-ghost use Rattle.rh_world.specs.Notes.Note.{found};
+ghost use Rattle.rh_world.specs.Facts.Fact.{found};
 ghost use Rattle.rh_descriptor.specs.Words.{ref_of};
 ghost use Rattle.rh_steps.specs.Relies.{Knows};
 ghost use Rattle.rh_rdcss.specs.Calls.{IsHere, IsSame, view_of};
@@ -15,7 +15,7 @@ ghost use Rattle.rh_helping.specs.Settling.{IsFound};
 use crate::making::make;
 use crate::seat::{OwnMark, Seat};
 use crate::table::Table;
-use rh_descriptor::{Ask, Piece, Reading, Ref};
+use rh_descriptor::{Piece, Reading, Ref, Request};
 use rh_helping::{named_desc, state_told};
 use rh_tagword::State;
 
@@ -24,8 +24,8 @@ use rh_tagword::State;
 pub(crate) fn settle_own(table: &Table, seat: &mut Seat, cell: usize, own: OwnMark) -> u64
     requires here { IsHere table.now seat.old }
     requires knows { Knows table.now.shape (view_of seat.old) }
-    requires found { In (found (ref_of own.mark) cell) (view_of seat.old).side.notes }
-    requires notes { NotesMark (view_of seat.old) own }
+    requires found { In (found (ref_of own.mark) cell) (view_of seat.old).side.facts }
+    requires facts { NotesMark (view_of seat.old) own }
     ensures same { IsSame seat.old seat.new }
     ensures knows { Knows table.now.shape (view_of seat.new) }
     ensures settles { SettlesOwn table.now.shape cell own (view_of seat.old) result (view_of seat.new) }
@@ -34,10 +34,10 @@ pub(crate) fn settle_own(table: &Table, seat: &mut Seat, cell: usize, own: OwnMa
     let OwnMark { mark, piece, old } = own;
     let piece = Piece { cell, ..piece };
     let desc = piece.desc;
-    let control = Ask::Read(Reading::MarkControl { mark, cell, desc });
+    let control = Request::Read(Reading::MarkControl { mark, cell, desc });
     let word = make(table, seat, control);
     let old = own_target(desc, word, old);
-    make(table, seat, Ask::Settle { mark, piece, old })
+    make(table, seat, Request::Settle { mark, piece, old })
 }
 
 /// What the own mark is settled to, by the control of its descriptor: to the old value, also where that has
@@ -58,14 +58,14 @@ fn own_target(desc: Ref, word: u64, old: u64) -> Option<u64>
 pub(crate) fn settle_met(table: &Table, seat: &mut Seat, cell: usize, mark: Ref) -> Option<u64>
     requires here { IsHere table.now seat.old }
     requires knows { Knows table.now.shape (view_of seat.old) }
-    requires found { In (found (ref_of mark) cell) (view_of seat.old).side.notes }
+    requires found { In (found (ref_of mark) cell) (view_of seat.old).side.facts }
     ensures same { IsSame seat.old seat.new }
     ensures knows { Knows table.now.shape (view_of seat.new) }
     ensures settles { SettlesMet table.now.shape mark cell (view_of seat.old) result (view_of seat.new) }
 {
     let piece = read_row(table, seat, mark, cell)?;
     let old = judge(table, seat, mark, piece)?;
-    Some(make(table, seat, Ask::Settle { mark, piece, old }))
+    Some(make(table, seat, Request::Settle { mark, piece, old }))
 }
 
 /// Reads the row of a mark that was found in this cell, and then whether it is still of this mark: if
@@ -74,13 +74,13 @@ pub(crate) fn settle_met(table: &Table, seat: &mut Seat, cell: usize, mark: Ref)
 pub(crate) fn read_row(table: &Table, seat: &mut Seat, mark: Ref, cell: usize) -> Option<Piece>
     requires here { IsHere table.now seat.old }
     requires knows { Knows table.now.shape (view_of seat.old) }
-    requires found { In (found (ref_of mark) cell) (view_of seat.old).side.notes }
+    requires found { In (found (ref_of mark) cell) (view_of seat.old).side.facts }
     ensures same { IsSame seat.old seat.new }
     ensures says { RowSays table.now.shape mark cell result (view_of seat.old) (view_of seat.new) }
 {
-    let named = make(table, seat, Ask::Read(Reading::MarkDesc(mark)));
-    let entry = make(table, seat, Ask::Read(Reading::MarkEntry(mark))) as usize;
-    let serial = make(table, seat, Ask::Read(Reading::MarkSerial(mark)));
+    let named = make(table, seat, Request::Read(Reading::MarkDesc(mark)));
+    let entry = make(table, seat, Request::Read(Reading::MarkEntry(mark))) as usize;
+    let serial = make(table, seat, Request::Read(Reading::MarkSerial(mark)));
     if serial != mark.number {
         return None;
     }
@@ -104,13 +104,13 @@ pub(crate) fn judge(table: &Table, seat: &mut Seat, mark: Ref, piece: Piece) -> 
 {
     let Piece { desc, entry, cell } = piece;
     let reading = Reading::MarkControl { mark, cell, desc };
-    let word = make(table, seat, Ask::Read(reading));
+    let word = make(table, seat, Request::Read(reading));
     let state = state_told(desc, word)?;
     if !state.is_decided() {
         return Some(None);
     }
     let reading = Reading::EntryOld { desc, entry };
-    let old = make(table, seat, Ask::Read(reading));
-    let serial = make(table, seat, Ask::Read(Reading::Serial(desc)));
+    let old = make(table, seat, Request::Read(reading));
+    let serial = make(table, seat, Request::Read(Reading::Serial(desc)));
     (serial == desc.number).then_some(Some(old))
 }

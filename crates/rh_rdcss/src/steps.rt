@@ -8,7 +8,7 @@ ghost use Rattle.rh_rdcss.specs.Sits.{Ready, Stays};
 
 use crate::on_table::OnTable;
 use atomic_table::Play;
-use rh_descriptor::{Ask, Known, Side};
+use rh_descriptor::{Known, Request, Side};
 use std::collections::LinkedList;
 use std::marker::{Brand, PhantomData};
 
@@ -47,7 +47,7 @@ impl<B: Makes> Play<(), LinkedList<Known>> for Making<B> {
 }
 
 #[inline(always)]
-pub(crate) fn load<B: Makes>(here: &mut OnTable<'_>, _side: &Side, _ask: Ask, at: usize) -> u64
+pub(crate) fn load<B: Makes>(here: &mut OnTable<'_>, _side: &Side, _ask: Request, at: usize) -> u64
     requires { Ready here.old B.shape B.view B.step at (λ n. n) }
     ensures stays { Stays here.old here.new }
     ensures tells { StepTells B.shape B.view B.step result here.new.seat.now.me }
@@ -61,7 +61,7 @@ pub(crate) fn load<B: Makes>(here: &mut OnTable<'_>, _side: &Side, _ask: Ask, at
 pub(crate) fn exchange<B: Makes>(
     here: &mut OnTable<'_>,
     _side: &Side,
-    _ask: Ask,
+    _ask: Request,
     at: usize,
     new: u64,
 ) -> u64
@@ -77,7 +77,7 @@ pub(crate) fn exchange<B: Makes>(
 pub(crate) fn swap<B: Makes>(
     here: &mut OnTable<'_>,
     _side: &Side,
-    _ask: Ask,
+    _ask: Request,
     at: usize,
     old: u64,
     new: u64,
@@ -91,7 +91,7 @@ pub(crate) fn swap<B: Makes>(
 }
 
 #[inline(always)]
-pub(crate) fn count<B: Makes>(here: &mut OnTable<'_>, _side: &Side, _ask: Ask, at: usize) -> u64
+pub(crate) fn count<B: Makes>(here: &mut OnTable<'_>, _side: &Side, _ask: Request, at: usize) -> u64
     requires { Ready here.old B.shape B.view B.step at (λ n. (n + 1) % 2 ^ 64) }
     ensures stays { Stays here.old here.new }
     ensures tells { StepTells B.shape B.view B.step result here.new.seat.now.me }

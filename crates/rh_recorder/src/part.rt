@@ -31,14 +31,14 @@ fn rows_of_one(shape: &Shape) -> usize
     requires some { 0 < shape.now.workers }
     ensures { result ≡ row_count shape.now }
 {
-    let last = Part::Note {
+    let last = Part::Reason {
         worker: 0,
         owner: shape.workers - 1,
     };
     shape.index(last) + 1 - shape.cells()
 }
 
-/// The part at this word of the rows of a worker: its descriptor row, its mark row, and its notes.
+/// The part at this word of the rows of a worker: its descriptor row, its mark row, and its reasons.
 fn part_in_rows(shape: &Shape, worker: usize, row: usize) -> Part
     requires shape { IsShape shape.now }
     requires worker { worker < shape.now.workers }
@@ -100,7 +100,7 @@ fn mark_part(shape: &Shape, worker: usize, word: usize) -> Part
         0 => Part::MarkSerial { worker },
         1 => Part::MarkDesc { worker },
         2 => Part::MarkEntry { worker },
-        _ => Part::Note {
+        _ => Part::Reason {
             worker,
             owner: word - 3,
         },

@@ -3,7 +3,7 @@
 ghost use Rattle.std.specs.Prelude.{◌≡◌};
 
 use crate::part::part_at;
-use rh_descriptor::{Ask, Part, Shape, Side};
+use rh_descriptor::{Part, Request, Shape, Side};
 use rh_steps::Steps;
 
 /// What a step touched: one word, which it found so and left so.
@@ -34,9 +34,9 @@ impl Steps for Recorder {
 
     ghost made = { λ z s t v word then next. Records then.last z s t.words.items v word then.words.items next };
 
-    fn make(&mut self, shape: &Shape, side: &mut Side, ask: Ask) -> u64 {
-        let index = ask.index(shape, side);
-        let found = self.words.make(shape, side, ask);
+    fn make(&mut self, shape: &Shape, side: &mut Side, request: Request) -> u64 {
+        let index = request.index(shape, side);
+        let found = self.words.make(shape, side, request);
         self.last = Some(Touched {
             part: part_at(shape, index),
             found,

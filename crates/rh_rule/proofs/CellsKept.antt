@@ -5,8 +5,8 @@ use Rattle.rh_world.specs.World.{Cell, Control, In, IsOpened, IsUsed, Ref, World
 use Rattle.rh_world.specs.World.Cell.{desc, mark}
 use Rattle.rh_world.specs.World.Control.{failed, succeeded, undecided, unused, withdrawn}
 use Rattle.rh_world.specs.Logical.{entry_value}
-use Rattle.rh_world.specs.Notes.{HoldsIn, Note}
-use Rattle.rh_world.specs.Notes.Note.{decided, desc_is, found, may_demote, may_promote, new_is, old_is, over, passed, size_is, target_is, which_is}
+use Rattle.rh_world.specs.Facts.{HoldsIn, Fact}
+use Rattle.rh_world.specs.Facts.Fact.{decided, desc_is, found, may_demote, may_promote, new_is, old_is, over, passed, size_is, target_is, which_is}
 use Rattle.rh_world.specs.Later.{Steady}
 use Rattle.rh_world.specs.Sides.{Side, close_side, is_number, paid_side, release_side}
 use Rattle.rh_world.specs.Rule.{Rule}
@@ -121,8 +121,8 @@ module _ (z : Shape) (shape : IsShape z) (words : List ℕ) (keep : ℕ → View
   grows_cond false s r g i = i
 
   grows_settle : (d : Ref) (e c : ℕ) (b : Bool) → Grows k.side (settle_noted k.side d e c b)
-  grows_settle d e c true = record { current = refl; notes = λ n i. inr i }
-  grows_settle d e c false = record { current = refl; notes = λ n i. i }
+  grows_settle d e c true = record { current = refl; facts = λ n i. inr i }
+  grows_settle d e c false = record { current = refl; facts = λ n i. i }
 
   settle_side_is : (x : Ref) (c : ℕ) (old : Option ℕ) (word : ℕ) → eqb word (mark_number x) ≡ is_mark (w.cell c) x
       → settle_view k x c (w.mark_desc x) (w.mark_entry x) old word ≡ erased (side_after w t who (settles x c (is_none old)))
@@ -143,15 +143,15 @@ module _ (z : Shape) (shape : IsShape z) (words : List ℕ) (keep : ℕ → View
       (settle_noted k.side d e c (is_none old && eqb word (mark_number x))) k.side (λ yes. noted (is_none old && eqb word (mark_number x))) (λ not. quiet_none k.side)
     where
       noted : (b : Bool) → Quiet k.side (settle_noted k.side d e c b)
-      noted true = record { current = λ n q. q; notes = λ n i. inr i; decided = λ f r i. ⊎_elim (λ q. cc) (λ j. j) i }
-      noted false = record { current = λ n q. q; notes = λ n i. i; decided = λ f r i. i }
+      noted true = record { current = λ n q. q; facts = λ n i. inr i; decided = λ f r i. ⊎_elim (λ q. cc) (λ j. j) i }
+      noted false = record { current = λ n q. q; facts = λ n i. i; decided = λ f r i. i }
 
   settled_word_is : (x : Ref) (old : Option ℕ) → MaySettle k x 0 (w.mark_desc x) (w.mark_entry x) old ⊎ (old ≡ None)
       → settled_word (w.mark_desc x) old ≡ cell_number (settled_cell w x (is_none old))
   settled_word_is x None may = refl
   settled_word_is x (Some o) may = ⊎_elim (λ q. sym (true_note z shape words keep w side rule m who mine (old_is (w.mark_desc x) (w.mark_entry x) o) tt refl q.1).1) (λ q. cc) may
 
-  may_settle : (x : Ref) (c : ℕ) (old : Option ℕ) → In (found x c) k.side.notes → MaySettle k x c (w.mark_desc x) (w.mark_entry x) old
+  may_settle : (x : Ref) (c : ℕ) (old : Option ℕ) → In (found x c) k.side.facts → MaySettle k x c (w.mark_desc x) (w.mark_entry x) old
       → IsAllowed w side who (settles x c (is_none old))
   may_settle x c None f may = (known_note z shape words keep w side rule m who mine (found x c) tt f, known_note z shape words keep w side rule m who mine (may_promote x c) tt may)
   may_settle x c (Some o) f may = (known_note z shape words keep w side rule m who mine (found x c) tt f, known_note z shape words keep w side rule m who mine (may_demote x) tt may.0)
@@ -235,22 +235,22 @@ module _ (z : Shape) (shape : IsShape z) (words : List ℕ) (keep : ℕ → View
       release_mid d e c o false q = λ i. paid_side (h.side_is i) d c
 
   -- with its last entry the descriptor is closed, and it is noted as decided
-  release_over : (d : Ref) (e c : ℕ) → (k.side.current ≡ Some d.number → d.worker ≡ who → (r : Control) × In (decided d r) k.side.notes) → Over who k.opened (release_view k d e c)
+  release_over : (d : Ref) (e c : ℕ) → (k.side.current ≡ Some d.number → d.worker ≡ who → (r : Control) × In (decided d r) k.side.facts) → Over who k.opened (release_view k d e c)
   release_over d e c dec o i = over_release (is_number k.side.current k.worker d) refl
     where
-      over_closing : (all : Bool) (s : Side) → s.notes ≡ k.side.notes → s.current ≡ k.side.current → d.worker ≡ who
+      over_closing : (all : Bool) (s : Side) → s.facts ≡ k.side.facts → s.current ≡ k.side.current → d.worker ≡ who
           → k.side.current ≡ Some d.number
-          → ((cond all (close_side s) s).current ≡ Some o.number) ⊎ ((x : Control) × In (decided (record { worker = who; number = o.number }) x) (cond all (close_side s) s).notes)
-      over_closing false s notes current own at_work = ⊎_elim (λ q. inl (current ∙ q)) (λ q. inr (q.0, subst (λ (l : List Note). In (decided (record { worker = who; number = o.number }) q.0) l) (sym notes) q.1)) (h.over o i)
-      over_closing true s notes current own at_work = ⊎_elim
+          → ((cond all (close_side s) s).current ≡ Some o.number) ⊎ ((x : Control) × In (decided (record { worker = who; number = o.number }) x) (cond all (close_side s) s).facts)
+      over_closing false s facts current own at_work = ⊎_elim (λ q. inl (current ∙ q)) (λ q. inr (q.0, subst (λ (l : List Fact). In (decided (record { worker = who; number = o.number }) q.0) l) (sym facts) q.1)) (h.over o i)
+      over_closing true s facts current own at_work = ⊎_elim
           (λ q. let same : d ≡ record { worker = who; number = o.number } = ref_path d record { worker = who; number = o.number } own (some_injective _ _ (sym at_work ∙ q)) in
           let known = dec at_work own in
-          inr (known.0, subst (λ (l : List Note). In (decided (record { worker = who; number = o.number }) known.0) l) (sym notes) (subst (λ (x : Ref). In (decided x known.0) k.side.notes) same known.1)))
-          (λ q. inr (q.0, subst (λ (l : List Note). In (decided (record { worker = who; number = o.number }) q.0) l) (sym notes) q.1)) (h.over o i)
+          inr (known.0, subst (λ (l : List Fact). In (decided (record { worker = who; number = o.number }) known.0) l) (sym facts) (subst (λ (x : Ref). In (decided x known.0) k.side.facts) same known.1)))
+          (λ q. inr (q.0, subst (λ (l : List Fact). In (decided (record { worker = who; number = o.number }) q.0) l) (sym facts) q.1)) (h.over o i)
 
       over_release : (own : Bool) → is_number k.side.current k.worker d ≡ own
           → ((cond own (release_noted (paid_side k.side d c) e (size_in k.opened d.number)) (paid_side k.side d c)).current ≡ Some o.number)
-          ⊎ ((x : Control) × In (decided (record { worker = who; number = o.number }) x) (cond own (release_noted (paid_side k.side d c) e (size_in k.opened d.number)) (paid_side k.side d c)).notes)
+          ⊎ ((x : Control) × In (decided (record { worker = who; number = o.number }) x) (cond own (release_noted (paid_side k.side d c) e (size_in k.opened d.number)) (paid_side k.side d c)).facts)
       over_release true q =
           let p = is_number_yes k.side.current k.worker d q in
           let s : Side = release_side (paid_side k.side d c) e in
@@ -260,12 +260,12 @@ module _ (z : Shape) (shape : IsShape z) (words : List ℕ) (keep : ℕ → View
   release_quiet : (d : Ref) (e c : ℕ) → Quiet k.side (release_view k d e c)
   release_quiet d e c = by_cond (λ (s : Side). Quiet k.side s) (is_number k.side.current k.worker d) (release_noted (paid_side k.side d c) e (size_in k.opened d.number)) (paid_side k.side d c)
       (λ yes. by_cond (λ (s : Side). Quiet k.side s) (covers (size_in k.opened d.number) (e ∷ k.side.released)) (close_side (release_side (paid_side k.side d c) e)) (release_side (paid_side k.side d c) e)
-      (λ all. record { current = λ n q. cc; notes = λ n i. i; decided = λ f r i. i }) (λ some. record { current = λ n q. q; notes = λ n i. i; decided = λ f r i. i }))
-      (λ not. record { current = λ n q. q; notes = λ n i. i; decided = λ f r i. i })
+      (λ all. record { current = λ n q. cc; facts = λ n i. i; decided = λ f r i. i }) (λ some. record { current = λ n q. q; facts = λ n i. i; decided = λ f r i. i }))
+      (λ not. record { current = λ n q. q; facts = λ n i. i; decided = λ f r i. i })
 
   -- of an open own descriptor it is known how it was decided
   knows_own : (d : Ref) (e : ℕ) (o : Option Control) (value : ℕ) → KnowsValue k d e o value → k.side.current ≡ Some d.number → d.worker ≡ who
-      → (r : Control) × In (decided d r) k.side.notes
+      → (r : Control) × In (decided d r) k.side.facts
   knows_own d e (Some r) value may at own = (r, may.0)
   knows_own d e None value may at own = absurd (may.3 (own ∙ sym h.worker) at)
 
@@ -297,7 +297,7 @@ module _ (z : Shape) (shape : IsShape z) (words : List ℕ) (keep : ℕ → View
       → value ≡ cell_number (released_cell w d e)
   released_word d e (Some r) value lt may here = released_by d e r value (true_decided z shape words keep w side rule m who mine d r may.0).1 may.1
   released_word d e None value lt may here =
-      let passes = rule.acts.notes who (passed d) (known_note z shape words keep w side rule m who mine (passed d) tt may.1) refl in
+      let passes = rule.acts.facts who (passed d) (known_note z shape words keep w side rule m who mine (passed d) tt may.1) refl in
       let old : w.old d e ≡ value = (true_note z shape words keep w side rule m who mine (old_is d e value) tt refl may.2).1 in
       sym old ∙ either (w.control d) refl passes
     where

@@ -3,7 +3,7 @@ use Rattle.std.proofs.Common.{suc, ◌≡◌, ◌≢◌, ℕ, eqb, ◌<◌, ◌�
 use Rattle.std.proofs.lemmas.List.{set-get_or}
 use Rattle.rh_world.specs.World.{Cell, Control, In, IsDecided, IsOpened, Ref, World, updated, updated_ref}
 use Rattle.rh_world.specs.World.Control.{failed, succeeded, undecided, unused, withdrawn}
-use Rattle.rh_world.specs.Notes.Note.{decided, held, known, size_is}
+use Rattle.rh_world.specs.Facts.Fact.{decided, held, known, size_is}
 use Rattle.rh_world.specs.Later.{Steady}
 use Rattle.rh_world.specs.Sides.{Side}
 use Rattle.rh_world.specs.Rule.{Rule}
@@ -15,7 +15,7 @@ use Rattle.rh_descriptor.specs.declared.shape.Shape.{Shape}
 use Rattle.rh_descriptor.specs.declared.shape.Part.{Part}
 use Rattle.rh_descriptor.specs.declared.shape.Part.TheVariants as part
 use Rattle.rh_descriptor.specs.declared.reference.Reading.TheVariants as reading
-use Rattle.rh_descriptor.specs.Parts.{IsShape, note_row, index_of}
+use Rattle.rh_descriptor.specs.Parts.{IsShape, reason_row, index_of}
 use Rattle.rh_descriptor.specs.View.{View}
 use Rattle.rh_descriptor.specs.Words.{number_of, read_control, serial_in, with_entry, without_entry}
 use Rattle.rh_descriptor.specs.Steps.{CanDecide, IsResult, control_read, control_seen, decided_so, row_word, swapped}
@@ -87,9 +87,9 @@ module _ (z : Shape) (shape : IsShape z) (words : List ℕ) (keep : ℕ → View
   abbrev word : ℕ
   word = word_at z words p
 
-  -- the entry that the own note names
+  -- the entry that the own reason names
   abbrev entry : ℕ
-  entry = row_word k.written (note_row z d.worker)
+  entry = row_word k.written (reason_row z d.worker)
 
   abbrev set_to : Control
   set_to = decided_so z k d r
@@ -102,7 +102,7 @@ module _ (z : Shape) (shape : IsShape z) (words : List ℕ) (keep : ℕ → View
   may_decide undecided q = q
   may_decide succeeded q = (q.0, known_note z shape words keep w side rule m who mine (size_is d q.0) tt q.1, λ e i. known_note z shape words keep w side rule m who mine (held d e) tt (q.2 e i))
   may_decide withdrawn q = q ∙ h.worker
-  may_decide (failed e by) q = (q.0 ∙ h.worker, in_mismatch d entry q.1.0 t (subst (λ (s : Side). In (Rattle.rh_world.specs.Notes.Note.mismatch d entry q.1.0) s.notes) h.side_is q.1.1))
+  may_decide (failed e by) q = (q.0 ∙ h.worker, in_mismatch d entry q.1.0 t (subst (λ (s : Side). In (Rattle.rh_world.specs.Facts.Fact.mismatch d entry q.1.0) s.facts) h.side_is q.1.1))
 
   may : IsAllowed w side who (decides d set_to)
   may = (known_note z shape words keep w side rule m who mine (known d) tt can.known, may_decide r can.may)
@@ -202,8 +202,8 @@ module _ (z : Shape) (shape : IsShape z) (words : List ℕ) (keep : ℕ → View
     other_word : (u : ℕ) → u < z.workers → u ≢ d.worker → word_at z then (part.Control u) ≡ word_at z words (part.Control u)
     other_word u lt ne = word_same z words p num can.desc.0 (part.Control u) lt (λ e. ne (let q : u ≡ d.worker = cc in q))
 
-    note_same : (by owner : ℕ) → by < z.workers → owner < z.workers → word_at z then (part.Note by owner) ≡ word_at z words (part.Note by owner)
-    note_same by owner lt own = word_same z words p num can.desc.0 (part.Note by owner) (lt, own) (λ e. cc)
+    note_same : (by owner : ℕ) → by < z.workers → owner < z.workers → word_at z then (part.Reason by owner) ≡ word_at z words (part.Reason by owner)
+    note_same by owner lt own = word_same z words p num can.desc.0 (part.Reason by owner) (lt, own) (λ e. cc)
 
     newest : (f : Ref) → f.worker < z.workers → suc f.number ≡ w.next_number f.worker → ((f ≡ d) × (v.control f ≡ set_to)) ⊎ ((f ≢ d) × (v.control f ≡ w.control f))
         → IsOpened (v.control f) × (word_at z then (part.Control f.worker) ≡ number_of f.number (v.control f))
@@ -225,8 +225,8 @@ module _ (z : Shape) (shape : IsShape z) (words : List ℕ) (keep : ℕ → View
           (λ a. marks_stay z.rooms.marks w v l f.worker (m.controls.withdrawals f (sym a.1 ∙ q))) (control_or f);
       deciders = λ f e by q. ⊎_elim (λ a. subst (λ (u : ℕ). u < z.workers) (sym a.2) mine) (m.controls.deciders f e by) (failed_or f e by q);
       reasons = λ f e by q is. ⊎_elim
-          (λ a. subst (λ (u : ℕ). word_at z then (part.Note by u) ≡ e) (ap (λ (y : Ref). y.worker) (sym a.0))
-          (subst (λ (u : ℕ). word_at z then (part.Note u d.worker) ≡ e) (sym a.2) (note_same who d.worker mine can.desc.0 ∙ h.written (part.Note who d.worker) (refl, can.desc.0) ∙ a.1)))
+          (λ a. subst (λ (u : ℕ). word_at z then (part.Reason by u) ≡ e) (ap (λ (y : Ref). y.worker) (sym a.0))
+          (subst (λ (u : ℕ). word_at z then (part.Reason u d.worker) ≡ e) (sym a.2) (note_same who d.worker mine can.desc.0 ∙ h.written (part.Reason who d.worker) (refl, can.desc.0) ∙ a.1)))
           (λ a. note_same by f.worker (m.controls.deciders f e by a) (m.controls.descs f (λ u. let bad : failed e by ≡ unused = sym a ∙ u in cc)).0 ∙ m.controls.reasons f e by a (is ∙ numbers f.worker))
           (failed_or f e by q);
     }
@@ -243,7 +243,7 @@ module _ (z : Shape) (shape : IsShape z) (words : List ℕ) (keep : ℕ → View
         (λ i. control_noted (h.side_is i) d (told i)) ∙ erased_control t d ((world_after w who (decides d set_to)).control d)
 
     -- d was noted as undecided at most
-    not_decided : (j : Control) → In (decided d j) k.side.notes → ⊥
+    not_decided : (j : Control) → In (decided d j) k.side.facts → ⊥
     not_decided j i =
         let is = true_decided z shape words keep w side rule m who mine d j i in
         subst IsDecided (sym is.1 ∙ ap without_entry before) is.0
@@ -254,12 +254,12 @@ module _ (z : Shape) (shape : IsShape z) (words : List ℕ) (keep : ℕ → View
         (λ q. sym (told_number d.number set_to) ∙ ap (number_of d.number) (sym said))
         (λ f e q. ⊎_elim
         (λ a. let told : read_control num ≡ failed 0 who = said ∙ ap without_entry (sym now ∙ ap v.control (sym a.0) ∙ q) in
-        subst (λ (y : Ref). In (decided y (failed 0 who)) x.notes) (sym a.0) (subst (λ (c : Control). In (decided d (failed 0 who)) (control_noted k.side d c).notes) (sym told) (inl refl)))
-        (λ a. (grows_control k.side d (read_control num)).notes (decided f (failed 0 who)) (h.failures f e a)) (failed_or f e who q))
+        subst (λ (y : Ref). In (decided y (failed 0 who)) x.facts) (sym a.0) (subst (λ (c : Control). In (decided d (failed 0 who)) (control_noted k.side d c).facts) (sym told) (inl refl)))
+        (λ a. (grows_control k.side d (read_control num)).facts (decided f (failed 0 who)) (h.failures f e a)) (failed_or f e who q))
 
     decides_now : After num
     decides_now = subst (λ (b : Bool). Core (world_after w who (decides d set_to)) z then
-        (updated keep who (record k { side = cond b x (cond (Rattle.rh_descriptor.specs.Steps.is_known k.side.notes d) (Rattle.rh_descriptor.specs.Steps.gone_noted k.side d) k.side); control = control_seen k d num })))
+        (updated keep who (record k { side = cond b x (cond (Rattle.rh_descriptor.specs.Steps.is_known k.side.facts d) (Rattle.rh_descriptor.specs.Steps.gone_noted k.side d) k.side); control = control_seen k d num })))
         (sym (eq-eqb (serial_in num) d.number (serial_said_is d.number set_to has_state)))
         (subst (λ (y : World). Core y z then (updated keep who (record k { side = x; control = control_seen k d num }))) (sym same) record {
           side = updated side who s;

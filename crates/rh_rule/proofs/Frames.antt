@@ -4,7 +4,7 @@ use Rattle.std.proofs.lemmas.Nat.{mul-add-lt}
 use Rattle.rh_descriptor.specs.declared.shape.Shape.{Shape}
 use Rattle.rh_descriptor.specs.declared.shape.Part.{Part}
 use Rattle.rh_descriptor.specs.declared.shape.Part.TheVariants as part
-use Rattle.rh_descriptor.specs.Parts.{IsPart, cell_count, entry_row, mark_row, note_row, index_of, row_count, row_index, word_count}
+use Rattle.rh_descriptor.specs.Parts.{IsPart, cell_count, entry_row, mark_row, reason_row, index_of, row_count, row_index, word_count}
 use Rattle.rh_descriptor.proofs.IndexLemmas.{entry_inside, same_part}
 use Rattle.rh_rule.specs.Represents.{word_at}
 
@@ -27,7 +27,7 @@ module _ (z : Shape) where
   index_within (part.MarkSerial worker) here = row_within worker (mark_row z 0) here (omega arith)
   index_within (part.MarkDesc worker) here = row_within worker (mark_row z 1) here (omega arith)
   index_within (part.MarkEntry worker) here = row_within worker (mark_row z 2) here (omega arith)
-  index_within (part.Note worker owner) here = row_within worker (note_row z owner) here.0 (let h = here.1 in omega (arith, h))
+  index_within (part.Reason worker owner) here = row_within worker (reason_row z owner) here.0 (let h = here.1 in omega (arith, h))
   index_within part.Counter here = omega arith
 
   module _ (words : List ℕ) (p : Part) (n : ℕ) (here : IsPart z p) where

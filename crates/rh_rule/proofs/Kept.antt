@@ -3,8 +3,8 @@ use Rattle.std.proofs.Common.{suc, ◌≡◌, ◌≢◌, ℕ, ◌<◌, ◌≤◌
 use Rattle.rh_world.specs.World.{Control, In, IsOpened, IsUsed, Ref, World, updated}
 use Rattle.rh_world.specs.World.Cell.{mark}
 use Rattle.rh_world.specs.World.Control.{failed}
-use Rattle.rh_world.specs.Notes.{Note}
-use Rattle.rh_world.specs.Notes.Note.{decided}
+use Rattle.rh_world.specs.Facts.{Fact}
+use Rattle.rh_world.specs.Facts.Fact.{decided}
 use Rattle.rh_world.specs.Later.{Steady}
 use Rattle.rh_world.specs.Sides.{Side}
 use Rattle.rh_world.proofs.Updated.{updated_at, updated_else, updated_here}
@@ -43,29 +43,29 @@ MarksStay z words then w = (x : Ref) → IsMark z x → IsUsed w x → Stands z 
 -- what is kept of which descriptors are over
 abbrev pub Over : (who : ℕ) → List OwnDesc → Side → Type 0
 Over who opened s = (o : OwnDesc) → In o opened
-    → (s.current ≡ Some o.number) ⊎ ((r : Control) × In (decided (record { worker = who; number = o.number }) r) s.notes)
+    → (s.current ≡ Some o.number) ⊎ ((r : Control) × In (decided (record { worker = who; number = o.number }) r) s.facts)
 
 -- what the Side of a worker, and its control word as it was last seen, are to meet
 pub record Meets (z : Shape) (words : List ℕ) (w : World) (u : ℕ) (k : View) (x : Side) (c : ℕ) : Type 0 where
   pub over : Over u k.opened x
   pub no_control : k.next_number ≡ 0 → c ≡ 0
-  pub control : (n : ℕ) (r : Control) → suc n ≡ k.next_number → In (decided (record { worker = u; number = n }) r) x.notes → c ≡ number_of n r
+  pub control : (n : ℕ) (r : Control) → suc n ≡ k.next_number → In (decided (record { worker = u; number = n }) r) x.facts → c ≡ number_of n r
   pub open_row : (n : ℕ) → x.current ≡ Some n → HasItsRow z words (record { worker = u; number = n })
-  pub failures : (d : Ref) (e : ℕ) → w.control d ≡ failed e u → In (decided d (failed 0 u)) x.notes
+  pub failures : (d : Ref) (e : ℕ) → w.control d ≡ failed e u → In (decided d (failed 0 u)) x.facts
 
 -- a Side that knows more, with the same descriptor open
 pub record Grows (s t : Side) : Type 0 where
   pub current : t.current ≡ s.current
-  pub notes : (n : Note) → In n s.notes → In n t.notes
+  pub facts : (n : Fact) → In n s.facts → In n t.facts
 
 -- a Side that knows more, but of no control, and opens nothing
 pub record Quiet (s t : Side) : Type 0 where
   pub current : (n : ℕ) → t.current ≡ Some n → s.current ≡ Some n
-  pub notes : (n : Note) → In n s.notes → In n t.notes
-  pub decided : (d : Ref) (r : Control) → In (Note.decided d r) t.notes → In (Note.decided d r) s.notes
+  pub facts : (n : Fact) → In n s.facts → In n t.facts
+  pub decided : (d : Ref) (r : Control) → In (Fact.decided d r) t.facts → In (Fact.decided d r) s.facts
 
 pub over_grows : (s t : Side) (u : ℕ) (opened : List OwnDesc) → Grows s t → Over u opened s → Over u opened t
-over_grows s t u opened g over o i = ⊎_elim (λ c. inl (g.current ∙ c)) (λ n. inr (n.0, g.notes (decided (record { worker = u; number = o.number }) n.0) n.1)) (over o i)
+over_grows s t u opened g over o i = ⊎_elim (λ c. inl (g.current ∙ c)) (λ n. inr (n.0, g.facts (decided (record { worker = u; number = o.number }) n.0) n.1)) (over o i)
 
 module _ (z : Shape) (words then : List ℕ) (w v : World) (l : Steady w v) where
   -- the rows
@@ -186,7 +186,7 @@ module _ (z : Shape) (words then : List ℕ) (w v : World) (l : Steady w v) wher
     no_control = h.no_control;
     control = λ n r is i. h.control n r is (q.decided (record { worker = u; number = n }) r i);
     open_row = λ n c. serial ∙ h.open_row n (q.current n c);
-    failures = λ d e f. q.notes (decided d (failed 0 u)) (h.failures d e (fails d e f));
+    failures = λ d e f. q.facts (decided d (failed 0 u)) (h.failures d e (fails d e f));
   }
 
 -- the parts of a new representation

@@ -7,7 +7,7 @@
 -- Frames: a word that is set leaves the other parts of the table.
 -- Kept: what stays of a representation, and how a new one is put together.
 -- Touched: a step that sets the word of one part, and what stays of the representation then.
--- Erasing: the notes are the same in words and world without the numbers of acts and the entries of failures.
+-- Erasing: the facts are the same in words and world without the numbers of acts and the entries of failures.
 -- Deciders: a control without the entry at which it failed, as its word tells it.
 -- ReadsKept: Reads, which change no word.
 -- WritesKept: Writes and Claims.

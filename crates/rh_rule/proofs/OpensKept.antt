@@ -2,8 +2,8 @@
 use Rattle.std.proofs.Common.{◌≡◌, ◌≢◌, ℕ, zero, suc, Bool, cond, eq-eqb, ◌+◌, ◌<◌, ◌≤◌, ◌⊎◌, List, [], ◌∷◌, length, get_or, set, sym, refl, ap, ◌∙◌, subst, inl, inr, ⊎_elim, arith, Some, None}
 use Rattle.rh_world.specs.World.{Control, In, IsDecided, IsOpened, Ref, World, updated, updated_ref}
 use Rattle.rh_world.specs.World.Control.{failed, undecided, unused, withdrawn}
-use Rattle.rh_world.specs.Notes.{Note}
-use Rattle.rh_world.specs.Notes.Note.{decided}
+use Rattle.rh_world.specs.Facts.{Fact}
+use Rattle.rh_world.specs.Facts.Fact.{decided}
 use Rattle.rh_world.specs.Later.{Steady}
 use Rattle.rh_world.specs.Sides.{Side, open_side}
 use Rattle.rh_world.specs.Rule.{Rule}
@@ -43,12 +43,12 @@ entries_said rows index zero e h = absurd (omega arith)
 entries_said rows index (suc n) zero h = ap (entry_said rows) (let q : index ≡ index + 0 = omega arith in q)
 entries_said rows index (suc n) (suc e) h = entries_said rows (suc index) n e (omega arith) ∙ ap (entry_said rows) (let q : suc index + e ≡ index + suc e = omega arith in q)
 
--- the notes grow, and the last descriptor is open
+-- the facts grow, and the last descriptor is open
 pub entries_current : (s : Side) (d : Ref) (p : Entries) (n : ℕ) → (note_entries s d p n).current ≡ s.current
 entries_current s d p zero = refl
 entries_current s d p (suc n) = entries_current s d p n
 
-pub entries_notes : (s : Side) (d : Ref) (p : Entries) (n : ℕ) (i : Note) → In i s.notes → In i (note_entries s d p n).notes
+pub entries_notes : (s : Side) (d : Ref) (p : Entries) (n : ℕ) (i : Fact) → In i s.facts → In i (note_entries s d p n).facts
 entries_notes s d p zero i h = inr (inr h)
 entries_notes s d p (suc n) i h = inr (inr (inr (entries_notes s d p n i h)))
 
@@ -64,7 +64,7 @@ fits_cells z es are = all (length es) refl
     all zero is = omega arith
     all (suc n) is = let lt : n < length es = omega (arith, is) in let r = reaches n lt in let c = are.cells n lt in omega (arith, r, c)
 
-no_decided : (s : Side) (d : Ref) (p : Entries) (n : ℕ) (f : Ref) (r : Control) → In (decided f r) (note_entries s d p n).notes → In (decided f r) s.notes
+no_decided : (s : Side) (d : Ref) (p : Entries) (n : ℕ) (f : Ref) (r : Control) → In (decided f r) (note_entries s d p n).facts → In (decided f r) s.facts
 no_decided s d p zero f r i = ⊎_elim (λ e. cc) (λ j. ⊎_elim (λ e. cc) (λ j. j) j) i
 no_decided s d p (suc n) f r i = ⊎_elim (λ e. cc) (λ j. ⊎_elim (λ e. cc) (λ j. ⊎_elim (λ e. cc) (λ j. no_decided s d p n f r j) j) j) i
 
@@ -124,9 +124,9 @@ module _ (z : Shape) (shape : IsShape z) (words : List ℕ) (keep : ℕ → View
           let q = newest_word z shape words keep w side rule m who mine f mine (sym some) in
           let o = m.controls.newest f mine (sym some) in
           let listed = of_number n k.opened (h.all n o.0) in
-          let known : (r : Control) × In (decided f r) k.side.notes = ⊎_elim
+          let known : (r : Control) × In (decided f r) k.side.facts = ⊎_elim
           (λ c. let bad : None ≡ Some listed.0.number = sym can.closed ∙ c in cc)
-          (λ g. (g.0, subst (λ (i : ℕ). In (decided (record { worker = who; number = i }) g.0) k.side.notes) listed.2 g.1)) (h.over listed.0 listed.1) in
+          (λ g. (g.0, subst (λ (i : ℕ). In (decided (record { worker = who; number = i }) g.0) k.side.facts) listed.2 g.1)) (h.over listed.0 listed.1) in
           let told = true_decided z shape words keep w side rule m who mine f known.0 known.1 in
           q.0 ∙ sym (told_number n (w.control f)) ∙ ap (number_of n) told.1 ∙ sym (h.control n known.0 (sym (h.next_number ∙ some)) known.1)
 
@@ -218,7 +218,7 @@ module _ (z : Shape) (shape : IsShape z) (words : List ℕ) (keep : ℕ → View
       omega arith
 
   -- a descriptor that was not opened before is not noted as decided
-  not_noted : (r : Control) → In (decided d r) k'.side.notes → ⊥
+  not_noted : (r : Control) → In (decided d r) k'.side.facts → ⊥
   not_noted r i =
       let j = no_decided (open_side k.side k.next_number) (own_desc k) es_of size d r i in
       let told = true_decided z shape words keep w side rule m who mine d r j in
@@ -234,7 +234,7 @@ module _ (z : Shape) (shape : IsShape z) (words : List ℕ) (keep : ℕ → View
     desc_room = (let q = can.room in omega (arith, q));
     no_control = λ e. absurd (let q : suc k.next_number ≡ 0 = e in omega (arith, q));
     control = λ n r is i. let same : n ≡ k.next_number = (let q : suc n ≡ suc k.next_number = is in omega (arith, q)) in
-        let bad = not_noted r (subst (λ (x : ℕ). In (decided (record { worker = who; number = x }) r) k'.side.notes) (same ∙ h.next_number) i) in absurd bad;
+        let bad = not_noted r (subst (λ (x : ℕ). In (decided (record { worker = who; number = x }) r) k'.side.facts) (same ∙ h.next_number) i) in absurd bad;
     open_row = λ n c. subst (λ (i : ℕ). HasItsRow z then (record { worker = who; number = i }))
         (sym h.next_number ∙ some_injective k.next_number n (sym (entries_current (open_side k.side k.next_number) (own_desc k) es_of size) ∙ c)) has_row;
     failures = λ f e q. ⊎_elim
@@ -300,7 +300,7 @@ module _ (z : Shape) (shape : IsShape z) (words : List ℕ) (keep : ℕ → View
         (λ (x : (f.worker ≡ who) × (updated w.next_number who (suc (w.next_number who)) f.worker ≡ suc (w.next_number who))).
         absurd (r.0 (ref_path f d x.0 (let a : suc f.number ≡ suc (w.next_number who) = is ∙ x.1 in omega (arith, a)))))
         (λ (x : (f.worker ≢ who) × (updated w.next_number who (suc (w.next_number who)) f.worker ≡ w.next_number f.worker)).
-        word_same z words p (number_of (w.next_number who) undecided) mine (part.Note by f.worker) (m.controls.deciders f e by before, (m.controls.descs f o).0) (λ y. cc)
+        word_same z words p (number_of (w.next_number who) undecided) mine (part.Reason by f.worker) (m.controls.deciders f e by before, (m.controls.descs f o).0) (λ y. cc)
         ∙ m.controls.reasons f e by before (is ∙ x.1))
         (updated_at w.next_number who f.worker (suc (w.next_number who))))
         (updated_ref_at w.control d f undecided);

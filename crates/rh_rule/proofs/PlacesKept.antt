@@ -2,8 +2,8 @@
 use Rattle.std.proofs.Common.{◌≡◌, ◌≢◌, ℕ, suc, eqb, ◌<◌, ◌⊎◌, Bool, true, false, cond, List, get_or, set, sym, refl, ap, ◌∙◌, subst, inl, inr, ⊎_elim, arith}
 use Rattle.rh_world.specs.World.{Cell, Control, IsOpened, IsUsed, Ref, World, is_ref, updated}
 use Rattle.rh_world.specs.World.Cell.{desc, mark, plain}
-use Rattle.rh_world.specs.Notes.{Note}
-use Rattle.rh_world.specs.Notes.Note.{decided, found, held, met, mismatch, old_is, size_is, target_is}
+use Rattle.rh_world.specs.Facts.{Fact}
+use Rattle.rh_world.specs.Facts.Fact.{decided, found, held, met, mismatch, old_is, size_is, target_is}
 use Rattle.rh_world.specs.Later.{Steady}
 use Rattle.rh_world.specs.Sides.{Side, note_side}
 use Rattle.rh_world.specs.Rule.{Rule}
@@ -32,7 +32,7 @@ grows_place : (s : Side) (x d : Ref) (e c old : ℕ) (n : Cell) → Grows s (pla
 grows_place s x d e c old (plain u) = either (eqb u old)
   where
     either : (b : Bool) → Grows s (cond b (placed_noted s x d e c) (note_side s (mismatch d e 0)))
-    either true = record { current = refl; notes = λ m i. inr (inr (inr i)) }
+    either true = record { current = refl; facts = λ m i. inr (inr (inr i)) }
     either false = grows_note s (mismatch d e 0)
 grows_place s x d e c old (mark y) = grows_note s (found y c)
 grows_place s x d e c old (desc f) = either (is_ref f d)
@@ -41,8 +41,8 @@ grows_place s x d e c old (desc f) = either (is_ref f d)
     either true = grows_note s (held d e)
     either false = grows_note s (met f)
 
-quiet_note : (s : Side) (n : Note) → ((f : Ref) (r : Control) → decided f r ≡ n → ⊥) → Quiet s (note_side s n)
-quiet_note s n other = record { current = λ i q. q; notes = λ m i. inr i; decided = λ f r i. ⊎_elim (λ q. absurd (other f r q)) (λ j. j) i }
+quiet_note : (s : Side) (n : Fact) → ((f : Ref) (r : Control) → decided f r ≡ n → ⊥) → Quiet s (note_side s n)
+quiet_note s n other = record { current = λ i q. q; facts = λ m i. inr i; decided = λ f r i. ⊎_elim (λ q. absurd (other f r q)) (λ j. j) i }
 
 quiet_index : (s : Side) (x d : Ref) (e c old : ℕ) (n : Cell) → Quiet s (place_noted s x d e c old n 0)
 quiet_index s x d e c old (plain u) = either (eqb u old)
@@ -50,7 +50,7 @@ quiet_index s x d e c old (plain u) = either (eqb u old)
     either : (b : Bool) → Quiet s (cond b (placed_noted s x d e c) (note_side s (mismatch d e 0)))
     either true = record {
       current = λ i q. q;
-      notes = λ m i. inr (inr (inr i));
+      facts = λ m i. inr (inr (inr i));
       decided = λ f r i. ⊎_elim (λ q. cc) (λ j. ⊎_elim (λ q. cc) (λ j. ⊎_elim (λ q. cc) (λ j. j) j) j) i;
     }
     either false = quiet_note s (mismatch d e 0) (λ f r q. cc)

@@ -3,9 +3,9 @@ use Rattle.std.proofs.Common.{zero, suc, ◌≡◌, ◌≢◌, ℕ, eqb, ◌<◌
 use Rattle.rh_world.specs.World.{Cell, Control, In, IsDecided, IsOpened, IsUsed, Ref, World, is_ref, updated}
 use Rattle.rh_world.specs.World.Cell.{desc, mark, plain}
 use Rattle.rh_world.specs.World.Control.{failed, succeeded, undecided, unused, withdrawn}
-use Rattle.rh_world.specs.Notes.{HoldsIn, Note, part_of}
-use Rattle.rh_world.specs.Notes.Note.{decided, desc_is, failed_at, found, held, known, may_demote, may_promote, met, mismatch, new_is, old_is, over, passed, size_is, target_is, which_is}
-use Rattle.rh_world.specs.Notes.Part.{of_rows}
+use Rattle.rh_world.specs.Facts.{HoldsIn, Fact, part_of}
+use Rattle.rh_world.specs.Facts.Fact.{decided, desc_is, failed_at, found, held, known, may_demote, may_promote, met, mismatch, new_is, old_is, over, passed, size_is, target_is, which_is}
+use Rattle.rh_world.specs.Facts.Part.{of_rows}
 use Rattle.rh_world.specs.Sides.{Side, note_side}
 use Rattle.rh_world.specs.Rule.{Rule}
 use Rattle.rh_world.specs.Moves.{HasSeen, IsRowNote, MayWork, cell_noted, control_noted, mark_noted, note_all, side_after}
@@ -35,52 +35,52 @@ use Rattle.rh_rule.proofs.Said.{HasState, cell_said_is, control_said_is, desc_sa
 -- ---- Sides that grow
 
 pub grows_none : (s : Side) → Grows s s
-grows_none s = record { current = refl; notes = λ n i. i }
+grows_none s = record { current = refl; facts = λ n i. i }
 
-pub grows_note : (s : Side) (n : Note) → Grows s (note_side s n)
-grows_note s n = record { current = refl; notes = λ m i. inr i }
+pub grows_note : (s : Side) (n : Fact) → Grows s (note_side s n)
+grows_note s n = record { current = refl; facts = λ m i. inr i }
 
 pub grows_then : (s t r : Side) → Grows s t → Grows t r → Grows s r
-grows_then s t r g h = record { current = h.current ∙ g.current; notes = λ n i. h.notes n (g.notes n i) }
+grows_then s t r g h = record { current = h.current ∙ g.current; facts = λ n i. h.facts n (g.facts n i) }
 
 grows_cell : (s : Side) (c : ℕ) (k : Cell) (q : Option ℕ) (acts next : ℕ) → Grows s (cell_noted s c k q acts next)
-grows_cell s c (plain u) None acts next = record { current = refl; notes = λ n i. i }
+grows_cell s c (plain u) None acts next = record { current = refl; facts = λ n i. i }
 grows_cell s c (plain u) (Some p) acts next = grows_none s
 grows_cell s c (mark x) q acts next = grows_note s (found x c)
 grows_cell s c (desc d) q acts next = grows_note s (met d)
 
 pub grows_control : (s : Side) (d : Ref) (k : Control) → Grows s (control_noted s d k)
 grows_control s d unused = grows_none s
-grows_control s d undecided = record { current = refl; notes = λ n i. inr i }
+grows_control s d undecided = record { current = refl; facts = λ n i. inr i }
 grows_control s d succeeded = grows_note s (decided d succeeded)
 grows_control s d withdrawn = grows_note s (decided d withdrawn)
 grows_control s d (failed e by) = grows_note s (decided d (failed e by))
 
 grows_mark : (s : Side) (x : Ref) (c : ℕ) (k : Control) → Grows s (mark_noted s x c k)
 grows_mark s x c unused = grows_none s
-grows_mark s x c undecided = grows_note s (Note.may_promote x c)
-grows_mark s x c succeeded = grows_note s (Note.may_demote x)
-grows_mark s x c withdrawn = grows_note s (Note.may_demote x)
-grows_mark s x c (failed e by) = grows_note s (Note.may_demote x)
+grows_mark s x c undecided = grows_note s (Fact.may_promote x c)
+grows_mark s x c succeeded = grows_note s (Fact.may_demote x)
+grows_mark s x c withdrawn = grows_note s (Fact.may_demote x)
+grows_mark s x c (failed e by) = grows_note s (Fact.may_demote x)
 
 -- what is noted of a control is how it is decided
-pub in_control : (s : Side) (d : Ref) (c : Control) (f : Ref) (r : Control) → In (decided f r) (control_noted s d c).notes
-    → ((f ≡ d) × (r ≡ c)) ⊎ In (decided f r) s.notes
+pub in_control : (s : Side) (d : Ref) (c : Control) (f : Ref) (r : Control) → In (decided f r) (control_noted s d c).facts
+    → ((f ≡ d) × (r ≡ c)) ⊎ In (decided f r) s.facts
 in_control s d unused f r i = inr i
 in_control s d undecided f r i = ⊎_elim (λ e. cc) inr i
 in_control s d succeeded f r i = ⊎_elim (λ (e : decided f r ≡ decided d succeeded). inl ((let a : f ≡ d = cc in a), (let b : r ≡ succeeded = cc in b))) inr i
 in_control s d withdrawn f r i = ⊎_elim (λ (e : decided f r ≡ decided d withdrawn). inl ((let a : f ≡ d = cc in a), (let b : r ≡ withdrawn = cc in b))) inr i
 in_control s d (failed n by) f r i = ⊎_elim (λ (e : decided f r ≡ decided d (failed n by)). inl ((let a : f ≡ d = cc in a), (let b : r ≡ failed n by = cc in b))) inr i
 
-in_mark : (s : Side) (x : Ref) (c : ℕ) (k : Control) (f : Ref) (r : Control) → In (decided f r) (mark_noted s x c k).notes → In (decided f r) s.notes
+in_mark : (s : Side) (x : Ref) (c : ℕ) (k : Control) (f : Ref) (r : Control) → In (decided f r) (mark_noted s x c k).facts → In (decided f r) s.facts
 in_mark s x c unused f r i = i
 in_mark s x c undecided f r i = ⊎_elim (λ e. cc) (λ j. j) i
 in_mark s x c succeeded f r i = ⊎_elim (λ e. cc) (λ j. j) i
 in_mark s x c withdrawn f r i = ⊎_elim (λ e. cc) (λ j. j) i
 in_mark s x c (failed n by) f r i = ⊎_elim (λ e. cc) (λ j. j) i
 
--- d is known where a note tells that it was opened
-tells_yes : (n : Note) (d : Ref) → tells_opened n d ≡ true → ((n ≡ known d) ⊎ ((k : Control) × (n ≡ decided d k))) ⊎ (n ≡ met d)
+-- d is known where a fact tells that it was opened
+tells_yes : (n : Fact) (d : Ref) → tells_opened n d ≡ true → ((n ≡ known d) ⊎ ((k : Control) × (n ≡ decided d k))) ⊎ (n ≡ met d)
 tells_yes (met f) d e = inr (ap met (is_ref_yes f d e))
 tells_yes (known f) d e = inl (inl (ap known (is_ref_yes f d e)))
 tells_yes (size_is f i) d e = absurd (true≢false (sym e))
@@ -99,7 +99,7 @@ tells_yes (may_demote x) d e = absurd (true≢false (sym e))
 tells_yes (held f i) d e = absurd (true≢false (sym e))
 tells_yes (mismatch f i n) d e = absurd (true≢false (sym e))
 
-known_yes : (ns : List Note) (d : Ref) → is_known ns d ≡ true → IsKnown ns d
+known_yes : (ns : List Fact) (d : Ref) → is_known ns d ≡ true → IsKnown ns d
 known_yes [] d e = absurd (true≢false (sym e))
 known_yes (n ∷ ns) d e = ⊎_elim
     (λ (q : tells_opened n d ≡ true). ⊎_elim (⊎_elim (λ r. inl (inl (inl (sym r)))) (λ r. inl (inr (r.0, inl (sym r.1))))) (λ r. inr (inl (sym r))) (tells_yes n d q))
@@ -123,30 +123,30 @@ unused_or (failed e by) h = absurd (h (λ q. cc))
 -- ---- Sides that note no control
 
 pub quiet_none : (s : Side) → Quiet s s
-quiet_none s = record { current = λ n e. e; notes = λ n i. i; decided = λ d r i. i }
+quiet_none s = record { current = λ n e. e; facts = λ n i. i; decided = λ d r i. i }
 
 quiet_cell : (s : Side) (c : ℕ) (k : Cell) (q : Option ℕ) (acts next : ℕ) → Quiet s (cell_noted s c k q acts next)
-quiet_cell s c (plain u) None acts next = record { current = λ n e. e; notes = λ n i. i; decided = λ d r i. i }
+quiet_cell s c (plain u) None acts next = record { current = λ n e. e; facts = λ n i. i; decided = λ d r i. i }
 quiet_cell s c (plain u) (Some p) acts next = quiet_none s
-quiet_cell s c (mark x) q acts next = record { current = λ n e. e; notes = λ n i. inr i; decided = λ d r i. ⊎_elim (λ e. cc) (λ j. j) i }
-quiet_cell s c (desc f) q acts next = record { current = λ n e. e; notes = λ n i. inr i; decided = λ d r i. ⊎_elim (λ e. cc) (λ j. j) i }
+quiet_cell s c (mark x) q acts next = record { current = λ n e. e; facts = λ n i. inr i; decided = λ d r i. ⊎_elim (λ e. cc) (λ j. j) i }
+quiet_cell s c (desc f) q acts next = record { current = λ n e. e; facts = λ n i. inr i; decided = λ d r i. ⊎_elim (λ e. cc) (λ j. j) i }
 
-not_row : (n : Note) → IsRowNote n → (d : Ref) (r : Control) → decided d r ≡ n → ⊥
+not_row : (n : Fact) → IsRowNote n → (d : Ref) (r : Control) → decided d r ≡ n → ⊥
 not_row n row d r e = subst IsRowNote (sym e) row
 
-quiet_all : (s : Side) (ns : List Note) → ((n : Note) → In n ns → IsRowNote n) → Quiet s (note_all s ns)
+quiet_all : (s : Side) (ns : List Fact) → ((n : Fact) → In n ns → IsRowNote n) → Quiet s (note_all s ns)
 quiet_all s [] h = quiet_none s
 quiet_all s (n ∷ ns) h = let q = quiet_all s ns (λ m i. h m (inr i)) in record {
   current = q.current;
-  notes = λ m i. inr (q.notes m i);
+  facts = λ m i. inr (q.facts m i);
   decided = λ d r i. ⊎_elim (λ e. absurd (not_row n (h n (inl refl)) d r e)) (λ j. q.decided d r j) i;
 }
 
-grows_all : (s : Side) (ns : List Note) → Grows s (note_all s ns)
+grows_all : (s : Side) (ns : List Fact) → Grows s (note_all s ns)
 grows_all s [] = grows_none s
 grows_all s (n ∷ ns) = grows_then s (note_all s ns) (note_all s (n ∷ ns)) (grows_all s ns) (grows_note (note_all s ns) n)
 
-in_append : (n : Note) (l r : List Note) → In n (l ++ r) → In n l ⊎ In n r
+in_append : (n : Fact) (l r : List Fact) → In n (l ++ r) → In n l ⊎ In n r
 in_append n [] r i = inr i
 in_append n (m ∷ l) r i = ⊎_elim (λ e. inl (inl e)) (λ j. ⊎_elim (λ o. inl (inr o)) inr (in_append n l r j)) i
 
@@ -162,35 +162,35 @@ module _ (z : Shape) (shape : IsShape z) (words : List ℕ) (keep : ℕ → View
   pub h : Kept z words w t who k
   h = m.kept who mine
 
-  -- a note that is kept is one of the Side, and true
-  pub known_note : (n : Note) → IsWhole n → In n k.side.notes → In n t.notes
-  known_note n whole i = in_whole n t whole (subst (λ (s : Side). In n s.notes) h.side_is i)
+  -- a fact that is kept is one of the Side, and true
+  pub known_note : (n : Fact) → IsWhole n → In n k.side.facts → In n t.facts
+  known_note n whole i = in_whole n t whole (subst (λ (s : Side). In n s.facts) h.side_is i)
 
-  pub true_note : (n : Note) → IsWhole n → part_of n ≡ of_rows → In n k.side.notes → HoldsIn w n
-  true_note n whole of i = rule.rows.notes who n (known_note n whole i) of
+  pub true_note : (n : Fact) → IsWhole n → part_of n ≡ of_rows → In n k.side.facts → HoldsIn w n
+  true_note n whole of i = rule.rows.facts who n (known_note n whole i) of
 
   -- of a decision all is kept but who made it
-  pub known_decided : (d : Ref) (r : Control) → In (decided d r) k.side.notes → (j : Control) × (without_entry j ≡ r) × In (decided d j) t.notes
-  known_decided d r i = in_decided d r t (subst (λ (s : Side). In (decided d r) s.notes) h.side_is i)
+  pub known_decided : (d : Ref) (r : Control) → In (decided d r) k.side.facts → (j : Control) × (without_entry j ≡ r) × In (decided d j) t.facts
+  known_decided d r i = in_decided d r t (subst (λ (s : Side). In (decided d r) s.facts) h.side_is i)
 
-  pub true_decided : (d : Ref) (r : Control) → In (decided d r) k.side.notes → IsDecided r × (without_entry (w.control d) ≡ r)
+  pub true_decided : (d : Ref) (r : Control) → In (decided d r) k.side.facts → IsDecided r × (without_entry (w.control d) ≡ r)
   true_decided d r i =
       let j = known_decided d r i in
-      let holds = rule.rows.notes who (decided d j.0) j.2 refl in
+      let holds = rule.rows.facts who (decided d j.0) j.2 refl in
       (subst IsDecided j.1 (told_decided j.0 holds.0), ap without_entry holds.1 ∙ j.1)
 
-  pub opened_known : (d : Ref) → IsKnown k.side.notes d → IsOpened (w.control d)
+  pub opened_known : (d : Ref) → IsKnown k.side.facts d → IsOpened (w.control d)
   opened_known d o = ⊎_elim
       (⊎_elim (λ i. true_note (known d) tt refl i) (λ i. let q = true_decided d i.0 i.1 in λ e. subst IsDecided (sym q.1 ∙ ap without_entry e) q.0))
       (λ i. true_note (met d) tt refl i) o
 
-  pub seen_known : (d : Ref) → HasSeen k.side.notes d → HasSeen t.notes d
+  pub seen_known : (d : Ref) → HasSeen k.side.facts d → HasSeen t.facts d
   seen_known d o = ⊎_elim (λ i. inl (known_note (known d) tt i)) (λ i. let j = known_decided d i.0 i.1 in inr (j.0, j.2)) o
 
   pub work_known : (d : Ref) (e : ℕ) → MayWork k.side d e → IsOpened (w.control d) × (e < w.size d)
   work_known d e may = let q = true_note (size_is d may.size) tt refl may.known in (q.0, subst (λ (n : ℕ). e < n) (sym q.1) may.within)
 
-  pub mark_known : (d : Ref) (e : ℕ) → KnowsMark k.side.notes d e → IsOpened (w.control d) × (e < w.size d)
+  pub mark_known : (d : Ref) (e : ℕ) → KnowsMark k.side.facts d e → IsOpened (w.control d) × (e < w.size d)
   mark_known d e may =
       let x : Ref = may.0 in
       let is = true_note (desc_is x d) tt refl may.1 in
@@ -226,19 +226,19 @@ module _ (z : Shape) (shape : IsShape z) (words : List ℕ) (keep : ℕ → View
   still = side_grows t k.side rule_none h.side_is (quiet_none k.side) (grows_none k.side)
 
   -- what rows say is learned, where the own control is as it was last seen
-  learn_seen : (ns : List Note) → ((n : Note) → In n ns → IsRowNote n × HoldsIn w n) → (c : ℕ) → c ≡ k.control
+  learn_seen : (ns : List Fact) → ((n : Fact) → In n ns → IsRowNote n × HoldsIn w n) → (c : ℕ) → c ≡ k.control
       → Core w z words (updated keep who (record k { side = note_all k.side ns; control = c }))
   learn_seen ns may c same = side_keeps (note_all t ns) (note_all k.side ns) c k.raw_rows k.raw (each_step_keeps w side who (learns ns) rule may)
       ((λ i. note_all (h.side_is i) ns) ∙ erased_all t ns (λ n i. (may n i).0))
       (subst (λ (i : ℕ). Meets z words w who k (note_all k.side ns) i) (sym same) (meets_quiet (note_all k.side ns) (quiet_all k.side ns (λ n i. (may n i).0)) (grows_all k.side ns)))
       h.raw_rows h.raw
 
-  learn_all : (ns : List Note) → ((n : Note) → In n ns → IsRowNote n × HoldsIn w n)
+  learn_all : (ns : List Fact) → ((n : Fact) → In n ns → IsRowNote n × HoldsIn w n)
       → Core w z words (updated keep who (record k { side = note_all k.side ns }))
   learn_all ns may = learn_seen ns may k.control refl
 
-  learn : (n : Note) → IsRowNote n × HoldsIn w n → Core w z words (updated keep who (record k { side = note_side k.side n }))
-  learn n may = learn_all (n ∷ []) (λ o i. ⊎_elim (λ (q : o ≡ n). subst (λ (p : Note). IsRowNote p × HoldsIn w p) (sym q) may) (λ j. absurd j) i)
+  learn : (n : Fact) → IsRowNote n × HoldsIn w n → Core w z words (updated keep who (record k { side = note_side k.side n }))
+  learn n may = learn_all (n ∷ []) (λ o i. ⊎_elim (λ (q : o ≡ n). subst (λ (p : Fact). IsRowNote p × HoldsIn w p) (sym q) may) (λ j. absurd j) i)
 
   -- nothing is learned yet
   keep_raw : (r : Raw) → IsRaw z words w r → Core w z words (updated keep who (record k { raw = r ∷ k.raw }))
@@ -282,9 +282,9 @@ module _ (z : Shape) (shape : IsShape z) (words : List ℕ) (keep : ℕ → View
       let is : suc n.0 ≡ w.next_number d.worker = n.1 in
       older (omega arith)
 
-  both_gone : (d : Ref) → HoldsIn w (over d) × HoldsIn w (passed d) → (n : Note) → In n (passed d ∷ over d ∷ []) → IsRowNote n × HoldsIn w n
-  both_gone d g n i = ⊎_elim (λ (e : n ≡ passed d). subst (λ (o : Note). IsRowNote o × HoldsIn w o) (sym e) (tt, g.1))
-      (λ j. ⊎_elim (λ (e : n ≡ over d). subst (λ (o : Note). IsRowNote o × HoldsIn w o) (sym e) (tt, g.0)) (λ q. absurd q) j) i
+  both_gone : (d : Ref) → HoldsIn w (over d) × HoldsIn w (passed d) → (n : Fact) → In n (passed d ∷ over d ∷ []) → IsRowNote n × HoldsIn w n
+  both_gone d g n i = ⊎_elim (λ (e : n ≡ passed d). subst (λ (o : Fact). IsRowNote o × HoldsIn w o) (sym e) (tt, g.1))
+      (λ j. ⊎_elim (λ (e : n ≡ over d). subst (λ (o : Fact). IsRowNote o × HoldsIn w o) (sym e) (tt, g.0)) (λ q. absurd q) j) i
 
   -- ---- controls
 
@@ -316,17 +316,17 @@ module _ (z : Shape) (shape : IsShape z) (words : List ℕ) (keep : ℕ → View
 
   -- while the row of a mark stands, all that was read in it is true
   module _ (x : Ref) (used : IsUsed w x) (stands : Stands z words x) where
-    true_word : (u : MarkWord) → IsSaid w x u → (n : Note) → In n (mark_said x u) → IsRowNote n × HoldsIn w n
+    true_word : (u : MarkWord) → IsSaid w x u → (n : Fact) → In n (mark_said x u) → IsRowNote n × HoldsIn w n
     true_word (desc_word u) said n i =
         let d : Ref = w.mark_desc x in
         let names : desc_in u ≡ Some d = ap desc_in said ∙ desc_said_is z shape d (m.controls.descs d (rule.rows.used x used).0) in
         one (subst (λ (o : Option Ref). In n (desc_said x o)) names i)
       where
         one : In n (desc_is x (w.mark_desc x) ∷ []) → IsRowNote n × HoldsIn w n
-        one i = ⊎_elim (λ (e : n ≡ desc_is x (w.mark_desc x)). subst (λ (o : Note). IsRowNote o × HoldsIn w o) (sym e) (tt, (used, refl))) (λ j. absurd j) i
-    true_word (entry_word u) said n i = ⊎_elim (λ (e : n ≡ which_is x u). subst (λ (o : Note). IsRowNote o × HoldsIn w o) (sym e) (tt, (used, sym said))) (λ j. absurd j) i
+        one i = ⊎_elim (λ (e : n ≡ desc_is x (w.mark_desc x)). subst (λ (o : Fact). IsRowNote o × HoldsIn w o) (sym e) (tt, (used, refl))) (λ j. absurd j) i
+    true_word (entry_word u) said n i = ⊎_elim (λ (e : n ≡ which_is x u). subst (λ (o : Fact). IsRowNote o × HoldsIn w o) (sym e) (tt, (used, sym said))) (λ j. absurd j) i
 
-    true_words : (rs : List Raw) → ((r : Raw) → In r rs → In r k.raw) → (n : Note) → In n (row_said rs x) → IsRowNote n × HoldsIn w n
+    true_words : (rs : List Raw) → ((r : Raw) → In r rs → In r k.raw) → (n : Fact) → In n (row_said rs x) → IsRowNote n × HoldsIn w n
     true_words [] sub n i = absurd i
     true_words (r ∷ rs) sub n i = either (true_words rs (λ q j. sub q (inr j)) n) (is_ref r.mark x) refl i
       where
@@ -357,23 +357,23 @@ module _ (z : Shape) (shape : IsShape z) (words : List ℕ) (keep : ℕ → View
 
   -- what the own control word is taken for, once that of d was seen to say r
   pub meets_seen : (then : List ℕ) (v : World) → word_at z then (part.Serial who) ≡ word_at z words (part.Serial who) → (d : Ref) (now : Control) (x : Side)
-      → ((e : Ref) (r : Control) → In (decided e r) x.notes → ((e ≡ d) × (r ≡ now)) ⊎ In (decided e r) k.side.notes)
-      → ((r : Control) → In (decided d r) k.side.notes → r ≡ now) → Grows k.side x → (seen : ℕ)
+      → ((e : Ref) (r : Control) → In (decided e r) x.facts → ((e ≡ d) × (r ≡ now)) ⊎ In (decided e r) k.side.facts)
+      → ((r : Control) → In (decided d r) k.side.facts → r ≡ now) → Grows k.side x → (seen : ℕ)
       → (suc d.number ≡ w.next_number d.worker → seen ≡ number_of d.number now)
-      → ((f : Ref) (e : ℕ) → v.control f ≡ failed e who → In (decided f (failed 0 who)) x.notes) → Meets z then v who k x (control_seen k d seen)
-  meets_seen then v serial d now x notes before g seen seen_is fails = record {
+      → ((f : Ref) (e : ℕ) → v.control f ≡ failed e who → In (decided f (failed 0 who)) x.facts) → Meets z then v who k x (control_seen k d seen)
+  meets_seen then v serial d now x facts before g seen seen_is fails = record {
     over = over_grows k.side x who k.opened g h.over;
     no_control = λ e. ap (λ (b : Bool). cond b seen k.control) (not_newest (λ q. let bad : suc d.number ≡ 0 = q ∙ e in absurd (omega (arith, bad)))) ∙ h.no_control e;
     control = λ n r next i. ⊎_elim
         (λ (e : record { worker = who; number = n } ≡ d).
         let own : d.worker ≡ k.worker = ap (λ (y : Ref). y.worker) (sym e) ∙ sym h.worker in
         let newest : suc d.number ≡ k.next_number = ap (λ (y : Ref). suc y.number) (sym e) ∙ next in
-        let told : r ≡ now = ⊎_elim (λ q. q.1) (λ j. before r (subst (λ (y : Ref). In (decided y r) k.side.notes) e j)) (notes record { worker = who; number = n } r i) in
+        let told : r ≡ now = ⊎_elim (λ q. q.1) (λ j. before r (subst (λ (y : Ref). In (decided y r) k.side.facts) e j)) (facts record { worker = who; number = n } r i) in
         ap (λ (b : Bool). cond b seen k.control) (and_true (eq-eqb d.worker k.worker own) (eq-eqb (suc d.number) k.next_number newest))
         ∙ seen_is (newest ∙ h.next_number ∙ ap w.next_number (ap (λ (y : Ref). y.worker) e)) ∙ ap (λ (c : Control). number_of d.number c) (sym told) ∙ ap (λ (y : Ref). number_of y.number r) (sym e))
         (λ (ne : record { worker = who; number = n } ≢ d).
         ap (λ (b : Bool). cond b seen k.control) (other_newest n next ne)
-        ∙ h.control n r next (⊎_elim (λ q. absurd (ne q.0)) (λ j. j) (notes record { worker = who; number = n } r i)))
+        ∙ h.control n r next (⊎_elim (λ q. absurd (ne q.0)) (λ j. j) (facts record { worker = who; number = n } r i)))
         (same_ref record { worker = who; number = n } d);
     open_row = λ n c. serial ∙ h.open_row n (sym g.current ∙ c);
     failures = fails;
@@ -389,11 +389,11 @@ module _ (z : Shape) (shape : IsShape z) (words : List ℕ) (keep : ℕ → View
           (same_nat d.worker k.worker)
 
   pub meets_control : (d : Ref) → d.worker < z.workers → serial_in (word_at z words (part.Control d.worker)) ≡ d.number → (x : Side)
-      → ((e : Ref) (r : Control) → In (decided e r) x.notes → ((e ≡ d) × (r ≡ without_entry (w.control d))) ⊎ In (decided e r) k.side.notes)
+      → ((e : Ref) (r : Control) → In (decided e r) x.facts → ((e ≡ d) × (r ≡ without_entry (w.control d))) ⊎ In (decided e r) k.side.facts)
       → Grows k.side x → (seen : ℕ) → seen ≡ word_at z words (part.Control d.worker) → Meets z words w who k x (control_seen k d seen)
-  meets_control d u is x notes g seen seen_is = meets_seen words w refl d (without_entry (w.control d)) x notes (λ r j. sym (true_decided d r j).1) g seen
+  meets_control d u is x facts g seen seen_is = meets_seen words w refl d (without_entry (w.control d)) x facts (λ r j. sym (true_decided d r j).1) g seen
       (λ next. seen_is ∙ (m.controls.newest d u next).1 ∙ sym (told_number d.number (w.control d)))
-      (λ f e q. g.notes (decided f (failed 0 who)) (h.failures f e q))
+      (λ f e q. g.facts (decided f (failed 0 who)) (h.failures f e q))
 
   -- where it has another number, d has gone on, and the own one is as it was last seen
   seen_other : (d : Ref) → d.worker < z.workers → serial_in (word_at z words (part.Control d.worker)) ≢ d.number → (seen : ℕ) → control_seen k d seen ≡ k.control
@@ -419,7 +419,7 @@ module _ (z : Shape) (shape : IsShape z) (words : List ℕ) (keep : ℕ → View
   true_row d o (new_word e n) s = (tt, (o, sym s))
 
   true_rows : (d : Ref) → IsOpened (w.control d) → HasItsRow z words d → (rs : List RawRow) → ((r : RawRow) → In r rs → In r k.raw_rows)
-      → (n : Note) → In n (rows_said rs d) → IsRowNote n × HoldsIn w n
+      → (n : Fact) → In n (rows_said rs d) → IsRowNote n × HoldsIn w n
   true_rows d o has [] sub n i = absurd i
   true_rows d o has (r ∷ rs) sub n i = either (true_rows d o has rs (λ q j. sub q (inr j)) n) (is_ref r.desc d) refl i
     where
@@ -429,10 +429,10 @@ module _ (z : Shape) (shape : IsShape z) (words : List ℕ) (keep : ℕ → View
           let same : r.desc ≡ d = is_ref_yes r.desc d e in
           let raw = h.raw_rows r (sub r (inl refl)) in
           let said : IsRowSaid w d r.word = subst (λ (y : Ref). HasItsRow z words y → IsRowSaid w y r.word) same raw.said has in
-          ⊎_elim (λ (q : n ≡ desc_row_said d r.word). subst (λ (x : Note). IsRowNote x × HoldsIn w x) (sym q) (true_row d o r.word said)) others i
+          ⊎_elim (λ (q : n ≡ desc_row_said d r.word). subst (λ (x : Fact). IsRowNote x × HoldsIn w x) (sym q) (true_row d o r.word said)) others i
       either others false e i = others i
 
-  was_opened : (d : Ref) → WasOpened k.side.notes d → IsOpened (w.control d)
+  was_opened : (d : Ref) → WasOpened k.side.facts d → IsOpened (w.control d)
   was_opened d o = ⊎_elim (opened_known d) (λ i. let is = true_note (desc_is i.0 d) tt refl i.1 in subst (λ (y : Ref). IsOpened (w.control y)) is.1 (rule.rows.used i.0 is.0).0) o
 
   pub keeps_read : (r : Reading) → IsRead z r → IsNoted k r → (word : ℕ) → word ≡ get_or words (index_read z r) 0
@@ -443,9 +443,9 @@ module _ (z : Shape) (shape : IsShape z) (words : List ℕ) (keep : ℕ → View
       side_grows (side_after w t who (reads_cell c)) (read_noted k (reading.Cell c) word) (each_step_keeps w side who (reads_cell c) rule tt)
       ((λ i. cell_noted (h.side_is i) c (said i) (h.side_is i).current 0 (h.next_number i)) ∙ erased_cell t c (w.cell c) t.current w.act_count (w.next_number who))
       (quiet_cell k.side c (cell_in word) k.side.current 0 k.next_number) (grows_cell k.side c (cell_in word) k.side.current 0 k.next_number)
-  keeps_read (reading.Control d) here may word is = either (eqb (serial_in word) d.number) refl (is_known k.side.notes (ref_of d)) refl
+  keeps_read (reading.Control d) here may word is = either (eqb (serial_in word) d.number) refl (is_known k.side.facts (ref_of d)) refl
     where
-      either : (b : Bool) → eqb (serial_in word) d.number ≡ b → (c : Bool) → is_known k.side.notes (ref_of d) ≡ c
+      either : (b : Bool) → eqb (serial_in word) d.number ≡ b → (c : Bool) → is_known k.side.facts (ref_of d) ≡ c
           → Core w z words (updated keep who (record k {
             side = cond b (control_noted k.side (ref_of d) (read_control word)) (cond c (gone_noted k.side (ref_of d)) k.side);
             control = control_seen k (ref_of d) word;
@@ -461,7 +461,7 @@ module _ (z : Shape) (shape : IsShape z) (words : List ℕ) (keep : ℕ → View
           (grows_control k.side (ref_of d) (read_control word)) word is)
           h.raw_rows h.raw
       either false e true q =
-          let o = opened_known (ref_of d) (known_yes k.side.notes (ref_of d) q) in
+          let o = opened_known (ref_of d) (known_yes k.side.facts (ref_of d) q) in
           let ne : serial_in (word_at z words (part.Control d.worker)) ≢ d.number = λ r. eqb_not (serial_in word) d.number e (ap serial_in is ∙ r) in
           learn_seen (passed (ref_of d) ∷ over (ref_of d) ∷ []) (both_gone (ref_of d) (older_gone (ref_of d) o ne)) (control_seen k (ref_of d) word) (seen_other (ref_of d) here.0 ne word)
       either false e false q =
@@ -501,7 +501,7 @@ module _ (z : Shape) (shape : IsShape z) (words : List ℕ) (keep : ℕ → View
           let g = older_gone (ref_of d) opened ne in
           let demotes : HoldsIn w (may_demote (ref_of x)) = (used, subst (λ (y : Ref). IsDecided (w.control y)) same g.0) in
           learn_seen (may_demote (ref_of x) ∷ passed (ref_of d) ∷ over (ref_of d) ∷ [])
-          (λ n i. ⊎_elim (λ (q : n ≡ may_demote (ref_of x)). subst (λ (o : Note). IsRowNote o × HoldsIn w o) (sym q) (tt, demotes)) (both_gone (ref_of d) g n) i)
+          (λ n i. ⊎_elim (λ (q : n ≡ may_demote (ref_of x)). subst (λ (o : Fact). IsRowNote o × HoldsIn w o) (sym q) (tt, demotes)) (both_gone (ref_of d) g n) i)
           (control_seen k (ref_of d) word) (seen_other (ref_of d) here.0 ne word)
   keeps_read (reading.Serial d) here may word is = either (was_opened (ref_of d) may) (eqb word d.number) refl
     where

@@ -4,7 +4,7 @@ use Rattle.rh_tagword.specs.Word.{tag_of}
 use Rattle.rh_world.specs.World.{Cell, In, IsDecided, IsOpened, Ref, World}
 use Rattle.rh_world.specs.World.Control.{failed, undecided, unused, withdrawn}
 use Rattle.rh_world.proofs.Updated.{ref_path, same_nat}
-use Rattle.rh_world.specs.Notes.Note.{decided, desc_is, failed_at, found, known, new_is, old_is, size_is, target_is, which_is}
+use Rattle.rh_world.specs.Facts.Fact.{decided, desc_is, failed_at, found, known, new_is, old_is, size_is, target_is, which_is}
 use Rattle.rh_world.specs.Sides.{KeptRead, Side}
 use Rattle.rh_world.specs.Rule.{Rule}
 use Rattle.rh_world.proofs.EndsKept.{claims_share_out}
@@ -44,7 +44,7 @@ module _ (z : Shape) (shape : IsShape z) (words : List ℕ) (keep : ℕ → View
   next_same : (d : Ref) → d.worker ≡ v.worker → w.next_number d.worker ≡ v.next_number
   next_same d own = ap w.next_number (own ∙ h.worker) ∙ sym h.next_number
 
-  row : (d : Ref) → d.worker ≡ v.worker → IsKnown v.side.notes d → row_word v.written 1 ≡ d.number → OwnRow v d
+  row : (d : Ref) → d.worker ≡ v.worker → IsKnown v.side.facts d → row_word v.written 1 ≡ d.number → OwnRow v d
   row d own i serial =
       let opened = opened_known z shape words keep w side rule m who mine d i in
       let of_who : d.worker ≡ who = own ∙ h.worker in
@@ -155,7 +155,7 @@ module _ (z : Shape) (shape : IsShape z) (words : List ℕ) (keep : ℕ → View
           opened = λ e. o (told_unused (w.control d) (sym told ∙ e));
           noted = λ e q.
               let f = told_failed (w.control d) e v.worker (sym told ∙ q) in
-              subst (λ (u : ℕ). In (decided d (failed 0 u)) v.side.notes) (sym h.worker) (h.failures d f.0 (f.1 ∙ ap (λ (u : ℕ). failed f.0 u) h.worker));
+              subst (λ (u : ℕ). In (decided d (failed 0 u)) v.side.facts) (sym h.worker) (h.failures d f.0 (f.1 ∙ ap (λ (u : ℕ). failed f.0 u) h.worker));
           older = λ q f same i.
               let open_still : w.control d ≡ undecided = told_undecided (w.control d) (sym told ∙ q) in
               let of_f = true_decided z shape words keep w side rule m who mine f (failed 0 v.worker) i in

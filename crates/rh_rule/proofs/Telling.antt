@@ -3,8 +3,8 @@ use Rattle.std.proofs.Common.{◌≡◌, ℕ, ◌<◌, ◌⊎◌, Bool, true, fa
 use Rattle.rh_tagword.specs.Word.{tag_of}
 use Rattle.rh_world.specs.World.{Cell, Control, HasFailed, In, Ref, World, is_ref}
 use Rattle.rh_world.specs.World.Control.{succeeded}
-use Rattle.rh_world.specs.Notes.{Note}
-use Rattle.rh_world.specs.Notes.Note.{decided, desc_is, failed_at, found, held, known, may_demote, may_promote, met, mismatch, new_is, old_is, over, passed, size_is, target_is, which_is}
+use Rattle.rh_world.specs.Facts.{Fact}
+use Rattle.rh_world.specs.Facts.Fact.{decided, desc_is, failed_at, found, held, known, may_demote, may_promote, met, mismatch, new_is, old_is, over, passed, size_is, target_is, which_is}
 use Rattle.rh_world.specs.Acts.{cells_after, is_success}
 use Rattle.rh_world.specs.Laws.{Foretold}
 use Rattle.rh_world.specs.Sides.{Side}
@@ -43,8 +43,8 @@ told : (w : World) (z : Shape) (words : List ℕ) (keep : ℕ → View) (core : 
 told w z words keep core =
     let m = core.represents in
     let order = one_order w core.side core.rule in
-    let failed : (v : ℕ) (d : Ref) (e : ℕ) → v < z.workers → In (failed_at d e) (keep v).side.notes → HasFailed w d e = λ v d e lt i.
-    core.rule.rows.notes v (failed_at d e) (in_whole (failed_at d e) (core.side v) tt (subst (λ (s : Side). In (failed_at d e) s.notes) (m.kept v lt).side_is i)) refl in
+    let failed : (v : ℕ) (d : Ref) (e : ℕ) → v < z.workers → In (failed_at d e) (keep v).side.facts → HasFailed w d e = λ v d e lt i.
+    core.rule.rows.facts v (failed_at d e) (in_whole (failed_at d e) (core.side v) tt (subst (λ (s : Side). In (failed_at d e) s.facts) (m.kept v lt).side_is i)) refl in
     record {
       order = order;
       foretold = prefixes_say w core.side core.rule;
@@ -53,8 +53,8 @@ told w z words keep core =
       opening = λ v c lt inside. sym ((m.kept v lt).opening c inside);
       opened = λ v o lt i. (m.kept v lt).opened o i;
       results = λ v d k lt i.
-          let j = in_decided d k (core.side v) (subst (λ (s : Side). In (decided d k) s.notes) (m.kept v lt).side_is i) in
-          ap without_entry (core.rule.rows.notes v (decided d j.0) j.2 refl).1 ∙ j.1;
+          let j = in_decided d k (core.side v) (subst (λ (s : Side). In (decided d k) s.facts) (m.kept v lt).side_is i) in
+          ap without_entry (core.rule.rows.facts v (decided d j.0) j.2 refl).1 ∙ j.1;
       failed = failed;
       missed = λ v o e lt j i. missed_so w core.side (prefixes_say w core.side core.rule) v o e ((m.kept v lt).opened o j) (failed v (record { worker = v; number = o.number }) e lt i);
       own = λ v lt. let h = m.kept v lt in order.own v _ h.falling h.all;
@@ -74,7 +74,7 @@ true_or : (a b : Bool) → (a ≡ true) ⊎ (b ≡ true) → (a || b) ≡ true
 true_or true b e = refl
 true_or false b e = ⊎_elim (λ q. absurd (true≢false (sym q))) (λ q. q) e
 
-says_so : (n : Note) (d : Ref) → says_success n d ≡ true → decided d succeeded ≡ n
+says_so : (n : Fact) (d : Ref) → says_success n d ≡ true → decided d succeeded ≡ n
 says_so (met f) d e = absurd (true≢false (sym e))
 says_so (known f) d e = absurd (true≢false (sym e))
 says_so (size_is f i) d e = absurd (true≢false (sym e))
@@ -107,14 +107,14 @@ ref_self d = ⊎_elim (λ p. p) (λ q. absurd (is_ref_no d d q refl)) (bool_case
         only true = refl
         only false = refl
 
-pub noted_in : (ns : List Note) (d : Ref) → is_noted_success ns d ≡ true → In (decided d succeeded) ns
+pub noted_in : (ns : List Fact) (d : Ref) → is_noted_success ns d ≡ true → In (decided d succeeded) ns
 noted_in [] d e = absurd (true≢false (sym e))
 noted_in (n ∷ ns) d e = ⊎_elim (λ q. inl (says_so n d q)) (λ q. inr (noted_in ns d q)) (or_true (says_success n d) (is_noted_success ns d) e)
 
-pub in_noted : (ns : List Note) (d : Ref) → In (decided d succeeded) ns → is_noted_success ns d ≡ true
+pub in_noted : (ns : List Fact) (d : Ref) → In (decided d succeeded) ns → is_noted_success ns d ≡ true
 in_noted [] d i = absurd i
 in_noted (n ∷ ns) d i = true_or (says_success n d) (is_noted_success ns d)
-    (⊎_elim (λ e. inl (ap (λ (m : Note). says_success m d) (sym e) ∙ ap (λ (b : Bool). b && true) (ref_self d))) (λ j. inr (in_noted ns d j)) i)
+    (⊎_elim (λ e. inl (ap (λ (m : Fact). says_success m d) (sym e) ∙ ap (λ (b : Bool). b && true) (ref_self d))) (λ j. inr (in_noted ns d j)) i)
 
 pub same_bool : (a b : Bool) → (a ≡ true → b ≡ true) → (b ≡ true → a ≡ true) → a ≡ b
 same_bool true b f g = sym (f refl)
@@ -122,7 +122,7 @@ same_bool false true f g = g refl
 same_bool false false f g = refl
 
 -- a control that is noted is noted as a success exactly where it is one
-pub success_noted : (ns : List Note) (d : Ref) (c : Control) → ((r : Control) → In (decided d r) ns → c ≡ r)
+pub success_noted : (ns : List Fact) (d : Ref) (c : Control) → ((r : Control) → In (decided d r) ns → c ≡ r)
     → (r : Control) × In (decided d r) ns → is_success c ≡ is_noted_success ns d
 success_noted ns d c true_of noted = same_bool (is_success c) (is_noted_success ns d)
     (λ e. in_noted ns d (subst (λ (k : Control). In (decided d k) ns) (sym (true_of noted.0 noted.1) ∙ success_yes c e) noted.1))
@@ -152,28 +152,28 @@ rests w z words keep core rest =
       plain = λ c lt. ap (λ (u : ℕ). tag_of u) (m.cells.cells c lt ∙ ap cell_number (settled.cells c)) ∙ subst (λ (k : Cell). IsCell z k) (settled.cells c) (m.cells.standing c lt);
       acts = λ v lt.
           let h = m.kept v lt in
-          t.own v lt ∙ filtered (λ n. is_success (w.control (record { worker = v; number = n }))) (λ o. is_noted_success (keep v).side.notes (record { worker = (keep v).worker; number = o.number })) (keep v).opened
+          t.own v lt ∙ filtered (λ n. is_success (w.control (record { worker = v; number = n }))) (λ o. is_noted_success (keep v).side.facts (record { worker = (keep v).worker; number = o.number })) (keep v).opened
           (λ o i.
           let d : Ref = record { worker = v; number = o.number } in
-          sym (told_success (w.control d)) ∙ success_noted (keep v).side.notes d (without_entry (w.control d)) (λ k j. t.results v d k lt j)
+          sym (told_success (w.control d)) ∙ success_noted (keep v).side.facts d (without_entry (w.control d)) (λ k j. t.results v d k lt j)
           (⊎_elim (λ q. let bad : None ≡ Some o.number = sym (rest.rest v lt).closed ∙ q in cc) (λ q. q) (h.over o i))
-          ∙ ap (is_noted_success (keep v).side.notes) (λ j. record { worker = sym h.worker j; number = o.number }));
+          ∙ ap (is_noted_success (keep v).side.facts) (λ j. record { worker = sym h.worker j; number = o.number }));
     }
 
 -- ---- what is noted as succeeded
 
 -- no two results are noted of one descriptor
-abbrev pub OneResult : List Note → Type 0
+abbrev pub OneResult : List Fact → Type 0
 OneResult ns = (d : Ref) (j k : Control) → In (decided d j) ns → In (decided d k) ns → j ≡ k
 
 -- of what is noted as decided, no more is noted as succeeded later
-pub noted_same : (ns more : List Note) (d : Ref) (k : Control) → ((n : Note) → In n ns → In n more) → OneResult more → In (decided d k) ns
+pub noted_same : (ns more : List Fact) (d : Ref) (k : Control) → ((n : Fact) → In n ns → In n more) → OneResult more → In (decided d k) ns
     → is_noted_success more d ≡ is_noted_success ns d
 noted_same ns more d k grow one i = same_bool (is_noted_success more d) (is_noted_success ns d)
     (λ e. in_noted ns d (subst (λ (r : Control). In (decided d r) ns) (one d k succeeded (grow (decided d k) i) (noted_in more d e)) i))
     (λ e. in_noted more d (grow (decided d succeeded) (noted_in ns d e)))
 
-pub noted_no : (ns : List Note) (d : Ref) (k : Control) → OneResult ns → In (decided d k) ns → is_success k ≡ false → is_noted_success ns d ≡ false
+pub noted_no : (ns : List Fact) (d : Ref) (k : Control) → OneResult ns → In (decided d k) ns → is_success k ≡ false → is_noted_success ns d ≡ false
 noted_no ns d k one i fails = same_bool (is_noted_success ns d) false
     (λ e. sym fails ∙ ap is_success (one d k succeeded i (noted_in ns d e)))
     (λ e. absurd (true≢false (sym e)))

@@ -27,7 +27,7 @@ own_part z u (part.EntryNew worker n) lt o = (subst (λ (x : ℕ). x < z.workers
 own_part z u (part.MarkSerial worker) lt o = subst (λ (x : ℕ). x < z.workers) (sym o) lt
 own_part z u (part.MarkDesc worker) lt o = subst (λ (x : ℕ). x < z.workers) (sym o) lt
 own_part z u (part.MarkEntry worker) lt o = subst (λ (x : ℕ). x < z.workers) (sym o) lt
-own_part z u (part.Note worker owner) lt o = (subst (λ (x : ℕ). x < z.workers) (sym o.0) lt, o.1)
+own_part z u (part.Reason worker owner) lt o = (subst (λ (x : ℕ). x < z.workers) (sym o.0) lt, o.1)
 own_part z u part.Counter lt o = absurd o
 
 -- a word of a descriptor row, of a mark row
@@ -42,7 +42,7 @@ IsOfDesc (part.EntryNew worker n) = Unit {0}
 IsOfDesc (part.MarkSerial worker) = ⊥
 IsOfDesc (part.MarkDesc worker) = ⊥
 IsOfDesc (part.MarkEntry worker) = ⊥
-IsOfDesc (part.Note worker owner) = ⊥
+IsOfDesc (part.Reason worker owner) = ⊥
 IsOfDesc part.Counter = ⊥
 
 abbrev pub IsOfMark : Part → Type 0
@@ -56,7 +56,7 @@ IsOfMark (part.EntryNew worker n) = ⊥
 IsOfMark (part.MarkSerial worker) = Unit {0}
 IsOfMark (part.MarkDesc worker) = Unit {0}
 IsOfMark (part.MarkEntry worker) = Unit {0}
-IsOfMark (part.Note worker owner) = ⊥
+IsOfMark (part.Reason worker owner) = ⊥
 IsOfMark part.Counter = ⊥
 
 -- marks that are used up stay so
@@ -123,7 +123,7 @@ module _ (z : Shape) (words : List ℕ) (keep : ℕ → View) (w : World) (side 
     standing = λ c h. subst (λ (k : Cell). IsCell z k) (sym (same c)) (m.cells.standing c h);
   }
 
-  pub controls_same : ((worker : ℕ) → part.Control worker ≢ p) → ((worker owner : ℕ) → part.Note worker owner ≢ p)
+  pub controls_same : ((worker : ℕ) → part.Control worker ≢ p) → ((worker owner : ℕ) → part.Reason worker owner ≢ p)
       → ((d : Ref) → v.control d ≡ w.control d) → ((u : ℕ) → v.next_number u ≡ w.next_number u) → Controls z then v
   controls_same ne not_note same numbers = record {
     unopened = λ u lt e. word_same z words p n here (part.Control u) lt (ne u) ∙ m.controls.unopened u lt (sym (numbers u) ∙ e);
@@ -135,7 +135,7 @@ module _ (z : Shape) (words : List ℕ) (keep : ℕ → View) (w : World) (side 
     reasons = λ d e by q is.
         let f : w.control d ≡ failed e by = sym (same d) ∙ q in
         let owner = (m.controls.descs d (λ u. let bad : failed e by ≡ unused = sym f ∙ u in cc)).0 in
-        word_same z words p n here (part.Note by d.worker) (m.controls.deciders d e by f, owner) (not_note by d.worker) ∙ m.controls.reasons d e by f (is ∙ numbers d.worker);
+        word_same z words p n here (part.Reason by d.worker) (m.controls.deciders d e by f, owner) (not_note by d.worker) ∙ m.controls.reasons d e by f (is ∙ numbers d.worker);
   }
 
   pub rows_same : ((d : Ref) → IsOpened (v.control d) → IsOpened (w.control d)) → ((x : Ref) → IsUsed v x → IsUsed w x)

@@ -44,7 +44,7 @@ row_number z p v lt own =
     below (part.MarkSerial worker) o = omega arith
     below (part.MarkDesc worker) o = omega arith
     below (part.MarkEntry worker) o = omega arith
-    below (part.Note worker owner) o = (let lt : owner < z.workers = o.1 in omega arith)
+    below (part.Reason worker owner) o = (let lt : owner < z.workers = o.1 in omega arith)
     below part.Counter o = absurd o
 
 control_number : (z : Shape) (worker : ℕ) → worker < z.workers → (i : ℕ) × (i < row_total z) × (index_of z (part.Control worker) ≡ cell_count z + i)

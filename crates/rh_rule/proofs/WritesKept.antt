@@ -3,7 +3,7 @@ use Rattle.std.proofs.Common.{◌≡◌, ◌≢◌, ℕ, suc, Some, None, eqb, �
 use Rattle.rh_world.specs.World.{In, Ref, World, updated}
 use Rattle.rh_world.specs.World.Cell.{mark}
 use Rattle.rh_world.specs.World.Control.{failed, unused}
-use Rattle.rh_world.specs.Notes.Note.{decided, mismatch}
+use Rattle.rh_world.specs.Facts.Fact.{decided, mismatch}
 use Rattle.rh_world.specs.Later.{Steady}
 use Rattle.rh_world.specs.Sides.{Side, claim_side}
 use Rattle.rh_world.specs.Rule.{Rule}
@@ -40,7 +40,7 @@ own_index z u (part.EntryNew worker n) o = ap (λ (x : ℕ). row_index z x (row_
 own_index z u (part.MarkSerial worker) o = ap (λ (x : ℕ). row_index z x (row_of z (part.MarkSerial worker))) o
 own_index z u (part.MarkDesc worker) o = ap (λ (x : ℕ). row_index z x (row_of z (part.MarkDesc worker))) o
 own_index z u (part.MarkEntry worker) o = ap (λ (x : ℕ). row_index z x (row_of z (part.MarkEntry worker))) o
-own_index z u (part.Note worker owner) o = ap (λ (x : ℕ). row_index z x (row_of z (part.Note worker owner))) o.0
+own_index z u (part.Reason worker owner) o = ap (λ (x : ℕ). row_index z x (row_of z (part.Reason worker owner))) o.0
 own_index z u part.Counter o = absurd o
 
 one_owner : (z : Shape) (u v : ℕ) (q : Part) → IsOwn z u q → IsOwn z v q → u ≡ v
@@ -54,7 +54,7 @@ one_owner z u v (part.EntryNew worker n) o i = sym o.0 ∙ i.0
 one_owner z u v (part.MarkSerial worker) o i = sym o ∙ i
 one_owner z u v (part.MarkDesc worker) o i = sym o ∙ i
 one_owner z u v (part.MarkEntry worker) o i = sym o ∙ i
-one_owner z u v (part.Note worker owner) o i = sym o.0 ∙ i.0
+one_owner z u v (part.Reason worker owner) o i = sym o.0 ∙ i.0
 one_owner z u v part.Counter o i = absurd o
 
 free_own : (z : Shape) (v : View) (q : Part) (u : ℕ) → IsFree z v q u → IsOwn z v.worker q
@@ -68,7 +68,7 @@ free_own z v (part.EntryNew worker n) u f = (f.0, f.3)
 free_own z v (part.MarkSerial worker) u f = f.0
 free_own z v (part.MarkDesc worker) u f = f.0
 free_own z v (part.MarkEntry worker) u f = f.0
-free_own z v (part.Note worker owner) u f = (f.0, f.1)
+free_own z v (part.Reason worker owner) u f = (f.0, f.1)
 free_own z v part.Counter u f = f
 
 -- a word of a descriptor row, or another
@@ -83,7 +83,7 @@ of_desc_or (part.EntryNew worker n) = inl tt
 of_desc_or (part.MarkSerial worker) = inr (λ o. o)
 of_desc_or (part.MarkDesc worker) = inr (λ o. o)
 of_desc_or (part.MarkEntry worker) = inr (λ o. o)
-of_desc_or (part.Note worker owner) = inr (λ o. o)
+of_desc_or (part.Reason worker owner) = inr (λ o. o)
 of_desc_or part.Counter = inr (λ o. o)
 
 -- a word of a mark row, or another
@@ -98,7 +98,7 @@ of_mark_or (part.EntryNew worker n) = inr (λ o. o)
 of_mark_or (part.MarkSerial worker) = inl tt
 of_mark_or (part.MarkDesc worker) = inl tt
 of_mark_or (part.MarkEntry worker) = inl tt
-of_mark_or (part.Note worker owner) = inr (λ o. o)
+of_mark_or (part.Reason worker owner) = inr (λ o. o)
 of_mark_or part.Counter = inr (λ o. o)
 
 -- it is written while nothing of the worker is open
@@ -113,7 +113,7 @@ free_closed z v (part.EntryNew worker n) u f o = f.1
 free_closed z v (part.MarkSerial worker) u f o = absurd o
 free_closed z v (part.MarkDesc worker) u f o = absurd o
 free_closed z v (part.MarkEntry worker) u f o = absurd o
-free_closed z v (part.Note worker owner) u f o = absurd o
+free_closed z v (part.Reason worker owner) u f o = absurd o
 free_closed z v part.Counter u f o = absurd o
 
 -- while no mark of the worker is unsettled
@@ -128,7 +128,7 @@ free_settled z v (part.EntryNew worker n) u f o = absurd o
 free_settled z v (part.MarkSerial worker) u f o = f.1
 free_settled z v (part.MarkDesc worker) u f o = f.1
 free_settled z v (part.MarkEntry worker) u f o = f.1
-free_settled z v (part.Note worker owner) u f o = absurd o
+free_settled z v (part.Reason worker owner) u f o = absurd o
 free_settled z v part.Counter u f o = absurd o
 
 module _ (z : Shape) (shape : IsShape z) (words : List ℕ) (keep : ℕ → View) (w : World) (side : ℕ → Side) (rule : Rule w side) (m : Represents z words keep w side) (who : ℕ) (mine : who < z.workers) where
@@ -169,7 +169,7 @@ module _ (z : Shape) (shape : IsShape z) (words : List ℕ) (keep : ℕ → View
     number_next (part.MarkSerial worker) f e o = absurd o
     number_next (part.MarkDesc worker) f e o = absurd o
     number_next (part.MarkEntry worker) f e o = absurd o
-    number_next (part.Note worker owner) f e o = absurd o
+    number_next (part.Reason worker owner) f e o = absurd o
     number_next part.Counter f e o = absurd o
 
     -- after it the mark row is of the next mark
@@ -188,7 +188,7 @@ module _ (z : Shape) (shape : IsShape z) (words : List ℕ) (keep : ℕ → View
         word_same z words p u here (part.MarkSerial who) mine (λ i. let no : part.MarkSerial who ≡ part.MarkDesc worker = i ∙ sym e in cc) ∙ old.written (part.MarkSerial who) refl ∙ f.2 ∙ old.marks_used
     serial_next (part.MarkEntry worker) f e o =
         word_same z words p u here (part.MarkSerial who) mine (λ i. let no : part.MarkSerial who ≡ part.MarkEntry worker = i ∙ sym e in cc) ∙ old.written (part.MarkSerial who) refl ∙ f.2 ∙ old.marks_used
-    serial_next (part.Note worker owner) f e o = absurd o
+    serial_next (part.Reason worker owner) f e o = absurd o
     serial_next part.Counter f e o = absurd o
 
     -- the rows of the other workers' marks stay
@@ -218,16 +218,16 @@ module _ (z : Shape) (shape : IsShape z) (words : List ℕ) (keep : ℕ → View
         (λ o. let no : None ≡ Some n = sym (free_closed z own p u free o) ∙ c in cc)
         (λ clear. serial_same z words keep w side m p here u w l clear who mine ∙ old.open_row n c) (of_desc_or p)
 
-    -- no note is written over that an owner is to read
-    reason_kept : (d : Ref) (e by : ℕ) → w.control d ≡ failed e by → suc d.number ≡ w.next_number d.worker → part.Note by d.worker ≢ p
+    -- no reason is written over that an owner is to read
+    reason_kept : (d : Ref) (e by : ℕ) → w.control d ≡ failed e by → suc d.number ≡ w.next_number d.worker → part.Reason by d.worker ≢ p
     reason_kept d e by f newest q =
-        let may : IsFree z own (part.Note by d.worker) u = subst (λ (x : Part). IsFree z own x u) (sym q) free in
+        let may : IsFree z own (part.Reason by d.worker) u = subst (λ (x : Part). IsFree z own x u) (sym q) free in
         let mine_by : by ≡ who = may.0 ∙ old.worker in
-        let told : In (decided d (failed 0 own.worker)) own.side.notes = subst (λ (v : ℕ). In (decided d (failed 0 v)) own.side.notes) (sym old.worker)
+        let told : In (decided d (failed 0 own.worker)) own.side.facts = subst (λ (v : ℕ). In (decided d (failed 0 v)) own.side.facts) (sym old.worker)
         (old.failures d e (f ∙ ap (λ (v : ℕ). failed e v) mine_by)) in
         let older : d.number < may.2.desc.number = may.2.older d refl told in
-        let found = in_mismatch may.2.desc may.2.entry may.2.mismatch.0 (side who) (subst (λ (s : Side). In (mismatch may.2.desc may.2.entry may.2.mismatch.0) s.notes) old.side_is may.2.mismatch.1) in
-        let opened = (rule.prefixes.notes who (mismatch may.2.desc may.2.entry found.0) found.1 refl).0 in
+        let found = in_mismatch may.2.desc may.2.entry may.2.mismatch.0 (side who) (subst (λ (s : Side). In (mismatch may.2.desc may.2.entry may.2.mismatch.0) s.facts) old.side_is may.2.mismatch.1) in
+        let opened = (rule.prefixes.facts who (mismatch may.2.desc may.2.entry found.0) found.1 refl).0 in
         let below : may.2.desc.number < w.next_number d.worker = subst (λ (v : ℕ). may.2.desc.number < w.next_number v) may.2.of_owner (rule.rows.below may.2.desc opened) in
         absurd (omega arith)
 
@@ -242,7 +242,7 @@ module _ (z : Shape) (shape : IsShape z) (words : List ℕ) (keep : ℕ → View
           deciders = m.controls.deciders;
           reasons = λ d e by f is.
               let owner = (m.controls.descs d (λ q. let bad : failed e by ≡ unused = sym f ∙ q in cc)).0 in
-              word_same z words p u here (part.Note by d.worker) (m.controls.deciders d e by f, owner) (reason_kept d e by f is) ∙ m.controls.reasons d e by f is;
+              word_same z words p u here (part.Reason by d.worker) (m.controls.deciders d e by f, owner) (reason_kept d e by f is) ∙ m.controls.reasons d e by f is;
         }
 
     marks_still : MarksStay z words then w
@@ -345,7 +345,7 @@ module _ (z : Shape) (shape : IsShape z) (words : List ℕ) (keep : ℕ → View
             (kept_stays z words (set words (index_of z part.Counter) n) w v l (side who) s who own (claim_side own.side found) own.control own.raw_rows own.raw refl refl (λ i o. o)
             (own_same z words keep w side m part.Counter tt n v l who mine (λ o. o))
             (λ r i. raw_row_same z words keep w side m part.Counter tt n v l (λ o. o) r (old.raw_rows r i)) (λ r i. raw_same z words keep w side m part.Counter tt n v l (λ o. o) r (old.raw r i)) (λ i. claim_side (old.side_is i) (is i))
-            (quiet_same z words keep w side m part.Counter tt n v l who mine (λ o. o) (claim_side own.side found) record { current = λ i e. e; notes = λ i j. j; decided = λ d r i. i } old.over (λ d e f. f)) old)
+            (quiet_same z words keep w side m part.Counter tt n v l who mine (λ o. o) (claim_side own.side found) record { current = λ i e. e; facts = λ i j. j; decided = λ d r i. i } old.over (λ d e f. f)) old)
             (others_stay z words keep w side m part.Counter tt n v l who (λ x ne. refl) (λ x ne. refl) (λ d ne o. o) (λ x ne o. o)
             (descs_same z words keep w side m part.Counter tt n v l (λ o. o)) (marks_same z words keep w side m part.Counter tt n v l (λ o. o)) (λ x ne d e f. f));
       }

@@ -1,13 +1,13 @@
 -- A Side without the numbers of acts, and without the entries at which descriptors failed, which no control tells: they are
 -- 0.
 use Rattle.std.specs.Prelude.{map}
-use Rattle.rh_world.specs.Notes.{Note}
-use Rattle.rh_world.specs.Notes.Note.{met, known, size_is, target_is, old_is, new_is, decided, over, passed, failed_at, desc_is, which_is, found, may_promote, may_demote, held, mismatch}
+use Rattle.rh_world.specs.Facts.{Fact}
+use Rattle.rh_world.specs.Facts.Fact.{met, known, size_is, target_is, old_is, new_is, decided, over, passed, failed_at, desc_is, which_is, found, may_promote, may_demote, held, mismatch}
 use Rattle.rh_world.specs.Sides.{KeptRead, Side}
 use Rattle.rh_descriptor.specs.Words.{without_entry}
 
 -- So what a step notes is a function of the word that it found. That there are such numbers the rule says.
-abbrev pub erased_note : Note → Note
+abbrev pub erased_note : Fact → Fact
 erased_note (met d) = met d
 erased_note (known d) = known d
 erased_note (size_is d n) = size_is d n
@@ -30,4 +30,4 @@ abbrev pub erased_read : KeptRead → KeptRead
 erased_read k = record k { acts = 0 }
 
 abbrev pub erased : Side → Side
-erased s = record s { notes = map erased_note s.notes; reads = map erased_read s.reads }
+erased s = record s { facts = map erased_note s.facts; reads = map erased_read s.reads }

@@ -3,7 +3,7 @@ use Rattle.std.specs.Prelude.{suc, ◌≡◌, ℕ, ◌<◌, ◌≤◌, ◌⊎◌
 use Rattle.rh_world.specs.World.{Ref, Cell, Control, World, IsOpened, IsUsed, IsFalling, In}
 use Rattle.rh_world.specs.World.Cell.{plain, mark, desc}
 use Rattle.rh_world.specs.World.Control.{failed, withdrawn}
-use Rattle.rh_world.specs.Notes.Note.{decided}
+use Rattle.rh_world.specs.Facts.Fact.{decided}
 use Rattle.rh_world.specs.Sides.{Side, new_side}
 use Rattle.rh_descriptor.specs.declared.shape.Shape.{Shape}
 use Rattle.rh_descriptor.specs.declared.shape.Part.{Part}
@@ -45,7 +45,7 @@ pub record Controls (z : Shape) (words : List ℕ) (w : World) : Type 0 where
   -- who decided that a descriptor failed tells its owner at which entry, until the owner opens the next one
   pub deciders : (d : Ref) (e by : ℕ) → w.control d ≡ failed e by → by < z.workers
   pub reasons : (d : Ref) (e by : ℕ) → w.control d ≡ failed e by → suc d.number ≡ w.next_number d.worker
-      → word_at z words (part.Note by d.worker) ≡ e
+      → word_at z words (part.Reason by d.worker) ≡ e
 
 -- the entries of an opened descriptor
 pub record HasEntries (z : Shape) (w : World) (d : Ref) : Type 0 where
@@ -108,7 +108,7 @@ IsOwn z v (part.EntryNew worker entry) = (worker ≡ v) × (entry < cell_count z
 IsOwn z v (part.MarkSerial worker) = worker ≡ v
 IsOwn z v (part.MarkDesc worker) = worker ≡ v
 IsOwn z v (part.MarkEntry worker) = worker ≡ v
-IsOwn z v (part.Note worker owner) = (worker ≡ v) × (owner < z.workers)
+IsOwn z v (part.Reason worker owner) = (worker ≡ v) × (owner < z.workers)
 IsOwn z v part.Counter = ⊥
 
 -- a descriptor that is kept as opened has these entries in the world
@@ -142,12 +142,12 @@ pub record Kept (z : Shape) (words : List ℕ) (w : World) (side : Side) (v : �
   pub desc_room : k.next_number ≤ z.rooms.descriptors
   -- the own control word, once its newest descriptor is noted as decided
   pub no_control : k.next_number ≡ 0 → k.control ≡ 0
-  pub control : (n : ℕ) (r : Control) → suc n ≡ k.next_number → In (decided (record { worker = v; number = n }) r) k.side.notes
+  pub control : (n : ℕ) (r : Control) → suc n ≡ k.next_number → In (decided (record { worker = v; number = n }) r) k.side.facts
       → k.control ≡ number_of n r
   -- its open descriptor has its row
   pub open_row : (n : ℕ) → k.side.current ≡ Some n → HasItsRow z words (record { worker = v; number = n })
   -- each descriptor that it decided as failed is noted so
-  pub failures : (d : Ref) (e : ℕ) → w.control d ≡ failed e v → In (decided d (failed 0 v)) k.side.notes
+  pub failures : (d : Ref) (e : ℕ) → w.control d ≡ failed e v → In (decided d (failed 0 v)) k.side.facts
   pub marks_used : k.marks_used ≡ w.marks_used v
   pub mark_room : k.marks_used ≤ z.rooms.marks
   pub written : (p : Part) → IsOwn z v p → word_at z words p ≡ row_word k.written (row_of z p)
@@ -158,7 +158,7 @@ pub record Kept (z : Shape) (words : List ℕ) (w : World) (side : Side) (v : �
   pub all : (n : ℕ) → IsOpened (w.control (record { worker = v; number = n })) → In n (numbers_of k.opened)
   pub falling : IsFalling (numbers_of k.opened)
   pub over : (o : OwnDesc) → In o k.opened
-      → (k.side.current ≡ Some o.number) ⊎ ((r : Control) × In (decided (record { worker = v; number = o.number }) r) k.side.notes)
+      → (k.side.current ≡ Some o.number) ⊎ ((r : Control) × In (decided (record { worker = v; number = o.number }) r) k.side.facts)
 
 -- the words, and what is kept of the workers, represent this world and these Sides
 pub record Represents (z : Shape) (words : List ℕ) (keep : ℕ → View) (w : World) (side : ℕ → Side) : Type 0 where

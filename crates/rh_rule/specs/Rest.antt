@@ -1,8 +1,8 @@
 -- What the rule says of what is kept of the workers, at any moment and where all are at rest.
 use Rattle.std.specs.Prelude.{◌≡◌, ◌≢◌, ℕ, ◌<◌, ◌≤◌, Bool, false, ◌&&◌, ◌||◌, List, [], ◌∷◌, filter, length, slice_index, None}
 use Rattle.rh_world.specs.World.{Ref, Control, World, HasFailed, In, is_ref}
-use Rattle.rh_world.specs.Notes.{IsPrefix, Note}
-use Rattle.rh_world.specs.Notes.Note.{met, known, size_is, target_is, old_is, new_is, decided, over, passed, failed_at, desc_is, which_is, found, may_promote, may_demote, held, mismatch}
+use Rattle.rh_world.specs.Facts.{IsPrefix, Fact}
+use Rattle.rh_world.specs.Facts.Fact.{met, known, size_is, target_is, old_is, new_is, decided, over, passed, failed_at, desc_is, which_is, found, may_promote, may_demote, held, mismatch}
 use Rattle.rh_world.specs.Sides.{KeptRead, Side, AtRest}
 use Rattle.rh_world.specs.Acts.{cells_after, is_success, own_acts, successes_of}
 use Rattle.rh_world.specs.Laws.{Foretold, OneOrder, SharedOut}
@@ -36,10 +36,10 @@ pub record Told (w : World) (z : Shape) (keep : ℕ → View) (side : ℕ → Si
   pub opening : (v c : ℕ) → v < z.workers → c < cell_count z → cells_after w 0 c ≡ slice_index (keep v).opening c
   pub opened : (v : ℕ) (o : OwnDesc) → v < z.workers → In o (keep v).opened
       → IsOpenedSo w (record { worker = v; number = o.number }) o
-  pub results : (v : ℕ) (d : Ref) (k : Control) → v < z.workers → In (decided d k) (keep v).side.notes → without_entry (w.control d) ≡ k
-  pub failed : (v : ℕ) (d : Ref) (e : ℕ) → v < z.workers → In (failed_at d e) (keep v).side.notes → HasFailed w d e
+  pub results : (v : ℕ) (d : Ref) (k : Control) → v < z.workers → In (decided d k) (keep v).side.facts → without_entry (w.control d) ≡ k
+  pub failed : (v : ℕ) (d : Ref) (e : ℕ) → v < z.workers → In (failed_at d e) (keep v).side.facts → HasFailed w d e
   pub missed : (v : ℕ) (o : OwnDesc) (e : ℕ) → v < z.workers → In o (keep v).opened
-      → In (failed_at (record { worker = v; number = o.number }) e) (keep v).side.notes
+      → In (failed_at (record { worker = v; number = o.number }) e) (keep v).side.facts
       → HasMissed w side v o e (foretold.failed_acts (record { worker = v; number = o.number }))
   -- a worker's own acts, newest first, are those of its opened descriptors that succeeded
   pub own : (v : ℕ) → v < z.workers → own_acts w v w.act_count ≡ successes_of w v (numbers_of (keep v).opened)
@@ -54,8 +54,8 @@ pub record AllRest (z : Shape) (keep : ℕ → View) : Type 0 where
   pub still : (v : ℕ) → v < z.workers → (keep v).wiping ≡ None
   pub rest : (v : ℕ) → v < z.workers → AtRest (keep v).side
 
--- whether a note says that d succeeded
-abbrev pub says_success : Note → Ref → Bool
+-- whether a fact says that d succeeded
+abbrev pub says_success : Fact → Ref → Bool
 says_success (met f) d = false
 says_success (known f) d = false
 says_success (size_is f n) d = false
@@ -74,13 +74,13 @@ says_success (may_demote x) d = false
 says_success (held f e) d = false
 says_success (mismatch f e n) d = false
 
-abbrev pub is_noted_success : List Note → Ref → Bool
+abbrev pub is_noted_success : List Fact → Ref → Bool
 is_noted_success [] d = false
 is_noted_success (n ∷ ns) d = says_success n d || is_noted_success ns d
 
 -- the acts that a worker at rest has made, newest first: its opened descriptors that it noted as succeeded
 abbrev pub made : View → List OwnDesc
-made k = filter (λ o. is_noted_success k.side.notes (record { worker = k.worker; number = o.number })) k.opened
+made k = filter (λ o. is_noted_success k.side.facts (record { worker = k.worker; number = o.number })) k.opened
 
 -- where all are at rest, these are the cells
 pub record Rested (w : World) (z : Shape) (words : List ℕ) (keep : ℕ → View) (side : ℕ → Side) : Type 0 where

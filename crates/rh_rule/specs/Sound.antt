@@ -4,7 +4,7 @@ use Rattle.std.specs.Prelude.{suc, ◌≡◌, ℕ, ◌+◌, ◌<◌, ◌≤◌, 
 use Rattle.rh_tagword.specs.Control.{IsState}
 use Rattle.rh_world.specs.World.{Ref, Control, World, IsOpened, IsDecided, In}
 use Rattle.rh_world.specs.World.Control.{failed, undecided, withdrawn}
-use Rattle.rh_world.specs.Notes.Note.{size_is, target_is, old_is, new_is, decided, failed_at, desc_is, which_is, found}
+use Rattle.rh_world.specs.Facts.Fact.{size_is, target_is, old_is, new_is, decided, failed_at, desc_is, which_is, found}
 use Rattle.rh_world.specs.Sides.{KeptRead}
 use Rattle.rh_world.specs.Moves.{MayWork}
 use Rattle.rh_descriptor.specs.declared.shape.Shape.{Shape}
@@ -29,39 +29,39 @@ pub record OwnRow (v : View) (d : Ref) : Type 0 where
   pub olds : (e : ℕ) → e < length own.entries → row_word v.written (entry_row e 1) ≡ (entry_of own.entries e).old
   pub news : (e : ℕ) → e < length own.entries → row_word v.written (entry_row e 2) ≡ (entry_of own.entries e).new
 
--- what is so of the notes in a worker's view
+-- what is so of the facts in a worker's view
 pub record Sound (z : Shape) (v : View) : Type 0 where
   -- its own numbers lie within the room
   pub descs_used : v.next_number ≤ z.rooms.descriptors
   pub marks_used : v.marks_used ≤ z.rooms.marks
-  pub numbers : (d : Ref) → d.worker ≡ v.worker → IsKnown v.side.notes d → d.number < v.next_number
+  pub numbers : (d : Ref) → d.worker ≡ v.worker → IsKnown v.side.facts d → d.number < v.next_number
   -- and so do the numbers with which it kept what it read
   pub reads : (k : KeptRead) → In k v.side.reads → k.next_number ≤ v.next_number
   -- descriptors and marks that it met are of the table, and so are their entries
-  pub descs : (d : Ref) → IsKnown v.side.notes d → IsDesc z d
-  pub sizes : (d : Ref) (n : ℕ) → In (size_is d n) v.side.notes → (0 < n) × (n ≤ cell_count z)
-  pub targets : (d : Ref) (e c : ℕ) → In (target_is d e c) v.side.notes → MayWork v.side d e → c < cell_count z
-  pub olds : (d : Ref) (e u : ℕ) → In (old_is d e u) v.side.notes → MayWork v.side d e ⊎ KnowsMark v.side.notes d e → IsPlain u
-  pub news : (d : Ref) (e u : ℕ) → In (new_is d e u) v.side.notes → MayWork v.side d e → IsPlain u
-  pub marks : (x : Ref) (c : ℕ) → In (found x c) v.side.notes → IsMark z x × (c < cell_count z)
-  pub marked : (d : Ref) (e : ℕ) → KnowsMark v.side.notes d e → IsDesc z d × (e < cell_count z)
-  pub named : (x d : Ref) → In (desc_is x d) v.side.notes → IsDesc z d
-  pub results : (d : Ref) (k : Control) → In (decided d k) v.side.notes → IsDecided k
-  pub deciders : (d : Ref) (by : ℕ) → In (decided d (failed 0 by)) v.side.notes → by < z.workers
+  pub descs : (d : Ref) → IsKnown v.side.facts d → IsDesc z d
+  pub sizes : (d : Ref) (n : ℕ) → In (size_is d n) v.side.facts → (0 < n) × (n ≤ cell_count z)
+  pub targets : (d : Ref) (e c : ℕ) → In (target_is d e c) v.side.facts → MayWork v.side d e → c < cell_count z
+  pub olds : (d : Ref) (e u : ℕ) → In (old_is d e u) v.side.facts → MayWork v.side d e ⊎ KnowsMark v.side.facts d e → IsPlain u
+  pub news : (d : Ref) (e u : ℕ) → In (new_is d e u) v.side.facts → MayWork v.side d e → IsPlain u
+  pub marks : (x : Ref) (c : ℕ) → In (found x c) v.side.facts → IsMark z x × (c < cell_count z)
+  pub marked : (d : Ref) (e : ℕ) → KnowsMark v.side.facts d e → IsDesc z d × (e < cell_count z)
+  pub named : (x d : Ref) → In (desc_is x d) v.side.facts → IsDesc z d
+  pub results : (d : Ref) (k : Control) → In (decided d k) v.side.facts → IsDecided k
+  pub deciders : (d : Ref) (by : ℕ) → In (decided d (failed 0 by)) v.side.facts → by < z.workers
   -- a descriptor failed at an entry that it has
-  pub failures : (d : Ref) (e n : ℕ) → In (failed_at d e) v.side.notes → In (size_is d n) v.side.notes → e < n
+  pub failures : (d : Ref) (e n : ℕ) → In (failed_at d e) v.side.facts → In (size_is d n) v.side.facts → e < n
   -- a descriptor of its own was withdrawn only where no mark is left
-  pub withdrawals : (d : Ref) → d.worker ≡ v.worker → In (decided d withdrawn) v.side.notes → z.rooms.marks ≤ v.marks_used
+  pub withdrawals : (d : Ref) → d.worker ≡ v.worker → In (decided d withdrawn) v.side.facts → z.rooms.marks ≤ v.marks_used
   -- what it wrote of the own descriptor that has the row is what is kept of it
-  pub rows : (d : Ref) → d.worker ≡ v.worker → IsKnown v.side.notes d → row_word v.written 1 ≡ d.number → OwnRow v d
+  pub rows : (d : Ref) → d.worker ≡ v.worker → IsKnown v.side.facts d → row_word v.written 1 ≡ d.number → OwnRow v d
   -- it noted no two answers to one question
-  pub one_size : (d : Ref) (m n : ℕ) → In (size_is d m) v.side.notes → In (size_is d n) v.side.notes → m ≡ n
-  pub one_target : (d : Ref) (e b c : ℕ) → In (target_is d e b) v.side.notes → In (target_is d e c) v.side.notes → b ≡ c
-  pub one_old : (d : Ref) (e t u : ℕ) → In (old_is d e t) v.side.notes → In (old_is d e u) v.side.notes → t ≡ u
-  pub one_new : (d : Ref) (e t u : ℕ) → In (new_is d e t) v.side.notes → In (new_is d e u) v.side.notes → t ≡ u
-  pub one_result : (d : Ref) (j k : Control) → In (decided d j) v.side.notes → In (decided d k) v.side.notes → j ≡ k
-  pub one_desc : (x d f : Ref) → In (desc_is x d) v.side.notes → In (desc_is x f) v.side.notes → d ≡ f
-  pub one_entry : (x : Ref) (e f : ℕ) → In (which_is x e) v.side.notes → In (which_is x f) v.side.notes → e ≡ f
+  pub one_size : (d : Ref) (m n : ℕ) → In (size_is d m) v.side.facts → In (size_is d n) v.side.facts → m ≡ n
+  pub one_target : (d : Ref) (e b c : ℕ) → In (target_is d e b) v.side.facts → In (target_is d e c) v.side.facts → b ≡ c
+  pub one_old : (d : Ref) (e t u : ℕ) → In (old_is d e t) v.side.facts → In (old_is d e u) v.side.facts → t ≡ u
+  pub one_new : (d : Ref) (e t u : ℕ) → In (new_is d e t) v.side.facts → In (new_is d e u) v.side.facts → t ≡ u
+  pub one_result : (d : Ref) (j k : Control) → In (decided d j) v.side.facts → In (decided d k) v.side.facts → j ≡ k
+  pub one_desc : (x d f : Ref) → In (desc_is x d) v.side.facts → In (desc_is x f) v.side.facts → d ≡ f
+  pub one_entry : (x : Ref) (e f : ℕ) → In (which_is x e) v.side.facts → In (which_is x f) v.side.facts → e ≡ f
 
 -- a control word: it has a serial number and a state
 pub record IsControlWord (word : ℕ) : Type 0 where
@@ -74,8 +74,8 @@ pub record IsControlWord (word : ℕ) : Type 0 where
 -- undecided, all descriptors of its owner that this worker decided as failed are older; and an own d is the newest.
 pub record Tells (v : View) (d : Ref) (word : ℕ) : Type 0 where
   pub opened : IsOpened (read_control word)
-  pub noted : (e : ℕ) → read_control word ≡ failed e v.worker → In (decided d (failed 0 v.worker)) v.side.notes
-  pub older : read_control word ≡ undecided → (f : Ref) → f.worker ≡ d.worker → In (decided f (failed 0 v.worker)) v.side.notes → f.number < d.number
+  pub noted : (e : ℕ) → read_control word ≡ failed e v.worker → In (decided d (failed 0 v.worker)) v.side.facts
+  pub older : read_control word ≡ undecided → (f : Ref) → f.worker ≡ d.worker → In (decided f (failed 0 v.worker)) v.side.facts → f.number < d.number
   pub newest : d.worker ≡ v.worker → suc d.number ≡ v.next_number
 
 -- And it has the number of an own d that is the newest.
@@ -88,7 +88,7 @@ pub record ControlTells (v : View) (d : Ref) (word : ℕ) : Type 0 where
 abbrev pub Reads : Shape → View → Reading → (word : ℕ) → Type 0
 Reads z v (reading.Word p) word = (q : Part) → IsOwn z v.worker q → p ≡ index_of z q → word ≡ row_word v.written (row_of z q)
 Reads z v (reading.Cell c) word = IsCell z (cell_in word)
-Reads z v (reading.Control d) word = IsControlWord word × (IsKnown v.side.notes (ref_of d) → ControlTells v (ref_of d) word)
+Reads z v (reading.Control d) word = IsControlWord word × (IsKnown v.side.facts (ref_of d) → ControlTells v (ref_of d) word)
 Reads z v (reading.MarkControl x c d) word = ControlTells v (ref_of d) word
 Reads z v (reading.Serial d) word = Unit {0}
 Reads z v (reading.Length d) word = Unit {0}

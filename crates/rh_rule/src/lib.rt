@@ -36,5 +36,5 @@ mod rule;
 mod seats;
 
 pub use laws::{a_wipe_keeps, each_step_keeps, rests, table_starts, tells, workers_rely};
-pub use rule::{Opening, RowRule};
+pub use rule::{RowRule, TableKey};
 pub use seats::{all_may_wipe, close_sees, starts, steps_are_allowed, views_split_and_join};

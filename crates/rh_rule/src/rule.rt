@@ -7,7 +7,7 @@ use std::snapshot::Snapshot;
 
 /// What a table is made with: its shape, and for contracts alone the words of its cells.
 #[derive(Drop)]
-pub struct Opening {
+pub struct TableKey {
     pub shape: Shape,
     pub cells: Snapshot<Vec<u64>>,
 }
@@ -15,7 +15,7 @@ pub struct Opening {
 /// The rule of a table whose seats have views of what is kept of their workers. It has no slots.
 pub struct RowRule;
 
-impl TableRule<(), LinkedList<Known>, Opening> for RowRule {
+impl TableRule<(), LinkedList<Known>, TableKey> for RowRule {
     ghost use Rattle.rh_rule.specs.Seats.{Holds, first_view};
 
     ghost holds = { λ o. Holds o.shape };

@@ -3,7 +3,7 @@ use Rattle.std.proofs.Common.{◌≡◌, ◌≢◌, ℕ, suc, ◌<◌, inl, inr,
 use mathlib.Core.List.{reverse-cons}
 use Rattle.rh_world.specs.World.{Control, In, IsFalling, Ref}
 use Rattle.rh_world.specs.World.Control.{succeeded, undecided}
-use Rattle.rh_world.specs.Notes.Note.{decided}
+use Rattle.rh_world.specs.Facts.Fact.{decided}
 use Rattle.rh_world.specs.Sides.{Side, close_side, is_number, open_side, paid_side, release_side}
 use Rattle.rh_world.specs.Moves.{covers, release_noted}
 use Rattle.rh_world.proofs.Tests.{is_number_yes}
@@ -33,10 +33,10 @@ pub none_open : (q : Option ℕ) (n : ℕ) → q ≡ None → is_current q n ≡
 none_open q n e = ap (λ (x : Option ℕ). is_current x n) e
 
 pub while_open : (v : View) (o : OwnDesc) → v.side.current ≡ Some o.number → is_finished v o ≡ false
-while_open v o e = ap (λ b. not b && is_noted_success v.side.notes (own_ref v o.number)) (open_yes v.side.current o.number e)
+while_open v o e = ap (λ b. not b && is_noted_success v.side.facts (own_ref v o.number)) (open_yes v.side.current o.number e)
 
-pub once_closed : (v : View) (o : OwnDesc) → is_current v.side.current o.number ≡ false → is_finished v o ≡ is_noted_success v.side.notes (own_ref v o.number)
-once_closed v o e = ap (λ b. not b && is_noted_success v.side.notes (own_ref v o.number)) e
+pub once_closed : (v : View) (o : OwnDesc) → is_current v.side.current o.number ≡ false → is_finished v o ≡ is_noted_success v.side.facts (own_ref v o.number)
+once_closed v o e = ap (λ b. not b && is_noted_success v.side.facts (own_ref v o.number)) e
 
 abbrev acts_by : List OwnDesc → List Act
 acts_by os = reverse (map (λ o. act_of o.entries) os)
@@ -47,15 +47,15 @@ in_numbers (x ∷ os) o i = ⊎_elim (λ (e : o ≡ x). inl (ap (λ (y : OwnDesc
 
 -- ---- three kinds of step
 
-module _ (v : View) (t : Side) (learns : Learns v.side t) (one : OneResult t.notes) (tidy : Orderly v) where
+module _ (v : View) (t : Side) (learns : Learns v.side t) (one : OneResult t.facts) (tidy : Orderly v) where
   -- what is closed stays as it was
-  closed_same : (u : View) → u.side.notes ≡ t.notes → u.worker ≡ v.worker → (o : OwnDesc) → In o v.opened → (v.side.current ≡ Some o.number → ⊥)
+  closed_same : (u : View) → u.side.facts ≡ t.facts → u.worker ≡ v.worker → (o : OwnDesc) → In o v.opened → (v.side.current ≡ Some o.number → ⊥)
       → is_current v.side.current o.number ≡ false → is_current u.side.current o.number ≡ false → is_finished u o ≡ is_finished v o
-  closed_same u notes own o i closed before after =
+  closed_same u facts own o i closed before after =
       let k = ⊎_elim (λ q. absurd (closed q)) (λ q. q) (tidy.over o i) in
       once_closed u o after
-      ∙ (λ j. is_noted_success (notes j) record { worker = own j; number = o.number })
-      ∙ noted_same v.side.notes t.notes (own_ref v o.number) k.0 learns.notes one k.1
+      ∙ (λ j. is_noted_success (facts j) record { worker = own j; number = o.number })
+      ∙ noted_same v.side.facts t.facts (own_ref v o.number) k.0 learns.facts one k.1
       ∙ sym (once_closed v o before)
 
   -- nothing is opened or closed
@@ -69,20 +69,20 @@ module _ (v : View) (t : Side) (learns : Learns v.side t) (one : OneResult t.not
         falling = tidy.falling;
         below = tidy.below;
         newest = λ p e. tidy.newest p (sym same ∙ e);
-        over = λ o i. ⊎_elim (λ q. inl (same ∙ q)) (λ q. inr (q.0, learns.notes (decided (own_ref v o.number) q.0) q.1)) (tidy.over o i);
+        over = λ o i. ⊎_elim (λ q. inl (same ∙ q)) (λ q. inr (q.0, learns.facts (decided (own_ref v o.number) q.0) q.1)) (tidy.over o i);
       };
       stays = λ still. ap acts_by (same_filtered (is_finished next) (is_finished v) v.opened (λ o i. ⊎_elim
           (λ q. while_open next o (same ∙ q) ∙ sym (while_open v o q))
           (λ q.
-          ap (λ (x : Option ℕ). not (is_current x o.number) && is_noted_success t.notes (own_ref v o.number)) same
-          ∙ ap (λ b. not (is_current v.side.current o.number) && b) (noted_same v.side.notes t.notes (own_ref v o.number) q.0 learns.notes one q.1))
+          ap (λ (x : Option ℕ). not (is_current x o.number) && is_noted_success t.facts (own_ref v o.number)) same
+          ∙ ap (λ b. not (is_current v.side.current o.number) && b) (noted_same v.side.facts t.facts (own_ref v o.number) q.0 learns.facts one q.1))
           (tidy.over o i)));
       succeeds = λ o c i. absurd (some_not_none o.number (sym c.current ∙ sym same ∙ c.closed));
       fails = λ o k c i f. absurd (some_not_none o.number (sym c.current ∙ sym same ∙ c.closed));
     }
 
     -- the open descriptor, which is decided, is closed
-    module _ (p : ℕ) (k : Control) (current : v.side.current ≡ Some p) (noted_so : In (decided (own_ref v p) k) v.side.notes) (closed : t.current ≡ None) where
+    module _ (p : ℕ) (k : Control) (current : v.side.current ≡ Some p) (noted_so : In (decided (own_ref v p) k) v.side.facts) (closed : t.current ≡ None) where
       head : (o : OwnDesc) × (earlier : List OwnDesc) × (v.opened ≡ o ∷ earlier) × (o.number ≡ p)
       head = tidy.newest p current
 
@@ -110,7 +110,7 @@ module _ (v : View) (t : Side) (learns : Learns v.side t) (one : OneResult t.not
           closed_same next refl refl o (subst (In o) (sym head.2) (inr j)) (λ e. ne (some_injective p o.number (sym current ∙ e))) (open_no v.side.current p o.number current ne) (none_open t.current o.number closed)
 
       -- so all depends on the last one
-      finished_next : (b : Bool) → is_noted_success t.notes (own_ref v last.number) ≡ b
+      finished_next : (b : Bool) → is_noted_success t.facts (own_ref v last.number) ≡ b
           → filter (is_finished next) v.opened ≡ cond b (last ∷ filter (is_finished v) v.opened) (filter (is_finished v) v.opened)
       finished_next b is =
           let before : filter (is_finished v) v.opened ≡ filter (is_finished v) head.1 =
@@ -126,18 +126,18 @@ module _ (v : View) (t : Side) (learns : Learns v.side t) (one : OneResult t.not
           below = tidy.below;
           newest = λ n e. absurd (some_not_none n (sym e ∙ closed));
           over = λ o i. inr (⊎_elim
-              (λ q. (k, learns.notes (decided (own_ref v o.number) k) (subst (λ (n : ℕ). In (decided (own_ref v n) k) v.side.notes) (some_injective p o.number (sym current ∙ q)) noted_so)))
-              (λ q. (q.0, learns.notes (decided (own_ref v o.number) q.0) q.1)) (tidy.over o i));
+              (λ q. (k, learns.facts (decided (own_ref v o.number) k) (subst (λ (n : ℕ). In (decided (own_ref v n) k) v.side.facts) (some_injective p o.number (sym current ∙ q)) noted_so)))
+              (λ q. (q.0, learns.facts (decided (own_ref v o.number) q.0) q.1)) (tidy.over o i));
         };
         stays = λ still. absurd (some_not_none p (sym (still p current) ∙ closed));
         succeeds = λ o c i.
             let is : o ≡ last = is_last o c.opened c.current in
-            ap acts_by (finished_next true (in_noted t.notes (own_ref v last.number) (learns.notes (decided (own_ref v last.number) succeeded) (subst (λ (x : OwnDesc). In (decided (own_ref v x.number) succeeded) v.side.notes) is i))))
+            ap acts_by (finished_next true (in_noted t.facts (own_ref v last.number) (learns.facts (decided (own_ref v last.number) succeeded) (subst (λ (x : OwnDesc). In (decided (own_ref v x.number) succeeded) v.side.facts) is i))))
             ∙ reverse-cons (act_of last.entries) (map (λ (x : OwnDesc). act_of x.entries) (filter (is_finished v) v.opened))
             ∙ ap (λ (x : OwnDesc). own_acts_of v ++ act_of x.entries ∷ []) (sym is);
         fails = λ o r c i failed.
             let is : o ≡ last = is_last o c.opened c.current in
-            ap acts_by (finished_next false (noted_no t.notes (own_ref v last.number) r one (learns.notes (decided (own_ref v last.number) r) (subst (λ (x : OwnDesc). In (decided (own_ref v x.number) r) v.side.notes) is i)) failed));
+            ap acts_by (finished_next false (noted_no t.facts (own_ref v last.number) r one (learns.facts (decided (own_ref v last.number) r) (subst (λ (x : OwnDesc). In (decided (own_ref v x.number) r) v.side.facts) is i)) failed));
       }
 
   -- the next descriptor is opened
@@ -152,7 +152,7 @@ module _ (v : View) (t : Side) (learns : Learns v.side t) (one : OneResult t.not
         below = λ m i. ⊎_elim (λ (e : m ≡ o.number). omega arith) (λ j. let l = tidy.below m j in omega arith) i;
         newest = λ p e. (o, v.opened, refl, is ∙ some_injective v.next_number p (sym current ∙ e));
         over = λ x i. ⊎_elim (λ (e : x ≡ o). inl (current ∙ ap (λ (n : ℕ). Some n) (sym is) ∙ ap (λ (y : OwnDesc). Some y.number) (sym e)))
-            (λ j. inr (⊎_elim (λ q. absurd (some_not_none x.number (sym q ∙ closed))) (λ q. (q.0, learns.notes (decided (own_ref v x.number) q.0) q.1)) (tidy.over x j))) i;
+            (λ j. inr (⊎_elim (λ q. absurd (some_not_none x.number (sym q ∙ closed))) (λ q. (q.0, learns.facts (decided (own_ref v x.number) q.0) q.1)) (tidy.over x j))) i;
       };
       stays = λ still.
           ap (λ b. acts_by (cond b (o ∷ filter (is_finished opened) v.opened) (filter (is_finished opened) v.opened))) (while_open opened o (current ∙ ap (λ (n : ℕ). Some n) (sym is)))
@@ -165,7 +165,7 @@ module _ (v : View) (t : Side) (learns : Learns v.side t) (one : OneResult t.not
 
 -- ---- the steps
 
-kept_open : (z : Shape) (v : View) (s : Step) (word : ℕ) → KeepsCurrent s → OneResult (noted z v s word).side.notes → Orderly v
+kept_open : (z : Shape) (v : View) (s : Step) (word : ℕ) → KeepsCurrent s → OneResult (noted z v s word).side.facts → Orderly v
     → StepFinishes v (record v {
       side = (noted z v s word).side;
       control = (noted z v s word).control;
@@ -179,7 +179,7 @@ kept_open z v s word h one tidy =
     let k = noted z v s word in
     as_before v k.side g.learns one tidy k.control k.marks_used k.written k.raw_rows k.raw g.current
 
-opens_next : (z : Shape) (v : View) (size word : ℕ) → CanOpen z v size → OneResult (noted z v (Step.opens size) word).side.notes → Orderly v
+opens_next : (z : Shape) (v : View) (size word : ℕ) → CanOpen z v size → OneResult (noted z v (Step.opens size) word).side.facts → Orderly v
     → StepFinishes v (noted z v (Step.opens size) word)
 opens_next z v size word can one tidy =
     as_opened v (noted z v (Step.opens size) word).side (steps_learn z v (Step.opens size) word) one tidy
@@ -193,25 +193,25 @@ module _ (v : View) (d : Ref) (e c : ℕ) (tidy : Orderly v) where
   abbrev fewer : Side
   fewer = release_side paid e
 
-  same : (t : Side) → t.notes ≡ v.side.notes → t.reads ≡ v.side.reads → Learns v.side t
-  same t notes reads = record { notes = λ n i. rw notes i; reads = λ r i. rw reads i }
+  same : (t : Side) → t.facts ≡ v.side.facts → t.reads ≡ v.side.reads → Learns v.side t
+  same t facts reads = record { facts = λ n i. rw facts i; reads = λ r i. rw reads i }
 
   -- where all entries are released the descriptor is closed
-  releases_own : (k : Control) → In (decided d k) v.side.notes → d.worker ≡ v.worker → v.side.current ≡ Some d.number → (all : Bool)
-      → OneResult (cond all (close_side fewer) fewer).notes → StepFinishes v (with_side v (cond all (close_side fewer) fewer))
+  releases_own : (k : Control) → In (decided d k) v.side.facts → d.worker ≡ v.worker → v.side.current ≡ Some d.number → (all : Bool)
+      → OneResult (cond all (close_side fewer) fewer).facts → StepFinishes v (with_side v (cond all (close_side fewer) fewer))
   releases_own k noted_so own current true one =
       as_closed v (close_side fewer) (same (close_side fewer) refl refl) one tidy v.control v.marks_used v.written v.raw_rows v.raw d.number k current
-      (subst (λ (x : Ref). In (decided x k) v.side.notes) (ref_path d (own_ref v d.number) own refl) noted_so) refl
+      (subst (λ (x : Ref). In (decided x k) v.side.facts) (ref_path d (own_ref v d.number) own refl) noted_so) refl
   releases_own k noted_so own current false one = as_before v fewer (same fewer refl refl) one tidy v.control v.marks_used v.written v.raw_rows v.raw refl
 
   -- the own open one is released only where it is noted how it was decided
   releases_open : (o : Option Control) (value : ℕ) → KnowsValue v d e o value → d.worker ≡ v.worker → v.side.current ≡ Some d.number → (all : Bool)
-      → OneResult (cond all (close_side fewer) fewer).notes → StepFinishes v (with_side v (cond all (close_side fewer) fewer))
+      → OneResult (cond all (close_side fewer) fewer).facts → StepFinishes v (with_side v (cond all (close_side fewer) fewer))
   releases_open None value knows own current all one = absurd (knows.3 own current)
   releases_open (Some k) value knows own current all one = releases_own k knows.0 own current all one
 
   releases_entry : (o : Option Control) (value n : ℕ) (own : Bool) → KnowsValue v d e o value → is_number v.side.current v.worker d ≡ own
-      → OneResult (cond own (release_noted paid e n) paid).notes → StepFinishes v (with_side v (cond own (release_noted paid e n) paid))
+      → OneResult (cond own (release_noted paid e n) paid).facts → StepFinishes v (with_side v (cond own (release_noted paid e n) paid))
   releases_entry o value n true knows is one =
       let at = is_number_yes v.side.current v.worker d is in releases_open o value knows at.0 at.1 (covers n (e ∷ v.side.released)) one
   releases_entry o value n false knows is one = as_before v paid (same paid refl refl) one tidy v.control v.marks_used v.written v.raw_rows v.raw refl

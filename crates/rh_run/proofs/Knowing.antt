@@ -2,8 +2,8 @@
 use Rattle.std.proofs.Common.{◌≡◌, ℕ, zero, suc, inl, inr, ⊎_elim, refl, sym, ap, ◌∙◌, subst, eqb, Bool, true, false, cond, not, ◌&&◌, List, [], ◌∷◌, filter, Option, None}
 use Rattle.rh_world.specs.World.{Cell, In, Ref, is_ref}
 use Rattle.rh_world.specs.World.Cell.{desc, mark, plain}
-use Rattle.rh_world.specs.Notes.{Note}
-use Rattle.rh_world.specs.Notes.Note.{desc_is, found, held, met, mismatch}
+use Rattle.rh_world.specs.Facts.{Fact}
+use Rattle.rh_world.specs.Facts.Fact.{desc_is, found, held, met, mismatch}
 use Rattle.rh_world.specs.Sides.{Debt, Side, close_side, is_number, note_side, open_side, paid_side, release_side}
 use Rattle.rh_world.specs.Moves.{Entries, covers, note_entries, place_noted, placed_noted, release_noted, settle_noted}
 use Rattle.rh_world.proofs.Tests.{is_number_yes}
@@ -55,7 +55,7 @@ a_release s d e c n own =
 
 -- ---- what is known stays known
 
-module _ (s t : Side) (more : (n : Note) → In n s.notes → In n t.notes) where
+module _ (s t : Side) (more : (n : Fact) → In n s.facts → In n t.facts) where
   old_stays : (d : Ref) (c word : ℕ) → NotesOld s d c word → NotesOld t d c word
   old_stays d c word is =
       let work = is.1.work in
@@ -65,7 +65,7 @@ module _ (s t : Side) (more : (n : Note) → In n s.notes → In n t.notes) wher
   mark_stays x d is = record { cell = is.cell; word = is.word; names = more _ is.names; met = more _ is.met; old = old_stays d is.cell is.word is.old }
 
   module _ (who : ℕ) (knows : KnowsHeld s who) where
-    debt_stays : (d : Ref) (c : ℕ) → In record { desc = d; cell = c } s.debts → (x : Ref) × In (found x c) t.notes × NotesMark t x d
+    debt_stays : (d : Ref) (c : ℕ) → In record { desc = d; cell = c } s.debts → (x : Ref) × In (found x c) t.facts × NotesMark t x d
     debt_stays d c i = let is = knows.debts d c i in (is.0, more _ is.1, mark_stays is.0 d is.2)
 
     knows_less : HoldsLess s t → KnowsHeld t who
@@ -81,7 +81,7 @@ module _ (z : Shape) (v : View) (d : Ref) (e c old : ℕ) (can : CanPlace z v d 
   placed : KnowsHeld (placed_noted v.side (own_mark v) d e c) v.worker
   placed =
       let t = placed_noted v.side (own_mark v) d e c in
-      let more : (n : Note) → In n v.side.notes → In n t.notes = λ n i. inr (inr (inr i)) in
+      let more : (n : Fact) → In n v.side.facts → In n t.facts = λ n i. inr (inr (inr i)) in
       let is : NotesMark t (own_mark v) d = record {
         cell = c;
         word = old;
@@ -94,7 +94,7 @@ module _ (z : Shape) (v : View) (d : Ref) (e c old : ℕ) (can : CanPlace z v d 
         debts = debt_stays v.side t more v.worker knows;
       }
 
-  noting : (n : Note) → KnowsHeld (note_side v.side n) v.worker
+  noting : (n : Fact) → KnowsHeld (note_side v.side n) v.worker
   noting n = knows_less v.side (note_side v.side n) (λ m i. inr i) v.worker knows (holds_less.note v.side n)
 
   a_place : (k : Cell) → KnowsHeld (place_noted v.side (own_mark v) d e c old k 0) v.worker
@@ -104,7 +104,7 @@ module _ (z : Shape) (v : View) (d : Ref) (e c old : ℕ) (can : CanPlace z v d 
 
 -- one is settled, and its cell is owed
 module _ (z : Shape) (v : View) (x : Ref) (c : ℕ) (d : Ref) (e : ℕ) (old : Option ℕ) (can : CanSettle z v x c d e old) (knows : KnowsHeld v.side v.worker) where
-  module _ (t : Side) (more : (n : Note) → In n v.side.notes → In n t.notes) (one_desc : (f : Ref) → In (desc_is x f) t.notes → In (desc_is x d) t.notes → f ≡ d) (none : t.unsettled ≡ None) (debts : t.debts ≡ record { desc = d; cell = c } ∷ v.side.debts) where
+  module _ (t : Side) (more : (n : Fact) → In n v.side.facts → In n t.facts) (one_desc : (f : Ref) → In (desc_is x f) t.facts → In (desc_is x d) t.facts → f ≡ d) (none : t.unsettled ≡ None) (debts : t.debts ≡ record { desc = d; cell = c } ∷ v.side.debts) where
     settled : is_number v.side.unsettled v.worker x ≡ true → KnowsHeld t v.worker
     settled own =
         let at = is_number_yes v.side.unsettled v.worker x own in
@@ -116,7 +116,7 @@ module _ (z : Shape) (v : View) (x : Ref) (c : ℕ) (d : Ref) (e : ℕ) (old : O
           debts = λ f b i. ⊎_elim
               (λ (q : record { desc = f; cell = b } ≡ record { desc = d; cell = c }). (
                 x,
-                subst (λ (a : ℕ). In (found x a) t.notes) (sym (ap (λ (o : Debt). o.cell) q)) (more (found x c) can.found),
+                subst (λ (a : ℕ). In (found x a) t.facts) (sym (ap (λ (o : Debt). o.cell) q)) (more (found x c) can.found),
                 subst (NotesMark t x) (sym (ap (λ (o : Debt). o.desc) q)) now,
               ))
               (debt_stays v.side t more v.worker knows f b)
@@ -127,7 +127,7 @@ module _ (z : Shape) (v : View) (x : Ref) (c : ℕ) (d : Ref) (e : ℕ) (old : O
   swapped promoted = settle_noted v.side d e c promoted
 
   a_settle : (promoted own : Bool) → is_number v.side.unsettled v.worker x ≡ own
-      → ((f : Ref) → In (desc_is x f) (cond own (swapped promoted) v.side).notes → In (desc_is x d) (cond own (swapped promoted) v.side).notes → f ≡ d)
+      → ((f : Ref) → In (desc_is x f) (cond own (swapped promoted) v.side).facts → In (desc_is x d) (cond own (swapped promoted) v.side).facts → f ≡ d)
       → KnowsHeld (cond own (swapped promoted) v.side) v.worker
   a_settle true true own one = settled (swapped true) (λ n i. inr i) one refl refl own
   a_settle false true own one = settled (swapped false) (λ n i. i) one refl refl own
@@ -140,7 +140,7 @@ pub knows_next : (z : Shape) (v : View) (s : Step) (word : ℕ) → Allowed z v 
 knows_next z v s word may sound knows = go s may sound
   where
     less : (s : Step) → HoldsLess v.side (noted z v s word).side → KnowsHeld (noted z v s word).side v.worker
-    less s is = knows_less v.side (noted z v s word).side (steps_learn z v s word).notes v.worker knows is
+    less s is = knows_less v.side (noted z v s word).side (steps_learn z v s word).facts v.worker knows is
 
     go : (s : Step) → Allowed z v s → Sound z (noted z v s word) → KnowsHeld (noted z v s word).side (noted z v s word).worker
     go (Step.writes p u) may sound = knows

@@ -1,12 +1,12 @@
--- What a worker knows only grows: in each step its notes and its reads stay.
+-- What a worker knows only grows: in each step its facts and its reads stay.
 use Rattle.std.proofs.Common.{◌≡◌, ℕ, zero, suc, inr, refl, sym, ap, ◌∙◌, subst, arith, map, filter, eqb, Bool, true, cond, ◌&&◌, List, ◌∷◌}
 use Rattle.std.specs.Prelude.{nat_lt}
 use Rattle.std.specs.List.{Contains}
 use Rattle.std.proofs.lemmas.Bool.Decides.{nat_tests}
 use Rattle.rh_world.specs.World.{Cell, In, Ref, is_ref}
 use Rattle.rh_world.specs.World.Cell.{desc, mark, plain}
-use Rattle.rh_world.specs.Notes.{Note}
-use Rattle.rh_world.specs.Notes.Note.{found, held, met, mismatch}
+use Rattle.rh_world.specs.Facts.{Fact}
+use Rattle.rh_world.specs.Facts.Fact.{found, held, met, mismatch}
 use Rattle.rh_world.specs.Sides.{KeptRead, Side, close_side, is_number, note_side, open_side, paid_side, read_side, release_side, settle_side}
 use Rattle.rh_world.specs.Moves.{Entries, cell_noted, covers, note_entries, place_noted, placed_noted, release_noted, settle_noted}
 use Rattle.rh_descriptor.specs.declared.reference.Reading.TheVariants as reading
@@ -25,7 +25,7 @@ use Rattle.rh_run.specs.OwnActs.{PlainReadsComeFirst, ReadsAreKept, ReadsStay}
 
 -- t knows what s knows
 pub record Learns (s t : Side) : Type 0 where
-  pub notes : (n : Note) → In n s.notes → In n t.notes
+  pub facts : (n : Fact) → In n s.facts → In n t.facts
   pub reads : (r : KeptRead) → In r s.reads → In r t.reads
 
 -- and has the same descriptor open
@@ -35,36 +35,36 @@ pub record Grows (s t : Side) : Type 0 where
 
 grows : Follows Grows
 grows = record {
-  same = λ s. record { learns = record { notes = λ n i. i; reads = λ r i. i }; current = refl };
+  same = λ s. record { learns = record { facts = λ n i. i; reads = λ r i. i }; current = refl };
   further = λ s t r g h. record {
-    learns = record { notes = λ n i. h.learns.notes n (g.learns.notes n i); reads = λ k i. h.learns.reads k (g.learns.reads k i) };
+    learns = record { facts = λ n i. h.learns.facts n (g.learns.facts n i); reads = λ k i. h.learns.reads k (g.learns.reads k i) };
     current = h.current ∙ g.current;
   };
-  note = λ s n. record { learns = record { notes = λ m i. inr i; reads = λ r i. i }; current = refl };
-  read = λ s c u acts next. record { learns = record { notes = λ n i. i; reads = λ r i. inr i }; current = refl };
-  forget = λ s d. record { learns = record { notes = λ n i. i; reads = λ r i. i }; current = refl };
+  note = λ s n. record { learns = record { facts = λ m i. inr i; reads = λ r i. i }; current = refl };
+  read = λ s c u acts next. record { learns = record { facts = λ n i. i; reads = λ r i. inr i }; current = refl };
+  forget = λ s d. record { learns = record { facts = λ n i. i; reads = λ r i. i }; current = refl };
 }
 
 -- ---- what is noted
 
 a_place : (s : Side) (x d : Ref) (e c old : ℕ) (k : Cell) → Grows s (place_noted s x d e c old k 0)
 a_place s x d e c old (plain u) = either (Grows s) (eqb u old) (placed_noted s x d e c) (note_side s (mismatch d e 0))
-    record { learns = record { notes = λ n i. inr (inr (inr i)); reads = λ r i. i }; current = refl } (grows.note s (mismatch d e 0))
+    record { learns = record { facts = λ n i. inr (inr (inr i)); reads = λ r i. i }; current = refl } (grows.note s (mismatch d e 0))
 a_place s x d e c old (mark y) = grows.note s (found y c)
 a_place s x d e c old (desc f) = either (Grows s) (is_ref f d) (note_side s (held d e)) (note_side s (met f)) (grows.note s (held d e)) (grows.note s (met f))
 
 a_settle : (s : Side) (d : Ref) (e c : ℕ) (promoted : Bool) → Grows s (settle_noted s d e c promoted)
 a_settle s d e c promoted = either (Grows s) promoted (note_side (settle_side s d c) (held d e)) (settle_side s d c)
-    record { learns = record { notes = λ n i. inr i; reads = λ r i. i }; current = refl }
-    record { learns = record { notes = λ n i. i; reads = λ r i. i }; current = refl }
+    record { learns = record { facts = λ n i. inr i; reads = λ r i. i }; current = refl }
+    record { learns = record { facts = λ n i. i; reads = λ r i. i }; current = refl }
 
 a_release : (s : Side) (d : Ref) (e c n : ℕ) (own : Bool) → Learns s (cond own (release_noted (paid_side s d c) e n) (paid_side s d c))
 a_release s d e c n own =
     let same : Learns s s = (grows.same s).learns in
     let r = release_side (paid_side s d c) e in
     either (Learns s) own (release_noted (paid_side s d c) e n) (paid_side s d c)
-    (either (Learns s) (covers n (e ∷ s.released)) (close_side r) r record { notes = same.notes; reads = same.reads } record { notes = same.notes; reads = same.reads })
-    record { notes = same.notes; reads = same.reads }
+    (either (Learns s) (covers n (e ∷ s.released)) (close_side r) r record { facts = same.facts; reads = same.reads } record { facts = same.facts; reads = same.reads })
+    record { facts = same.facts; reads = same.reads }
 
 entries_reads : (s : Side) (d : Ref) (p : Entries) (n : ℕ) → (note_entries s d p n).reads ≡ s.reads
 entries_reads s d p zero = refl
@@ -93,7 +93,7 @@ steps_grow z v (Step.settles x c d e old) word h =
     either (Grows v.side) (is_number v.side.unsettled v.worker x) (settle_noted v.side d e c promoted) v.side (a_settle v.side d e c promoted) (grows.same v.side)
 steps_grow z v (Step.decides d k) word h = a_control_word Grows grows v.side d (decided_word d k word)
 steps_grow z v (Step.releases d e c k value) word h = absurd h
-steps_grow z v Step.claims word h = record { learns = record { notes = λ n i. i; reads = λ r i. i }; current = refl }
+steps_grow z v Step.claims word h = record { learns = record { facts = λ n i. i; reads = λ r i. i }; current = refl }
 
 pub steps_learn : (z : Shape) (v : View) (s : Step) (word : ℕ) → Learns v.side (noted z v s word).side
 steps_learn z v (Step.writes p u) word = (steps_grow z v (Step.writes p u) word tt).learns
@@ -101,7 +101,7 @@ steps_learn z v (Step.opens size) word =
     let d = own_desc v in
     let p = entries_of (next_entries v size) in
     record {
-      notes = entries_notes (open_side v.side v.next_number) d p size;
+      facts = entries_notes (open_side v.side v.next_number) d p size;
       reads = λ r i. subst (λ (rs : List KeptRead). In r rs) (sym (entries_reads (open_side v.side v.next_number) d p size)) i;
     }
 steps_learn z v (Step.reads r) word = (steps_grow z v (Step.reads r) word tt).learns

@@ -3,8 +3,8 @@
 -- Values: what an act of the world makes of the values of the cells.
 -- Happening: what the rule of a table says of the list of its acts at any moment.
 -- Resting: the same where all workers are at rest: the acts of each, and the cells.
--- Noting: what a worker notes of the words that it reads: note by note, a read that is kept, or debts that are forgotten.
--- Learning: what a worker knows only grows: its notes and its reads stay in each step.
+-- Noting: what a worker notes of the words that it reads: fact by fact, a read that is kept, or debts that are forgotten.
+-- Learning: what a worker knows only grows: its facts and its reads stay in each step.
 -- Finishing: the acts that a worker has finished, from step to step.
 -- Succeeding: a worker's acts in the list of all, at any moment, are its descriptors that succeeded.
 -- Ordered: under the rule what is kept of a worker's descriptors is in order.

@@ -1,10 +1,10 @@
--- What a worker notes of the words that it reads: step by step a note, a read that is kept, or debts that are forgotten.
+-- What a worker notes of the words that it reads: step by step a fact, a read that is kept, or debts that are forgotten.
 use Rattle.std.proofs.Common.{ℕ, eqb, Bool, true, false, cond, List, [], ◌∷◌, Option, Some, None}
 use Rattle.rh_world.specs.World.{Cell, Control, Ref}
 use Rattle.rh_world.specs.World.Cell.{desc, mark, plain}
 use Rattle.rh_world.specs.World.Control.{failed, succeeded, undecided, unused, withdrawn}
-use Rattle.rh_world.specs.Notes.{Note}
-use Rattle.rh_world.specs.Notes.Note.{decided, failed_at, found, known, may_demote, may_promote, met, over, passed}
+use Rattle.rh_world.specs.Facts.{Fact}
+use Rattle.rh_world.specs.Facts.Fact.{decided, failed_at, found, known, may_demote, may_promote, met, over, passed}
 use Rattle.rh_world.specs.Sides.{Side, forget_side, note_side, read_side}
 use Rattle.rh_world.specs.Moves.{cell_noted, control_noted, mark_noted, note_all}
 use Rattle.rh_descriptor.specs.declared.reference.Reading.{Reading}
@@ -17,7 +17,7 @@ use Rattle.rh_descriptor.specs.Steps.{control_read, gone_noted, is_known, mark_c
 pub record Follows (R : Side → Side → Type 0) : Type 0 where
   pub same : (s : Side) → R s s
   pub further : (s t r : Side) → R s t → R t r → R s r
-  pub note : (s : Side) (n : Note) → R s (note_side s n)
+  pub note : (s : Side) (n : Fact) → R s (note_side s n)
   pub read : (s : Side) (c u acts next : ℕ) → R s (read_side s c u acts next)
   pub forget : (s : Side) (d : Ref) → R s (forget_side s d)
 
@@ -27,10 +27,10 @@ either P true t r g h = g
 either P false t r g h = h
 
 module _ (R : Side → Side → Type 0) (is : Follows R) where
-  two_notes : (s : Side) (n m : Note) → R s (note_side (note_side s n) m)
+  two_notes : (s : Side) (n m : Fact) → R s (note_side (note_side s n) m)
   two_notes s n m = is.further s (note_side s n) (note_side (note_side s n) m) (is.note s n) (is.note (note_side s n) m)
 
-  all_notes : (s : Side) (ns : List Note) → R s (note_all s ns)
+  all_notes : (s : Side) (ns : List Fact) → R s (note_all s ns)
   all_notes s [] = is.same s
   all_notes s (n ∷ ns) = is.further s (note_all s ns) (note_side (note_all s ns) n) (all_notes s ns) (is.note (note_all s ns) n)
 
@@ -58,8 +58,8 @@ module _ (R : Side → Side → Type 0) (is : Follows R) where
   gone s d = two_notes s (over d) (passed d)
 
   pub a_control_word : (s : Side) (d : Ref) (word : ℕ) → R s (control_read s d word)
-  a_control_word s d word = either (R s) (eqb (serial_in word) d.number) (control_noted s d (read_control word)) (cond (is_known s.notes d) (gone_noted s d) s)
-      (a_control s d (read_control word)) (either (R s) (is_known s.notes d) (gone_noted s d) s (gone s d) (is.same s))
+  a_control_word s d word = either (R s) (eqb (serial_in word) d.number) (control_noted s d (read_control word)) (cond (is_known s.facts d) (gone_noted s d) s)
+      (a_control s d (read_control word)) (either (R s) (is_known s.facts d) (gone_noted s d) s (gone s d) (is.same s))
 
   a_mark_word : (s : Side) (x : Ref) (c : ℕ) (d : Ref) (word : ℕ) → R s (mark_control_read s x c d word)
   a_mark_word s x c d word =

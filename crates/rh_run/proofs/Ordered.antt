@@ -1,7 +1,7 @@
 -- Under the rule what is kept of a worker's descriptors is in order.
 use Rattle.std.proofs.Common.{◌≡◌, ℕ, ◌<◌, ◌≤◌, inl, inr, ⊎_elim, refl, sym, ap, ◌∙◌, subst, arith, List, [], ◌∷◌, Some}
 use Rattle.rh_world.specs.World.{In, IsFalling, Ref}
-use Rattle.rh_world.specs.Notes.Note.{decided}
+use Rattle.rh_world.specs.Facts.Fact.{decided}
 use Rattle.rh_world.specs.Sides.{Side}
 use Rattle.rh_descriptor.specs.View.{OwnDesc}
 use Rattle.rh_rule.specs.Represents.{numbers_of}
@@ -32,5 +32,5 @@ kept_is_orderly w z words keep v core mine =
       newest = λ p e.
           let current : (core.side v).current ≡ Some p = ap (λ (s : Side). s.current) (sym h.side_is) ∙ e in
           first_is (keep v).opened p h.falling (h.all p (rows.current (ref p) current)) (λ o i. rows.last (ref p) (ref o.number) current refl (h.opened o i).opened);
-      over = λ o i. ⊎_elim inl (λ q. inr (q.0, subst (λ (u : ℕ). In (decided (record { worker = u; number = o.number }) q.0) (keep v).side.notes) (sym h.worker) q.1)) (h.over o i);
+      over = λ o i. ⊎_elim inl (λ q. inr (q.0, subst (λ (u : ℕ). In (decided (record { worker = u; number = o.number }) q.0) (keep v).side.facts) (sym h.worker) q.1)) (h.over o i);
     }

@@ -4,8 +4,8 @@ use Rattle.std.proofs.lemmas.Bool.{cases_lt, eqb-true, or_cases, or_left, or_rig
 use Rattle.rh_world.specs.World.{Cell, Control, In, IsOpened, Ref, World}
 use Rattle.rh_world.specs.World.Cell.{desc, mark, plain}
 use Rattle.rh_world.specs.World.Control.{failed, succeeded, undecided, unused, withdrawn}
-use Rattle.rh_world.specs.Notes.{Note}
-use Rattle.rh_world.specs.Notes.Note.{decided, desc_is, found, old_is, target_is}
+use Rattle.rh_world.specs.Facts.{Fact}
+use Rattle.rh_world.specs.Facts.Fact.{decided, desc_is, found, old_is, target_is}
 use Rattle.rh_world.specs.Rows.{ByDebt, ByPlacer}
 use Rattle.rh_world.specs.Rule.{Rule}
 use Rattle.rh_world.specs.Sides.{Side}
@@ -54,15 +54,15 @@ module _ (w : World) (z : Shape) (words : List ℕ) (keep : ℕ → View) (shape
   abbrev m : Represents z words keep w side
   m = core.represents
 
-  -- ---- notes are true
+  -- ---- facts are true
 
-  noted_desc : (v : ℕ) → v < z.workers → (x d : Ref) → In (desc_is x d) (keep v).side.notes → w.mark_desc x ≡ d
+  noted_desc : (v : ℕ) → v < z.workers → (x d : Ref) → In (desc_is x d) (keep v).side.facts → w.mark_desc x ≡ d
   noted_desc v mine x d i = (true_note z shape words keep w side rule m v mine (desc_is x d) tt refl i).1
 
-  noted_cell : (v : ℕ) → v < z.workers → (d : Ref) (e c : ℕ) → In (target_is d e c) (keep v).side.notes → w.target d e ≡ c
+  noted_cell : (v : ℕ) → v < z.workers → (d : Ref) (e c : ℕ) → In (target_is d e c) (keep v).side.facts → w.target d e ≡ c
   noted_cell v mine d e c i = (true_note z shape words keep w side rule m v mine (target_is d e c) tt refl i).1
 
-  noted_found : (v : ℕ) → v < z.workers → (x : Ref) (c : ℕ) → In (found x c) (keep v).side.notes → w.target (w.mark_desc x) (w.mark_entry x) ≡ c
+  noted_found : (v : ℕ) → v < z.workers → (x : Ref) (c : ℕ) → In (found x c) (keep v).side.facts → w.target (w.mark_desc x) (w.mark_entry x) ≡ c
   noted_found v mine x c i = (true_note z shape words keep w side rule m v mine (found x c) tt refl i).1
 
   -- the old value that is noted for a cell is that of the entry for it
@@ -114,8 +114,8 @@ module _ (w : World) (z : Shape) (words : List ℕ) (keep : ℕ → View) (shape
     abbrev own : Ref
     own = own_ref (keep v) o.number
 
-    abbrev notes : List Note
-    notes = (keep v).side.notes
+    abbrev facts : List Fact
+    facts = (keep v).side.facts
 
     own_is : own ≡ record { worker = v; number = o.number }
     own_is t = record { worker = (m.kept v mine).worker t; number = o.number }
@@ -123,29 +123,29 @@ module _ (w : World) (z : Shape) (words : List ℕ) (keep : ℕ → View) (shape
     own_opened : IsOpened (w.control own)
     own_opened = subst (λ (x : Ref). IsOpened (w.control x)) (sym own_is) ((m.kept v mine).opened o i).opened
 
-    own_result : (r : Control) → In (decided own r) notes → without_entry (w.control own) ≡ r
+    own_result : (r : Control) → In (decided own r) facts → without_entry (w.control own) ≡ r
     own_result r j = (tells w z words keep core).results v own r mine j
 
     -- while it is open its control word is its own, and after that it is noted how it was decided
-    tells_success : w.control own ≡ succeeded → (has_succeeded z words own || is_noted_success notes own) ≡ true
+    tells_success : w.control own ≡ succeeded → (has_succeeded z words own || is_noted_success facts own) ≡ true
     tells_success success = ⊎_elim
         (λ current.
         let its : (side own.worker).current ≡ Some own.number =
         ap (λ (u : ℕ). (side u).current) (m.kept v mine).worker ∙ ap (λ (s : Side). s.current) (sym (m.kept v mine).side_is) ∙ current in
-        or_left (has_succeeded z words own) (is_noted_success notes own) (newest_succeeded own (worker_of own own_opened) (open_newest own own_opened its) success))
+        or_left (has_succeeded z words own) (is_noted_success facts own) (newest_succeeded own (worker_of own own_opened) (open_newest own own_opened its) success))
         (λ noted.
-        let of_own : In (decided own noted.0) notes = subst (λ (x : Ref). In (decided x noted.0) notes) (sym own_is) noted.1 in
-        or_right (has_succeeded z words own) (is_noted_success notes own)
-        (in_noted notes own (subst (λ (r : Control). In (decided own r) notes) (sym (own_result noted.0 of_own) ∙ ap without_entry success) of_own)))
+        let of_own : In (decided own noted.0) facts = subst (λ (x : Ref). In (decided x noted.0) facts) (sym own_is) noted.1 in
+        or_right (has_succeeded z words own) (is_noted_success facts own)
+        (in_noted facts own (subst (λ (r : Control). In (decided own r) facts) (sym (own_result noted.0 of_own) ∙ ap without_entry success) of_own)))
         ((m.kept v mine).over o i)
 
-    pub own_told : is_success (w.control own) ≡ (has_succeeded z words own || is_noted_success notes own)
-    own_told = same_bool (is_success (w.control own)) (has_succeeded z words own || is_noted_success notes own)
+    pub own_told : is_success (w.control own) ≡ (has_succeeded z words own || is_noted_success facts own)
+    own_told = same_bool (is_success (w.control own)) (has_succeeded z words own || is_noted_success facts own)
         (λ e. tells_success (success_yes (w.control own) e))
         (λ e. ⊎_elim
         (λ said. ap is_success (said_succeeded own own_opened said))
-        (λ noted. ap is_success (told_succeeded (w.control own) (own_result succeeded (noted_in notes own noted))))
-        (or_cases (has_succeeded z words own) (is_noted_success notes own) e))
+        (λ noted. ap is_success (told_succeeded (w.control own) (own_result succeeded (noted_in facts own noted))))
+        (or_cases (has_succeeded z words own) (is_noted_success facts own) e))
 
   -- ---- a mark
 

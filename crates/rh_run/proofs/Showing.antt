@@ -94,11 +94,11 @@ from_reversed (y ∷ ys) x h = ⊎_elim
 
 module _ (w : World) (z : Shape) (words : List ℕ) (keep : ℕ → View) (core : Core w z words keep) (v : ℕ) (mine : v < z.workers) where
   -- a descriptor that is noted as succeeded is an act
-  act_is_made : (o : OwnDesc) → In o (keep v).opened → is_noted_success (keep v).side.notes (own_ref (keep v) o.number) ≡ true → Contains (acts_of (history w)) (act_of o.entries)
+  act_is_made : (o : OwnDesc) → In o (keep v).opened → is_noted_success (keep v).side.facts (own_ref (keep v) o.number) ≡ true → Contains (acts_of (history w)) (act_of o.entries)
   act_is_made o i is =
       let told = tells w z words keep core in
       let d : Ref = record { worker = v; number = o.number } in
-      let noted : w.control (own_ref (keep v) o.number) ≡ succeeded = told_succeeded (w.control (own_ref (keep v) o.number)) (told.results v (own_ref (keep v) o.number) succeeded mine (noted_in (keep v).side.notes (own_ref (keep v) o.number) is)) in
+      let noted : w.control (own_ref (keep v) o.number) ≡ succeeded = told_succeeded (w.control (own_ref (keep v) o.number)) (told.results v (own_ref (keep v) o.number) succeeded mine (noted_in (keep v).side.facts (own_ref (keep v) o.number) is)) in
       let control : w.control d ≡ succeeded = subst (λ (u : ℕ). w.control record { worker = u; number = o.number } ≡ succeeded) (core.represents.kept v mine).worker noted in
       let at = told.order.made d control in
       let act_is : get_or (acts_of (history w)) at.0 [] ≡ act_of o.entries =
@@ -110,5 +110,5 @@ module _ (w : World) (z : Shape) (words : List ℕ) (keep : ℕ → View) (core 
       let k = keep v in
       let it = from_filtered (is_finished k) (λ (o : OwnDesc). act_of o.entries) k.opened a
       (from_reversed (map (λ (o : OwnDesc). act_of o.entries) (filter (is_finished k) k.opened)) a h) in
-      let is = both (not (is_current k.side.current it.0.number)) (is_noted_success k.side.notes (own_ref k it.0.number)) it.2 in
+      let is = both (not (is_current k.side.current it.0.number)) (is_noted_success k.side.facts (own_ref k it.0.number)) it.2 in
       subst (Contains (acts_of (history w))) it.3 (act_is_made it.0 it.1 is.1)

@@ -136,7 +136,7 @@ module _ (r : Run) (run : RunInvariant r) where
       (own_now v mine).succeeded
       ∙ ap (λ (os : List OwnDesc). reverse (map (λ (o : OwnDesc). act_of o.entries) os))
       (same_filtered (λ (o : OwnDesc). is_success (run.world.control (own_ref k o.number)))
-      (λ (o : OwnDesc). has_succeeded r.shape r.words (own_ref k o.number) || is_noted_success k.side.notes (own_ref k o.number)) k.opened
+      (λ (o : OwnDesc). has_succeeded r.shape r.words (own_ref k o.number) || is_noted_success k.side.facts (own_ref k o.number)) k.opened
       (λ o i. own_told run.world r.shape r.words r.keep shape run.core v mine o i))
 
   knows : (v : ℕ) → v < r.shape.workers → KnowsHeld (r.keep v).side v

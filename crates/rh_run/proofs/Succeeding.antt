@@ -5,7 +5,7 @@ use Rattle.std.proofs.lemmas.Bool.{cases_eq}
 use Rattle.std.proofs.lemmas.List.{append-nil}
 use Rattle.rh_world.specs.World.{Control, In, IsFalling, Ref, World}
 use Rattle.rh_world.specs.World.Control.{succeeded}
-use Rattle.rh_world.specs.Notes.Note.{decided}
+use Rattle.rh_world.specs.Facts.Fact.{decided}
 use Rattle.rh_world.specs.Acts.{is_success, own_acts}
 use Rattle.rh_world.proofs.OwnList.{success_yes}
 use Rattle.rh_world.proofs.Updated.{ref_path, some_injective, some_not_none}
@@ -90,18 +90,18 @@ module _ (w : World) (z : Shape) (words : List ℕ) (keep : ℕ → View) (v : �
       ∙ ap (λ (u : ℕ). acts_by (filter (λ (o : OwnDesc). is_success (w.control (ref_at u o.number))) k.opened)) (sym number_is)
 
   -- what it noted as decided succeeded where it noted so
-  noted_right : (o : OwnDesc) (r : Control) → In (decided (own_ref k o.number) r) k.side.notes → succeeds o ≡ is_noted_success k.side.notes (own_ref k o.number)
+  noted_right : (o : OwnDesc) (r : Control) → In (decided (own_ref k o.number) r) k.side.facts → succeeds o ≡ is_noted_success k.side.facts (own_ref k o.number)
   noted_right o r i =
       let d : Ref = own_ref k o.number in
-      same_bool (succeeds o) (is_noted_success k.side.notes d)
-      (λ e. in_noted k.side.notes d (subst (λ (c : Control). In (decided d c) k.side.notes) (sym (told.results v d r mine i) ∙ ap without_entry (success_yes (w.control d) e)) i))
-      (λ e. sym (told_success (w.control d)) ∙ ap is_success (told.results v d succeeded mine (noted_in k.side.notes d e)))
+      same_bool (succeeds o) (is_noted_success k.side.facts d)
+      (λ e. in_noted k.side.facts d (subst (λ (c : Control). In (decided d c) k.side.facts) (sym (told.results v d r mine i) ∙ ap without_entry (success_yes (w.control d) e)) i))
+      (λ e. sym (told_success (w.control d)) ∙ ap is_success (told.results v d succeeded mine (noted_in k.side.facts d e)))
 
   -- one that is not open is finished where it succeeded
   closed_right : (o : OwnDesc) → In o k.opened → (k.side.current ≡ Some o.number → ⊥) → is_finished k o ≡ succeeds o
   closed_right o i closed = ⊎_elim (λ q. absurd (closed q)) (λ r. is_closed k.side.current refl ∙ sym (noted_right o r.0 r.1)) (tidy.over o i)
     where
-      is_closed : (q : Option ℕ) → k.side.current ≡ q → is_finished k o ≡ is_noted_success k.side.notes (own_ref k o.number)
+      is_closed : (q : Option ℕ) → k.side.current ≡ q → is_finished k o ≡ is_noted_success k.side.facts (own_ref k o.number)
       is_closed None e = once_closed k o (none_open k.side.current o.number e)
       is_closed (Some p) e = once_closed k o (open_no k.side.current p o.number e (λ same. closed (e ∙ ap Some same)))
 

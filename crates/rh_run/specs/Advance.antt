@@ -3,7 +3,7 @@ use Rattle.std.specs.Prelude.{◌≡◌, ℕ, ◌⊎◌, Option, Some, None, Boo
 use Rattle.rh_ledger.specs.declared.tally.Kind.{Kind}
 use Rattle.rh_world.specs.World.{Control, In}
 use Rattle.rh_world.specs.World.Control.{succeeded}
-use Rattle.rh_world.specs.Notes.Note.{decided}
+use Rattle.rh_world.specs.Facts.Fact.{decided}
 use Rattle.rh_world.specs.Acts.{is_success}
 use Rattle.rh_acts.specs.Done.{Does, IsTold}
 use Rattle.rh_descriptor.specs.declared.shape.Shape.{Shape}
@@ -31,7 +31,7 @@ pub record Fails (v next : View) : Type 0 where
   pub control : Control
   pub closes : Closes v next own
   pub opened : next.opened ≡ v.opened
-  pub before : In (decided (own_ref v own.number) control) v.side.notes
+  pub before : In (decided (own_ref v own.number) control) v.side.facts
   pub in_vain : is_success control ≡ false
 
 -- it was closed, and had succeeded: so the key is done
@@ -39,7 +39,7 @@ pub record Succeeds (z : Shape) (kind : Kind) (k : ℕ) (v next : View) (told : 
   pub own : OwnDesc
   pub closes : Closes v next own
   pub opened : next.opened ≡ v.opened
-  pub before : In (decided (own_ref v own.number) succeeded) v.side.notes
+  pub before : In (decided (own_ref v own.number) succeeded) v.side.facts
   pub does : Does kind z.bits k told (act_of own.entries)
 
 -- The key is done with this answer, or not done.

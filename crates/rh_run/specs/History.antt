@@ -65,7 +65,7 @@ is_current (Some p) number = p == number
 
 -- its opened descriptor is closed again, and it noted that it succeeded
 abbrev pub is_finished : View → OwnDesc → Bool
-is_finished v o = not (is_current v.side.current o.number) && is_noted_success v.side.notes (own_ref v o.number)
+is_finished v o = not (is_current v.side.current o.number) && is_noted_success v.side.facts (own_ref v o.number)
 
 -- the acts that it has finished, the oldest first
 abbrev pub own_acts_of : View → List Act

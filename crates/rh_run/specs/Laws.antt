@@ -134,7 +134,7 @@ RunsAlike = (r : Run) (keep : ℕ → View) (keys done : ℕ → List ℕ) (told
 
 -- ---- at each moment
 
--- By the words and the notes a cell stands for no more than one word, which is what the acts left there,
+-- By the words and the facts a cell stands for no more than one word, which is what the acts left there,
 abbrev pub LogicalWords : Type 0
 LogicalWords = (w : World) (z : Shape) (words : List ℕ) (keep : ℕ → View) (c word : ℕ) → IsShape z → Core w z words keep → c < cell_count z
     → IsLogicalWord z words keep c word → word ≡ cells_after w w.act_count c
@@ -174,7 +174,7 @@ Reflects Remove S k = contains S k ≡ false
 Reflects Ask S k = Unit {0}
 
 -- The acts so far: those of the earlier rounds, and those of this one. The former led to the cells with which this round began.
--- The latter are the descriptors that succeeded, as control words and notes tell, each once, and those of one worker in the
+-- The latter are the descriptors that succeeded, as control words and facts tell, each once, and those of one worker in the
 -- order in which it opened them. All together they lead to what the cells stand for.
 pub record ActsSoFar (r : Run) (before now : List Made) : Type 0 where
   pub workers : AreOf r.shape.workers (before ++ now)

@@ -4,7 +4,7 @@ use Rattle.std.specs.Prelude.{ℕ, ◌≡◌, ◌<◌, ◌⊎◌, Some, None, Li
 use Rattle.std.specs.List.{Contains}
 use Rattle.rh_world.specs.World.{Control, World, In, IsFalling}
 use Rattle.rh_world.specs.World.Control.{succeeded}
-use Rattle.rh_world.specs.Notes.Note.{decided}
+use Rattle.rh_world.specs.Facts.Fact.{decided}
 use Rattle.rh_world.specs.Sides.{KeptRead}
 use Rattle.rh_world.specs.Acts.{is_success}
 use Rattle.rh_descriptor.specs.declared.reference.Reading.TheVariants as reading
@@ -27,7 +27,7 @@ pub record Orderly (v : View) : Type 0 where
   pub below : (n : ℕ) → In n (numbers_of v.opened) → n < v.next_number
   pub newest : (p : ℕ) → v.side.current ≡ Some p → (o : OwnDesc) × (earlier : List OwnDesc) × (v.opened ≡ o ∷ earlier) × (o.number ≡ p)
   pub over : (o : OwnDesc) → In o v.opened
-      → (v.side.current ≡ Some o.number) ⊎ ((k : Control) × In (decided (own_ref v o.number) k) v.side.notes)
+      → (v.side.current ≡ Some o.number) ⊎ ((k : Control) × In (decided (own_ref v o.number) k) v.side.facts)
 
 -- between these two the descriptor is closed
 pub record Closes (v next : View) (o : OwnDesc) : Type 0 where
@@ -40,9 +40,9 @@ pub record Closes (v next : View) (o : OwnDesc) : Type 0 where
 pub record StepFinishes (v next : View) : Type 0 where
   pub orderly : Orderly next
   pub stays : ((p : ℕ) → v.side.current ≡ Some p → next.side.current ≡ Some p) → own_acts_of next ≡ own_acts_of v
-  pub succeeds : (o : OwnDesc) → Closes v next o → In (decided (own_ref v o.number) succeeded) v.side.notes
+  pub succeeds : (o : OwnDesc) → Closes v next o → In (decided (own_ref v o.number) succeeded) v.side.facts
       → own_acts_of next ≡ own_acts_of v ++ act_of o.entries ∷ []
-  pub fails : (o : OwnDesc) (k : Control) → Closes v next o → In (decided (own_ref v o.number) k) v.side.notes → is_success k ≡ false
+  pub fails : (o : OwnDesc) (k : Control) → Closes v next o → In (decided (own_ref v o.number) k) v.side.facts → is_success k ≡ false
       → own_acts_of next ≡ own_acts_of v
 
 -- It is enough that what the step leaves noted is sound, as each step tells its worker.

@@ -4,7 +4,7 @@ use Rattle.std.specs.Prelude.{ℕ, zero, suc, ◌+◌, ◌≡◌, ◌<◌, ◌�
 use Rattle.rh_world.specs.World.{Cell, In, Ref}
 use Rattle.rh_world.specs.World.Cell.{plain, mark, desc}
 use Rattle.rh_world.specs.World.Control.{succeeded}
-use Rattle.rh_world.specs.Notes.Note.{desc_is, found}
+use Rattle.rh_world.specs.Facts.Fact.{desc_is, found}
 use Rattle.rh_world.specs.Sides.{Side}
 use Rattle.rh_descriptor.specs.declared.shape.Shape.{Shape}
 use Rattle.rh_descriptor.specs.declared.shape.Part.TheVariants as part
@@ -38,7 +38,7 @@ entry_for z words d c (suc n) = cond (word_at z words (part.EntryCell d.worker n
 -- the old value of the entry that mark x is for, as its worker noted it
 pub record MarkStandsFor (keep : ℕ → View) (c : ℕ) (x : Ref) (word : ℕ) : Type 0 where
   pub desc : Ref
-  pub names : In (desc_is x desc) (keep x.worker).side.notes
+  pub names : In (desc_is x desc) (keep x.worker).side.facts
   pub old : NotesOld (keep x.worker).side desc c word
 
 -- the value of the entry of d for the cell, where d has its row
@@ -77,8 +77,8 @@ pub record AreNow (z : Shape) (words : List ℕ) (keep : ℕ → View) (cells : 
 -- mark x is unsettled, and whatever was noted of it is of this descriptor and of this cell
 pub record MarkIsFor (s : Side) (x d : Ref) (c : ℕ) : Type 0 where
   pub unsettled : s.unsettled ≡ Some x.number
-  pub desc : (f : Ref) → In (desc_is x f) s.notes → f ≡ d
-  pub cell : (b : ℕ) → In (found x b) s.notes → b ≡ c
+  pub desc : (f : Ref) → In (desc_is x f) s.facts → f ≡ d
+  pub cell : (b : ℕ) → In (found x b) s.facts → b ≡ c
 
 -- a worker holds d in cell c: it owes d there, or its unsettled mark is for it
 abbrev pub Holds : Side → (who : ℕ) → (d : Ref) → (c : ℕ) → Type 0
@@ -123,4 +123,4 @@ pub record IsWiped (z : Shape) (words then : List ℕ) : Type 0 where
 -- so of the newest, and the worker noted it of those before
 abbrev pub succeeded_now : Shape → (words : List ℕ) → View → List Act
 succeeded_now z words v =
-    reverse (map (λ o. act_of o.entries) (filter (λ o. has_succeeded z words (own_ref v o.number) || is_noted_success v.side.notes (own_ref v o.number)) v.opened))
+    reverse (map (λ o. act_of o.entries) (filter (λ o. has_succeeded z words (own_ref v o.number) || is_noted_success v.side.facts (own_ref v o.number)) v.opened))

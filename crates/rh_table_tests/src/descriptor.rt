@@ -26,8 +26,8 @@ fn row(worker: usize) -> [usize; 8]
         SHAPE.index(Part::MarkSerial { worker }),
         SHAPE.index(Part::MarkDesc { worker }),
         SHAPE.index(Part::MarkEntry { worker }),
-        SHAPE.index(Part::Note { worker, owner: 0 }),
-        SHAPE.index(Part::Note { worker, owner: 1 }),
+        SHAPE.index(Part::Reason { worker, owner: 0 }),
+        SHAPE.index(Part::Reason { worker, owner: 1 }),
     ]
 }
 
@@ -98,7 +98,7 @@ fn a_word_of_an_own_row_is_written_and_read(rt: HostRuntime) -> Result<(), Fail>
     let read = Reading::Word(65);
     assert_eq!(rt; read_word(&SHAPE, &mut words, &mut side, read), 40);
     assert_eq!(rt;
-        make_step(&SHAPE, &mut words, &mut side, Ask::Read(read)),
+        make_step(&SHAPE, &mut words, &mut side, Request::Read(read)),
         40
     );
     Ok(())

@@ -17,7 +17,7 @@ abbrev pub IsControl : (serial : ℕ) → State → Type 0
 IsControl serial state = (serial < 2 ^ NUMBER_BITS) × IsState state
 
 -- A control tells who decided that a swap failed, and not at which entry, which would take the room of the serial numbers: the
--- owner reads that in the decider's note.
+-- owner reads that in the decider's reason.
 abbrev pub state_number : State → ℕ
 state_number Unused = UNUSED
 state_number Undecided = UNDECIDED

@@ -18,7 +18,7 @@ pub enum State {
     Succeeded,
     /// Its worker gave it up, and nothing was changed.
     Withdrawn,
-    /// Nothing was changed, as a cell held another value. At which entry, this worker tells in its note
+    /// Nothing was changed, as a cell held another value. At which entry, this worker tells as its reason
     /// to the swap's own worker.
     Failed { decider: u64 },
 }

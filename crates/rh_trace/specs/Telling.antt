@@ -1,7 +1,7 @@
 -- The line of a step. Numbers are decimal without leading zeros.
 use Rattle.std.specs.Prelude.{ℕ, ◌==◌, if◌then◌else◌, List, [], ◌++◌, Option, Some, None, codes, decimal}
 use Rattle.rh_descriptor.specs.declared.shape.Part.{Part}
-use Rattle.rh_descriptor.specs.declared.shape.Part.TheVariants.{Cell, Control, Serial, Length, EntryCell, EntryOld, EntryNew, MarkSerial, MarkDesc, MarkEntry, Note, Counter}
+use Rattle.rh_descriptor.specs.declared.shape.Part.TheVariants.{Cell, Control, Serial, Length, EntryCell, EntryOld, EntryNew, MarkSerial, MarkDesc, MarkEntry, Reason, Counter}
 use Rattle.rh_play.specs.Words.{kind_word}
 use Rattle.rh_tagword.specs.Control.{control_in}
 use Rattle.rh_tagword.specs.Word.{word_in}
@@ -28,7 +28,7 @@ part_text (EntryNew worker entry) = entry_text worker entry (codes " new")
 part_text (MarkSerial worker) = codes "mark " ++ (decimal worker ++ codes " serial")
 part_text (MarkDesc worker) = codes "mark " ++ (decimal worker ++ codes " desc")
 part_text (MarkEntry worker) = codes "mark " ++ (decimal worker ++ codes " entry")
-part_text (Note worker owner) = codes "note " ++ (decimal worker ++ (codes " " ++ decimal owner))
+part_text (Reason worker owner) = codes "note " ++ (decimal worker ++ (codes " " ++ decimal owner))
 part_text Counter = codes "counter"
 
 -- ---- words
@@ -81,7 +81,7 @@ word_text (EntryNew worker entry) word = held_text word (word_in word)
 word_text (MarkSerial worker) word = decimal word
 word_text (MarkDesc worker) word = named_text word (word_in word)
 word_text (MarkEntry worker) word = decimal word
-word_text (Note worker owner) word = decimal word
+word_text (Reason worker owner) word = decimal word
 word_text Counter word = decimal word
 
 -- ---- steps

@@ -1,7 +1,7 @@
 -- What a worker holds tells what a cell stands for.
 use Rattle.std.proofs.Common.{◌≡◌, ℕ, ◌<◌, ⊎_elim, sym, ap, ◌∙◌, subst, Option, Some, None, List, [], length, get_or}
 use Rattle.rh_world.specs.World.{In, Ref}
-use Rattle.rh_world.specs.Notes.Note.{desc_is, found, old_is, target_is}
+use Rattle.rh_world.specs.Facts.Fact.{desc_is, found, old_is, target_is}
 use Rattle.rh_world.specs.Moves.{MayWork}
 use Rattle.rh_world.specs.Sides.{Debt}
 use Rattle.rh_world.proofs.Updated.{some_injective, some_not_none}
@@ -31,8 +31,8 @@ noted_old v o d c h =
       e,
       record {
         work = subst (λ (r : Ref). MayWork v.side r e) h.of_desc h.knows.work;
-        cell = subst (λ (r : Ref). In (target_is r e c) v.side.notes) h.of_desc (subst (λ (b : ℕ). In (target_is (ref_of o.piece.desc) e b) v.side.notes) h.at h.knows.cell);
-        old = subst (λ (r : Ref). In (old_is r e o.old) v.side.notes) h.of_desc h.knows.old;
+        cell = subst (λ (r : Ref). In (target_is r e c) v.side.facts) h.of_desc (subst (λ (b : ℕ). In (target_is (ref_of o.piece.desc) e b) v.side.facts) h.at h.knows.cell);
+        old = subst (λ (r : Ref). In (old_is r e o.old) v.side.facts) h.of_desc h.knows.old;
       },
     )
 
@@ -48,14 +48,14 @@ module _ (v : View) (who : ℕ) (is : v.worker ≡ who) where
 
   -- by its unsettled mark, which it noted as one for d
   pub marks_it : (o : Owed) → IsHeld v (Some o) → (n : ℕ) (d : Ref) (c : ℕ) → MarkIsFor v.side (record { worker = who; number = n }) d c
-      → HoldsEntry v o d c × In (desc_is (record { worker = who; number = n }) d) v.side.notes
+      → HoldsEntry v o d c × In (desc_is (record { worker = who; number = n }) d) v.side.facts
   marks_it o h n d c mark = ⊎_elim (λ u.
       let same : u.0.number ≡ n = some_injective u.0.number n (sym u.0.unsettled ∙ mark.unsettled) in
       let own : own_ref v u.0.number ≡ record { worker = who; number = n } = (λ i. record { worker = is i; number = same i }) in
-      let names : In (desc_is (record { worker = who; number = n }) (ref_of o.piece.desc)) v.side.notes = subst (λ (x : Ref). In (desc_is x (ref_of o.piece.desc)) v.side.notes) own u.0.names in
+      let names : In (desc_is (record { worker = who; number = n }) (ref_of o.piece.desc)) v.side.facts = subst (λ (x : Ref). In (desc_is x (ref_of o.piece.desc)) v.side.facts) own u.0.names in
       let of_desc : ref_of o.piece.desc ≡ d = mark.desc (ref_of o.piece.desc) names in
-      let at : o.piece.cell ≡ c = mark.cell o.piece.cell (subst (λ (x : Ref). In (found x o.piece.cell) v.side.notes) own u.0.met) in
-      (record { of_desc = of_desc; at = at; knows = h.0 }, subst (λ (r : Ref). In (desc_is (record { worker = who; number = n }) r) v.side.notes) of_desc names))
+      let at : o.piece.cell ≡ c = mark.cell o.piece.cell (subst (λ (x : Ref). In (found x o.piece.cell) v.side.facts) own u.0.met) in
+      (record { of_desc = of_desc; at = at; knows = h.0 }, subst (λ (r : Ref). In (desc_is (record { worker = who; number = n }) r) v.side.facts) of_desc names))
       (λ owed. absurd (some_not_none n (sym mark.unsettled ∙ owed.0))) h.1
 
   pub holds_it : (o : Owed) → IsHeld v (Some o) → (d : Ref) (c : ℕ) → Holds v.side who d c → HoldsEntry v o d c

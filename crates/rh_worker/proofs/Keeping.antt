@@ -25,7 +25,7 @@ use Rattle.rh_worker.specs.declared.scan_buffer.ScanBuffer.{ScanBuffer}
 pub claim_clear : (v next : View) (word : ℕ) → next ≡ with_side v (claim_side v.side word) → IsClear v → IsClear next
 claim_clear v next word is = clear_grows v next (subst (Grows v) (sym is)
     record {
-      keeps = record { worker = refl; next_number = refl; notes = λ n i. i };
+      keeps = record { worker = refl; next_number = refl; facts = λ n i. i };
       failures = λ d i. i;
       marks_used = refl;
       opened = refl;

@@ -7,7 +7,7 @@ use Rattle.rh_acts.specs.Done.{Does}
 use Rattle.rh_layout.specs.declared.entry.Entry.{Entry}
 use Rattle.rh_acts.specs.Act.{IsRising}
 use Rattle.rh_world.specs.World.{In}
-use Rattle.rh_world.specs.Notes.Note.{known}
+use Rattle.rh_world.specs.Facts.Fact.{known}
 use Rattle.rh_run.specs.History.{act_of}
 use Rattle.rh_descriptor.specs.declared.shape.Shape.{Shape}
 use Rattle.rh_descriptor.specs.View.{OwnDesc, View}
@@ -86,4 +86,4 @@ module _ (z : Shape) (v : View) (kind : Kind) (k : ℕ) (s : ScanBuffer) (p : Pl
       pub opened_stays : (m : Machine) → work_of m ≡ work.Control (record { worker = worker; number = number }) → Stays z next kind k s m (stage.Swap number p)
       opened_stays m is =
           let own : KnowsOwn next (Some (record { number = number; entries = planned s p })) = subst (λ (d : OwnDesc). KnowsOwn next (Some d)) (λ i. record { number = of i; entries = same i }) on.0 in
-          (own, subst (λ (w : Work). Stands z next w) (sym is) (on.1, inl (inl (subst (λ (w : ℕ). In (known (record { worker = w; number = number })) next.side.notes) by (open_all_noted next _ own).known))), planned_is.plan)
+          (own, subst (λ (w : Work). Stands z next w) (sym is) (on.1, inl (inl (subst (λ (w : ℕ). In (known (record { worker = w; number = number })) next.side.facts) by (open_all_noted next _ own).known))), planned_is.plan)

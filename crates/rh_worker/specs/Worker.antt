@@ -7,7 +7,7 @@ use Rattle.rh_layout.specs.Order.{home_of}
 use Rattle.rh_ledger.specs.declared.tally.Kind.{Kind}
 use Rattle.rh_world.specs.World.{In}
 use Rattle.rh_world.specs.World.Control.{withdrawn}
-use Rattle.rh_world.specs.Notes.Note.{decided}
+use Rattle.rh_world.specs.Facts.Fact.{decided}
 use Rattle.rh_acts.specs.Done.{kept}
 use Rattle.rh_layout.specs.declared.entry.Entry.{Entry}
 use Rattle.rh_descriptor.specs.declared.shape.Shape.{Shape}
@@ -85,7 +85,7 @@ opened_as number s p = record { number = number; entries = planned s p }
 pub record GivesUp (v next : View) : Type 0 where
   pub own : OwnDesc
   pub closes : Closes v next own
-  pub before : In (decided (own_ref v own.number) withdrawn) v.side.notes
+  pub before : In (decided (own_ref v own.number) withdrawn) v.side.facts
 
 -- why no step is left: no mark is left in this round, or no number for a descriptor
 abbrev pub HasNoRoom : Shape → View → Type 0

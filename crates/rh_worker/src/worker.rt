@@ -20,7 +20,7 @@ ghost use Rattle.rh_worker.specs.declared.stage.Stage.TheVariants as stage;
 use crate::scan_buffer::ScanBuffer;
 use crate::stage::Stage;
 use crate::{scanning, swapping};
-use rh_descriptor::{Ask, Ref, Shape, Side, StepKind};
+use rh_descriptor::{Ref, Request, Shape, Side, StepKind};
 use rh_helping::{Machine, Owed};
 use rh_ledger::Kind;
 use rh_steps::Steps;
@@ -130,7 +130,7 @@ impl Worker {
         ensures idle { self.new.stage ≡ stage.Idle }
         ensures keeps { KeepsKey self.old self.new }
     {
-        table.make(shape, &mut self.side, Ask::Claim)
+        table.make(shape, &mut self.side, Request::Claim)
     }
 
     /// A round begins with these cells, given as words. A spent worker begins its key again.

@@ -5,8 +5,8 @@ use Rattle.rh_world.specs.World.{Cell, Control, In, IsDecided, IsOpened, Ref, Wo
 use Rattle.rh_world.specs.World.Cell.{desc, mark, plain}
 use Rattle.rh_world.specs.World.Control.{failed, succeeded, undecided, unused, withdrawn}
 use Rattle.rh_world.specs.Logical.{EntryStandsFor, IsLogical, StandsFor, Takes, changed_by, entry_value}
-use Rattle.rh_world.specs.Notes.{HoldsIn, Note, part_of}
-use Rattle.rh_world.specs.Notes.Part.{of_acts}
+use Rattle.rh_world.specs.Facts.{HoldsIn, Fact, part_of}
+use Rattle.rh_world.specs.Facts.Part.{of_acts}
 use Rattle.rh_world.specs.Later.{Later}
 use Rattle.rh_world.specs.Sides.{Side, open_side, place_side}
 use Rattle.rh_world.specs.Rows.{ByOwner, Rows}
@@ -83,7 +83,7 @@ module _ (w v : World) (l : Later w v) where
   stands_for_stay side c u (desc d) rows e no_new s = entry_stays d c u (rows.descs c d e).opened (no_new d refl) s
 
   pub acts_stay : (side side' : ℕ → Side) → Rows w side
-      → ((u : ℕ) (n : Note) → In n (side' u).notes → In n (side u).notes) → v.act_count ≡ w.act_count
+      → ((u : ℕ) (n : Fact) → In n (side' u).facts → In n (side u).facts) → v.act_count ≡ w.act_count
       → ((d : Ref) → v.control d ≡ succeeded → w.control d ≡ succeeded)
       → ((c : ℕ) → IsLogical v c (w.logical w.act_count c)) → ((d : Ref) (e : ℕ) → ByOwner side d e → ByOwner side' d e)
       → Acts w side → Acts v side'
@@ -107,18 +107,18 @@ module _ (w v : World) (l : Later w v) where
             let o = succeeded_opened _ before in
             let t = a.standing c d (⊎_elim (λ stood. stood) (λ fails. absurd (fails s)) (l.came c d o here)) before in
             record { entry = t.entry; within = subst (λ (n : ℕ). t.entry < n) (sym (l.size d o)) t.within; here = l.target d t.entry o ∙ t.here; owed = owners d t.entry t.owed };
-        notes = λ u n h p. acts_note_stays w v side rows l n p (a.notes u n (fewer u n h) p);
+        facts = λ u n h p. acts_note_stays w v side rows l n p (a.facts u n (fewer u n h) p);
       }
 
-pub same_notes : (side : ℕ → Side) (who : ℕ) (s : Side) → s.notes ≡ (side who).notes → (u : ℕ) (n : Note)
-    → In n (updated side who s u).notes → In n (side u).notes
-same_notes side who s e u n h = subst (λ (z : List Note). In n z) (field_same side who s (λ (t : Side). t.notes) e u) h
+pub same_notes : (side : ℕ → Side) (who : ℕ) (s : Side) → s.facts ≡ (side who).facts → (u : ℕ) (n : Fact)
+    → In n (updated side who s u).facts → In n (side u).facts
+same_notes side who s e u n h = subst (λ (z : List Fact). In n z) (field_same side who s (λ (t : Side). t.facts) e u) h
 
 -- a side alone changes
 pub acts_side : (w : World) (side : ℕ → Side) (who : ℕ) (s : Side)
     → ((d : Ref) (e : ℕ) → e < w.size d → w.cell (w.target d e) ≡ desc d → ByOwner side d e → ByOwner (updated side who s) d e)
-    → ((n : Note) → In n s.notes → part_of n ≡ of_acts → HoldsIn w n) → Acts w side → Acts w (updated side who s)
-acts_side w side who s owners notes a = record {
+    → ((n : Fact) → In n s.facts → part_of n ≡ of_acts → HoldsIn w n) → Acts w side → Acts w (updated side who s)
+acts_side w side who s owners facts a = record {
   made = a.made;
   succeeded = a.succeeded;
   ordered = a.ordered;
@@ -127,7 +127,7 @@ acts_side w side who s owners notes a = record {
   standing = λ c d here is.
       let t = a.standing c d here is in
       record { entry = t.entry; within = t.within; here = t.here; owed = owners d t.entry t.within (ap w.cell t.here ∙ here) t.owed };
-  notes = by_side side who s (λ (u : ℕ) (t : Side). (n : Note) → In n t.notes → part_of n ≡ of_acts → HoldsIn w n) notes (λ u n. a.notes u);
+  facts = by_side side who s (λ (u : ℕ) (t : Side). (n : Fact) → In n t.facts → part_of n ≡ of_acts → HoldsIn w n) facts (λ u n. a.facts u);
 }
 
 -- a cell alone changes, and stands for what it stood for
@@ -333,7 +333,7 @@ acts_succeed w side d rows und all a =
           })
           (λ (p : (f ≢ d) × (v.control f ≡ w.control f)). let t = a.standing c f e (sym p.1 ∙ s) in record { entry = t.entry; within = t.within; here = t.here; owed = t.owed })
           (updated_ref_at w.control d f succeeded);
-      notes = λ u n h p. acts_note_stays w v side rows l n p (a.notes u n h p);
+      facts = λ u n h p. acts_note_stays w v side rows l n p (a.facts u n h p);
     }
 
 pub acts_claim : (w : World) (side : ℕ → Side) → Rows w side → Acts w side → Acts (claim_world w) side

@@ -5,8 +5,8 @@ use native.Mathlib.Decide.{dec_lt}
 use Rattle.rh_world.specs.World.{Cell, Control, In, IsFalling, Ref, World, is_ref, updated}
 use Rattle.rh_world.specs.World.Cell.{desc, mark, plain}
 use Rattle.rh_world.specs.World.Control.{failed, succeeded, undecided, unused, withdrawn}
-use Rattle.rh_world.specs.Notes.{Note}
-use Rattle.rh_world.specs.Notes.Note.{held, met, mismatch}
+use Rattle.rh_world.specs.Facts.{Fact}
+use Rattle.rh_world.specs.Facts.Fact.{held, met, mismatch}
 use Rattle.rh_world.specs.Sides.{Side, claim_side, close_side, is_number, note_side, open_side, paid_side, release_side}
 use Rattle.rh_world.specs.Claims.{Claims, ends_found, found_end}
 use Rattle.rh_world.specs.Moves.{Entries, IsAllowed, MayClaim, Move, cell_noted, cell_world, claim_world, control_noted, covers, decided_world, is_desc, is_mark, is_plain, mark_noted, next_desc, next_mark, note_all, note_entries, place_noted, place_world, placed_noted, release_noted, released_cell, settle_noted, settled_cell, side_after, sides_after, world_after}
@@ -169,7 +169,7 @@ claim_keeps w side who may c =
       ];
     }
 
-notes_claims : (s : Side) (ns : List Note) → (note_all s ns).claims ≡ s.claims
+notes_claims : (s : Side) (ns : List Fact) → (note_all s ns).claims ≡ s.claims
 notes_claims s [] = refl
 notes_claims s (n ∷ ns) = notes_claims s ns
 

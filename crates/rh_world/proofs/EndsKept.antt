@@ -5,7 +5,7 @@ use Rattle.rh_world.specs.World.{Cell, Control, HasFailed, In, Ref, World}
 use Rattle.rh_world.specs.World.Cell.{desc, mark, plain}
 use Rattle.rh_world.specs.World.Control.{failed, succeeded, undecided, unused, withdrawn}
 use Rattle.rh_world.specs.Logical.{IsLogical, StandsFor, changed_by}
-use Rattle.rh_world.specs.Notes.{IsPrefix}
+use Rattle.rh_world.specs.Facts.{IsPrefix}
 use Rattle.rh_world.specs.Sides.{Side, new_side}
 use Rattle.rh_world.specs.Rows.{ByDebt, ByOwner, ByPlacer, Rows}
 use Rattle.rh_world.specs.Acts.{Acts, cells_after}
@@ -41,7 +41,7 @@ module _ (workers keys counter : ℕ) (opening : ℕ → ℕ) (claims_of : ℕ �
       marks = λ c x e. cc;
       descs = λ c d e. cc;
     };
-    notes = λ v n h. absurd h;
+    facts = λ v n h. absurd h;
   }
 
   opening_acts : Acts (opening_world workers keys counter opening) sides
@@ -52,7 +52,7 @@ module _ (workers keys counter : ℕ) (opening : ℕ → ℕ) (claims_of : ℕ �
     takes = λ i h. absurd (omega arith);
     now = λ c. refl;
     standing = λ c d e s. cc;
-    notes = λ v n h. absurd h;
+    facts = λ v n h. absurd h;
   }
 
   opening_prefixes : Prefixes (opening_world workers keys counter opening) sides
@@ -63,7 +63,7 @@ module _ (workers keys counter : ℕ) (opening : ℕ → ℕ) (claims_of : ℕ �
     reads = λ v k h. absurd h;
     in_order = λ v. tt;
     at_rest = λ v p k h. absurd h;
-    notes = λ v n h. absurd h;
+    facts = λ v n h. absurd h;
   }
 
 -- plain cells meet the rule, on a counter whose Claims are kept

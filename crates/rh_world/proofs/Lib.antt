@@ -1,14 +1,14 @@
 -- The theorems on several workers are proved here once, of a World (cells, descriptors, marks, acts, the counter) and of
 -- one Side for each worker (what it has done and knows). There is no word and no place of a word, so these proofs stay
 -- as they are when rows are laid out or used in another way. They have a layer for each reading: what a change leaves of
--- the notes, then each part of the rule under each change, then the parts together, then the laws.
+-- the facts, then each part of the rule under each change, then the parts together, then the laws.
 -- Updated: a function that is changed at one place; controls, references and options told apart.
 -- Conditions: what is known when a descriptor is opened and when a mark is placed.
 -- Tests: the tests that steps make, and what they tell.
 -- Laters: each change that a step makes in the world is one that steps may make.
--- Stays: each kind of note is kept by each change that a step may make.
--- RowsKept: each small change keeps rows, owing and notes.
--- SidesKept: what a worker notes keeps rows, owing and notes; Place and Open do too.
+-- Stays: each kind of fact is kept by each change that a step may make.
+-- RowsKept: each small change keeps rows, owing and facts.
+-- SidesKept: what a worker notes keeps rows, owing and facts; Place and Open do too.
 -- ActsKept: each small change keeps the acts; one kind of step changes what cells stand for.
 -- PrefixesKept: each small change keeps the prefixes.
 -- ClaimsKept: a Claim keeps the claims, and so does each other step, which makes none.

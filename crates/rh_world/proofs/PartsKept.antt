@@ -4,8 +4,8 @@ use Rattle.rh_world.specs.World.{Cell, Control, HasFailed, In, IsDecided, IsOpen
 use Rattle.rh_world.specs.World.Cell.{desc, mark, plain}
 use Rattle.rh_world.specs.World.Control.{failed, succeeded, undecided, unused, withdrawn}
 use Rattle.rh_world.specs.Logical.{entry_value}
-use Rattle.rh_world.specs.Notes.{HoldsIn, IsMismatch, Note, part_of}
-use Rattle.rh_world.specs.Notes.Part.{of_acts, of_prefixes}
+use Rattle.rh_world.specs.Facts.{HoldsIn, IsMismatch, Fact, part_of}
+use Rattle.rh_world.specs.Facts.Part.{of_acts, of_prefixes}
 use Rattle.rh_world.specs.Later.{Steady}
 use Rattle.rh_world.specs.Sides.{Side, claim_side, close_side, forget_side, note_side, open_side, paid_side, place_side, read_side, release_side, settle_side}
 use Rattle.rh_world.specs.Rows.{ByOwner, Rows}
@@ -27,7 +27,7 @@ prefixes_world : (w v : World) (side : ℕ → Side) → Steady w v → Rows w s
     → ((d : Ref) (e : ℕ) → HasFailed v d e → HasFailed w d e)
     → ((u : ℕ) → w.next_number u ≤ v.next_number u) → Prefixes w side → Prefixes v side
 prefixes_world w v side l rows back failing more p = prefixes_stay w v side side l rows back (λ d e h. inl (failing d e h)) more (λ u. refl) (λ u q h. h)
-    (λ u n h q. prefixes_note_stays w v side rows l n q (p.notes u n h q)) p
+    (λ u n h q. prefixes_note_stays w v side rows l n q (p.facts u n h q)) p
 
 prefixes_cell : (w : World) (side : ℕ → Side) (c : ℕ) (k : Cell) → Steady w (cell_world w c k) → Rows w side
     → Prefixes w side → Prefixes (cell_world w c k) side
@@ -125,32 +125,32 @@ module _ (A P : Type 0) where
         acts = λ a. acts_place w side x d e r.rows can (r.acts a);
         prefixes = λ a p. prefixes_stay w (place_world w x d e) side side' l r.rows (λ f h. h) (λ f i h. inl h) (λ u. omega arith)
             (field_same side x.worker s (λ (t : Side). t.reads) refl) (λ u q h. sym (field_same side x.worker s (λ (t : Side). t.current) refl u) ∙ h)
-            (λ u n h q. prefixes_note_stays w (place_world w x d e) side r.rows l n q ((r.prefixes a p).notes u n (same_notes side x.worker s refl u n h) q)) (r.prefixes a p);
+            (λ u n h q. prefixes_note_stays w (place_world w x d e) side r.rows l n q ((r.prefixes a p).facts u n (same_notes side x.worker s refl u n h) q)) (r.prefixes a p);
       }
 
-  -- a side alone, with no note more
+  -- a side alone, with no fact more
   parts_side : (w : World) (side : ℕ → Side) (who : ℕ) (s : Side)
       → ((d : Ref) (e : ℕ) → e < w.size d → w.cell (w.target d e) ≡ desc d → ByOwner side d e → ByOwner (updated side who s) d e)
-      → s.notes ≡ (side who).notes
+      → s.facts ≡ (side who).facts
       → s.reads ≡ (side who).reads → ((p : ℕ) → s.current ≡ Some p → (side who).current ≡ Some p)
       → Rows w (updated side who s) → Partly A P w side → Partly A P w (updated side who s)
-  parts_side w side who s owners notes reads current rows r =
-      let same : (n : Note) → In n s.notes → In n (side who).notes = λ n h. subst (λ (z : List Note). In n z) notes h in
+  parts_side w side who s owners facts reads current rows r =
+      let same : (n : Fact) → In n s.facts → In n (side who).facts = λ n h. subst (λ (z : List Fact). In n z) facts h in
       record {
         rows = rows;
-        acts = λ a. acts_side w side who s owners (λ n h. (r.acts a).notes who n (same n h)) (r.acts a);
-        prefixes = λ a p. prefixes_side w side who s r.rows reads current (λ n h. (r.prefixes a p).notes who n (same n h)) (r.prefixes a p);
+        acts = λ a. acts_side w side who s owners (λ n h. (r.acts a).facts who n (same n h)) (r.acts a);
+        prefixes = λ a p. prefixes_side w side who s r.rows reads current (λ n h. (r.prefixes a p).facts who n (same n h)) (r.prefixes a p);
       }
 
   module _ (w : World) (side : ℕ → Side) (who : ℕ) (r : Partly A P w side) where
-    pub parts_note : (n : Note) → Noted A P w n → Partly A P w (updated side who (note_side (side who) n))
+    pub parts_note : (n : Fact) → Noted A P w n → Partly A P w (updated side who (note_side (side who) n))
     parts_note n t =
-        let more : (Q : Note → Type 0) → Q n → ((m : Note) → In m (side who).notes → Q m) → (m : Note) → In m (note_side (side who) n).notes → Q m =
+        let more : (Q : Fact → Type 0) → Q n → ((m : Fact) → In m (side who).facts → Q m) → (m : Fact) → In m (note_side (side who) n).facts → Q m =
         λ Q new old m h. ⊎_elim (λ (e : m ≡ n). subst Q (sym e) new) (λ i. old m i) h in
         record {
           rows = rows_note w side who r.rows n t.rows;
-          acts = λ a. acts_side w side who (note_side (side who) n) (λ d e lt here. owner_same side who (note_side (side who) n) refl refl d e) (more (λ m. part_of m ≡ of_acts → HoldsIn w m) (t.acts a) ((r.acts a).notes who)) (r.acts a);
-          prefixes = λ a p. prefixes_side w side who (note_side (side who) n) r.rows refl (λ q h. h) (more (λ m. part_of m ≡ of_prefixes → HoldsIn w m) (t.prefixes a p) ((r.prefixes a p).notes who)) (r.prefixes a p);
+          acts = λ a. acts_side w side who (note_side (side who) n) (λ d e lt here. owner_same side who (note_side (side who) n) refl refl d e) (more (λ m. part_of m ≡ of_acts → HoldsIn w m) (t.acts a) ((r.acts a).facts who)) (r.acts a);
+          prefixes = λ a p. prefixes_side w side who (note_side (side who) n) r.rows refl (λ q h. h) (more (λ m. part_of m ≡ of_prefixes → HoldsIn w m) (t.prefixes a p) ((r.prefixes a p).facts who)) (r.prefixes a p);
         }
 
     pub parts_settle : (x : Ref) (c : ℕ) → x.worker ≡ who → (side who).unsettled ≡ Some x.number
@@ -181,7 +181,7 @@ module _ (A P : Type 0) where
         → Partly A P w (updated side who (read_side (side who) c u w.act_count (w.next_number who)))
     parts_read c u closed here = record {
       rows = rows_reads w side who r.rows (read_side (side who) c u w.act_count (w.next_number who)).reads (side who).claims;
-      acts = λ a. acts_side w side who (read_side (side who) c u w.act_count (w.next_number who)) (λ d e lt f. owner_same side who (read_side (side who) c u w.act_count (w.next_number who)) refl refl d e) ((r.acts a).notes who) (r.acts a);
+      acts = λ a. acts_side w side who (read_side (side who) c u w.act_count (w.next_number who)) (λ d e lt f. owner_same side who (read_side (side who) c u w.act_count (w.next_number who)) refl refl d e) ((r.acts a).facts who) (r.acts a);
       prefixes = λ a p. prefixes_read w side who c u r.rows (r.acts a) closed here (r.prefixes a p);
     }
 

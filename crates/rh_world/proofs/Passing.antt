@@ -2,8 +2,8 @@
 use Rattle.std.proofs.Common.{◌≡◌, ℕ, ◌<◌, ◌≤◌, ap, ⊎_elim, arith, Some}
 use Rattle.rh_world.specs.World.{IsDecided, IsOpened, Ref, World}
 use Rattle.rh_world.specs.World.Cell.{plain}
-use Rattle.rh_world.specs.Notes.{HoldsIn}
-use Rattle.rh_world.specs.Notes.Note.{passed}
+use Rattle.rh_world.specs.Facts.{HoldsIn}
+use Rattle.rh_world.specs.Facts.Fact.{passed}
 use Rattle.rh_world.specs.Sides.{Side}
 use Rattle.rh_world.specs.Rule.{Rule}
 use Rattle.rh_world.specs.Laws.{LaterOnesTell}

@@ -4,8 +4,8 @@ use Rattle.rh_world.specs.World.{Cell, HasFailed, In, IsOpened, Ref, World, upda
 use Rattle.rh_world.specs.World.Cell.{plain}
 use Rattle.rh_world.specs.World.Control.{failed, undecided, unused}
 use Rattle.rh_world.specs.Logical.{StandsFor}
-use Rattle.rh_world.specs.Notes.{HoldsIn, IsMismatch, IsPrefix, Note, part_of}
-use Rattle.rh_world.specs.Notes.Part.{of_prefixes}
+use Rattle.rh_world.specs.Facts.{HoldsIn, IsMismatch, IsPrefix, Fact, part_of}
+use Rattle.rh_world.specs.Facts.Part.{of_prefixes}
 use Rattle.rh_world.specs.Later.{Steady}
 use Rattle.rh_world.specs.Sides.{KeptRead, Side, open_side, read_side}
 use Rattle.rh_world.specs.Rows.{Rows}
@@ -52,10 +52,10 @@ module _ (w v : World) (side side' : ℕ → Side) (l : Steady w v) (rows : Rows
   pub prefixes_stay : ((d : Ref) (e : ℕ) → HasFailed v d e → HasFailed w d e ⊎ FailedAt w side d e)
       → ((u : ℕ) → w.next_number u ≤ v.next_number u) → ((u : ℕ) → (side' u).reads ≡ (side u).reads)
       → ((u p : ℕ) → (side' u).current ≡ Some p → (side u).current ≡ Some p)
-      → ((u : ℕ) (n : Note) → In n (side' u).notes → part_of n ≡ of_prefixes → HoldsIn v n) → Prefixes w side
+      → ((u : ℕ) (n : Fact) → In n (side' u).facts → part_of n ≡ of_prefixes → HoldsIn v n) → Prefixes w side
       → Prefixes v side'
   prefixes_stay failing numbers reads current noted p = record {
-    notes = noted;
+    facts = noted;
     acts_before = λ d h. let o = back d h in
         subst (λ (n : ℕ). IsPrefix v d.worker d.number n) (sym (l.acts_before d o)) (prefix_stays w v l d.worker d.number (w.acts_before d) (λ f. not_below d f o) (p.acts_before d o));
     opens = λ d f h i s n. subst (λ (x : ℕ × ℕ). x.0 ≤ x.1) (λ k. (sym (l.acts_before d (back d h)) k, sym (l.acts_before f (back f i)) k)) (p.opens d f (back d h) (back f i) s n);
@@ -69,11 +69,11 @@ module _ (w v : World) (side side' : ℕ → Side) (l : Steady w v) (rows : Rows
 -- a side alone changes
 pub prefixes_side : (w : World) (side : ℕ → Side) (who : ℕ) (s : Side) → Rows w side → s.reads ≡ (side who).reads
     → ((p : ℕ) → s.current ≡ Some p → (side who).current ≡ Some p)
-    → ((n : Note) → In n s.notes → part_of n ≡ of_prefixes → HoldsIn w n) → Prefixes w side
+    → ((n : Fact) → In n s.facts → part_of n ≡ of_prefixes → HoldsIn w n) → Prefixes w side
     → Prefixes w (updated side who s)
-prefixes_side w side who s rows reads current notes p = prefixes_stay w w side (updated side who s) (steady_same w) rows (λ f h. h) (λ f i h. inl h) (λ u. omega arith)
+prefixes_side w side who s rows reads current facts p = prefixes_stay w w side (updated side who s) (steady_same w) rows (λ f h. h) (λ f i h. inl h) (λ u. omega arith)
     (field_same side who s (λ (t : Side). t.reads) reads) (λ u q. by_side side who s (λ (x : ℕ) (t : Side). t.current ≡ Some q → (side x).current ≡ Some q) (current q) (λ x n h. h) u)
-    (by_side side who s (λ (u : ℕ) (t : Side). (n : Note) → In n t.notes → part_of n ≡ of_prefixes → HoldsIn w n) notes (λ u n. p.notes u)) p
+    (by_side side who s (λ (u : ℕ) (t : Side). (n : Fact) → In n t.facts → part_of n ≡ of_prefixes → HoldsIn w n) facts (λ u n. p.facts u)) p
 
 -- a mismatch that is noted serves a Decide to Failed
 pub failing : (w : World) (side : ℕ → Side) (d : Ref) (e n : ℕ) → Rows w side → Prefixes w side
@@ -99,7 +99,7 @@ prefixes_fail w side d e by n rows u m p =
     inr (subst (λ (x : Ref). FailedAt w side x i) (sym q.0) (subst (FailedAt w side d) r (failing w side d e n rows p u m))))
     (λ q. inl (h.0, sym q.1 ∙ h.1)) (updated_ref_at w.control d f (failed e by)))
     (λ x. omega arith) (λ x. refl) (λ x q h. h)
-    (λ y n h q. prefixes_note_stays w v side rows l n q (p.notes y n h q)) p
+    (λ y n h q. prefixes_note_stays w v side rows l n q (p.facts y n h q)) p
 
 -- all acts of a worker are of lower numbers than its next
 all_before : (w : World) (side : ℕ → Side) (u : ℕ) → Rows w side → Acts w side
@@ -132,7 +132,7 @@ prefixes_open w side d p rows acts can pre =
     (λ f u q. let h = lower f (λ r. let t : undecided ≡ unused = sym u ∙ r in cc) q in let c : None ≡ Some f.number = sym can.closed ∙ (ap (λ (x : ℕ). (side x).current) (sym q) ∙ at_work w side f rows u) in absurd (some_not_none f.number (sym c)))
     (subst (λ (n : ℕ). IsPrefix w d.worker n w.act_count) (sym can.next) (all_before w side d.worker rows acts)) in
     record {
-      notes = λ u n h q. prefixes_note_stays w v side rows l n q (pre.notes u n (same_notes side d.worker s refl u n h) q);
+      facts = λ u n h q. prefixes_note_stays w v side rows l n q (pre.facts u n (same_notes side d.worker s refl u n h) q);
       acts_before = λ f h. ⊎_elim
           (λ (q : f ≡ d). subst (λ (x : Ref). IsPrefix v x.worker x.number (v.acts_before x)) (sym q) (subst (IsPrefix v d.worker d.number) (sym since_d) parts_d))
           (λ (o : IsOpened (w.control f)). subst (λ (n : ℕ). IsPrefix v f.worker f.number n) (sym (l.acts_before f o)) (prefix_stays w v l f.worker f.number (w.acts_before f) (λ g. stop f g o) (pre.acts_before f o)))
@@ -205,7 +205,7 @@ prefixes_read w side who c x rows acts closed here p =
       within = omega arith;
     } in
     record {
-      notes = λ u n h. p.notes u n (same_notes side who s refl u n h);
+      facts = λ u n h. p.facts u n (same_notes side who s refl u n h);
       acts_before = p.acts_before;
       opens = p.opens;
       failed = λ d e h. let t = p.failed d e h in record {

@@ -1,10 +1,10 @@
--- What a worker notes keeps rows, owing and notes; Place and Open.
+-- What a worker notes keeps rows, owing and facts; Place and Open.
 use Rattle.std.proofs.Common.{◌≡◌, ◌≢◌, ℕ, suc, eqb, ◌<◌, ◌⊎◌, Bool, true, false, cond, ◌&&◌, List, [], ◌∷◌, sym, refl, ap, ◌∙◌, subst, inl, inr, ⊎_elim, arith, ne_eqb, Some, filter, not}
 use Rattle.rh_world.specs.World.{In, IsDecided, IsOpened, IsUsed, Ref, World, is_ref, updated}
 use Rattle.rh_world.specs.World.Cell.{desc, mark}
 use Rattle.rh_world.specs.World.Control.{undecided, unused}
-use Rattle.rh_world.specs.Notes.{HoldsIn, Note, part_of}
-use Rattle.rh_world.specs.Notes.Part.{of_rows}
+use Rattle.rh_world.specs.Facts.{HoldsIn, Fact, part_of}
+use Rattle.rh_world.specs.Facts.Part.{of_rows}
 use Rattle.rh_world.specs.Sides.{Debt, KeptRead, Side, close_side, forget_side, note_side, open_side, paid_side, place_side, release_side, settle_side}
 use Rattle.rh_world.specs.Rows.{ByDebt, ByOwner, ByPlacer, MarkInCell, Opened, Owed, Rows}
 use Rattle.rh_world.specs.Moves.{Entries, open_world, place_world}
@@ -19,8 +19,8 @@ module _ (w : World) (side : ℕ → Side) (who : ℕ) (s : Side) (rows : Rows w
       → ((m : ℕ) → s.unsettled ≡ Some m → (side who).unsettled ≡ Some m)
       → ((c : ℕ) (x : Ref) → w.cell c ≡ mark x → x.worker ≡ who → s.unsettled ≡ Some x.number)
       → ((c : ℕ) (d : Ref) (e : ℕ) → w.cell c ≡ desc d → e < w.size d → w.target d e ≡ c → Owed w side d e c → Owed w (updated side who s) d e c)
-      → ((n : Note) → In n s.notes → part_of n ≡ of_rows → HoldsIn w n) → Rows w (updated side who s)
-  rows_side descriptors fewer kept owed notes = record {
+      → ((n : Fact) → In n s.facts → part_of n ≡ of_rows → HoldsIn w n) → Rows w (updated side who s)
+  rows_side descriptors fewer kept owed facts = record {
     descriptors = descriptors;
     owing = record {
       used = rows.used;
@@ -35,7 +35,7 @@ module _ (w : World) (side : ℕ → Side) (who : ℕ) (s : Side) (rows : Rows w
       };
       descs = λ c d e. let t = rows.descs c d e in desc_stays w w side (updated side who s) (steady_same w) c d t (owed c d t.entry e t.within t.here t.owed);
     };
-    notes = by_side side who s (λ (u : ℕ) (t : Side). (n : Note) → In n t.notes → part_of n ≡ of_rows → HoldsIn w n) notes (λ u n. rows.notes u);
+    facts = by_side side who s (λ (u : ℕ) (t : Side). (n : Fact) → In n t.facts → part_of n ≡ of_rows → HoldsIn w n) facts (λ u n. rows.facts u);
   }
 
   opened_same : s.current ≡ (side who).current → s.released ≡ (side who).released → Opened w (updated side who s)
@@ -53,14 +53,14 @@ module _ (w : World) (side : ℕ → Side) (who : ℕ) (s : Side) (rows : Rows w
       (λ u q. by_side side who s (λ (x : ℕ) (t : Side). In q (side x).debts → In q t.debts) (debts q) (λ x n h. h) u)
 
 module _ (w : World) (side : ℕ → Side) (who : ℕ) (rows : Rows w side) where
-  -- a note more
-  pub rows_note : (n : Note) → (part_of n ≡ of_rows → HoldsIn w n) → Rows w (updated side who (note_side (side who) n))
+  -- a fact more
+  pub rows_note : (n : Fact) → (part_of n ≡ of_rows → HoldsIn w n) → Rows w (updated side who (note_side (side who) n))
   rows_note n t =
       let s : Side = note_side (side who) n in
       rows_side w side who s rows (opened_same w side who s rows refl refl) (λ m h. h)
       (λ c x e p. ap (λ (u : ℕ). (side u).unsettled) (sym p) ∙ (rows.marks c x e).owed)
       (λ c d e h a b o. owed_same w side who s rows refl refl (λ m q. q) (λ q i. i) d e c o)
-      (λ k i. ⊎_elim (λ (q : k ≡ n). subst (λ (m : Note). part_of m ≡ of_rows → HoldsIn w m) (sym q) t) (λ (i : In k (side who).notes). rows.notes who k i) i)
+      (λ k i. ⊎_elim (λ (q : k ≡ n). subst (λ (m : Fact). part_of m ≡ of_rows → HoldsIn w m) (sym q) t) (λ (i : In k (side who).facts). rows.facts who k i) i)
 
   -- of the reads and the claims the rows say nothing
   pub rows_reads : (ks : List KeptRead) (ns : List ℕ)
@@ -70,7 +70,7 @@ module _ (w : World) (side : ℕ → Side) (who : ℕ) (rows : Rows w side) wher
       rows_side w side who s rows (opened_same w side who s rows refl refl) (λ m h. h)
       (λ c x e p. ap (λ (u : ℕ). (side u).unsettled) (sym p) ∙ (rows.marks c x e).owed)
       (λ c d e h a b o. owed_same w side who s rows refl refl (λ m q. q) (λ q i. i) d e c o)
-      (rows.notes who)
+      (rows.facts who)
 
   -- the own mark x is settled: it stands in no cell any more
   pub rows_settle : (x : Ref) (c : ℕ) → x.worker ≡ who → (side who).unsettled ≡ Some x.number
@@ -104,7 +104,7 @@ module _ (w : World) (side : ℕ → Side) (who : ℕ) (rows : Rows w side) wher
         who = q.who;
         debt = by_side side who s (λ (u : ℕ) (t : Side). (In (record { desc = d; cell = j }) (side u).debts → In (record { desc = d; cell = j }) t.debts)) (λ h. inr h) (λ u n h. h) q.who q.debt;
       }) p)) o)
-      (rows.notes who)
+      (rows.facts who)
 
   -- fewer debts, where what stands in a cell keeps another
   pub rows_debts : (keep : Debt → Bool)
@@ -124,7 +124,7 @@ module _ (w : World) (side : ℕ → Side) (who : ℕ) (rows : Rows w side) wher
       (λ (q : ByDebt side d j). by_side side who s (λ (u : ℕ) (t : Side). (updated side who s u ≡ t) → In (record { desc = d; cell = j }) (side u).debts → Owed w (updated side who s) d e j)
       (λ z i. ⊎_elim (λ k. inr (inr record { who = who; debt = subst (λ (t : Side). In (record { desc = d; cell = j }) t.debts) (sym z) (in_filtered keep record { desc = d; cell = j } (side who).debts k i) })) owner (spared j d e h i))
       (λ u n z i. inr (inr record { who = u; debt = subst (λ (t : Side). In (record { desc = d; cell = j }) t.debts) (sym z) i })) q.who refl q.debt) p) o)
-      (rows.notes who)
+      (rows.facts who)
     where
       in_filtered : (k : Debt → Bool) (q : Debt) (l : List Debt) → k q ≡ true → In q l → In q (filter k l)
       in_filtered k q [] e i = i
@@ -216,7 +216,7 @@ module _ (w : World) (side : ℕ → Side) (who : ℕ) (rows : Rows w side) wher
       (λ p. inr (⊎_elim
       (λ (q : ByPlacer w side f i). inl record { who = q.who; unsettled = field_same side who s (λ (t : Side). t.unsettled) refl q.who.worker ∙ q.unsettled; mark_desc = q.mark_desc; mark_entry = q.mark_entry })
       (λ (q : ByDebt side f j). inr record { who = q.who; debt = subst (λ (l : List Debt). In (record { desc = f; cell = j }) l) (sym (field_same side who s (λ (t : Side). t.debts) refl q.who)) q.debt }) p)) o)
-      (rows.notes who)
+      (rows.facts who)
 
   -- and all its entries are released
   pub rows_closed : (d : Ref) → d.worker ≡ who → (side who).current ≡ Some d.number → IsDecided (w.control d)
@@ -244,7 +244,7 @@ module _ (w : World) (side : ℕ → Side) (who : ℕ) (rows : Rows w side) wher
       (λ p. inr (⊎_elim
       (λ (q : ByPlacer w side f i). inl record { who = q.who; unsettled = field_same side who s (λ (t : Side). t.unsettled) refl q.who.worker ∙ q.unsettled; mark_desc = q.mark_desc; mark_entry = q.mark_entry })
       (λ (q : ByDebt side f j). inr record { who = q.who; debt = subst (λ (l : List Debt). In (record { desc = f; cell = j }) l) (sym (field_same side who s (λ (t : Side). t.debts) refl q.who)) q.debt }) p)) o)
-      (rows.notes who)
+      (rows.facts who)
 
 -- a mark is placed
 pub rows_place : (w : World) (side : ℕ → Side) (x d : Ref) (e : ℕ) → Rows w side → PlacesNext w side x d e
@@ -310,7 +310,7 @@ rows_place w side x d e rows can =
             f t.entry j t.owed))
             (updated_at w.cell c j (mark x));
       };
-      notes = λ u n h p. rows_note_stays w v side rows l n p (rows.notes u n (subst (λ (z : List Note). In n z) (field_same side x.worker s (λ (t : Side). t.notes) refl u) h) p);
+      facts = λ u n h p. rows_note_stays w v side rows l n p (rows.facts u n (subst (λ (z : List Fact). In n z) (field_same side x.worker s (λ (t : Side). t.facts) refl u) h) p);
     }
 
 -- a descriptor is opened
@@ -378,5 +378,5 @@ rows_open w side d p rows can =
             (λ u q h. subst (λ (z : List Debt). In q z) (sym (field_same side d.worker s (λ (t : Side). t.debts) refl u)) h)
             f t.entry j t.owed);
       };
-      notes = λ u n h p. rows_note_stays w v side rows l n p (rows.notes u n (subst (λ (z : List Note). In n z) (field_same side d.worker s (λ (t : Side). t.notes) refl u) h) p);
+      facts = λ u n h p. rows_note_stays w v side rows l n p (rows.facts u n (subst (λ (z : List Fact). In n z) (field_same side d.worker s (λ (t : Side). t.facts) refl u) h) p);
     }

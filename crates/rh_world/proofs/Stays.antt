@@ -1,11 +1,11 @@
--- Each kind of note is kept by each change that a step may make.
+-- Each kind of fact is kept by each change that a step may make.
 use Rattle.std.proofs.Common.{◌≡◌, ℕ, ◌<◌, ◌≤◌, sym, ap, ◌∙◌, subst, ⊎_elim, arith, Some}
 use native.Mathlib.Decide.{dec_lt}
 use Rattle.rh_world.specs.World.{IsDecided, IsOpened, Ref, World}
 use Rattle.rh_world.specs.World.Control.{undecided, unused}
-use Rattle.rh_world.specs.Notes.{HoldsIn, IsMismatch, IsPrefix, Note, part_of}
-use Rattle.rh_world.specs.Notes.Note.{decided, desc_is, failed_at, found, held, known, may_demote, may_promote, met, mismatch, new_is, old_is, over, passed, size_is, target_is, which_is}
-use Rattle.rh_world.specs.Notes.Part.{of_acts, of_prefixes, of_rows}
+use Rattle.rh_world.specs.Facts.{HoldsIn, IsMismatch, IsPrefix, Fact, part_of}
+use Rattle.rh_world.specs.Facts.Fact.{decided, desc_is, failed_at, found, held, known, may_demote, may_promote, met, mismatch, new_is, old_is, over, passed, size_is, target_is, which_is}
+use Rattle.rh_world.specs.Facts.Part.{of_acts, of_prefixes, of_rows}
 use Rattle.rh_world.specs.Later.{Later, Steady}
 use Rattle.rh_world.specs.Sides.{Side}
 use Rattle.rh_world.specs.Rows.{Rows}
@@ -52,7 +52,7 @@ mismatch_stays w v l d e n o above m =
     }
 
 module _ (w v : World) (side : ℕ → Side) (rows : Rows w side) where
-  pub rows_note_stays : Steady w v → (n : Note) → part_of n ≡ of_rows → HoldsIn w n → HoldsIn v n
+  pub rows_note_stays : Steady w v → (n : Fact) → part_of n ≡ of_rows → HoldsIn w n → HoldsIn v n
   rows_note_stays l (met d) p t = l.opened d t
   rows_note_stays l (known d) p t = l.opened d t
   rows_note_stays l (size_is d n) p t = (l.opened d t.0, l.size d t.0 ∙ t.1)
@@ -73,7 +73,7 @@ module _ (w v : World) (side : ℕ → Side) (rows : Rows w side) where
   rows_note_stays l (held d e) p t = cc
   rows_note_stays l (mismatch d e n) p t = cc
 
-  pub acts_note_stays : Later w v → (n : Note) → part_of n ≡ of_acts → HoldsIn w n → HoldsIn v n
+  pub acts_note_stays : Later w v → (n : Fact) → part_of n ≡ of_acts → HoldsIn w n → HoldsIn v n
   acts_note_stays l (met d) p t = cc
   acts_note_stays l (known d) p t = cc
   acts_note_stays l (size_is d n) p t = cc
@@ -96,7 +96,7 @@ module _ (w v : World) (side : ℕ → Side) (rows : Rows w side) where
   acts_note_stays l (held d e) p t = (l.opened d t.0, λ u. ap v.cell (l.target d e t.0) ∙ l.stays (w.target d e) d (t.1 (l.was_undecided d t.0 u)) u)
   acts_note_stays l (mismatch d e n) p t = cc
 
-  pub prefixes_note_stays : Steady w v → (n : Note) → part_of n ≡ of_prefixes → HoldsIn w n → HoldsIn v n
+  pub prefixes_note_stays : Steady w v → (n : Fact) → part_of n ≡ of_prefixes → HoldsIn w n → HoldsIn v n
   prefixes_note_stays l (met d) p t = cc
   prefixes_note_stays l (known d) p t = cc
   prefixes_note_stays l (size_is d n) p t = cc

@@ -4,8 +4,8 @@ use Rattle.rh_world.specs.World.{Cell, Control, In, IsDecided, IsOpened, IsUsed,
 use Rattle.rh_world.specs.World.Cell.{desc, mark, plain}
 use Rattle.rh_world.specs.World.Control.{failed, succeeded, undecided, unused, withdrawn}
 use Rattle.rh_world.specs.Logical.{StandsFor}
-use Rattle.rh_world.specs.Notes.{HoldsIn, IsMismatch, Note}
-use Rattle.rh_world.specs.Notes.Note.{decided, desc_is, found, held, known, may_demote, may_promote, met, mismatch, new_is, old_is, size_is, target_is, which_is}
+use Rattle.rh_world.specs.Facts.{HoldsIn, IsMismatch, Fact}
+use Rattle.rh_world.specs.Facts.Fact.{decided, desc_is, found, held, known, may_demote, may_promote, met, mismatch, new_is, old_is, size_is, target_is, which_is}
 use Rattle.rh_world.specs.Sides.{Side, close_side, forget_side, is_number, note_side, open_side, paid_side, place_side, release_side, settle_side}
 use Rattle.rh_world.specs.Acts.{Acts}
 use Rattle.rh_world.specs.Prefixes.{Prefixes}
@@ -22,15 +22,15 @@ use Rattle.rh_world.proofs.Updated.{ref_path, updated_at, updated_here, updated_
 module _ (A P : Type 0) where
   -- a side after a side
   module _ (w : World) (side : ℕ → Side) (who : ℕ) where
-    more_note : (s : Side) (n : Note) → HoldsIn w n → Partly A P w (updated side who s)
+    more_note : (s : Side) (n : Fact) → HoldsIn w n → Partly A P w (updated side who s)
         → Partly A P w (updated side who (note_side s n))
     more_note s n t = and_then A P w side who s (note_side s n) (λ f e r. subst (λ (x : Side). Partly A P w (updated f who (note_side x n))) e (parts_note A P w f who r n (noted A P w n t)))
 
   module _ (w : World) (side : ℕ → Side) (who : ℕ) (r : Partly A P w side) where
-    one_note : (n : Note) → HoldsIn w n → Partly A P w (updated side who (note_side (side who) n))
+    one_note : (n : Fact) → HoldsIn w n → Partly A P w (updated side who (note_side (side who) n))
     one_note n t = parts_note A P w side who r n (noted A P w n t)
 
-    step_notes : (ns : List Note) → ((n : Note) → In n ns → HoldsIn w n) → Partly A P w (updated side who (note_all (side who) ns))
+    step_notes : (ns : List Fact) → ((n : Fact) → In n ns → HoldsIn w n) → Partly A P w (updated side who (note_all (side who) ns))
     step_notes [] t = parts_none A P w side who r
     step_notes (n ∷ ns) t = more_note w side who (note_all (side who) ns) n (t n (inl refl)) (step_notes ns (λ m i. t m (inr i)))
 
@@ -146,10 +146,10 @@ module _ (A P : Type 0) where
     step_decided d undecided unused e may = r
     step_decided d undecided undecided e may = r
     step_decided d undecided succeeded e may =
-        let size = r.rows.notes who (size_is d may.0) may.1 refl in
-        parts_succeed A P w side d e (λ a i h. ((r.acts a).notes who (held d i) (may.2 i (subst (λ (n : ℕ). i < n) size.1 h)) refl).1 e) r
+        let size = r.rows.facts who (size_is d may.0) may.1 refl in
+        parts_succeed A P w side d e (λ a i h. ((r.acts a).facts who (held d i) (may.2 i (subst (λ (n : ℕ). i < n) size.1 h)) refl).1 e) r
     step_decided d undecided withdrawn e may = parts_withdraw A P w side d e r
-    step_decided d undecided (failed i by) e may = parts_fail A P w side d i by may.1.0 e (λ a p. ((r.prefixes a p).notes who (mismatch d i may.1.0) may.1.1 refl).1 e) r
+    step_decided d undecided (failed i by) e may = parts_fail A P w side d i by may.1.0 e (λ a p. ((r.prefixes a p).facts who (mismatch d i may.1.0) may.1.1 refl).1 e) r
     step_decided d succeeded x e may = r
     step_decided d withdrawn x e may = r
     step_decided d (failed i by) x e may = r
@@ -164,28 +164,28 @@ module _ (A P : Type 0) where
       → Partly A P (cond b (cell_world w c (settled_cell w x to)) w) (updated side who (cond (is_number (side who).unsettled who x) (settle_noted (side who) (w.mark_desc x) (w.mark_entry x) c (to && b)) (side who)))
   step_settle w side who x c true true r may e =
       let here = is_mark_yes (w.cell c) x e in
-      let f = r.rows.notes who (found x c) may.0 refl in
+      let f = r.rows.facts who (found x c) may.0 refl in
       let only : (j : ℕ) → w.cell j ≡ mark x → j ≡ c = λ j q. sym (r.rows.marks j x q).here ∙ f.1 in
       let v : World = cell_world w c (desc (w.mark_desc x)) in
-      step_settled v side who (parts_promote A P w side c x here (λ a. ((r.acts a).notes who (may_promote x c) may.1 refl).1 here) r) x c f.0 f.1 (gone_after w c (desc (w.mark_desc x)) x (λ q. cc) only) true (λ q. updated_here w.cell c c (desc (w.mark_desc x)) refl) (is_number (side who).unsettled who x) refl
+      step_settled v side who (parts_promote A P w side c x here (λ a. ((r.acts a).facts who (may_promote x c) may.1 refl).1 here) r) x c f.0 f.1 (gone_after w c (desc (w.mark_desc x)) x (λ q. cc) only) true (λ q. updated_here w.cell c c (desc (w.mark_desc x)) refl) (is_number (side who).unsettled who x) refl
   step_settle w side who x c true false r may e =
-      let f = r.rows.notes who (found x c) may.0 refl in
+      let f = r.rows.facts who (found x c) may.0 refl in
       step_settled w side who r x c f.0 f.1 (λ j q. is_mark_not (w.cell c) x e (ap w.cell (sym f.1 ∙ (r.rows.marks j x q).here) ∙ q)) false (λ q. absurd (true≢false (sym q))) (is_number (side who).unsettled who x) refl
   step_settle w side who x c false true r may e =
       let here = is_mark_yes (w.cell c) x e in
-      let f = r.rows.notes who (found x c) may.0 refl in
+      let f = r.rows.facts who (found x c) may.0 refl in
       let only : (j : ℕ) → w.cell j ≡ mark x → j ≡ c = λ j q. sym (r.rows.marks j x q).here ∙ f.1 in
       let k : Cell = plain (w.old (w.mark_desc x) (w.mark_entry x)) in
       step_settled (cell_world w c k) side who (parts_demote A P w side c x here r) x c f.0 f.1 (gone_after w c k x (λ q. cc) only) false (λ q. absurd (true≢false (sym q))) (is_number (side who).unsettled who x) refl
   step_settle w side who x c false false r may e =
-      let f = r.rows.notes who (found x c) may.0 refl in
+      let f = r.rows.facts who (found x c) may.0 refl in
       step_settled w side who r x c f.0 f.1 (λ j q. is_mark_not (w.cell c) x e (ap w.cell (sym f.1 ∙ (r.rows.marks j x q).here) ∙ q)) false (λ q. absurd (true≢false (sym q))) (is_number (side who).unsettled who x) refl
 
   step_release : (w : World) (side : ℕ → Side) (who : ℕ) (d : Ref) (e : ℕ) (b : Bool) → Partly A P w side
       → IsAllowed w side who (releases d e) → is_desc (w.cell (w.target d e)) d ≡ b
       → Partly A P (cond b (cell_world w (w.target d e) (released_cell w d e)) w) (updated side who (cond (is_number (side who).current who d) (release_noted (paid_side (side who) d (w.target d e)) e (w.size d)) (paid_side (side who) d (w.target d e))))
   step_release w side who d e b r may q =
-      let size = r.rows.notes who (size_is d may.0.size) may.0.known refl in
+      let size = r.rows.facts who (size_is d may.0.size) may.0.known refl in
       let within : e < w.size d = subst (λ (n : ℕ). e < n) (sym size.1) may.0.within in
       let dec : IsDecided (w.control d) = known_over w side who d r.rows may.1 in
       let k : Cell = released_cell w d e in
@@ -219,9 +219,9 @@ module _ (A P : Type 0) where
   steps_keep w side who (reads_cell c) r may = step_cell w side who r c (w.cell c) (side who).current refl refl
   steps_keep w side who (learns ns) r may = step_notes w side who r ns (λ n i. (may n i).1)
   steps_keep w side who (reads_control d) r may = step_control w side who r d (w.control d) refl
-  steps_keep w side who (reads_mark_control x c) r may = step_mark w side who r x c (w.control (w.mark_desc x)) (r.rows.notes who (found x c) may refl).0 refl (control_noted (side who) (w.mark_desc x) (w.control (w.mark_desc x))) (step_control w side who r (w.mark_desc x) (w.control (w.mark_desc x)) refl)
+  steps_keep w side who (reads_mark_control x c) r may = step_mark w side who r x c (w.control (w.mark_desc x)) (r.rows.facts who (found x c) may refl).0 refl (control_noted (side who) (w.mark_desc x) (w.control (w.mark_desc x))) (step_control w side who r (w.mark_desc x) (w.control (w.mark_desc x)) refl)
   steps_keep w side who (places d e) r may =
-      let size = r.rows.notes who (size_is d may.0.size) may.0.known refl in
+      let size = r.rows.facts who (size_is d may.0.size) may.0.known refl in
       step_place w side who r d e (w.cell (w.target d e)) size.0 (subst (λ (n : ℕ). e < n) (sym size.1) may.0.within) may.1 refl
   steps_keep w side who (settles x c to) r may = step_settle w side who x c to (is_mark (w.cell c) x) r may refl
   steps_keep w side who (decides d x) r may =

@@ -3,7 +3,7 @@ use Rattle.std.proofs.Common.{◌≡◌, ◌≢◌, ℕ, ◌<◌, Bool, true, fa
 use Rattle.rh_world.specs.World.{Cell, Control, IsDecided, Ref, World}
 use Rattle.rh_world.specs.World.Cell.{desc, mark, plain}
 use Rattle.rh_world.specs.World.Control.{failed, succeeded, undecided, unused, withdrawn}
-use Rattle.rh_world.specs.Notes.Note.{decided, held, may_promote, over, size_is}
+use Rattle.rh_world.specs.Facts.Fact.{decided, held, may_promote, over, size_is}
 use Rattle.rh_world.specs.Later.{Later}
 use Rattle.rh_world.specs.Sides.{Side}
 use Rattle.rh_world.specs.Rows.{Rows}
@@ -19,8 +19,8 @@ decided_later w side who d unused x rows acts e may = later_same w
 decided_later w side who d undecided unused rows acts e may = later_same w
 decided_later w side who d undecided undecided rows acts e may = later_same w
 decided_later w side who d undecided succeeded rows acts e may =
-    let size = rows.notes who (size_is d may.0) may.1 refl in
-    later_succeed w side d rows e (λ i h. (acts.notes who (held d i) (may.2 i (subst (λ (n : ℕ). i < n) size.1 h)) refl).1 e)
+    let size = rows.facts who (size_is d may.0) may.1 refl in
+    later_succeed w side d rows e (λ i h. (acts.facts who (held d i) (may.2 i (subst (λ (n : ℕ). i < n) size.1 h)) refl).1 e)
 decided_later w side who d undecided withdrawn rows acts e may = later_decide w d withdrawn e tt (λ q. cc)
 decided_later w side who d undecided (failed i by) rows acts e may = later_decide w d (failed i by) e tt (λ q. cc)
 decided_later w side who d succeeded x rows acts e may = later_same w
@@ -32,7 +32,7 @@ placed_later : (w : World) (side : ℕ → Side) (who : ℕ) (d : Ref) (e : ℕ)
     → is_plain k (w.old d e) ≡ b → Later w (cond b (place_world w (next_mark w who) d e) w)
 placed_later w side who d e k rows here may free false q = later_same w
 placed_later w side who d e (plain u) rows here may free true q =
-    let size = rows.notes who (size_is d may.size) may.known refl in
+    let size = rows.facts who (size_is d may.size) may.known refl in
     later_place w side (next_mark w who) d e rows
     record { next = refl; settled = free; opened = size.0; within = subst (λ (n : ℕ). e < n) (sym size.1) may.within; found = here ∙ ap plain (eqb_yes u (w.old d e) q) }
 placed_later w side who d e (mark x) rows here may free true q = cc
@@ -54,8 +54,8 @@ released_later w d e dec true q = later_cell w (w.target d e) (released_cell w d
 
 -- it is decided
 pub known_over : (w : World) (side : ℕ → Side) (who : ℕ) (d : Ref) → Rows w side → KnowsOver (side who) d → IsDecided (w.control d)
-known_over w side who d rows (inl so) = (let t = rows.notes who (decided d so.0) so.1 refl in subst IsDecided (sym t.1) t.0)
-known_over w side who d rows (inr gone) = rows.notes who (over d) gone.0 refl
+known_over w side who d rows (inl so) = (let t = rows.facts who (decided d so.0) so.1 refl in subst IsDecided (sym t.1) t.0)
+known_over w side who d rows (inr gone) = rows.facts who (over d) gone.0 refl
 
 pub steps_later : (w : World) (side : ℕ → Side) (who : ℕ) (m : Move) → Rows w side → Acts w side
     → IsAllowed w side who m → Later w (world_after w who m)
@@ -65,7 +65,7 @@ steps_later w side who (reads_cell c) rows acts may = later_same w
 steps_later w side who (reads_control d) rows acts may = later_same w
 steps_later w side who (reads_mark_control x c) rows acts may = later_same w
 steps_later w side who (places d e) rows acts may = placed_later w side who d e (w.cell (w.target d e)) rows refl may.0 may.1 (is_plain (w.cell (w.target d e)) (w.old d e)) refl
-steps_later w side who (settles x c true) rows acts may = settled_later w c x true (is_mark (w.cell c) x) refl (λ t here. (acts.notes who (may_promote x c) may.1 refl).1 here)
+steps_later w side who (settles x c true) rows acts may = settled_later w c x true (is_mark (w.cell c) x) refl (λ t here. (acts.facts who (may_promote x c) may.1 refl).1 here)
 steps_later w side who (settles x c false) rows acts may = settled_later w c x false (is_mark (w.cell c) x) refl (λ t. absurd (true≢false (sym t)))
 steps_later w side who (decides d x) rows acts may = decided_later w side who d (w.control d) x rows acts refl may.1
 steps_later w side who (releases d e) rows acts may = released_later w d e (known_over w side who d rows may.1) (is_desc (w.cell (w.target d e)) d) refl

@@ -5,8 +5,8 @@ use Rattle.rh_world.specs.World.{Ref, Control, World, In}
 use Rattle.rh_world.specs.World.Cell.{desc}
 use Rattle.rh_world.specs.World.Control.{unused, undecided, succeeded, withdrawn, failed}
 use Rattle.rh_world.specs.Logical.{IsLogical, Takes, changed_by}
-use Rattle.rh_world.specs.Notes.{Note, HoldsIn, part_of}
-use Rattle.rh_world.specs.Notes.Part.{of_acts}
+use Rattle.rh_world.specs.Facts.{Fact, HoldsIn, part_of}
+use Rattle.rh_world.specs.Facts.Part.{of_acts}
 use Rattle.rh_world.specs.Sides.{Side}
 use Rattle.rh_world.specs.Rows.{ByOwner}
 
@@ -27,7 +27,7 @@ pub record Acts (w : World) (side : ℕ → Side) : Type 0 where
   -- each took the logical cells from one state to the next, and the last is what the cells stand for now
   pub takes : (i : ℕ) → i < w.act_count → Takes w (w.act i) (w.logical i) (w.logical (suc i))
   pub now : (c : ℕ) → IsLogical w c (w.logical w.act_count c)
-  pub notes : (v : ℕ) (n : Note) → In n (side v).notes → part_of n ≡ of_acts → HoldsIn w n
+  pub facts : (v : ℕ) (n : Fact) → In n (side v).facts → part_of n ≡ of_acts → HoldsIn w n
 
 -- the opening cells, changed by the first n acts one by one
 abbrev pub cells_after : World → (n : ℕ) → (c : ℕ) → ℕ

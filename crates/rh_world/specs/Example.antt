@@ -4,7 +4,7 @@ use Rattle.std.specs.Prelude.{◌≡◌, ℕ, ◌+◌, true, false, List, [], �
 use Rattle.rh_world.specs.World.{Ref, World}
 use Rattle.rh_world.specs.World.Cell.{plain}
 use Rattle.rh_world.specs.World.Control.{succeeded, withdrawn, failed}
-use Rattle.rh_world.specs.Notes.Note.{size_is}
+use Rattle.rh_world.specs.Facts.Fact.{size_is}
 use Rattle.rh_world.specs.Sides.{Side}
 use Rattle.rh_world.specs.Moves.{Entries, Move}
 use Rattle.rh_world.specs.Moves.Move.{learns, opens, reads_cell, reads_control, reads_mark_control, places, settles, decides, releases, claims}

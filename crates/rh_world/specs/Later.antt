@@ -1,5 +1,5 @@
 -- What a step may change: w is the world before, v the world after. It is a rely, as in rely and guarantee (Jones
--- 1983): each kind of step is shown to respect it, and each kind of note to be kept by it. It has another name here, as the
+-- 1983): each kind of step is shown to respect it, and each kind of fact to be kept by it. It has another name here, as the
 -- crates above speak of what a worker relies on at its next step (`Relies`).
 use Rattle.std.specs.Prelude.{◌≡◌, ◌≢◌, ℕ, ◌<◌, ◌≤◌, ◌⊎◌}
 use Rattle.rh_world.specs.World.{Ref, World, IsOpened, IsDecided, IsUsed}

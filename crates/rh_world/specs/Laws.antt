@@ -4,8 +4,8 @@ use Rattle.rh_world.specs.World.{Ref, World, IsOpened, IsDecided, HasFailed, In,
 use Rattle.rh_world.specs.World.Cell.{desc, plain}
 use Rattle.rh_world.specs.World.Control.{succeeded}
 use Rattle.rh_world.specs.Logical.{IsLogical}
-use Rattle.rh_world.specs.Notes.{HoldsIn, IsPrefix}
-use Rattle.rh_world.specs.Notes.Note.{over, passed}
+use Rattle.rh_world.specs.Facts.{HoldsIn, IsPrefix}
+use Rattle.rh_world.specs.Facts.Fact.{over, passed}
 use Rattle.rh_world.specs.Later.{Later}
 use Rattle.rh_world.specs.Sides.{Side, KeptRead}
 use Rattle.rh_world.specs.Rows.{Rows}

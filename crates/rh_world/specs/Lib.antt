@@ -1,6 +1,6 @@
 pub mod World
 pub mod Logical
-pub mod Notes
+pub mod Facts
 pub mod Later
 pub mod Sides
 pub mod Rows

@@ -7,8 +7,8 @@ use Rattle.rh_world.specs.World.{Ref, Cell, Control, World, In, is_ref, updated,
 use Rattle.rh_world.specs.World.Cell.{plain, mark, desc}
 use Rattle.rh_world.specs.World.Control.{unused, undecided, succeeded, withdrawn, failed}
 use Rattle.rh_world.specs.Logical.{entry_value, changed_by}
-use Rattle.rh_world.specs.Notes.{Note, HoldsIn}
-use Rattle.rh_world.specs.Notes.Note.{met, known, size_is, target_is, old_is, new_is, desc_is, which_is, decided, over, passed, failed_at, found, may_promote, may_demote, held, mismatch}
+use Rattle.rh_world.specs.Facts.{Fact, HoldsIn}
+use Rattle.rh_world.specs.Facts.Fact.{met, known, size_is, target_is, old_is, new_is, desc_is, which_is, decided, over, passed, failed_at, found, may_promote, may_demote, held, mismatch}
 use Rattle.rh_world.specs.Sides.{Side, is_number, note_side, open_side, place_side, settle_side, forget_side, paid_side, release_side, close_side, read_side, claim_side}
 
 -- the entries of a descriptor that is opened
@@ -22,7 +22,7 @@ pub data Move : Type 0 where
   -- Write or Read of a row's word: the worker learns what the row says, by one word or by several read before. A descriptor
   -- that is not opened yet, and a mark that was not placed, are no part of the world: what was written there is noted with
   -- the Open or the Place.
-  learns : List Note → Move
+  learns : List Fact → Move
   -- Open
   opens : Entries → Move
   -- Read of a cell; of a descriptor's control; of the control of a mark that was found in a cell
@@ -49,7 +49,7 @@ next_mark w who = record { worker = who; number = w.marks_used who }
 -- When it is allowed.
 
 -- what a row says, of an opened descriptor or of a used mark, or that it has gone on to a later one
-abbrev pub IsRowNote : Note → Type 0
+abbrev pub IsRowNote : Fact → Type 0
 IsRowNote (met d) = ⊥
 IsRowNote (known d) = ⊥
 IsRowNote (size_is d n) = Unit {0}
@@ -79,13 +79,13 @@ pub record CanOpen (side : ℕ → Side) (who : ℕ) (p : Entries) : Type 0 wher
 -- does not have would leave a mark, or take a descriptor, that nobody owes.
 pub record MayWork (s : Side) (d : Ref) (e : ℕ) : Type 0 where
   pub size : ℕ
-  pub known : In (size_is d size) s.notes
+  pub known : In (size_is d size) s.facts
   pub within : e < size
 
 -- The worker opened d, or read its control as undecided or as decided. A Place asks for it: that d was met in a cell is not
 -- enough.
-abbrev pub HasSeen : List Note → Ref → Type 0
-HasSeen notes d = In (known d) notes ⊎ ((k : Control) × In (decided d k) notes)
+abbrev pub HasSeen : List Fact → Ref → Type 0
+HasSeen facts d = In (known d) facts ⊎ ((k : Control) × In (decided d k) facts)
 
 -- Succeeded: each entry is noted as held, of the entries that d is known to have. Failed: a mismatch is noted at the
 -- entry, and the worker names itself. Withdrawn: d is the worker's own. That no mark is left to it then is asked where
@@ -93,13 +93,13 @@ HasSeen notes d = In (known d) notes ⊎ ((k : Control) × In (decided d k) note
 abbrev pub MayDecide : Side → (who : ℕ) → Ref → Control → Type 0
 MayDecide s who d unused = ⊥
 MayDecide s who d undecided = ⊥
-MayDecide s who d succeeded = (n : ℕ) × In (size_is d n) s.notes × ((e : ℕ) → e < n → In (held d e) s.notes)
+MayDecide s who d succeeded = (n : ℕ) × In (size_is d n) s.facts × ((e : ℕ) → e < n → In (held d e) s.facts)
 MayDecide s who d withdrawn = d.worker ≡ who
-MayDecide s who d (failed e by) = (by ≡ who) × ((n : ℕ) × In (mismatch d e n) s.notes)
+MayDecide s who d (failed e by) = (by ≡ who) × ((n : ℕ) × In (mismatch d e n) s.facts)
 
 -- The worker knows how d is decided, or that it is and that its owner has gone on.
 abbrev pub KnowsOver : Side → Ref → Type 0
-KnowsOver s d = ((k : Control) × In (decided d k) s.notes) ⊎ (In (over d) s.notes × In (passed d) s.notes)
+KnowsOver s d = ((k : Control) × In (decided d k) s.facts) ⊎ (In (over d) s.facts × In (passed d) s.facts)
 
 -- nothing is open, and no earlier Claim found the end
 pub record MayClaim (w : World) (s : Side) (who : ℕ) : Type 0 where
@@ -113,15 +113,15 @@ pub record MayClaim (w : World) (s : Side) (who : ℕ) : Type 0 where
 -- control as undecided, since only then is there a control to swap. A Release asks that d is known as decided, and how; or that it is, and that its owner
 -- has gone on: then it stands in a cell only if it did not succeed, and the old value is put there.
 abbrev pub IsAllowed : World → (ℕ → Side) → (who : ℕ) → Move → Type 0
-IsAllowed w side who (learns ns) = (n : Note) → In n ns → IsRowNote n × HoldsIn w n
+IsAllowed w side who (learns ns) = (n : Fact) → In n ns → IsRowNote n × HoldsIn w n
 IsAllowed w side who (opens p) = CanOpen side who p
 IsAllowed w side who (reads_cell c) = Unit {0}
 IsAllowed w side who (reads_control d) = Unit {0}
-IsAllowed w side who (reads_mark_control x c) = In (found x c) (side who).notes
-IsAllowed w side who (places d e) = MayWork (side who) d e × ((side who).unsettled ≡ None) × HasSeen (side who).notes d
-IsAllowed w side who (settles x c true) = In (found x c) (side who).notes × In (may_promote x c) (side who).notes
-IsAllowed w side who (settles x c false) = In (found x c) (side who).notes × In (may_demote x) (side who).notes
-IsAllowed w side who (decides d k) = In (known d) (side who).notes × MayDecide (side who) who d k
+IsAllowed w side who (reads_mark_control x c) = In (found x c) (side who).facts
+IsAllowed w side who (places d e) = MayWork (side who) d e × ((side who).unsettled ≡ None) × HasSeen (side who).facts d
+IsAllowed w side who (settles x c true) = In (found x c) (side who).facts × In (may_promote x c) (side who).facts
+IsAllowed w side who (settles x c false) = In (found x c) (side who).facts × In (may_demote x) (side who).facts
+IsAllowed w side who (decides d k) = In (known d) (side who).facts × MayDecide (side who) who d k
 IsAllowed w side who (releases d e) = MayWork (side who) d e × KnowsOver (side who) d
 IsAllowed w side who claims = MayClaim w (side who) who
 
@@ -220,8 +220,8 @@ world_after w who claims = claim_world w
 
 -- The Side after it: what the worker notes.
 
--- several notes, the first one last
-abbrev pub note_all : Side → List Note → Side
+-- several facts, the first one last
+abbrev pub note_all : Side → List Fact → Side
 note_all s [] = s
 note_all s (n ∷ ns) = note_side (note_all s ns) n
 

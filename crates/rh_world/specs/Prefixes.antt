@@ -2,8 +2,8 @@
 -- number of acts, its prefix, and along one worker's events these numbers never get smaller.
 use Rattle.std.specs.Prelude.{◌≡◌, ℕ, ◌<◌, ◌≤◌, Some, List, [], ◌∷◌}
 use Rattle.rh_world.specs.World.{Ref, World, IsOpened, HasFailed, In}
-use Rattle.rh_world.specs.Notes.{Note, HoldsIn, IsPrefix, IsMismatch, part_of}
-use Rattle.rh_world.specs.Notes.Part.{of_prefixes}
+use Rattle.rh_world.specs.Facts.{Fact, HoldsIn, IsPrefix, IsMismatch, part_of}
+use Rattle.rh_world.specs.Facts.Part.{of_prefixes}
 use Rattle.rh_world.specs.Sides.{Side, KeptRead}
 
 -- d failed at its entry e: there is a prefix after which the entry's cell did not hold its old value. It lies between the
@@ -37,4 +37,4 @@ pub record Prefixes (w : World) (side : ℕ → Side) : Type 0 where
   pub in_order : (v : ℕ) → InOrder (side v).reads
   -- no read is kept while a descriptor is open
   pub at_rest : (v p : ℕ) (k : KeptRead) → In k (side v).reads → (side v).current ≡ Some p → k.next_number ≤ p
-  pub notes : (v : ℕ) (n : Note) → In n (side v).notes → part_of n ≡ of_prefixes → HoldsIn w n
+  pub facts : (v : ℕ) (n : Fact) → In n (side v).facts → part_of n ≡ of_prefixes → HoldsIn w n

@@ -2,8 +2,8 @@
 use Rattle.std.specs.Prelude.{suc, ◌≡◌, ℕ, ◌<◌, ◌≤◌, ◌⊎◌, Some}
 use Rattle.rh_world.specs.World.{Ref, World, IsOpened, IsDecided, IsUsed, In}
 use Rattle.rh_world.specs.World.Cell.{mark, desc}
-use Rattle.rh_world.specs.Notes.{Note, HoldsIn, part_of}
-use Rattle.rh_world.specs.Notes.Part.{of_rows}
+use Rattle.rh_world.specs.Facts.{Fact, HoldsIn, part_of}
+use Rattle.rh_world.specs.Facts.Part.{of_rows}
 use Rattle.rh_world.specs.Sides.{Side}
 
 -- the descriptors of each worker: their numbers lie below its next one, their cells rise, and all but the open one,
@@ -63,4 +63,4 @@ pub record Rows (w : World) (side : ℕ → Side) : Type 0 where
   pub open descriptors use *
   pub owing : Owing w side
   pub open owing use *
-  pub notes : (v : ℕ) (n : Note) → In n (side v).notes → part_of n ≡ of_rows → HoldsIn w n
+  pub facts : (v : ℕ) (n : Fact) → In n (side v).facts → part_of n ≡ of_rows → HoldsIn w n

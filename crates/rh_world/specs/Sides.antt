@@ -1,7 +1,7 @@
 -- What each worker has done and knows: its Side.
 use Rattle.std.specs.Prelude.{◌≡◌, ℕ, ◌==◌, ◌&&◌, Option, Some, None, Bool, false, not, List, [], ◌∷◌, filter}
 use Rattle.rh_world.specs.World.{Ref, is_ref}
-use Rattle.rh_world.specs.Notes.{Note}
+use Rattle.rh_world.specs.Facts.{Fact}
 
 -- a cell where the worker's own mark for this descriptor stood: the descriptor may stand there by its doing
 pub record Debt : Type 0 where
@@ -16,7 +16,7 @@ pub record KeptRead : Type 0 where
   pub acts : ℕ
   pub next_number : ℕ
 
--- the newest of notes, reads and claims stands first
+-- the newest of facts, reads and claims stands first
 pub record Side : Type 0 where
   -- the number of the own descriptor that is open, if one is, and its entries that were released after the decision
   pub current : Option ℕ
@@ -24,13 +24,13 @@ pub record Side : Type 0 where
   -- the number of the own mark that is not settled yet, if one is
   pub unsettled : Option ℕ
   pub debts : List Debt
-  pub notes : List Note
+  pub facts : List Fact
   pub reads : List KeptRead
   -- the numbers that the worker's Claims found
   pub claims : List ℕ
 
 abbrev pub new_side : Side
-new_side = record { current = None; released = []; unsettled = None; debts = []; notes = []; reads = []; claims = [] }
+new_side = record { current = None; released = []; unsettled = None; debts = []; facts = []; reads = []; claims = [] }
 
 -- it has nothing open and owes nothing
 pub record AtRest (s : Side) : Type 0 where
@@ -38,8 +38,8 @@ pub record AtRest (s : Side) : Type 0 where
   pub settled : s.unsettled ≡ None
   pub paid : s.debts ≡ []
 
-abbrev pub note_side : Side → Note → Side
-note_side s n = record s { notes = n ∷ s.notes }
+abbrev pub note_side : Side → Fact → Side
+note_side s n = record s { facts = n ∷ s.facts }
 
 -- the own descriptor of this number is opened
 abbrev pub open_side : Side → ℕ → Side

@@ -23,7 +23,7 @@ loop-preserved-in-On g c =
       trusts = m.trusts;
       own = c.in-On.ensures.leads.0;
       stands = c.in-On.ensures.leads.1;
-      known = known_sub _ _ m.notes _ h.known;
+      known = known_sub _ _ m.facts _ h.known;
       stays = stays_on _ _ _ h.stays m.steps;
       noted = noted_on _ _ _ h.noted (made_notes _ _ _ _ _ _ m);
     }
@@ -36,7 +36,7 @@ returns-in-Spent-clause-helps g c = record {
 
 pub returns-then-is_over-clause-helps : goal.returns-then-is_over-clause-helps
 returns-then-is_over-clause-helps g c = record {
-  noted = noted_on _ _ _ (noted_on _ _ _ c.loop.invariant.noted (made_notes _ _ _ _ _ _ c.in-Over.ensures.made)) c.state.ensures.notes;
+  noted = noted_on _ _ _ (noted_on _ _ _ c.loop.invariant.noted (made_notes _ _ _ _ _ _ c.in-Over.ensures.made)) c.state.ensures.facts;
   decided_so = inl (told_over c.state.new.side.known.view _ c.state.result c.state.ensures.told (sym c.is_over.ensures ∙ c.if-is_over.true));
 }
 
@@ -45,14 +45,14 @@ loop-preserved g c =
     let h = c.loop.invariant in
     let m = c.in-Over.ensures.made in
     let k = c.state.ensures in
-    let known = known_sub _ _ k.notes.notes _ (known_sub _ _ m.notes _ h.known) in record {
+    let known = known_sub _ _ k.facts.facts _ (known_sub _ _ m.facts _ h.known) in record {
       trusts = k.trusts;
       own = k.clear.own;
       stands = subst (λ (w : Work). Stands c.args.shape.now c.state.new.side.known.view w) (sym c.go_about.ensures) (k.clear.owes, known);
       known = known;
       stays = stays_on _ _ _ (stays_on _ _ _ h.stays m.steps) k.stays;
-      noted = noted_on _ _ _ (noted_on _ _ _ h.noted (made_notes _ _ _ _ _ _ m)) k.notes;
+      noted = noted_on _ _ _ (noted_on _ _ _ h.noted (made_notes _ _ _ _ _ _ m)) k.facts;
     }
 
 pub state-requires-clause-known : goal.state-requires-clause-known
-state-requires-clause-known g c = known_sub _ _ c.in-Over.ensures.made.notes _ c.loop.invariant.known
+state-requires-clause-known g c = known_sub _ _ c.in-Over.ensures.made.facts _ c.loop.invariant.known

@@ -14,7 +14,7 @@ invariant-loop g l = record {
   trusts : Trusts Sits l.shape l.here l.side.known.view;
   own : KnowsOwn l.side.known.view None;
   stands : Stands l.shape l.side.known.view (work_of l.machine);
-  known : IsKnown l.side.known.view.side.notes (ref_of l.desc);
+  known : IsKnown l.side.known.view.side.facts (ref_of l.desc);
   stays : Stays l.fn.here l.here;
   noted : HasNoted l.fn.side.known.view l.side.known.view;
 }

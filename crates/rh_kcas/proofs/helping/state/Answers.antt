@@ -21,8 +21,8 @@ returns-clause-told c =
     told_saw v _ (ref_of c.args.desc) c.state_told.result
     (saw_control v (ref_of c.args.desc) c.make-word.result (c.make-word.ensures.finds.1 c.requires.known) c.state_told.result c.state_told.ensures _ _ c.requires.known c.make-word.ensures.view_is).0
 
-pub returns-clause-notes : goal.returns-clause-notes
-returns-clause-notes c =
+pub returns-clause-facts : goal.returns-clause-facts
+returns-clause-facts c =
     let v = c.args.side.now.known.view in
     notes_saw v _ (ref_of c.args.desc) c.state_told.result
     (saw_control v (ref_of c.args.desc) c.make-word.result (c.make-word.ensures.finds.1 c.requires.known) c.state_told.result c.state_told.ensures _ _ c.requires.known c.make-word.ensures.view_is).0

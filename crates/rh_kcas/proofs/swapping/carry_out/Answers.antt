@@ -2,7 +2,7 @@ use Rattle.std.proofs.Common.{Some, ℕ, inl, length, subst, sym}
 use Rattle.rh_descriptor.specs.declared.side.Side.{Side}
 use Rattle.rh_descriptor.specs.View.{OwnDesc, own_ref}
 use Rattle.rh_world.specs.World.{In}
-use Rattle.rh_world.specs.Notes.Note.{known}
+use Rattle.rh_world.specs.Facts.Fact.{known}
 use Rattle.rh_helping.specs.Next.{Work}
 use Rattle.rh_helping.specs.declared.machine.Progress.{Progress}
 use Rattle.rh_helping.specs.Goal.{opened_by}
@@ -21,7 +21,7 @@ loop-init g c =
       trusts = c.requires.trusts;
       own = c.requires.own;
       stands = subst (λ (w : Work). Stands c.args.shape.now v w) (sym c.about-machine.ensures)
-          (c.requires.owes, inl (inl (subst (λ (w : ℕ). In (known (record { worker = w; number = c.args.own.number })) v.side.notes) c.args.side.now.same_worker k)));
+          (c.requires.owes, inl (inl (subst (λ (w : ℕ). In (known (record { worker = w; number = c.args.own.number })) v.side.facts) c.args.side.now.same_worker k)));
       stays = stays_first _;
       noted = noted_first _;
     }

@@ -17,7 +17,7 @@ returns-in-Succeeded-clause-swaps g c =
     let s = is_swapped c.args.table.now.shape c.args.entries.now c.args.seat.now.side.known.view _ c.carry_out.new.side.known.view _ _ c.args.seat.now.side.same_number e.trusts.knows c.requires.rests.rested c.open.ensures.opens e.carries in record {
       became = (s.so, s.acts);
       opening = s.opening;
-      notes = s.notes;
+      facts = s.facts;
       reads = s.reads;
       claims = s.claims;
     }
@@ -37,7 +37,7 @@ returns-in-Failed-clause-swaps g c =
     let s = is_swapped c.args.table.now.shape c.args.entries.now c.args.seat.now.side.known.view _ c.carry_out.new.side.known.view _ _ c.args.seat.now.side.same_number e.trusts.knows c.requires.rests.rested c.open.ensures.opens e.carries in record {
       became = (s.so, s.acts);
       opening = s.opening;
-      notes = s.notes;
+      facts = s.facts;
       reads = s.reads;
       claims = s.claims;
     }
@@ -57,7 +57,7 @@ returns-in-Withdrawn-clause-swaps g c =
     let s = is_swapped c.args.table.now.shape c.args.entries.now c.args.seat.now.side.known.view _ c.carry_out.new.side.known.view _ _ c.args.seat.now.side.same_number e.trusts.knows c.requires.rests.rested c.open.ensures.opens e.carries in record {
       became = (inr (s.spends refl), inr s.so, s.acts);
       opening = s.opening;
-      notes = s.notes;
+      facts = s.facts;
       reads = s.reads;
       claims = s.claims;
     }

@@ -28,7 +28,7 @@ returns-clause-opens c =
     let next = c.step.new.side.known.view in record {
       worker = step_worker c.args.shape.now c.loop-next.side.known.view next m.step m.word m.view_is ∙ h.noted.worker;
       opening = step_opening c.args.shape.now c.loop-next.side.known.view next m.step m.word m.view_is ∙ h.noted.opening;
-      notes = λ n i. m.notes n (h.noted.notes n i);
+      facts = λ n i. m.facts n (h.noted.facts n i);
       opened = m.opened ∙ (λ i. record { number = h.noted.next_number i; entries = c.args.entries.now } ∷ h.noted.opened i);
       next_number = sym (l.0.last c.loop-next.side.known.view.next_number l.0.current) ∙ ap suc h.noted.next_number;
       reads = m.reads ∙ h.noted.reads;

@@ -23,7 +23,7 @@ returns c =
       };
       may = record {
         desc = h.knows.sound.descs (ref_of c.args.desc) c.requires.known;
-        seen = subst (λ (k : State). SeenAs (ref_of c.args.desc) (Some k) next.side.notes) c.in-Some-Undecided.field-0-is c.in-Some-Undecided.ensures.seen;
+        seen = subst (λ (k : State). SeenAs (ref_of c.args.desc) (Some k) next.side.facts) c.in-Some-Undecided.field-0-is c.in-Some-Undecided.ensures.seen;
         settled = rested.clear.owes.settled;
       };
     }

@@ -1,6 +1,6 @@
 use Rattle.std.proofs.Common.{ℕ, Some, ◌∙◌, subst, inl}
 use Rattle.rh_world.specs.World.{In, Ref}
-use Rattle.rh_world.specs.Notes.Note.{known}
+use Rattle.rh_world.specs.Facts.Fact.{known}
 use Rattle.rh_descriptor.specs.Steps.{IsDesc, IsKnown}
 use Rattle.rh_descriptor.specs.View.{OwnDesc}
 use Rattle.rh_helping.proofs.Owing.{nothing_saw, open_all_noted}
@@ -24,7 +24,7 @@ returns c =
     let h = c.requires in
     let d : Ref = record { worker = side.worker; number = c.args.number } in
     let own : OwnDesc = record { number = c.args.number; entries = c.args.entries.now } in
-    let opened : IsKnown v.side.notes d = inl (inl (subst (λ (w : ℕ). In (known (record { worker = w; number = c.args.number })) v.side.notes) side.same_worker (open_all_noted v own h.own).known)) in
+    let opened : IsKnown v.side.facts d = inl (inl (subst (λ (w : ℕ). In (known (record { worker = w; number = c.args.number })) v.side.facts) side.same_worker (open_all_noted v own h.own).known)) in
     let saw = status_saw c.args.table.now.shape v _ (record { worker = side.worker; number = c.args.number }) c.status.result opened e.read in record {
       here = record { own = e.same.table ∙ h.here.own; alone = e.same.count ∙ h.here.alone };
       knows = e.read.control.knows;

@@ -9,5 +9,5 @@ pub returns-clause-meets : goal.returns-clause-meets
 returns-clause-meets c =
     let v = view_of c.args.seat.now in
     let word = c.make.result in
-    subst (λ (u : View). Meets c.args.cell (cell_in word) u.side.notes) (sym c.make.ensures.learned.view_is)
+    subst (λ (u : View). Meets c.args.cell (cell_in word) u.side.facts) (sym c.make.ensures.learned.view_is)
     (meets v.side c.args.cell (cell_in word) v.side.current 0 v.next_number)

@@ -12,14 +12,14 @@ use Rattle.rh_rdcss.proofs.settling.settle_own.Goals as goal
 pub make-word-requires-clause-allowed : goal.make-word-requires-clause-allowed
 make-word-requires-clause-allowed c =
     let piece : Piece = record { desc = c.args.own.piece.desc; entry = c.args.own.piece.entry; cell = c.args.cell } in
-    may_read_control _ _ c.requires.knows c.args.own.mark piece (record { met = c.requires.found; of_desc = c.requires.notes.of_desc; of_entry = c.requires.notes.of_entry })
+    may_read_control _ _ c.requires.knows c.args.own.mark piece (record { met = c.requires.found; of_desc = c.requires.facts.of_desc; of_entry = c.requires.facts.of_entry })
 
 pub make-requires-clause-allowed : goal.make-requires-clause-allowed
 make-requires-clause-allowed c =
     let piece : Piece = record { desc = c.args.own.piece.desc; entry = c.args.own.piece.entry; cell = c.args.cell } in
-    let found : IsFound _ c.args.own.mark piece = record { met = c.requires.found; of_desc = c.requires.notes.of_desc; of_entry = c.requires.notes.of_entry } in
+    let found : IsFound _ c.args.own.mark piece = record { met = c.requires.found; of_desc = c.requires.facts.of_desc; of_entry = c.requires.facts.of_entry } in
     subst (λ (to : Option ℕ). Allowed c.args.table.now.shape c.make-word.new.seat.side.known.view (settles (ref_of c.args.own.mark) c.args.cell (ref_of piece.desc) piece.entry to)) (sym c.own_target-old.ensures)
-    (own_settles _ _ c.args.own.mark piece found c.args.own.old c.requires.notes.knows_old c.make-word.result _ c.make-word.ensures.learned)
+    (own_settles _ _ c.args.own.mark piece found c.args.own.old c.requires.facts.knows_old c.make-word.result _ c.make-word.ensures.learned)
 
 pub returns-clause-settled : goal.returns-clause-settled
 returns-clause-settled c mine =

@@ -4,7 +4,7 @@ use Rattle.rh_tagword.specs.declared.control.State.TheVariants.{Failed}
 use Rattle.rh_tagword.specs.Control.{IsControl}
 use Rattle.rh_descriptor.specs.View.{View}
 use Rattle.rh_descriptor.specs.Words.{control_of}
-use Rattle.rh_helping.specs.Asked.{FollowsDecide}
+use Rattle.rh_helping.specs.Requested.{FollowsDecide}
 use Rattle.rh_helping.specs.Goal.{opened_by}
 use Rattle.rh_helping.specs.Work.{IsOver}
 use Rattle.rh_helping.proofs.Decisions.{fail_control, undecided_owes}

@@ -1,5 +1,5 @@
 use Rattle.std.proofs.Common.{◌≡◌, ◌+◌, ◌-◌, ap, arith, inl, inr, refl, suc, sym, subst, ◌∙◌}
-use Rattle.rh_world.specs.Notes.Note.{found, held, met, mismatch}
+use Rattle.rh_world.specs.Facts.Fact.{found, held, met, mismatch}
 use Rattle.rh_descriptor.specs.declared.reference.Ref.{Ref as Reference}
 use Rattle.rh_descriptor.specs.View.{View}
 use Rattle.rh_descriptor.specs.Words.{ref_of}
@@ -52,7 +52,7 @@ returns-in-Value-clause-leads g c =
     let t = c.args.machine.now.task in
     let n = mismatch (ref_of t.desc) t.entry 0 in
     let g = grows_note f.before n refl in
-    lead c.args.shape.now _ _ _ (On (work.Note t)) (f.view_is ∙ noted_next c.args.shape.now f.before f.knows (goal_of c.args.machine.now) f.stands.0 c.args.found c.if-found-machine.false n (saw_value c.args.shape.now f.before f.knows (goal_of c.args.machine.now) f.stands.0 c.args.found c.if-found-machine.false c.in-Value.ensures))
+    lead c.args.shape.now _ _ _ (On (work.WriteReason t)) (f.view_is ∙ noted_next c.args.shape.now f.before f.knows (goal_of c.args.machine.now) f.stands.0 c.args.found c.if-found-machine.false n (saw_value c.args.shape.now f.before f.knows (goal_of c.args.machine.now) f.stands.0 c.args.found c.if-found-machine.false c.in-Value.ensures))
     (own_grows _ _ g _ f.own, record { at = at_grows _ _ g _ (at_goal _ _ _ f.stands.0); undecided = f.stands.0.undecided; seen = inl refl })
 
 pub returns-in-Mark-clause-leads : goal.returns-in-Mark-clause-leads

@@ -1,5 +1,5 @@
 use Rattle.std.proofs.Common.{Bool, subst}
-use Rattle.rh_helping.specs.Asked.{SettledFrom}
+use Rattle.rh_helping.specs.Requested.{SettledFrom}
 use Rattle.rh_helping.specs.Machine.{goal_of, left_on, settling_of}
 use Rattle.rh_helping.specs.Settling.{LeadsOn}
 use Rattle.rh_helping.proofs.Growing.{own_grows}

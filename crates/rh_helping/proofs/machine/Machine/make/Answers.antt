@@ -1,15 +1,15 @@
 use Rattle.std.proofs.Common.{sym, subst}
 use Rattle.rh_descriptor.specs.Steps.{Allowed, Step}
 use Rattle.rh_helping.specs.Machine.{work_at}
-use Rattle.rh_helping.proofs.Asking.{asked_made, may_ask, of_work}
+use Rattle.rh_helping.proofs.Requesting.{asked_made, may_request, of_work}
 use Rattle.rh_helping.proofs.machine.Machine.make.Goals as goal
 
 pub make-found-requires-clause-allowed : goal.make-found-requires-clause-allowed
-make-found-requires-clause-allowed g c = subst (λ (s : Step). Allowed c.args.shape.now c.args.side.now.known.view s) (sym c.ask-ask.ensures)
-    (may_ask _ _ c.requires.relies.now.knows _ c.requires.own (work_at g.S.Stage.at c.args.self.now) c.requires.stands)
+make-found-requires-clause-allowed g c = subst (λ (s : Step). Allowed c.args.shape.now c.args.side.now.known.view s) (sym c.request-request.ensures)
+    (may_request _ _ c.requires.relies.now.knows _ c.requires.own (work_at g.S.Stage.at c.args.self.now) c.requires.stands)
 
 pub returns-clause-made : goal.returns-clause-made
 returns-clause-made g c =
     let v = c.args.side.now.known.view in
-    let may = subst (λ (s : Step). Allowed c.args.shape.now v s) (sym c.ask-ask.ensures) (may_ask _ _ c.requires.relies.now.knows _ c.requires.own (work_at g.S.Stage.at c.args.self.now) c.requires.stands) in
-    asked_made _ _ _ _ _ _ _ _ _ _ (of_work v (work_at g.S.Stage.at c.args.self.now)) c.ask-ask.ensures c.after.ensures.same may c.make-found.ensures
+    let may = subst (λ (s : Step). Allowed c.args.shape.now v s) (sym c.request-request.ensures) (may_request _ _ c.requires.relies.now.knows _ c.requires.own (work_at g.S.Stage.at c.args.self.now) c.requires.stands) in
+    asked_made _ _ _ _ _ _ _ _ _ _ (of_work v (work_at g.S.Stage.at c.args.self.now)) c.request-request.ensures c.after.ensures.same may c.make-found.ensures

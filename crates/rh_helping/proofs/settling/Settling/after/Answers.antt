@@ -3,8 +3,8 @@ use Rattle.rh_descriptor.specs.declared.reference.Piece.{Piece}
 use Rattle.rh_descriptor.specs.View.{View}
 use Rattle.rh_descriptor.specs.Words.{ref_of}
 use Rattle.rh_descriptor.specs.View.RowWord.{old_word}
-use Rattle.rh_world.specs.Notes.Note.{may_demote}
-use Rattle.rh_helping.specs.Asked.{SettledFrom}
+use Rattle.rh_world.specs.Facts.Fact.{may_demote}
+use Rattle.rh_helping.specs.Requested.{SettledFrom}
 use Rattle.rh_helping.specs.Machine.{settling_at}
 use Rattle.rh_helping.specs.declared.settling.SettlingAt.{SettlingAt}
 use Rattle.rh_helping.specs.Settling.{Grows, IsFound, IsSettling}
@@ -43,4 +43,4 @@ returns-else-found-self-2-clause-leads c = λ z v settled.
     let p = c.args.self.now.piece in
     let grown = rows.serial_grows v (ref_of p.desc) c.args.found in
     subst (λ (n : View). IsSettling n (settles.Settle c.args.self.now.mark p (Some c.args.self.now.value))) (sym s.view_is)
-    (found_grows _ _ grown _ _ s.settling.0, (grown.notes (may_demote (ref_of c.args.self.now.mark)) s.settling.1, rows.serial_tells v (ref_of p.desc) c.args.found c.if-found-self-2.false (old_word p.entry c.args.self.now.value) s.settling.2))
+    (found_grows _ _ grown _ _ s.settling.0, (grown.facts (may_demote (ref_of c.args.self.now.mark)) s.settling.1, rows.serial_tells v (ref_of p.desc) c.args.found c.if-found-self-2.false (old_word p.entry c.args.self.now.value) s.settling.2))

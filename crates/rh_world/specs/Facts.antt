@@ -4,27 +4,27 @@ use Rattle.rh_world.specs.World.{Ref, Control, World, IsOpened, IsDecided, HasFa
 use Rattle.rh_world.specs.World.Cell.{mark, desc}
 use Rattle.rh_world.specs.World.Control.{undecided, succeeded}
 
-pub data Note : Type 0 where
+pub data Fact : Type 0 where
   -- of a descriptor: it was met in a cell; it was opened by the worker, or its control was read as undecided; how many entries
   -- it has; the cell, the old and the new value of an entry; how it was decided
-  met known : Ref → Note
-  size_is : Ref → ℕ → Note
-  target_is old_is new_is : Ref → ℕ → ℕ → Note
-  decided : Ref → Control → Note
+  met known : Ref → Fact
+  size_is : Ref → ℕ → Fact
+  target_is old_is new_is : Ref → ℕ → ℕ → Fact
+  decided : Ref → Control → Fact
   -- that it was decided, and not how; that its owner has gone on to a later one, so that it stands in no cell if it
   -- succeeded; at which entry it failed
-  over passed : Ref → Note
-  failed_at : Ref → ℕ → Note
+  over passed : Ref → Fact
+  failed_at : Ref → ℕ → Fact
   -- of a mark: its descriptor; its entry; the cell where it was found
-  desc_is : Ref → Ref → Note
-  which_is : Ref → ℕ → Note
-  found : Ref → ℕ → Note
+  desc_is : Ref → Ref → Fact
+  which_is : Ref → ℕ → Fact
+  found : Ref → ℕ → Fact
   -- what may be done with a mark that was found in a cell: swapped to its descriptor, or back to the old value
-  may_promote : Ref → ℕ → Note
-  may_demote : Ref → Note
+  may_promote : Ref → ℕ → Fact
+  may_demote : Ref → Fact
   -- of an entry of a descriptor: its cell was seen to hold the descriptor; it did not hold the old value after n acts
-  held : Ref → ℕ → Note
-  mismatch : Ref → ℕ → ℕ → Note
+  held : Ref → ℕ → Fact
+  mismatch : Ref → ℕ → ℕ → Fact
 
 -- The first n acts are a prefix for number p of worker v: the acts of v among them are exactly those of its
 -- descriptors below p.
@@ -41,9 +41,9 @@ pub record IsMismatch (w : World) (d : Ref) (e n : ℕ) : Type 0 where
   pub acts_before : w.acts_before d ≤ n
   pub differs : w.logical n (w.target d e) ≢ w.old d e
 
--- The note holds in the world. While a mark stands in the cell of an entry of d, d does not stand there, so d cannot
+-- The fact holds in the world. While a mark stands in the cell of an entry of d, d does not stand there, so d cannot
 -- succeed: that is why a mark may be promoted however late, if d was undecided after the mark was found.
-abbrev pub HoldsIn : World → Note → Type 0
+abbrev pub HoldsIn : World → Fact → Type 0
 HoldsIn w (met d) = IsOpened (w.control d)
 HoldsIn w (known d) = IsOpened (w.control d)
 HoldsIn w (size_is d n) = IsOpened (w.control d) × (w.size d ≡ n)
@@ -62,12 +62,12 @@ HoldsIn w (may_demote x) = IsUsed w x × IsDecided (w.control (w.mark_desc x))
 HoldsIn w (held d e) = IsOpened (w.control d) × (w.control d ≡ undecided → w.cell (w.target d e) ≡ desc d)
 HoldsIn w (mismatch d e n) = IsOpened (w.control d) × (w.control d ≡ undecided → IsMismatch w d e n)
 
--- which part of the rule says that the note holds
--- Each note belongs to one part, so that each part is kept by the parts before it alone.
+-- which part of the rule says that the fact holds
+-- Each fact belongs to one part, so that each part is kept by the parts before it alone.
 pub data Part : Type 0 where
   of_rows of_acts of_prefixes : Part
 
-abbrev pub part_of : Note → Part
+abbrev pub part_of : Fact → Part
 part_of (met d) = of_rows
 part_of (known d) = of_rows
 part_of (size_is d n) = of_rows

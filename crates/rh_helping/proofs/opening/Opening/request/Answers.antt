@@ -1,7 +1,7 @@
 use Rattle.std.proofs.Common.{ap, ◌∙◌, sym, subst}
 use Rattle.rh_helping.specs.Opening.{IsOpening, opening_step}
 use Rattle.rh_helping.proofs.Opens.{asks_cell, asks_new, asks_old}
-use Rattle.rh_helping.proofs.opening.Opening.ask.Goals as goal
+use Rattle.rh_helping.proofs.opening.Opening.request.Goals as goal
 
 pub returns-in-Cell : goal.returns-in-Cell
 returns-in-Cell c =

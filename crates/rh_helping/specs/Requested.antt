@@ -28,31 +28,31 @@ asked_of_mark (settles.Old x p) = Step.reads (reading.EntryOld p.desc p.entry)
 asked_of_mark (settles.OldSerial x p old) = Step.reads (reading.Serial p.desc)
 asked_of_mark (settles.Settle x p old) = Step.settles (ref_of x) p.cell (ref_of p.desc) p.entry old
 
-abbrev pub asked : View → Work → Step
-asked v (work.Control d) = Step.reads (reading.Control d)
-asked v (work.Length d k) = Step.reads (reading.Length d)
-asked v (work.LengthSerial d k n) = Step.reads (reading.Serial d)
-asked v (work.EntryCell t) = Step.reads (reading.EntryCell t.desc t.entry)
-asked v (work.EntryOld t c) = Step.reads (reading.EntryOld t.desc t.entry)
-asked v (work.EntryNew t c o) = Step.reads (reading.EntryNew t.desc t.entry)
-asked v (work.EntrySerial g) = Step.reads (reading.Serial g.task.desc)
-asked v (work.MarkSerial g) = Step.writes (part.MarkSerial v.worker) v.marks_used
-asked v (work.MarkDesc g) = Step.writes (part.MarkDesc v.worker) (desc_number (ref_of g.task.desc))
-asked v (work.MarkEntry g) = Step.writes (part.MarkEntry v.worker) g.task.entry
-asked v (work.Place g) = Step.places (ref_of g.task.desc) g.task.entry g.cell g.old
-asked v (work.Settle s g) = asked_of_mark s
-asked v (work.MarkControl p) = Step.reads (reading.MarkControl p.mark p.goal.cell p.goal.task.desc)
-asked v (work.Promote p) = Step.settles (ref_of p.mark) p.goal.cell (ref_of p.goal.task.desc) p.goal.task.entry None
-asked v (work.Demote p k) = Step.settles (ref_of p.mark) p.goal.cell (ref_of p.goal.task.desc) p.goal.task.entry (Some p.goal.old)
-asked v (work.Recheck g promoted) = Step.reads (reading.Control g.task.desc)
-asked v (work.Note t) = Step.writes (part.Note v.worker t.desc.worker) t.entry
-asked v (work.Fail t) = Step.decides (ref_of t.desc) (failed 0 v.worker)
-asked v (work.Succeed t) = Step.decides (ref_of t.desc) succeeded
-asked v (work.Withdraw d) = Step.decides (ref_of d) withdrawn
-asked v (work.Reason t by) = Step.reads (reading.Reason t.desc by)
-asked v (work.Release g) =
+abbrev pub requested : View → Work → Step
+requested v (work.Control d) = Step.reads (reading.Control d)
+requested v (work.Length d k) = Step.reads (reading.Length d)
+requested v (work.LengthSerial d k n) = Step.reads (reading.Serial d)
+requested v (work.EntryCell t) = Step.reads (reading.EntryCell t.desc t.entry)
+requested v (work.EntryOld t c) = Step.reads (reading.EntryOld t.desc t.entry)
+requested v (work.EntryNew t c o) = Step.reads (reading.EntryNew t.desc t.entry)
+requested v (work.EntrySerial g) = Step.reads (reading.Serial g.task.desc)
+requested v (work.MarkSerial g) = Step.writes (part.MarkSerial v.worker) v.marks_used
+requested v (work.MarkDesc g) = Step.writes (part.MarkDesc v.worker) (desc_number (ref_of g.task.desc))
+requested v (work.MarkEntry g) = Step.writes (part.MarkEntry v.worker) g.task.entry
+requested v (work.Place g) = Step.places (ref_of g.task.desc) g.task.entry g.cell g.old
+requested v (work.Settle s g) = asked_of_mark s
+requested v (work.MarkControl p) = Step.reads (reading.MarkControl p.mark p.goal.cell p.goal.task.desc)
+requested v (work.Promote p) = Step.settles (ref_of p.mark) p.goal.cell (ref_of p.goal.task.desc) p.goal.task.entry None
+requested v (work.Demote p k) = Step.settles (ref_of p.mark) p.goal.cell (ref_of p.goal.task.desc) p.goal.task.entry (Some p.goal.old)
+requested v (work.Recheck g promoted) = Step.reads (reading.Control g.task.desc)
+requested v (work.WriteReason t) = Step.writes (part.Reason v.worker t.desc.worker) t.entry
+requested v (work.Fail t) = Step.decides (ref_of t.desc) (failed 0 v.worker)
+requested v (work.Succeed t) = Step.decides (ref_of t.desc) succeeded
+requested v (work.Withdraw d) = Step.decides (ref_of d) withdrawn
+requested v (work.ReadReason t by) = Step.reads (reading.Reason t.desc by)
+requested v (work.Release g) =
     Step.releases (ref_of g.task.desc) g.task.entry g.cell (Some (control_of g.task.state)) (released_value g.task.state g.old g.new)
-asked v (work.GiveBack o) = Step.releases (ref_of o.piece.desc) o.piece.entry o.piece.cell None o.old
+requested v (work.GiveBack o) = Step.releases (ref_of o.piece.desc) o.piece.entry o.piece.cell None o.old
 
 -- ---- the view after it
 
@@ -72,8 +72,8 @@ pub record Follows (z : Shape) (opens : Option OwnDesc) (w : Work) (word : ℕ) 
   pub knows : Knows z before
   pub own : KnowsOwn before opens
   pub stands : Stands z before w
-  pub finds : Finds z before (asked before w) word
-  pub view_is : next ≡ noted z before (asked before w) word
+  pub finds : Finds z before (requested before w) word
+  pub view_is : next ≡ noted z before (requested before w) word
 
 -- of one that decided it
 pub record FollowsDecide (z : Shape) (opens : Option OwnDesc) (t : Task) (k : Control) (word : ℕ) (next : View) : Type 0 where

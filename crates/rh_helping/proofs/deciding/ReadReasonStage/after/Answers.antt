@@ -1,12 +1,12 @@
 use Rattle.std.proofs.Common.{refl, sym, subst}
 use Rattle.rh_descriptor.specs.View.{View}
 use Rattle.rh_descriptor.specs.Words.{ref_of}
-use Rattle.rh_world.specs.Notes.Note.{failed_at}
+use Rattle.rh_world.specs.Facts.Fact.{failed_at}
 use Rattle.rh_helping.specs.Goal.{KnowsOwn, opened_by}
 use Rattle.rh_helping.proofs.Decisions.{reason_next}
 use Rattle.rh_helping.proofs.Growing.{own_grows}
 use Rattle.rh_helping.proofs.Rows.{grows_note}
-use Rattle.rh_helping.proofs.deciding.ReasonStage.after.Goals as goal
+use Rattle.rh_helping.proofs.deciding.ReadReasonStage.after.Goals as goal
 
 pub at_entry-requires-clause-own : goal.at_entry-requires-clause-own
 at_entry-requires-clause-own g c = let f = c.requires.follows in

@@ -5,7 +5,7 @@ use Rattle.rh_descriptor.specs.declared.steps.StepKind.{StepKind}
 use Rattle.rh_descriptor.specs.View.{OwnDesc, View}
 use Rattle.rh_descriptor.specs.Steps.{Allowed, Step}
 use Rattle.rh_steps.specs.Relies.{Knows, Went}
-use Rattle.rh_helping.specs.Asked.{asked, asked_of_mark}
+use Rattle.rh_helping.specs.Requested.{requested, asked_of_mark}
 use Rattle.rh_helping.specs.Goal.{KnowsOwn, piece_of}
 use Rattle.rh_helping.specs.Made.{HasMade, kind_of}
 use Rattle.rh_helping.specs.Next.{Settles, Work}
@@ -13,7 +13,7 @@ use Rattle.rh_helping.specs.Next.{Settles as settles}
 use Rattle.rh_helping.specs.Next.{Work as work}
 use Rattle.rh_helping.specs.Settling.{IsSettling, kind_of_settling}
 use Rattle.rh_helping.specs.Work.{Stands, kind_of_work}
-use Rattle.rh_helping.proofs.Decisions.{may_fail, may_note, may_read_reason, may_succeed, may_withdraw}
+use Rattle.rh_helping.proofs.Decisions.{may_fail, may_give_reason, may_read_reason, may_succeed, may_withdraw}
 use Rattle.rh_helping.proofs.Knowing.{allowed, task_known}
 use Rattle.rh_helping.proofs.Made.{IsOnDescs, made_then}
 use Rattle.rh_helping.proofs.Marking.{is_found, may_place}
@@ -49,32 +49,32 @@ of_mark (settles.Settle x p old) = (refl, tt)
 
 -- ---- with a descriptor
 
-pub may_ask : (z : Shape) (v : View) → Knows z v → (opens : Option OwnDesc) → KnowsOwn v opens → (w : Work) → Stands z v w → Allowed z v (asked v w)
-may_ask z v k opens own (work.Control d) h = starting.may_read_control z v k d h.1
-may_ask z v k opens own (work.Length d state) h = starting.may_read_length z v k d state h.1
-may_ask z v k opens own (work.LengthSerial d state n) h = starting.may_read_serial z v k d state h.1
-may_ask z v k opens own (work.EntryCell t) h = rows.may_read_cell z v k t h.0
-may_ask z v k opens own (work.EntryOld t c) h = rows.may_read_old z v k t h.0
-may_ask z v k opens own (work.EntryNew t c o) h = rows.may_read_new z v k t h.0
-may_ask z v k opens own (work.EntrySerial g) h = rows.may_read_serial z v k g.task h.0
-may_ask z v k opens own (work.MarkSerial g) h = allowed z v k _ (refl, h.owes.settled, refl, h.mark)
-may_ask z v k opens own (work.MarkDesc g) h = allowed z v k _ (refl, h.0.owes.settled, h.1)
-may_ask z v k opens own (work.MarkEntry g) h = allowed z v k _ (refl, h.0.owes.settled, h.1.serial)
-may_ask z v k opens own (work.Place g) h = may_place z v k g h.0 h.1
-may_ask z v k opens own (work.Settle s g) h = may_ask_mark z v k s h.2
-may_ask z v k opens own (work.MarkControl p) h = marks.may_read_control z v k p.mark (piece_of p.goal) (is_found v p h)
-may_ask z v k opens own (work.Promote p) h = may_settle z v k p.mark (piece_of p.goal) (is_found v p h.0) None h.1
-may_ask z v k opens own (work.Demote p told) h = may_settle z v k p.mark (piece_of p.goal) (is_found v p h.0) (Some p.goal.old) (h.2, h.0.goal.old)
-may_ask z v k opens own (work.Recheck g promoted) h = starting.may_read_control z v k g.task.desc (task_known z v k g.task h.goal.task)
-may_ask z v k opens own (work.Note t) h = may_note z v k t h v.worker refl
-may_ask z v k opens own (work.Fail t) h = may_fail z v k t h.0 h.1 v.worker refl
-may_ask z v k opens own (work.Succeed t) h = may_succeed z v k t h.0 h.1 h.2
-may_ask z v k opens own (work.Withdraw d) h = may_withdraw z v k opens own d h.2 (sym h.1) h.3
-may_ask z v k opens own (work.Reason t by) h = may_read_reason z v k t by h.0 h.1.failed opens own h.1.own h.1.opened
-may_ask z v k opens own (work.Release g) h = may_release z v k g h.0 h.1 _ refl
-may_ask z v k opens own (work.GiveBack o) h = may_give_back z v k o h
+pub may_request : (z : Shape) (v : View) → Knows z v → (opens : Option OwnDesc) → KnowsOwn v opens → (w : Work) → Stands z v w → Allowed z v (requested v w)
+may_request z v k opens own (work.Control d) h = starting.may_read_control z v k d h.1
+may_request z v k opens own (work.Length d state) h = starting.may_read_length z v k d state h.1
+may_request z v k opens own (work.LengthSerial d state n) h = starting.may_read_serial z v k d state h.1
+may_request z v k opens own (work.EntryCell t) h = rows.may_read_cell z v k t h.0
+may_request z v k opens own (work.EntryOld t c) h = rows.may_read_old z v k t h.0
+may_request z v k opens own (work.EntryNew t c o) h = rows.may_read_new z v k t h.0
+may_request z v k opens own (work.EntrySerial g) h = rows.may_read_serial z v k g.task h.0
+may_request z v k opens own (work.MarkSerial g) h = allowed z v k _ (refl, h.owes.settled, refl, h.mark)
+may_request z v k opens own (work.MarkDesc g) h = allowed z v k _ (refl, h.0.owes.settled, h.1)
+may_request z v k opens own (work.MarkEntry g) h = allowed z v k _ (refl, h.0.owes.settled, h.1.serial)
+may_request z v k opens own (work.Place g) h = may_place z v k g h.0 h.1
+may_request z v k opens own (work.Settle s g) h = may_ask_mark z v k s h.2
+may_request z v k opens own (work.MarkControl p) h = marks.may_read_control z v k p.mark (piece_of p.goal) (is_found v p h)
+may_request z v k opens own (work.Promote p) h = may_settle z v k p.mark (piece_of p.goal) (is_found v p h.0) None h.1
+may_request z v k opens own (work.Demote p told) h = may_settle z v k p.mark (piece_of p.goal) (is_found v p h.0) (Some p.goal.old) (h.2, h.0.goal.old)
+may_request z v k opens own (work.Recheck g promoted) h = starting.may_read_control z v k g.task.desc (task_known z v k g.task h.goal.task)
+may_request z v k opens own (work.WriteReason t) h = may_give_reason z v k t h v.worker refl
+may_request z v k opens own (work.Fail t) h = may_fail z v k t h.0 h.1 v.worker refl
+may_request z v k opens own (work.Succeed t) h = may_succeed z v k t h.0 h.1 h.2
+may_request z v k opens own (work.Withdraw d) h = may_withdraw z v k opens own d h.2 (sym h.1) h.3
+may_request z v k opens own (work.ReadReason t by) h = may_read_reason z v k t by h.0 h.1.failed opens own h.1.own h.1.opened
+may_request z v k opens own (work.Release g) h = may_release z v k g h.0 h.1 _ refl
+may_request z v k opens own (work.GiveBack o) h = may_give_back z v k o h
 
-pub of_work : (v : View) (w : Work) → IsOf (asked v w) (kind_of_work w)
+pub of_work : (v : View) (w : Work) → IsOf (requested v w) (kind_of_work w)
 of_work v (work.Control d) = (refl, tt)
 of_work v (work.Length d k) = (refl, tt)
 of_work v (work.LengthSerial d k n) = (refl, tt)
@@ -91,11 +91,11 @@ of_work v (work.MarkControl p) = (refl, tt)
 of_work v (work.Promote p) = (refl, tt)
 of_work v (work.Demote p k) = (refl, tt)
 of_work v (work.Recheck g promoted) = (refl, tt)
-of_work v (work.Note t) = (refl, tt)
+of_work v (work.WriteReason t) = (refl, tt)
 of_work v (work.Fail t) = (refl, tt)
 of_work v (work.Succeed t) = (refl, tt)
 of_work v (work.Withdraw d) = (refl, tt)
-of_work v (work.Reason t by) = (refl, tt)
+of_work v (work.ReadReason t by) = (refl, tt)
 of_work v (work.Release g) = (refl, tt)
 of_work v (work.GiveBack o) = (refl, tt)
 
