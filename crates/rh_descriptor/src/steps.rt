@@ -89,7 +89,7 @@ impl Request {
             Request::Read(reading) => reading.index(shape),
             Request::Place { piece, .. }
             | Request::Settle { piece, .. }
-            | Request::Release { piece, .. } => { piece.cell }
+            | Request::Release { piece, .. } => piece.cell,
             Request::Decide { desc, .. } => shape.row_word(desc.worker, 0),
             Request::Claim => shape.counter(),
         }

@@ -62,7 +62,7 @@ fn tables_are_written_in_the_second_version(rt: HostRuntime) -> Result<(), Fail>
     for &(bytes, _, _, second) in TABLES {
         let table = read_snapshot(rt.alloc(), &mut Counted::new(bytes.as_slice()))?;
         let mut out = b"before".to_vec(rt.alloc())?;
-        write_snapshot(table.bits, &table.cells, &mut out)?;
+        write_snapshot(rt.alloc(), table.bits, &table.cells, &mut out)?;
         assert_eq!(rt; out.len(), 115);
         assert_eq!(rt; &out[..6], b"before".as_slice());
         assert_eq!(rt; &out[6..], second.as_slice());

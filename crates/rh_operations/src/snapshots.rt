@@ -46,7 +46,7 @@ fn sealed(alloc: Global, set: &SeqSet) -> Result<Vec<u8>, Cause>
     ensures memory { IfErr result (λ cause. cause ≡ Cause.Memory) }
 {
     let mut bytes = Vec::new(alloc);
-    write_snapshot(set.bits(), set.cells(), &mut bytes)?;
+    write_snapshot(alloc, set.bits(), set.cells(), &mut bytes)?;
     Ok(bytes)
 }
 

@@ -12,12 +12,17 @@ ghost use Rattle.rh_snapshot.specs.declared.version.Version.TheVariants.{Second}
 use crate::version::Version;
 use byteorder::{BigEndian, ByteOrder};
 use sha2::{Digest, Sha256};
-use std::alloc::AllocError;
+use std::alloc::{AllocError, Global};
 
 /// Appends a snapshot of the table, of the second version. `read_snapshot` takes it back to the
 /// same cells. Where a growth of the vector was refused, the vector is as it was.
-/// It takes no allocator: the vector brings its own.
-pub fn write_snapshot(bits: u32, cells: &[u64], out: &mut Vec<u8>) -> Result<(), AllocError>
+/// The allocator says that it takes memory: the vector has it already, and grows by it.
+pub fn write_snapshot(
+    _alloc: Global,
+    bits: u32,
+    cells: &[u64],
+    out: &mut Vec<u8>,
+) -> Result<(), AllocError>
     requires layout { IsLayout bits cells.now }
     requires free { set.len (keys_of cells.now) < 2 ^ bits }
     ensures appended { OnOk result (out.new.items ≡ out.old.items ++ spelling Second bits cells.now) }

@@ -1,0 +1,108 @@
+//! The words of a shared table, and the steps of a worker on them.
+
+ghost use Rattle.rh_descriptor.specs.Parts.{IsShape, word_count};
+ghost use Rattle.rh_descriptor.specs.Steps.{Allowed};
+ghost use Rattle.rh_descriptor.specs.Steps.Step.{claims, decides, opens, places, reads, releases, settles, writes};
+ghost use Rattle.rh_descriptor.specs.Words.{control_of, ref_of};
+ghost use Rattle.std.specs.Prelude.{length, option_map, ◌≡◌};
+
+use rh_descriptor::{Entry, Part, Piece, Reading, Ref, Rooms, Shape, Side, StepKind};
+use rh_tagword::State;
+
+pub fn shape_words(shape: &Shape) -> usize
+    requires { IsShape shape.now }
+{
+    shape.words()
+}
+
+pub fn shape_index(shape: &Shape, part: Part) -> usize
+    requires shape { IsShape shape.now }
+    requires part { IsPart shape.now part }
+{
+    shape.index(part)
+}
+
+pub fn write_word(shape: &Shape, words: &mut [u64], side: &mut Side, part: Part, word: u64)
+    requires shape { IsShape shape.now }
+    requires sized { length words.old ≡ word_count shape.now }
+    requires allowed { Allowed shape.now side.old.known.view (writes part word) }
+{
+    rh_descriptor::write_word(shape, words, side, part, word);
+}
+
+pub fn open_desc(shape: &Shape, words: &mut [u64], side: &mut Side, entries: usize)
+    requires shape { IsShape shape.now }
+    requires sized { length words.old ≡ word_count shape.now }
+    requires allowed { Allowed shape.now side.old.known.view (opens entries) }
+{
+    rh_descriptor::open_desc(shape, words, side, entries);
+}
+
+pub fn read_word(shape: &Shape, words: &mut [u64], side: &mut Side, reading: Reading) -> u64
+    requires shape { IsShape shape.now }
+    requires sized { length words.old ≡ word_count shape.now }
+    requires allowed { Allowed shape.now side.old.known.view (reads reading) }
+{
+    rh_descriptor::read_word(shape, words, side, reading)
+}
+
+pub fn place_mark(shape: &Shape, words: &mut [u64], side: &mut Side, piece: Piece, old: u64) -> u64
+    requires shape { IsShape shape.now }
+    requires sized { length words.old ≡ word_count shape.now }
+    requires allowed { Allowed shape.now side.old.known.view (places (ref_of piece.desc) piece.entry piece.cell old) }
+{
+    rh_descriptor::place_mark(shape, words, side, piece, old)
+}
+
+pub fn settle_mark(
+    shape: &Shape,
+    words: &mut [u64],
+    side: &mut Side,
+    mark: Ref,
+    piece: Piece,
+    old: Option<u64>,
+) -> u64
+    requires shape { IsShape shape.now }
+    requires sized { length words.old ≡ word_count shape.now }
+    requires allowed { Allowed shape.now side.old.known.view (settles (ref_of mark) piece.cell (ref_of piece.desc) piece.entry old) }
+{
+    rh_descriptor::settle_mark(shape, words, side, mark, piece, old)
+}
+
+pub fn decide_desc(
+    shape: &Shape,
+    words: &mut [u64],
+    side: &mut Side,
+    desc: Ref,
+    state: State,
+) -> u64
+    requires shape { IsShape shape.now }
+    requires sized { length words.old ≡ word_count shape.now }
+    requires allowed { Allowed shape.now side.old.known.view (decides (ref_of desc) (control_of state)) }
+{
+    rh_descriptor::decide_desc(shape, words, side, desc, state)
+}
+
+pub fn release_cell(
+    shape: &Shape,
+    words: &mut [u64],
+    side: &mut Side,
+    piece: Piece,
+    state: Option<State>,
+    value: u64,
+) -> u64
+    requires shape { IsShape shape.now }
+    requires sized { length words.old ≡ word_count shape.now }
+    requires allowed { Allowed shape.now side.old.known.view
+        (releases (ref_of piece.desc) piece.entry piece.cell (option_map control_of state) value) }
+{
+    rh_descriptor::release_cell(shape, words, side, piece, state, value)
+}
+
+pub fn claim_key(shape: &Shape, words: &mut [u64], side: &mut Side) -> u64
+    requires shape { IsShape shape.now }
+    requires sized { length words.old ≡ word_count shape.now }
+    requires allowed { Allowed shape.now side.old.known.view claims }
+{
+    rh_descriptor::claim_key(shape, words, side)
+}

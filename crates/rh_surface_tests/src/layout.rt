@@ -1,0 +1,36 @@
+//! Homes, distances and layouts.
+
+ghost use Rattle.rh_layout.specs.Key.{IsBits};
+ghost use Rattle.std.specs.Prelude.{◌<◌, ◌^◌};
+
+pub fn home(bits: u32, key: u64) -> usize
+    requires { IsBits bits }
+{
+    rh_layout::home(bits, key)
+}
+
+pub fn dist(bits: u32, cell: usize, key: u64) -> usize
+    requires bits { IsBits bits }
+    requires cell { cell < 2 ^ bits }
+{
+    rh_layout::dist(bits, cell, key)
+}
+
+pub fn beats(bits: u32, cell: usize, a: u64, b: u64) -> bool
+    requires bits { IsBits bits }
+    requires cell { cell < 2 ^ bits }
+{
+    rh_layout::beats(bits, cell, a, b)
+}
+
+pub fn is_layout(bits: u32, cells: &[u64]) -> bool {
+    rh_layout::is_layout(bits, cells)
+}
+
+pub fn one_layout(bits: u32, first: &[u64], second: &[u64]) {
+    rh_layout::one_layout(bits, first, second);
+}
+
+pub fn has_free(bits: u32, cells: &[u64]) {
+    rh_layout::has_free(bits, cells);
+}

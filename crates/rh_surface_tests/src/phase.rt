@@ -1,0 +1,147 @@
+//! Phases by several workers.
+
+ghost use Rattle.rh_kcas.specs.Rests.{Rests};
+ghost use Rattle.rh_layout.specs.Key.{IsKey};
+ghost use Rattle.rh_layout.specs.Layout.{IsLayout, keys_of};
+ghost use Rattle.rh_ledger.specs.Phase.{most_added};
+ghost use Rattle.rh_phase.specs.Made.{IsRooms, IsWorkers};
+ghost use Rattle.std.specs.FinSet as set;
+ghost use Rattle.std.specs.Prelude.{All, length, ◌+◌, ◌<◌, ◌^◌, ◌≡◌, ◌≢◌};
+
+use rh_descriptor::{Entry, Rooms};
+use rh_kcas::{Seat, Table};
+use rh_ledger::{Kind, Tally};
+use rh_phase::{AllStart, Gate, OpenGate, PhaseFault, Starts};
+use std::alloc::Global;
+use std::sync::Wait;
+use std::thread::Threads;
+
+pub fn do_key<R: Wait>(
+    rt: &R,
+    table: &Table,
+    seat: &mut Seat,
+    bits: u32,
+    kind: Kind,
+    key: u64,
+    seen: &mut [u64],
+    news: &mut [u64],
+    entries: &mut [Entry],
+) -> Option<bool>
+    requires rests { Rests table.now seat.old }
+    requires bits { table.now.shape.bits ≡ bits }
+    requires key { IsKey key }
+    requires seen { length seen.old ≡ 2 ^ bits }
+    requires news { length news.old ≡ 2 ^ bits }
+    requires entries { length entries.old ≡ 2 ^ bits }
+{
+    rh_phase::do_key(rt, table, seat, bits, kind, key, seen, news, entries)
+}
+
+pub fn change<R: Threads + Wait + Sync, G: Gate + Sync>(
+    rt: &R,
+    alloc: Global,
+    workers: usize,
+    kind: Kind,
+    bits: u32,
+    cells: &mut Vec<u64>,
+    keys: &[u64],
+    gate: &G,
+) -> Result<Tally, PhaseFault>
+    requires workers { IsWorkers workers }
+    requires kind { kind ≢ Kind.Ask }
+    requires keys { All IsKey keys.now }
+    requires layout { IsLayout bits cells.old.items }
+    requires room { set.len (keys_of cells.old.items) + most_added kind keys.now < 2 ^ bits }
+{
+    rh_phase::change(rt, alloc, workers, kind, bits, cells, keys, gate)
+}
+
+pub fn ask<R: Threads + Wait + Sync, G: Gate + Sync>(
+    rt: &R,
+    alloc: Global,
+    workers: usize,
+    bits: u32,
+    cells: &[u64],
+    keys: &[u64],
+    gate: &G,
+) -> Result<Vec<bool>, PhaseFault>
+    requires workers { IsWorkers workers }
+    requires keys { All IsKey keys.now }
+    requires layout { IsLayout bits cells.now }
+    requires room { set.len (keys_of cells.now) < 2 ^ bits }
+{
+    rh_phase::ask(rt, alloc, workers, bits, cells, keys, gate)
+}
+
+pub fn change_with<R: Threads + Wait + Sync, G: Gate + Sync, S: Starts + Sync>(
+    rt: &R,
+    alloc: Global,
+    workers: usize,
+    kind: Kind,
+    bits: u32,
+    cells: &mut Vec<u64>,
+    keys: &[u64],
+    gate: &G,
+    starts: &S,
+    rooms: Rooms,
+) -> Result<Tally, PhaseFault>
+    requires workers { IsWorkers workers }
+    requires kind { kind ≢ Kind.Ask }
+    requires keys { All IsKey keys.now }
+    requires layout { IsLayout bits cells.old.items }
+    requires room { set.len (keys_of cells.old.items) + most_added kind keys.now < 2 ^ bits }
+    requires rooms { IsRooms bits rooms }
+{
+    rh_phase::change_with(
+        rt, alloc, workers, kind, bits, cells, keys, gate, starts, rooms,
+    )
+}
+
+pub fn ask_with<R: Threads + Wait + Sync, G: Gate + Sync, S: Starts + Sync>(
+    rt: &R,
+    alloc: Global,
+    workers: usize,
+    bits: u32,
+    cells: &[u64],
+    keys: &[u64],
+    gate: &G,
+    starts: &S,
+    rooms: Rooms,
+) -> Result<Vec<bool>, PhaseFault>
+    requires workers { IsWorkers workers }
+    requires keys { All IsKey keys.now }
+    requires layout { IsLayout bits cells.now }
+    requires room { set.len (keys_of cells.now) < 2 ^ bits }
+    requires rooms { IsRooms bits rooms }
+{
+    rh_phase::ask_with(rt, alloc, workers, bits, cells, keys, gate, starts, rooms)
+}
+
+/// A caller's gate, and its own choice of the threads that may start.
+pub struct Watch;
+
+impl Gate for Watch {
+    fn before(&self, _worker: usize, _done: usize) {}
+
+    fn after(
+        &self,
+        _table: &Table,
+        _seat: &Seat,
+        _bits: u32,
+        _kind: Kind,
+        _key: u64,
+        _answer: bool,
+    ) {}
+}
+
+pub fn open_gate() -> OpenGate {
+    OpenGate
+}
+
+pub fn starts_allowed<S: Starts>(starts: &S, worker: usize) -> bool {
+    starts.allowed(worker)
+}
+
+pub fn all_start() -> AllStart {
+    AllStart
+}

@@ -1,0 +1,109 @@
+//! Scripts.
+
+ghost use Rattle.std.specs.FinSet as set;
+ghost use Rattle.std.specs.Prelude.{All, ◌+◌, ◌<◌, ◌^◌, ◌≢◌};
+ghost use Rattle.std.specs.Thread.{IsSync};
+ghost use Rattle.rh_layout.specs.Key.{IsKey};
+ghost use Rattle.rh_layout.specs.Layout.{IsLayout, keys_of};
+ghost use Rattle.rh_ledger.specs.Phase.{most_added};
+ghost use Rattle.rh_ledger.specs.declared.tally.Kind.TheVariants as Kind;
+ghost use Rattle.rh_phase.specs.Made.{IsWorkers};
+
+use rh_files::Counted;
+use rh_ledger::{Kind, Tally};
+use rh_planner::{
+    FaultyShelf, MemShelf, PhaseFault, Plan, Report, RunFault, Runner, Script, ScriptFault, Shelf,
+    ShelfFailure, ShelfFault, Single, Threads,
+};
+use std::alloc::{AllocError, Global};
+use std::io::Write;
+use std::sync::Wait;
+use std::thread;
+
+pub fn parse(alloc: Global, text: &[u8]) -> Result<Script, ScriptFault> {
+    rh_planner::parse(alloc, text)
+}
+
+pub fn plan(alloc: Global, script: &Script) -> Result<Plan<'_>, AllocError> {
+    rh_planner::plan(alloc, script)
+}
+
+pub fn threads_new(workers: usize) -> Threads
+    requires { IsWorkers workers }
+{
+    Threads::new(workers)
+}
+
+pub fn mem_shelf_new(alloc: Global) -> MemShelf {
+    MemShelf::new(alloc)
+}
+
+pub fn run<T: thread::Threads + Wait + Sync, S: Shelf, N: Runner, W: Write>(
+    rt: &T,
+    alloc: Global,
+    script: &Script,
+    shelf: &mut S,
+    runner: &mut N,
+    writer: &mut Counted<W>,
+) -> Result<Report, RunFault> {
+    rh_planner::run(rt, alloc, script, shelf, runner, writer)
+}
+
+pub fn faulty_shelf_new(shelf: MemShelf, failure: ShelfFailure) -> FaultyShelf {
+    FaultyShelf::new(shelf, failure)
+}
+
+pub fn runner_change<N: Runner, R: thread::Threads + Wait + Sync>(
+    runner: &mut N,
+    rt: &R,
+    alloc: Global,
+    kind: Kind,
+    bits: u32,
+    cells: &mut Vec<u64>,
+    keys: &[u64],
+) -> Result<Tally, PhaseFault>
+    requires shared { IsSync R.row }
+    requires kind { kind ≢ Kind.Ask }
+    requires keys { All IsKey keys.now }
+    requires layout { IsLayout bits cells.old.items }
+    requires room { set.len (keys_of cells.old.items) + most_added kind keys.now < 2 ^ bits }
+{
+    runner.change(rt, alloc, kind, bits, cells, keys)
+}
+
+pub fn runner_ask<N: Runner, R: thread::Threads + Wait + Sync>(
+    runner: &mut N,
+    rt: &R,
+    alloc: Global,
+    bits: u32,
+    cells: &[u64],
+    keys: &[u64],
+) -> Result<Vec<bool>, PhaseFault>
+    requires shared { IsSync R.row }
+    requires keys { All IsKey keys.now }
+    requires layout { IsLayout bits cells.now }
+    requires room { set.len (keys_of cells.now) < 2 ^ bits }
+{
+    runner.ask(rt, alloc, bits, cells, keys)
+}
+
+pub fn single() -> Single {
+    Single
+}
+
+pub fn shelf_fetch<S: Shelf>(
+    shelf: &mut S,
+    alloc: Global,
+    path: &str,
+) -> Result<S::Reader, ShelfFault> {
+    shelf.fetch(alloc, path)
+}
+
+pub fn shelf_put<S: Shelf>(
+    shelf: &mut S,
+    alloc: Global,
+    path: &str,
+    bytes: &[u8],
+) -> Result<(), ShelfFault> {
+    shelf.put(alloc, path, bytes)
+}

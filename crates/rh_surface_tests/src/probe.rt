@@ -1,0 +1,34 @@
+//! Scans.
+
+ghost use Rattle.rh_layout.specs.Key.{IsBits, IsKey};
+ghost use Rattle.rh_layout.specs.Layout.{IsLayout, keys_of};
+ghost use Rattle.std.specs.FinSet as set;
+ghost use Rattle.std.specs.Prelude.{◌<◌, ◌^◌};
+
+use rh_probe::Look;
+
+pub fn look(bits: u32, key: u64, seen: &[u64]) -> Look
+    requires bits { IsBits bits }
+    requires key { IsKey key }
+{
+    rh_probe::look(bits, key, seen)
+}
+
+pub fn free_after(seen: &[u64], i: usize) -> Option<usize> {
+    rh_probe::free_after(seen, i)
+}
+
+pub fn stop_after(bits: u32, cell: usize, seen: &[u64], i: usize) -> Option<usize>
+    requires bits { IsBits bits }
+    requires cell { cell < 2 ^ bits }
+{
+    rh_probe::stop_after(bits, cell, seen, i)
+}
+
+pub fn find(bits: u32, cells: &[u64], key: u64) -> Option<usize>
+    requires layout { IsLayout bits cells.now }
+    requires key { IsKey key }
+    requires room { set.len (keys_of cells.now) < 2 ^ bits }
+{
+    rh_probe::find(bits, cells, key)
+}
