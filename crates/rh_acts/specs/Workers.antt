@@ -6,7 +6,7 @@ use Rattle.rh_layout.specs.Layout.{Keys}
 use Rattle.rh_ledger.specs.declared.tally.Kind.{Kind}
 use Rattle.rh_ledger.specs.declared.tally.Kind.TheVariants.{Insert, Remove, Ask}
 use Rattle.rh_ledger.specs.declared.tally.Tally.{Tally}
-use Rattle.rh_ledger.specs.Tally.{sum_of, none_yet, added_of, removed_of}
+use Rattle.rh_ledger.specs.Tally.{sum_of, none_yet}
 use Rattle.rh_ledger.specs.Phase.{set_after}
 use Rattle.rh_acts.specs.Act.{Act}
 
@@ -38,12 +38,6 @@ piece pieces w = slice_index_or pieces w []
 -- of how many keys it was told that they were added, removed or found
 abbrev pub how_many : (told : List Bool) → ℕ
 how_many told = count_by (λ so. so) told
-
--- what is counted of so many keys, of which so many were added, removed or found
-abbrev pub tally_by : Kind → (read changed : ℕ) → Tally
-tally_by Insert read changed = added_of read changed
-tally_by Remove read changed = removed_of read changed
-tally_by Ask read changed = record none_yet { read = read; found = changed }
 
 -- what a worker counts, which was told this of its keys
 abbrev pub counted : Kind → (told : List Bool) → Tally

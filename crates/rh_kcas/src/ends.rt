@@ -11,7 +11,7 @@ ghost use Rattle.rh_tagword.specs.Word.{IsValue, plain_number};
 use rh_descriptor::{Shape, Side};
 use rh_rdcss::{Seat, Table};
 use rh_rule::TableKey;
-use rh_tagword::{plain_value, plain_word};
+use rh_tagword::{plain_value, plain_words};
 use std::alloc::{AllocError, Global};
 use std::snapshot::Snapshot;
 
@@ -47,18 +47,6 @@ pub fn make(alloc: Global, shape: Shape, cells: &[u64]) -> Result<(Table, Seat),
             placed: None,
         },
     ))
-}
-
-/// The words of cells that hold these values, with room for so many words.
-fn plain_words(alloc: Global, room: usize, cells: &[u64]) -> Result<Vec<u64>, AllocError>
-    requires { (c : ℕ) → c < length cells.now → IsValue (slice_index cells.now c) }
-    ensures { IfOk result (λ words. words.items ≡ map plain_number cells.now) }
-{
-    let mut words = Vec::with_capacity(alloc, room)?;
-    for value in cells {
-        words.push(plain_word(*value))?;
-    }
-    Ok(words)
 }
 
 /// Hands out the values of the cells, and frees the table. All workers are at rest: no mark and no

@@ -18,4 +18,4 @@ mod laws;
 mod tally;
 
 pub use laws::phase_in_parts;
-pub use tally::{Kind, Tally, joined};
+pub use tally::{Kind, NONE_YET, Tally, joined, tally_by};

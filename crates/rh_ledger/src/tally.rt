@@ -1,7 +1,7 @@
 //! Kinds of phase, and what is counted in one.
 
 ghost use Rattle.std.specs.Prelude.{◌≡◌, ◌↔◌, IsSome, IfSome};
-ghost use Rattle.rh_ledger.specs.Tally.{sum_of, FitsTally};
+ghost use Rattle.rh_ledger.specs.Tally.{sum_of, tally_by, FitsTally};
 
 /// What a phase does with each key of its list.
 #[derive(Clone, Copy, Debug, PartialEq, Eq)]
@@ -24,6 +24,14 @@ pub struct Tally {
     pub found: u64,
 }
 
+/// The tally of no key.
+pub const NONE_YET: Tally = Tally {
+    read: 0,
+    added: 0,
+    removed: 0,
+    found: 0,
+};
+
 /// The tallies of two phases, one after the other. `None` where a sum is too large.
 pub fn joined(a: Tally, b: Tally) -> Option<Tally>
     ensures fits { IsSome result ↔ FitsTally (sum_of a b) }
@@ -35,4 +43,25 @@ pub fn joined(a: Tally, b: Tally) -> Option<Tally>
         removed: a.removed.checked_add(b.removed)?,
         found: a.found.checked_add(b.found)?,
     })
+}
+
+/// Of keys so many of which a phase of this kind took, so many changed the set or were found.
+pub fn tally_by(kind: Kind, read: u64, changed: u64) -> Tally
+    ensures { result ≡ tally_by kind read changed }
+{
+    let counted = Tally { read, ..NONE_YET };
+    match kind {
+        Kind::Insert => Tally {
+            added: changed,
+            ..counted
+        },
+        Kind::Remove => Tally {
+            removed: changed,
+            ..counted
+        },
+        Kind::Ask => Tally {
+            found: changed,
+            ..counted
+        },
+    }
 }

@@ -13,7 +13,8 @@ use Rattle.rh_ledger.specs.declared.tally.Kind.TheVariants.{Ask}
 use Rattle.rh_ledger.specs.Phase.{set_after, tally_of}
 use Rattle.rh_tagword.specs.Word.{plain_number}
 use Rattle.rh_acts.specs.Shared.{IsSharedOut}
-use Rattle.rh_acts.specs.Workers.{LeavesRoom, how_many, tally_by}
+use Rattle.rh_acts.specs.Workers.{LeavesRoom, how_many}
+use Rattle.rh_ledger.specs.Tally.{tally_by}
 use Rattle.rh_descriptor.specs.declared.known.Known.{Known}
 use Rattle.rh_descriptor.specs.Parts.{cell_count}
 use Rattle.rh_run.specs.History.{value_of}

@@ -9,7 +9,8 @@ use Rattle.rh_ledger.specs.declared.tally.Kind.{Kind}
 use Rattle.rh_ledger.specs.declared.tally.Kind.TheVariants.{Insert, Remove, Ask}
 use Rattle.rh_ledger.specs.declared.tally.Tally.{Tally}
 use Rattle.rh_ledger.specs.Phase.{tally_of}
-use Rattle.rh_acts.specs.Workers.{counted, how_many, sum_of_all, tally_by}
+use Rattle.rh_acts.specs.Workers.{counted, how_many, sum_of_all}
+use Rattle.rh_ledger.specs.Tally.{tally_by}
 use Rattle.rh_acts.proofs.ActLemmas.{contains_cases, contains_head, contains_none, contains_tail}
 use Rattle.rh_acts.proofs.FoldLemmas.{added_len, removed_len, tally_of_ask, tally_of_insert, tally_of_remove}
 use Rattle.rh_phase.specs.Rounds.{all_changed, is_marked}

@@ -7,7 +7,7 @@ use Rattle.rh_ledger.specs.declared.tally.Tally.{Tally}
 use Rattle.rh_ledger.specs.declared.tally.Kind.TheVariants.{Ask}
 use Rattle.rh_ledger.specs.Phase.{set_after, tally_of}
 use Rattle.rh_runner.specs.Cells.{AreTheCells}
-use Rattle.rh_acts.specs.Workers.{tally_by}
+use Rattle.rh_ledger.specs.Tally.{tally_by}
 use Rattle.rh_descriptor.specs.declared.limits.TheConstants.{MAX_ROOM, MAX_WORKERS}
 use Rattle.rh_descriptor.specs.declared.shape.Rooms.{Rooms}
 use Rattle.rh_descriptor.specs.declared.shape.Shape.{Shape}

@@ -5,7 +5,6 @@ ghost use Rattle.std.specs.FinSet as set;
 ghost use Rattle.rh_layout.specs.Key.{IsKey};
 ghost use Rattle.rh_layout.specs.Layout.{IsLayout, keys_of};
 ghost use Rattle.rh_ledger.specs.Phase.{looked_up, most_added};
-ghost use Rattle.rh_acts.specs.Workers.{tally_by};
 ghost use Rattle.rh_descriptor.specs.Parts.{IsShape};
 ghost use Rattle.rh_phase.specs.Crew.{AllMayStart, IsFault};
 ghost use Rattle.rh_phase.specs.Made.{HasChanged, IsWorkedOut};
@@ -18,7 +17,7 @@ use crate::hands::{all_changed, mark_all, new_hands};
 use crate::rounds::rounds;
 use rh_descriptor::Shape;
 use rh_kcas::{Table, close, discard, make};
-use rh_ledger::{Kind, Tally};
+use rh_ledger::{Kind, Tally, tally_by};
 use std::alloc::Global;
 use std::sync::Wait;
 use std::thread::Threads;
@@ -120,29 +119,4 @@ fn work_out<R: Threads + Wait + Sync, G: Gate + Sync, S: Starts + Sync>(
     let crew = Crew { seat, hands };
     let crew = rounds(rt, &table, crew, keys, gate, starts)?;
     Ok((table, crew))
-}
-
-fn tally_by(kind: Kind, read: u64, changed: u64) -> Tally
-    ensures { result ≡ tally_by kind read changed }
-{
-    let none = Tally {
-        read,
-        added: 0,
-        removed: 0,
-        found: 0,
-    };
-    match kind {
-        Kind::Insert => Tally {
-            added: changed,
-            ..none
-        },
-        Kind::Remove => Tally {
-            removed: changed,
-            ..none
-        },
-        Kind::Ask => Tally {
-            found: changed,
-            ..none
-        },
-    }
 }

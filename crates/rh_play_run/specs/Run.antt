@@ -6,7 +6,7 @@ use Rattle.rh_ledger.specs.declared.tally.Tally.{Tally}
 use Rattle.rh_ledger.specs.Phase.{set_after, tally_of}
 use Rattle.rh_turns.specs.Game.{AllFinished, Game}
 use Rattle.rh_stepper.specs.declared.fault.PlayFault.{PlayFault}
-use Rattle.rh_acts.specs.Workers.{tally_by}
+use Rattle.rh_ledger.specs.Tally.{tally_by}
 use Rattle.rh_stepper.specs.Made.{MadeSoFar, TallySpec, changed_count, done_count}
 use Rattle.rh_key_files.specs.Counting.{AppendsFront}
 use Rattle.rh_key_files.specs.Dump.{dump_text}

@@ -12,10 +12,10 @@ ghost use Rattle.rh_runner.specs.Lists.{Took, Ran, Refused, RefusedBatch, Refuse
 ghost use Rattle.rh_runner.specs.Lists.{Tells, is_wanted, chosen};
 
 use crate::fault::ListFault;
-use crate::lists::{NONE_YET, phase_room};
+use crate::lists::phase_room;
 use crate::runner::{PhaseFault, Runner};
 use rh_key_files::KeySource;
-use rh_ledger::{Kind, Tally, joined};
+use rh_ledger::{Kind, NONE_YET, Tally, joined};
 use std::alloc::Global;
 use std::sync::Wait;
 use std::thread::Threads;

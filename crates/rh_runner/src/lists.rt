@@ -12,7 +12,7 @@ use crate::runner::{PhaseFault, Runner};
 use rh_grow::{LOAD_DENOMINATOR, LOAD_NUMERATOR};
 use rh_key_files::{KeyFault, KeySource, MAX_KEYS};
 use rh_layout::MAX_BITS;
-use rh_ledger::{Kind, Tally, joined};
+use rh_ledger::{Kind, NONE_YET, Tally, joined};
 use std::alloc::{AllocError, Global};
 use std::sync::Wait;
 use std::thread::Threads;
@@ -35,13 +35,6 @@ pub(crate) fn phase_room(alloc: Global, left: u64, most: usize) -> Result<Vec<u6
     let long = left.min(most as u64).max(1) as usize;
     vec![in alloc; 0; long]
 }
-
-pub(crate) const NONE_YET: Tally = Tally {
-    read: 0,
-    added: 0,
-    removed: 0,
-    found: 0,
-};
 
 /// Reads a list to its end and keeps nothing, for the faults that come on the way.
 pub fn read_through<K: KeySource>(keys: &mut K) -> Result<(), KeyFault>

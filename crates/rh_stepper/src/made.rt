@@ -6,14 +6,14 @@ ghost use Rattle.rh_ledger.specs.Phase.{set_after, tally_of as tally_after};
 ghost use Rattle.rh_ledger.specs.declared.tally.Kind.TheVariants.{Ask};
 ghost use Rattle.rh_descriptor.specs.Parts.{IsShape, cell_count};
 ghost use Rattle.rh_tagword.specs.Word.{word_in};
-ghost use Rattle.rh_acts.specs.Workers.{tally_by};
+ghost use Rattle.rh_ledger.specs.Tally.{tally_by};
 ghost use Rattle.rh_turns.specs.Game.{AllFinished, IsDoneAt, done_at, keys_at};
 ghost use Rattle.rh_stepper.specs.Made.{AnswersAll, IsAnswer, MadeSoFar, TallySpec, changed_count};
 ghost use Rattle.rh_stepper.specs.Made.{done_count, held_first, is_shared, told_at, told_of};
 
 use crate::player::Player;
 use rh_descriptor::Shape;
-use rh_ledger::{Kind, Tally};
+use rh_ledger::{Kind, Tally, tally_by};
 use rh_tagword::{Word, unpack};
 use rh_turns::{Share, logical_value};
 
@@ -125,30 +125,5 @@ impl Player {
             return self.answers[position];
         }
         None
-    }
-}
-
-fn tally_by(kind: Kind, read: u64, changed: u64) -> Tally
-    ensures { result ≡ tally_by kind read changed }
-{
-    let counted = Tally {
-        read,
-        added: 0,
-        removed: 0,
-        found: 0,
-    };
-    match kind {
-        Kind::Insert => Tally {
-            added: changed,
-            ..counted
-        },
-        Kind::Remove => Tally {
-            removed: changed,
-            ..counted
-        },
-        Kind::Ask => Tally {
-            found: changed,
-            ..counted
-        },
     }
 }

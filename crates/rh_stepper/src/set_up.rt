@@ -1,9 +1,8 @@
 //! Setting up a player: its keys are dealt, and its table and workers made.
 
-ghost use Rattle.std.specs.Prelude.{◌≡◌, ◌<◌, All, IfOk, length, map};
+ghost use Rattle.std.specs.Prelude.{◌≡◌, ◌<◌, All, IfOk, length};
 ghost use Rattle.rh_layout.specs.Key.{IsKey};
 ghost use Rattle.rh_layout.specs.Layout.{IsLayout, keys_of};
-ghost use Rattle.rh_tagword.specs.Word.{plain_number};
 ghost use Rattle.rh_descriptor.specs.Parts.{IsShape};
 ghost use Rattle.rh_acts.specs.Workers.{LeavesRoom};
 ghost use Rattle.rh_turns.specs.Game.{ArePieces, shares_of};
@@ -14,7 +13,7 @@ use crate::player::Player;
 use rh_descriptor::Shape;
 use rh_ledger::Kind;
 use rh_recorder::Recorder;
-use rh_tagword::plain_word;
+use rh_tagword::plain_words;
 use rh_turns::{Hand, Share};
 use rh_worker::Worker;
 use std::alloc::{AllocError, Global};
@@ -68,9 +67,10 @@ pub(crate) fn set_up(
     ensures shares { IfOk result (λ player. shares_of player.hands ≡ shares.now) }
 {
     let opening = cells.to_vec(alloc)?;
-    let mut words = plain_words(alloc, shape.bits, cells)?;
+    let room = shape.words();
+    let mut words = plain_words(alloc, room, cells)?;
     let hands = new_hands(alloc, &shape, kind, &words, shares)?;
-    words.resize(shape.words(), 0)?;
+    words.resize(room, 0)?;
     let answers = vec![in alloc; None; keys.len()]?;
     Ok(Player {
         kind,
@@ -81,18 +81,6 @@ pub(crate) fn set_up(
         answers,
         hands,
     })
-}
-
-/// The words of cells that hold these values.
-fn plain_words(alloc: Global, bits: u32, cells: &[u64]) -> Result<Vec<u64>, AllocError>
-    requires { IsLayout bits cells.now }
-    ensures { IfOk result (λ words. words.items ≡ map plain_number cells.now) }
-{
-    let mut words = Vec::new(alloc);
-    for value in cells {
-        words.push(plain_word(*value))?;
-    }
-    Ok(words)
 }
 
 /// A worker for each share. The cells are given as words.

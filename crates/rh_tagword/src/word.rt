@@ -1,10 +1,11 @@
 //! Words, and their numbers.
 
-ghost use Rattle.std.specs.Prelude.{◌≡◌, ◌^◌, ◌<◌, ◌↔◌, false, IsNone, IfSome, MatchOption};
+ghost use Rattle.std.specs.Prelude.{◌≡◌, ◌^◌, ◌<◌, ◌↔◌, ℕ, false, IsNone, IfOk, IfSome, MatchOption, length, map, slice_index};
 ghost use Rattle.rh_tagword.specs.Word.{IsValue, IsRef, IsWord, is_plain, plain_number, ref_number, tag_of, tagged, unused_tag, word_number, word_in};
 
 use crate::limits::{DESC, MARK, NUMBER_BITS, PLAIN, TAG_BITS};
 use rh_layout::{cell_of, key_in};
+use std::alloc::{AllocError, Global};
 
 const TAG_MASK: u64 = (1 << TAG_BITS) - 1;
 
@@ -81,4 +82,16 @@ fn tagged_ref(worker: u64, number: u64, tag: u64) -> u64
     ensures { result ≡ tagged tag (ref_number worker number) }
 {
     (((worker << NUMBER_BITS) | number) << TAG_BITS) | tag
+}
+
+/// The words of cells that hold these values, with room for so many words.
+pub fn plain_words(alloc: Global, room: usize, cells: &[u64]) -> Result<Vec<u64>, AllocError>
+    requires { (c : ℕ) → c < length cells.now → IsValue (slice_index cells.now c) }
+    ensures { IfOk result (λ words. words.items ≡ map plain_number cells.now) }
+{
+    let mut words = Vec::with_capacity(alloc, room)?;
+    for value in cells {
+        words.push(plain_word(*value))?;
+    }
+    Ok(words)
 }

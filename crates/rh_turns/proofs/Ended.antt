@@ -13,7 +13,8 @@ use Rattle.rh_ledger.specs.Phase.{looked_up, set_after, tally_of}
 use Rattle.rh_descriptor.specs.declared.shape.Shape.{Shape}
 use Rattle.rh_descriptor.specs.View.{View, new_view}
 use Rattle.rh_rule.specs.Rest.{AllRest}
-use Rattle.rh_acts.specs.Workers.{LeavesRoom, counted, joined, piece, sum_of_all, tally_by}
+use Rattle.rh_acts.specs.Workers.{LeavesRoom, counted, joined, piece, sum_of_all}
+use Rattle.rh_ledger.specs.Tally.{tally_by}
 use Rattle.rh_run.specs.Claimed.{FoundEnd, claimed}
 use Rattle.rh_run.specs.Laws.{FinalSpec}
 use Rattle.rh_run.specs.Words.{cells_held}

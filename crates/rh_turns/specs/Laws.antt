@@ -12,7 +12,8 @@ use Rattle.rh_descriptor.specs.Parts.{IsShape, cell_count}
 use Rattle.rh_descriptor.specs.View.{round_view}
 use Rattle.rh_rule.specs.Rest.{AllRest}
 use Rattle.rh_rule.specs.Wipes.{row_total}
-use Rattle.rh_acts.specs.Workers.{LeavesRoom, how_many, sum_of_all, tally_by}
+use Rattle.rh_acts.specs.Workers.{LeavesRoom, how_many, sum_of_all}
+use Rattle.rh_ledger.specs.Tally.{tally_by}
 use Rattle.rh_steps.specs.Relies.{Relies, Serves, Shows}
 use Rattle.rh_worker.specs.Worker.{IsBusy, IsWorker}
 use Rattle.rh_run.specs.History.{history}

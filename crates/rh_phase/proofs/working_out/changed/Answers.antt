@@ -3,7 +3,7 @@ use Rattle.rh_layout.specs.Layout.{IsLayout, keys_of}
 use Rattle.rh_layout.proofs.LayoutLemmas.{layout_keys, layout_own}
 use Rattle.rh_ledger.specs.Phase.{set_after}
 use Rattle.rh_runner.proofs.CellsLemmas.{only_cells}
-use Rattle.rh_acts.specs.Workers.{tally_by}
+use Rattle.rh_ledger.specs.Tally.{tally_by}
 use Rattle.rh_phase.specs.Rounds.{all_changed, phase}
 use Rattle.rh_phase.proofs.Closing.{worked_made}
 use Rattle.rh_phase.proofs.Slices.{whole}

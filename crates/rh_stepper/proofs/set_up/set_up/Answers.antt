@@ -1,7 +1,7 @@
 use Rattle.std.proofs.Common.{◌∙◌, ℕ, None, ap, refl, replicate}
 use Rattle.rh_turns.specs.Laws.{Starts}
 use Rattle.rh_turns.proofs.Started.{plays_start}
-use Rattle.rh_stepper.proofs.Setting.{none_alone, starts}
+use Rattle.rh_stepper.proofs.Setting.{is_value, none_alone, starts}
 use Rattle.rh_stepper.proofs.set_up.set_up.Goals as goal
 
 made : (c : goal.In_ok-answers) → Starts (record {
@@ -19,6 +19,9 @@ made c =
     c.requires.dealt (c.in_ok-opening.ensures.items_if_clones_equal (λ x y e. e)) c.in_ok-words.ensures c.deref.ensures.value c.words.result c.words.ensures c.in_ok-words.words.len
     c.in_ok-words.words.ok.0 c.in_ok-resize.ensures.items (c.in_ok-answers.ensures.items_if_clones_equal (none_alone _ (λ told e. e)) ∙ ap (λ (n : ℕ). replicate n None) (c.len.ensures ∙ c.args.keys.ok.0))
     c.in_ok-hands.ensures.shares c.in_ok-hands.ensures.new
+
+pub plain_words-requires : goal.plain_words-requires
+plain_words-requires c = λ cell lt. is_value c.args.shape.bits c.args.cells.now cell c.requires.opening lt
 
 pub invariant_of-result : goal.invariant_of-result
 invariant_of-result c = plays_start _ (made c)

@@ -2,7 +2,7 @@ use Rattle.std.proofs.Common.{◌≡◌, ◌∙◌, ◌<◌, List, length, map, 
 use Rattle.std.proofs.lemmas.List.{take_all}
 use Rattle.rh_turns.specs.declared.hand.Hand.{Hand}
 use Rattle.rh_turns.specs.Game.{Game, Plays}
-use Rattle.rh_acts.specs.Workers.{tally_by}
+use Rattle.rh_ledger.specs.Tally.{tally_by}
 use Rattle.rh_stepper.specs.Made.{TallySpec, cut, total}
 use Rattle.rh_stepper.proofs.Totals.{counted_next, counts_exactly, done_is, tallies, tally_ends}
 use Rattle.rh_stepper.proofs.player.Player.tally.Goals as goal
