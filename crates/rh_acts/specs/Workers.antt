@@ -6,7 +6,7 @@ use Rattle.rh_layout.specs.Layout.{Keys}
 use Rattle.rh_ledger.specs.declared.tally.Kind.{Kind}
 use Rattle.rh_ledger.specs.declared.tally.Kind.TheVariants.{Insert, Remove, Ask}
 use Rattle.rh_ledger.specs.declared.tally.Tally.{Tally}
-use Rattle.rh_ledger.specs.Tally.{sum_of, none_yet}
+use Rattle.rh_ledger.specs.Tally.{sum_of, none_yet, tally_by}
 use Rattle.rh_ledger.specs.Phase.{set_after}
 use Rattle.rh_acts.specs.Act.{Act}
 
