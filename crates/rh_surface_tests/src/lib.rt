@@ -1,8 +1,10 @@
 //! Each public call by the path of its public crate, with its signature and its conditions: a function
-//! for each, which the gate proves and nothing calls. So neither a path, nor a type, nor a condition of
-//! the public surface changes unseen. What the calls promise is held where they stand.
+//! for each, which the gate proves. So neither a path, nor a type, nor a condition of the public surface
+//! changes unseen. What the calls promise is held where they stand.
 #![tactic(auto)]
 
+#[cfg(test)]
+mod called;
 pub mod descriptor;
 pub mod edit;
 pub mod files;
