@@ -1,7 +1,7 @@
 use Rattle.rh_run.proofs.Succeeding.{own_so_far}
 use Rattle.rh_run.proofs.Finishing.{steps_finish}
 use Rattle.rh_run.proofs.Ordered.{kept_is_orderly}
-use Rattle.rh_run.proofs.laws.own_acts.Goals as goal
+use Rattle.rh_run.proofs.histories.own_acts.Goals as goal
 
 pub returns-clause-steps : goal.returns-clause-steps
 returns-clause-steps c = steps_finish

@@ -1,5 +1,5 @@
 use Rattle.rh_run.proofs.Learning.{plain_reads_come_first, reads_are_kept, reads_stay}
-use Rattle.rh_run.proofs.laws.reads.Goals as goal
+use Rattle.rh_run.proofs.histories.reads.Goals as goal
 
 pub returns-clause-plain : goal.returns-clause-plain
 returns-clause-plain c = plain_reads_come_first

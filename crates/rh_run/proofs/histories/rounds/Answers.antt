@@ -1,5 +1,5 @@
 use Rattle.rh_run.proofs.Joining.{rounds_begin, rounds_follow, rounds_join}
-use Rattle.rh_run.proofs.laws.rounds.Goals as goal
+use Rattle.rh_run.proofs.histories.rounds.Goals as goal
 
 pub returns-clause-begin : goal.returns-clause-begin
 returns-clause-begin c = rounds_begin

@@ -11,6 +11,6 @@ returns c =
       c.as_bytes-reference.ensures.value,
       c.reference.ensures,
       c.as_bytes-word.ensures.value,
-      c.kind_word.ensures,
+      c.kind_word.ensures.word,
     )
     at c.push_texts.ensures
