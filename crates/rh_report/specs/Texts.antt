@@ -1,45 +1,27 @@
 -- The texts of reports. Numbers are decimal without leading zeros.
-use Rattle.std.specs.Prelude.{ℕ, ◌+◌, ◌==◌, Bool, true, false, if◌then◌else◌, List, [], ◌∷◌, ◌++◌, length, codes, decimal, count_by}
+use Rattle.std.specs.Prelude.{ℕ, ◌+◌, ◌==◌, Bool, true, false, if◌then◌else◌, List, [], ◌∷◌, ◌++◌, length, map, codes, decimal, count_by}
+use Rattle.std.specs.Borrow.{Bor}
+use Rattle.std.specs.List.{flat_map}
 use Rattle.rh_report.specs.declared.answers.TheConstants.{ANSWERS_PER_LINE}
 
--- a word and a number before what follows
-abbrev pub with_number : List ℕ → ℕ → List ℕ → List ℕ
-with_number word n rest = word ++ (decimal n ++ rest)
+-- numbers with their labels
+abbrev pub Numbers : Type 0
+Numbers = List (List ℕ × ℕ)
 
--- the end of a line on a command that changes the table
-abbrev pub table_text : (held bits : ℕ) → List ℕ
-table_text held bits = with_number (codes " held ") held (with_number (codes " bits ") bits (codes "\n"))
+abbrev pub front_text : (word name : List ℕ) → Numbers → List ℕ
+front_text word name numbers = word ++ (name ++ flat_map (λ number. number.0 ++ decimal number.1) numbers)
 
-abbrev pub used_text : (name : List ℕ) → ℕ → List ℕ
-used_text name count = codes "use " ++ (name ++ with_number (codes " ") count (codes "\n"))
+-- a line: a word, a name or a path, and numbers, each after its label
+abbrev pub line_text : (word name : List ℕ) → Numbers → List ℕ
+line_text word name numbers = front_text word name numbers ++ codes "\n"
 
-abbrev pub added_text : (name : List ℕ) → (read added held bits : ℕ) → List ℕ
-added_text name read added held bits =
-    codes "add " ++ (name ++ with_number (codes " read ") read (with_number (codes " added ") added (table_text held bits)))
+-- those at the end of the line of a command that leaves another table
+abbrev pub table_numbers : (held bits : ℕ) → Numbers
+table_numbers held bits = (codes " held ", held) ∷ (codes " bits ", bits) ∷ []
 
-abbrev pub dropped_text : (name : List ℕ) → (read removed held bits : ℕ) → List ℕ
-dropped_text name read removed held bits =
-    codes "drop " ++ (name ++ with_number (codes " read ") read (with_number (codes " removed ") removed (table_text held bits)))
-
-abbrev pub kept_text : (name : List ℕ) → (read found held bits : ℕ) → List ℕ
-kept_text name read found held bits =
-    codes "keep " ++ (name ++ with_number (codes " read ") read (with_number (codes " found ") found (table_text held bits)))
-
-abbrev pub flipped_text : (name : List ℕ) → (read removed added held bits : ℕ) → List ℕ
-flipped_text name read removed added held bits =
-    codes "flip " ++ (name ++ with_number (codes " read ") read (with_number (codes " removed ") removed (with_number (codes " added ") added (table_text held bits))))
-
-abbrev pub saved_text : (name : List ℕ) → ℕ → List ℕ
-saved_text name count = codes "save " ++ (name ++ with_number (codes " ") count (codes "\n"))
-
-abbrev pub cleared_text : List ℕ
-cleared_text = codes "clear\n"
-
-abbrev pub sealed_text : (path : List ℕ) → (held bits : ℕ) → List ℕ
-sealed_text path held bits = codes "snapshot " ++ (path ++ table_text held bits)
-
-abbrev pub restored_text : (path : List ℕ) → (held bits : ℕ) → List ℕ
-restored_text path held bits = codes "restore " ++ (path ++ table_text held bits)
+-- the code's numbers
+abbrev pub numbers_as : List (Bor (List ℕ) × ℕ) → Numbers
+numbers_as numbers = map (λ number. (number.0.now, number.1)) numbers
 
 -- ---- look-ups
 
@@ -59,8 +41,7 @@ is_true answer = answer
 
 -- the line before the answers
 abbrev pub asked_head : (name : List ℕ) → (answers : List Bool) → List ℕ
-asked_head name answers =
-    codes "ask " ++ (name ++ with_number (codes " read ") (length answers) (with_number (codes " found ") (count_by is_true answers) (codes "\n")))
+asked_head name answers = line_text (codes "ask ") name ((codes " read ", length answers) ∷ (codes " found ", count_by is_true answers) ∷ [])
 
 abbrev pub asked_text : (name : List ℕ) → (answers : List Bool) → List ℕ
 asked_text name answers = asked_head name answers ++ digits_from 0 answers

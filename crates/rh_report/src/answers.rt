@@ -4,7 +4,7 @@ ghost use Rattle.std.specs.Prelude.{◌≡◌, ◌≤◌, ◌<◌, ◌++◌, OnE
 ghost use Rattle.rh_key_files.specs.Counting.{Rose, Writes, failures_of, inner_of};
 ghost use Rattle.rh_report.specs.Texts.{asked_head, asked_text, digit_of, digits_from};
 
-use itoa::Buffer;
+use crate::lines::write_line;
 use rh_key_files::{Counted, WriteFault, write_texts};
 use std::io::Write;
 
@@ -37,19 +37,8 @@ fn write_head<W: Write>(
     ensures fine { OnOk result (failures_of writer.new ≡ failures_of writer.old) }
 {
     let found = answers.iter().filter(|answer| **answer).count();
-    let (mut first, mut second) = (Buffer::new(), Buffer::new());
-    let read = first.format(answers.len()).as_bytes();
-    let found = second.format(found).as_bytes();
-    let texts: [&[u8]; 7] = [
-        b"ask ",
-        name.as_bytes(),
-        b" read ",
-        read,
-        b" found ",
-        found,
-        b"\n",
-    ];
-    write_texts(writer, &texts)
+    let numbers = [(" read ", answers.len() as u64), (" found ", found as u64)];
+    write_line(writer, "ask ", name, &numbers)
 }
 
 /// Writes the answers line by line.
@@ -62,13 +51,13 @@ fn write_answers<W: Write>(writer: &mut Counted<W>, answers: &[bool]) -> Result<
     let mut rest = answers;
     while !rest.is_empty() {
         let (line, after) = rest.split_at(rest.len().min(ANSWERS_PER_LINE));
-        write_line(writer, line)?;
+        write_answer_line(writer, line)?;
         rest = after;
     }
     Ok(())
 }
 
-fn write_line<W: Write>(writer: &mut Counted<W>, answers: &[bool]) -> Result<(), WriteFault>
+fn write_answer_line<W: Write>(writer: &mut Counted<W>, answers: &[bool]) -> Result<(), WriteFault>
     requires { length answers.now ≤ ANSWERS_PER_LINE }
     ensures text { Writes (W.contents (inner_of writer.old)) (W.contents (inner_of writer.new))
         (map digit_of answers.now ++ codes "\n") result }

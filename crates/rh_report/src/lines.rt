@@ -1,272 +1,194 @@
-//! Reports of one line. Each takes no memory, and each number and each word is a write of its own,
-//! so give them a writer with a buffer.
+//! Reports of one line. They take no memory, and each number and each word is a write of its own, so
+//! give them a writer with a buffer.
 
-ghost use Rattle.std.specs.Prelude.{◌≡◌, OnErr, OnOk};
+ghost use Rattle.std.specs.Prelude.{◌≡◌, ◌++◌, List, ℕ, OnErr, OnOk, decimal};
 ghost use Rattle.rh_key_files.specs.Counting.{Rose, Writes, failures_of, inner_of};
-ghost use Rattle.rh_report.specs.Texts.{used_text, added_text, dropped_text, kept_text};
-ghost use Rattle.rh_report.specs.Texts.{flipped_text, saved_text, cleared_text};
-ghost use Rattle.rh_report.specs.Texts.{sealed_text, restored_text};
+ghost use Rattle.rh_report.specs.Account.{Says, account_as, change_as};
+ghost use Rattle.rh_report.specs.Texts.{front_text, line_text, numbers_as, table_numbers};
 
 use itoa::Buffer;
 use rh_key_files::{Counted, WriteFault, write_texts};
 use std::io::Write;
 
-/// `use NAME COUNT`: a list was read.
-pub fn write_used<W: Write>(
+/// How many keys are held, and the bits of their table.
+#[derive(Clone, Copy)]
+pub struct Table {
+    pub held: u64,
+    pub bits: u32,
+}
+
+/// How a command changed the keys that are held by those of its list.
+#[derive(Clone, Copy)]
+pub enum Change {
+    /// So many were not held before.
+    Added(u64),
+    /// So many were held.
+    Dropped(u64),
+    /// So many positions of the list have a key that stays.
+    Kept(u64),
+    Flipped { removed: u64, added: u64 },
+}
+
+/// What a command has to report on one line. `read` is the length of its list, and `table` is what
+/// the command left.
+#[derive(Clone, Copy)]
+pub enum Account<'a> {
+    /// `use NAME COUNT`: a list was read.
+    Used {
+        name: &'a str,
+        count: u64,
+    },
+    /// `save NAME COUNT`: the keys that are held became a list.
+    Saved {
+        name: &'a str,
+        count: u64,
+    },
+    /// `add NAME read R added A held H bits B`, and so `drop`, `keep` and `flip` with their counts.
+    Changed {
+        name: &'a str,
+        read: u64,
+        change: Change,
+        table: Table,
+    },
+    /// `clear`.
+    Cleared,
+    /// `snapshot PATH held H bits B`: the table was put under the path.
+    Sealed {
+        path: &'a str,
+        table: Table,
+    },
+    /// `restore PATH held H bits B`: the table is that of the snapshot now.
+    Restored {
+        path: &'a str,
+        table: Table,
+    },
+}
+
+/// Writes the line that tells the account.
+pub fn write_account<W: Write>(
     writer: &mut Counted<W>,
-    name: &str,
-    count: u64,
+    account: &Account<'_>,
 ) -> Result<(), WriteFault>
-    ensures text { Writes (W.contents (inner_of writer.old)) (W.contents (inner_of writer.new))
-        (used_text name.now count) result }
+    ensures text { (text : List ℕ) × Says (account_as account.now) text ×
+        Writes (W.contents (inner_of writer.old)) (W.contents (inner_of writer.new)) text result }
     ensures failed { OnErr result (Rose (failures_of writer.old) (failures_of writer.new)) }
     ensures fine { OnOk result (failures_of writer.new ≡ failures_of writer.old) }
 {
-    let mut first = Buffer::new();
-    let count = first.format(count).as_bytes();
-    write_texts(writer, &[b"use ", name.as_bytes(), b" ", count, b"\n"])
+    match *account {
+        Account::Used { name, count } => write_line(writer, "use ", name, &[(" ", count)]),
+        Account::Saved { name, count } => write_line(writer, "save ", name, &[(" ", count)]),
+        Account::Changed {
+            name,
+            read,
+            change,
+            table,
+        } => write_change(writer, name, read, change, table),
+        Account::Cleared => write_line(writer, "clear", "", &[]),
+        Account::Sealed { path, table } => write_table_line(writer, "snapshot ", path, &[], table),
+        Account::Restored { path, table } => write_table_line(writer, "restore ", path, &[], table),
+    }
 }
 
-/// `save NAME COUNT`: the keys that are held became a list.
-pub fn write_saved<W: Write>(
-    writer: &mut Counted<W>,
-    name: &str,
-    count: u64,
-) -> Result<(), WriteFault>
-    ensures text { Writes (W.contents (inner_of writer.old)) (W.contents (inner_of writer.new))
-        (saved_text name.now count) result }
-    ensures failed { OnErr result (Rose (failures_of writer.old) (failures_of writer.new)) }
-    ensures fine { OnOk result (failures_of writer.new ≡ failures_of writer.old) }
-{
-    let mut first = Buffer::new();
-    let count = first.format(count).as_bytes();
-    write_texts(writer, &[b"save ", name.as_bytes(), b" ", count, b"\n"])
-}
-
-/// `add NAME read R added A held H bits B`.
-pub fn write_added<W: Write>(
-    writer: &mut Counted<W>,
-    name: &str,
-    read: u64,
-    added: u64,
-    held: u64,
-    bits: u32,
-) -> Result<(), WriteFault>
-    ensures text { Writes (W.contents (inner_of writer.old)) (W.contents (inner_of writer.new))
-        (added_text name.now read added held bits) result }
-    ensures failed { OnErr result (Rose (failures_of writer.old) (failures_of writer.new)) }
-    ensures fine { OnOk result (failures_of writer.new ≡ failures_of writer.old) }
-{
-    let (mut first, mut second, mut third, mut fourth) = (
-        Buffer::new(),
-        Buffer::new(),
-        Buffer::new(),
-        Buffer::new(),
-    );
-    let read = first.format(read).as_bytes();
-    let added = second.format(added).as_bytes();
-    let held = third.format(held).as_bytes();
-    let bits = fourth.format(bits).as_bytes();
-    let texts: [&[u8]; 11] = [
-        b"add ",
-        name.as_bytes(),
-        b" read ",
-        read,
-        b" added ",
-        added,
-        b" held ",
-        held,
-        b" bits ",
-        bits,
-        b"\n",
-    ];
-    write_texts(writer, &texts)
-}
-
-/// `drop NAME read R removed D held H bits B`.
-pub fn write_dropped<W: Write>(
-    writer: &mut Counted<W>,
-    name: &str,
-    read: u64,
-    removed: u64,
-    held: u64,
-    bits: u32,
-) -> Result<(), WriteFault>
-    ensures text { Writes (W.contents (inner_of writer.old)) (W.contents (inner_of writer.new))
-        (dropped_text name.now read removed held bits) result }
-    ensures failed { OnErr result (Rose (failures_of writer.old) (failures_of writer.new)) }
-    ensures fine { OnOk result (failures_of writer.new ≡ failures_of writer.old) }
-{
-    let (mut first, mut second, mut third, mut fourth) = (
-        Buffer::new(),
-        Buffer::new(),
-        Buffer::new(),
-        Buffer::new(),
-    );
-    let read = first.format(read).as_bytes();
-    let removed = second.format(removed).as_bytes();
-    let held = third.format(held).as_bytes();
-    let bits = fourth.format(bits).as_bytes();
-    let texts: [&[u8]; 11] = [
-        b"drop ",
-        name.as_bytes(),
-        b" read ",
-        read,
-        b" removed ",
-        removed,
-        b" held ",
-        held,
-        b" bits ",
-        bits,
-        b"\n",
-    ];
-    write_texts(writer, &texts)
-}
-
-/// `keep NAME read R found F held H bits B`.
-pub fn write_kept<W: Write>(
+fn write_change<W: Write>(
     writer: &mut Counted<W>,
     name: &str,
     read: u64,
-    found: u64,
-    held: u64,
-    bits: u32,
+    change: Change,
+    table: Table,
 ) -> Result<(), WriteFault>
-    ensures text { Writes (W.contents (inner_of writer.old)) (W.contents (inner_of writer.new))
-        (kept_text name.now read found held bits) result }
+    ensures text { (text : List ℕ) × Says (change_as name.now read change table) text ×
+        Writes (W.contents (inner_of writer.old)) (W.contents (inner_of writer.new)) text result }
     ensures failed { OnErr result (Rose (failures_of writer.old) (failures_of writer.new)) }
     ensures fine { OnOk result (failures_of writer.new ≡ failures_of writer.old) }
 {
-    let (mut first, mut second, mut third, mut fourth) = (
-        Buffer::new(),
-        Buffer::new(),
-        Buffer::new(),
-        Buffer::new(),
-    );
-    let read = first.format(read).as_bytes();
-    let found = second.format(found).as_bytes();
-    let held = third.format(held).as_bytes();
-    let bits = fourth.format(bits).as_bytes();
-    let texts: [&[u8]; 11] = [
-        b"keep ",
-        name.as_bytes(),
-        b" read ",
-        read,
-        b" found ",
-        found,
-        b" held ",
-        held,
-        b" bits ",
-        bits,
-        b"\n",
-    ];
-    write_texts(writer, &texts)
+    let read = (" read ", read);
+    match change {
+        Change::Added(added) => {
+            write_table_line(writer, "add ", name, &[read, (" added ", added)], table)
+        }
+        Change::Dropped(removed) => {
+            let numbers = [read, (" removed ", removed)];
+            write_table_line(writer, "drop ", name, &numbers, table)
+        }
+        Change::Kept(found) => {
+            write_table_line(writer, "keep ", name, &[read, (" found ", found)], table)
+        }
+        Change::Flipped { removed, added } => {
+            let numbers = [read, (" removed ", removed), (" added ", added)];
+            write_table_line(writer, "flip ", name, &numbers, table)
+        }
+    }
 }
 
-/// `flip NAME read R removed D added A held H bits B`.
-pub fn write_flipped<W: Write>(
+/// Writes a line of a word, a name and numbers with their labels.
+pub(crate) fn write_line<W: Write>(
     writer: &mut Counted<W>,
+    word: &str,
     name: &str,
-    read: u64,
-    removed: u64,
-    added: u64,
-    held: u64,
-    bits: u32,
+    numbers: &[(&str, u64)],
 ) -> Result<(), WriteFault>
     ensures text { Writes (W.contents (inner_of writer.old)) (W.contents (inner_of writer.new))
-        (flipped_text name.now read removed added held bits) result }
+        (line_text word.now name.now (numbers_as numbers.now)) result }
     ensures failed { OnErr result (Rose (failures_of writer.old) (failures_of writer.new)) }
     ensures fine { OnOk result (failures_of writer.new ≡ failures_of writer.old) }
 {
-    let (mut first, mut second, mut third, mut fourth, mut fifth) = (
-        Buffer::new(),
-        Buffer::new(),
-        Buffer::new(),
-        Buffer::new(),
-        Buffer::new(),
-    );
-    let read = first.format(read).as_bytes();
-    let removed = second.format(removed).as_bytes();
-    let added = third.format(added).as_bytes();
-    let held = fourth.format(held).as_bytes();
-    let bits = fifth.format(bits).as_bytes();
-    let texts: [&[u8]; 13] = [
-        b"flip ",
-        name.as_bytes(),
-        b" read ",
-        read,
-        b" removed ",
-        removed,
-        b" added ",
-        added,
-        b" held ",
-        held,
-        b" bits ",
-        bits,
-        b"\n",
-    ];
-    write_texts(writer, &texts)
+    write_front(writer, word, name, numbers)?;
+    write_texts(writer, &[b"\n"])
 }
 
-pub fn write_cleared<W: Write>(writer: &mut Counted<W>) -> Result<(), WriteFault>
-    ensures text { Writes (W.contents (inner_of writer.old)) (W.contents (inner_of writer.new))
-        cleared_text result }
-    ensures failed { OnErr result (Rose (failures_of writer.old) (failures_of writer.new)) }
-    ensures fine { OnOk result (failures_of writer.new ≡ failures_of writer.old) }
-{
-    write_texts(writer, &[b"clear\n"])
-}
-
-/// `snapshot PATH held H bits B`: the table was put under the path.
-pub fn write_sealed<W: Write>(
+/// Writes such a line that ends by the table.
+fn write_table_line<W: Write>(
     writer: &mut Counted<W>,
-    path: &str,
-    held: u64,
-    bits: u32,
+    word: &str,
+    name: &str,
+    numbers: &[(&str, u64)],
+    table: Table,
 ) -> Result<(), WriteFault>
     ensures text { Writes (W.contents (inner_of writer.old)) (W.contents (inner_of writer.new))
-        (sealed_text path.now held bits) result }
+        (line_text word.now name.now (numbers_as numbers.now ++ table_numbers table.held table.bits))
+        result }
     ensures failed { OnErr result (Rose (failures_of writer.old) (failures_of writer.new)) }
     ensures fine { OnOk result (failures_of writer.new ≡ failures_of writer.old) }
 {
-    let (mut first, mut second) = (Buffer::new(), Buffer::new());
-    let held = first.format(held).as_bytes();
-    let bits = second.format(bits).as_bytes();
-    let texts: [&[u8]; 7] = [
-        b"snapshot ",
-        path.as_bytes(),
-        b" held ",
-        held,
-        b" bits ",
-        bits,
-        b"\n",
-    ];
-    write_texts(writer, &texts)
+    write_front(writer, word, name, numbers)?;
+    write_line(
+        writer,
+        "",
+        "",
+        &[(" held ", table.held), (" bits ", table.bits.into())],
+    )
 }
 
-/// `restore PATH held H bits B`: the table is that of the snapshot now.
-pub fn write_restored<W: Write>(
+/// Writes a word, a name and numbers with their labels.
+fn write_front<W: Write>(
     writer: &mut Counted<W>,
-    path: &str,
-    held: u64,
-    bits: u32,
+    word: &str,
+    name: &str,
+    numbers: &[(&str, u64)],
 ) -> Result<(), WriteFault>
     ensures text { Writes (W.contents (inner_of writer.old)) (W.contents (inner_of writer.new))
-        (restored_text path.now held bits) result }
+        (front_text word.now name.now (numbers_as numbers.now)) result }
     ensures failed { OnErr result (Rose (failures_of writer.old) (failures_of writer.new)) }
     ensures fine { OnOk result (failures_of writer.new ≡ failures_of writer.old) }
 {
-    let (mut first, mut second) = (Buffer::new(), Buffer::new());
-    let held = first.format(held).as_bytes();
-    let bits = second.format(bits).as_bytes();
-    let texts: [&[u8]; 7] = [
-        b"restore ",
-        path.as_bytes(),
-        b" held ",
-        held,
-        b" bits ",
-        bits,
-        b"\n",
-    ];
-    write_texts(writer, &texts)
+    write_texts(writer, &[word.as_bytes(), name.as_bytes()])?;
+    for (label, number) in numbers {
+        write_number(writer, label, *number)?;
+    }
+    Ok(())
+}
+
+fn write_number<W: Write>(
+    writer: &mut Counted<W>,
+    label: &str,
+    number: u64,
+) -> Result<(), WriteFault>
+    ensures text { Writes (W.contents (inner_of writer.old)) (W.contents (inner_of writer.new))
+        (label.now ++ decimal number) result }
+    ensures failed { OnErr result (Rose (failures_of writer.old) (failures_of writer.new)) }
+    ensures fine { OnOk result (failures_of writer.new ≡ failures_of writer.old) }
+{
+    let mut buffer = Buffer::new();
+    let digits = buffer.format(number).as_bytes();
+    write_texts(writer, &[label.as_bytes(), digits])
 }

@@ -134,17 +134,17 @@ module _ (files : Files) (before : List Numbered) (step : Numbered) (old : Envir
   reached_more : (did : StepDone (step_in world step.instruction now.environment next.environment) next.set next.lists) → paths_of next.lists ≡ paths_of now.lists ++ file_of step.instruction → Reached files (before ++ step ∷ []) old next
   reached_more did paths = record {
     done = record {
-      named = did.named;
-      made = did.files;
+      named = did.made.named;
+      made = did.made.files;
       accounts = so_far.done.accounts ++ did.account ∷ [];
       text = so_far.done.text ++ did.told.0;
-      means = meaning_more (start files) before step world so_far.done.accounts (world_of next.set did.named did.files, did.account) so_far.done.means did.is;
-      has = did.has;
+      means = meaning_more (start files) before step world so_far.done.accounts (world_of next.set did.made.named did.made.files, did.account) so_far.done.means did.made.is;
+      has = did.made.has;
       says = says_more so_far.done.accounts so_far.done.text did.account did.told.0 so_far.done.says did.told.1;
       written = Appends-trans old.text now.environment.text next.environment.text so_far.done.text did.told.0 so_far.done.written did.told.2;
     };
-    stand = did.stand;
-    names = names_after world step.instruction (world_of next.set did.named did.files, did.account) did.is ∙ ap (λ l. l ++ given_by step.instruction) so_far.names ∙ sym (names_more before step);
+    stand = did.made.stand;
+    names = names_after world step.instruction (world_of next.set did.made.named did.made.files, did.account) did.made.is ∙ ap (λ l. l ++ given_by step.instruction) so_far.names ∙ sym (names_more before step);
     paths = paths ∙ ap (λ l. l ++ file_of step.instruction) so_far.paths ∙ sym (files_more before step);
   }
 

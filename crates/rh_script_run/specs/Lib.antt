@@ -1,8 +1,10 @@
+pub mod Actions
+pub mod Agree
+pub mod Ends
+pub mod Environment
 pub mod Files
 pub mod Meaning
 pub mod Outside
-pub mod Environment
-pub mod Ends
-pub mod Steps
 pub mod Reached
-pub mod Agree
+pub mod Steps
+pub mod Told

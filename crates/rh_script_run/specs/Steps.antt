@@ -1,4 +1,4 @@
--- What the code has of a script's world, and how a step ends.
+-- What the code has of a script's world, and what a step makes of it.
 use Rattle.std.specs.Prelude.{◌≡◌, ℕ, ◌<◌, false, List, [], ◌∷◌, map, Option, Result, Ok, MatchResult}
 use Rattle.rh_edit.specs.Held.{Held}
 use Rattle.rh_report.specs.Account.{Account}
@@ -10,8 +10,12 @@ use Rattle.rh_operations.specs.declared.cause.Cause.{Cause}
 use Rattle.rh_operations.specs.declared.key_lists.KeyList.{KeyList}
 use Rattle.rh_operations.specs.KeyLists.{Stands, paths_of}
 use Rattle.rh_script_run.specs.Files.{FileMap, HasFiles}
-use Rattle.rh_script_run.specs.Meaning.{ScriptState}
-use Rattle.rh_script_run.specs.Ends.{EndsBy, LeavesFiles, Step, Tells}
+use Rattle.rh_operations.specs.Refusals.{RefusedBy}
+use Rattle.rh_script_run.specs.Meaning.{ScriptState, Outcome}
+use Rattle.rh_script.specs.Instruction.{Instruction}
+use Rattle.rh_script_run.specs.declared.told.Told.{Told}
+use Rattle.rh_script_run.specs.Ends.{EndsBy, LeavesFiles, LeavesOthers, Step, Tells}
+use Rattle.rh_script_run.specs.Told.{told_as}
 
 -- the names of lists, each with its keys
 abbrev pub Named : Type 0
@@ -30,25 +34,33 @@ ListsStand files _ _ = ⊥
 abbrev pub names_of : Named → List (List ℕ)
 names_of lists = map (λ named. named.0) lists
 
--- A step made this world of that which it found, and told its account; or it was refused, or could not be told.
-abbrev pub StepEnds : Step → (made : ScriptState) → Result (Unit {0}) Cause → Type 0
-StepEnds step made r =
-    MatchResult r (λ _. (account : Account) × (step.outcome ≡ Ok (made, account)) × Tells account step.before.text step.after.text) (EndsBy step)
+-- A command made this world and has this to report; or it was refused.
+abbrev pub Makes : Outcome → (outside : Cause → Type 0) → (made : ScriptState) → Held → Result Told Cause → Type 0
+Makes outcome outside made set r = MatchResult r (λ told. outcome ≡ Ok (made, told_as set told)) (RefusedBy outcome outside)
 
--- A step that puts no file made this set and these lists of the world that it found, and told its account; or it was
--- refused, or could not be told.
-abbrev pub PlainEnds : Step → (found : FileMap) → Held → List KeyList → Result (Unit {0}) Cause → Type 0
-PlainEnds step found set lists r =
-    MatchResult r (λ _. (named : Named) × (account : Account) × (step.outcome ≡ Ok (world_of set named found, account)) × ListsStand step.before.files lists named × Tells account step.before.text step.after.text) (EndsBy step)
+-- A command that puts no file made this set and these lists of the world that it found, and has this to report; or it
+-- was refused.
+abbrev pub MakesLists : Outcome → (outside : Cause → Type 0) → (found : FileMap) → (now : Option Files) → Held → List KeyList → Result Told Cause → Type 0
+MakesLists outcome outside found now set lists r =
+    MatchResult r (λ told. (named : Named) × (outcome ≡ Ok (world_of set named found, told_as set told)) × ListsStand now lists named) (RefusedBy outcome outside)
 
--- A step made this set, these lists and the files that the shelf has now, and told its account.
-pub record StepDone (step : Step) (set : Held) (lists : List KeyList) : Type 0 where
+-- A command made this set, these lists and the files that the shelf has now, and has this to report.
+pub record Made (outcome : Outcome) (now : Option Files) (set : Held) (lists : List KeyList) (account : Account) : Type 0 where
   pub named : Named
   pub files : FileMap
+  pub is : outcome ≡ Ok (world_of set named files, account)
+  pub stand : ListsStand now lists named
+  pub has : HasFiles files now
+
+-- Any command does so; or it was refused, and this is what it left of the files.
+abbrev pub MakesState : (said : Instruction) → Outcome → (outside : Cause → Type 0) → (found : FileMap) → (now : Option Files) → Held → List KeyList → Result Told Cause → Type 0
+MakesState said outcome outside found now set lists r =
+    MatchResult r (λ told. Made outcome now set lists (told_as set told)) (λ cause. RefusedBy outcome outside cause × LeavesOthers said found now)
+
+-- A step made this, and told its account.
+pub record StepDone (step : Step) (set : Held) (lists : List KeyList) : Type 0 where
   pub account : Account
-  pub is : step.outcome ≡ Ok (world_of set named files, account)
-  pub stand : ListsStand step.after.files lists named
-  pub has : HasFiles files step.after.files
+  pub made : Made step.outcome step.after.files set lists account
   pub told : Tells account step.before.text step.after.text
 
 -- Any step ends so; or it was refused, or could not be told, and this is what it left of the files.

@@ -46,6 +46,7 @@ mod report;
 mod running;
 mod steps;
 mod tasks;
+mod told;
 mod twice;
 
 pub use fault::RunFault;

@@ -1,7 +1,7 @@
 //! The steps of a plan.
 
-ghost use Rattle.std.specs.Prelude.{◌≡◌, ◌≢◌, ◌+◌, ◌++◌, IfErr, OnOk, length};
-ghost use Rattle.rh_key_files.specs.Counting.{failures_of, inner_of};
+ghost use Rattle.std.specs.Prelude.{◌≡◌, ◌≢◌, ◌+◌, ◌++◌, IfErr, OnErr, OnOk, length};
+ghost use Rattle.rh_key_files.specs.Counting.{Rose, failures_of, inner_of};
 ghost use Rattle.rh_script.specs.Names.{file_of, given_by};
 ghost use Rattle.rh_script.specs.Plan.{number_after};
 ghost use Rattle.rh_script.specs.Tasks.{task_as};
@@ -10,13 +10,15 @@ ghost use Rattle.rh_script_run.specs.Ends.{KeepsWriter, LeavesShelf, step_in};
 ghost use Rattle.rh_script_run.specs.Environment.{environment};
 ghost use Rattle.rh_script_run.specs.Files.{FileMap, HasFiles};
 ghost use Rattle.rh_operations.specs.KeyLists.{paths_of};
-ghost use Rattle.rh_script_run.specs.Steps.{HasList, IsApart, ListsStand, Named, StateEnds};
-ghost use Rattle.rh_script_run.specs.Steps.{names_of, world_of};
+ghost use Rattle.rh_script_run.specs.Meaning.{outcome_of};
+ghost use Rattle.rh_script_run.specs.Outside.{IsOutside};
+ghost use Rattle.rh_script_run.specs.Steps.{HasList, IsApart, ListsStand, MakesState, Named};
+ghost use Rattle.rh_script_run.specs.Steps.{StateEnds, names_of, world_of};
 
 use crate::steps::{
-    add_step, ask_step, clear_step, drop_step, dump_step, flip_step, keep_step, restore_step,
-    save_step, snapshot_step, use_step,
+    Action, ask_step, change_step, clear_step, restore_step, save_step, snapshot_step, use_step,
 };
+use crate::told::{Told, tell};
 use rh_edit::SeqSet;
 use rh_key_files::Counted;
 use rh_operations::{Cause, KeyList};
@@ -29,7 +31,6 @@ use std::sync::Wait;
 use std::thread::Threads;
 
 /// Carries a task out and writes its report.
-#[tactic(auto, unfolding(crate::specs::Meaning::outcome_of, rh_script::specs::Plan::number_after))]
 pub(crate) fn carry_out<'a, T: Threads + Wait + Sync, S: Shelf, N: Runner, W: Write>(
     rt: &T,
     alloc: Global,
@@ -61,27 +62,66 @@ pub(crate) fn carry_out<'a, T: Threads + Wait + Sync, S: Shelf, N: Runner, W: Wr
         result }
     ensures writer { KeepsWriter (failures_of writer.old) (failures_of writer.new) result }
 {
+    let told = act(rt, alloc, shelf, runner, set, lists, task)?;
+    tell(writer, set, &told)?;
+    Ok(())
+}
+
+/// Carries a task out, and answers what it has to report.
+#[tactic(auto, unfolding(crate::specs::Meaning::outcome_of, rh_script::specs::Plan::number_after))]
+fn act<'a, T: Threads + Wait + Sync, S: Shelf, N: Runner>(
+    rt: &T,
+    alloc: Global,
+    shelf: &mut S,
+    runner: &mut N,
+    set: &mut SeqSet,
+    lists: &mut Vec<KeyList<'a>>,
+    task: &Task<'a>,
+) -> Result<Told<'a>, Cause>
+    requires { HasList task.now (length lists.old.items) }
+    ensures made { (named : Named) (files : FileMap) → HasFiles files (S.files shelf.old) →
+        ListsStand (S.files shelf.old) lists.old.items named →
+        number_after (names_of named) (task_as task.now).0 ≡ (task_as task.now).1 →
+        IsApart task.now lists.old.items →
+        MakesState (task_as task.now).0
+        (outcome_of (world_of set.old named files) (task_as task.now).0)
+        (IsOutside (task_as task.now).0 (Rose (S.failures shelf.old) (S.failures shelf.new))
+        (Rose (N.refused_starts runner.old) (N.refused_starts runner.new)))
+        files (S.files shelf.new) set.new lists.new.items result }
+    ensures lists { OnOk result (length lists.new.items
+        ≡ length lists.old.items + length (given_by (task_as task.now).0)) }
+    ensures paths { OnOk result (paths_of lists.new.items
+        ≡ paths_of lists.old.items ++ file_of (task_as task.now).0) }
+    ensures unchanged { OnErr result (set.new ≡ set.old) }
+    ensures shelf { LeavesShelf (S.files shelf.old) (S.files shelf.new) (S.failures shelf.old)
+        (S.failures shelf.new) result }
+    ensures runner { KeepsRunner (N.refused_starts runner.old) (N.refused_starts runner.new)
+        result }
+    ensures no_write { IfErr result (λ cause. cause ≡ Cause.Write → ⊥) }
+{
     match *task {
-        Task::Use { name, path, .. } => use_step(alloc, shelf, writer, lists, name, path),
+        Task::Use { name, path, .. } => use_step(alloc, shelf, lists, name, path),
         Task::Add { list, name } => {
-            add_step(rt, alloc, shelf, runner, writer, set, &lists[list], name)
+            let list = &lists[list];
+            change_step(rt, alloc, shelf, runner, set, list, name, Action::Add)
         }
         Task::Drop { list, name } => {
-            drop_step(rt, alloc, shelf, runner, writer, set, &lists[list], name)
+            let list = &lists[list];
+            change_step(rt, alloc, shelf, runner, set, list, name, Action::Drop)
         }
-        Task::Ask { list, name } => {
-            ask_step(rt, alloc, shelf, runner, writer, set, &lists[list], name)
-        }
+        Task::Ask { list, name } => ask_step(rt, alloc, shelf, runner, set, &lists[list], name),
         Task::Keep { list, name } => {
-            keep_step(rt, alloc, shelf, runner, writer, set, &lists[list], name)
+            let list = &lists[list];
+            change_step(rt, alloc, shelf, runner, set, list, name, Action::Keep)
         }
         Task::Flip { list, name } => {
-            flip_step(rt, alloc, shelf, runner, writer, set, &lists[list], name)
+            let list = &lists[list];
+            change_step(rt, alloc, shelf, runner, set, list, name, Action::Flip)
         }
-        Task::Save { name, .. } => save_step(alloc, writer, set, lists, name),
-        Task::Clear => clear_step(alloc, writer, set),
-        Task::Dump => dump_step(writer, set),
-        Task::Snapshot { path } => snapshot_step(alloc, shelf, writer, set, path),
-        Task::Restore { path } => restore_step(alloc, shelf, writer, set, path),
+        Task::Save { name, .. } => save_step(alloc, set, lists, name),
+        Task::Clear => clear_step(alloc, set),
+        Task::Dump => Ok(Told::Dump),
+        Task::Snapshot { path } => snapshot_step(alloc, shelf, set, path),
+        Task::Restore { path } => restore_step(alloc, shelf, set, path),
     }
 }

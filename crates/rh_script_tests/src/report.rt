@@ -13,18 +13,42 @@ const LINES: &str = "use a 3\n\
     snapshot s.rhs2 held 3 bits 4\n\
     restore s.rhs2 held 3 bits 4\n";
 
+fn changed(name: &str, read: u64, change: Change, table: Table) -> Account<'_> {
+    Account::Changed {
+        name,
+        read,
+        change,
+        table,
+    }
+}
+
 #[test]
 fn each_command_has_its_line(rt: HostRuntime) -> Result<(), Fail> {
     let mut writer = Counted::new(Vec::new(rt.alloc()));
-    write_used(&mut writer, "a", 3)?;
-    write_added(&mut writer, "a", 7, 1, 1, 4)?;
-    write_dropped(&mut writer, "a", 5, 2, 6, 4)?;
-    write_kept(&mut writer, "b", 2, 2, 2, 3)?;
-    write_flipped(&mut writer, "b", 2, 2, 0, 3, 3)?;
-    write_saved(&mut writer, "s", 5)?;
-    write_cleared(&mut writer)?;
-    write_sealed(&mut writer, "s.rhs2", 3, 4)?;
-    write_restored(&mut writer, "s.rhs2", 3, 4)?;
+    let (removed, added) = (2, 0);
+    let (name, path, table) = ("s", "s.rhs2", Table { held: 3, bits: 4 });
+    let accounts = [
+        Account::Used {
+            name: "a",
+            count: 3,
+        },
+        changed("a", 7, Change::Added(1), Table { held: 1, bits: 4 }),
+        changed("a", 5, Change::Dropped(2), Table { held: 6, bits: 4 }),
+        changed("b", 2, Change::Kept(2), Table { held: 2, bits: 3 }),
+        changed(
+            "b",
+            2,
+            Change::Flipped { removed, added },
+            Table { held: 3, bits: 3 },
+        ),
+        Account::Saved { name, count: 5 },
+        Account::Cleared,
+        Account::Sealed { path, table },
+        Account::Restored { path, table },
+    ];
+    for account in &accounts {
+        write_account(&mut writer, account)?;
+    }
     assert_eq!(rt; writer.failures(), 0);
     assert_eq!(rt; writer.into_inner().as_slice(), LINES.as_bytes());
     Ok(())

@@ -1,32 +1,23 @@
-use Rattle.std.proofs.Common.{◌≡◌, ◌∙◌, ◌∷◌, ◌++◌, [], ap, inr, refl, sym, subst, rules, Ok}
+use Rattle.std.proofs.Common.{◌≡◌, ◌∙◌, ◌∷◌, ◌++◌, [], ap, sym, subst, rules, Ok}
 use Rattle.std.proofs.lemmas.List.{append-nil}
-use Rattle.std.proofs.lemmas.Result.{err_from_is_err_and}
 use Rattle.rh_edit.specs.Rising.{rising_keys}
 use Rattle.rh_report.specs.Account.{Saved}
 use Rattle.rh_operations.specs.KeyLists.{Stands, paths_of}
 use Rattle.rh_script_run.specs.Steps.{ListsStand, world_of}
 use Rattle.rh_script_run.proofs.ListLemmas.{one_more_stands, paths_more}
-use Rattle.rh_script_run.proofs.StepLemmas.{not_told}
 use Rattle.rh_script_run.proofs.steps.save_step.Goals as goal
 
-pub returns-in_err-write_saved-clause-step : goal.returns-in_err-write_saved-clause-step
-returns-in_err-write_saved-clause-step g c named files here now known stand =
-    let p = err_from_is_err_and c.from_residual-in_err-write_saved.result c.from_residual-in_err-write_saved.ensures.1 in
-    let name = c.args.name.now in
-    let w = world_of c.args.set.now (named ++ (name, rising_keys c.args.set.now.keys) ∷ []) files in
-    rw (p.1, p.2) (inr (not_told _ _ _ w _ _ (λ i. Ok (w, Saved name (sym c.in_ok-list.ensures.count i))) refl c.in_err-write_saved.ensures.text))
-
-pub returns-clause-step : goal.returns-clause-step
-returns-clause-step g c named files here now known stand =
+pub returns-clause-made : goal.returns-clause-made
+returns-clause-made c named files before now known stand =
     let name = c.args.name.now in
     let keys = rising_keys c.args.set.now.keys in
     let w = world_of c.args.set.now (named ++ (name, keys) ∷ []) files in
     let pushed : c.push.new.self.items ≡ c.args.lists.now.items ++ c.in_ok-list.list ∷ [] = search rules in
     let saved = subst (λ files. Stands files c.in_ok-list.list keys) (sym known) (c.in_ok-list.ensures.saved now) in
-    let stands = subst (λ lists. ListsStand here.files lists (named ++ (name, keys) ∷ [])) (sym pushed) (one_more_stands here.files c.args.lists.now.items named c.in_ok-list.list name keys stand saved) in
-    (_, _, (λ i. Ok (w, Saved name (sym c.in_ok-list.ensures.count i))), stands, (_, refl, c.in_ok-write_saved.ensures.text))
+    let stands = subst (λ lists. ListsStand before lists (named ++ (name, keys) ∷ [])) (sym pushed) (one_more_stands before c.args.lists.now.items named c.in_ok-list.list name keys stand saved) in
+    (_, (λ i. Ok (w, Saved name (sym c.in_ok-list.ensures.count i))), stands)
 
 pub returns-clause-paths : goal.returns-clause-paths
-returns-clause-paths g c =
+returns-clause-paths c =
     let pushed : c.push.new.self.items ≡ c.args.lists.now.items ++ c.in_ok-list.list ∷ [] = search rules in
     paths_more c.args.lists.now.items _ c.in_ok-list.list pushed ∙ ap (λ paths. paths_of c.args.lists.now.items ++ paths) c.in_ok-list.ensures.no_path ∙ append-nil (paths_of c.args.lists.now.items)

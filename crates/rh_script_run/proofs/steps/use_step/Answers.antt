@@ -1,38 +1,23 @@
-use Rattle.std.proofs.Common.{◌≡◌, ◌∙◌, ◌∷◌, ◌++◌, [], inl, inr, refl, sym, subst, rules, Some}
-use Rattle.std.proofs.KnownBytes.{Appends-nil}
+use Rattle.std.proofs.Common.{◌≡◌, ◌∙◌, ◌∷◌, ◌++◌, [], sym, subst, rules, Some}
 use Rattle.std.proofs.lemmas.Result.{err_from_is_err_and}
-use Rattle.rh_key_files.specs.Counting.{Rose}
-use Rattle.rh_script.specs.Instruction.{Use}
-use Rattle.rh_script_run.specs.Outside.{IsOutside}
 use Rattle.rh_operations.specs.declared.key_lists.KeyList.{KeyList}
 use Rattle.rh_operations.specs.declared.key_lists.Source.TheVariants.{Path}
 use Rattle.rh_operations.specs.KeyLists.{Stands}
 use Rattle.rh_script_run.specs.Steps.{ListsStand}
 use Rattle.rh_script_run.proofs.FileLemmas.{known_files, same_keys}
 use Rattle.rh_script_run.proofs.ListLemmas.{one_more_stands, paths_more}
-use Rattle.rh_script_run.proofs.StepLemmas.{found_refused, not_told, uses_is}
+use Rattle.rh_script_run.proofs.StepLemmas.{found_refused, uses_is}
 use Rattle.rh_script_run.proofs.steps.use_step.Goals as goal
 
-pub returns-in_err-count-clause-step : goal.returns-in_err-count-clause-step
-returns-in_err-count-clause-step g c set named files starts has stand =
+pub returns-in_err-count-clause-made : goal.returns-in_err-count-clause-made
+returns-in_err-count-clause-made g c set named files has stand =
     let p = err_from_is_err_and c.from_residual.result c.from_residual.ensures.1 in
-    let path = c.args.path.now in
     let known = known_files files (g.S.Shelf.files c.args.shelf.now) has in
-    let same = same_keys files (g.S.Shelf.files c.args.shelf.now) known.0 known.1 has path in
-    let failed : Type 0 = Rose (g.S.Shelf.failures c.args.shelf.now) (g.S.Shelf.failures c.use_file.new.shelf) in
-    rw (p.1, p.2) (inl (Appends-nil _, found_refused (IsOutside (Use c.args.name.now c.args.path.now) failed (Rose starts starts)) _ _ _ _ same (c.in_err-count.ensures.refused known.0 known.1)))
+    let same = same_keys files (g.S.Shelf.files c.args.shelf.now) known.0 known.1 has c.args.path.now in
+    rw (p.1, p.2) (found_refused _ _ _ _ same (c.in_err-count.ensures.refused known.0 known.1))
 
-pub returns-in_err-write_used-clause-step : goal.returns-in_err-write_used-clause-step
-returns-in_err-write_used-clause-step g c set named files starts has stand =
-    let p = err_from_is_err_and c.from_residual-in_err-write_used.result c.from_residual-in_err-write_used.ensures.1 in
-    let path = c.args.path.now in
-    let known = known_files files (g.S.Shelf.files c.args.shelf.now) has in
-    let same = same_keys files (g.S.Shelf.files c.args.shelf.now) known.0 known.1 has path in
-    let used = c.in_ok-count.ensures.used known.0 known.1 in
-    rw (p.1, p.2) (inr (not_told _ _ _ _ _ _ (uses_is set named files c.args.name.now path used.0 c.in_ok-count.count (sym same ∙ used.1) used.2) refl c.in_err-write_used.ensures.text))
-
-pub returns-clause-step : goal.returns-clause-step
-returns-clause-step g c set named files starts has stand =
+pub returns-clause-made : goal.returns-clause-made
+returns-clause-made g c set named files has stand =
     let name = c.args.name.now in
     let path = c.args.path.now in
     let before = g.S.Shelf.files c.args.shelf.now in
@@ -44,7 +29,7 @@ returns-clause-step g c set named files starts has stand =
     let here : Stands before list used.0 = subst (λ now. Stands now list used.0) (sym known.1) new in
     let pushed : c.push.new.self.items ≡ c.args.lists.now.items ++ list ∷ [] = search rules in
     let stands = subst (λ lists. ListsStand before lists (named ++ (name, used.0) ∷ [])) (sym pushed) (one_more_stands before c.args.lists.now.items named list name used.0 stand here) in
-    (_, _, uses_is set named files name path used.0 c.in_ok-count.count (sym same ∙ used.1) used.2, stands, (_, refl, c.in_ok-write_used.ensures.text))
+    (_, uses_is set named files name path used.0 c.in_ok-count.count (sym same ∙ used.1) used.2, stands)
 
 pub returns-clause-paths : goal.returns-clause-paths
 returns-clause-paths g c =

@@ -1,0 +1,16 @@
+-- What the code's reports stand for.
+use Rattle.std.specs.FinSet as set
+use Rattle.rh_edit.specs.Held.{Held}
+use Rattle.rh_report.specs.declared.lines.Table.{Table}
+use Rattle.rh_report.specs.Account.{Account, Asked, Dumped, account_as}
+use Rattle.rh_script_run.specs.declared.told.Told.{Told}
+use Rattle.rh_script_run.specs.declared.told.Told.TheVariants.{Line, Answers, Dump}
+
+abbrev pub table_as : Held → Table
+table_as table = record { held = set.len table.keys; bits = table.bits }
+
+-- the account of a command that left this set
+abbrev pub told_as : Held → Told → Account
+told_as set (Line account) = account_as account
+told_as set (Answers name answers) = Asked name.now answers.items
+told_as set Dump = Dumped set.keys set.bits
