@@ -5,11 +5,11 @@
 //! let mut player = Player::new(alloc, 3, &[0; 8], Kind::Insert, &pieces)?;
 //! while player.turn(0) != Turn::Did(StepKind::Decide) {}        // up to its first act
 //! let word = player.raw(home(3, 17));                           // what stands in a cell now
-//! run_play(alloc, reader, &mut writer)?;                        // a text of turns, and what it prints
+//! run_play(alloc, &mut reader, &mut writer)?;                   // a text of turns, and what it prints
 //! ```
 //!
-//! It hands on what `rh_stepper`, `rh_play` and `rh_play_run` do, with their contracts: each turn is one
-//! step of the protocol on words, and at each moment each key that is done shows in the set.
+//! It hands on what `rh_stepper`, `rh_play` and `rh_play_run` do, with their contracts. A turn makes at
+//! most one step of the protocol on words, and at each moment each key that is done shows in the set.
 #![tactic(auto)]
 
 pub use rh_descriptor::{Rooms, StepKind};

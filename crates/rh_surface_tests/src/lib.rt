@@ -1,6 +1,6 @@
-//! Each public call by the path of its public crate, with its signature and its conditions: a function
-//! for each, which the gate proves. So neither a path, nor a type, nor a condition of the public surface
-//! changes unseen. What the calls promise is held where they stand.
+//! Calls of the public crates by their paths, with their signatures and their conditions: a function
+//! for each, which the gate proves. So no path, no type and no condition of these changes unseen. Laws
+//! and some calls have none here. What the calls promise is held where they stand.
 #![tactic(auto)]
 
 #[cfg(test)]
