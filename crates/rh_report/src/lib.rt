@@ -2,8 +2,8 @@
 //!
 //! `rh_script_run` stands on it.
 //!
-//! Proved: `write_added` and its like write the text of each command's report. `fixed_numbers`: a
-//! line of answers has 64, but for the last.
+//! Proved: `write_account` writes the line of an account, and `write_asked` those of look-ups.
+//! `fixed_numbers`: a line of answers has 64, but for the last.
 #![tactic(auto)]
 
 mod answers;
