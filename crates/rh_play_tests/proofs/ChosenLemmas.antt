@@ -12,7 +12,7 @@ none_decided : (d r : Ref) (k : Control) → In (decided d k) (mismatch r 0 0 �
 none_decided d r k (inl same) = cc
 none_decided d r k (inr none) = none
 
-pub may_give_reason : (z : Shape) (who owner word : ℕ) → MayGiveReason (chosen z who 0 0 0 (Write (Fact who owner) word)) owner
+pub may_give_reason : (z : Shape) (who owner word : ℕ) → MayGiveReason (chosen z who 0 0 0 (Write (Reason who owner) word)) owner
 may_give_reason z who owner word = record {
   desc = record { worker = owner; number = 0 };
   entry = 0;

@@ -12,59 +12,59 @@ use Rattle.rh_descriptor.specs.declared.shape.Part.{Part}
 use Rattle.rh_descriptor.specs.declared.shape.Part.TheVariants as part
 use Rattle.rh_descriptor.specs.declared.shape.Shape.{Shape}
 use Rattle.rh_descriptor.specs.declared.steps.Request.{Request}
-use Rattle.rh_descriptor.specs.declared.steps.Request.TheVariants as ask
+use Rattle.rh_descriptor.specs.declared.steps.Request.TheVariants as request
 
 -- an entry at which the first descriptor of a reason's owner failed
-abbrev pub write_notes : Part → List Fact
-write_notes (part.Cell c) = []
-write_notes (part.Control worker) = []
-write_notes (part.Serial worker) = []
-write_notes (part.Length worker) = []
-write_notes (part.EntryCell worker entry) = []
-write_notes (part.EntryOld worker entry) = []
-write_notes (part.EntryNew worker entry) = []
-write_notes (part.MarkSerial worker) = []
-write_notes (part.MarkDesc worker) = []
-write_notes (part.MarkEntry worker) = []
-write_notes (part.Reason worker owner) = mismatch (record { worker = owner; number = 0 }) 0 0 ∷ []
-write_notes part.Counter = []
+abbrev pub write_facts : Part → List Fact
+write_facts (part.Cell c) = []
+write_facts (part.Control worker) = []
+write_facts (part.Serial worker) = []
+write_facts (part.Length worker) = []
+write_facts (part.EntryCell worker entry) = []
+write_facts (part.EntryOld worker entry) = []
+write_facts (part.EntryNew worker entry) = []
+write_facts (part.MarkSerial worker) = []
+write_facts (part.MarkDesc worker) = []
+write_facts (part.MarkEntry worker) = []
+write_facts (part.Reason worker owner) = mismatch (record { worker = owner; number = 0 }) 0 0 ∷ []
+write_facts part.Counter = []
 
 -- what it takes to swap a mark to this value, or to its descriptor
-abbrev pub settle_notes : (x d : Ref) → (e c : ℕ) → Option ℕ → List Fact
-settle_notes x d e c None = found x c ∷ desc_is x d ∷ which_is x e ∷ may_promote x c ∷ []
-settle_notes x d e c (Some old) = found x c ∷ desc_is x d ∷ which_is x e ∷ may_demote x ∷ old_is d e old ∷ []
+abbrev pub settle_facts : (x d : Ref) → (e c : ℕ) → Option ℕ → List Fact
+settle_facts x d e c None = found x c ∷ desc_is x d ∷ which_is x e ∷ may_promote x c ∷ []
+settle_facts x d e c (Some old) = found x c ∷ desc_is x d ∷ which_is x e ∷ may_demote x ∷ old_is d e old ∷ []
 
-abbrev pub notes_for : Request → List Fact
-notes_for (ask.Write p word) = write_notes p
-notes_for (ask.Open size) = []
-notes_for (ask.Read r) = []
-notes_for (ask.Place p old) =
+abbrev pub facts_for : Request → List Fact
+facts_for (request.Write p word) = write_facts p
+facts_for (request.Open size) = []
+facts_for (request.Read r) = []
+facts_for (request.Place p old) =
     known (ref_of p.desc) ∷ size_is (ref_of p.desc) (p.entry + 1) ∷ target_is (ref_of p.desc) p.entry p.cell
     ∷ old_is (ref_of p.desc) p.entry old ∷ []
-notes_for (ask.Settle x p old) = settle_notes (ref_of x) (ref_of p.desc) p.entry p.cell old
-notes_for (ask.Decide d state) = known (ref_of d) ∷ size_is (ref_of d) 0 ∷ mismatch (ref_of d) 0 0 ∷ []
-notes_for (ask.Release p state value) =
+facts_for (request.Settle x p old) = settle_facts (ref_of x) (ref_of p.desc) p.entry p.cell old
+facts_for (request.Decide d state) = known (ref_of d) ∷ size_is (ref_of d) 0 ∷ mismatch (ref_of d) 0 0 ∷ []
+facts_for (request.Release p state value) =
     size_is (ref_of p.desc) (p.entry + 1) ∷ target_is (ref_of p.desc) p.entry p.cell ∷ old_is (ref_of p.desc) p.entry value
     ∷ over (ref_of p.desc) ∷ passed (ref_of p.desc) ∷ []
-notes_for ask.Claim = []
+facts_for request.Claim = []
 
 -- the words of its rows: of the next descriptor, with an entry, or of the next mark
 abbrev pub written_for : Shape → (next_number marks_used : ℕ) → Request → List Written
-written_for z next_number marks_used (ask.Write p word) = []
-written_for z next_number marks_used (ask.Open size) =
+written_for z next_number marks_used (request.Write p word) = []
+written_for z next_number marks_used (request.Open size) =
     record { row = 1; word = next_number } ∷ record { row = 2; word = 1 } ∷ []
-written_for z next_number marks_used (ask.Read r) = []
-written_for z next_number marks_used (ask.Place p old) =
+written_for z next_number marks_used (request.Read r) = []
+written_for z next_number marks_used (request.Place p old) =
     record { row = mark_row z 0; word = marks_used } ∷ record { row = mark_row z 1; word = desc_number (ref_of p.desc) }
     ∷ record { row = mark_row z 2; word = p.entry } ∷ []
-written_for z next_number marks_used (ask.Settle x p old) = []
-written_for z next_number marks_used (ask.Decide d state) = []
-written_for z next_number marks_used (ask.Release p state value) = []
-written_for z next_number marks_used ask.Claim = []
+written_for z next_number marks_used (request.Settle x p old) = []
+written_for z next_number marks_used (request.Decide d state) = []
+written_for z next_number marks_used (request.Release p state value) = []
+written_for z next_number marks_used request.Claim = []
 
 abbrev pub chosen : Shape → (worker next_number control marks_used : ℕ) → Request → View
 chosen z worker next_number control marks_used asked = record (new_view [] worker) {
-  side = record new_side { facts = notes_for asked };
+  side = record new_side { facts = facts_for asked };
   next_number = next_number;
   control = control;
   marks_used = marks_used;
