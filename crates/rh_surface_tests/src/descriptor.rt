@@ -1,6 +1,6 @@
 //! The words of a shared table, and the steps of a worker on them.
 
-ghost use Rattle.rh_descriptor.specs.Parts.{IsShape, word_count};
+ghost use Rattle.rh_descriptor.specs.Parts.{IsPart, IsShape, word_count};
 ghost use Rattle.rh_descriptor.specs.Steps.{Allowed};
 ghost use Rattle.rh_descriptor.specs.Steps.Step.{claims, decides, opens, places, reads, releases, settles, writes};
 ghost use Rattle.rh_descriptor.specs.Words.{control_of, ref_of};
