@@ -30,7 +30,9 @@ use Rattle.rh_helping.proofs.Rows.{grows_read, serial_grows, serial_tells as row
 use Rattle.rh_steps.specs.Relies.{Knows}
 use Rattle.rh_rdcss.specs.declared.seat.OwnMark.{OwnMark}
 use Rattle.rh_rdcss.specs.Calls.{Learned}
-use Rattle.rh_rdcss.specs.Settling.{ByControl, ByOld, IsOwnUnsettled, Judged, Named, ReadsOld, ReadsRow, SettlesOwn, own_target}
+use Rattle.rh_rdcss.specs.Settling.{ByControl, ByOld, IsOwnUnsettled, Judged, Named, ReadsOld, ReadsRow, SettlesOwn, old_of, own_target}
+use Rattle.rh_rdcss.specs.declared.settling.Target.{Target}
+use Rattle.rh_rdcss.specs.declared.settling.Target.TheVariants.{Descriptor, Old}
 use Rattle.rh_rdcss.proofs.Looked.{control_settles_none}
 
 -- ---- the row is read
@@ -127,34 +129,34 @@ module _ (z : Shape) (v : View) (x : Reference) (p : Piece) (h : IsFound v x p) 
         subst (λ (u : View). In (old_is d p.entry old) u.side.facts) (sym r.of_serial.view_is) (row_tells_so r.middle d p.desc.number refl (old_word p.entry old) said),
       )
 
-  by_old : In (may_demote (ref_of x)) next.side.facts → (to : Option ℕ) (last : View) → ByOld z p next (Some to) last
-      → Allowed z last (settles (ref_of x) p.cell (ref_of p.desc) p.entry to)
-  by_old may None last none = absurd none
-  by_old may (Some old) last r = demotes may old last r
+  by_old : In (may_demote (ref_of x)) next.side.facts → (to : Target) (last : View) → ByOld z p next (Some to) last
+      → Allowed z last (settles (ref_of x) p.cell (ref_of p.desc) p.entry (old_of to))
+  by_old may Descriptor last none = absurd none
+  by_old may (Old old) last r = demotes may old last r
 
-  settles_so : (r : Option State) → MarkedAs next (ref_of x) p.cell r → (to : Option ℕ) (last : View) → ByControl z p (option_map control_of r) next (Some to) last
-      → Allowed z last (settles (ref_of x) p.cell (ref_of p.desc) p.entry to)
+  settles_so : (r : Option State) → MarkedAs next (ref_of x) p.cell r → (to : Target) (last : View) → ByControl z p (option_map control_of r) next (Some to) last
+      → Allowed z last (settles (ref_of x) p.cell (ref_of p.desc) p.entry (old_of to))
   settles_so None may to last by = absurd (let e = by.0 in cc)
   settles_so (Some Unused) may to last by = absurd by
   settles_so (Some Undecided) may to last by =
-      subst (λ (u : View). Allowed z u (settles (ref_of x) p.cell (ref_of p.desc) p.entry to)) (sym by.1)
-      (subst (λ (o : Option ℕ). Allowed z next (settles (ref_of x) p.cell (ref_of p.desc) p.entry o)) (let e = by.0 in cc)
+      subst (λ (u : View). Allowed z u (settles (ref_of x) p.cell (ref_of p.desc) p.entry (old_of to))) (sym by.1)
+      (subst (λ (o : Target). Allowed z next (settles (ref_of x) p.cell (ref_of p.desc) p.entry (old_of o))) {x = Descriptor} (let e = by.0 in cc)
       (may_settle z next l.knows x p met_then None may))
   settles_so (Some Succeeded) may to last by = by_old may to last by
   settles_so (Some Withdrawn) may to last by = by_old may to last by
   settles_so (Some (Failed who)) may to last by = by_old may to last by
 
-  pub settles_next : (to : Option ℕ) (last : View) → ByControl z p (state_said p.desc.number word) next (Some to) last
-      → Allowed z last (settles (ref_of x) p.cell (ref_of p.desc) p.entry to)
+  pub settles_next : (to : Target) (last : View) → ByControl z p (state_said p.desc.number word) next (Some to) last
+      → Allowed z last (settles (ref_of x) p.cell (ref_of p.desc) p.entry (old_of to))
   settles_next to last by = settles_so its.0 marked to last (subst (λ (k : Option Control). ByControl z p k next (Some to) last) (sym its.1) by)
 
 -- the own mark is settled by it, to the descriptor or to the old value that is noted
 pub own_settles : (z : Shape) (v : View) (x : Reference) (p : Piece) (h : IsFound v x p) (old : ℕ) → In (old_is (ref_of p.desc) p.entry old) v.side.facts
     → (word : ℕ) (next : View) → Learned z (reads (reading.MarkControl x p.cell p.desc)) v word next
-    → Allowed z next (settles (ref_of x) p.cell (ref_of p.desc) p.entry (own_target (state_said p.desc.number word) old))
+    → Allowed z next (settles (ref_of x) p.cell (ref_of p.desc) p.entry (old_of (own_target (state_said p.desc.number word) old)))
 own_settles z v x p h old noted word next l =
     let r = its z v x p h word next l in
-    subst (λ (k : Option Control). Allowed z next (settles (ref_of x) p.cell (ref_of p.desc) p.entry (own_target k old))) r.1 (so r.0 (marked z v x p h word next l))
+    subst (λ (k : Option Control). Allowed z next (settles (ref_of x) p.cell (ref_of p.desc) p.entry (old_of (own_target k old)))) r.1 (so r.0 (marked z v x p h word next l))
   where
     keeps : Keeps v next
     keeps = control_keeps z v x p h word next l
@@ -162,7 +164,7 @@ own_settles z v x p h old noted word next l =
     back : In (may_demote (ref_of x)) next.side.facts → Allowed z next (settles (ref_of x) p.cell (ref_of p.desc) p.entry (Some old))
     back may = may_settle z next l.knows x p (met_then z v x p h word next l) (Some old) (may, keeps.facts (old_is (ref_of p.desc) p.entry old) noted)
 
-    so : (r : Option State) → MarkedAs next (ref_of x) p.cell r → Allowed z next (settles (ref_of x) p.cell (ref_of p.desc) p.entry (own_target (option_map control_of r) old))
+    so : (r : Option State) → MarkedAs next (ref_of x) p.cell r → Allowed z next (settles (ref_of x) p.cell (ref_of p.desc) p.entry (old_of (own_target (option_map control_of r) old)))
     so None may = back may
     so (Some Unused) may = absurd may
     so (Some Undecided) may = may_settle z next l.knows x p (met_then z v x p h word next l) None may
@@ -170,21 +172,21 @@ own_settles z v x p h old noted word next l =
     so (Some Withdrawn) may = back may
     so (Some (Failed who)) may = back may
 
-pub then_settle : (z : Shape) (v : View) (x : Reference) (p : Piece) → IsFound v x p → (to : Option ℕ) (last : View) → Judged z x p v (Some to) last
-    → Allowed z last (settles (ref_of x) p.cell (ref_of p.desc) p.entry to)
+pub then_settle : (z : Shape) (v : View) (x : Reference) (p : Piece) → IsFound v x p → (to : Target) (last : View) → Judged z x p v (Some to) last
+    → Allowed z last (settles (ref_of x) p.cell (ref_of p.desc) p.entry (old_of to))
 then_settle z v x p h to last j = settles_next z v x p h j.word j.between j.control to last j.by
 
 -- ---- what the worker knows after it
 
-pub judged_knows : (z : Shape) (v : View) (x : Reference) (p : Piece) (to : Option (Option ℕ)) (last : View) → Judged z x p v to last → Knows z last
+pub judged_knows : (z : Shape) (v : View) (x : Reference) (p : Piece) (to : Option Target) (last : View) → Judged z x p v to last → Knows z last
 judged_knows z v x p to last j = by (state_said p.desc.number j.word) to j.by
   where
-    old_known : (to : Option (Option ℕ)) → ByOld z p j.between to last → Knows z last
+    old_known : (to : Option Target) → ByOld z p j.between to last → Knows z last
     old_known None h = h.3.of_serial.knows
-    old_known (Some None) none = absurd none
-    old_known (Some (Some old)) r = r.of_serial.knows
+    old_known (Some Descriptor) none = absurd none
+    old_known (Some (Old old)) r = r.of_serial.knows
 
-    by : (k : Option Control) (to : Option (Option ℕ)) → ByControl z p k j.between to last → Knows z last
+    by : (k : Option Control) (to : Option Target) → ByControl z p k j.between to last → Knows z last
     by None to h = subst (Knows z) (sym h.1) j.control.knows
     by (Some unused) to h = absurd h
     by (Some undecided) to h = subst (Knows z) (sym h.1) j.control.knows
@@ -192,7 +194,7 @@ judged_knows z v x p to last j = by (state_said p.desc.number j.word) to j.by
     by (Some withdrawn) to h = old_known to h
     by (Some (failed e who)) to h = old_known to h
 
-pub settle_knows : (z : Shape) (v : View) (x : Reference) (p : Piece) (to : Option ℕ) (last : View) → Judged z x p v (Some to) last → Knows z last
+pub settle_knows : (z : Shape) (v : View) (x : Reference) (p : Piece) (to : Target) (last : View) → Judged z x p v (Some to) last → Knows z last
 settle_knows z v x p to last j = judged_knows z v x p (Some to) last j
 
 -- ---- the own mark is settled
@@ -231,4 +233,4 @@ own_settled z c own v word next h mine =
     let same : h.between.side.unsettled ≡ v.side.unsettled = ap (λ (u : View). u.side.unsettled) h.control.view_is ∙ control_same v.side x c d h.said in
     let worker : h.between.worker ≡ v.worker = ap (λ (u : View). u.worker) h.control.view_is in
     ap (λ (u : View). u.side.unsettled) h.swap.view_is
-    ∙ settled_none h.between x c d own.piece.entry (own_target (state_said own.piece.desc.number h.said) own.old) word (Some own.mark.number) (same ∙ mine.1) refl (mine.0 ∙ sym worker)
+    ∙ settled_none h.between x c d own.piece.entry (old_of (own_target (state_said own.piece.desc.number h.said) own.old)) word (Some own.mark.number) (same ∙ mine.1) refl (mine.0 ∙ sym worker)

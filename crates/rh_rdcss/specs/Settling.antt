@@ -12,6 +12,8 @@ use Rattle.rh_descriptor.specs.Words.{desc_in, ref_of}
 use Rattle.rh_descriptor.specs.Steps.Step.{reads, settles}
 use Rattle.rh_helping.specs.CellContent.{state_said}
 use Rattle.rh_rdcss.specs.declared.seat.OwnMark.{OwnMark}
+use Rattle.rh_rdcss.specs.declared.settling.Target.{Target}
+use Rattle.rh_rdcss.specs.declared.settling.Target.TheVariants.{Descriptor, Old}
 use Rattle.rh_rdcss.specs.Calls.{Learned}
 use Rattle.rh_rdcss.specs.Placing.{NotesMark}
 
@@ -38,8 +40,8 @@ pub record Named (z : Shape) (x : Reference) (p : Piece) (v next : View) : Type 
   pub row : ReadsRow z x word p.entry x.number v next
   pub names : desc_in word ≡ Some (ref_of p.desc)
 
--- it has gone on to another mark
-pub record HasGoneOn (z : Shape) (x : Reference) (v next : View) : Type 0 where
+-- the row is of another mark by now
+pub record IsStale (z : Shape) (x : Reference) (v next : View) : Type 0 where
   pub named : ℕ
   pub entry : ℕ
   pub serial : ℕ
@@ -48,8 +50,13 @@ pub record HasGoneOn (z : Shape) (x : Reference) (v next : View) : Type 0 where
 
 -- of a mark that was found in this cell
 abbrev pub RowSays : Shape → Reference → (c : ℕ) → Option Piece → View → View → Type 0
-RowSays z x c None v next = HasGoneOn z x v next
+RowSays z x c None v next = IsStale z x v next
 RowSays z x c (Some p) v next = (p.cell ≡ c) × Named z x p v next
+
+-- none stands for the descriptor
+abbrev pub old_of : Target → Option ℕ
+old_of Descriptor = None
+old_of (Old old) = Some old
 
 -- the old value of the entry was read, and after it the number of the descriptor that the row is of by now
 pub record ReadsOld (z : Shape) (p : Piece) (old serial : ℕ) (v next : View) : Type 0 where
@@ -57,31 +64,31 @@ pub record ReadsOld (z : Shape) (p : Piece) (old serial : ℕ) (v next : View) :
   pub of_old : Learned z (reads (reading.EntryOld p.desc p.entry)) v old middle
   pub of_serial : Learned z (reads (reading.Serial p.desc)) middle serial next
 
--- the mark is settled to it, or left where the row has gone on
-abbrev pub ByOld : Shape → Piece → View → Option (Option ℕ) → View → Type 0
+-- the mark is settled to it, or left where the descriptor is stale
+abbrev pub ByOld : Shape → Piece → View → Option Target → View → Type 0
 ByOld z p v None next = (old serial : ℕ) × (serial ≢ p.desc.number) × ReadsOld z p old serial v next
-ByOld z p v (Some None) next = ⊥
-ByOld z p v (Some (Some old)) next = ReadsOld z p old p.desc.number v next
+ByOld z p v (Some Descriptor) next = ⊥
+ByOld z p v (Some (Old old)) next = ReadsOld z p old p.desc.number v next
 
 -- By what the control tells: a mark of an undecided descriptor is settled to it, of a decided one to the old value, and
--- that of one that has gone on is left.
-abbrev pub ByControl : Shape → Piece → Option Control → View → Option (Option ℕ) → View → Type 0
+-- that of a stale one is left.
+abbrev pub ByControl : Shape → Piece → Option Control → View → Option Target → View → Type 0
 ByControl z p None v to next = (to ≡ None) × (next ≡ v)
 ByControl z p (Some unused) v to next = ⊥
-ByControl z p (Some undecided) v to next = (to ≡ Some None) × (next ≡ v)
+ByControl z p (Some undecided) v to next = (to ≡ Some Descriptor) × (next ≡ v)
 ByControl z p (Some succeeded) v to next = ByOld z p v to next
 ByControl z p (Some withdrawn) v to next = ByOld z p v to next
 ByControl z p (Some (failed e by)) v to next = ByOld z p v to next
 
 -- the control was read once the mark was found, and tells what the mark is settled to
-pub record Judged (z : Shape) (x : Reference) (p : Piece) (v : View) (to : Option (Option ℕ)) (next : View) : Type 0 where
+pub record Judged (z : Shape) (x : Reference) (p : Piece) (v : View) (to : Option Target) (next : View) : Type 0 where
   pub word : ℕ
   pub between : View
   pub control : Learned z (reads (reading.MarkControl x p.cell p.desc)) v word between
   pub by : ByControl z p (state_said p.desc.number word) between to next
 
 -- the row of the mark, which was found in this cell, was read and then the control of its descriptor
-pub record HasJudged (z : Shape) (x : Reference) (c : ℕ) (piece : Piece) (v : View) (to : Option (Option ℕ)) (next : View) : Type 0 where
+pub record HasJudged (z : Shape) (x : Reference) (c : ℕ) (piece : Piece) (v : View) (to : Option Target) (next : View) : Type 0 where
   pub in_cell : piece.cell ≡ c
   pub named : View
   pub row : Named z x piece v named
@@ -90,31 +97,31 @@ pub record HasJudged (z : Shape) (x : Reference) (c : ℕ) (piece : Piece) (v : 
 -- the mark was settled by it; the Settle found this word
 pub record HasSettled (z : Shape) (x : Reference) (c : ℕ) (v : View) (word : ℕ) (next : View) : Type 0 where
   pub piece : Piece
-  pub to : Option ℕ
+  pub to : Target
   pub judged : View
   pub by : HasJudged z x c piece v (Some to) judged
-  pub swap : Learned z (settles (ref_of x) piece.cell (ref_of piece.desc) piece.entry to) judged word next
+  pub swap : Learned z (settles (ref_of x) piece.cell (ref_of piece.desc) piece.entry (old_of to)) judged word next
 
--- or one of the two rows had gone on, and no Settle was made
+-- or one of the two rows was stale, and no Settle was made
 abbrev pub SettlesMet : Shape → Reference → (c : ℕ) → View → Option ℕ → View → Type 0
-SettlesMet z x c v None next = HasGoneOn z x v next ⊎ ((piece : Piece) × HasJudged z x c piece v None next)
+SettlesMet z x c v None next = IsStale z x v next ⊎ ((piece : Piece) × HasJudged z x c piece v None next)
 SettlesMet z x c v (Some word) next = HasSettled z x c v word next
 
 -- what the own mark is settled to by what the control tells of its descriptor: to that, or to the old value
-abbrev pub own_target : Option Control → (old : ℕ) → Option ℕ
-own_target None old = Some old
-own_target (Some unused) old = Some old
-own_target (Some undecided) old = None
-own_target (Some succeeded) old = Some old
-own_target (Some withdrawn) old = Some old
-own_target (Some (failed e by)) old = Some old
+abbrev pub own_target : Option Control → (old : ℕ) → Target
+own_target None old = Old old
+own_target (Some unused) old = Old old
+own_target (Some undecided) old = Descriptor
+own_target (Some succeeded) old = Old old
+own_target (Some withdrawn) old = Old old
+own_target (Some (failed e by)) old = Old old
 
 -- the control of its descriptor was read, and the own mark was settled by it; the Settle found this word
 pub record SettlesOwn (z : Shape) (c : ℕ) (own : OwnMark) (v : View) (word : ℕ) (next : View) : Type 0 where
   pub said : ℕ
   pub between : View
   pub control : Learned z (reads (reading.MarkControl own.mark c own.piece.desc)) v said between
-  pub swap : Learned z (settles (ref_of own.mark) c (ref_of own.piece.desc) own.piece.entry (own_target (state_said own.piece.desc.number said) own.old)) between word next
+  pub swap : Learned z (settles (ref_of own.mark) c (ref_of own.piece.desc) own.piece.entry (old_of (own_target (state_said own.piece.desc.number said) own.old))) between word next
 
 abbrev pub SettlesMine : Shape → (c : ℕ) → Option OwnMark → View → Option ℕ → View → Type 0
 SettlesMine z c None v r next = ⊥

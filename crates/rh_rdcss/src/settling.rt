@@ -7,7 +7,7 @@ ghost use Rattle.rh_descriptor.specs.Words.{ref_of};
 ghost use Rattle.rh_steps.specs.Relies.{Knows};
 ghost use Rattle.rh_rdcss.specs.Calls.{IsHere, IsSame, view_of};
 ghost use Rattle.rh_rdcss.specs.Placing.{NotesMark};
-ghost use Rattle.rh_rdcss.specs.Settling.{IsOwnUnsettled, Judged, RowSays, SettlesMet, SettlesOwn, own_target};
+ghost use Rattle.rh_rdcss.specs.Settling.{IsOwnUnsettled, Judged, RowSays, SettlesMet, SettlesOwn, old_of, own_target};
 ghost use Rattle.rh_rule.specs.Sound.{IsControlWord};
 ghost use Rattle.rh_helping.specs.CellContent.{state_said};
 ghost use Rattle.rh_helping.specs.Settling.{IsFound};
@@ -18,6 +18,26 @@ use crate::table::Table;
 use rh_descriptor::{Piece, Reading, Ref, Request};
 use rh_helping::{named_desc, state_told};
 use rh_tagword::State;
+
+/// What a mark is settled to.
+#[derive(Clone, Copy, Debug, PartialEq, Eq)]
+pub(crate) enum Target {
+    Descriptor,
+    Old(u64),
+}
+
+impl Target {
+    /// The old value, as a `Settle` takes it: none stands for the descriptor.
+    #[inline(always)]
+    fn old(self) -> Option<u64>
+        ensures { result ≡ old_of self }
+    {
+        match self {
+            Target::Descriptor => None,
+            Target::Old(old) => Some(old),
+        }
+    }
+}
 
 /// Settles the own mark in this cell, which the worker placed for this.
 #[inline(always)]
@@ -36,20 +56,21 @@ pub(crate) fn settle_own(table: &Table, seat: &mut Seat, cell: usize, own: OwnMa
     let desc = piece.desc;
     let control = Request::Read(Reading::MarkControl { mark, cell, desc });
     let word = make(table, seat, control);
-    let old = own_target(desc, word, old);
+    let to = own_target(desc, word, old);
+    let old = to.old();
     make(table, seat, Request::Settle { mark, piece, old })
 }
 
-/// What the own mark is settled to, by the control of its descriptor: to the old value, also where that has
-/// gone on, or to the descriptor where no value is given.
+/// What the own mark is settled to, by the control of its descriptor: to the old value also where that is
+/// stale.
 #[inline(always)]
-fn own_target(desc: Ref, word: u64, old: u64) -> Option<u64>
+fn own_target(desc: Ref, word: u64, old: u64) -> Target
     requires { IsControlWord word }
     ensures { result ≡ own_target (state_said desc.number word) old }
 {
     match state_told(desc, word) {
-        Some(State::Undecided) => None,
-        _ => Some(old),
+        Some(State::Undecided) => Target::Descriptor,
+        _ => Target::Old(old),
     }
 }
 
@@ -64,7 +85,8 @@ pub(crate) fn settle_met(table: &Table, seat: &mut Seat, cell: usize, mark: Ref)
     ensures settles { SettlesMet table.now.shape mark cell (view_of seat.old) result (view_of seat.new) }
 {
     let piece = read_row(table, seat, mark, cell)?;
-    let old = judge(table, seat, mark, piece)?;
+    let to = judge(table, seat, mark, piece)?;
+    let old = to.old();
     Some(make(table, seat, Request::Settle { mark, piece, old }))
 }
 
@@ -92,10 +114,9 @@ pub(crate) fn read_row(table: &Table, seat: &mut Seat, mark: Ref, cell: usize) -
 }
 
 /// Reads the control of the descriptor that the mark is for, and answers what the mark is to be settled
-/// to: the old value, or the descriptor where no value is given. None where the descriptor's row has
-/// gone on.
+/// to; nothing where the descriptor is stale.
 #[inline(always)]
-pub(crate) fn judge(table: &Table, seat: &mut Seat, mark: Ref, piece: Piece) -> Option<Option<u64>>
+pub(crate) fn judge(table: &Table, seat: &mut Seat, mark: Ref, piece: Piece) -> Option<Target>
     requires here { IsHere table.now seat.old }
     requires knows { Knows table.now.shape (view_of seat.old) }
     requires met { IsFound (view_of seat.old) mark piece }
@@ -107,10 +128,10 @@ pub(crate) fn judge(table: &Table, seat: &mut Seat, mark: Ref, piece: Piece) -> 
     let word = make(table, seat, Request::Read(reading));
     let state = state_told(desc, word)?;
     if !state.is_decided() {
-        return Some(None);
+        return Some(Target::Descriptor);
     }
     let reading = Reading::EntryOld { desc, entry };
     let old = make(table, seat, Request::Read(reading));
     let serial = make(table, seat, Request::Read(Reading::Serial(desc)));
-    (serial == desc.number).then_some(Some(old))
+    (serial == desc.number).then_some(Target::Old(old))
 }

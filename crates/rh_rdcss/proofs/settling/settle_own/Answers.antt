@@ -1,4 +1,4 @@
-use Rattle.std.proofs.Common.{ℕ, Option, subst, sym}
+use Rattle.std.proofs.Common.{ℕ, Option, ◌∙◌, ap, subst, sym}
 use Rattle.rh_descriptor.specs.declared.reference.Piece.{Piece}
 use Rattle.rh_descriptor.specs.Steps.{Allowed}
 use Rattle.rh_descriptor.specs.Steps.Step.{settles}
@@ -6,6 +6,7 @@ use Rattle.rh_descriptor.specs.Words.{ref_of}
 use Rattle.rh_helping.specs.Settling.{IsFound}
 use Rattle.rh_helping.proofs.Marks.{may_read_control}
 use Rattle.rh_rdcss.specs.Calls.{Learned, view_of}
+use Rattle.rh_rdcss.specs.Settling.{old_of}
 use Rattle.rh_rdcss.proofs.MarksMet.{own_settled, own_settles}
 use Rattle.rh_rdcss.proofs.settling.settle_own.Goals as goal
 
@@ -18,7 +19,7 @@ pub make-requires-clause-allowed : goal.make-requires-clause-allowed
 make-requires-clause-allowed c =
     let piece : Piece = record { desc = c.args.own.piece.desc; entry = c.args.own.piece.entry; cell = c.args.cell } in
     let found : IsFound _ c.args.own.mark piece = record { met = c.requires.found; of_desc = c.requires.facts.of_desc; of_entry = c.requires.facts.of_entry } in
-    subst (λ (to : Option ℕ). Allowed c.args.table.now.shape c.make-word.new.seat.side.known.view (settles (ref_of c.args.own.mark) c.args.cell (ref_of piece.desc) piece.entry to)) (sym c.own_target-old.ensures)
+    subst (λ (to : Option ℕ). Allowed c.args.table.now.shape c.make-word.new.seat.side.known.view (settles (ref_of c.args.own.mark) c.args.cell (ref_of piece.desc) piece.entry to)) (sym (c.old-old.ensures ∙ ap old_of c.own_target-to.ensures))
     (own_settles _ _ c.args.own.mark piece found c.args.own.old c.requires.facts.knows_old c.make-word.result _ c.make-word.ensures.learned)
 
 pub returns-clause-settled : goal.returns-clause-settled
@@ -31,6 +32,6 @@ returns-clause-settled c mine =
       between = view_of c.make-word.new.seat;
       control = c.make-word.ensures.learned;
       swap = subst (λ (to : Option ℕ). Learned z (settles (ref_of own.mark) c.args.cell (ref_of own.piece.desc) own.piece.entry to) (view_of c.make-word.new.seat) c.make.result (view_of c.make.new.seat))
-          c.own_target-old.ensures c.make.ensures.learned;
+          (c.old-old.ensures ∙ ap old_of c.own_target-to.ensures) c.make.ensures.learned;
     })
     mine
