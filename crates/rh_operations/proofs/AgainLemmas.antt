@@ -1,5 +1,5 @@
 -- A list that is read again: its keys, or why it is refused.
-use Rattle.std.proofs.Common.{◌≡◌, ◌∙◌, ap, sym, subst, refl, ℕ, ◌+◌, inl, inr, Bool, true, List, length, Option, Some, None, Result, Ok, Err, IsOk, is_ok}
+use Rattle.std.proofs.Common.{◌≡◌, ◌∙◌, ap, sym, subst, refl, ℕ, ◌+◌, inl, inr, List, length, Option, Some, None, Result, Ok, Err, IsOk, is_ok}
 use Rattle.std.proofs.lemmas.Bool.{eq-eqb}
 use Rattle.rh_key_files.specs.declared.version.Version.{Version}
 use Rattle.rh_key_files.specs.declared.fault.KeyFault.{KeyFault}
@@ -11,10 +11,11 @@ use Rattle.rh_key_files.proofs.Coming.{counts}
 use Rattle.rh_runner.specs.declared.runner.PhaseFault.TheVariants as phase_faults
 use Rattle.rh_runner.specs.declared.fault.ListFault.{ListFault}
 use Rattle.rh_runner.specs.declared.fault.ListFault.TheVariants as list_faults
-use Rattle.rh_runner.specs.Lists.{Refused, RefusedFor, Took, chosen}
+use Rattle.rh_runner.specs.declared.choice.Choice.{Choice}
+use Rattle.rh_runner.specs.declared.choice.Chosen.TheVariants.{Present}
+use Rattle.rh_runner.specs.Lists.{Refused, RefusedFor, Took, by_choice, chosen}
 use Rattle.std.specs.FinSet as set
 use Rattle.rh_edit.specs.Held.{Held}
-use Rattle.rh_layout.specs.Layout.{Keys}
 use Rattle.rh_layout.specs.declared.limits.TheConstants.{MIN_BITS}
 use Rattle.rh_shelf.specs.Shelf.{Files}
 use Rattle.rh_operations.specs.declared.cause.Cause.{Cause}
@@ -110,8 +111,8 @@ module _ (files : Files) (list : KeyList) (keys : List ℕ) (stands : Stands (So
       ∙ ap (λ r. size_for table.bits (set.len table.keys + length keys) >>= (λ size. r >>= (λ _. Ok size))) stands.0
       ∙ as_it_was (size_for table.bits (set.len table.keys + length keys))
 
-  pub keep_again : size_to_keep table list.count (bytes_at files list.source) ≡ size_for MIN_BITS (length (chosen true table.keys keys))
-  keep_again = ap (λ r. r >>= (λ k. size_for MIN_BITS (length (chosen true table.keys k)))) (stands_again files list keys stands)
+  pub keep_again : size_to_keep table list.count (bytes_at files list.source) ≡ size_for MIN_BITS (length (chosen Present table.keys keys))
+  keep_again = ap (λ r. r >>= (λ k. size_for MIN_BITS (length (chosen Present table.keys k)))) (stands_again files list keys stands)
 
   pub flip_again : size_to_flip table list.count (bytes_at files list.source) ≡ size_for table.bits (flipped_most table.keys keys)
   flip_again = ap (λ r. r >>= (λ k. size_for table.bits (flipped_most table.keys k))) (stands_again files list keys stands)
@@ -183,18 +184,18 @@ module _ (files : Option Files) (known : Files) (is : files ≡ Some known) (sou
     rest_refused failed n m (list_faults.Phase phase_faults.NoThread) h = inr h
 
     -- at the second reading of a list that was chosen from
-    pub again_refused : (failed : Type 0) (wanted : Bool) (S : Keys) (many n m : ℕ) (e : ListFault) → count_again noted (bytes_at known source) ≡ Ok noted → RefusedFor coming wanted S many n m e
-        → RefusedAgain (keys_again noted (bytes_at known source)) (chosen wanted S) many (PhaseFails failed (Rose n m)) (of_list e)
-    again_refused failed wanted S many n m (list_faults.Keys fault) again h =
+    pub again_refused : (failed : Type 0) (choice : Choice) (n m : ℕ) (e : ListFault) → count_again noted (bytes_at known source) ≡ Ok noted → RefusedFor coming choice n m e
+        → RefusedAgain (keys_again noted (bytes_at known source)) (by_choice choice) choice.many (PhaseFails failed (Rose n m)) (of_list e)
+    again_refused failed choice n m (list_faults.Keys fault) again h =
         inl (later_refused (count_again noted (bytes_at known source)) (λ _. keys_found (bytes_at known source)) (of_keys fault) failed (Rose n m) noted again (fault_comes fault failed (Rose n m) h))
-    again_refused failed wanted S many n m list_faults.Changed again h = inr (
+    again_refused failed choice n m list_faults.Changed again h = inr (
       refl,
       λ keys is.
           let all : keys_found (bytes_at known source) ≡ Ok keys = sym (ap (λ r. r >>= (λ _. keys_found (bytes_at known source))) again) ∙ is in
           h keys (coming_is ∙ ap (λ r. Some r) (the_keys (keys_of_file opened.0) keys (ap keys_found (sym opened.1) ∙ all))),
     )
-    again_refused failed wanted S many n m (list_faults.Phase phase_faults.Memory) again h = inl (inr tt)
-    again_refused failed wanted S many n m (list_faults.Phase phase_faults.NoThread) again h = inl (inr h)
+    again_refused failed choice n m (list_faults.Phase phase_faults.Memory) again h = inl (inr tt)
+    again_refused failed choice n m (list_faults.Phase phase_faults.NoThread) again h = inl (inr h)
 
 -- the same list again is refused by what comes from outside alone
 pub same_again : (said : Result (List ℕ) Cause) (keys : List ℕ) (chosen : List ℕ → List ℕ) (many : ℕ) (failed refused : Type 0) (cause : Cause) → said ≡ Ok keys → length (chosen keys) ≡ many → RefusedAgain said chosen many (PhaseFails failed refused) cause → PhaseFails failed refused cause

@@ -1,5 +1,5 @@
 -- What the commands that change the set make of it.
-use Rattle.std.specs.Prelude.{◌≡◌, ℕ, ◌+◌, ◌<◌, ◌^◌, true, false, List, length, Option, Result, Ok}
+use Rattle.std.specs.Prelude.{◌≡◌, ℕ, ◌+◌, ◌<◌, ◌^◌, List, length, Option, Result, Ok}
 use Rattle.std.specs.FinSet as set
 use Rattle.rh_layout.specs.Layout.{Keys, Layout}
 use Rattle.rh_layout.specs.declared.limits.TheConstants.{MIN_BITS}
@@ -7,10 +7,12 @@ use Rattle.rh_edit.specs.Held.{Held}
 use Rattle.rh_ledger.specs.declared.tally.Kind.TheVariants.{Insert, Remove}
 use Rattle.rh_ledger.specs.declared.tally.Tally.{Tally}
 use Rattle.rh_ledger.specs.Phase.{set_after, tally_of}
+use Rattle.rh_runner.specs.declared.choice.Chosen.TheVariants.{Absent, Present}
 use Rattle.rh_runner.specs.Lists.{chosen}
 use Rattle.rh_snapshot.specs.declared.version.Version.TheVariants.{Second}
 use Rattle.rh_snapshot.specs.Snapshot.{spelling}
 use Rattle.rh_operations.specs.declared.cause.Cause.{Cause}
+use Rattle.rh_operations.specs.declared.operations.Flips.{Flips}
 use Rattle.rh_operations.specs.Found.{count_again, keys_again, keys_found}
 use Rattle.rh_operations.specs.Sequence.{◌>>=◌}
 use Rattle.rh_operations.specs.Size.{size_for}
@@ -33,22 +35,22 @@ pub record Dropped (keys : List ℕ) (old new : Held) (told : Tally) : Type 0 wh
 
 -- of the keys that were held, those of the list were kept
 pub record Kept (keys : List ℕ) (old new : Held) (found : ℕ) : Type 0 where
-  pub size : size_for MIN_BITS (length (chosen true old.keys keys)) ≡ Ok new.bits
-  pub held : new.keys ≡ set_after Insert set.empty (chosen true old.keys keys)
-  pub counted : found ≡ length (chosen true old.keys keys)
+  pub size : size_for MIN_BITS (length (chosen Present old.keys keys)) ≡ Ok new.bits
+  pub held : new.keys ≡ set_after Insert set.empty (chosen Present old.keys keys)
+  pub counted : found ≡ length (chosen Present old.keys keys)
 
 -- how many keys a table is to hold while the list is flipped, its positions counted
 abbrev pub flipped_most : Keys → List ℕ → ℕ
-flipped_most S keys = set.len (set_after Remove S keys) + length (chosen false S keys)
+flipped_most S keys = set.len (set_after Remove S keys) + length (chosen Absent S keys)
 
 -- The keys of the first reading that were held were taken out, and those of the second that were not were added, of
 -- which there are as many.
-pub record Flipped (first second : List ℕ) (old new : Held) (told : Tally × Tally) : Type 0 where
-  pub as_many : length (chosen false old.keys second) ≡ length (chosen false old.keys first)
+pub record Flipped (first second : List ℕ) (old new : Held) (told : Flips) : Type 0 where
+  pub as_many : length (chosen Absent old.keys second) ≡ length (chosen Absent old.keys first)
   pub size : size_for old.bits (flipped_most old.keys first) ≡ Ok new.bits
-  pub held : new.keys ≡ set_after Insert (set_after Remove old.keys first) (chosen false old.keys second)
-  pub removed : told.0 ≡ tally_of Remove old.keys first
-  pub added : told.1 ≡ tally_of Insert (set_after Remove old.keys first) (chosen false old.keys second)
+  pub held : new.keys ≡ set_after Insert (set_after Remove old.keys first) (chosen Absent old.keys second)
+  pub removed : told.removed ≡ tally_of Remove old.keys first
+  pub added : told.added ≡ tally_of Insert (set_after Remove old.keys first) (chosen Absent old.keys second)
 
 -- ---- the size of the table that a command makes from the bytes of its list, or why there is none
 
@@ -64,7 +66,7 @@ size_to_add table noted found =
 
 -- of a set of which the list is kept
 abbrev pub size_to_keep : Held → (noted : ℕ) → Option (List ℕ) → Result ℕ Cause
-size_to_keep table noted found = keys_again noted found >>= (λ keys. size_for MIN_BITS (length (chosen true table.keys keys)))
+size_to_keep table noted found = keys_again noted found >>= (λ keys. size_for MIN_BITS (length (chosen Present table.keys keys)))
 
 -- of a set in which the list is flipped
 abbrev pub size_to_flip : Held → (noted : ℕ) → Option (List ℕ) → Result ℕ Cause

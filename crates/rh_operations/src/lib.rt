@@ -34,5 +34,5 @@ mod snapshots;
 pub use cause::Cause;
 pub use key_lists::{KeyList, Source};
 pub use laws::one_size;
-pub use operations::{add, ask, drop_keys, flip, keep, saved, use_file};
+pub use operations::{Flips, add, ask, drop_keys, flip, keep, saved, use_file};
 pub use snapshots::{put_snapshot, restored};

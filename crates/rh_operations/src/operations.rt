@@ -1,13 +1,14 @@
 //! What the commands do with the set that is held and with the lists. They take shelf, runner and
 //! set one by one, and no record of them: so what a command leaves alone is seen at its arguments.
 
-ghost use Rattle.std.specs.Prelude.{◌≡◌, ◌+◌, ◌^◌, ◌<◌, ℕ, true, false, List, [], Some, Ok};
+ghost use Rattle.std.specs.Prelude.{◌≡◌, ◌+◌, ◌^◌, ◌<◌, ℕ, List, [], Some, Ok};
 ghost use Rattle.std.specs.Prelude.{IfOk, IfErr, OnErr, OnOk, length};
 ghost use Rattle.std.specs.FinSet as finset;
 ghost use Rattle.rh_key_files.specs.Counting.{Rose};
 ghost use Rattle.rh_shelf.specs.Shelf.{Files};
 ghost use Rattle.rh_ledger.specs.Phase.{looked_up};
-ghost use Rattle.rh_runner.specs.Lists.{Ran, chosen};
+ghost use Rattle.rh_runner.specs.declared.choice.Chosen.TheVariants.{Absent, Present};
+ghost use Rattle.rh_runner.specs.Lists.{Ran, by_choice, chosen};
 ghost use Rattle.rh_ledger.specs.declared.tally.Kind.TheVariants.{Insert};
 ghost use Rattle.rh_layout.specs.Layout.{IsLayout, keys_of};
 ghost use Rattle.rh_layout.specs.declared.limits.TheConstants.{MIN_BITS};
@@ -29,7 +30,8 @@ use rh_key_files::{Counted, open_keys, write_keys};
 use rh_layout::MIN_BITS;
 use rh_ledger::{Kind, Tally};
 use rh_runner::{
-    Runner, ask_all, change_all, count_chosen, insert_chosen, read_through, remove_and_count_absent,
+    Choice, Chosen, Removed, Runner, Scratch, ask_all, change_all, count_chosen, insert_chosen,
+    read_through, remove_and_count_absent,
 };
 use rh_shelf::Shelf;
 use std::alloc::Global;
@@ -87,9 +89,9 @@ pub fn add<T: Threads + Wait + Sync, S: Shelf, N: Runner>(
     let count = list.count;
     let mut reader = open_list(alloc, shelf, list)?;
     let mut keys = keys_again(&mut reader, count)?;
-    let (bits, mut cells) = grown(alloc, set, count)?;
-    let tally = change_all(rt, alloc, runner, Kind::Insert, bits, &mut cells, &mut keys)?;
-    *set = SeqSet::from_cells(bits, cells);
+    let mut scratch = grown(alloc, set, count)?;
+    let tally = change_all(rt, alloc, runner, Kind::Insert, &mut scratch, &mut keys)?;
+    *set = SeqSet::from_cells(scratch.bits, scratch.cells);
     Ok(tally)
 }
 
@@ -120,9 +122,9 @@ pub fn drop_keys<T: Threads + Wait + Sync, S: Shelf, N: Runner>(
 {
     let mut reader = open_list(alloc, shelf, list)?;
     let mut keys = keys_again(&mut reader, list.count)?;
-    let (bits, mut cells) = copied(alloc, set)?;
-    let tally = change_all(rt, alloc, runner, Kind::Remove, bits, &mut cells, &mut keys)?;
-    *set = SeqSet::from_cells(bits, cells);
+    let mut scratch = copied(alloc, set)?;
+    let tally = change_all(rt, alloc, runner, Kind::Remove, &mut scratch, &mut keys)?;
+    *set = SeqSet::from_cells(scratch.bits, scratch.cells);
     Ok(tally)
 }
 
@@ -183,11 +185,14 @@ pub fn keep<T: Threads + Wait + Sync, S: Shelf, N: Runner>(
 {
     let found = count_found(rt, alloc, shelf, runner, set, list)?;
     let empty = SeqSet::new(alloc, MIN_BITS)?;
-    let (bits, mut cells) = grown(alloc, &empty, found)?;
-    insert_listed(
-        rt, alloc, shelf, runner, true, found, set, bits, &mut cells, list,
-    )?;
-    *set = SeqSet::from_cells(bits, cells);
+    let mut scratch = grown(alloc, &empty, found)?;
+    let choice = Choice {
+        chosen: Chosen::Present,
+        set,
+        many: found,
+    };
+    insert_listed(rt, alloc, shelf, runner, &choice, &mut scratch, list)?;
+    *set = SeqSet::from_cells(scratch.bits, scratch.cells);
     Ok(found)
 }
 
@@ -201,7 +206,7 @@ fn count_found<T: Threads + Wait + Sync, S: Shelf, N: Runner>(
     list: &KeyList<'_>,
 ) -> Result<u64, Cause>
     ensures found { IfOk result (λ found. (keys : List ℕ) × Gave (S.files shelf.old) list.now keys
-        × (found ≡ length (chosen true set.now.keys keys))) }
+        × (found ≡ length (chosen Present set.now.keys keys))) }
     ensures memory { (files : Files) → S.files shelf.old ≡ Some files → IfErr result
         (WantedAfter (count_again list.now.count (bytes_at files list.now.source))
         (Rose (S.failures shelf.old) (S.failures shelf.new))) }
@@ -217,38 +222,37 @@ fn count_found<T: Threads + Wait + Sync, S: Shelf, N: Runner>(
 {
     let mut reader = open_list(alloc, shelf, list)?;
     let mut keys = keys_again(&mut reader, list.count)?;
-    let (bits, cells) = (set.bits(), set.cells());
-    Ok(count_chosen(rt, alloc, runner, true, bits, cells, &mut keys)?)
+    Ok(count_chosen(rt, alloc, runner, Chosen::Present, set, &mut keys)?)
 }
 
-/// Inserts into the cells those keys of the list that the set holds, or where `wanted` is false,
-/// those that it does not hold. `many` is how many positions an earlier reading chose.
-/// They are looked up again, so that a file that changed is found where its count of such keys did.
+/// Inserts the chosen keys of the list. They are looked up again, so that a file that changed is found
+/// where its count of such keys did.
 fn insert_listed<T: Threads + Wait + Sync, S: Shelf, N: Runner>(
     rt: &T,
     alloc: Global,
     shelf: &mut S,
     runner: &mut N,
-    wanted: bool,
-    many: u64,
-    set: &SeqSet,
-    bits: u32,
-    cells: &mut Vec<u64>,
+    choice: &Choice<'_>,
+    scratch: &mut Scratch,
     list: &KeyList<'_>,
 ) -> Result<Tally, Cause>
-    requires layout { IsLayout bits cells.old.items }
-    requires room { finset.len (keys_of cells.old.items) + many < 2 ^ bits }
-    ensures layout { OnOk result (IsLayout bits cells.new.items) }
-    ensures free { OnOk result (finset.len (keys_of cells.new.items) < 2 ^ bits) }
+    requires layout { IsLayout scratch.old.bits scratch.old.cells.items }
+    requires room { finset.len (keys_of scratch.old.cells.items) + choice.now.many
+        < 2 ^ scratch.old.bits }
+    ensures bits { scratch.new.bits ≡ scratch.old.bits }
+    ensures layout { OnOk result (IsLayout scratch.new.bits scratch.new.cells.items) }
+    ensures free { OnOk result (finset.len (keys_of scratch.new.cells.items)
+        < 2 ^ scratch.new.bits) }
     ensures inserted { IfOk result (λ told. (keys : List ℕ) × Gave (S.files shelf.old) list.now keys
-        × (length (chosen wanted set.now.keys keys) ≡ many)
-        × Ran Insert bits (chosen wanted set.now.keys keys) cells.old.items cells.new.items told) }
+        × (length (by_choice choice.now keys) ≡ choice.now.many)
+        × Ran Insert scratch.old.bits (by_choice choice.now keys) scratch.old.cells.items
+        scratch.new.cells.items told) }
     ensures memory { (files : Files) → S.files shelf.old ≡ Some files → IfErr result
         (WantedAfter (count_again list.now.count (bytes_at files list.now.source))
         (Rose (S.failures shelf.old) (S.failures shelf.new))) }
     ensures refused { (files : Files) → S.files shelf.old ≡ Some files → IfErr result
         (RefusedAgain (keys_again list.now.count (bytes_at files list.now.source))
-        (chosen wanted set.now.keys) many
+        (by_choice choice.now) choice.now.many
         (PhaseFails (Rose (S.failures shelf.old) (S.failures shelf.new))
         (Rose (N.refused_starts runner.old) (N.refused_starts runner.new)))) }
     ensures shelf { KeepsShelf (S.files shelf.old) (S.files shelf.new) (S.failures shelf.old)
@@ -259,22 +263,18 @@ fn insert_listed<T: Threads + Wait + Sync, S: Shelf, N: Runner>(
 {
     let mut reader = open_list(alloc, shelf, list)?;
     let mut keys = keys_again(&mut reader, list.count)?;
-    Ok(insert_chosen(
-        rt,
-        alloc,
-        runner,
-        wanted,
-        many,
-        set.bits(),
-        set.cells(),
-        bits,
-        cells,
-        &mut keys,
-    )?)
+    Ok(insert_chosen(rt, alloc, runner, choice, scratch, &mut keys)?)
+}
+
+/// What was counted while a list was flipped.
+#[derive(Clone, Copy, Debug, PartialEq, Eq)]
+pub struct Flips {
+    pub removed: Tally,
+    pub added: Tally,
 }
 
 /// Takes the keys of the list that the set holds out of it, and adds the others, in a table that
-/// has grown for those; answers what was counted of the two. The list is read twice.
+/// has grown for those. The list is read twice.
 pub fn flip<T: Threads + Wait + Sync, S: Shelf, N: Runner>(
     rt: &T,
     alloc: Global,
@@ -282,7 +282,7 @@ pub fn flip<T: Threads + Wait + Sync, S: Shelf, N: Runner>(
     runner: &mut N,
     set: &mut SeqSet,
     list: &KeyList<'_>,
-) -> Result<(Tally, Tally), Cause>
+) -> Result<Flips, Cause>
     ensures flipped { IfOk result (λ told. (first : List ℕ) × (second : List ℕ)
         × Gave (S.files shelf.old) list.now first × Gave (S.files shelf.old) list.now second
         × Flipped first second set.old set.new told) }
@@ -300,17 +300,25 @@ pub fn flip<T: Threads + Wait + Sync, S: Shelf, N: Runner>(
         result }
     ensures no_write { IfErr result (λ cause. cause ≡ Cause.Write → ⊥) }
 {
-    let (rest, removed, absent) = without_listed(rt, alloc, shelf, runner, set, list)?;
-    let (bits, mut cells) = grown(alloc, &rest, absent)?;
-    let added = insert_listed(
-        rt, alloc, shelf, runner, false, absent, set, bits, &mut cells, list,
-    )?;
-    *set = SeqSet::from_cells(bits, cells);
-    Ok((removed, added))
+    let rest = without_listed(rt, alloc, shelf, runner, set, list)?;
+    let many = rest.removed.absent;
+    let mut scratch = grown(alloc, &rest.set, many)?;
+    let chosen = Chosen::Absent;
+    let choice = Choice { chosen, set, many };
+    let added = insert_listed(rt, alloc, shelf, runner, &choice, &mut scratch, list)?;
+    *set = SeqSet::from_cells(scratch.bits, scratch.cells);
+    let removed = rest.removed.tally;
+    Ok(Flips { removed, added })
 }
 
-/// A copy of the set without the keys of the list, what was counted, and how many positions of the
-/// list have a key that the set does not hold.
+/// A set without the keys of a list, and what was counted.
+#[derive(Drop)]
+struct Rest {
+    set: SeqSet,
+    removed: Removed,
+}
+
+/// A copy of the set without the keys of the list.
 fn without_listed<T: Threads + Wait + Sync, S: Shelf, N: Runner>(
     rt: &T,
     alloc: Global,
@@ -318,9 +326,10 @@ fn without_listed<T: Threads + Wait + Sync, S: Shelf, N: Runner>(
     runner: &mut N,
     set: &SeqSet,
     list: &KeyList<'_>,
-) -> Result<(SeqSet, Tally, u64), Cause>
+) -> Result<Rest, Cause>
     ensures dropped { IfOk result (λ r. (keys : List ℕ) × Gave (S.files shelf.old) list.now keys
-        × Dropped keys set.now r.0 r.1 × (r.2 ≡ length (chosen false set.now.keys keys))) }
+        × Dropped keys set.now r.set r.removed.tally
+        × (r.removed.absent ≡ length (chosen Absent set.now.keys keys))) }
     ensures memory { (files : Files) → S.files shelf.old ≡ Some files → IfErr result
         (WantedAfter (count_again list.now.count (bytes_at files list.now.source))
         (Rose (S.failures shelf.old) (S.failures shelf.new))) }
@@ -336,12 +345,10 @@ fn without_listed<T: Threads + Wait + Sync, S: Shelf, N: Runner>(
 {
     let mut reader = open_list(alloc, shelf, list)?;
     let mut keys = keys_again(&mut reader, list.count)?;
-    let (bits, mut cells) = copied(alloc, set)?;
-    let old = set.cells();
-    let (removed, absent) = remove_and_count_absent(
-        rt, alloc, runner, bits, old, &mut cells, &mut keys,
-    )?;
-    Ok((SeqSet::from_cells(bits, cells), removed, absent))
+    let mut scratch = copied(alloc, set)?;
+    let removed = remove_and_count_absent(rt, alloc, runner, set, &mut scratch, &mut keys)?;
+    let set = SeqSet::from_cells(scratch.bits, scratch.cells);
+    Ok(Rest { set, removed })
 }
 
 /// The keys of the set, in rising order, as a list whose key file stands in memory.

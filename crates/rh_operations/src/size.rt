@@ -10,16 +10,17 @@ ghost use Rattle.rh_operations.specs.Refusals.{MemoryFails};
 use crate::cause::Cause;
 use rh_edit::SeqSet;
 use rh_grow::{bits_for, grow};
+use rh_runner::Scratch;
 use std::alloc::{AllocError, Global};
 
 #[tactic(auto, using(crate::proofs::SizeLemmas::sized, crate::proofs::SizeLemmas::not_sized, crate::proofs::SizeLemmas::fits_below))]
-/// A copy of the set's table that takes `more` keys too, and its bits: the least that do, and none
+/// A copy of the set's table that takes `more` keys too. Its bits are the least that do, and none
 /// fewer.
-pub(crate) fn grown(alloc: Global, set: &SeqSet, more: u64) -> Result<(u32, Vec<u64>), Cause>
-    ensures size { IfOk result (λ t. size_for set.now.bits (finset.len set.now.keys + more) ≡ Ok t.0) }
-    ensures layout { IfOk result (λ t. IsLayout t.0 t.1.items) }
-    ensures keys { IfOk result (λ t. keys_of t.1.items ≡ set.now.keys) }
-    ensures room { IfOk result (λ t. finset.len set.now.keys + more < 2 ^ t.0) }
+pub(crate) fn grown(alloc: Global, set: &SeqSet, more: u64) -> Result<Scratch, Cause>
+    ensures size { IfOk result (λ t. size_for set.now.bits (finset.len set.now.keys + more) ≡ Ok t.bits) }
+    ensures layout { IfOk result (λ t. IsLayout t.bits t.cells.items) }
+    ensures keys { IfOk result (λ t. keys_of t.cells.items ≡ set.now.keys) }
+    ensures room { IfOk result (λ t. finset.len set.now.keys + more < 2 ^ t.bits) }
     ensures refused { IfErr result
         (RefusedBy (size_for set.now.bits (finset.len set.now.keys + more)) MemoryFails) }
     ensures memory { IfErr result (λ cause. cause ≡ Cause.Memory →
@@ -33,17 +34,19 @@ pub(crate) fn grown(alloc: Global, set: &SeqSet, more: u64) -> Result<(u32, Vec<
     if size == set.bits() {
         return Ok(copied(alloc, set)?);
     }
-    Ok((size, grow(alloc, set.bits(), set.cells(), size)?))
+    let cells = grow(alloc, set.bits(), set.cells(), size)?;
+    Ok(Scratch { bits: size, cells })
 }
 
-/// A copy of the set's table as it is, and its bits.
-pub(crate) fn copied(alloc: Global, set: &SeqSet) -> Result<(u32, Vec<u64>), AllocError>
-    ensures bits { IfOk result (λ t. t.0 ≡ set.now.bits) }
-    ensures layout { IfOk result (λ t. IsLayout t.0 t.1.items) }
-    ensures keys { IfOk result (λ t. keys_of t.1.items ≡ set.now.keys) }
-    ensures room { IfOk result (λ t. finset.len set.now.keys < 2 ^ t.0) }
+/// A copy of the set's table as it is.
+pub(crate) fn copied(alloc: Global, set: &SeqSet) -> Result<Scratch, AllocError>
+    ensures bits { IfOk result (λ t. t.bits ≡ set.now.bits) }
+    ensures layout { IfOk result (λ t. IsLayout t.bits t.cells.items) }
+    ensures keys { IfOk result (λ t. keys_of t.cells.items ≡ set.now.keys) }
+    ensures room { IfOk result (λ t. finset.len set.now.keys < 2 ^ t.bits) }
 {
     let mut cells = Vec::new(alloc);
     cells.extend_from_slice(set.cells())?;
-    Ok((set.bits(), cells))
+    let bits = set.bits();
+    Ok(Scratch { bits, cells })
 }

@@ -10,7 +10,9 @@ use Rattle.std.specs.FinSet.{contains, contains-empty, contains-insert, contains
 use Rattle.rh_layout.specs.Layout.{Keys}
 use Rattle.rh_ledger.specs.declared.tally.Kind.TheVariants.{Insert, Remove}
 use Rattle.rh_ledger.specs.Phase.{set_after}
-use Rattle.rh_runner.specs.Lists.{chosen, is_wanted}
+use Rattle.rh_runner.specs.declared.choice.Chosen.{Chosen}
+use Rattle.rh_runner.specs.declared.choice.Chosen.TheVariants.{Absent, Present}
+use Rattle.rh_runner.specs.Lists.{chosen, is_chosen}
 use Rattle.rh_ranges.specs.Ranges.{flipped, kept}
 
 one_key : (q x : ℕ) → nat_cmp q x ≡ Equal → x ≡ q
@@ -100,19 +102,19 @@ module _ (passes : ℕ → Bool) where
       ]
 
   -- the keys of a list that a set holds, or does not hold
-  still_wanted : (wanted : Bool) (S : Keys) (keys : List ℕ) → filter passes (chosen wanted S keys) ≡ chosen wanted (set.retain S passes) (filter passes keys)
-  still_wanted wanted S [] = refl
-  still_wanted wanted S (k ∷ keys) =
-      let others = still_wanted wanted S keys in
+  still_chosen : (which : Chosen) (S : Keys) (keys : List ℕ) → filter passes (chosen which S keys) ≡ chosen which (set.retain S passes) (filter passes keys)
+  still_chosen which S [] = refl
+  still_chosen which S (k ∷ keys) =
+      let others = still_chosen which S keys in
       elim (cases_Bool (passes k)) [
         | inl let_in ↦
             let there : contains (set.retain S passes) k ≡ contains S k = holds S k ∙ ap (λ b. contains S k && b) let_in ∙ and_true (contains S k) in
-            elim (cases_Bool (is_wanted wanted (contains S k))) [
+            elim (cases_Bool (is_chosen which (contains S k))) [
               | inl chosen_too ↦ rw (let_in, there, chosen_too, let_in) (ap (λ l. k ∷ l) others)
               | inr passed_over ↦ rw (let_in, there, passed_over) others
             ]
         | inr left_out ↦
-            elim (cases_Bool (is_wanted wanted (contains S k))) [
+            elim (cases_Bool (is_chosen which (contains S k))) [
               | inl chosen_too ↦ rw (left_out, chosen_too, left_out) others
               | inr passed_over ↦ rw (left_out, passed_over) others
             ]
@@ -123,12 +125,12 @@ module _ (passes : ℕ → Bool) where
 
   pub kept_only : (S : Keys) (keys : List ℕ) → set.retain (kept S keys) passes ≡ kept (set.retain S passes) (filter passes keys)
   kept_only S keys =
-      inserted nothing (chosen true S keys)
-      ∙ ap (λ (T : Keys). set_after Insert T (filter passes (chosen true S keys))) none_held
-      ∙ ap (λ ks. set_after Insert nothing ks) (still_wanted true S keys)
+      inserted nothing (chosen Present S keys)
+      ∙ ap (λ (T : Keys). set_after Insert T (filter passes (chosen Present S keys))) none_held
+      ∙ ap (λ ks. set_after Insert nothing ks) (still_chosen Present S keys)
 
   pub flipped_only : (S : Keys) (keys : List ℕ) → set.retain (flipped S keys) passes ≡ flipped (set.retain S passes) (filter passes keys)
   flipped_only S keys =
-      inserted (set_after Remove S keys) (chosen false S keys)
-      ∙ ap (λ (T : Keys). set_after Insert T (filter passes (chosen false S keys))) (removed S keys)
-      ∙ ap (λ ks. set_after Insert (set_after Remove (set.retain S passes) (filter passes keys)) ks) (still_wanted false S keys)
+      inserted (set_after Remove S keys) (chosen Absent S keys)
+      ∙ ap (λ (T : Keys). set_after Insert T (filter passes (chosen Absent S keys))) (removed S keys)
+      ∙ ap (λ ks. set_after Insert (set_after Remove (set.retain S passes) (filter passes keys)) ks) (still_chosen Absent S keys)

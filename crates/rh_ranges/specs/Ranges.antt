@@ -1,5 +1,5 @@
 -- Keys, lists and sets that are split into ranges. The rule is this project's own.
-use Rattle.std.specs.Prelude.{◌≡◌, ℕ, zero, suc, ◌*◌, ◌/◌, ◌^◌, ◌==◌, Bool, true, false, List, [], ◌++◌, filter}
+use Rattle.std.specs.Prelude.{◌≡◌, ℕ, zero, suc, ◌*◌, ◌/◌, ◌^◌, ◌==◌, Bool, true, List, [], ◌++◌, filter}
 use Rattle.std.specs.FinSet as set
 use Rattle.std.specs.FinSet.{contains}
 use Rattle.rh_edit.specs.Rising.{rising_keys}
@@ -7,6 +7,7 @@ use Rattle.rh_layout.specs.Key.{IsKey}
 use Rattle.rh_layout.specs.Layout.{Keys}
 use Rattle.rh_ledger.specs.Phase.{set_after}
 use Rattle.rh_ledger.specs.declared.tally.Kind.TheVariants.{Insert, Remove}
+use Rattle.rh_runner.specs.declared.choice.Chosen.TheVariants.{Absent, Present}
 use Rattle.rh_runner.specs.Lists.{chosen}
 
 -- the part of so many in which a key stands
@@ -27,11 +28,11 @@ cut parts part S = set.retain S (stands_in parts part)
 
 -- of the keys that are held those of the list
 abbrev pub kept : Keys → List ℕ → Keys
-kept S keys = set_after Insert set.empty (chosen true S keys)
+kept S keys = set_after Insert set.empty (chosen Present S keys)
 
 -- without the keys of the list that were held, and with the others
 abbrev pub flipped : Keys → List ℕ → Keys
-flipped S keys = set_after Insert (set_after Remove S keys) (chosen false S keys)
+flipped S keys = set_after Insert (set_after Remove S keys) (chosen Absent S keys)
 
 abbrev pub AreKeys : Keys → Type 0
 AreKeys S = (k : ℕ) → contains S k ≡ true → IsKey k

@@ -1,5 +1,5 @@
 -- Phases over whole lists of keys, which come in batches.
-use Rattle.std.specs.Prelude.{◌≡◌, ◌≢◌, ◌<◌, ℕ, List, length, All, Bool, not, Option, Some, Ok, if◌then◌else◌}
+use Rattle.std.specs.Prelude.{◌≡◌, ◌≢◌, ◌<◌, ℕ, List, length, All, Bool, not, Option, Some, Ok}
 use Rattle.std.specs.List.{filter}
 use Rattle.std.specs.FinSet.{contains}
 use Rattle.rh_layout.specs.Key.{IsKey}
@@ -11,6 +11,9 @@ use Rattle.rh_ledger.specs.declared.tally.Kind.{Kind}
 use Rattle.rh_ledger.specs.declared.tally.Kind.TheVariants.{Insert, Remove, Ask}
 use Rattle.rh_ledger.specs.declared.tally.Tally.{Tally}
 use Rattle.rh_ledger.specs.Phase.{set_after, tally_of}
+use Rattle.rh_runner.specs.declared.choice.Choice.{Choice}
+use Rattle.rh_runner.specs.declared.choice.Chosen.{Chosen}
+use Rattle.rh_runner.specs.declared.choice.Chosen.TheVariants.{Present, Absent}
 use Rattle.rh_runner.specs.declared.runner.PhaseFault.{PhaseFault}
 use Rattle.rh_runner.specs.declared.runner.PhaseFault.TheVariants.{Memory, NoThread}
 use Rattle.rh_runner.specs.declared.fault.ListFault.{ListFault}
@@ -34,13 +37,17 @@ pub record Ran (kind : Kind) (bits : ℕ) (keys old new : List ℕ) (told : Tall
   pub held : keys_of new ≡ set_after kind (keys_of old) keys
   pub tally : told ≡ tally_of kind (keys_of old) keys
 
--- the answer is the wanted one
-abbrev pub is_wanted : (wanted there : Bool) → Bool
-is_wanted wanted there = if wanted then there else not there
+-- whether a key is chosen that is held, or is not
+abbrev pub is_chosen : Chosen → (held : Bool) → Bool
+is_chosen Present held = held
+is_chosen Absent held = not held
 
--- the keys of the list whose membership is the wanted one, repeats kept
-abbrev pub chosen : (wanted : Bool) → Keys → List ℕ → List ℕ
-chosen wanted S list = filter (λ k. is_wanted wanted (contains S k)) list
+-- the chosen keys of the list, repeats kept
+abbrev pub chosen : Chosen → Keys → List ℕ → List ℕ
+chosen which S list = filter (λ k. is_chosen which (contains S k)) list
+
+abbrev pub by_choice : Choice → List ℕ → List ℕ
+by_choice choice list = chosen choice.chosen choice.set.now.keys list
 
 -- Why a phase was not carried out: memory ran out, or the start of a thread was refused, which the runner counted.
 abbrev pub RefusedPhase : (starts starts' : ℕ) → PhaseFault → Type 0
@@ -66,8 +73,8 @@ RefusedBatch left many n m faults.Changed = left < many
 RefusedBatch left many n m (faults.Phase e) = RefusedPhase n m e
 
 -- As `Refused`, but a list may be found changed: only one of which more or fewer places are chosen.
-abbrev pub RefusedFor : Coming → (wanted : Bool) → Keys → (many : ℕ) → (starts starts' : ℕ) → ListFault → Type 0
-RefusedFor coming wanted S many n m (faults.Keys e) = FaultComes coming e
-RefusedFor coming wanted S many n m faults.Changed =
-    (list : List ℕ) → coming ≡ Some (Ok list) → length (chosen wanted S list) ≢ many
-RefusedFor coming wanted S many n m (faults.Phase e) = RefusedPhase n m e
+abbrev pub RefusedFor : Coming → Choice → (starts starts' : ℕ) → ListFault → Type 0
+RefusedFor coming choice n m (faults.Keys e) = FaultComes coming e
+RefusedFor coming choice n m faults.Changed =
+    (list : List ℕ) → coming ≡ Some (Ok list) → length (by_choice choice list) ≢ choice.many
+RefusedFor coming choice n m (faults.Phase e) = RefusedPhase n m e

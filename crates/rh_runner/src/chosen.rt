@@ -1,41 +1,52 @@
 //! Phases over the keys of a list that a table holds, or does not hold.
 
-ghost use Rattle.std.specs.Prelude.{false, ◌≡◌, ◌≢◌, ◌+◌, ◌^◌, ◌<◌, ◌≤◌, ℕ, List, length, take, All};
+ghost use Rattle.std.specs.Prelude.{◌≡◌, ◌≢◌, ◌+◌, ◌^◌, ◌<◌, ◌≤◌, ℕ, List, length, take, All};
 ghost use Rattle.std.specs.Prelude.{IfOk, IfErr, OnOk};
 ghost use Rattle.std.specs.List.{count_by};
-ghost use Rattle.std.specs.FinSet as set;
+ghost use Rattle.std.specs.FinSet as finset;
 ghost use Rattle.rh_layout.specs.Key.{IsKey};
 ghost use Rattle.rh_layout.specs.Layout.{Keys, IsLayout, keys_of};
 ghost use Rattle.rh_ledger.specs.Phase.{looked_up};
 ghost use Rattle.rh_ledger.specs.declared.tally.Kind.TheVariants.{Insert, Remove};
-ghost use Rattle.rh_runner.specs.Lists.{Took, Ran, Refused, RefusedBatch, RefusedFor};
-ghost use Rattle.rh_runner.specs.Lists.{Tells, is_wanted, chosen};
+ghost use Rattle.rh_runner.specs.Lists.{Took, Ran, Refused, RefusedBatch, RefusedFor, by_choice};
+ghost use Rattle.rh_runner.specs.Lists.{Tells, is_chosen, chosen};
+ghost use Rattle.rh_runner.specs.declared.choice.Chosen.TheVariants.{Absent};
 
+use crate::choice::{Choice, Chosen, Scratch};
 use crate::fault::ListFault;
 use crate::lists::phase_room;
 use crate::runner::{PhaseFault, Runner};
+use rh_edit::SeqSet;
 use rh_key_files::KeySource;
 use rh_ledger::{Kind, NONE_YET, Tally, joined};
 use std::alloc::Global;
 use std::sync::Wait;
 use std::thread::Threads;
 
-fn count_wanted(wanted: bool, found: &[bool]) -> usize
-    ensures { result ≡ count_by (is_wanted wanted) found.now }
-{
-    found.iter().filter(|there| **there == wanted).count()
+/// What was counted while the keys of a list were removed.
+#[derive(Clone, Copy, Debug, PartialEq, Eq)]
+pub struct Removed {
+    pub tally: Tally,
+    /// The positions of the list with keys that were not held before.
+    pub absent: u64,
 }
 
-/// Moves the keys whose answer is the wanted one to the front, and answers how many they are.
-fn choose(wanted: bool, found: &[bool], batch: &mut [u64]) -> usize
+fn count_taken(which: Chosen, found: &[bool]) -> usize
+    ensures { result ≡ count_by (is_chosen which) found.now }
+{
+    found.iter().filter(|there| which.takes(**there)).count()
+}
+
+/// Moves the chosen keys to the front, by what was found of each, and answers how many they are.
+fn choose(which: Chosen, found: &[bool], batch: &mut [u64]) -> usize
     requires { length found.now ≡ length batch.old }
     ensures few { result ≤ length batch.new }
     ensures moved { (S : Keys) → found.now ≡ looked_up S batch.old →
-        take result batch.new ≡ chosen wanted S batch.old }
+        take result batch.new ≡ chosen which S batch.old }
 {
     let mut n = 0;
     for (i, there) in found.iter().enumerate() {
-        if *there == wanted {
+        if which.takes(*there) {
             batch[n] = batch[i];
             n += 1;
         }
@@ -43,22 +54,18 @@ fn choose(wanted: bool, found: &[bool], batch: &mut [u64]) -> usize
     n
 }
 
-/// How many places of a list have a key that the table holds, or where `wanted` is false, a key
-/// that it does not hold.
+/// How many positions of a list have a key that is chosen.
 pub fn count_chosen<T: Threads + Wait + Sync, N: Runner, K: KeySource>(
     rt: &T,
     alloc: Global,
     runner: &mut N,
-    wanted: bool,
-    bits: u32,
-    cells: &[u64],
+    which: Chosen,
+    set: &SeqSet,
     keys: &mut K,
 ) -> Result<u64, ListFault>
-    requires layout { IsLayout bits cells.now }
-    requires room { set.len (keys_of cells.now) < 2 ^ bits }
     ensures counted { IfOk result (λ many. (list : List ℕ)
         × Took (K.coming keys.old) (K.left_of keys.old) list
-        × (many ≡ length (chosen wanted (keys_of cells.now) list))) }
+        × (many ≡ length (chosen which set.now.keys list))) }
     ensures refused { IfErr result (Refused (K.coming keys.old)
         (N.refused_starts runner.old) (N.refused_starts runner.new)) }
     ensures told { IfErr result (Tells (K.told_by keys.old) (K.told_by keys.new)) }
@@ -76,73 +83,63 @@ pub fn count_chosen<T: Threads + Wait + Sync, N: Runner, K: KeySource>(
         if n == 0 {
             return Ok(many);
         }
-        let found = runner.ask(rt, alloc, bits, cells, &batch[..n])?;
-        many += count_wanted(wanted, &found) as u64;
+        let found = runner.ask(rt, alloc, set.bits(), set.cells(), &batch[..n])?;
+        many += count_taken(which, &found) as u64;
     }
 }
 
-/// Inserts the chosen keys of a batch, unless they are more than `left`. The batch is used up.
+/// Inserts the chosen keys of a batch, unless they are more than `many`. The batch is used up.
 fn insert_batch<T: Threads + Wait + Sync, N: Runner>(
     rt: &T,
     alloc: Global,
     runner: &mut N,
-    wanted: bool,
-    left: u64,
-    old_bits: u32,
-    old: &[u64],
-    bits: u32,
-    cells: &mut Vec<u64>,
+    choice: &Choice<'_>,
+    scratch: &mut Scratch,
     batch: &mut [u64],
 ) -> Result<Tally, ListFault>
     requires keys { All IsKey batch.old }
-    requires old_layout { IsLayout old_bits old.now }
-    requires old_room { set.len (keys_of old.now) < 2 ^ old_bits }
-    requires layout { IsLayout bits cells.old.items }
-    requires room { set.len (keys_of cells.old.items) + left < 2 ^ bits }
-    ensures done { IfOk result (Ran Insert bits (chosen wanted (keys_of old.now) batch.old)
-        cells.old.items cells.new.items) }
-    ensures few { OnOk result (length (chosen wanted (keys_of old.now) batch.old) ≤ left) }
-    ensures refused { IfErr result
-        (RefusedBatch left (length (chosen wanted (keys_of old.now) batch.old))
+    requires layout { IsLayout scratch.old.bits scratch.old.cells.items }
+    requires room { finset.len (keys_of scratch.old.cells.items) + choice.now.many < 2 ^ scratch.old.bits }
+    ensures bits { scratch.new.bits ≡ scratch.old.bits }
+    ensures done { IfOk result (Ran Insert scratch.old.bits (by_choice choice.now batch.old)
+        scratch.old.cells.items scratch.new.cells.items) }
+    ensures few { OnOk result (length (by_choice choice.now batch.old) ≤ choice.now.many) }
+    ensures refused { IfErr result (RefusedBatch choice.now.many (length (by_choice choice.now batch.old))
         (N.refused_starts runner.old) (N.refused_starts runner.new)) }
     ensures fine { OnOk result (N.refused_starts runner.new ≡ N.refused_starts runner.old) }
     ensures others { IfErr result (λ fault. fault ≢ ListFault.Phase PhaseFault.NoThread →
         N.refused_starts runner.new ≡ N.refused_starts runner.old) }
 {
-    let found = runner.ask(rt, alloc, old_bits, old, batch)?;
-    let n = choose(wanted, &found, batch);
-    if n as u64 > left {
+    let set = choice.set;
+    let found = runner.ask(rt, alloc, set.bits(), set.cells(), batch)?;
+    let n = choose(choice.chosen, &found, batch);
+    if n as u64 > choice.many {
         return Err(ListFault::Changed);
     }
-    Ok(runner.change(rt, alloc, Kind::Insert, bits, cells, &batch[..n])?)
+    let Scratch { bits, cells } = scratch;
+    Ok(runner.change(rt, alloc, Kind::Insert, *bits, cells, &batch[..n])?)
 }
 
-/// Inserts the keys of a list that the old table holds, or where `wanted` is false, those that it
-/// does not hold. `many` is how many places of the list an earlier reading chose: where this one
-/// chooses more or fewer, the list has `Changed`. On a fault the cells may hold some of the keys.
+/// Inserts the chosen keys of a list. Where this reading chooses more or fewer than the earlier one,
+/// the list has `Changed`. On a fault the table may hold some of the keys.
 /// It is told as soon as too many are chosen, so a bad key behind them may be told first or not.
 pub fn insert_chosen<T: Threads + Wait + Sync, N: Runner, K: KeySource>(
     rt: &T,
     alloc: Global,
     runner: &mut N,
-    wanted: bool,
-    many: u64,
-    old_bits: u32,
-    old: &[u64],
-    bits: u32,
-    cells: &mut Vec<u64>,
+    choice: &Choice<'_>,
+    scratch: &mut Scratch,
     keys: &mut K,
 ) -> Result<Tally, ListFault>
-    requires old_layout { IsLayout old_bits old.now }
-    requires old_room { set.len (keys_of old.now) < 2 ^ old_bits }
-    requires layout { IsLayout bits cells.old.items }
-    requires room { set.len (keys_of cells.old.items) + many < 2 ^ bits }
+    requires layout { IsLayout scratch.old.bits scratch.old.cells.items }
+    requires room { finset.len (keys_of scratch.old.cells.items) + choice.now.many < 2 ^ scratch.old.bits }
+    ensures bits { scratch.new.bits ≡ scratch.old.bits }
     ensures done { IfOk result (λ t. (list : List ℕ)
         × Took (K.coming keys.old) (K.left_of keys.old) list
-        × (length (chosen wanted (keys_of old.now) list) ≡ many)
-        × Ran Insert bits (chosen wanted (keys_of old.now) list) cells.old.items cells.new.items t) }
-    ensures refused { IfErr result
-        (RefusedFor (K.coming keys.old) wanted (keys_of old.now) many
+        × (length (by_choice choice.now list) ≡ choice.now.many)
+        × Ran Insert scratch.old.bits (by_choice choice.now list) scratch.old.cells.items
+        scratch.new.cells.items t) }
+    ensures refused { IfErr result (RefusedFor (K.coming keys.old) choice.now
         (N.refused_starts runner.old) (N.refused_starts runner.new)) }
     ensures told { IfErr result (Tells (K.told_by keys.old) (K.told_by keys.new)) }
     ensures fine { OnOk result (N.refused_starts runner.new ≡ N.refused_starts runner.old) }
@@ -151,17 +148,20 @@ pub fn insert_chosen<T: Threads + Wait + Sync, N: Runner, K: KeySource>(
 {
     let mut room = phase_room(alloc, keys.left(), runner.phase_keys(Kind::Insert))?;
     let room = room.as_mut_slice();
-    let mut left = many;
+    let (chosen, set) = (choice.chosen, choice.set);
+    let mut left = choice.many;
     let mut tally = NONE_YET;
     loop {
         let n = keys.next_keys(room)?;
         if n == 0 {
             break;
         }
-        let batch = &mut room[..n];
-        let told = insert_batch(
-            rt, alloc, runner, wanted, left, old_bits, old, bits, cells, batch,
-        )?;
+        let rest = Choice {
+            chosen,
+            set,
+            many: left,
+        };
+        let told = insert_batch(rt, alloc, runner, &rest, scratch, &mut room[..n])?;
         left -= told.read;
         tally = joined(tally, told).unwrap();
     }
@@ -171,25 +171,23 @@ pub fn insert_chosen<T: Threads + Wait + Sync, N: Runner, K: KeySource>(
     Ok(tally)
 }
 
-/// Removes all keys of a list, and counts its places with keys that the old table, of the same
-/// size, does not hold. On a fault some of the keys may be removed.
+/// Removes all keys of a list, and counts its positions with keys that the set does not hold. On a
+/// fault some of the keys may be removed.
 pub fn remove_and_count_absent<T: Threads + Wait + Sync, N: Runner, K: KeySource>(
     rt: &T,
     alloc: Global,
     runner: &mut N,
-    bits: u32,
-    old: &[u64],
-    cells: &mut Vec<u64>,
+    set: &SeqSet,
+    scratch: &mut Scratch,
     keys: &mut K,
-) -> Result<(Tally, u64), ListFault>
-    requires old_layout { IsLayout bits old.now }
-    requires old_room { set.len (keys_of old.now) < 2 ^ bits }
-    requires layout { IsLayout bits cells.old.items }
-    requires room { set.len (keys_of cells.old.items) < 2 ^ bits }
+) -> Result<Removed, ListFault>
+    requires layout { IsLayout scratch.old.bits scratch.old.cells.items }
+    requires room { finset.len (keys_of scratch.old.cells.items) < 2 ^ scratch.old.bits }
+    ensures bits { scratch.new.bits ≡ scratch.old.bits }
     ensures done { IfOk result (λ r. (list : List ℕ)
         × Took (K.coming keys.old) (K.left_of keys.old) list
-        × Ran Remove bits list cells.old.items cells.new.items r.0
-        × (r.1 ≡ length (chosen false (keys_of old.now) list))) }
+        × Ran Remove scratch.old.bits list scratch.old.cells.items scratch.new.cells.items r.tally
+        × (r.absent ≡ length (chosen Absent set.now.keys list))) }
     ensures refused { IfErr result (Refused (K.coming keys.old)
         (N.refused_starts runner.old) (N.refused_starts runner.new)) }
     ensures told { IfErr result (Tells (K.told_by keys.old) (K.told_by keys.new)) }
@@ -201,16 +199,17 @@ pub fn remove_and_count_absent<T: Threads + Wait + Sync, N: Runner, K: KeySource
     let most = keys.left();
     let mut room = phase_room(alloc, most, runner.phase_keys(Kind::Remove))?;
     let batch = room.as_mut_slice();
+    let Scratch { bits, cells } = scratch;
     let mut tally = NONE_YET;
     let mut absent = 0;
     loop {
         let n = keys.next_keys(batch)?;
         if n == 0 {
-            return Ok((tally, absent));
+            return Ok(Removed { tally, absent });
         }
-        let found = runner.ask(rt, alloc, bits, old, &batch[..n])?;
-        absent += count_wanted(false, &found) as u64;
-        let told = runner.change(rt, alloc, Kind::Remove, bits, cells, &batch[..n])?;
+        let found = runner.ask(rt, alloc, set.bits(), set.cells(), &batch[..n])?;
+        absent += count_taken(Chosen::Absent, &found) as u64;
+        let told = runner.change(rt, alloc, Kind::Remove, *bits, cells, &batch[..n])?;
         tally = joined(tally, told).unwrap();
     }
 }

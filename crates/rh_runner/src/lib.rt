@@ -17,13 +17,15 @@
 //!   told none. A start that was refused is told as that.
 #![tactic(auto)]
 
+mod choice;
 mod chosen;
 mod fault;
 mod lists;
 mod runner;
 mod single;
 
-pub use chosen::{count_chosen, insert_chosen, remove_and_count_absent};
+pub use choice::{Choice, Chosen, Scratch};
+pub use chosen::{Removed, count_chosen, insert_chosen, remove_and_count_absent};
 pub use fault::ListFault;
 pub use lists::{BATCH, LOOK_UPS, PHASE, ask_all, change_all, read_through};
 pub use runner::{PhaseFault, Runner};

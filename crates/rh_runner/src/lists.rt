@@ -7,6 +7,7 @@ ghost use Rattle.rh_key_files.specs.Source.{FaultComes};
 ghost use Rattle.rh_ledger.specs.Phase.{looked_up};
 ghost use Rattle.rh_runner.specs.Lists.{Took, Ran, Refused, Tells, may_add};
 
+use crate::choice::Scratch;
 use crate::fault::ListFault;
 use crate::runner::{PhaseFault, Runner};
 use rh_grow::{LOAD_DENOMINATOR, LOAD_NUMERATOR};
@@ -48,23 +49,23 @@ pub fn read_through<K: KeySource>(keys: &mut K) -> Result<(), KeyFault>
     Ok(())
 }
 
-/// Inserts or removes all keys of a list. On a fault the cells may hold some of the changes.
+/// Inserts or removes all keys of a list. On a fault the table may hold some of the changes.
 pub fn change_all<T: Threads + Wait + Sync, N: Runner, K: KeySource>(
     rt: &T,
     alloc: Global,
     runner: &mut N,
     kind: Kind,
-    bits: u32,
-    cells: &mut Vec<u64>,
+    scratch: &mut Scratch,
     keys: &mut K,
 ) -> Result<Tally, ListFault>
     requires kind { kind ≢ Kind.Ask }
-    requires layout { IsLayout bits cells.old.items }
-    requires room { set.len (keys_of cells.old.items)
-        + may_add kind (K.left_of keys.old) < 2 ^ bits }
+    requires layout { IsLayout scratch.old.bits scratch.old.cells.items }
+    requires room { set.len (keys_of scratch.old.cells.items)
+        + may_add kind (K.left_of keys.old) < 2 ^ scratch.old.bits }
+    ensures bits { scratch.new.bits ≡ scratch.old.bits }
     ensures done { IfOk result (λ t. (list : List ℕ)
         × Took (K.coming keys.old) (K.left_of keys.old) list
-        × Ran kind bits list cells.old.items cells.new.items t) }
+        × Ran kind scratch.old.bits list scratch.old.cells.items scratch.new.cells.items t) }
     ensures refused { IfErr result (Refused (K.coming keys.old)
         (N.refused_starts runner.old) (N.refused_starts runner.new)) }
     ensures told { IfErr result (Tells (K.told_by keys.old) (K.told_by keys.new)) }
@@ -76,13 +77,14 @@ pub fn change_all<T: Threads + Wait + Sync, N: Runner, K: KeySource>(
     let most = keys.left();
     let mut room = phase_room(alloc, most, runner.phase_keys(kind))?;
     let batch = room.as_mut_slice();
+    let Scratch { bits, cells } = scratch;
     let mut tally = NONE_YET;
     loop {
         let n = keys.next_keys(batch)?;
         if n == 0 {
             return Ok(tally);
         }
-        let told = runner.change(rt, alloc, kind, bits, cells, &batch[..n])?;
+        let told = runner.change(rt, alloc, kind, *bits, cells, &batch[..n])?;
         tally = joined(tally, told).unwrap();
     }
 }

@@ -1,5 +1,5 @@
 -- Only what a script reads of the files matters.
-use Rattle.std.proofs.Common.{◌≡◌, ◌∙◌, ap, sym, subst, refl, ℕ, ◌+◌, true, false, cond, List, [], ◌∷◌, length, Option, Some, None, option_map, Result, Ok, Err}
+use Rattle.std.proofs.Common.{◌≡◌, ◌∙◌, ap, sym, subst, refl, ℕ, ◌+◌, cond, List, [], ◌∷◌, length, Option, Some, None, option_map, Result, Ok, Err}
 use Rattle.std.specs.FinSet as set
 use Rattle.std.specs.Str.{bytes_eq}
 use Rattle.std.specs.Io.KnownBytes.{Appends}
@@ -8,6 +8,7 @@ use Rattle.rh_layout.specs.declared.limits.TheConstants.{MIN_BITS}
 use Rattle.rh_edit.specs.Held.{Held}
 use Rattle.rh_ledger.specs.declared.tally.Kind.TheVariants.{Insert, Remove}
 use Rattle.rh_ledger.specs.Phase.{set_after, tally_of}
+use Rattle.rh_runner.specs.declared.choice.Chosen.TheVariants.{Absent, Present}
 use Rattle.rh_runner.specs.Lists.{chosen}
 use Rattle.rh_script.specs.Instruction.{Instruction, Numbered, Use, Add, Drop, Ask, Keep, Flip, Save, Clear, Dump, Snapshot, Restore}
 use Rattle.rh_shelf.specs.Shelf.{Files}
@@ -71,11 +72,11 @@ module _ (P : List ℕ → Type 0) where
     outcome_same (Drop name) reads = (g, refl, same)
     outcome_same (Ask name) reads = (g, refl, same)
     outcome_same (Keep name) reads =
-        sized_same (size_for MIN_BITS (length (chosen true w.held (list_of name w.lists)))) (set_after Insert set.empty (chosen true w.held (list_of name w.lists)))
-        (λ x. accounts.Kept name (length (list_of name w.lists)) (length (chosen true w.held (list_of name w.lists))) (set.len (set_after Insert set.empty (chosen true w.held (list_of name w.lists)))) x)
+        sized_same (size_for MIN_BITS (length (chosen Present w.held (list_of name w.lists)))) (set_after Insert set.empty (chosen Present w.held (list_of name w.lists)))
+        (λ x. accounts.Kept name (length (list_of name w.lists)) (length (chosen Present w.held (list_of name w.lists))) (set.len (set_after Insert set.empty (chosen Present w.held (list_of name w.lists)))) x)
     outcome_same (Flip name) reads =
-        sized_same (size_for w.bits (set.len (set_after Remove w.held (list_of name w.lists)) + length (chosen false w.held (list_of name w.lists)))) ((set_after Insert (set_after Remove w.held (list_of name w.lists)) (chosen false w.held (list_of name w.lists))))
-        (λ x. accounts.Flipped name (length (list_of name w.lists)) (tally_of Remove w.held (list_of name w.lists)).removed (tally_of Insert (set_after Remove w.held (list_of name w.lists)) (chosen false w.held (list_of name w.lists))).added (set.len (set_after Insert (set_after Remove w.held (list_of name w.lists)) (chosen false w.held (list_of name w.lists)))) x)
+        sized_same (size_for w.bits (set.len (set_after Remove w.held (list_of name w.lists)) + length (chosen Absent w.held (list_of name w.lists)))) ((set_after Insert (set_after Remove w.held (list_of name w.lists)) (chosen Absent w.held (list_of name w.lists))))
+        (λ x. accounts.Flipped name (length (list_of name w.lists)) (tally_of Remove w.held (list_of name w.lists)).removed (tally_of Insert (set_after Remove w.held (list_of name w.lists)) (chosen Absent w.held (list_of name w.lists))).added (set.len (set_after Insert (set_after Remove w.held (list_of name w.lists)) (chosen Absent w.held (list_of name w.lists)))) x)
     outcome_same (Save name) reads = (g, refl, same)
     outcome_same Clear reads = (g, refl, same)
     outcome_same Dump reads = (g, refl, same)

@@ -1,7 +1,7 @@
 -- What a script means: what its commands make, one after the other, of a set, the bits of its
 -- table, the lists that have a name and the files, and what each has to report. It ends at the first command that is
 -- refused.
-use Rattle.std.specs.Prelude.{ℕ, ◌+◌, true, false, List, [], ◌∷◌, ◌++◌, length, Option, Some, None, Result, Ok, Err, unwrap_or}
+use Rattle.std.specs.Prelude.{ℕ, ◌+◌, List, [], ◌∷◌, ◌++◌, length, Option, Some, None, Result, Ok, Err, unwrap_or}
 use Rattle.std.specs.FinSet as set
 use Rattle.std.specs.Str.{bytes_eq}
 use Rattle.std.specs.Map.{lookup}
@@ -14,6 +14,7 @@ use Rattle.rh_ledger.specs.Phase.{set_after, tally_of, looked_up}
 use Rattle.rh_key_files.specs.declared.fault.KeyFault.TheVariants.{NotKeys}
 use Rattle.rh_key_files.specs.Source.{keys_of_file}
 use Rattle.rh_snapshot.specs.Reading.{file_table}
+use Rattle.rh_runner.specs.declared.choice.Chosen.TheVariants.{Absent, Present}
 use Rattle.rh_runner.specs.Lists.{chosen}
 use Rattle.rh_script.specs.Instruction.{Instruction, Numbered}
 use Rattle.rh_script.specs.Instruction as instructions
@@ -89,7 +90,7 @@ asks w name keys = Ok (w, Asked name (looked_up w.held keys))
 -- of the keys that are held, those of the list are kept
 abbrev pub keeps : ScriptState → (name keys : List ℕ) → Outcome
 keeps w name keys =
-    let found = chosen true w.held keys in
+    let found = chosen Present w.held keys in
     let held = set_after Insert set.empty found in
     size_for MIN_BITS (length found)
     >>= (λ bits. Ok (record w { held = held; bits = bits }, Kept name (length keys) (length found) (set.len held) bits))
@@ -97,7 +98,7 @@ keeps w name keys =
 -- the keys of the list that are held are dropped, and the others are added
 abbrev pub flips : ScriptState → (name keys : List ℕ) → Outcome
 flips w name keys =
-    let others = chosen false w.held keys in
+    let others = chosen Absent w.held keys in
     let left = set_after Remove w.held keys in
     let held = set_after Insert left others in
     size_for w.bits (set.len left + length others)

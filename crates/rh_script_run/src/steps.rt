@@ -85,8 +85,8 @@ pub(crate) fn change_step<'a, T: Threads + Wait + Sync, S: Shelf, N: Runner>(
             Ok(changed(set, list, name, Change::Kept(found)))
         }
         Action::Flip => {
-            let (out, into) = flip(rt, alloc, shelf, runner, set, list)?;
-            let (removed, added) = (out.removed, into.added);
+            let flips = flip(rt, alloc, shelf, runner, set, list)?;
+            let (removed, added) = (flips.removed.removed, flips.added.added);
             Ok(changed(set, list, name, Change::Flipped { removed, added }))
         }
     }

@@ -44,6 +44,12 @@ fn three_keys(alloc: Global) -> Result<SeqSet, Fail> {
     Ok(SeqSet::from_keys(alloc, 3, &[1, 9, 17])?)
 }
 
+fn scratch_of(set: SeqSet) -> Scratch {
+    let bits = set.bits();
+    let cells = set.into_cells();
+    Scratch { bits, cells }
+}
+
 // What a change of the table of these keys told, and the cells after it.
 type Changed = (Result<Tally, ListFault>, Vec<u64>);
 
@@ -57,9 +63,9 @@ fn change(
     let set = table_of(rt, held)?;
     assert!(rt; set.bits() == BITS && set.len() < 10 && list.left() <= 200_000);
     assert!(rt; kind != Kind::Ask);
-    let mut cells = set.into_cells();
-    let told = change_all(rt, rt.alloc(), runner, kind, BITS, &mut cells, list);
-    Ok((told, cells))
+    let mut scratch = scratch_of(set);
+    let told = change_all(rt, rt.alloc(), runner, kind, &mut scratch, list);
+    Ok((told, scratch.cells))
 }
 
 // Which keys of a list are in the table of 1, 9 and 17.
@@ -73,53 +79,48 @@ fn look_up(
     Ok(ask_all(rt, alloc, runner, bits, cells, list))
 }
 
-// How many keys of a list are in the table of 1, 9 and 17, or are not.
+// How many keys of a list are chosen by the table of 1, 9 and 17.
 fn count(
     rt: &(impl Threads + Wait + Sync + Abort + AllocGlobal),
     runner: &mut impl Runner,
-    wanted: bool,
+    which: Chosen,
     list: &mut impl KeySource,
 ) -> Result<Result<u64, ListFault>, Fail> {
     let set = three_keys(rt.alloc())?;
-    let (alloc, bits, cells) = (rt.alloc(), set.bits(), set.cells());
-    Ok(count_chosen(rt, alloc, runner, wanted, bits, cells, list))
+    Ok(count_chosen(rt, rt.alloc(), runner, which, &set, list))
 }
 
-// Inserts the keys of a list that are in the table of 1, 9 and 17, or are not, which an earlier
-// reading found to be so many.
+// Inserts the keys of a list that are chosen by the table of 1, 9 and 17, which an earlier reading
+// found to be so many.
 fn insert(
     rt: &(impl Threads + Wait + Sync + Abort + AllocGlobal),
-    wanted: bool,
+    chosen: Chosen,
     many: u64,
     held: &[u64],
     list: &mut impl KeySource,
 ) -> Result<Changed, Fail> {
     let set = table_of(rt, held)?;
     assert!(rt; set.bits() == BITS && set.len() < 10 && many <= 200_000);
-    let mut cells = set.into_cells();
-    let old = three_keys(rt.alloc())?;
-    let (alloc, runner) = (rt.alloc(), &mut Single);
-    let (bits, old) = (old.bits(), old.cells());
-    let told = insert_chosen(
-        rt, alloc, runner, wanted, many, bits, old, BITS, &mut cells, list,
-    );
-    Ok((told, cells))
+    let mut scratch = scratch_of(set);
+    let three = three_keys(rt.alloc())?;
+    let set = &three;
+    let choice = Choice { chosen, set, many };
+    let told = insert_chosen(rt, rt.alloc(), &mut Single, &choice, &mut scratch, list);
+    Ok((told, scratch.cells))
 }
 
-// Removes the keys of a list, and counts those that another table does not hold.
+// Removes the keys of a list, and counts those that another set does not hold.
 fn remove(
     rt: &(impl Threads + Wait + Sync + Abort + AllocGlobal),
     old: &[u64],
     held: &[u64],
     list: &mut impl KeySource,
-) -> Result<(Result<(Tally, u64), ListFault>, Vec<u64>), Fail> {
+) -> Result<(Result<Removed, ListFault>, Vec<u64>), Fail> {
     let old = table_of(rt, old)?;
     let set = table_of(rt, held)?;
-    assert!(rt; old.bits() == BITS && set.bits() == BITS);
-    let mut cells = set.into_cells();
-    let (alloc, old) = (rt.alloc(), old.cells());
-    let told = remove_and_count_absent(rt, alloc, &mut Single, BITS, old, &mut cells, list);
-    Ok((told, cells))
+    let mut scratch = scratch_of(set);
+    let told = remove_and_count_absent(rt, rt.alloc(), &mut Single, &old, &mut scratch, list);
+    Ok((told, scratch.cells))
 }
 
 // The cells are those of the table of these keys.
@@ -159,8 +160,8 @@ fn a_long_list_is_looked_up(rt: HostRuntime) -> Result<(), Fail> {
 #[test]
 fn the_found_of_a_long_list_are_counted(rt: HostRuntime) -> Result<(), Fail> {
     let keys = many_keys(rt.alloc())?;
-    for (wanted, many) in [(true, 3), (false, 199_997)] {
-        let told = count(&rt, &mut Single, wanted, &mut list_of(&rt, &keys))?;
+    for (which, many) in [(Chosen::Present, 3), (Chosen::Absent, 199_997)] {
+        let told = count(&rt, &mut Single, which, &mut list_of(&rt, &keys))?;
         assert_eq!(rt; told, Ok(many));
     }
     Ok(())
@@ -193,18 +194,18 @@ const MANY_CHOICES: &[(u64, Result<Tally, ListFault>)] = &[
 fn chosen_keys_of_a_long_list(rt: HostRuntime) -> Result<(), Fail> {
     let keys = many_keys(rt.alloc())?;
     for &(many, told) in MANY_CHOICES {
-        let (found, _) = insert(&rt, false, many, &[], &mut list_of(&rt, &keys))?;
+        let (found, _) = insert(&rt, Chosen::Absent, many, &[], &mut list_of(&rt, &keys))?;
         assert_eq!(rt; found, told);
     }
     Ok(())
 }
 
-// Each row: whether the keys are wanted that are there, how many an earlier reading found, and what
-// comes of the list 9, 3, 3, 17 in the table of 1, 9 and 17.
-const FEW_CHOICES: &[(bool, u64, Result<Tally, ListFault>)] = &[
-    (false, 1, CHANGED),
+// Each row: which keys are chosen, how many an earlier reading found, and what comes of the list 9, 3, 3,
+// 17 in the table of 1, 9 and 17.
+const FEW_CHOICES: &[(Chosen, u64, Result<Tally, ListFault>)] = &[
+    (Chosen::Absent, 1, CHANGED),
     (
-        false,
+        Chosen::Absent,
         2,
         Ok(Tally {
             read: 2,
@@ -212,16 +213,16 @@ const FEW_CHOICES: &[(bool, u64, Result<Tally, ListFault>)] = &[
             ..NOTHING
         }),
     ),
-    (false, 3, CHANGED),
-    (true, 2, Ok(Tally { read: 2, ..NOTHING })),
-    (true, 0, CHANGED),
+    (Chosen::Absent, 3, CHANGED),
+    (Chosen::Present, 2, Ok(Tally { read: 2, ..NOTHING })),
+    (Chosen::Present, 0, CHANGED),
 ];
 
 #[test]
 fn chosen_keys_of_a_short_list(rt: HostRuntime) -> Result<(), Fail> {
-    for &(wanted, many, told) in FEW_CHOICES {
+    for &(chosen, many, told) in FEW_CHOICES {
         let mut list = list_of(&rt, &[9, 3, 3, 17]);
-        let (found, _) = insert(&rt, wanted, many, &[1, 9, 17], &mut list)?;
+        let (found, _) = insert(&rt, chosen, many, &[1, 9, 17], &mut list)?;
         assert_eq!(rt; found, told);
     }
     Ok(())
@@ -236,7 +237,8 @@ fn keys_are_removed_and_the_absent_counted(rt: HostRuntime) -> Result<(), Fail> 
         removed: 2,
         ..NOTHING
     };
-    assert_eq!(rt; told, Ok((tally, 2)));
+    let absent = 2;
+    assert_eq!(rt; told, Ok(Removed { tally, absent }));
     assert_holds(&rt, &cells, &[1, 17])
 }
 
@@ -283,7 +285,7 @@ fn faults_of_the_runner_are_told(rt: HostRuntime) -> Result<(), Fail> {
     let no_thread = ListFault::Phase(PhaseFault::NoThread);
     let asked = look_up(&rt, &mut refusing, &mut { list })?;
     assert_eq!(rt; asked.err(), Some(no_thread));
-    let counted = count(&rt, &mut refusing, true, &mut { list })?;
+    let counted = count(&rt, &mut refusing, Chosen::Present, &mut { list })?;
     assert_eq!(rt; counted.err(), Some(no_thread));
     let (told, _) = change(&rt, &mut refusing, Kind::Remove, &[9], &mut { list })?;
     assert_eq!(rt; told.err(), Some(ListFault::Phase(PhaseFault::Memory)));

@@ -55,7 +55,7 @@ fn one_worker_looks_up_4096_keys_at_a_time(rt: HostRuntime) -> Result<(), Fail> 
 fn one_worker_counts_the_found_of_4096_keys(rt: HostRuntime) -> Result<(), Fail> {
     let keys = many_keys(rt.alloc())?;
     let mut list = watched(&rt, &keys);
-    count(&rt, &mut Single, true, &mut list)??;
+    count(&rt, &mut Single, Chosen::Present, &mut list)??;
     assert_eq!(rt; list.longest, 4_096);
     Ok(())
 }
@@ -85,7 +85,7 @@ fn one_worker_inserts_4096_keys_at_a_time(rt: HostRuntime) -> Result<(), Fail> {
 fn one_worker_inserts_the_chosen_of_4096_keys(rt: HostRuntime) -> Result<(), Fail> {
     let keys = many_keys(rt.alloc())?;
     let mut list = watched(&rt, &keys);
-    let (told, _) = insert(&rt, false, 199_997, &[], &mut list)?;
+    let (told, _) = insert(&rt, Chosen::Absent, 199_997, &[], &mut list)?;
     assert!(rt; told.is_ok());
     assert_eq!(rt; list.longest, 4_096);
     Ok(())
@@ -124,7 +124,7 @@ fn a_list_is_looked_up_whole(rt: HostRuntime) -> Result<(), Fail> {
     assert!(rt; look_up(&rt, &mut refusing, &mut list)?.is_err());
     assert_eq!(rt; list.longest, 200_000);
     let mut list = watched(&rt, &keys);
-    assert!(rt; count(&rt, &mut refusing, true, &mut list)?.is_err());
+    assert!(rt; count(&rt, &mut refusing, Chosen::Present, &mut list)?.is_err());
     assert_eq!(rt; list.longest, 200_000);
     Ok(())
 }

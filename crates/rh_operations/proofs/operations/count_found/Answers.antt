@@ -1,17 +1,14 @@
-use Rattle.std.proofs.Common.{◌∙◌, ap, length, true}
 use Rattle.std.proofs.lemmas.Result.{err_from_is_err_and}
 use Rattle.rh_key_files.specs.Counting.{Rose}
 use Rattle.rh_operations.specs.Found.{count_again, keys_found}
 use Rattle.rh_operations.specs.KeyLists.{bytes_at}
 use Rattle.rh_operations.proofs.AgainLemmas.{gave, is_again, later_refused, not_again, not_opened, rest_refused}
-use Rattle.rh_layout.specs.Layout.{Keys}
-use Rattle.rh_runner.specs.Lists.{chosen}
 use Rattle.rh_operations.proofs.operations.count_found.Goals as goal
 
 pub returns-clause-found : goal.returns-clause-found
 returns-clause-found g c =
     let done = c.in_ok-count_chosen.ensures.counted in
-    (done.0, gave _ _ _ _ _ done.0 c.in_ok-reader.ensures.opened c.in_ok-keys.ensures.coming done.1 c.in_ok-keys.ensures.left, done.2 ∙ ap (λ (S : Keys). length (chosen true S done.0)) c.cells-cells.ensures.keys)
+    (done.0, gave _ _ _ _ _ done.0 c.in_ok-reader.ensures.opened c.in_ok-keys.ensures.coming done.1 c.in_ok-keys.ensures.left, done.2)
 
 pub returns-in_err-count_chosen-clause-refused : goal.returns-in_err-count_chosen-clause-refused
 returns-in_err-count_chosen-clause-refused g c files known =

@@ -1,4 +1,4 @@
-use Rattle.std.proofs.Common.{◌^◌, ◌<◌, ap, arith}
+use Rattle.std.proofs.Common.{◌∙◌, ◌^◌, ◌<◌, ap, arith}
 use Rattle.std.proofs.lemmas.Result.{err_from_is_err_and}
 use Rattle.rh_key_files.specs.Counting.{Rose}
 use Rattle.rh_operations.specs.Found.{count_again, keys_found}
@@ -12,14 +12,14 @@ use Rattle.rh_operations.proofs.operations.drop_keys.Goals as goal
 pub from_cells-requires-clause-free : goal.from_cells-requires-clause-free
 from_cells-requires-clause-free g c =
     let done = c.in_ok-tally.ensures.done in
-    let old = c.in_ok-bits.cells.items in
-    let room : set.len (keys_of old) < 2 ^ c.in_ok-bits.bits = omega (arith, c.in_ok-bits.ensures.room, ap (λ S. set.len S) c.in_ok-bits.ensures.keys) in
-    free_after_dropping c.in_ok-bits.bits done.0 old c.change_all.new.cells.items c.in_ok-tally.tally done.2 room
+    let old = c.in_ok-scratch.scratch.cells.items in
+    let room : set.len (keys_of old) < 2 ^ c.in_ok-scratch.scratch.bits = omega (arith, c.in_ok-scratch.ensures.room, ap (λ S. set.len S) c.in_ok-scratch.ensures.keys) in
+    rw c.in_ok-tally.ensures.bits (free_after_dropping c.in_ok-scratch.scratch.bits done.0 old c.change_all.new.scratch.cells.items c.in_ok-tally.tally done.2 room)
 
 pub returns-clause-dropped : goal.returns-clause-dropped
 returns-clause-dropped g c =
     let done = c.in_ok-tally.ensures.done in
-    (done.0, gave _ _ _ _ _ done.0 c.in_ok-reader.ensures.opened c.in_ok-keys.ensures.coming done.1 c.in_ok-keys.ensures.left, dropped _ _ _ _ _ _ c.from_cells.result c.in_ok-bits.ensures.keys c.from_cells.ensures.bits c.from_cells.ensures.keys done.2 c.in_ok-bits.ensures.bits)
+    (done.0, gave _ _ _ _ _ done.0 c.in_ok-reader.ensures.opened c.in_ok-keys.ensures.coming done.1 c.in_ok-keys.ensures.left, dropped _ _ _ _ _ _ c.from_cells.result c.in_ok-scratch.ensures.keys (c.from_cells.ensures.bits ∙ c.in_ok-tally.ensures.bits) c.from_cells.ensures.keys done.2 c.in_ok-scratch.ensures.bits)
 
 pub returns-in_err-tally-clause-refused : goal.returns-in_err-tally-clause-refused
 returns-in_err-tally-clause-refused g c files known =

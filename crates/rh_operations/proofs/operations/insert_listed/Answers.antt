@@ -1,33 +1,28 @@
-use Rattle.std.proofs.Common.{◌∙◌, ◌+◌, ◌^◌, ◌<◌, ap, arith, inl, length, subst, sym}
+use Rattle.std.proofs.Common.{◌+◌, ◌^◌, ◌<◌, arith, inl, length}
 use Rattle.std.proofs.lemmas.Result.{err_from_is_err_and}
 use Rattle.rh_key_files.specs.Counting.{Rose}
-use Rattle.rh_key_files.specs.Stream.{coming_of}
 use Rattle.rh_operations.specs.Found.{keys_found}
-use Rattle.rh_operations.specs.KeyLists.{bytes_at, bytes_left}
+use Rattle.rh_operations.specs.KeyLists.{bytes_at}
 use Rattle.rh_operations.proofs.AgainLemmas.{again_refused, gave, is_again, not_again, not_opened}
 use Rattle.std.specs.FinSet as set
-use Rattle.rh_layout.specs.Layout.{Keys, keys_of}
-use Rattle.rh_ledger.specs.declared.tally.Kind.TheVariants.{Insert}
-use Rattle.rh_runner.specs.Lists.{Ran, RefusedFor, chosen}
+use Rattle.rh_layout.specs.Layout.{keys_of}
+use Rattle.rh_runner.specs.Lists.{by_choice}
 use Rattle.rh_operations.proofs.OperationLemmas.{free_after_adding}
 use Rattle.rh_operations.proofs.operations.insert_listed.Goals as goal
 
 pub returns-clause-free : goal.returns-clause-free
 returns-clause-free g c =
     let done = c.in_ok-insert_chosen.ensures.done in
-    let keys = chosen c.args.wanted (keys_of c.cells.result.now) done.0 in
-    let room : set.len (keys_of c.args.cells.now.items) + length keys < 2 ^ c.args.bits = omega (arith, done.2, c.requires.room) in
-    free_after_adding c.args.bits keys c.args.cells.now.items c.insert_chosen.new.cells.items c.in_ok-insert_chosen.field-0 done.3 room
+    let keys = by_choice c.args.choice.now done.0 in
+    let old = c.args.scratch.now in
+    let room : set.len (keys_of old.cells.items) + length keys < 2 ^ old.bits = omega (arith, done.2, c.requires.room) in
+    let free = free_after_adding old.bits keys old.cells.items c.insert_chosen.new.scratch.cells.items c.in_ok-insert_chosen.field-0 done.3 room in
+    rw c.in_ok-insert_chosen.ensures.bits free
 
 pub returns-clause-inserted : goal.returns-clause-inserted
 returns-clause-inserted g c =
     let done = c.in_ok-insert_chosen.ensures.done in
-    let same = c.cells.ensures.keys in (
-      done.0,
-      gave _ _ _ _ _ done.0 c.in_ok-reader.ensures.opened c.in_ok-keys.ensures.coming done.1 c.in_ok-keys.ensures.left,
-      ap (λ (S : Keys). length (chosen c.args.wanted S done.0)) (sym same) ∙ done.2,
-      subst (λ (S : Keys). Ran Insert c.args.bits (chosen c.args.wanted S done.0) c.args.cells.now.items c.insert_chosen.new.cells.items c.in_ok-insert_chosen.field-0) same done.3,
-    )
+    (done.0, gave _ _ _ _ _ done.0 c.in_ok-reader.ensures.opened c.in_ok-keys.ensures.coming done.1 c.in_ok-keys.ensures.left, done.2, done.3)
 
 pub returns-in_err-insert_chosen-clause-refused : goal.returns-in_err-insert_chosen-clause-refused
 returns-in_err-insert_chosen-clause-refused g c files known =
@@ -37,8 +32,7 @@ returns-in_err-insert_chosen-clause-refused g c files known =
     let starts = g.N.Runner.refused_starts c.args.runner.now in
     let starts' = g.N.Runner.refused_starts c.insert_chosen.new.runner in
     let again = is_again _ files known _ _ count c.in_ok-reader.ensures.opened c.in_ok-keys.ensures.again in
-    let why = subst (λ (S : Keys). RefusedFor (coming_of (bytes_left g.S.Reader.Read.remaining) c.in_ok-keys.keys) c.args.wanted S c.args.many starts starts' c.in_err-insert_chosen.field-0.0) c.cells.ensures.keys c.in_err-insert_chosen.ensures.refused in
-    rw (p.1, p.2) (again_refused _ files known _ _ count c.in_ok-reader.ensures.opened _ c.in_ok-keys.ensures.coming failed c.args.wanted c.args.set.now.keys c.args.many starts starts' _ again why)
+    rw (p.1, p.2) (again_refused _ files known _ _ count c.in_ok-reader.ensures.opened _ c.in_ok-keys.ensures.coming failed c.args.choice.now starts starts' _ again c.in_err-insert_chosen.ensures.refused)
 
 pub returns-in_err-keys-clause-refused : goal.returns-in_err-keys-clause-refused
 returns-in_err-keys-clause-refused g c files known =

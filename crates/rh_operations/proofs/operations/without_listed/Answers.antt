@@ -1,29 +1,28 @@
-use Rattle.std.proofs.Common.{◌∙◌, ◌^◌, ◌<◌, ap, arith, false, length}
+use Rattle.std.proofs.Common.{◌∙◌, ◌^◌, ◌<◌, ap, arith}
 use Rattle.std.proofs.lemmas.Result.{err_from_is_err_and}
 use Rattle.rh_key_files.specs.Counting.{Rose}
 use Rattle.rh_operations.specs.Found.{count_again, keys_found}
 use Rattle.rh_operations.specs.KeyLists.{bytes_at}
 use Rattle.rh_operations.proofs.AgainLemmas.{gave, is_again, later_refused, not_again, not_opened, rest_refused}
 use Rattle.std.specs.FinSet as set
-use Rattle.rh_layout.specs.Layout.{Keys, keys_of}
-use Rattle.rh_runner.specs.Lists.{chosen}
+use Rattle.rh_layout.specs.Layout.{keys_of}
 use Rattle.rh_operations.proofs.OperationLemmas.{dropped, free_after_dropping}
 use Rattle.rh_operations.proofs.operations.without_listed.Goals as goal
 
-pub from_cells-requires-clause-free : goal.from_cells-requires-clause-free
-from_cells-requires-clause-free g c =
+pub from_cells-set-requires-clause-free : goal.from_cells-set-requires-clause-free
+from_cells-set-requires-clause-free g c =
     let done = c.in_ok-removed.ensures.done in
-    let old = c.in_ok-bits.cells.items in
-    let room : set.len (keys_of old) < 2 ^ c.in_ok-bits.bits = omega (arith, c.in_ok-bits.ensures.room, ap (λ S. set.len S) c.in_ok-bits.ensures.keys) in
-    free_after_dropping c.in_ok-bits.bits done.0 old c.remove_and_count_absent.new.cells.items c.in_ok-removed.removed done.2 room
+    let old = c.in_ok-scratch.scratch.cells.items in
+    let room : set.len (keys_of old) < 2 ^ c.in_ok-scratch.scratch.bits = omega (arith, c.in_ok-scratch.ensures.room, ap (λ S. set.len S) c.in_ok-scratch.ensures.keys) in
+    rw c.in_ok-removed.ensures.bits (free_after_dropping c.in_ok-scratch.scratch.bits done.0 old c.remove_and_count_absent.new.scratch.cells.items c.in_ok-removed.removed.tally done.2 room)
 
 pub returns-clause-dropped : goal.returns-clause-dropped
 returns-clause-dropped g c =
     let done = c.in_ok-removed.ensures.done in (
       done.0,
       gave _ _ _ _ _ done.0 c.in_ok-reader.ensures.opened c.in_ok-keys.ensures.coming done.1 c.in_ok-keys.ensures.left,
-      dropped _ _ _ _ _ _ c.from_cells.result c.in_ok-bits.ensures.keys c.from_cells.ensures.bits c.from_cells.ensures.keys done.2 c.in_ok-bits.ensures.bits,
-      done.3 ∙ ap (λ (S : Keys). length (chosen false S done.0)) c.cells-old.ensures.keys,
+      dropped _ _ _ _ _ _ c.from_cells-set.result c.in_ok-scratch.ensures.keys (c.from_cells-set.ensures.bits ∙ c.in_ok-removed.ensures.bits) c.from_cells-set.ensures.keys done.2 c.in_ok-scratch.ensures.bits,
+      done.3,
     )
 
 pub returns-in_err-removed-clause-refused : goal.returns-in_err-removed-clause-refused

@@ -5,8 +5,8 @@ use Rattle.rh_operations.proofs.size.grown.Goals as goal
 
 pub returns-clause-layout : goal.returns-clause-layout
 returns-clause-layout c =
-    layout_own c.in_ok-grow.field-0.items c.in-Some.size (keys_of c.cells.result.now) c.in_ok-grow.ensures
+    layout_own c.in_ok-cells.cells.items c.in-Some.size (keys_of c.cells.result.now) c.in_ok-cells.ensures
 
 pub returns-clause-keys : goal.returns-clause-keys
 returns-clause-keys c =
-    sym (layout_keys c.in_ok-grow.field-0.items c.in-Some.size (keys_of c.cells.result.now) c.in_ok-grow.ensures) ∙ c.cells.ensures.keys
+    sym (layout_keys c.in_ok-cells.cells.items c.in-Some.size (keys_of c.cells.result.now) c.in_ok-cells.ensures) ∙ c.cells.ensures.keys

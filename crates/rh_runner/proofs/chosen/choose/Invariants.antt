@@ -3,11 +3,11 @@ use Rattle.std.specs.FinSet.{contains}
 use Rattle.std.proofs.lemmas.List.Filters.{FiltersInPlace}
 use Rattle.rh_layout.specs.Layout.{Keys}
 use Rattle.rh_ledger.specs.Phase.{looked_up}
-use Rattle.rh_runner.specs.Lists.{is_wanted}
+use Rattle.rh_runner.specs.Lists.{is_chosen}
 use Rattle.rh_runner.proofs.chosen.choose.Given as goal
 
 abbrev pub invariant-loop-i : goal.invariant-loop-i
 invariant-loop-i l = record {
   behind : l.n ≤ l.i;
-  moved : (S : Keys) → l.found ≡ looked_up S l.fn.batch → FiltersInPlace (λ k. is_wanted l.wanted (contains S k)) l.fn.batch l.batch l.n l.i;
+  moved : (S : Keys) → l.found ≡ looked_up S l.fn.batch → FiltersInPlace (λ k. is_chosen l.which (contains S k)) l.fn.batch l.batch l.n l.i;
 }

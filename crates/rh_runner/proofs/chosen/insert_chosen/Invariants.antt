@@ -1,7 +1,6 @@
 use Rattle.std.proofs.Common.{◌≡◌, List, ℕ, ◌+◌, length}
-use Rattle.rh_layout.specs.Layout.{keys_of}
 use Rattle.rh_ledger.specs.declared.tally.Kind.TheVariants.{Insert}
-use Rattle.rh_runner.specs.Lists.{Ran, chosen}
+use Rattle.rh_runner.specs.Lists.{Ran, by_choice}
 use Rattle.rh_runner.proofs.ListLemmas.{Came}
 use Rattle.rh_runner.proofs.chosen.insert_chosen.Given as goal
 
@@ -9,8 +8,9 @@ abbrev pub invariant-loop-room : goal.invariant-loop-room
 invariant-loop-room g l =
     (done : List ℕ)
     × Came (g.K.KeySource.coming l.fn.keys) (g.K.KeySource.coming l.keys) (g.K.KeySource.left_of l.fn.keys) (g.K.KeySource.left_of l.keys) done
-    × Ran Insert l.bits (chosen l.wanted (keys_of l.old) done) l.fn.cells.items l.cells.items l.tally
-    × (length (chosen l.wanted (keys_of l.old) done) + l.left ≡ l.many)
+    × (l.scratch.bits ≡ l.fn.scratch.bits)
+    × Ran Insert l.fn.scratch.bits (by_choice l.choice done) l.fn.scratch.cells.items l.scratch.cells.items l.tally
+    × (length (by_choice l.choice done) + l.left ≡ l.choice.many)
     × (g.N.Runner.refused_starts l.runner ≡ g.N.Runner.refused_starts l.fn.runner)
     × (g.K.KeySource.told_by l.keys ≡ g.K.KeySource.told_by l.fn.keys)
 

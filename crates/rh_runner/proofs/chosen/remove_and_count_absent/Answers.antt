@@ -1,7 +1,8 @@
-use Rattle.std.proofs.Common.{◌∙◌, ◌++◌, refl, arith, take, length-append, length-take, false}
-use Rattle.rh_layout.specs.Layout.{keys_of}
+use Rattle.std.proofs.Common.{◌∙◌, ap, ◌++◌, refl, arith, take, length-append, length-take}
 use Rattle.rh_ledger.specs.declared.tally.Kind.TheVariants.{Remove}
+use Rattle.rh_runner.specs.declared.choice.Chosen.TheVariants.{Absent}
 use Rattle.rh_runner.specs.Lists.{Ran}
+use Rattle.rh_ledger.specs.Phase.{looked_up}
 use Rattle.rh_runner.proofs.ListLemmas.{none_came, more_came, more_ran, removed-le, tally_fits}
 use Rattle.rh_runner.proofs.ChosenLemmas.{count_more, length_chosen-le}
 use Rattle.rh_runner.proofs.chosen.remove_and_count_absent.Goals as goal
@@ -11,19 +12,19 @@ loop-room-init g c = (_, none_came _ _, record { layout = c.requires.layout; hel
 
 pub overflow_add-absent : goal.overflow_add-absent
 overflow_add-absent g c =
-    let S = keys_of c.args.old.now in
+    let S = c.args.set.now.keys in
     let done = c.loop-room.invariant.0 in
     let batch = take c.in_ok-n.n c.next_keys.new.batch in
     let came = more_came c.loop-room.invariant.1 (g.K.KeySource.coming c.next_keys.new.self) c.next_keys.new.batch (g.K.KeySource.left_of c.next_keys.new.self) c.in_ok-n.n c.in_ok-n.ensures.gives c.if-n-eq0.false c.in_ok-n.ensures.room c.in_ok-n.ensures.left c.in_ok-n.ensures.in_range in
-    let counted = count_more false S done batch c.deref.result.now c.loop-room.absent c.count_wanted.result c.loop-room.invariant.3 c.count_wanted.ensures (rw c.deref.ensures.value c.in_ok-found.ensures.found) in
-    omega (arith, counted, length_chosen-le false S (done ++ batch), came.long, c.left-most.ensures, c.left-most.type_inv)
+    let counted = count_more Absent S done batch c.deref.result.now c.loop-room.absent c.count_taken.result c.loop-room.invariant.3 c.count_taken.ensures (rw c.deref.ensures.value (c.in_ok-found.ensures.found ∙ ap (λ S. looked_up S (take c.in_ok-n.n c.next_keys.new.batch)) c.cells.ensures.keys)) in
+    omega (arith, counted, length_chosen-le Absent S (done ++ batch), came.long, c.left-most.ensures, c.left-most.type_inv)
 
 pub change-requires-clause-room : goal.change-requires-clause-room
 change-requires-clause-room g c = omega (arith, removed-le c.loop-room.invariant.2, c.requires.room)
 
 pub unwrap-tally-requires : goal.unwrap-tally-requires
 unwrap-tally-requires g c =
-    let next : Ran Remove c.args.bits (take c.in_ok-n.n c.next_keys.new.batch) c.loop-room.cells.items c.change.new.cells.items c.in_ok-told.told =
+    let next : Ran Remove c.args.scratch.now.bits (take c.in_ok-n.n c.next_keys.new.batch) c.loop-room.cells.items c.change.new.cells.items c.in_ok-told.told =
     record { layout = c.in_ok-told.ensures.layout; held = c.in_ok-told.ensures.keys; tally = c.in_ok-told.ensures.tally } in
     c.joined.ensures.fits.1
     (tally_fits (more_ran c.loop-room.invariant.2 next)
@@ -32,14 +33,14 @@ unwrap-tally-requires g c =
 pub loop-room-preserved : goal.loop-room-preserved
 loop-room-preserved g c =
     let batch = take c.in_ok-n.n c.next_keys.new.batch in
-    let next : Ran Remove c.args.bits (take c.in_ok-n.n c.next_keys.new.batch) c.loop-room.cells.items c.change.new.cells.items c.in_ok-told.told =
+    let next : Ran Remove c.args.scratch.now.bits (take c.in_ok-n.n c.next_keys.new.batch) c.loop-room.cells.items c.change.new.cells.items c.in_ok-told.told =
     record { layout = c.in_ok-told.ensures.layout; held = c.in_ok-told.ensures.keys; tally = c.in_ok-told.ensures.tally } in
     let ran = more_ran c.loop-room.invariant.2 next in
     let sums = rw c.unwrap-tally.ensures at c.joined.ensures.sums in (
       _,
       more_came c.loop-room.invariant.1 _ c.next_keys.new.batch _ c.in_ok-n.n c.in_ok-n.ensures.gives c.if-n-eq0.false c.in_ok-n.ensures.room c.in_ok-n.ensures.left c.in_ok-n.ensures.in_range,
       record { layout = ran.layout; held = ran.held; tally = sums ∙ ran.tally },
-      count_more false (keys_of c.args.old.now) c.loop-room.invariant.0 batch c.deref.result.now c.loop-room.absent c.count_wanted.result c.loop-room.invariant.3 c.count_wanted.ensures (rw c.deref.ensures.value c.in_ok-found.ensures.found),
+      count_more Absent c.args.set.now.keys c.loop-room.invariant.0 batch c.deref.result.now c.loop-room.absent c.count_taken.result c.loop-room.invariant.3 c.count_taken.ensures (rw c.deref.ensures.value (c.in_ok-found.ensures.found ∙ ap (λ S. looked_up S (take c.in_ok-n.n c.next_keys.new.batch)) c.cells.ensures.keys)),
       c.in_ok-told.ensures.fine ∙ c.in_ok-found.ensures.fine ∙ c.loop-room.invariant.4,
       c.in_ok-n.ensures.fine ∙ c.loop-room.invariant.5,
     )

@@ -13,7 +13,7 @@ change-requires-clause-room g c =
 
 pub unwrap-tally-requires : goal.unwrap-tally-requires
 unwrap-tally-requires g c =
-    let next : Ran c.args.kind c.args.bits (take c.in_ok-n.n c.next_keys.new.batch) c.loop-room.cells.items c.change.new.cells.items c.in_ok-told.told =
+    let next : Ran c.args.kind c.args.scratch.now.bits (take c.in_ok-n.n c.next_keys.new.batch) c.loop-room.cells.items c.change.new.cells.items c.in_ok-told.told =
     record { layout = c.in_ok-told.ensures.layout; held = c.in_ok-told.ensures.keys; tally = c.in_ok-told.ensures.tally } in
     c.joined.ensures.fits.1
     (tally_fits (more_ran c.loop-room.invariant.2 next)
@@ -21,7 +21,7 @@ unwrap-tally-requires g c =
 
 pub loop-room-preserved : goal.loop-room-preserved
 loop-room-preserved g c =
-    let next : Ran c.args.kind c.args.bits (take c.in_ok-n.n c.next_keys.new.batch) c.loop-room.cells.items c.change.new.cells.items c.in_ok-told.told =
+    let next : Ran c.args.kind c.args.scratch.now.bits (take c.in_ok-n.n c.next_keys.new.batch) c.loop-room.cells.items c.change.new.cells.items c.in_ok-told.told =
     record { layout = c.in_ok-told.ensures.layout; held = c.in_ok-told.ensures.keys; tally = c.in_ok-told.ensures.tally } in
     let ran = more_ran c.loop-room.invariant.2 next in
     let sums = rw c.unwrap-tally.ensures at c.joined.ensures.sums in (

@@ -7,7 +7,7 @@ abbrev pub invariant-loop-room : goal.invariant-loop-room
 invariant-loop-room g l =
     (done : List ℕ)
     × Came (g.K.KeySource.coming l.fn.keys) (g.K.KeySource.coming l.keys) (g.K.KeySource.left_of l.fn.keys) (g.K.KeySource.left_of l.keys) done
-    × Ran l.kind l.bits done l.fn.cells.items l.cells.items l.tally
+    × Ran l.kind l.fn.scratch.bits done l.fn.scratch.cells.items l.cells.items l.tally
     × (g.N.Runner.refused_starts l.runner ≡ g.N.Runner.refused_starts l.fn.runner)
     × (g.K.KeySource.told_by l.keys ≡ g.K.KeySource.told_by l.fn.keys)
 

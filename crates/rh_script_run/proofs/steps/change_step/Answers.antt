@@ -21,8 +21,8 @@ returns-in_err-found-in-Keep-clause-made g c lists files keys stands =
     let known = known_stands _ _ keys stands in
     rw (c.in-Keep.is, p.1, p.2) (found_refused _ _ _ _ (keep_again known.0 _ keys known.2 c.args.set.now) (c.in_err-found-in-Keep.ensures.refused known.0 known.1))
 
-pub returns-in_err-out-in-Flip-clause-made : goal.returns-in_err-out-in-Flip-clause-made
-returns-in_err-out-in-Flip-clause-made g c lists files keys stands =
-    let p = err_from_is_err_and c.from_residual-in_err-out-in-Flip.result c.from_residual-in_err-out-in-Flip.ensures.1 in
+pub returns-in_err-flips-in-Flip-clause-made : goal.returns-in_err-flips-in-Flip-clause-made
+returns-in_err-flips-in-Flip-clause-made g c lists files keys stands =
+    let p = err_from_is_err_and c.from_residual-in_err-flips-in-Flip.result c.from_residual-in_err-flips-in-Flip.ensures.1 in
     let known = known_stands _ _ keys stands in
-    rw (c.in-Flip.is, p.1, p.2) (found_refused _ _ _ _ (flip_again known.0 _ keys known.2 c.args.set.now) (c.in_err-out-in-Flip.ensures.refused known.0 known.1))
+    rw (c.in-Flip.is, p.1, p.2) (found_refused _ _ _ _ (flip_again known.0 _ keys known.2 c.args.set.now) (c.in_err-flips-in-Flip.ensures.refused known.0 known.1))
