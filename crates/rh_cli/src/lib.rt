@@ -8,14 +8,15 @@
 //!   what they give. It is refused exactly by the kinds of fault that those rules give.
 //! - `line` of `keys_line`: as for `rhset`. A flag is given exactly where the text that `clap`
 //!   found for it is `true`.
-//! - `ProgramFault::status`, `answer`: the exit status of the faults that any command may meet, and
-//!   of what `clap` answers, by the table `specs/Endings.antt`. A failed write is told only of a
-//!   text that was asked for.
+//! - `ProgramFault::status`, `status_of_keys`, `status_of_snapshot`, `answer`: the exit status of the
+//!   faults that several commands may meet, and of what `clap` answers, by the table
+//!   `specs/Endings.antt`. A failed write is told only of a text that was asked for.
 //! - `words`: its fault is a word that is no text, or want of memory, and never a failed write.
 //! - `buffered_reader`, `buffered_writer`: the stream behind an empty buffer of 8,192 bytes, or
 //!   want of memory.
 //! - `write_out`: the buffer is empty, and of a writer that tells its bytes all is written; or a
 //!   write failed, and none is lost or comes twice.
+//! - `between`: a command between its two streams ends well only where its work did.
 #![tactic(auto)]
 
 mod fault;
@@ -30,5 +31,5 @@ mod streams;
 pub use fault::LineFault;
 pub use limits::{MAX_PARTS, MAX_WORKERS};
 pub use program::{answer, words};
-pub use status::{ProgramFault, Status};
-pub use streams::{buffered_reader, buffered_writer, write_out};
+pub use status::{ProgramFault, Status, status_of_keys, status_of_snapshot};
+pub use streams::{Streams, between, buffered_reader, buffered_writer, write_out};

@@ -1,11 +1,13 @@
 //! The buffers of a program's streams.
 
-ghost use Rattle.std.specs.Prelude.{◌≡◌, [], IfOk, IfErr, OnOk};
+ghost use Rattle.std.specs.Prelude.{◌≡◌, [], IfOk, IfErr, Ok, OnOk};
 ghost use Rattle.std.specs.Io.Buffered.{reader_buffer, reader_capacity, reader_inner};
 ghost use Rattle.std.specs.Io.Buffered.{writer_buffer, writer_capacity, writer_contents, writer_inner};
+ghost use Rattle.std.specs.Fn.{FnOnceReturnsAtMut};
 ghost use Rattle.std.specs.Io.KnownBytes.{Keeps};
 
-use crate::status::ProgramFault;
+use crate::status::{ProgramFault, Status};
+use rh_key_files::Counted;
 use std::alloc::Global;
 use std::io::{BufReader, BufWriter, Read, Write};
 
@@ -52,4 +54,34 @@ pub fn write_out<W: Write + Drop>(writer: &mut BufWriter<W>) -> Result<(), Progr
         Ok(()) => Ok(()),
         Err(_) => Err(ProgramFault::Write),
     }
+}
+
+/// The streams of a command, each behind a buffer, whose failures are counted.
+#[derive(Drop)]
+pub struct Streams<R: Read + Drop, W: Write + Drop> {
+    pub reader: Counted<BufReader<R>>,
+    pub writer: Counted<BufWriter<W>>,
+}
+
+/// Does the work of a command between its streams, and then writes out what stands in the buffer.
+pub fn between<R: Read + Drop, W: Write + Drop, E: From<ProgramFault>, F>(
+    alloc: Global,
+    reader: R,
+    writer: W,
+    work: F,
+) -> Result<Status, E>
+where
+    F: FnOnce(&mut Streams<R, W>) -> Result<(), E>,
+    requires { F.IsAlwaysCallable work }
+    ensures done { IfOk result (λ status. status ≡ Status.Done) }
+    ensures worked { OnOk result ((old : Streams R W) × (new : Streams R W)
+        × FnOnceReturnsAtMut F.FnOnce work old (Ok tt) new) }
+{
+    let mut streams = Streams {
+        reader: Counted::new(buffered_reader(alloc, reader)?),
+        writer: Counted::new(buffered_writer(alloc, writer)?),
+    };
+    work(&mut streams)?;
+    write_out(&mut streams.writer.into_inner())?;
+    Ok(Status::Done)
 }

@@ -1,11 +1,7 @@
 -- How the program ends.
-use Rattle.rh_cli.specs.Endings.{ending_by as ending_by_program}
+use Rattle.rh_cli.specs.Endings.{ending_by as ending_by_program, ending_by_keys, ending_by_snapshot}
 use Rattle.rh_cli.specs.declared.status.Status.{Status}
 use Rattle.rh_cli.specs.declared.status.Status.TheVariants.{Refused, CommandLine, Memory, Write}
-use Rattle.rh_key_files.specs.declared.fault.KeyFault.{KeyFault}
-use Rattle.rh_key_files.specs.declared.fault.KeyFault.TheVariants as keys
-use Rattle.rh_snapshot.specs.declared.fault.SnapFault.{SnapFault}
-use Rattle.rh_snapshot.specs.declared.fault.SnapFault.TheVariants as snap
 use Rattle.rh_numbers.specs.declared.fault.TextFault.{TextFault}
 use Rattle.rh_numbers.specs.declared.fault.TextFault.TheVariants as text
 use Rattle.rh_shelf.specs.declared.shelf.ShelfFault.TheVariants as shelf
@@ -20,20 +16,10 @@ use Rattle.rh_splitting.specs.declared.fault.SplitFault.TheVariants as split
 use Rattle.rhkeys.specs.declared.status.Fault.{Fault}
 use Rattle.rhkeys.specs.declared.status.Fault.TheVariants as fault
 
--- how a run ends whose text could not be read, or is none
-abbrev pub ending_by_text : TextFault → Status
-ending_by_text text.Memory = Memory
-ending_by_text fault = Refused
-
--- how a run ends whose key file could not be read, or is none
-abbrev pub ending_by_keys : KeyFault → Status
-ending_by_keys keys.Memory = Memory
-ending_by_keys fault = Refused
-
--- how a run ends whose snapshot could not be read, or is none
-abbrev pub ending_by_snapshot : SnapFault → Status
-ending_by_snapshot snap.Memory = Memory
-ending_by_snapshot fault = Refused
+-- how a run ends whose text of numbers could not be read, or is none
+abbrev pub ending_by_numbers : TextFault → Status
+ending_by_numbers text.Memory = Memory
+ending_by_numbers fault = Refused
 
 -- how a run ends one of whose files was not listed
 abbrev pub ending_by_file : FileFault → Status
@@ -46,7 +32,7 @@ ending_by_file file.Write = Write
 
 -- how a run ends whose list was not split
 abbrev pub ending_by_split : FilesFault → Status
-ending_by_split (files.Split (split.Text fault)) = ending_by_text fault
+ending_by_split (files.Split (split.Text fault)) = ending_by_numbers fault
 ending_by_split (files.Split (split.Keys fault)) = ending_by_keys fault
 ending_by_split (files.Split (split.TooMany part)) = Refused
 ending_by_split (files.Split (split.Write part)) = Write
@@ -57,7 +43,7 @@ ending_by_split files.Memory = Memory
 -- how a run ends that a fault ended early
 abbrev pub ending_by : Fault → Status
 ending_by (fault.Program fault) = ending_by_program fault
-ending_by (fault.Pack (pack.Text fault)) = ending_by_text fault
+ending_by (fault.Pack (pack.Text fault)) = ending_by_numbers fault
 ending_by (fault.Pack pack.Write) = Write
 ending_by (fault.List (list.Keys fault)) = ending_by_keys fault
 ending_by (fault.List list.Write) = Write

@@ -10,7 +10,7 @@ mod status;
 
 use rh_cli::keys_line::{Line, line};
 use rh_cli::{
-    LineFault, ProgramFault, Status, answer, buffered_reader, buffered_writer, words, write_out,
+    LineFault, ProgramFault, Status, answer, between, buffered_writer, words, write_out,
 };
 use rh_commands::{FaultAt, FileFault, Form, list_files, list_keys, list_snapshot, pack};
 use rh_key_files::{Counted, KeyFault};
@@ -75,18 +75,16 @@ fn pack_streams(rt: &(impl Input + Print + AllocGlobal)) -> Result<Status, Fault
     Ok(Status::Done)
 }
 
-// Lists what stands on standard input to standard output. Both go through a buffer.
+// Lists what stands on standard input to standard output.
 fn list_input(rt: &(impl Input + Print + AllocGlobal), form: Form) -> Result<Status, Fault> {
-    let input = buffered_reader(rt.alloc(), rt.reader())?;
-    let output = buffered_writer(rt.alloc(), io::writer(rt))?;
-    let mut reader = Counted::new(input);
-    let mut writer = Counted::new(output);
-    match form {
-        Form::Keys => list_keys(rt.alloc(), &mut reader, &mut writer)?,
-        Form::Snapshot => list_snapshot(rt.alloc(), &mut reader, &mut writer)?,
-    }
-    write_out(&mut writer.into_inner())?;
-    Ok(Status::Done)
+    let alloc = rt.alloc();
+    between(alloc, rt.reader(), io::writer(rt), |streams| {
+        let (reader, writer) = (&mut streams.reader, &mut streams.writer);
+        match form {
+            Form::Keys => Ok(list_keys(alloc, reader, writer)?),
+            Form::Snapshot => Ok(list_snapshot(alloc, reader, writer)?),
+        }
+    })
 }
 
 // Lists the files at these paths to standard output, one after the other. It goes through a buffer.

@@ -1,14 +1,13 @@
 //! How the program ends.
 
 ghost use Rattle.std.specs.Prelude.{◌≡◌};
-ghost use Rattle.rhkeys.specs.Endings.{ending_by_file, ending_by_keys, ending_by_snapshot, ending_by_split};
+ghost use Rattle.rhkeys.specs.Endings.{ending_by_file, ending_by_split};
 
-use rh_cli::{ProgramFault, Status};
+use rh_cli::{ProgramFault, Status, status_of_keys, status_of_snapshot};
 use rh_commands::{FileFault, HeldFault, ListFault, PackFault};
 use rh_key_files::KeyFault;
 use rh_numbers::TextFault;
 use rh_shelf::ShelfFault;
-use rh_snapshot::SnapFault;
 use rh_splitting::{FilesFault, SplitFault};
 use thiserror::Error;
 
@@ -55,24 +54,6 @@ impl Fault {
             Fault::Split(fault) => status_of_split(fault),
             Fault::Name => Status::CommandLine,
         }
-    }
-}
-
-fn status_of_keys(fault: &KeyFault) -> Status
-    ensures { result ≡ ending_by_keys fault.now }
-{
-    match fault {
-        KeyFault::Memory => Status::Memory,
-        _ => Status::Refused,
-    }
-}
-
-fn status_of_snapshot(fault: &SnapFault) -> Status
-    ensures { result ≡ ending_by_snapshot fault.now }
-{
-    match fault {
-        SnapFault::Memory => Status::Memory,
-        _ => Status::Refused,
     }
 }
 

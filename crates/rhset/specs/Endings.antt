@@ -1,11 +1,9 @@
 -- How the program ends.
-use Rattle.rh_cli.specs.Endings.{ending_by as ending_by_program}
+use Rattle.rh_cli.specs.Endings.{ending_by as ending_by_program, ending_by_snapshot}
 use Rattle.rh_cli.specs.declared.status.Status.{Status}
 use Rattle.rh_cli.specs.declared.status.Status.TheVariants.{Refused, Memory, Write}
 use Rattle.rh_script.specs.declared.fault.ScriptFaultKind.{ScriptFaultKind}
 use Rattle.rh_script.specs.declared.fault.ScriptFaultKind.TheVariants as kinds
-use Rattle.rh_snapshot.specs.declared.fault.SnapFault.{SnapFault}
-use Rattle.rh_snapshot.specs.declared.fault.SnapFault.TheVariants as snap
 use Rattle.rh_operations.specs.declared.cause.Cause.{Cause}
 use Rattle.rh_operations.specs.declared.cause.Cause.TheVariants as causes
 use Rattle.rh_play.specs.declared.fault.PlayTextKind.{PlayTextKind}
@@ -19,11 +17,6 @@ use Rattle.rh_commands.specs.declared.check.CheckFault.TheVariants as check
 use Rattle.rh_commands.specs.declared.dump.DumpFault.TheVariants as dump
 use Rattle.rhset.specs.declared.status.Fault.{Fault}
 use Rattle.rhset.specs.declared.status.Fault.TheVariants as fault
-
--- how a run ends whose snapshot could not be read, or is none
-abbrev pub ending_by_snapshot : SnapFault → Status
-ending_by_snapshot snap.Memory = Memory
-ending_by_snapshot fault = Refused
 
 -- how a run ends whose script was refused
 abbrev pub ending_by_line : ScriptFaultKind → Status

@@ -11,11 +11,8 @@ mod status;
 
 use input::open;
 use rh_cli::set_line::{Line, line};
-use rh_cli::{
-    LineFault, ProgramFault, Status, answer, buffered_reader, buffered_writer, words, write_out,
-};
+use rh_cli::{LineFault, ProgramFault, Status, answer, between, words};
 use rh_commands::{check_snapshot, dump_keys};
-use rh_key_files::Counted;
 use rh_play_run::{Telling, draw_play, tell_play};
 use script::run_script;
 use status::Fault;
@@ -53,35 +50,27 @@ fn carry_out(
     }
 }
 
-// Dumps the keys on standard input to standard output. Both go through a buffer.
+// Dumps the keys on standard input to standard output.
 fn dump_streams(rt: &(impl Input + Print + AllocGlobal)) -> Result<Status, Fault> {
-    let input = buffered_reader(rt.alloc(), rt.reader())?;
-    let output = buffered_writer(rt.alloc(), io::writer(rt))?;
-    let mut reader = Counted::new(input);
-    let mut writer = Counted::new(output);
-    dump_keys(rt.alloc(), &mut reader, &mut writer)?;
-    write_out(&mut writer.into_inner())?;
-    Ok(Status::Done)
+    let alloc = rt.alloc();
+    between(alloc, rt.reader(), io::writer(rt), |streams| {
+        Ok(dump_keys(alloc, &mut streams.reader, &mut streams.writer)?)
+    })
 }
 
-// Runs the play at the path, and writes so much of it to standard output. Both go through a buffer.
+// Runs the play at the path, and writes so much of it to standard output.
 fn play_file(
     rt: &(impl Files + Print + AllocGlobal),
     telling: Telling,
     path: &str,
 ) -> Result<Status, Fault> {
-    let file = open(rt, path)?;
-    let input = buffered_reader(rt.alloc(), file)?;
-    let output = buffered_writer(rt.alloc(), io::writer(rt))?;
-    let mut reader = Counted::new(input);
-    let mut writer = Counted::new(output);
-    tell_play(rt.alloc(), telling, &mut reader, &mut writer)?;
-    write_out(&mut writer.into_inner())?;
-    Ok(Status::Done)
+    let alloc = rt.alloc();
+    between(alloc, open(rt, path)?, io::writer(rt), |streams| {
+        Ok(tell_play(alloc, telling, &mut streams.reader, &mut streams.writer)?)
+    })
 }
 
-// Draws the play at the path: so many steps from this number on, where 0 stands for all. The text is read
-// through a buffer, and the picture is one write.
+// Draws the play at the path: so many steps from this number on, where 0 stands for all.
 fn draw_file(
     rt: &(impl Files + Print + AllocGlobal),
     from: u64,
@@ -90,27 +79,19 @@ fn draw_file(
 ) -> Result<Status, Fault>
     requires { steps ≤ MAX_STEPS }
 {
-    let file = open(rt, path)?;
-    let input = buffered_reader(rt.alloc(), file)?;
-    let output = buffered_writer(rt.alloc(), io::writer(rt))?;
-    let mut reader = Counted::new(input);
-    let mut writer = Counted::new(output);
+    let alloc = rt.alloc();
     let steps = if steps == 0 { None } else { Some(steps) };
-    draw_play(rt.alloc(), from, steps, &mut reader, &mut writer)?;
-    write_out(&mut writer.into_inner())?;
-    Ok(Status::Done)
+    between(alloc, open(rt, path)?, io::writer(rt), |streams| {
+        Ok(draw_play(alloc, from, steps, &mut streams.reader, &mut streams.writer)?)
+    })
 }
 
-// Writes the line of the snapshot at the path to standard output. Both go through a buffer.
+// Writes the line of the snapshot at the path to standard output.
 fn check_file(rt: &(impl Files + Print + AllocGlobal), path: &str) -> Result<Status, Fault> {
-    let file = open(rt, path)?;
-    let input = buffered_reader(rt.alloc(), file)?;
-    let output = buffered_writer(rt.alloc(), io::writer(rt))?;
-    let mut reader = Counted::new(input);
-    let mut writer = Counted::new(output);
-    check_snapshot(rt.alloc(), &mut reader, &mut writer)?;
-    write_out(&mut writer.into_inner())?;
-    Ok(Status::Done)
+    let alloc = rt.alloc();
+    between(alloc, open(rt, path)?, io::writer(rt), |streams| {
+        Ok(check_snapshot(alloc, &mut streams.reader, &mut streams.writer)?)
+    })
 }
 
 // Tells the user as far as standard error takes it.

@@ -3,13 +3,12 @@
 ghost use Rattle.std.specs.Prelude.{◌≡◌};
 ghost use Rattle.rhset.specs.Endings.{ending_by, ending_by_play};
 
-use rh_cli::{ProgramFault, Status};
+use rh_cli::{ProgramFault, Status, status_of_snapshot};
 use rh_commands::{CheckFault, DumpFault};
 use rh_play::PlayTextKind;
 use rh_play_run::{DrawFault, PlayRunFault};
 use rh_script::{ScriptFault, ScriptFaultKind};
 use rh_script_run::{Cause, RunFault};
-use rh_snapshot::SnapFault;
 use rh_stepper::PlayFault;
 use thiserror::Error;
 
@@ -48,10 +47,7 @@ impl Fault {
             Fault::Dump(DumpFault::Keys(_) | DumpFault::TooLarge) => Status::Refused,
             Fault::Dump(DumpFault::Memory) => Status::Memory,
             Fault::Dump(DumpFault::Write) => Status::Write,
-            Fault::Check(CheckFault::Snap(fault)) => match fault {
-                SnapFault::Memory => Status::Memory,
-                _ => Status::Refused,
-            },
+            Fault::Check(CheckFault::Snap(fault)) => status_of_snapshot(fault),
             Fault::Check(CheckFault::Write) => Status::Write,
             Fault::Script(fault) => match fault.kind {
                 ScriptFaultKind::Memory => Status::Memory,
