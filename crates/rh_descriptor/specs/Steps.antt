@@ -5,7 +5,7 @@ use Rattle.std.specs.Prelude.{zero, suc, ◌≡◌, ℕ, ◌+◌, ◌<◌, ◌�
 use Rattle.rh_world.specs.World.{Ref, Control, In, is_ref}
 use Rattle.rh_world.specs.World.Control.{unused, undecided, succeeded, withdrawn, failed}
 use Rattle.rh_world.specs.Facts.{Fact}
-use Rattle.rh_world.specs.Facts.Fact.{met, known, size_is, target_is, old_is, new_is, desc_is, which_is, decided, over, passed, failed_at, found, may_promote, may_demote, held, mismatch}
+use Rattle.rh_world.specs.Facts.Fact.{met, known, size_is, target_is, old_is, new_is, desc_is, which_is, decided, over, stale, failed_at, found, may_promote, may_demote, held, mismatch}
 use Rattle.rh_world.specs.Sides.{Side, is_number, note_side, open_side, paid_side, claim_side}
 use Rattle.rh_world.specs.Moves.{Entries, HasSeen, MayWork, MayDecide, note_entries, cell_noted, control_noted, mark_noted, place_noted, settle_noted, release_noted, note_all}
 use Rattle.rh_layout.specs.declared.entry.Entry.{Entry}
@@ -34,7 +34,7 @@ pub data Step : Type 0 where
   -- Settle of a mark in a cell, which is for this entry: to its descriptor, or to this old value
   settles : (x : Ref) → (c : ℕ) → (d : Ref) → (e : ℕ) → (old : Option ℕ) → Step
   decides : Ref → Control → Step
-  -- Release of an entry of a descriptor that is decided so, or whose row has gone on: its cell, and the value that it puts
+  -- Release of an entry of a descriptor that is decided so, or that is stale: its cell, and the value that it puts
   -- there
   releases : Ref → (e c : ℕ) → Option Control → (value : ℕ) → Step
   -- Claim of the next index of the list of keys
@@ -250,11 +250,11 @@ IsReleased v d e succeeded value = In (new_is d e value) v.side.facts
 IsReleased v d e withdrawn value = In (old_is d e value) v.side.facts
 IsReleased v d e (failed f by) value = In (old_is d e value) v.side.facts
 
--- how the descriptor was decided is known, and which value counts; or that it was, and that its row has gone on, so that it
+-- how the descriptor was decided is known, and which value counts; or that it was, and that it is stale, so that it
 -- is not the own open one: then it is the old one, as a descriptor that succeeded stands nowhere any more
 abbrev pub KnowsValue : View → Ref → (e : ℕ) → Option Control → (value : ℕ) → Type 0
 KnowsValue v d e None value =
-    In (over d) v.side.facts × In (passed d) v.side.facts × In (old_is d e value) v.side.facts × (d.worker ≡ v.worker → v.side.current ≡ Some d.number → ⊥)
+    In (over d) v.side.facts × In (stale d) v.side.facts × In (old_is d e value) v.side.facts × (d.worker ≡ v.worker → v.side.current ≡ Some d.number → ⊥)
 KnowsValue v d e (Some k) value = In (decided d k) v.side.facts × IsReleased v d e k value
 
 -- the entry is known, and what its cell gets
@@ -377,8 +377,8 @@ row_said [] x = []
 row_said (r ∷ rs) x = cond (is_ref r.mark x) (mark_said x r.word ++ row_said rs x) (row_said rs x)
 
 -- the row of d is of another descriptor by now, so it was decided
-abbrev pub gone_noted : Side → Ref → Side
-gone_noted s d = note_side (note_side s (over d)) (passed d)
+abbrev pub stale_noted : Side → Ref → Side
+stale_noted s d = note_side (note_side s (over d)) (stale d)
 
 -- whether a fact says that d was opened
 abbrev pub tells_opened : Fact → Ref → Bool
@@ -390,7 +390,7 @@ tells_opened (old_is f e u) d = false
 tells_opened (new_is f e u) d = false
 tells_opened (decided f k) d = is_ref f d
 tells_opened (over f) d = false
-tells_opened (passed f) d = false
+tells_opened (stale f) d = false
 tells_opened (failed_at f e) d = false
 tells_opened (desc_is x f) d = false
 tells_opened (which_is x e) d = false
@@ -404,19 +404,19 @@ abbrev pub is_known : List Fact → Ref → Bool
 is_known [] d = false
 is_known (n ∷ ns) d = tells_opened n d || is_known ns d
 
--- A control word with the number of d tells how d is. With another one it tells that d has gone on, if it was opened.
+-- A control word with the number of d tells how d is. With another one it tells that d is stale, if it was opened.
 abbrev pub control_read : Side → Ref → (word : ℕ) → Side
 control_read s d word =
-    cond (serial_in word == d.number) (control_noted s d (read_control word)) (cond (is_known s.facts d) (gone_noted s d) s)
+    cond (serial_in word == d.number) (control_noted s d (read_control word)) (cond (is_known s.facts d) (stale_noted s d) s)
 
 -- the same of the control of a mark that was found in a cell
 abbrev pub mark_control_read : Side → (x : Ref) → (c : ℕ) → (d : Ref) → (word : ℕ) → Side
 mark_control_read s x c d word =
-    cond (serial_in word == d.number) (mark_noted (control_noted s d (read_control word)) x c (read_control word)) (note_side (gone_noted s d) (may_demote x))
+    cond (serial_in word == d.number) (mark_noted (control_noted s d (read_control word)) x c (read_control word)) (note_side (stale_noted s d) (may_demote x))
 
 -- the number in the row of d
 abbrev pub serial_read : View → Ref → (word : ℕ) → Side
-serial_read v d word = cond (word == d.number) (note_all v.side (rows_said v.raw_rows d)) (gone_noted v.side d)
+serial_read v d word = cond (word == d.number) (note_all v.side (rows_said v.raw_rows d)) (stale_noted v.side d)
 
 abbrev pub read_noted : View → Reading → (word : ℕ) → Side
 read_noted v (reading.Word p) word = v.side

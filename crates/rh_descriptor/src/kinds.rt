@@ -88,7 +88,7 @@ pub fn decide_desc(
     make_step(shape, words, side, Request::Decide { desc, state })
 }
 
-/// Swaps a cell from a descriptor that is decided so, or whose row has gone on, to this value. Answers the
+/// Swaps a cell from a descriptor that is decided so, or that is stale, to this value. Answers the
 /// word that stood there.
 pub fn release_cell(
     shape: &Shape,

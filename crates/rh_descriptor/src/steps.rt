@@ -53,7 +53,7 @@ pub enum Request {
         desc: Ref,
         state: State,
     },
-    /// Release of an entry of a descriptor that is decided so, or whose row has gone on, to this value.
+    /// Release of an entry of a descriptor that is decided so, or that is stale, to this value.
     Release {
         piece: Piece,
         state: Option<State>,

@@ -69,7 +69,7 @@ desc_in (Some (words.Desc worker number)) = Some (worker, number)
 abbrev pub promoted : Touched → Option (ℕ × ℕ)
 promoted touched = if touched.left == touched.found then None else desc_in (word_in touched.left)
 
--- whether the descriptor of this number is decided by this control, or its row has gone on
+-- whether the descriptor of this number is decided by this control, or it is stale
 abbrev pub is_over : (number : ℕ) → (control : Option (ℕ × State)) → Bool
 is_over number None = false
 is_over number (Some control) = if number == control.0 then is_decided control.1 else nat_lt number control.0

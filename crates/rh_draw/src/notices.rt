@@ -200,7 +200,7 @@ fn promoted(touched: Touched) -> Option<(u64, u64)>
     }
 }
 
-// Whether the descriptor of this number is decided by this control, or its row has gone on.
+// Whether the descriptor of this number is decided by this control, or it is stale.
 fn is_over(number: u64, control: u64) -> bool
     ensures { result ≡ is_over number (control_in control) }
 {

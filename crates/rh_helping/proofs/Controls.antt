@@ -7,13 +7,13 @@ use Rattle.rh_tagword.specs.declared.control.State.TheVariants.{Unused, Undecide
 use Rattle.rh_world.specs.World.{Control as WorldControl, In, IsDecided, IsOpened, Ref, is_ref}
 use Rattle.rh_world.specs.World.Control.{failed, succeeded, undecided, unused, withdrawn}
 use Rattle.rh_world.specs.Facts.{Fact}
-use Rattle.rh_world.specs.Facts.Fact.{decided, known, may_demote, may_promote, met, over, passed}
+use Rattle.rh_world.specs.Facts.Fact.{decided, known, may_demote, may_promote, met, over, stale}
 use Rattle.rh_world.specs.Sides.{Debt, Side, note_side}
 use Rattle.rh_world.specs.Moves.{control_noted, mark_noted}
 use Rattle.rh_world.proofs.Tests.{eqb_not, eqb_yes}
 use Rattle.rh_descriptor.specs.View.{OwnDesc, View}
 use Rattle.rh_descriptor.specs.Words.{control_of, number_of, read_control, serial_in, state_of, without_entry}
-use Rattle.rh_descriptor.specs.Steps.{IsKnown, control_read, decided_word, gone_noted, is_known, mark_control_read, tells_opened}
+use Rattle.rh_descriptor.specs.Steps.{IsKnown, control_read, decided_word, stale_noted, is_known, mark_control_read, tells_opened}
 use Rattle.rh_rule.specs.Sound.{ControlTells, IsControlWord}
 use Rattle.rh_rule.proofs.Said.{control_said_is, serial_said_is}
 use Rattle.rh_helping.specs.Goal.{IsFresh, IsMet, IsOther, KnowsOwn, StandsAt}
@@ -118,25 +118,25 @@ known_is (n ∷ ns) d h = ⊎_elim (⊎_elim
     there e = ap (λ (b : Bool). tells_opened n d || b) e ∙ or_true (tells_opened n d)
 
 abbrev pub told_side : Side → Ref → Option WorldControl → Side
-told_side s d None = gone_noted s d
+told_side s d None = stale_noted s d
 told_side s d (Some k) = control_noted s d k
 
 told_is : (s : Side) (d : Ref) (word : ℕ) → is_known s.facts d ≡ true → control_read s d word ≡ told_side s d (state_said d.number word)
 told_is s d word is = by (eqb (serial_in word) d.number)
   where
-    by : (b : Bool) → cond b (control_noted s d (read_control word)) (cond (is_known s.facts d) (gone_noted s d) s)
+    by : (b : Bool) → cond b (control_noted s d (read_control word)) (cond (is_known s.facts d) (stale_noted s d) s)
         ≡ told_side s d (cond b (Some (read_control word)) None)
     by true = refl
-    by false = ap (λ (c : Bool). cond c (gone_noted s d) s) is
+    by false = ap (λ (c : Bool). cond c (stale_noted s d) s) is
 
 abbrev pub mark_told_side : Side → (x : Ref) → (c : ℕ) → (d : Ref) → Option WorldControl → Side
-mark_told_side s x c d None = note_side (gone_noted s d) (may_demote x)
+mark_told_side s x c d None = note_side (stale_noted s d) (may_demote x)
 mark_told_side s x c d (Some k) = mark_noted (control_noted s d k) x c k
 
 mark_told_is : (s : Side) (x : Ref) (c : ℕ) (d : Ref) (word : ℕ) → mark_control_read s x c d word ≡ mark_told_side s x c d (state_said d.number word)
 mark_told_is s x c d word = by (eqb (serial_in word) d.number)
   where
-    by : (b : Bool) → cond b (mark_noted (control_noted s d (read_control word)) x c (read_control word)) (note_side (gone_noted s d) (may_demote x))
+    by : (b : Bool) → cond b (mark_noted (control_noted s d (read_control word)) x c (read_control word)) (note_side (stale_noted s d) (may_demote x))
         ≡ mark_told_side s x c d (cond b (Some (read_control word)) None)
     by true = refl
     by false = refl
@@ -177,7 +177,7 @@ debts_told debts d (Some Withdrawn) = debts
 debts_told debts d (Some (Failed by)) = debts
 
 abbrev pub ToldAs : View → Ref → Option State → Type 0
-ToldAs next d None = In (over d) next.side.facts × In (passed d) next.side.facts
+ToldAs next d None = In (over d) next.side.facts × In (stale d) next.side.facts
 ToldAs next d (Some k) = IsMet next d k 0
 
 -- it told this of d
@@ -316,13 +316,13 @@ module _ (v : View) (d : Ref) (word : ℕ) (tells : ControlTells v d word) where
 
   -- who decided it, if this worker did, noted so
   tells_had : (r : Option State) → option_map control_of r ≡ state_said d.number word → DecidesNone (failed 0 v.worker) v.side.facts (told_side v.side d (option_map control_of r)).facts
-  tells_had None is = none_then (failed 0 v.worker) v.side.facts (over d ∷ v.side.facts) (passed d ∷ over d ∷ v.side.facts)
-      (none_note (failed 0 v.worker) (over d) v.side.facts refl) (none_note (failed 0 v.worker) (passed d) (over d ∷ v.side.facts) refl)
+  tells_had None is = none_then (failed 0 v.worker) v.side.facts (over d ∷ v.side.facts) (stale d ∷ over d ∷ v.side.facts)
+      (none_note (failed 0 v.worker) (over d) v.side.facts refl) (none_note (failed 0 v.worker) (stale d) (over d ∷ v.side.facts) refl)
   tells_had (Some k) is =
       let q = said_some d.number word (control_of k) is in
       none_control (failed 0 v.worker) v.side d (control_of k) (λ e. (tells.tells q.0).noted 0 (sym q.1 ∙ e))
 
-  -- an own one that has gone on is not open
+  -- a stale own one is not open
   pub tells_other : (opens : Option OwnDesc) → KnowsOwn v opens → (r : Option State) → option_map control_of r ≡ state_said d.number word → r ≡ None → IsOther v d
   tells_other opens own r is none mine current =
       said_none d.number word (sym (ap (λ (o : Option State). option_map control_of o) none) ∙ is) (tells.stays mine (own.last d.number current))
@@ -419,7 +419,7 @@ module _ (v : View) (d : Ref) (k : State) (over_k : IsOver k) (state : IsState k
   has_state : IsState (state_of (control_of k))
   has_state = subst IsState (sym (state_back k)) state
 
-  -- it was swapped, or it was decided before, or has gone on
+  -- it was swapped, or it was decided before, or is stale
   either : (word ≡ number_of d.number (control_of k)) × (serial_in found ≡ d.number) ⊎ (word ≡ found) × (found ≢ number_of d.number undecided)
   either = by (eqb found (number_of d.number undecided)) refl
     where

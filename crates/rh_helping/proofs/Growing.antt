@@ -5,7 +5,7 @@ use Rattle.rh_tagword.specs.declared.control.State.TheVariants.{Unused, Undecide
 use Rattle.rh_world.specs.World.{In, Ref}
 use Rattle.rh_world.specs.World.Control.{failed}
 use Rattle.rh_world.specs.Facts.{Fact}
-use Rattle.rh_world.specs.Facts.Fact.{decided, failed_at, held, known, met, new_is, old_is, over, passed, size_is, target_is}
+use Rattle.rh_world.specs.Facts.Fact.{decided, failed_at, held, known, met, new_is, old_is, over, stale, size_is, target_is}
 use Rattle.rh_descriptor.specs.View.{OwnDesc, View, Written, own_ref}
 use Rattle.rh_descriptor.specs.Words.{control_of, ref_of}
 use Rattle.rh_world.specs.Moves.{HasSeen}
@@ -13,7 +13,7 @@ use Rattle.rh_descriptor.specs.Steps.{IsKnown, entry_of, row_word}
 use Rattle.rh_helping.specs.declared.goal.Task.{Task}
 use Rattle.rh_helping.specs.Next.{Goal}
 use Rattle.rh_helping.specs.declared.goal.Owed.{Owed}
-use Rattle.rh_helping.specs.Goal.{HasGone, HasReason, HasReleased, IsAllNoted, IsClear, IsForeign, IsMet, IsOpenOf, KnowsGoal, KnowsOwn, KnowsTask, OwesNothing, OwesOne, Owns, Releases, ReleasesOther, ReleasesOwn, StandsAt, open_number}
+use Rattle.rh_helping.specs.Goal.{IsStale, HasReason, HasReleased, IsAllNoted, IsClear, IsForeign, IsMet, IsOpenOf, KnowsGoal, KnowsOwn, KnowsTask, OwesNothing, OwesOne, Owns, Releases, ReleasesOther, ReleasesOwn, StandsAt, open_number}
 use Rattle.rh_helping.specs.Settling.{FailsNone, Grows, Keeps}
 use Rattle.rh_helping.specs.Work.{IsAt, IsOver, Owes, OwesAs}
 
@@ -116,11 +116,11 @@ module _ (v next : View) (keeps : Keeps v next) where
     own_sub row own = record { owns = owns_sub own.owns; row = λ n e. row ∙ own.row n (e ∙ keeps.next_number) }
 
   module _ (current : next.side.current ≡ v.side.current) where
-    pub gone_sub : (d : Ref) → HasGone v d → HasGone next d
-    gone_sub d h = record {
+    pub stale_sub : (d : Ref) → IsStale v d → IsStale next d
+    stale_sub d h = record {
       known = known_sub v.side.facts next.side.facts keeps.facts d h.known;
       over = keeps.facts (over d) h.over;
-      passed = keeps.facts (passed d) h.passed;
+      stale = keeps.facts (stale d) h.stale;
       other = λ a b. h.other (a ∙ keeps.worker) (sym current ∙ b);
     }
 

@@ -5,7 +5,7 @@ use Rattle.rh_tagword.specs.Control.{is_decided}
 use Rattle.rh_tagword.specs.declared.control.State.{State}
 use Rattle.rh_tagword.specs.declared.control.State.TheVariants.{Undecided}
 use Rattle.rh_world.specs.World.{In, Ref}
-use Rattle.rh_world.specs.Facts.Fact.{passed}
+use Rattle.rh_world.specs.Facts.Fact.{stale}
 use Rattle.rh_descriptor.specs.declared.reference.Piece.{Piece}
 use Rattle.rh_descriptor.specs.declared.reference.Ref.{Ref as Reference}
 use Rattle.rh_descriptor.specs.View.{View}
@@ -55,5 +55,5 @@ module _ (v next : View) (x : Reference) (p : Piece) (h : IsFound v x p) (owes :
       let u : k ≡ Undecided = stands_undecided next.side.facts (ref_of p.desc) k 0 q.0.told.stands no_ in
       (found_grows v next (met_grows (Some k) is) x p h, subst (λ (s : State). MarkedAs next (ref_of x) p.cell (Some s)) u q.2)
 
-  pub met_gone : None ≡ state_said p.desc.number word → In (passed (ref_of p.desc)) next.side.facts
-  met_gone is = (saw_it None is).0.told.1
+  pub met_stale : None ≡ state_said p.desc.number word → In (stale (ref_of p.desc)) next.side.facts
+  met_stale is = (saw_it None is).0.told.1

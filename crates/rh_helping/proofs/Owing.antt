@@ -3,7 +3,7 @@ use Rattle.std.proofs.Common.{◌≡◌, ℕ, ◌<◌, ◌⊎◌, Bool, true, fa
 use Rattle.rh_tagword.specs.declared.control.State.{State}
 use Rattle.rh_tagword.specs.declared.control.State.TheVariants.{Unused, Undecided, Succeeded, Withdrawn, Failed}
 use Rattle.rh_world.specs.World.{In, Ref, is_ref}
-use Rattle.rh_world.specs.Facts.Fact.{old_is, over, passed, size_is, target_is}
+use Rattle.rh_world.specs.Facts.Fact.{old_is, over, stale, size_is, target_is}
 use Rattle.rh_world.specs.Moves.{MayWork}
 use Rattle.rh_world.specs.Sides.{Debt}
 use Rattle.rh_world.proofs.Updated.{ref_path, same_nat, some_injective, some_not_none}
@@ -12,9 +12,9 @@ use Rattle.rh_descriptor.specs.Words.{ref_of}
 use Rattle.rh_helping.specs.Next.{Goal}
 use Rattle.rh_helping.specs.declared.goal.Owed.{Owed}
 use Rattle.rh_helping.specs.declared.goal.Task.{Task}
-use Rattle.rh_helping.specs.Goal.{HasGone, HasReleased, IsAllNoted, IsForeign, IsNewest, KnowsOwn, OwesNothing, OwesOne, Releases, ReleasesOther, ReleasesOwn, StandsAt, debt_of, open_number, owed_of}
+use Rattle.rh_helping.specs.Goal.{IsStale, HasReleased, IsAllNoted, IsForeign, IsNewest, KnowsOwn, OwesNothing, OwesOne, Releases, ReleasesOther, ReleasesOwn, StandsAt, debt_of, open_number, owed_of}
 use Rattle.rh_helping.specs.Settling.{Grows}
-use Rattle.rh_helping.specs.Work.{IsAt, IsLeft, IsOver, OwesAs}
+use Rattle.rh_helping.specs.Work.{IsAt, IsGivenUp, IsOver, OwesAs}
 use Rattle.rh_helping.proofs.Growing.{known_sub, nothing_grows, stands_known}
 use Rattle.rh_helping.proofs.Controls.{Saw, debts_told}
 
@@ -81,9 +81,9 @@ nothing_saw v next d r saw h = record {
   unreleased = saw.released ∙ h.unreleased;
 }
 
--- ---- a descriptor of another worker is left, as its row has gone on
+-- ---- a descriptor of another worker is left, as it is stale
 
-module _ (v next : View) (g : Grows v next) (t : Task) (h : IsAt v t) (foreign : IsForeign v (ref_of t.desc)) (gone : In (over (ref_of t.desc)) next.side.facts × In (passed (ref_of t.desc)) next.side.facts) where
+module _ (v next : View) (g : Grows v next) (t : Task) (h : IsAt v t) (foreign : IsForeign v (ref_of t.desc)) (gone : In (over (ref_of t.desc)) next.side.facts × In (stale (ref_of t.desc)) next.side.facts) where
   abbrev d : Ref
   d = ref_of t.desc
 
@@ -120,14 +120,14 @@ module _ (v next : View) (g : Grows v next) (t : Task) (h : IsAt v t) (foreign :
       by Withdrawn is q = q
       by (Failed who) is q = q
 
-  left_by : (owed : Option Owed) → t.owed ≡ owed → IsLeft next d owed
+  left_by : (owed : Option Owed) → t.owed ≡ owed → IsGivenUp next d owed
   left_by None none = (nothing_grows v next g (left_nothing none), gone.1)
   left_by (Some o) some =
       let r = left_releases o some in
       let one = subst (λ (q : Option Owed). OwesOne v d t.entry t.size q) some r.owes in
       let same = sym one.1.of_desc in
       record {
-        gone = subst (HasGone next) same (record { known = known_sub v.side.facts next.side.facts g.facts d (stands_known v.side.facts d t.state t.entry h.task.met.stands); over = gone.0; passed = gone.1; other = λ mine current. foreign (mine ∙ g.worker) });
+        gone = subst (IsStale next) same (record { known = known_sub v.side.facts next.side.facts g.facts d (stands_known v.side.facts d t.state t.entry h.task.met.stands); over = gone.0; stale = gone.1; other = λ mine current. foreign (mine ∙ g.worker) });
         work = subst (λ (f : Ref). MayWork next.side f o.piece.entry) same (record { size = t.size; known = g.facts (size_is d t.size) h.task.size; within = one.1.within });
         cell = subst (λ (f : Ref). In (target_is f o.piece.entry o.piece.cell) next.side.facts) same (g.facts (target_is d o.piece.entry o.piece.cell) one.1.cell);
         old = subst (λ (f : Ref). In (old_is f o.piece.entry o.old) next.side.facts) same (g.facts (old_is d o.piece.entry o.old) one.1.old);
@@ -136,7 +136,7 @@ module _ (v next : View) (g : Grows v next) (t : Task) (h : IsAt v t) (foreign :
         unreleased = g.released ∙ unreleased r.released;
       }
 
-  pub left_at : IsLeft next d t.owed
+  pub left_at : IsGivenUp next d t.owed
   left_at = left_by t.owed refl
 
 -- all is noted of the own open descriptor

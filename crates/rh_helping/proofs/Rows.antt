@@ -4,7 +4,7 @@ use Rattle.rh_world.specs.World.{In, Ref, is_ref}
 use Rattle.rh_world.specs.World.Cell.{desc}
 use Rattle.rh_world.specs.World.Control.{failed}
 use Rattle.rh_world.specs.Facts.{Fact}
-use Rattle.rh_world.specs.Facts.Fact.{new_is, old_is, over, passed, target_is}
+use Rattle.rh_world.specs.Facts.Fact.{new_is, old_is, over, stale, target_is}
 use Rattle.rh_world.specs.Sides.{Side, note_side}
 use Rattle.rh_world.specs.Moves.{note_all}
 use Rattle.rh_world.proofs.Tests.{by_cond, is_desc_not}
@@ -12,7 +12,7 @@ use Rattle.rh_descriptor.specs.declared.shape.Shape.{Shape}
 use Rattle.rh_descriptor.specs.declared.reference.Reading.TheVariants as reading
 use Rattle.rh_descriptor.specs.View.{Raw, RawRow, RowWord, View}
 use Rattle.rh_descriptor.specs.Words.{ref_of}
-use Rattle.rh_descriptor.specs.Steps.{Allowed, Step, desc_row_said, gone_noted, rows_said, serial_read, with_side}
+use Rattle.rh_descriptor.specs.Steps.{Allowed, Step, desc_row_said, stale_noted, rows_said, serial_read, with_side}
 use Rattle.rh_helping.specs.Next.{Goal}
 use Rattle.rh_helping.specs.declared.goal.Task.{Task}
 use Rattle.rh_helping.specs.Goal.{HasReadRow, KnowsGoal}
@@ -98,20 +98,20 @@ module _ (v : View) (d : Ref) (word : ℕ) where
   serial_view = with_side v (serial_read v d word)
 
   pub serial_grows : Grows v serial_view
-  serial_grows = by_cond (λ (s : Side). Grows v (with_side v s)) (eqb word d.number) (note_all v.side (rows_said v.raw_rows d)) (gone_noted v.side d)
+  serial_grows = by_cond (λ (s : Side). Grows v (with_side v s)) (eqb word d.number) (note_all v.side (rows_said v.raw_rows d)) (stale_noted v.side d)
       (λ yes. grows_all v (rows_said v.raw_rows d) (rows_tell v.raw_rows d))
-      (λ no. grows_by v (gone_noted v.side d) v.control v.raw_rows v.raw refl refl refl refl (λ n i. inr (inr i))
-      (none_then (failed 0 v.worker) v.side.facts (over d ∷ v.side.facts) (passed d ∷ over d ∷ v.side.facts)
-      (none_note (failed 0 v.worker) (over d) v.side.facts refl) (none_note (failed 0 v.worker) (passed d) (over d ∷ v.side.facts) refl)))
+      (λ no. grows_by v (stale_noted v.side d) v.control v.raw_rows v.raw refl refl refl refl (λ n i. inr (inr i))
+      (none_then (failed 0 v.worker) v.side.facts (over d ∷ v.side.facts) (stale d ∷ over d ∷ v.side.facts)
+      (none_note (failed 0 v.worker) (over d) v.side.facts refl) (none_note (failed 0 v.worker) (stale d) (over d ∷ v.side.facts) refl)))
 
   -- the row is of d still: so it says what was read there
   pub serial_tells : word ≡ d.number → (u : RowWord) → HasReadRow v d u → In (desc_row_said d u) serial_view.side.facts
-  serial_tells is u had = subst (λ (s : Side). In (desc_row_said d u) s.facts) (sym (ap (λ (b : Bool). cond b (note_all v.side (rows_said v.raw_rows d)) (gone_noted v.side d)) (eq-eqb word d.number is)))
+  serial_tells is u had = subst (λ (s : Side). In (desc_row_said d u) s.facts) (sym (ap (λ (b : Bool). cond b (note_all v.side (rows_said v.raw_rows d)) (stale_noted v.side d)) (eq-eqb word d.number is)))
       (in_all v.side (rows_said v.raw_rows d) (desc_row_said d u) (in_rows v.raw_rows d u had))
 
-  -- it has gone on
-  pub serial_gone : word ≢ d.number → In (over d) serial_view.side.facts × In (passed d) serial_view.side.facts
-  serial_gone ne = subst (λ (s : Side). In (over d) s.facts × In (passed d) s.facts) (sym (ap (λ (b : Bool). cond b (note_all v.side (rows_said v.raw_rows d)) (gone_noted v.side d)) (ne_eqb word d.number ne)))
+  -- it is stale
+  pub serial_stale : word ≢ d.number → In (over d) serial_view.side.facts × In (stale d) serial_view.side.facts
+  serial_stale ne = subst (λ (s : Side). In (over d) s.facts × In (stale d) s.facts) (sym (ap (λ (b : Bool). cond b (note_all v.side (rows_said v.raw_rows d)) (stale_noted v.side d)) (ne_eqb word d.number ne)))
       (inr (inl refl), inl refl)
 
 -- the goal that was read

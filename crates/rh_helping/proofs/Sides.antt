@@ -4,7 +4,7 @@ use Rattle.rh_world.specs.World.{Cell, Control, In, Ref, is_ref}
 use Rattle.rh_world.specs.World.Cell.{desc, mark, plain}
 use Rattle.rh_world.specs.World.Control.{failed, succeeded, undecided, unused, withdrawn}
 use Rattle.rh_world.specs.Facts.{Fact}
-use Rattle.rh_world.specs.Facts.Fact.{decided, desc_is, failed_at, found, held, known, may_demote, may_promote, met, mismatch, new_is, old_is, over, passed, size_is, target_is, which_is}
+use Rattle.rh_world.specs.Facts.Fact.{decided, desc_is, failed_at, found, held, known, may_demote, may_promote, met, mismatch, new_is, old_is, over, stale, size_is, target_is, which_is}
 use Rattle.rh_world.specs.Sides.{Side, note_side}
 use Rattle.rh_world.specs.Moves.{control_noted, mark_noted, note_all, place_noted, placed_noted, settle_noted}
 use Rattle.rh_world.proofs.Tests.{by_cond}
@@ -12,7 +12,7 @@ use Rattle.rh_descriptor.specs.View.{MarkWord, Raw, RawRow, RowWord}
 use Rattle.rh_descriptor.specs.View.MarkWord.{desc_word, entry_word}
 use Rattle.rh_descriptor.specs.View.RowWord.{cell_word, length_word, new_word, old_word}
 use Rattle.rh_descriptor.specs.Words.{desc_in}
-use Rattle.rh_descriptor.specs.Steps.{desc_row_said, desc_said, gone_noted, mark_said, row_said, rows_said}
+use Rattle.rh_descriptor.specs.Steps.{desc_row_said, desc_said, stale_noted, mark_said, row_said, rows_said}
 
 pub record More (s t : Side) : Type 0 where
   pub current : t.current ≡ s.current
@@ -56,8 +56,8 @@ pub more_settle : (s : Side) (d : Ref) (e c : ℕ) (b : Bool) → More s (settle
 more_settle s d e c true = record { current = refl; released = refl; reads = refl; claims = refl; facts = λ n i. inr i }
 more_settle s d e c false = record { current = refl; released = refl; reads = refl; claims = refl; facts = λ n i. i }
 
-pub more_gone : (s : Side) (d : Ref) → More s (gone_noted s d)
-more_gone s d = record { current = refl; released = refl; reads = refl; claims = refl; facts = λ n i. inr (inr i) }
+pub more_stale : (s : Side) (d : Ref) → More s (stale_noted s d)
+more_stale s d = record { current = refl; released = refl; reads = refl; claims = refl; facts = λ n i. inr (inr i) }
 
 -- ---- no descriptor is newly noted as decided so
 
@@ -70,7 +70,7 @@ tells_decided (old_is d e u) = false
 tells_decided (new_is d e u) = false
 tells_decided (decided d k) = true
 tells_decided (over d) = false
-tells_decided (passed d) = false
+tells_decided (stale d) = false
 tells_decided (failed_at d e) = false
 tells_decided (desc_is x d) = false
 tells_decided (which_is x e) = false
@@ -135,7 +135,7 @@ decided_desc d (old_is f e u) = d
 decided_desc d (new_is f e u) = d
 decided_desc d (decided f k) = f
 decided_desc d (over f) = d
-decided_desc d (passed f) = d
+decided_desc d (stale f) = d
 decided_desc d (failed_at f e) = d
 decided_desc d (desc_is x f) = d
 decided_desc d (which_is x e) = d
@@ -154,7 +154,7 @@ decided_control k (old_is f e u) = k
 decided_control k (new_is f e u) = k
 decided_control k (decided f q) = q
 decided_control k (over f) = k
-decided_control k (passed f) = k
+decided_control k (stale f) = k
 decided_control k (failed_at f e) = k
 decided_control k (desc_is x f) = k
 decided_control k (which_is x e) = k

@@ -183,18 +183,18 @@ abbrev pub HasReason : View → Task → Type 0
 HasReason v t = t.desc.worker ≡ v.worker → v.side.current ≡ Some t.desc.number → (by : ℕ) → t.state ≡ Failed by
     → (e : ℕ) × (t.reason ≡ Some e) × In (failed_at (ref_of t.desc) e) v.side.facts
 
--- ---- a descriptor whose row has gone on
+-- ---- a stale descriptor
 
 -- it is decided, and not the own open one
-pub record HasGone (v : View) (d : Ref) : Type 0 where
+pub record IsStale (v : View) (d : Ref) : Type 0 where
   pub known : IsKnown v.side.facts d
   pub over : In (Fact.over d) v.side.facts
-  pub passed : In (Fact.passed d) v.side.facts
+  pub stale : In (Fact.stale d) v.side.facts
   pub other : IsOther v d
 
 -- the one cell that is owed gets its old value back, should such a descriptor stand there
 pub record GivesBack (v : View) (o : Owed) : Type 0 where
-  pub gone : HasGone v (ref_of o.piece.desc)
+  pub gone : IsStale v (ref_of o.piece.desc)
   pub work : MayWork v.side (ref_of o.piece.desc) o.piece.entry
   pub cell : In (target_is (ref_of o.piece.desc) o.piece.entry o.piece.cell) v.side.facts
   pub old : In (old_is (ref_of o.piece.desc) o.piece.entry o.old) v.side.facts

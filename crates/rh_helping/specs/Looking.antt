@@ -1,7 +1,7 @@
 -- What is so while a cell is read until it holds a value.
 use Rattle.std.specs.Prelude.{◌≡◌, ℕ, ◌≤◌, ◌⊎◌, None, List, ◌∷◌}
 use Rattle.rh_world.specs.World.{In}
-use Rattle.rh_world.specs.Facts.Fact.{passed}
+use Rattle.rh_world.specs.Facts.Fact.{stale}
 use Rattle.rh_world.specs.Sides.{KeptRead}
 use Rattle.rh_descriptor.specs.declared.shape.Shape.{Shape}
 use Rattle.rh_descriptor.specs.declared.steps.StepKind.{StepKind}
@@ -40,7 +40,7 @@ LooksOn z v Spent = IsClear v × (z.rooms.marks ≤ v.marks_used)
 abbrev pub EndsLooking : (v next : View) → Looking → Type 0
 EndsLooking v next looking.Read = ⊥
 EndsLooking v next (looking.Settle s) = EndsSettling v next s
-EndsLooking v next (looking.Help w) = ReleasesLast w ⊎ In (passed (ref_of (desc_of w))) next.side.facts
+EndsLooking v next (looking.Help w) = ReleasesLast w ⊎ In (stale (ref_of (desc_of w))) next.side.facts
 
 -- Where marks are left, the cell is not read again before that.
 abbrev pub MayLookOn : (v next : View) → Looking → Looked → Type 0

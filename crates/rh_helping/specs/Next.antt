@@ -66,7 +66,7 @@ pub data Work : Type 0 where
   MarkControl : Placed → Work
   -- Settle of the mark to its descriptor
   Promote : Placed → Work
-  -- Settle of the mark to the old value, as the descriptor is decided so, or its row has gone on
+  -- Settle of the mark to the old value, as the descriptor is decided so, or it is stale
   Demote : Placed → Option State → Work
   -- Read of the descriptor's control once it stands in the cell, if it came to stand there
   Recheck : Goal → (promoted : Bool) → Work
@@ -82,13 +82,13 @@ pub data Work : Type 0 where
   ReadReason : Task → (decider : ℕ) → Work
   -- Release of an entry
   Release : Goal → Work
-  -- Release of the one entry whose cell is owed, to its old value, as the descriptor's row has gone on
+  -- Release of the one entry whose cell is owed, to its old value, as the descriptor is stale
   GiveBack : Owed → Work
 
 pub data Outcome : Type 0 where
   -- the next step
   On : Work → Outcome
-  -- The descriptor is released, or left as its row has gone on. No own descriptor is open, and nothing is owed.
+  -- The descriptor is released, or left as it is stale. No own descriptor is open, and nothing is owed.
   Over : Outcome
   -- the own descriptor that was open ended so, and is released
   Closed : Ended → Outcome

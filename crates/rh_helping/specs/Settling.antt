@@ -3,7 +3,7 @@ use Rattle.std.specs.Prelude.{◌≡◌, Option, Some, None}
 use Rattle.rh_world.specs.World.{In, Ref}
 use Rattle.rh_world.specs.World.Control.{failed}
 use Rattle.rh_world.specs.Facts.{Fact}
-use Rattle.rh_world.specs.Facts.Fact.{decided, found, desc_is, which_is, may_demote, passed}
+use Rattle.rh_world.specs.Facts.Fact.{decided, found, desc_is, which_is, may_demote, stale}
 use Rattle.rh_descriptor.specs.declared.reference.Ref.{Ref as Reference}
 use Rattle.rh_descriptor.specs.declared.reference.Piece.{Piece}
 use Rattle.rh_descriptor.specs.declared.steps.StepKind.{StepKind}
@@ -68,15 +68,15 @@ IsSettling v (settling.Old x p) = IsFound v x p × In (may_demote (ref_of x)) v.
 IsSettling v (settling.OldSerial x p old) = IsFound v x p × In (may_demote (ref_of x)) v.side.facts × HasReadRow v (ref_of p.desc) (old_word p.entry old)
 IsSettling v (settling.Settle x p old) = IsFound v x p × MaySettle v (ref_of x) p.cell (ref_of p.desc) p.entry old
 
--- The mark is left once it is settled, or where its row has gone on, and then nothing is noted of it, or that of its
+-- The mark is left once it is settled, or where it is stale, and then nothing is noted of it, or that of its
 -- descriptor.
 abbrev pub EndsSettling : (v next : View) → Settles → Type 0
 EndsSettling v next (settling.Desc x c) = ⊥
 EndsSettling v next (settling.Entry x c u) = ⊥
 EndsSettling v next (settling.Serial x c u e) = next.side ≡ v.side
-EndsSettling v next (settling.Control x p) = In (passed (ref_of p.desc)) next.side.facts
+EndsSettling v next (settling.Control x p) = In (stale (ref_of p.desc)) next.side.facts
 EndsSettling v next (settling.Old x p) = ⊥
-EndsSettling v next (settling.OldSerial x p old) = In (passed (ref_of p.desc)) next.side.facts
+EndsSettling v next (settling.OldSerial x p old) = In (stale (ref_of p.desc)) next.side.facts
 EndsSettling v next (settling.Settle x p old) = Unit {0}
 
 -- what the step leads to: the next one, or none where the mark is left

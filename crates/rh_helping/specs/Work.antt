@@ -4,7 +4,7 @@ use Rattle.rh_tagword.specs.declared.control.State.{State}
 use Rattle.rh_tagword.specs.declared.control.State.TheVariants.{Unused, Undecided, Succeeded, Withdrawn, Failed}
 use Rattle.rh_world.specs.World.{Ref, In}
 use Rattle.rh_world.specs.World.Control.{failed, succeeded, withdrawn}
-use Rattle.rh_world.specs.Facts.Fact.{held, mismatch, decided, failed_at, found, desc_is, which_is, may_promote, may_demote, passed}
+use Rattle.rh_world.specs.Facts.Fact.{held, mismatch, decided, failed_at, found, desc_is, which_is, may_promote, may_demote, stale}
 use Rattle.rh_descriptor.specs.declared.reference.Ref.{Ref as Reference}
 use Rattle.rh_descriptor.specs.declared.shape.Shape.{Shape}
 use Rattle.rh_descriptor.specs.declared.steps.StepKind.{StepKind}
@@ -21,7 +21,7 @@ use Rattle.rh_helping.specs.Next.{Work as work}
 use Rattle.rh_helping.specs.Next.Outcome.{On, Over, Closed, Spent}
 use Rattle.rh_helping.specs.declared.machine.Ended.{Ended}
 use Rattle.rh_helping.specs.declared.machine.Ended.TheVariants as ended
-use Rattle.rh_helping.specs.Goal.{GivesBack, HasGone, HasReadRow, HasReason, IsForeign, IsMet, IsNewest, KnowsGoal, KnowsOwn, KnowsTask, OwesNothing, Releases, debt_of, owed_of}
+use Rattle.rh_helping.specs.Goal.{GivesBack, IsStale, HasReadRow, HasReason, IsForeign, IsMet, IsNewest, KnowsGoal, KnowsOwn, KnowsTask, OwesNothing, Releases, debt_of, owed_of}
 use Rattle.rh_helping.specs.Settling.{IsSettling, kind_of_settling}
 
 abbrev pub kind_of_work : Work → StepKind
@@ -141,15 +141,15 @@ pub record IsSwapped (v : View) (g : Goal) (promoted : Bool) : Type 0 where
   pub unreleased : v.side.released ≡ []
   pub holds : promoted ≡ true → In (held (ref_of g.task.desc) g.task.entry) v.side.facts
 
--- the descriptor is decided so, or its row has gone on
-abbrev pub IsOut : View → Ref → Option State → Type 0
-IsOut v d None = HasGone v d
-IsOut v d (Some k) = IsOver k × IsMet v d k 0
+-- the descriptor is decided so, or it is stale
+abbrev pub IsDecidedOrStale : View → Ref → Option State → Type 0
+IsDecidedOrStale v d None = IsStale v d
+IsDecidedOrStale v d (Some k) = IsOver k × IsMet v d k 0
 
--- d is left, as its row has gone on: nothing is owed, or this cell
-abbrev pub IsLeft : View → Ref → Option Owed → Type 0
-IsLeft v d None = OwesNothing v × In (passed d) v.side.facts
-IsLeft v d (Some o) = GivesBack v o
+-- d is left, as it is stale: nothing is owed, or this cell
+abbrev pub IsGivenUp : View → Ref → Option Owed → Type 0
+IsGivenUp v d None = OwesNothing v × In (stale d) v.side.facts
+IsGivenUp v d (Some o) = GivesBack v o
 
 -- an entry of an undecided task did not hold its old value
 pub record Mismatches (v : View) (t : Task) : Type 0 where
@@ -173,7 +173,7 @@ Stands z v (work.Place g) = CanTry z v g × NamesEntry z v g
 Stands z v (work.Settle s g) = CanTry z v g × NamesEntry z v g × IsSettling v s
 Stands z v (work.MarkControl p) = IsPlaced v p
 Stands z v (work.Promote p) = IsPlaced v p × In (may_promote (ref_of p.mark) p.goal.cell) v.side.facts
-Stands z v (work.Demote p k) = IsPlaced v p × IsOut v (ref_of p.goal.task.desc) k × In (may_demote (ref_of p.mark)) v.side.facts
+Stands z v (work.Demote p k) = IsPlaced v p × IsDecidedOrStale v (ref_of p.goal.task.desc) k × In (may_demote (ref_of p.mark)) v.side.facts
 Stands z v (work.Recheck g promoted) = IsSwapped v g promoted
 Stands z v (work.WriteReason t) = Mismatches v t
 Stands z v (work.Fail t) = Mismatches v t × (row_word v.written (reason_row z t.desc.worker) ≡ t.entry)
@@ -250,9 +250,9 @@ desc_of (work.GiveBack o) = o.piece.desc
 abbrev pub ReleasesLast : Work → Type 0
 ReleasesLast w = (g : Goal) × (w ≡ work.Release g) × (g.task.entry + 1 ≡ g.task.size)
 
--- Where marks are left, nothing else ends the work, but that the descriptor's row has gone on.
+-- Where marks are left, nothing else ends the work, but that the descriptor is stale.
 abbrev pub MayEnd : View → Work → Outcome → Type 0
 MayEnd next w (On on) = Unit {0}
-MayEnd next w Over = ReleasesLast w ⊎ In (passed (ref_of (desc_of w))) next.side.facts
+MayEnd next w Over = ReleasesLast w ⊎ In (stale (ref_of (desc_of w))) next.side.facts
 MayEnd next w (Closed k) = ReleasesLast w
 MayEnd next w Spent = Unit {0}

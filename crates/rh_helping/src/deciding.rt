@@ -114,7 +114,7 @@ fn own_failure(side: &Side) -> State
 
 impl Machine {
     /// After a Decide of the task to this state, which found this word: releases it, however it was
-    /// decided, or leaves it where its row has gone on.
+    /// decided, or leaves it where it is stale.
     #[inline(always)]
     fn decided<T: Steps>(
         &mut self,

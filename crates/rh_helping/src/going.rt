@@ -9,7 +9,7 @@ ghost use Rattle.rh_helping.specs.Next.{Work};
 ghost use Rattle.rh_helping.specs.Work.{Begins, HasFailedOwn, IsNext, Leads, MayEnd, Owes, ReleasesLast, desc_of, failed_by};
 ghost use Rattle.rh_steps.specs.Relies.{Trusts};
 ghost use Rattle.rh_world.specs.World.{In};
-ghost use Rattle.rh_world.specs.Facts.Fact.{passed};
+ghost use Rattle.rh_world.specs.Facts.Fact.{stale};
 
 use crate::goal::{OpenDesc, Task};
 use crate::machine::{At, Machine, Progress};
@@ -171,7 +171,7 @@ impl Machine {
         requires own { KnowsOwn side.now.known.view (opened_by opens) }
         requires owes { OwesNothing side.now.known.view }
         ensures leads { (z : Shape) → Leads z side.now.known.view (opened_by opens.entry) (led result self.new) }
-        ensures ends { (w : Work) → ReleasesLast w ⊎ In (passed (ref_of (desc_of w))) side.now.known.view.side.facts
+        ensures ends { (w : Work) → ReleasesLast w ⊎ In (stale (ref_of (desc_of w))) side.now.known.view.side.facts
             → MayEnd side.now.known.view w (led result self.new) }
     {
         match opens {

@@ -55,7 +55,7 @@ pub enum At {
     MarkControl,
     /// Settle of the mark to its descriptor.
     Promote,
-    /// Settle of the mark to the old value, as the descriptor is decided, or its row has gone on.
+    /// Settle of the mark to the old value, as the descriptor is decided, or it is stale.
     Demote,
     /// Read of the descriptor's control once it stands in the cell, if it came to stand there.
     Recheck,
@@ -71,7 +71,7 @@ pub enum At {
     ReadReason,
     /// Release of an entry.
     Release,
-    /// Release of the one entry whose cell is owed, to its old value, as the descriptor's row has gone on.
+    /// Release of the one entry whose cell is owed, to its old value, as the descriptor is stale.
     GiveBack,
 }
 
@@ -89,7 +89,7 @@ pub struct Machine {
     pub mark: Ref,
     /// The other mark that is settled.
     pub settling: Settling,
-    /// How the descriptor was decided while the own mark was placed, or none where its row has gone on.
+    /// How the descriptor was decided while the own mark was placed, or none where it is stale.
     pub told: Option<State>,
     /// Whether the descriptor came to stand in the cell.
     pub promoted: bool,
@@ -102,7 +102,7 @@ pub struct Machine {
 pub enum Progress {
     /// The next step.
     On,
-    /// The descriptor is released, or left as its row has gone on. No own descriptor is open, and nothing
+    /// The descriptor is released, or left as it is stale. No own descriptor is open, and nothing
     /// is owed.
     Over,
     /// The own descriptor that was open ended so, and is released.

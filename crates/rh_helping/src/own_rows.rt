@@ -29,8 +29,8 @@ fn own_copy<'a>(opens: Option<OpenDesc<'a>>, number: u64) -> Option<&'a [Entry]>
 }
 
 /// How many entries the newest own descriptor has. Once it is closed it is looked up in its row, which
-/// is its own until the next one is written. An older one is left at its control, as one that has
-/// gone on.
+/// is its own until the next one is written. An older one is left at its control, as a
+/// stale one is.
 #[inline(always)]
 pub(crate) fn own_size<T: Steps>(
     shape: &Shape,

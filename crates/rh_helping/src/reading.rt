@@ -8,8 +8,7 @@ ghost use Rattle.rh_helping.specs.CellContent.{cell_met, state_said};
 use rh_descriptor::Ref;
 use rh_tagword::{State, Word, unpack, unpack_control};
 
-/// How a descriptor stands by this word, its worker's control; or none where the worker has gone on to
-/// a later one.
+/// How a descriptor stands by this word, its worker's control; or none where it is stale.
 #[inline(always)]
 pub fn state_told(desc: Ref, word: u64) -> Option<State>
     requires { IsControlWord word }

@@ -97,7 +97,7 @@ fn ended(task: Task) -> Ended
     }
 }
 
-/// Puts the old value of an entry back, should its descriptor, whose row has gone on, stand in its cell,
+/// Puts the old value of an entry back, should its descriptor, that is stale, stand in its cell,
 /// and leaves it.
 /// So does who knew that it succeeded: then it stands in no cell, and the Release finds nothing.
 pub(crate) struct GiveBack;

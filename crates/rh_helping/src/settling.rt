@@ -81,8 +81,8 @@ impl Settling {
         }
     }
 
-    /// Makes the step, and answers whether there is a next one: else the mark was settled, or its row, or
-    /// that of its descriptor, has gone on to a later one, and then it is left to its worker. (It is seldom
+    /// Makes the step, and answers whether there is a next one: else the mark was settled, or it or
+    /// its descriptor is stale, and then it is left to its worker. (It is seldom
     /// needed: it is called apart, so that what calls it stays small.)
     #[cold]
     #[inline(never)]

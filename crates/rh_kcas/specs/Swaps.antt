@@ -81,7 +81,7 @@ pub record Swaps (z : Shape) (es : List Entry) (v next : View) (o : Outcome) : T
 
 -- ---- the other calls
 
--- d stands so, or is decided, as its worker has gone on
+-- d stands so, or is decided, as it is stale
 abbrev pub IsTold : View → (d : Ref) → Option State → Type 0
 IsTold v d None = In (over d) v.side.facts
 IsTold v d (Some k) = StandsAt v.side.facts d k 0

@@ -18,8 +18,8 @@ use rh_steps::Steps;
 use rh_tagword::State;
 use std::sync::Wait;
 
-/// Goes about a descriptor until it is decided, or no mark is left; one whose worker has gone on was
-/// decided. The seat owes nothing for it then.
+/// Goes about a descriptor until it is decided, or no mark is left; a stale one was decided.
+/// The seat owes nothing for it then.
 pub fn help<R: Wait>(rt: &R, table: &Table, seat: &mut Seat, desc: Ref)
     requires rests { Rests table.now seat.old }
     requires known { IsKnown (view_of seat.old).side.facts (ref_of desc) }
@@ -63,7 +63,7 @@ fn go_about<R: Wait>(rt: &R, shape: &Shape, here: &mut OnTable, side: &mut Side,
     unreachable!()
 }
 
-/// How the descriptor stands, by one Read. None where its worker has gone on to a later one.
+/// How the descriptor stands, by one Read. None where it is stale.
 fn state(shape: &Shape, here: &mut OnTable, side: &mut Side, desc: Ref) -> Option<State>
     requires trusts { Trusts Sits shape.now here.old side.old.known.view }
     requires clear { IsClear side.old.known.view }
@@ -78,7 +78,7 @@ fn state(shape: &Shape, here: &mut OnTable, side: &mut Side, desc: Ref) -> Optio
     state_told(desc, word)
 }
 
-/// A descriptor that stands so is decided: who has gone on from it left it so.
+/// A descriptor that stands so is decided: a stale one was left so.
 fn is_over(state: Option<State>) -> bool
     ensures { result ≡ is_over state }
 {

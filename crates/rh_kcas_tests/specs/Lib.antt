@@ -1,4 +1,4 @@
-pub mod GoneOn
+pub mod StaleDescriptors
 pub mod Halfway
 pub mod Marks
 pub mod ReadsBack

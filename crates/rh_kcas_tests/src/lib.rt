@@ -8,8 +8,6 @@ mod claims;
 #[cfg(test)]
 mod crews;
 #[cfg(test)]
-mod gone_on;
-#[cfg(test)]
 mod halfway;
 #[cfg(test)]
 mod helping;
@@ -19,6 +17,8 @@ mod marks;
 mod peeks;
 #[cfg(test)]
 mod random;
+#[cfg(test)]
+mod stale;
 #[cfg(test)]
 mod stress;
 #[cfg(test)]

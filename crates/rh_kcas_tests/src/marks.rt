@@ -187,7 +187,7 @@ fn a_foreign_mark_is_settled_to_its_descriptor(rt: HostRuntime) -> Result<(), Fa
 // The descriptor fails at its first entry while the mark for its second one stands, and its worker opens the
 // next one. Only who placed the mark knows still which value it hides.
 #[test]
-fn a_mark_whose_descriptor_has_gone_on_is_settled_by_its_own_worker(
+fn a_mark_whose_descriptor_is_stale_is_settled_by_its_own_worker(
     rt: HostRuntime,
 ) -> Result<(), Fail> {
     let entries = [change(4, 7, 9), change(5, 6, 3)];
@@ -213,7 +213,7 @@ fn a_mark_whose_descriptor_has_gone_on_is_settled_by_its_own_worker(
 
 // Its worker has settled it, and its row is of a later one.
 #[test]
-fn a_foreign_mark_whose_row_has_gone_on_is_left(rt: HostRuntime) -> Result<(), Fail> {
+fn a_stale_foreign_mark_is_left(rt: HostRuntime) -> Result<(), Fail> {
     let (table, _first, mut second, mut third, mut fourth, desc) = marked(
         &rt,
         rt.alloc(),

@@ -3,7 +3,7 @@
 use Rattle.std.specs.Prelude.{ℕ, ◌+◌, List, [], ◌∷◌, Option, Some, None}
 use Rattle.rh_world.specs.World.{Ref}
 use Rattle.rh_world.specs.Facts.{Fact}
-use Rattle.rh_world.specs.Facts.Fact.{known, size_is, target_is, old_is, desc_is, which_is, over, passed, found, may_promote, may_demote, mismatch}
+use Rattle.rh_world.specs.Facts.Fact.{known, size_is, target_is, old_is, desc_is, which_is, over, stale, found, may_promote, may_demote, mismatch}
 use Rattle.rh_world.specs.Sides.{new_side}
 use Rattle.rh_descriptor.specs.Parts.{mark_row}
 use Rattle.rh_descriptor.specs.View.{View, Written, new_view}
@@ -45,7 +45,7 @@ facts_for (request.Settle x p old) = settle_facts (ref_of x) (ref_of p.desc) p.e
 facts_for (request.Decide d state) = known (ref_of d) ∷ size_is (ref_of d) 0 ∷ mismatch (ref_of d) 0 0 ∷ []
 facts_for (request.Release p state value) =
     size_is (ref_of p.desc) (p.entry + 1) ∷ target_is (ref_of p.desc) p.entry p.cell ∷ old_is (ref_of p.desc) p.entry value
-    ∷ over (ref_of p.desc) ∷ passed (ref_of p.desc) ∷ []
+    ∷ over (ref_of p.desc) ∷ stale (ref_of p.desc) ∷ []
 facts_for request.Claim = []
 
 -- the words of its rows: of the next descriptor, with an entry, or of the next mark

@@ -307,7 +307,7 @@ fn read_again(words: &mut [u64], who: usize, part: Part) -> bool
     true
 }
 
-/// The old value is not known where the descriptor's row has gone on and another word stood there.
+/// The old value is not known where the descriptor is stale and another word stood there.
 fn place_again(words: &mut [u64], who: usize, cell: usize, touched: Touched) -> bool
     requires worker { who < 3 }
     requires sized { length words.old ≡ word_count SHAPE }
@@ -409,7 +409,7 @@ fn decide_again(words: &mut [u64], who: usize, owner: usize, touched: Touched) -
     true
 }
 
-/// Which descriptor was named that did not stand there is not known. Where its row has gone on, its
+/// Which descriptor was named that did not stand there is not known. Where it is stale, its
 /// old value is not known by now.
 fn release_again(words: &mut [u64], who: usize, cell: usize, touched: Touched) -> bool
     requires worker { who < 3 }

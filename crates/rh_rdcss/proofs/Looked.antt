@@ -9,7 +9,7 @@ use Rattle.rh_world.specs.World.Control.{failed, succeeded, undecided, unused, w
 use Rattle.rh_world.specs.Sides.{Side}
 use Rattle.rh_world.specs.Moves.{HasSeen, cell_noted, control_noted}
 use Rattle.rh_world.proofs.Tests.{by_cond}
-use Rattle.rh_descriptor.specs.Steps.{control_read, gone_noted, is_known}
+use Rattle.rh_descriptor.specs.Steps.{control_read, stale_noted, is_known}
 use Rattle.rh_descriptor.specs.Words.{control_of, read_control, serial_in}
 use Rattle.rh_rdcss.specs.Calls.{Meets, SeenAs, status_said}
 
@@ -44,7 +44,7 @@ module _ (s : Side) (d : Ref) (word : ℕ) where
   read_seen k opened e =
       let q = said_is k (read_control word) opened (nat_lt (serial_in word) d.number) (eqb (serial_in word) d.number) e in
       subst (λ (t : Side). HasSeen t.facts d)
-      (sym (ap (λ (b : Bool). cond b (control_noted s d (read_control word)) (cond (is_known s.facts d) (gone_noted s d) s)) q.0))
+      (sym (ap (λ (b : Bool). cond b (control_noted s d (read_control word)) (cond (is_known s.facts d) (stale_noted s d) s)) q.0))
       (subst (λ (r : Control). HasSeen (control_noted s d r).facts d) (sym q.1) (seen s d k opened))
 
   pub seen_as : (k : Option State) → option_map control_of k ≡ status_said d.number word → SeenAs d k (control_read s d word).facts
@@ -57,4 +57,4 @@ module _ (s : Side) (d : Ref) (word : ℕ) where
 
   pub same_unsettled : (control_read s d word).unsettled ≡ s.unsettled
   same_unsettled = by_cond (λ (t : Side). t.unsettled ≡ s.unsettled) (eqb (serial_in word) d.number) _ _ (λ yes. control_settles_none s d (read_control word))
-      (λ no. by_cond (λ (t : Side). t.unsettled ≡ s.unsettled) (is_known s.facts d) (gone_noted s d) s (λ h. refl) (λ h. refl))
+      (λ no. by_cond (λ (t : Side). t.unsettled ≡ s.unsettled) (is_known s.facts d) (stale_noted s d) s (λ h. refl) (λ h. refl))

@@ -50,7 +50,7 @@ Meets c (mark x) facts = In (found x c) facts
 Meets c (desc d) facts = In (met d) facts
 
 -- What a control with this word tells of its worker's descriptor of that number: where it is of an earlier one, that it is not
--- opened yet; where it is of a later one, nothing, as its worker has gone on.
+-- opened yet; where it is of a later one, nothing, as it is stale.
 abbrev pub status_said : (number word : ℕ) → Option Control
 status_said number word = cond (nat_lt (serial_in word) number) (Some unused) (state_said number word)
 

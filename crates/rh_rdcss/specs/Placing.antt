@@ -31,7 +31,7 @@ pub record ReadsLength (z : Shape) (d : Reference) (size serial : ℕ) (v next :
   pub of_length : Learned z (reads (reading.Length d)) v size middle
   pub of_serial : Learned z (reads (reading.Serial d)) middle serial next
 
--- so it has this length, or the row has gone on to another descriptor
+-- so it has this length, or it is stale
 abbrev pub LengthSays : Shape → Reference → Option ℕ → View → View → Type 0
 LengthSays z d None v next = (size serial : ℕ) × (serial ≢ d.number) × ReadsLength z d size serial v next
 LengthSays z d (Some size) v next = ReadsLength z d size d.number v next
@@ -50,8 +50,8 @@ pub record ReadsEntry (z : Shape) (d : Reference) (e cell old serial : ℕ) (v n
   pub of_old : Learned z (reads (reading.EntryOld d e)) first old second
   pub of_serial : Learned z (reads (reading.Serial d)) second serial next
 
--- it has gone on to another descriptor
-pub record HasPassed (z : Shape) (d : Reference) (e : ℕ) (v next : View) : Type 0 where
+-- the row is of another descriptor by now
+pub record IsStaleEntry (z : Shape) (d : Reference) (e : ℕ) (v next : View) : Type 0 where
   pub cell : ℕ
   pub old : ℕ
   pub serial : ℕ
@@ -59,7 +59,7 @@ pub record HasPassed (z : Shape) (d : Reference) (e : ℕ) (v next : View) : Typ
   pub other : serial ≢ d.number
 
 abbrev pub EntrySays : Shape → Reference → (e : ℕ) → Option (Piece × ℕ) → View → View → Type 0
-EntrySays z d e None v next = HasPassed z d e v next
+EntrySays z d e None v next = IsStaleEntry z d e v next
 EntrySays z d e (Some (p, old)) v next = (p ≡ record { desc = d; entry = e; cell = p.cell }) × ReadsEntry z d e p.cell old d.number v next
 
 -- the entry is known, with its cell and old value
@@ -103,17 +103,17 @@ pub record HasTried (z : Shape) (d : Reference) (e : ℕ) (v : View) (old word :
   pub says : EntrySays z d e (Some (piece, old)) sized between
   pub tried : Tried z piece old between word next
 
--- the row had gone on when its length was read, or when the entry was
-abbrev pub RowPassed : Shape → Reference → (e : ℕ) → View → View → Type 0
-RowPassed z d e v next = LengthSays z d None v next
-    ⊎ ((size : ℕ) × (e < size) × ((sized : View) × LengthSays z d (Some size) v sized × HasPassed z d e sized next))
+-- the descriptor was stale when its length was read, or when the entry was
+abbrev pub IsStaleRow : Shape → Reference → (e : ℕ) → View → View → Type 0
+IsStaleRow z d e v next = LengthSays z d None v next
+    ⊎ ((size : ℕ) × (e < size) × ((sized : View) × LengthSays z d (Some size) v sized × IsStaleEntry z d e sized next))
 
 -- The mark stands in the cell where the old value was found, and the seat keeps for what it is; else that other word was. Or
--- the row had gone on, or the descriptor does not have the entry, or no mark was left: then no mark was placed.
+-- the descriptor was stale, or does not have the entry, or no mark was left: then no mark was placed.
 abbrev pub Places : Shape → Reference → (e : ℕ) → View → Placed → View → Type 0
 Places z d e v placed.Mine next = (old : ℕ) × HasTried z d e v old old next
 Places z d e v (placed.Found word) next = (old : ℕ) × (word ≢ old) × HasTried z d e v old word next
-Places z d e v placed.Passed next = RowPassed z d e v next
+Places z d e v placed.Passed next = IsStaleRow z d e v next
 Places z d e v placed.Absent next = (size : ℕ) × (size ≤ e) × LengthSays z d (Some size) v next
 Places z d e v placed.Spent next = (z.rooms.marks ≤ v.marks_used) × (next ≡ v)
 

@@ -29,7 +29,7 @@ pub enum Placed {
     Mine,
     /// This other word stood there, and the mark is left for another try.
     Found(u64),
-    /// The descriptor's row has gone on to a later one, and no mark was placed.
+    /// The descriptor is stale, and no mark was placed.
     Passed,
     /// The descriptor has fewer entries, and no mark was placed.
     Absent,
@@ -50,8 +50,8 @@ pub fn peek_cell(table: &Table, seat: &mut Seat, cell: usize) -> u64
     make(table, seat, Request::Read(Reading::Cell(cell)))
 }
 
-/// Reads how far a descriptor is, by one load: `Unused` where it is not opened yet, and none where its
-/// worker has gone on to a later one.
+/// Reads how far a descriptor is, by one load: `Unused` where it is not opened yet, and none where it
+/// is stale.
 #[inline(always)]
 pub fn status(table: &Table, seat: &mut Seat, desc: Ref) -> Option<State>
     requires here { IsHere table.now seat.old }
@@ -96,9 +96,9 @@ pub fn place(table: &Table, seat: &mut Seat, desc: Ref, entry: usize) -> Placed
 /// Settles a mark that stands in this cell, where the worker found it or placed it. A mark of another
 /// worker: its row is read, then the control of its descriptor, and the descriptor is put into the mark's
 /// place where that is undecided, else the old value that its row says. None, and no Settle was made, where
-/// the mark's row or that of its descriptor has gone on: then its worker settles it, if it has not. The own
+/// the mark or its descriptor is stale: then its worker settles it, if it has not. The own
 /// mark, which is the last that the worker placed by `place`: the control is read, and the mark settled to
-/// the descriptor or to the old value that the seat keeps, also where the row has gone on. Answers the word
+/// the descriptor or to the old value that the seat keeps, also where it is stale. Answers the word
 /// that the Settle found; where it is not the mark, another worker settled it.
 #[inline(always)]
 pub fn settle(table: &Table, seat: &mut Seat, cell: usize, mark: Ref) -> Option<u64>

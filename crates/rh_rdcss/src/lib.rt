@@ -25,16 +25,16 @@
 //! - `place` is for a descriptor that the worker opened or whose control it read as not `Unused`.
 //!   The length and the entry are read in its row, and the mark row is written. Then the next own
 //!   mark is put into the cell where the old value was found; else that other word is told.
-//! - `place` answers `Passed` just where the descriptor's row had gone on and `Absent` just where
+//! - `place` answers `Passed` just where the descriptor was stale and `Absent` just where
 //!   it has fewer entries; no mark was used then. `Spent` comes just where no mark was left, and
 //!   nothing was done.
 //! - `settle` of another worker's mark: its row is read, then the control of its descriptor. The
 //!   mark is swapped for the descriptor where that is undecided, else for the old value; the answer
 //!   is the word that the swap found.
-//! - `settle` answers no word just where the mark's row, or its descriptor's, had gone on; no swap
+//! - `settle` answers no word just where the mark or its descriptor was stale; no swap
 //!   was made then.
 //! - `settle` of the own mark that was placed last: the same by the old value that the seat keeps,
-//!   also where the row has gone on. A swap is always made, and no own mark is unsettled then.
+//!   also where it is stale. A swap is always made, and no own mark is unsettled then.
 #![tactic(auto)]
 
 mod calls;

@@ -79,7 +79,7 @@ pub(crate) fn place_there(table: &Table, seat: &mut Seat, piece: Piece, old: u64
 
 /// Places the next own mark, which is left, and answers the word that stood in the cell. The mark row
 /// is written first, since whoever meets the mark reads it, and before all else the mark's number,
-/// since whoever meets an older one must see that the row has gone on.
+/// since whoever meets an older one must see that it is stale.
 #[inline(always)]
 pub(crate) fn place_next(table: &Table, seat: &mut Seat, piece: Piece, old: u64) -> u64
     requires here { IsHere table.now seat.old }

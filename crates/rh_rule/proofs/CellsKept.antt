@@ -6,7 +6,7 @@ use Rattle.rh_world.specs.World.Cell.{desc, mark}
 use Rattle.rh_world.specs.World.Control.{failed, succeeded, undecided, unused, withdrawn}
 use Rattle.rh_world.specs.Logical.{entry_value}
 use Rattle.rh_world.specs.Facts.{HoldsIn, Fact}
-use Rattle.rh_world.specs.Facts.Fact.{decided, desc_is, found, may_demote, may_promote, new_is, old_is, over, passed, size_is, target_is, which_is}
+use Rattle.rh_world.specs.Facts.Fact.{decided, desc_is, found, may_demote, may_promote, new_is, old_is, over, stale, size_is, target_is, which_is}
 use Rattle.rh_world.specs.Later.{Steady}
 use Rattle.rh_world.specs.Sides.{Side, close_side, is_number, paid_side, release_side}
 use Rattle.rh_world.specs.Rule.{Rule}
@@ -291,17 +291,17 @@ module _ (z : Shape) (shape : IsShape z) (words : List ℕ) (keep : ℕ → View
   -- how the world has it released, and which value its cell gets
   released_so : (d : Ref) (e : ℕ) (o : Option Control) (value : ℕ) → IsOpened (w.control d) → KnowsValue k d e o value → KnowsOver t d
   released_so d e (Some r) value opened may = let known = known_decided z shape words keep w side rule m who mine d r may.0 in inl (known.0, known.2)
-  released_so d e None value opened may = inr (known_note z shape words keep w side rule m who mine (over d) tt may.0, known_note z shape words keep w side rule m who mine (passed d) tt may.1)
+  released_so d e None value opened may = inr (known_note z shape words keep w side rule m who mine (over d) tt may.0, known_note z shape words keep w side rule m who mine (stale d) tt may.1)
 
   released_word : (d : Ref) (e : ℕ) (o : Option Control) (value : ℕ) → e < w.size d → KnowsValue k d e o value → w.cell (w.target d e) ≡ desc d
       → value ≡ cell_number (released_cell w d e)
   released_word d e (Some r) value lt may here = released_by d e r value (true_decided z shape words keep w side rule m who mine d r may.0).1 may.1
   released_word d e None value lt may here =
-      let passes = rule.acts.facts who (passed d) (known_note z shape words keep w side rule m who mine (passed d) tt may.1) refl in
+      let passes = rule.acts.facts who (stale d) (known_note z shape words keep w side rule m who mine (stale d) tt may.1) refl in
       let old : w.old d e ≡ value = (true_note z shape words keep w side rule m who mine (old_is d e value) tt refl may.2).1 in
       sym old ∙ either (w.control d) refl passes
     where
-      either : (c : Control) → w.control d ≡ c → HoldsIn w (passed d) → w.old d e ≡ entry_value (w.control d) (w.old d e) (w.new d e)
+      either : (c : Control) → w.control d ≡ c → HoldsIn w (stale d) → w.old d e ≡ entry_value (w.control d) (w.old d e) (w.new d e)
       either unused q p = ap (λ (c : Control). entry_value c (w.old d e) (w.new d e)) (sym q)
       either undecided q p = ap (λ (c : Control). entry_value c (w.old d e) (w.new d e)) (sym q)
       either succeeded q p = absurd (p.1 q (w.target d e) here)

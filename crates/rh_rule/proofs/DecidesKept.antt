@@ -27,7 +27,7 @@ use Rattle.rh_rule.proofs.Deciders.{set_decided, set_failed, set_number, set_sta
 use Rattle.rh_rule.proofs.Erasing.{erased_control, in_mismatch}
 use Rattle.rh_rule.proofs.Frames.{word_new, word_same}
 use Rattle.rh_rule.proofs.Kept.{Meets, kept_stays, represents}
-use Rattle.rh_rule.proofs.ReadsKept.{control_word, grows_control, in_control, keeps_read, known_note, meets_seen, newest_word, older_gone, opened_known, true_decided}
+use Rattle.rh_rule.proofs.ReadsKept.{control_word, grows_control, in_control, keeps_read, known_note, meets_seen, newest_word, older_stale, opened_known, true_decided}
 use Rattle.rh_rule.proofs.Said.{HasState, control_said_is, is_undecided, serial_said_is, undecided_test}
 use Rattle.rh_rule.proofs.Touched.{cells_same, counter_same, descs_same, marks_same, marks_stay, others_stay, own_same, placed_same, raw_row_same, raw_same, rows_same, serial_same, set_sized}
 
@@ -138,7 +138,7 @@ module _ (z : Shape) (shape : IsShape z) (words : List ℕ) (keep : ℕ → View
           let next = control_word z shape words keep w side rule m who mine d can.desc.0 (eqb_yes (serial_in word) d.number e) opened in
           let is = newest_word z shape words keep w side rule m who mine d can.desc.0 next in
           sym (undecided_test d.number (w.control d) is.1) ∙ ap (λ (n : ℕ). eqb n (number_of d.number undecided)) (sym is.0) ∙ late
-      either false e = decided_closed (w.control d) (older_gone z shape words keep w side rule m who mine d opened (eqb_not (serial_in word) d.number e)).0
+      either false e = decided_closed (w.control d) (older_stale z shape words keep w side rule m who mine d opened (eqb_not (serial_in word) d.number e)).0
 
   decides_late : eqb word (number_of d.number undecided) ≡ false → After word
   decides_late late =
@@ -259,7 +259,7 @@ module _ (z : Shape) (shape : IsShape z) (words : List ℕ) (keep : ℕ → View
 
     decides_now : After num
     decides_now = subst (λ (b : Bool). Core (world_after w who (decides d set_to)) z then
-        (updated keep who (record k { side = cond b x (cond (Rattle.rh_descriptor.specs.Steps.is_known k.side.facts d) (Rattle.rh_descriptor.specs.Steps.gone_noted k.side d) k.side); control = control_seen k d num })))
+        (updated keep who (record k { side = cond b x (cond (Rattle.rh_descriptor.specs.Steps.is_known k.side.facts d) (Rattle.rh_descriptor.specs.Steps.stale_noted k.side d) k.side); control = control_seen k d num })))
         (sym (eq-eqb (serial_in num) d.number (serial_said_is d.number set_to has_state)))
         (subst (λ (y : World). Core y z then (updated keep who (record k { side = x; control = control_seen k d num }))) (sym same) record {
           side = updated side who s;

@@ -1,8 +1,8 @@
 -- The words and the world of rh_world meet here: `Represents` says where each part of a world stands in the words and in
 -- what is kept of the workers, and nothing else names an index. There is a file for each kind of step: the world after it
 -- is that of rh_world, and the words after it represent that world. The representation says something of a row only while the row
--- is of that descriptor or mark; so each of these files has the step first for a row that stands, and then for one that
--- has gone on.
+-- is of that descriptor or mark; so each of these files has the step first for a row that stands, and then for a
+-- stale one.
 -- Said: what the words of a table say, and what a swap finds in them.
 -- Frames: a word that is set leaves the other parts of the table.
 -- Kept: what stays of a representation, and how a new one is put together.

@@ -4,11 +4,11 @@ use Rattle.rh_world.specs.World.{Cell, Control, In, IsDecided, IsOpened, IsUsed,
 use Rattle.rh_world.specs.World.Cell.{desc, mark, plain}
 use Rattle.rh_world.specs.World.Control.{failed, succeeded, undecided, unused, withdrawn}
 use Rattle.rh_world.specs.Facts.{HoldsIn, Fact, part_of}
-use Rattle.rh_world.specs.Facts.Fact.{decided, desc_is, failed_at, found, held, known, may_demote, may_promote, met, mismatch, new_is, old_is, over, passed, size_is, target_is, which_is}
+use Rattle.rh_world.specs.Facts.Fact.{decided, desc_is, failed_at, found, held, known, may_demote, may_promote, met, mismatch, new_is, old_is, over, stale, size_is, target_is, which_is}
 use Rattle.rh_world.specs.Facts.Part.{of_rows}
 use Rattle.rh_world.specs.Sides.{Side, note_side}
 use Rattle.rh_world.specs.Rule.{Rule}
-use Rattle.rh_world.specs.Moves.{HasSeen, IsRowNote, MayWork, cell_noted, control_noted, mark_noted, note_all, side_after}
+use Rattle.rh_world.specs.Moves.{HasSeen, IsRowFact, MayWork, cell_noted, control_noted, mark_noted, note_all, side_after}
 use Rattle.rh_world.specs.Moves.Move.{learns, reads_cell, reads_control, reads_mark_control}
 use Rattle.rh_world.proofs.Laters.{steady_same}
 use Rattle.rh_world.proofs.StepLaws.{each_step_keeps}
@@ -23,7 +23,7 @@ use Rattle.rh_descriptor.specs.View.{MarkWord, Raw, RawRow, RowWord, View}
 use Rattle.rh_descriptor.specs.View.RowWord.{length_word, cell_word, old_word, new_word}
 use Rattle.rh_descriptor.specs.View.MarkWord.{desc_word, entry_word}
 use Rattle.rh_descriptor.specs.Words.{cell_in, desc_in, number_of, read_control, ref_of, serial_in, without_entry}
-use Rattle.rh_descriptor.specs.Steps.{IsKnown, IsNoted, IsRead, KnowsMark, WasOpened, control_seen, desc_row_said, desc_said, gone_noted, is_known, is_newest, mark_said, index_read, read_noted, read_view, row_said, rows_said, tells_opened}
+use Rattle.rh_descriptor.specs.Steps.{IsKnown, IsNoted, IsRead, KnowsMark, WasOpened, control_seen, desc_row_said, desc_said, stale_noted, is_known, is_newest, mark_said, index_read, read_noted, read_view, row_said, rows_said, tells_opened}
 use Rattle.rh_rule.specs.Erased.{erased}
 use Rattle.rh_rule.specs.Represents.{HasItsRow, IsRaw, IsRawRow, IsRowSaid, IsSaid, Kept, Stands, word_at, Represents}
 use Rattle.rh_rule.specs.Core.{Core}
@@ -89,7 +89,7 @@ tells_yes (old_is f i u) d e = absurd (true≢false (sym e))
 tells_yes (new_is f i u) d e = absurd (true≢false (sym e))
 tells_yes (decided f k) d e = inl (inr (k, ap (λ (x : Ref). decided x k) (is_ref_yes f d e)))
 tells_yes (over f) d e = absurd (true≢false (sym e))
-tells_yes (passed f) d e = absurd (true≢false (sym e))
+tells_yes (stale f) d e = absurd (true≢false (sym e))
 tells_yes (failed_at f i) d e = absurd (true≢false (sym e))
 tells_yes (desc_is x f) d e = absurd (true≢false (sym e))
 tells_yes (which_is x i) d e = absurd (true≢false (sym e))
@@ -131,10 +131,10 @@ quiet_cell s c (plain u) (Some p) acts next = quiet_none s
 quiet_cell s c (mark x) q acts next = record { current = λ n e. e; facts = λ n i. inr i; decided = λ d r i. ⊎_elim (λ e. cc) (λ j. j) i }
 quiet_cell s c (desc f) q acts next = record { current = λ n e. e; facts = λ n i. inr i; decided = λ d r i. ⊎_elim (λ e. cc) (λ j. j) i }
 
-not_row : (n : Fact) → IsRowNote n → (d : Ref) (r : Control) → decided d r ≡ n → ⊥
-not_row n row d r e = subst IsRowNote (sym e) row
+not_row : (n : Fact) → IsRowFact n → (d : Ref) (r : Control) → decided d r ≡ n → ⊥
+not_row n row d r e = subst IsRowFact (sym e) row
 
-quiet_all : (s : Side) (ns : List Fact) → ((n : Fact) → In n ns → IsRowNote n) → Quiet s (note_all s ns)
+quiet_all : (s : Side) (ns : List Fact) → ((n : Fact) → In n ns → IsRowFact n) → Quiet s (note_all s ns)
 quiet_all s [] h = quiet_none s
 quiet_all s (n ∷ ns) h = let q = quiet_all s ns (λ m i. h m (inr i)) in record {
   current = q.current;
@@ -226,19 +226,19 @@ module _ (z : Shape) (shape : IsShape z) (words : List ℕ) (keep : ℕ → View
   still = side_grows t k.side rule_none h.side_is (quiet_none k.side) (grows_none k.side)
 
   -- what rows say is learned, where the own control is as it was last seen
-  learn_seen : (ns : List Fact) → ((n : Fact) → In n ns → IsRowNote n × HoldsIn w n) → (c : ℕ) → c ≡ k.control
+  learn_seen : (ns : List Fact) → ((n : Fact) → In n ns → IsRowFact n × HoldsIn w n) → (c : ℕ) → c ≡ k.control
       → Core w z words (updated keep who (record k { side = note_all k.side ns; control = c }))
   learn_seen ns may c same = side_keeps (note_all t ns) (note_all k.side ns) c k.raw_rows k.raw (each_step_keeps w side who (learns ns) rule may)
       ((λ i. note_all (h.side_is i) ns) ∙ erased_all t ns (λ n i. (may n i).0))
       (subst (λ (i : ℕ). Meets z words w who k (note_all k.side ns) i) (sym same) (meets_quiet (note_all k.side ns) (quiet_all k.side ns (λ n i. (may n i).0)) (grows_all k.side ns)))
       h.raw_rows h.raw
 
-  learn_all : (ns : List Fact) → ((n : Fact) → In n ns → IsRowNote n × HoldsIn w n)
+  learn_all : (ns : List Fact) → ((n : Fact) → In n ns → IsRowFact n × HoldsIn w n)
       → Core w z words (updated keep who (record k { side = note_all k.side ns }))
   learn_all ns may = learn_seen ns may k.control refl
 
-  learn : (n : Fact) → IsRowNote n × HoldsIn w n → Core w z words (updated keep who (record k { side = note_side k.side n }))
-  learn n may = learn_all (n ∷ []) (λ o i. ⊎_elim (λ (q : o ≡ n). subst (λ (p : Fact). IsRowNote p × HoldsIn w p) (sym q) may) (λ j. absurd j) i)
+  learn : (n : Fact) → IsRowFact n × HoldsIn w n → Core w z words (updated keep who (record k { side = note_side k.side n }))
+  learn n may = learn_all (n ∷ []) (λ o i. ⊎_elim (λ (q : o ≡ n). subst (λ (p : Fact). IsRowFact p × HoldsIn w p) (sym q) may) (λ j. absurd j) i)
 
   -- nothing is learned yet
   keep_raw : (r : Raw) → IsRaw z words w r → Core w z words (updated keep who (record k { raw = r ∷ k.raw }))
@@ -249,17 +249,17 @@ module _ (z : Shape) (shape : IsShape z) (words : List ℕ) (keep : ℕ → View
   keep_raw_row r is = side_keeps t k.side k.control (r ∷ k.raw_rows) k.raw rule_none h.side_is (meets_quiet k.side (quiet_none k.side) (grows_none k.side))
       (λ q i. ⊎_elim (λ (e : q ≡ r). subst (λ (x : RawRow). IsRawRow z words w x) (sym e) is) (h.raw_rows q) i) h.raw
 
-  -- ---- what has gone on
+  -- ---- what is stale
 
   -- a descriptor that is not open is decided, and stands in no cell if it succeeded
-  gone : (d : Ref) → IsOpened (w.control d) → ((side d.worker).current ≡ Some d.number → ⊥) → HoldsIn w (over d) × HoldsIn w (passed d)
+  gone : (d : Ref) → IsOpened (w.control d) → ((side d.worker).current ≡ Some d.number → ⊥) → HoldsIn w (over d) × HoldsIn w (stale d)
   gone d o closed =
       let dec = ⊎_elim (λ (q : IsDecided (w.control d)). q) (λ q. absurd (closed q)) (rule.rows.state d o) in
       (dec, (dec, λ s c e. closed (rule.acts.standing c d e s).owed.current))
 
   -- one whose row has another number is not open
-  pub row_gone : (d : Ref) → IsOpened (w.control d) → word_at z words (part.Serial d.worker) ≢ d.number → (side d.worker).current ≡ Some d.number → ⊥
-  row_gone d o ne c =
+  pub row_stale : (d : Ref) → IsOpened (w.control d) → word_at z words (part.Serial d.worker) ≢ d.number → (side d.worker).current ≡ Some d.number → ⊥
+  row_stale d o ne c =
       let u = (m.controls.descs d o).0 in
       ne ((m.kept d.worker u).open_row d.number (ap (λ (s : Side). s.current) (m.kept d.worker u).side_is ∙ c))
 
@@ -272,8 +272,8 @@ module _ (z : Shape) (shape : IsShape z) (words : List ℕ) (keep : ℕ → View
       above (suc n) lt = (n, refl)
 
   -- one with another control is not open, as the open one is the newest
-  pub control_gone : (d : Ref) → IsOpened (w.control d) → (suc d.number ≡ w.next_number d.worker → ⊥) → (side d.worker).current ≡ Some d.number → ⊥
-  control_gone d o older c =
+  pub control_stale : (d : Ref) → IsOpened (w.control d) → (suc d.number ≡ w.next_number d.worker → ⊥) → (side d.worker).current ≡ Some d.number → ⊥
+  control_stale d o older c =
       let n = newest_of d o in
       let f : Ref = record { worker = d.worker; number = n.0 } in
       let u = (m.controls.descs d o).0 in
@@ -282,9 +282,9 @@ module _ (z : Shape) (shape : IsShape z) (words : List ℕ) (keep : ℕ → View
       let is : suc n.0 ≡ w.next_number d.worker = n.1 in
       older (omega arith)
 
-  both_gone : (d : Ref) → HoldsIn w (over d) × HoldsIn w (passed d) → (n : Fact) → In n (passed d ∷ over d ∷ []) → IsRowNote n × HoldsIn w n
-  both_gone d g n i = ⊎_elim (λ (e : n ≡ passed d). subst (λ (o : Fact). IsRowNote o × HoldsIn w o) (sym e) (tt, g.1))
-      (λ j. ⊎_elim (λ (e : n ≡ over d). subst (λ (o : Fact). IsRowNote o × HoldsIn w o) (sym e) (tt, g.0)) (λ q. absurd q) j) i
+  both_stale : (d : Ref) → HoldsIn w (over d) × HoldsIn w (stale d) → (n : Fact) → In n (stale d ∷ over d ∷ []) → IsRowFact n × HoldsIn w n
+  both_stale d g n i = ⊎_elim (λ (e : n ≡ stale d). subst (λ (o : Fact). IsRowFact o × HoldsIn w o) (sym e) (tt, g.1))
+      (λ j. ⊎_elim (λ (e : n ≡ over d). subst (λ (o : Fact). IsRowFact o × HoldsIn w o) (sym e) (tt, g.0)) (λ q. absurd q) j) i
 
   -- ---- controls
 
@@ -316,22 +316,22 @@ module _ (z : Shape) (shape : IsShape z) (words : List ℕ) (keep : ℕ → View
 
   -- while the row of a mark stands, all that was read in it is true
   module _ (x : Ref) (used : IsUsed w x) (stands : Stands z words x) where
-    true_word : (u : MarkWord) → IsSaid w x u → (n : Fact) → In n (mark_said x u) → IsRowNote n × HoldsIn w n
+    true_word : (u : MarkWord) → IsSaid w x u → (n : Fact) → In n (mark_said x u) → IsRowFact n × HoldsIn w n
     true_word (desc_word u) said n i =
         let d : Ref = w.mark_desc x in
         let names : desc_in u ≡ Some d = ap desc_in said ∙ desc_said_is z shape d (m.controls.descs d (rule.rows.used x used).0) in
         one (subst (λ (o : Option Ref). In n (desc_said x o)) names i)
       where
-        one : In n (desc_is x (w.mark_desc x) ∷ []) → IsRowNote n × HoldsIn w n
-        one i = ⊎_elim (λ (e : n ≡ desc_is x (w.mark_desc x)). subst (λ (o : Fact). IsRowNote o × HoldsIn w o) (sym e) (tt, (used, refl))) (λ j. absurd j) i
-    true_word (entry_word u) said n i = ⊎_elim (λ (e : n ≡ which_is x u). subst (λ (o : Fact). IsRowNote o × HoldsIn w o) (sym e) (tt, (used, sym said))) (λ j. absurd j) i
+        one : In n (desc_is x (w.mark_desc x) ∷ []) → IsRowFact n × HoldsIn w n
+        one i = ⊎_elim (λ (e : n ≡ desc_is x (w.mark_desc x)). subst (λ (o : Fact). IsRowFact o × HoldsIn w o) (sym e) (tt, (used, refl))) (λ j. absurd j) i
+    true_word (entry_word u) said n i = ⊎_elim (λ (e : n ≡ which_is x u). subst (λ (o : Fact). IsRowFact o × HoldsIn w o) (sym e) (tt, (used, sym said))) (λ j. absurd j) i
 
-    true_words : (rs : List Raw) → ((r : Raw) → In r rs → In r k.raw) → (n : Fact) → In n (row_said rs x) → IsRowNote n × HoldsIn w n
+    true_words : (rs : List Raw) → ((r : Raw) → In r rs → In r k.raw) → (n : Fact) → In n (row_said rs x) → IsRowFact n × HoldsIn w n
     true_words [] sub n i = absurd i
     true_words (r ∷ rs) sub n i = either (true_words rs (λ q j. sub q (inr j)) n) (is_ref r.mark x) refl i
       where
-        either : (In n (row_said rs x) → IsRowNote n × HoldsIn w n) → (b : Bool) → is_ref r.mark x ≡ b
-            → In n (cond b (mark_said x r.word ++ row_said rs x) (row_said rs x)) → IsRowNote n × HoldsIn w n
+        either : (In n (row_said rs x) → IsRowFact n × HoldsIn w n) → (b : Bool) → is_ref r.mark x ≡ b
+            → In n (cond b (mark_said x r.word ++ row_said rs x) (row_said rs x)) → IsRowFact n × HoldsIn w n
         either others true e i =
             let same : r.mark ≡ x = is_ref_yes r.mark x e in
             let raw = h.raw r (sub r (inl refl)) in
@@ -395,7 +395,7 @@ module _ (z : Shape) (shape : IsShape z) (words : List ℕ) (keep : ℕ → View
       (λ next. seen_is ∙ (m.controls.newest d u next).1 ∙ sym (told_number d.number (w.control d)))
       (λ f e q. g.facts (decided f (failed 0 who)) (h.failures f e q))
 
-  -- where it has another number, d has gone on, and the own one is as it was last seen
+  -- where it has another number, d is stale, and the own one is as it was last seen
   seen_other : (d : Ref) → d.worker < z.workers → serial_in (word_at z words (part.Control d.worker)) ≢ d.number → (seen : ℕ) → control_seen k d seen ≡ k.control
   seen_other d u ne seen = ap (λ (b : Bool). cond b seen k.control) (⊎_elim
       (λ (own : d.worker ≡ k.worker). ap (λ (b : Bool). eqb d.worker k.worker && b) (ne_eqb (suc d.number) k.next_number
@@ -406,30 +406,30 @@ module _ (z : Shape) (shape : IsShape z) (words : List ℕ) (keep : ℕ → View
       (λ (other : d.worker ≢ k.worker). ap (λ (b : Bool). b && eqb (suc d.number) k.next_number) (ne_eqb d.worker k.worker other))
       (same_nat d.worker k.worker))
 
-  pub older_gone : (d : Ref) → IsOpened (w.control d) → serial_in (word_at z words (part.Control d.worker)) ≢ d.number → HoldsIn w (over d) × HoldsIn w (passed d)
-  older_gone d o ne = gone d o (control_gone d o (λ q.
+  pub older_stale : (d : Ref) → IsOpened (w.control d) → serial_in (word_at z words (part.Control d.worker)) ≢ d.number → HoldsIn w (over d) × HoldsIn w (stale d)
+  older_stale d o ne = gone d o (control_stale d o (λ q.
       let word = newest_word d (m.controls.descs d o).0 q in
       ne (ap serial_in word.0 ∙ serial_said_is d.number (w.control d) word.1)))
 
   -- while the row of d is its own, all that was read in it is true
-  true_row : (d : Ref) → IsOpened (w.control d) → (u : RowWord) → IsRowSaid w d u → IsRowNote (desc_row_said d u) × HoldsIn w (desc_row_said d u)
+  true_row : (d : Ref) → IsOpened (w.control d) → (u : RowWord) → IsRowSaid w d u → IsRowFact (desc_row_said d u) × HoldsIn w (desc_row_said d u)
   true_row d o (length_word n) s = (tt, (o, sym s))
   true_row d o (cell_word e n) s = (tt, (o, sym s))
   true_row d o (old_word e n) s = (tt, (o, sym s))
   true_row d o (new_word e n) s = (tt, (o, sym s))
 
   true_rows : (d : Ref) → IsOpened (w.control d) → HasItsRow z words d → (rs : List RawRow) → ((r : RawRow) → In r rs → In r k.raw_rows)
-      → (n : Fact) → In n (rows_said rs d) → IsRowNote n × HoldsIn w n
+      → (n : Fact) → In n (rows_said rs d) → IsRowFact n × HoldsIn w n
   true_rows d o has [] sub n i = absurd i
   true_rows d o has (r ∷ rs) sub n i = either (true_rows d o has rs (λ q j. sub q (inr j)) n) (is_ref r.desc d) refl i
     where
-      either : (In n (rows_said rs d) → IsRowNote n × HoldsIn w n) → (b : Bool) → is_ref r.desc d ≡ b
-          → In n (cond b (desc_row_said d r.word ∷ rows_said rs d) (rows_said rs d)) → IsRowNote n × HoldsIn w n
+      either : (In n (rows_said rs d) → IsRowFact n × HoldsIn w n) → (b : Bool) → is_ref r.desc d ≡ b
+          → In n (cond b (desc_row_said d r.word ∷ rows_said rs d) (rows_said rs d)) → IsRowFact n × HoldsIn w n
       either others true e i =
           let same : r.desc ≡ d = is_ref_yes r.desc d e in
           let raw = h.raw_rows r (sub r (inl refl)) in
           let said : IsRowSaid w d r.word = subst (λ (y : Ref). HasItsRow z words y → IsRowSaid w y r.word) same raw.said has in
-          ⊎_elim (λ (q : n ≡ desc_row_said d r.word). subst (λ (x : Fact). IsRowNote x × HoldsIn w x) (sym q) (true_row d o r.word said)) others i
+          ⊎_elim (λ (q : n ≡ desc_row_said d r.word). subst (λ (x : Fact). IsRowFact x × HoldsIn w x) (sym q) (true_row d o r.word said)) others i
       either others false e i = others i
 
   was_opened : (d : Ref) → WasOpened k.side.facts d → IsOpened (w.control d)
@@ -447,7 +447,7 @@ module _ (z : Shape) (shape : IsShape z) (words : List ℕ) (keep : ℕ → View
     where
       either : (b : Bool) → eqb (serial_in word) d.number ≡ b → (c : Bool) → is_known k.side.facts (ref_of d) ≡ c
           → Core w z words (updated keep who (record k {
-            side = cond b (control_noted k.side (ref_of d) (read_control word)) (cond c (gone_noted k.side (ref_of d)) k.side);
+            side = cond b (control_noted k.side (ref_of d) (read_control word)) (cond c (stale_noted k.side (ref_of d)) k.side);
             control = control_seen k (ref_of d) word;
           }))
       either true e c q =
@@ -463,7 +463,7 @@ module _ (z : Shape) (shape : IsShape z) (words : List ℕ) (keep : ℕ → View
       either false e true q =
           let o = opened_known (ref_of d) (known_yes k.side.facts (ref_of d) q) in
           let ne : serial_in (word_at z words (part.Control d.worker)) ≢ d.number = λ r. eqb_not (serial_in word) d.number e (ap serial_in is ∙ r) in
-          learn_seen (passed (ref_of d) ∷ over (ref_of d) ∷ []) (both_gone (ref_of d) (older_gone (ref_of d) o ne)) (control_seen k (ref_of d) word) (seen_other (ref_of d) here.0 ne word)
+          learn_seen (stale (ref_of d) ∷ over (ref_of d) ∷ []) (both_stale (ref_of d) (older_stale (ref_of d) o ne)) (control_seen k (ref_of d) word) (seen_other (ref_of d) here.0 ne word)
       either false e false q =
           let ne : serial_in (word_at z words (part.Control d.worker)) ≢ d.number = λ r. eqb_not (serial_in word) d.number e (ap serial_in is ∙ r) in
           learn_seen [] (λ n i. absurd i) (control_seen k (ref_of d) word) (seen_other (ref_of d) here.0 ne word)
@@ -479,7 +479,7 @@ module _ (z : Shape) (shape : IsShape z) (words : List ℕ) (keep : ℕ → View
       opened = subst (λ (y : Ref). IsOpened (w.control y)) (sym same) (rule.rows.used (ref_of x) used).0
 
       either : (b : Bool) → eqb (serial_in word) d.number ≡ b → Core w z words (updated keep who (record k {
-        side = cond b (mark_noted (control_noted k.side (ref_of d) (read_control word)) (ref_of x) c (read_control word)) (note_side (gone_noted k.side (ref_of d)) (may_demote (ref_of x)));
+        side = cond b (mark_noted (control_noted k.side (ref_of d) (read_control word)) (ref_of x) c (read_control word)) (note_side (stale_noted k.side (ref_of d)) (may_demote (ref_of x)));
         control = control_seen k (ref_of d) word;
       }))
       either true e =
@@ -498,18 +498,18 @@ module _ (z : Shape) (shape : IsShape z) (words : List ℕ) (keep : ℕ → View
           h.raw_rows h.raw
       either false e =
           let ne : serial_in (word_at z words (part.Control d.worker)) ≢ d.number = λ r. eqb_not (serial_in word) d.number e (ap serial_in is ∙ r) in
-          let g = older_gone (ref_of d) opened ne in
+          let g = older_stale (ref_of d) opened ne in
           let demotes : HoldsIn w (may_demote (ref_of x)) = (used, subst (λ (y : Ref). IsDecided (w.control y)) same g.0) in
-          learn_seen (may_demote (ref_of x) ∷ passed (ref_of d) ∷ over (ref_of d) ∷ [])
-          (λ n i. ⊎_elim (λ (q : n ≡ may_demote (ref_of x)). subst (λ (o : Fact). IsRowNote o × HoldsIn w o) (sym q) (tt, demotes)) (both_gone (ref_of d) g n) i)
+          learn_seen (may_demote (ref_of x) ∷ stale (ref_of d) ∷ over (ref_of d) ∷ [])
+          (λ n i. ⊎_elim (λ (q : n ≡ may_demote (ref_of x)). subst (λ (o : Fact). IsRowFact o × HoldsIn w o) (sym q) (tt, demotes)) (both_stale (ref_of d) g n) i)
           (control_seen k (ref_of d) word) (seen_other (ref_of d) here.0 ne word)
   keeps_read (reading.Serial d) here may word is = either (was_opened (ref_of d) may) (eqb word d.number) refl
     where
       either : IsOpened (w.control (ref_of d)) → (b : Bool) → eqb word d.number ≡ b
-          → Core w z words (updated keep who (record k { side = cond b (note_all k.side (rows_said k.raw_rows (ref_of d))) (gone_noted k.side (ref_of d)) }))
+          → Core w z words (updated keep who (record k { side = cond b (note_all k.side (rows_said k.raw_rows (ref_of d))) (stale_noted k.side (ref_of d)) }))
       either o true e = learn_all (rows_said k.raw_rows (ref_of d)) (true_rows (ref_of d) o (sym is ∙ eqb_yes word d.number e) k.raw_rows (λ r i. i))
-      either o false e = learn_all (passed (ref_of d) ∷ over (ref_of d) ∷ [])
-          (both_gone (ref_of d) (gone (ref_of d) o (row_gone (ref_of d) o (λ q. eqb_not word d.number e (is ∙ q)))))
+      either o false e = learn_all (stale (ref_of d) ∷ over (ref_of d) ∷ [])
+          (both_stale (ref_of d) (gone (ref_of d) o (row_stale (ref_of d) o (λ q. eqb_not word d.number e (is ∙ q)))))
   keeps_read (reading.Length d) here may word is =
       let o = opened_known (ref_of d) may in
       keep_raw_row record { desc = ref_of d; word = length_word word } record { opened = o; said = λ has. is ∙ (m.rows.descs (ref_of d) o has).length }

@@ -87,7 +87,7 @@ pub record MarkRow (z : Shape) (words : List ℕ) (w : World) (x : Ref) : Type 0
   pub desc : IsSaid w x (desc_word (word_at z words (part.MarkDesc x.worker)))
   pub entry : IsSaid w x (entry_word (word_at z words (part.MarkEntry x.worker)))
 
--- A descriptor has its worker's row until the number of the next one is written there; of one whose row has gone on nothing
+-- A descriptor has its worker's row until the number of the next one is written there; of a stale one nothing
 -- is said of words. So it is of marks, and the row of a mark does not go on while it stands in a cell.
 pub record RowWords (z : Shape) (words : List ℕ) (w : World) : Type 0 where
   pub entries : (d : Ref) → IsOpened (w.control d) → HasEntries z w d

@@ -20,7 +20,7 @@
 -- Sharing: a shared list that the workers have claimed to its end, and what they made of it.
 -- Showing: each key that is done shows in the set: its act is one of all, or what was read of it was true and stays so.
 -- Knowing: a worker goes on knowing which cell it holds, from step to step.
--- Saying: what a cell stands for, read off the words, and where a row has gone on off what the workers noted.
+-- Saying: what a cell stands for, read off the words, and of a stale descriptor off what the workers noted.
 -- Leaving: no step changes what the cells stand for but one that lets a descriptor succeed.
 -- Moving: a run goes on by its moves, so that at each moment it keeps the keys that are done.
 -- Alike: a run tells of the workers of its table alone.

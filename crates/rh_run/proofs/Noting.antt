@@ -4,14 +4,14 @@ use Rattle.rh_world.specs.World.{Cell, Control, Ref}
 use Rattle.rh_world.specs.World.Cell.{desc, mark, plain}
 use Rattle.rh_world.specs.World.Control.{failed, succeeded, undecided, unused, withdrawn}
 use Rattle.rh_world.specs.Facts.{Fact}
-use Rattle.rh_world.specs.Facts.Fact.{decided, failed_at, found, known, may_demote, may_promote, met, over, passed}
+use Rattle.rh_world.specs.Facts.Fact.{decided, failed_at, found, known, may_demote, may_promote, met, over, stale}
 use Rattle.rh_world.specs.Sides.{Side, forget_side, note_side, read_side}
 use Rattle.rh_world.specs.Moves.{cell_noted, control_noted, mark_noted, note_all}
 use Rattle.rh_descriptor.specs.declared.reference.Reading.{Reading}
 use Rattle.rh_descriptor.specs.declared.reference.Reading.TheVariants as reading
 use Rattle.rh_descriptor.specs.View.{View}
 use Rattle.rh_descriptor.specs.Words.{cell_in, read_control, ref_of, serial_in}
-use Rattle.rh_descriptor.specs.Steps.{control_read, gone_noted, is_known, mark_control_read, read_noted, row_said, rows_said, serial_read}
+use Rattle.rh_descriptor.specs.Steps.{control_read, stale_noted, is_known, mark_control_read, read_noted, row_said, rows_said, serial_read}
 
 -- a relation of a Side to a later one that each of these keeps
 pub record Follows (R : Side → Side → Type 0) : Type 0 where
@@ -54,22 +54,22 @@ module _ (R : Side → Side → Type 0) (is : Follows R) where
   a_mark s x c withdrawn = is.note s (may_demote x)
   a_mark s x c (failed e by) = is.note s (may_demote x)
 
-  gone : (s : Side) (d : Ref) → R s (gone_noted s d)
-  gone s d = two_notes s (over d) (passed d)
+  gone : (s : Side) (d : Ref) → R s (stale_noted s d)
+  gone s d = two_notes s (over d) (stale d)
 
   pub a_control_word : (s : Side) (d : Ref) (word : ℕ) → R s (control_read s d word)
-  a_control_word s d word = either (R s) (eqb (serial_in word) d.number) (control_noted s d (read_control word)) (cond (is_known s.facts d) (gone_noted s d) s)
-      (a_control s d (read_control word)) (either (R s) (is_known s.facts d) (gone_noted s d) s (gone s d) (is.same s))
+  a_control_word s d word = either (R s) (eqb (serial_in word) d.number) (control_noted s d (read_control word)) (cond (is_known s.facts d) (stale_noted s d) s)
+      (a_control s d (read_control word)) (either (R s) (is_known s.facts d) (stale_noted s d) s (gone s d) (is.same s))
 
   a_mark_word : (s : Side) (x : Ref) (c : ℕ) (d : Ref) (word : ℕ) → R s (mark_control_read s x c d word)
   a_mark_word s x c d word =
       let k = read_control word in
-      either (R s) (eqb (serial_in word) d.number) (mark_noted (control_noted s d k) x c k) (note_side (gone_noted s d) (may_demote x))
+      either (R s) (eqb (serial_in word) d.number) (mark_noted (control_noted s d k) x c k) (note_side (stale_noted s d) (may_demote x))
       (is.further s (control_noted s d k) (mark_noted (control_noted s d k) x c k) (a_control s d k) (a_mark (control_noted s d k) x c k))
-      (is.further s (gone_noted s d) (note_side (gone_noted s d) (may_demote x)) (gone s d) (is.note (gone_noted s d) (may_demote x)))
+      (is.further s (stale_noted s d) (note_side (stale_noted s d) (may_demote x)) (gone s d) (is.note (stale_noted s d) (may_demote x)))
 
   a_serial : (v : View) (d : Ref) (word : ℕ) → R v.side (serial_read v d word)
-  a_serial v d word = either (R v.side) (eqb word d.number) (note_all v.side (rows_said v.raw_rows d)) (gone_noted v.side d)
+  a_serial v d word = either (R v.side) (eqb word d.number) (note_all v.side (rows_said v.raw_rows d)) (stale_noted v.side d)
       (all_notes v.side (rows_said v.raw_rows d)) (gone v.side d)
 
   pub a_reading : (v : View) (r : Reading) (word : ℕ) → R v.side (read_noted v r word)

@@ -23,12 +23,12 @@ use Rattle.rh_rule.specs.Represents.{DescRow, HasItsRow, IsCell, Represents, wor
 use Rattle.rh_rule.specs.Core.{Core}
 use Rattle.rh_rule.specs.Rest.{is_noted_success}
 use Rattle.rh_rule.proofs.Deciders.{told_succeeded}
-use Rattle.rh_rule.proofs.ReadsKept.{control_gone, newest_word, reads_desc_control, row_gone, true_note, work_known}
+use Rattle.rh_rule.proofs.ReadsKept.{control_stale, newest_word, reads_desc_control, row_stale, true_note, work_known}
 use Rattle.rh_rule.proofs.Said.{cell_said_is, control_said_is, serial_said_is}
 use Rattle.rh_rule.proofs.Telling.{in_noted, noted_in, same_bool, tells}
 use Rattle.rh_run.specs.Known.{KnowsHeld, NotesOld}
 use Rattle.rh_run.specs.Laws.{LogicalWords, WordsLeadInside, WordsStand}
-use Rattle.rh_run.specs.Words.{GoneStandsFor, Holds, IsLogicalWord, LeadsInside, MarkIsFor, MarkStandsFor, RowStandsFor, StandsFor, entry_for, has_succeeded, value_in}
+use Rattle.rh_run.specs.Words.{StaleStandsFor, Holds, IsLogicalWord, LeadsInside, MarkIsFor, MarkStandsFor, RowStandsFor, StandsFor, entry_for, has_succeeded, value_in}
 
 counts_new : (k : Control) (old new : ℕ) → cond (is_success k) new old ≡ entry_value k old new
 counts_new unused old new = refl
@@ -81,7 +81,7 @@ module _ (w : World) (z : Shape) (words : List ℕ) (keep : ℕ → View) (shape
 
   -- the open descriptor is the newest
   open_newest : (d : Ref) → IsOpened (w.control d) → (side d.worker).current ≡ Some d.number → suc d.number ≡ w.next_number d.worker
-  open_newest d opened current = ⊎_elim (λ e. e) (λ ne. absurd (control_gone z shape words keep w side rule m d.worker (worker_of d opened) d opened ne current))
+  open_newest d opened current = ⊎_elim (λ e. e) (λ ne. absurd (control_stale z shape words keep w side rule m d.worker (worker_of d opened) d opened ne current))
       (same_nat (suc d.number) (w.next_number d.worker))
 
   said_succeeded : (d : Ref) → IsOpened (w.control d) → has_succeeded z words d ≡ true → w.control d ≡ succeeded
@@ -105,9 +105,9 @@ module _ (w : World) (z : Shape) (words : List ℕ) (keep : ℕ → View) (shape
       let success = success_yes (w.control d) e in
       newest_succeeded d (worker_of d opened) (open_newest d opened (rule.acts.standing c d stands success).owed.current) success)
 
-  -- one whose row has gone on did not succeed, if it stands in a cell
-  gone_failed : (c : ℕ) (d : Ref) → w.cell c ≡ desc d → IsOpened (w.control d) → (HasItsRow z words d → ⊥) → w.control d ≢ succeeded
-  gone_failed c d stands opened gone success = row_gone z shape words keep w side rule m d.worker (worker_of d opened) d opened gone (rule.acts.standing c d stands success).owed.current
+  -- a stale one did not succeed, if it stands in a cell
+  stale_failed : (c : ℕ) (d : Ref) → w.cell c ≡ desc d → IsOpened (w.control d) → (HasItsRow z words d → ⊥) → w.control d ≢ succeeded
+  stale_failed c d stands opened gone success = row_stale z shape words keep w side rule m d.worker (worker_of d opened) d opened gone (rule.acts.standing c d stands success).owed.current
 
   -- one that a worker opened succeeded where its control word says so, or where the worker noted it
   module _ (v : ℕ) (mine : v < z.workers) (o : OwnDesc) (i : In o (keep v).opened) where
@@ -190,10 +190,10 @@ module _ (w : World) (z : Shape) (words : List ℕ) (keep : ℕ → View) (shape
         let row = m.rows.descs d opened is.row in
         sym is.value ∙ ap (entry_for z words d c) row.length ∙ found_entry row (w.size d) (omega arith) one.within
 
-    gone_says : (word : ℕ) → GoneStandsFor z words keep c d word → word ≡ v
-    gone_says word is =
+    stale_says : (word : ℕ) → StaleStandsFor z words keep c d word → word ≡ v
+    stale_says word is =
         sym (noted_old is.worker is.within d one.entry c word opened one.within one.here is.old)
-        ∙ sym (counts_old (w.control d) (w.old d one.entry) (w.new d one.entry) (gone_failed c d stands opened is.gone))
+        ∙ sym (counts_old (w.control d) (w.old d one.entry) (w.new d one.entry) (stale_failed c d stands opened is.gone))
         ∙ one.value
 
   -- ---- a cell
@@ -201,7 +201,7 @@ module _ (w : World) (z : Shape) (words : List ℕ) (keep : ℕ → View) (shape
   says : (c v word : ℕ) (k : Cell) → w.cell c ≡ k → StandsInWorld w c k v → StandsFor z words keep c k word → word ≡ v
   says c v word (plain u) e so is = sym is ∙ so
   says c v word (mark x) e so is = sym (mark_says c x word e is) ∙ so
-  says c v word (desc d) e so is = ⊎_elim (row_says c d e v so word) (gone_says c d e v so word) is
+  says c v word (desc d) e so is = ⊎_elim (row_says c d e v so word) (stale_says c d e v so word) is
 
   cell_is : (c : ℕ) → c < cell_count z → cell_in (get_or words c 0) ≡ w.cell c
   cell_is c inside = ap cell_in (m.cells.cells c inside) ∙ cell_said_is z shape (w.cell c) (m.cells.standing c inside)
@@ -239,7 +239,7 @@ module _ (w : World) (z : Shape) (words : List ℕ) (keep : ℕ → View) (shape
   holder : (c : ℕ) (d : Ref) → w.cell c ≡ desc d → (HasItsRow z words d → ⊥) → (v : ℕ) × (v < z.workers) × Holds (keep v).side v d c
   holder c d stands gone =
       let is = rule.rows.descs c d stands in
-      ⊎_elim (λ owner. absurd (row_gone z shape words keep w side rule m d.worker (worker_of d is.opened) d is.opened gone owner.current))
+      ⊎_elim (λ owner. absurd (row_stale z shape words keep w side rule m d.worker (worker_of d is.opened) d is.opened gone owner.current))
       (⊎_elim (placer_holds d is.entry c is.here) (debtor_holds d c)) is.owed
 
   -- ---- where the words lead

@@ -161,7 +161,7 @@ IsSuccess (Step.releases d e c k value) word = ⊥
 IsSuccess Step.claims word = ⊥
 
 -- No other step changes what a cell stands for. So a stale helper changes no cell, whatever it still does for a descriptor that
--- is decided or whose row has gone on: its control word is another one.
+-- is decided or that is stale: its control word is another one.
 abbrev pub OnlySuccessChanges : Type 0
 OnlySuccessChanges = (w : World) (z : Shape) (words then : List ℕ) (keep : ℕ → View) (who : ℕ) (s : Step) (word : ℕ) (next : View)
     → IsShape z → Core w z words keep → who < z.workers → Allowed z (keep who) s → StepsTo z s words (keep who) word then next → (IsSuccess s word → ⊥)

@@ -46,8 +46,8 @@ pub record RowStandsFor (z : Shape) (words : List ℕ) (c : ℕ) (d : Ref) (word
   pub row : HasItsRow z words d
   pub value : entry_for z words d c (word_at z words (part.Length d.worker)) ≡ word
 
--- Where its row has gone on, the old value, as a worker noted it: a descriptor that succeeded stands in no cell then.
-pub record GoneStandsFor (z : Shape) (words : List ℕ) (keep : ℕ → View) (c : ℕ) (d : Ref) (word : ℕ) : Type 0 where
+-- Where it is stale, the old value, as a worker noted it: a descriptor that succeeded stands in no cell then.
+pub record StaleStandsFor (z : Shape) (words : List ℕ) (keep : ℕ → View) (c : ℕ) (d : Ref) (word : ℕ) : Type 0 where
   pub gone : HasItsRow z words d → ⊥
   pub worker : ℕ
   pub within : worker < z.workers
@@ -60,7 +60,7 @@ pub record GoneStandsFor (z : Shape) (words : List ℕ) (keep : ℕ → View) (c
 abbrev pub StandsFor : Shape → (words : List ℕ) → (keep : ℕ → View) → (c : ℕ) → Cell → (word : ℕ) → Type 0
 StandsFor z words keep c (plain u) word = u ≡ word
 StandsFor z words keep c (mark x) word = MarkStandsFor keep c x word
-StandsFor z words keep c (desc d) word = RowStandsFor z words c d word ⊎ GoneStandsFor z words keep c d word
+StandsFor z words keep c (desc d) word = RowStandsFor z words c d word ⊎ StaleStandsFor z words keep c d word
 
 -- cell c stands for this word
 abbrev pub IsLogicalWord : Shape → (words : List ℕ) → (keep : ℕ → View) → (c word : ℕ) → Type 0

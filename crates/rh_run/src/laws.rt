@@ -27,7 +27,7 @@ pub fn run_goes_on()
 
 /// At each moment the cells stand for the layout of the set after the keys of the acts so far, which
 /// are those of the descriptors that succeeded, and by which each worker has done its keys; the words,
-/// and what the workers noted of rows that have gone on, tell what the cells stand for; and what was
+/// and what the workers noted of stale descriptors, tell what the cells stand for; and what was
 /// asked for is answered from the first set.
 pub fn run_stands()
     ensures words { LogicalWords }

@@ -29,10 +29,10 @@
 //!   at one of its keys, with each Claim, and with each further round, begun where all are at rest.
 //!   Or it is gathered from its workers.
 //! - `only_success_changes`: no step changes what a cell stands for, but a Decide that lets a
-//!   descriptor succeed. So a stale helper changes nothing, whatever it still does on rows that
-//!   have gone on.
+//!   descriptor succeed. So a stale helper changes nothing, whatever it still does for stale
+//!   descriptors.
 //! - `run_stands`, of words: what each cell stands for is told by the words, but of a mark by the
-//!   old value that its worker noted. Of a descriptor whose row has gone on it is told by the
+//!   old value that its worker noted. Of a stale descriptor it is told by the
 //!   worker that holds the cell.
 //! - `run_stands`, of keys: at each moment the cells stand for the layout of the set after the keys
 //!   of the acts so far. Each key that is done shows in it. Each key that was asked for is answered

@@ -13,7 +13,7 @@
 //!   nothing is changed. It is spent only where no number is left for a mark, or none for a
 //!   descriptor.
 //! - `logical_value`: what a cell stands for, as the words tell it. Of a mark its worker tells it,
-//!   and of a descriptor whose row has gone on the worker that holds the cell. `Hand::is_finished`
+//!   and of a stale descriptor the worker that holds the cell. `Hand::is_finished`
 //!   is exact.
 //! - `games_go_on`: what is so of a game is so at its start, and stays so in each turn of any
 //!   worker. It stays so in each further round, which begins where no worker has a step left.

@@ -17,8 +17,8 @@ use rh_helping::{CellContent, what_stands};
 use rh_tagword::{State, pack_control, plain_value};
 
 /// What the cell stands for, as a value: what it holds itself, the old value of a mark's entry, or the
-/// value of a descriptor's entry that counts (Harris, Fraser and Pratt 2002). Where the descriptor's row
-/// has gone on it is the old value, known to the worker by whose doing it stands there.
+/// value of a descriptor's entry that counts (Harris, Fraser and Pratt 2002). Where the descriptor is
+/// stale it is the old value, known to the worker by whose doing it stands there.
 pub fn logical_value(shape: &Shape, words: &[u64], hands: &[Hand], cell: usize) -> u64
     requires shape { IsShape shape.now }
     requires sized { length words.now ≡ word_count shape.now }
@@ -107,7 +107,7 @@ fn word_in_row(shape: &Shape, words: &[u64], desc: Ref, cell: usize) -> u64
 }
 
 /// As the worker knows it that holds it in this cell: a descriptor that succeeded stands in no cell
-/// once its row has gone on.
+/// once it is stale.
 fn word_held(hands: &[Hand], desc: Ref, cell: usize) -> u64
     requires workers { AreWorkers hands.now }
     requires held { HasHolder (length hands.now) (views_of hands.now) (ref_of desc) cell }

@@ -15,7 +15,7 @@ use Rattle.rh_world.specs.Moves.{Entries, cell_world, claim_world, decide_world,
 use Rattle.rh_world.proofs.Conditions.{OpensNext, PlacesNext}
 use Rattle.rh_world.proofs.Laters.{later_cell, later_claim, later_decide, later_open, later_place, later_succeed}
 use Rattle.rh_world.proofs.RowsKept.{by_side, field_same, owner_same}
-use Rattle.rh_world.proofs.Stays.{acts_note_stays}
+use Rattle.rh_world.proofs.Stays.{acts_fact_stays}
 use Rattle.rh_world.proofs.Updated.{decided_opened, ref_path, same_nat, some_not_none, undecided_open, updated_at, updated_else, updated_here, updated_ref_at, updated_ref_here}
 
 pub is_succeeded : (k : Control) → (k ≡ succeeded) ⊎ (k ≢ succeeded)
@@ -107,7 +107,7 @@ module _ (w v : World) (l : Later w v) where
             let o = succeeded_opened _ before in
             let t = a.standing c d (⊎_elim (λ stood. stood) (λ fails. absurd (fails s)) (l.came c d o here)) before in
             record { entry = t.entry; within = subst (λ (n : ℕ). t.entry < n) (sym (l.size d o)) t.within; here = l.target d t.entry o ∙ t.here; owed = owners d t.entry t.owed };
-        facts = λ u n h p. acts_note_stays w v side rows l n p (a.facts u n (fewer u n h) p);
+        facts = λ u n h p. acts_fact_stays w v side rows l n p (a.facts u n (fewer u n h) p);
       }
 
 pub same_notes : (side : ℕ → Side) (who : ℕ) (s : Side) → s.facts ≡ (side who).facts → (u : ℕ) (n : Fact)
@@ -333,7 +333,7 @@ acts_succeed w side d rows und all a =
           })
           (λ (p : (f ≢ d) × (v.control f ≡ w.control f)). let t = a.standing c f e (sym p.1 ∙ s) in record { entry = t.entry; within = t.within; here = t.here; owed = t.owed })
           (updated_ref_at w.control d f succeeded);
-      facts = λ u n h p. acts_note_stays w v side rows l n p (a.facts u n h p);
+      facts = λ u n h p. acts_fact_stays w v side rows l n p (a.facts u n h p);
     }
 
 pub acts_claim : (w : World) (side : ℕ → Side) → Rows w side → Acts w side → Acts (claim_world w) side

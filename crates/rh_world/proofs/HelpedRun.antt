@@ -6,7 +6,7 @@ use Rattle.rh_world.specs.World.Control.{failed, succeeded, withdrawn}
 use Rattle.rh_world.specs.Facts.{HoldsIn, Fact}
 use Rattle.rh_world.specs.Facts.Fact.{size_is}
 use Rattle.rh_world.specs.Sides.{AtRest, Side}
-use Rattle.rh_world.specs.Moves.{IsAllowed, IsRowNote, side_after, sides_after, world_after}
+use Rattle.rh_world.specs.Moves.{IsAllowed, IsRowFact, side_after, sides_after, world_after}
 use Rattle.rh_world.specs.Ends.{AllAtRest, Runs, Turn, start_sides, start_world}
 use Rattle.rh_world.specs.Ends.Runs.{goes, rests}
 use Rattle.rh_world.specs.Example.{ARunToASuccess, first, helped_run}
@@ -34,8 +34,8 @@ runs_of w side (t ∷ ts) a = goes t.who t.move a.0 (runs_of (world_after w t.wh
 below_two : (P : ℕ → Type 0) → P 0 → P 1 → (e : ℕ) → e < 2 → P e
 below_two P p0 p1 e less = ⊎_elim (λ (q : e ≡ 0). subst P (sym q) p0) (λ (n : e ≢ 0). let q : e ≡ 1 = omega arith in subst P (sym q) p1) (same_nat e 0)
 
-only_note : (w : World) (n : Fact) → IsRowNote n × HoldsIn w n → (m : Fact) → In m (n ∷ []) → IsRowNote m × HoldsIn w m
-only_note w n h m i = ⊎_elim (λ (q : m ≡ n). subst (λ (k : Fact). IsRowNote k × HoldsIn w k) (sym q) h) (λ j. absurd j) i
+only_note : (w : World) (n : Fact) → IsRowFact n × HoldsIn w n → (m : Fact) → In m (n ∷ []) → IsRowFact m × HoldsIn w m
+only_note w n h m i = ⊎_elim (λ (q : m ≡ n). subst (λ (k : Fact). IsRowFact k × HoldsIn w k) (sym q) h) (λ j. absurd j) i
 
 are_allowed : AreAllowed (start_world 2 1 (λ c. 5)) start_sides helped_run
 are_allowed = (

@@ -19,7 +19,7 @@
 -- StepLaws: each step keeps the rule, and so does each run of steps.
 -- EndsKept: the rule at the start, in a new round and at rest; what it says of acts, prefixes and claims.
 -- OwnList: a worker's acts are, in order, its descriptors that succeeded.
--- Passing: what is so of descriptors whose worker has gone on to a later one.
+-- Passing: what is so of stale descriptors.
 -- HelpedRun: the worked run is a run of allowed steps, and all are at rest at its end.
 
 pub mod Updated

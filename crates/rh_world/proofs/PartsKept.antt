@@ -18,7 +18,7 @@ use Rattle.rh_world.proofs.Partly.{Noted, Partly}
 use Rattle.rh_world.proofs.PrefixesKept.{failing, prefixes_fail, prefixes_open, prefixes_read, prefixes_side, prefixes_stay}
 use Rattle.rh_world.proofs.RowsKept.{field_same, owner_same, rows_claim, rows_decide, rows_demote, rows_promote, rows_release, rows_succeed}
 use Rattle.rh_world.proofs.SidesKept.{owner_closed, owner_released, rows_closed, rows_forget, rows_note, rows_open, rows_paid, rows_place, rows_reads, rows_released, rows_settle}
-use Rattle.rh_world.proofs.Stays.{prefixes_note_stays}
+use Rattle.rh_world.proofs.Stays.{prefixes_fact_stays}
 use Rattle.rh_world.proofs.Updated.{some_not_none, updated_at, updated_else, updated_here, updated_ref_at}
 
 -- the world alone changes: nothing is opened, and nothing fails
@@ -27,7 +27,7 @@ prefixes_world : (w v : World) (side : ℕ → Side) → Steady w v → Rows w s
     → ((d : Ref) (e : ℕ) → HasFailed v d e → HasFailed w d e)
     → ((u : ℕ) → w.next_number u ≤ v.next_number u) → Prefixes w side → Prefixes v side
 prefixes_world w v side l rows back failing more p = prefixes_stay w v side side l rows back (λ d e h. inl (failing d e h)) more (λ u. refl) (λ u q h. h)
-    (λ u n h q. prefixes_note_stays w v side rows l n q (p.facts u n h q)) p
+    (λ u n h q. prefixes_fact_stays w v side rows l n q (p.facts u n h q)) p
 
 prefixes_cell : (w : World) (side : ℕ → Side) (c : ℕ) (k : Cell) → Steady w (cell_world w c k) → Rows w side
     → Prefixes w side → Prefixes (cell_world w c k) side
@@ -125,7 +125,7 @@ module _ (A P : Type 0) where
         acts = λ a. acts_place w side x d e r.rows can (r.acts a);
         prefixes = λ a p. prefixes_stay w (place_world w x d e) side side' l r.rows (λ f h. h) (λ f i h. inl h) (λ u. omega arith)
             (field_same side x.worker s (λ (t : Side). t.reads) refl) (λ u q h. sym (field_same side x.worker s (λ (t : Side). t.current) refl u) ∙ h)
-            (λ u n h q. prefixes_note_stays w (place_world w x d e) side r.rows l n q ((r.prefixes a p).facts u n (same_notes side x.worker s refl u n h) q)) (r.prefixes a p);
+            (λ u n h q. prefixes_fact_stays w (place_world w x d e) side r.rows l n q ((r.prefixes a p).facts u n (same_notes side x.worker s refl u n h) q)) (r.prefixes a p);
       }
 
   -- a side alone, with no fact more

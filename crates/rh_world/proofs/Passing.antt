@@ -1,9 +1,9 @@
--- Descriptors whose worker has gone on to a later one.
+-- Stale descriptors.
 use Rattle.std.proofs.Common.{◌≡◌, ℕ, ◌<◌, ◌≤◌, ap, ⊎_elim, arith, Some}
 use Rattle.rh_world.specs.World.{IsDecided, IsOpened, Ref, World}
 use Rattle.rh_world.specs.World.Cell.{plain}
 use Rattle.rh_world.specs.Facts.{HoldsIn}
-use Rattle.rh_world.specs.Facts.Fact.{passed}
+use Rattle.rh_world.specs.Facts.Fact.{stale}
 use Rattle.rh_world.specs.Sides.{Side}
 use Rattle.rh_world.specs.Rule.{Rule}
 use Rattle.rh_world.specs.Laws.{LaterOnesTell}
@@ -17,11 +17,11 @@ module _ (w : World) (side : ℕ → Side) (r : Rule w side) (d later : Ref) (op
   is_over : IsDecided (w.control d)
   is_over = ⊎_elim (λ x. x) (λ here. absurd (not_open here)) (r.rows.state d opened)
 
-  has_passed : HoldsIn w (passed d)
-  has_passed = (is_over, λ s c here. not_open (r.acts.standing c d here s).owed.current)
+  is_stale : HoldsIn w (stale d)
+  is_stale = (is_over, λ s c here. not_open (r.acts.standing c d here s).owed.current)
 
 pub later_ones_tell : LaterOnesTell
 later_ones_tell w side r = record {
-  gone = λ d later opened then same less. (is_over w side r d later opened then same less, has_passed w side r d later opened then same less);
+  gone = λ d later opened then same less. (is_over w side r d later opened then same less, is_stale w side r d later opened then same less);
   released = λ d e gone here. ap plain (chosen_old (w.control d) (w.old d e) (w.new d e) (λ s. gone.1 s (w.target d e) here));
 }

@@ -16,7 +16,7 @@ use Rattle.rh_world.proofs.ActsKept.{same_notes, succeeded_opened}
 use Rattle.rh_world.proofs.Conditions.{OpensNext}
 use Rattle.rh_world.proofs.Laters.{steady_decide, steady_open, steady_same}
 use Rattle.rh_world.proofs.RowsKept.{by_side, field_same}
-use Rattle.rh_world.proofs.Stays.{at_work, mismatch_stays, prefix_stays, prefixes_note_stays}
+use Rattle.rh_world.proofs.Stays.{at_work, mismatch_stays, prefix_stays, prefixes_fact_stays}
 use Rattle.rh_world.proofs.Updated.{failed_opened, some_injective, some_not_none, updated_at, updated_ref_at, updated_ref_here}
 
 module _ (w v : World) (l : Steady w v) where
@@ -99,7 +99,7 @@ prefixes_fail w side d e by n rows u m p =
     inr (subst (λ (x : Ref). FailedAt w side x i) (sym q.0) (subst (FailedAt w side d) r (failing w side d e n rows p u m))))
     (λ q. inl (h.0, sym q.1 ∙ h.1)) (updated_ref_at w.control d f (failed e by)))
     (λ x. omega arith) (λ x. refl) (λ x q h. h)
-    (λ y n h q. prefixes_note_stays w v side rows l n q (p.facts y n h q)) p
+    (λ y n h q. prefixes_fact_stays w v side rows l n q (p.facts y n h q)) p
 
 -- all acts of a worker are of lower numbers than its next
 all_before : (w : World) (side : ℕ → Side) (u : ℕ) → Rows w side → Acts w side
@@ -132,7 +132,7 @@ prefixes_open w side d p rows acts can pre =
     (λ f u q. let h = lower f (λ r. let t : undecided ≡ unused = sym u ∙ r in cc) q in let c : None ≡ Some f.number = sym can.closed ∙ (ap (λ (x : ℕ). (side x).current) (sym q) ∙ at_work w side f rows u) in absurd (some_not_none f.number (sym c)))
     (subst (λ (n : ℕ). IsPrefix w d.worker n w.act_count) (sym can.next) (all_before w side d.worker rows acts)) in
     record {
-      facts = λ u n h q. prefixes_note_stays w v side rows l n q (pre.facts u n (same_notes side d.worker s refl u n h) q);
+      facts = λ u n h q. prefixes_fact_stays w v side rows l n q (pre.facts u n (same_notes side d.worker s refl u n h) q);
       acts_before = λ f h. ⊎_elim
           (λ (q : f ≡ d). subst (λ (x : Ref). IsPrefix v x.worker x.number (v.acts_before x)) (sym q) (subst (IsPrefix v d.worker d.number) (sym since_d) parts_d))
           (λ (o : IsOpened (w.control f)). subst (λ (n : ℕ). IsPrefix v f.worker f.number n) (sym (l.acts_before f o)) (prefix_stays w v l f.worker f.number (w.acts_before f) (λ g. stop f g o) (pre.acts_before f o)))

@@ -8,7 +8,7 @@ use Rattle.rh_world.specs.Sides.{Debt, Side}
 use Rattle.rh_world.specs.Rows.{ByDebt, ByOwner, ByPlacer, DescInCell, Opened, Owed, Owing, Rows}
 use Rattle.rh_world.specs.Moves.{cell_world, claim_world, decide_world, succeed_world}
 use Rattle.rh_world.proofs.Laters.{steady_cell, steady_claim, steady_decide, steady_succeed}
-use Rattle.rh_world.proofs.Stays.{rows_note_stays}
+use Rattle.rh_world.proofs.Stays.{rows_fact_stays}
 use Rattle.rh_world.proofs.Updated.{updated_at, updated_ref_at}
 
 module _ (side : ℕ → Side) (who : ℕ) (s : Side) where
@@ -83,7 +83,7 @@ rows_cell w side c k l clean new rows =
             (λ p. let t = subst (λ (i : ℕ). DescInCell w side i d) (sym p.0) (new d (sym p.1 ∙ e)) in desc_stays w v side side l j d t (owed d t.entry j t.owed))
             (λ p. let t = rows.descs j d (sym p.1 ∙ e) in desc_stays w v side side l j d t (owed d t.entry j t.owed)) (updated_at w.cell c j k);
       };
-      facts = λ u n h p. rows_note_stays w v side rows l n p (rows.facts u n h p);
+      facts = λ u n h p. rows_fact_stays w v side rows l n p (rows.facts u n h p);
     }
 
 pub rows_promote : (w : World) (side : ℕ → Side) (c : ℕ) (x : Ref) → w.cell c ≡ mark x → Rows w side
@@ -135,7 +135,7 @@ rows_frame w side v cells back numbers marks l rows =
             record { used = l.marks x m.used; here = ap (λ (f : Ref). v.target f (v.mark_entry x)) (l.mark_desc x m.used) ∙ (ap (λ (n : ℕ). v.target (w.mark_desc x) n) (l.mark_entry x m.used) ∙ (l.target (w.mark_desc x) (w.mark_entry x) (rows.used x m.used).0 ∙ m.here)); owed = m.owed };
         descs = λ j f e. let t = rows.descs j f (sym (same j) ∙ e) in desc_stays w v side side l j f t (owed f t.entry j t.owed);
       };
-      facts = λ u n h p. rows_note_stays w v side rows l n p (rows.facts u n h p);
+      facts = λ u n h p. rows_fact_stays w v side rows l n p (rows.facts u n h p);
     }
 
 pub rows_decide : (w : World) (side : ℕ → Side) (d : Ref) (r : Control) → w.control d ≡ undecided → IsDecided r

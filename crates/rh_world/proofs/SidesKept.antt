@@ -11,7 +11,7 @@ use Rattle.rh_world.specs.Moves.{Entries, open_world, place_world}
 use Rattle.rh_world.proofs.Conditions.{OpensNext, PlacesNext}
 use Rattle.rh_world.proofs.Laters.{steady_open, steady_place, steady_same}
 use Rattle.rh_world.proofs.RowsKept.{by_side, desc_stays, field_same, opened_stay, owed_stay}
-use Rattle.rh_world.proofs.Stays.{at_work, rows_note_stays}
+use Rattle.rh_world.proofs.Stays.{at_work, rows_fact_stays}
 use Rattle.rh_world.proofs.Updated.{and_false, is_ref_not, ref_path, same_nat, same_ref, some_injective, some_not_none, undecided_open, updated_at, updated_else, updated_here, updated_ref_at, updated_ref_here}
 
 module _ (w : World) (side : ℕ → Side) (who : ℕ) (s : Side) (rows : Rows w side) where
@@ -310,7 +310,7 @@ rows_place w side x d e rows can =
             f t.entry j t.owed))
             (updated_at w.cell c j (mark x));
       };
-      facts = λ u n h p. rows_note_stays w v side rows l n p (rows.facts u n (subst (λ (z : List Fact). In n z) (field_same side x.worker s (λ (t : Side). t.facts) refl u) h) p);
+      facts = λ u n h p. rows_fact_stays w v side rows l n p (rows.facts u n (subst (λ (z : List Fact). In n z) (field_same side x.worker s (λ (t : Side). t.facts) refl u) h) p);
     }
 
 -- a descriptor is opened
@@ -378,5 +378,5 @@ rows_open w side d p rows can =
             (λ u q h. subst (λ (z : List Debt). In q z) (sym (field_same side d.worker s (λ (t : Side). t.debts) refl u)) h)
             f t.entry j t.owed);
       };
-      facts = λ u n h p. rows_note_stays w v side rows l n p (rows.facts u n (subst (λ (z : List Fact). In n z) (field_same side d.worker s (λ (t : Side). t.facts) refl u) h) p);
+      facts = λ u n h p. rows_fact_stays w v side rows l n p (rows.facts u n (subst (λ (z : List Fact). In n z) (field_same side d.worker s (λ (t : Side). t.facts) refl u) h) p);
     }

@@ -4,7 +4,7 @@ use native.Mathlib.Decide.{dec_lt}
 use Rattle.rh_world.specs.World.{IsDecided, IsOpened, Ref, World}
 use Rattle.rh_world.specs.World.Control.{undecided, unused}
 use Rattle.rh_world.specs.Facts.{HoldsIn, IsMismatch, IsPrefix, Fact, part_of}
-use Rattle.rh_world.specs.Facts.Fact.{decided, desc_is, failed_at, found, held, known, may_demote, may_promote, met, mismatch, new_is, old_is, over, passed, size_is, target_is, which_is}
+use Rattle.rh_world.specs.Facts.Fact.{decided, desc_is, failed_at, found, held, known, may_demote, may_promote, met, mismatch, new_is, old_is, over, stale, size_is, target_is, which_is}
 use Rattle.rh_world.specs.Facts.Part.{of_acts, of_prefixes, of_rows}
 use Rattle.rh_world.specs.Later.{Later, Steady}
 use Rattle.rh_world.specs.Sides.{Side}
@@ -52,68 +52,68 @@ mismatch_stays w v l d e n o above m =
     }
 
 module _ (w v : World) (side : ℕ → Side) (rows : Rows w side) where
-  pub rows_note_stays : Steady w v → (n : Fact) → part_of n ≡ of_rows → HoldsIn w n → HoldsIn v n
-  rows_note_stays l (met d) p t = l.opened d t
-  rows_note_stays l (known d) p t = l.opened d t
-  rows_note_stays l (size_is d n) p t = (l.opened d t.0, l.size d t.0 ∙ t.1)
-  rows_note_stays l (target_is d e c) p t = (l.opened d t.0, l.target d e t.0 ∙ t.1)
-  rows_note_stays l (old_is d e u) p t = (l.opened d t.0, l.old d e t.0 ∙ t.1)
-  rows_note_stays l (new_is d e u) p t = (l.opened d t.0, l.new d e t.0 ∙ t.1)
-  rows_note_stays l (decided d k) p t = (t.0, l.decided d (subst IsDecided (sym t.1) t.0) ∙ t.1)
-  rows_note_stays l (over d) p t = subst IsDecided (sym (l.decided d t)) t
-  rows_note_stays l (passed d) p t = cc
-  rows_note_stays l (failed_at d e) p t = (t.0, l.decided d (subst IsDecided (sym t.1) tt) ∙ t.1)
-  rows_note_stays l (desc_is x d) p t = (l.marks x t.0, l.mark_desc x t.0 ∙ t.1)
-  rows_note_stays l (which_is x e) p t = (l.marks x t.0, l.mark_entry x t.0 ∙ t.1)
-  rows_note_stays l (found x c) p t =
+  pub rows_fact_stays : Steady w v → (n : Fact) → part_of n ≡ of_rows → HoldsIn w n → HoldsIn v n
+  rows_fact_stays l (met d) p t = l.opened d t
+  rows_fact_stays l (known d) p t = l.opened d t
+  rows_fact_stays l (size_is d n) p t = (l.opened d t.0, l.size d t.0 ∙ t.1)
+  rows_fact_stays l (target_is d e c) p t = (l.opened d t.0, l.target d e t.0 ∙ t.1)
+  rows_fact_stays l (old_is d e u) p t = (l.opened d t.0, l.old d e t.0 ∙ t.1)
+  rows_fact_stays l (new_is d e u) p t = (l.opened d t.0, l.new d e t.0 ∙ t.1)
+  rows_fact_stays l (decided d k) p t = (t.0, l.decided d (subst IsDecided (sym t.1) t.0) ∙ t.1)
+  rows_fact_stays l (over d) p t = subst IsDecided (sym (l.decided d t)) t
+  rows_fact_stays l (stale d) p t = cc
+  rows_fact_stays l (failed_at d e) p t = (t.0, l.decided d (subst IsDecided (sym t.1) tt) ∙ t.1)
+  rows_fact_stays l (desc_is x d) p t = (l.marks x t.0, l.mark_desc x t.0 ∙ t.1)
+  rows_fact_stays l (which_is x e) p t = (l.marks x t.0, l.mark_entry x t.0 ∙ t.1)
+  rows_fact_stays l (found x c) p t =
       let h = rows.used x t.0 in
       (l.marks x t.0, (ap (λ (f : Ref). v.target f (v.mark_entry x)) (l.mark_desc x t.0) ∙ (ap (λ (e : ℕ). v.target (w.mark_desc x) e) (l.mark_entry x t.0) ∙ (l.target (w.mark_desc x) (w.mark_entry x) h.0 ∙ t.1))))
-  rows_note_stays l (may_promote x c) p t = cc
-  rows_note_stays l (may_demote x) p t = (l.marks x t.0, subst IsDecided (sym (ap v.control (l.mark_desc x t.0) ∙ l.decided (w.mark_desc x) t.1)) t.1)
-  rows_note_stays l (held d e) p t = cc
-  rows_note_stays l (mismatch d e n) p t = cc
+  rows_fact_stays l (may_promote x c) p t = cc
+  rows_fact_stays l (may_demote x) p t = (l.marks x t.0, subst IsDecided (sym (ap v.control (l.mark_desc x t.0) ∙ l.decided (w.mark_desc x) t.1)) t.1)
+  rows_fact_stays l (held d e) p t = cc
+  rows_fact_stays l (mismatch d e n) p t = cc
 
-  pub acts_note_stays : Later w v → (n : Fact) → part_of n ≡ of_acts → HoldsIn w n → HoldsIn v n
-  acts_note_stays l (met d) p t = cc
-  acts_note_stays l (known d) p t = cc
-  acts_note_stays l (size_is d n) p t = cc
-  acts_note_stays l (target_is d e c) p t = cc
-  acts_note_stays l (old_is d e u) p t = cc
-  acts_note_stays l (new_is d e u) p t = cc
-  acts_note_stays l (decided d k) p t = cc
-  acts_note_stays l (over d) p t = cc
-  acts_note_stays l (passed d) p t =
+  pub acts_fact_stays : Later w v → (n : Fact) → part_of n ≡ of_acts → HoldsIn w n → HoldsIn v n
+  acts_fact_stays l (met d) p t = cc
+  acts_fact_stays l (known d) p t = cc
+  acts_fact_stays l (size_is d n) p t = cc
+  acts_fact_stays l (target_is d e c) p t = cc
+  acts_fact_stays l (old_is d e u) p t = cc
+  acts_fact_stays l (new_is d e u) p t = cc
+  acts_fact_stays l (decided d k) p t = cc
+  acts_fact_stays l (over d) p t = cc
+  acts_fact_stays l (stale d) p t =
       let same : v.control d ≡ w.control d = l.decided d t.0 in (
         subst IsDecided (sym same) t.0,
         λ s c here. ⊎_elim (λ stood. t.1 (sym same ∙ s) c stood) (λ fails. fails s) (l.came c d (decided_opened _ t.0) here),
       )
-  acts_note_stays l (failed_at d e) p t = cc
-  acts_note_stays l (desc_is x d) p t = cc
-  acts_note_stays l (which_is x e) p t = cc
-  acts_note_stays l (found x c) p t = cc
-  acts_note_stays l (may_promote x c) p t = (l.marks x t.0, λ s q. t.1 (l.stood c x t.0 s) (l.late c x t.0 s (ap v.control (sym (l.mark_desc x t.0)) ∙ q)))
-  acts_note_stays l (may_demote x) p t = cc
-  acts_note_stays l (held d e) p t = (l.opened d t.0, λ u. ap v.cell (l.target d e t.0) ∙ l.stays (w.target d e) d (t.1 (l.was_undecided d t.0 u)) u)
-  acts_note_stays l (mismatch d e n) p t = cc
+  acts_fact_stays l (failed_at d e) p t = cc
+  acts_fact_stays l (desc_is x d) p t = cc
+  acts_fact_stays l (which_is x e) p t = cc
+  acts_fact_stays l (found x c) p t = cc
+  acts_fact_stays l (may_promote x c) p t = (l.marks x t.0, λ s q. t.1 (l.stood c x t.0 s) (l.late c x t.0 s (ap v.control (sym (l.mark_desc x t.0)) ∙ q)))
+  acts_fact_stays l (may_demote x) p t = cc
+  acts_fact_stays l (held d e) p t = (l.opened d t.0, λ u. ap v.cell (l.target d e t.0) ∙ l.stays (w.target d e) d (t.1 (l.was_undecided d t.0 u)) u)
+  acts_fact_stays l (mismatch d e n) p t = cc
 
-  pub prefixes_note_stays : Steady w v → (n : Fact) → part_of n ≡ of_prefixes → HoldsIn w n → HoldsIn v n
-  prefixes_note_stays l (met d) p t = cc
-  prefixes_note_stays l (known d) p t = cc
-  prefixes_note_stays l (size_is d n) p t = cc
-  prefixes_note_stays l (target_is d e c) p t = cc
-  prefixes_note_stays l (old_is d e u) p t = cc
-  prefixes_note_stays l (new_is d e u) p t = cc
-  prefixes_note_stays l (decided d k) p t = cc
-  prefixes_note_stays l (over d) p t = cc
-  prefixes_note_stays l (passed d) p t = cc
-  prefixes_note_stays l (failed_at d e) p t = cc
-  prefixes_note_stays l (desc_is x d) p t = cc
-  prefixes_note_stays l (which_is x e) p t = cc
-  prefixes_note_stays l (found x c) p t = cc
-  prefixes_note_stays l (may_promote x c) p t = cc
-  prefixes_note_stays l (may_demote x) p t = cc
-  prefixes_note_stays l (held d e) p t = cc
-  prefixes_note_stays l (mismatch d e n) p t = (
+  pub prefixes_fact_stays : Steady w v → (n : Fact) → part_of n ≡ of_prefixes → HoldsIn w n → HoldsIn v n
+  prefixes_fact_stays l (met d) p t = cc
+  prefixes_fact_stays l (known d) p t = cc
+  prefixes_fact_stays l (size_is d n) p t = cc
+  prefixes_fact_stays l (target_is d e c) p t = cc
+  prefixes_fact_stays l (old_is d e u) p t = cc
+  prefixes_fact_stays l (new_is d e u) p t = cc
+  prefixes_fact_stays l (decided d k) p t = cc
+  prefixes_fact_stays l (over d) p t = cc
+  prefixes_fact_stays l (stale d) p t = cc
+  prefixes_fact_stays l (failed_at d e) p t = cc
+  prefixes_fact_stays l (desc_is x d) p t = cc
+  prefixes_fact_stays l (which_is x e) p t = cc
+  prefixes_fact_stays l (found x c) p t = cc
+  prefixes_fact_stays l (may_promote x c) p t = cc
+  prefixes_fact_stays l (may_demote x) p t = cc
+  prefixes_fact_stays l (held d e) p t = cc
+  prefixes_fact_stays l (mismatch d e n) p t = (
     l.opened d t.0,
     λ u.
         let before = l.was_undecided d t.0 u in

@@ -155,9 +155,9 @@ module _ (A P : Type 0) where
     step_decided d (failed i by) x e may = r
 
   -- the world first, then the side
-  gone_after : (w : World) (c : ℕ) (k : Cell) (x : Ref) → k ≢ mark x → ((j : ℕ) → w.cell j ≡ mark x → j ≡ c) → (j : ℕ)
+  stale_after : (w : World) (c : ℕ) (k : Cell) (x : Ref) → k ≢ mark x → ((j : ℕ) → w.cell j ≡ mark x → j ≡ c) → (j : ℕ)
       → (cell_world w c k).cell j ≢ mark x
-  gone_after w c k x clean only j e = ⊎_elim (λ p. clean (sym p.1 ∙ e)) (λ p. p.0 (only j (sym p.1 ∙ e))) (updated_at w.cell c j k)
+  stale_after w c k x clean only j e = ⊎_elim (λ p. clean (sym p.1 ∙ e)) (λ p. p.0 (only j (sym p.1 ∙ e))) (updated_at w.cell c j k)
 
   step_settle : (w : World) (side : ℕ → Side) (who : ℕ) (x : Ref) (c : ℕ) (to b : Bool) → Partly A P w side
       → IsAllowed w side who (settles x c to) → is_mark (w.cell c) x ≡ b
@@ -167,7 +167,7 @@ module _ (A P : Type 0) where
       let f = r.rows.facts who (found x c) may.0 refl in
       let only : (j : ℕ) → w.cell j ≡ mark x → j ≡ c = λ j q. sym (r.rows.marks j x q).here ∙ f.1 in
       let v : World = cell_world w c (desc (w.mark_desc x)) in
-      step_settled v side who (parts_promote A P w side c x here (λ a. ((r.acts a).facts who (may_promote x c) may.1 refl).1 here) r) x c f.0 f.1 (gone_after w c (desc (w.mark_desc x)) x (λ q. cc) only) true (λ q. updated_here w.cell c c (desc (w.mark_desc x)) refl) (is_number (side who).unsettled who x) refl
+      step_settled v side who (parts_promote A P w side c x here (λ a. ((r.acts a).facts who (may_promote x c) may.1 refl).1 here) r) x c f.0 f.1 (stale_after w c (desc (w.mark_desc x)) x (λ q. cc) only) true (λ q. updated_here w.cell c c (desc (w.mark_desc x)) refl) (is_number (side who).unsettled who x) refl
   step_settle w side who x c true false r may e =
       let f = r.rows.facts who (found x c) may.0 refl in
       step_settled w side who r x c f.0 f.1 (λ j q. is_mark_not (w.cell c) x e (ap w.cell (sym f.1 ∙ (r.rows.marks j x q).here) ∙ q)) false (λ q. absurd (true≢false (sym q))) (is_number (side who).unsettled who x) refl
@@ -176,7 +176,7 @@ module _ (A P : Type 0) where
       let f = r.rows.facts who (found x c) may.0 refl in
       let only : (j : ℕ) → w.cell j ≡ mark x → j ≡ c = λ j q. sym (r.rows.marks j x q).here ∙ f.1 in
       let k : Cell = plain (w.old (w.mark_desc x) (w.mark_entry x)) in
-      step_settled (cell_world w c k) side who (parts_demote A P w side c x here r) x c f.0 f.1 (gone_after w c k x (λ q. cc) only) false (λ q. absurd (true≢false (sym q))) (is_number (side who).unsettled who x) refl
+      step_settled (cell_world w c k) side who (parts_demote A P w side c x here r) x c f.0 f.1 (stale_after w c k x (λ q. cc) only) false (λ q. absurd (true≢false (sym q))) (is_number (side who).unsettled who x) refl
   step_settle w side who x c false false r may e =
       let f = r.rows.facts who (found x c) may.0 refl in
       step_settled w side who r x c f.0 f.1 (λ j q. is_mark_not (w.cell c) x e (ap w.cell (sym f.1 ∙ (r.rows.marks j x q).here) ∙ q)) false (λ q. absurd (true≢false (sym q))) (is_number (side who).unsettled who x) refl

@@ -11,9 +11,9 @@ pub data Fact : Type 0 where
   size_is : Ref → ℕ → Fact
   target_is old_is new_is : Ref → ℕ → ℕ → Fact
   decided : Ref → Control → Fact
-  -- that it was decided, and not how; that its owner has gone on to a later one, so that it stands in no cell if it
+  -- that it was decided, and not how; that it is stale: its owner opened a later one, so that it stands in no cell if it
   -- succeeded; at which entry it failed
-  over passed : Ref → Fact
+  over stale : Ref → Fact
   failed_at : Ref → ℕ → Fact
   -- of a mark: its descriptor; its entry; the cell where it was found
   desc_is : Ref → Ref → Fact
@@ -52,7 +52,7 @@ HoldsIn w (old_is d e u) = IsOpened (w.control d) × (w.old d e ≡ u)
 HoldsIn w (new_is d e u) = IsOpened (w.control d) × (w.new d e ≡ u)
 HoldsIn w (decided d k) = IsDecided k × (w.control d ≡ k)
 HoldsIn w (over d) = IsDecided (w.control d)
-HoldsIn w (passed d) = IsDecided (w.control d) × (w.control d ≡ succeeded → (c : ℕ) → w.cell c ≢ desc d)
+HoldsIn w (stale d) = IsDecided (w.control d) × (w.control d ≡ succeeded → (c : ℕ) → w.cell c ≢ desc d)
 HoldsIn w (failed_at d e) = HasFailed w d e
 HoldsIn w (desc_is x d) = IsUsed w x × (w.mark_desc x ≡ d)
 HoldsIn w (which_is x e) = IsUsed w x × (w.mark_entry x ≡ e)
@@ -76,7 +76,7 @@ part_of (old_is d e u) = of_rows
 part_of (new_is d e u) = of_rows
 part_of (decided d k) = of_rows
 part_of (over d) = of_rows
-part_of (passed d) = of_acts
+part_of (stale d) = of_acts
 part_of (failed_at d e) = of_rows
 part_of (desc_is x d) = of_rows
 part_of (which_is x e) = of_rows

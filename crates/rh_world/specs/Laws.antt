@@ -5,7 +5,7 @@ use Rattle.rh_world.specs.World.Cell.{desc, plain}
 use Rattle.rh_world.specs.World.Control.{succeeded}
 use Rattle.rh_world.specs.Logical.{IsLogical}
 use Rattle.rh_world.specs.Facts.{HoldsIn, IsPrefix}
-use Rattle.rh_world.specs.Facts.Fact.{over, passed}
+use Rattle.rh_world.specs.Facts.Fact.{over, stale}
 use Rattle.rh_world.specs.Later.{Later}
 use Rattle.rh_world.specs.Sides.{Side, KeptRead}
 use Rattle.rh_world.specs.Rows.{Rows}
@@ -93,15 +93,15 @@ pub record Foretold (w : World) (side : ℕ → Side) : Type 0 where
 abbrev pub PrefixesSay : Type 0
 PrefixesSay = (w : World) (side : ℕ → Side) → Rule w side → Foretold w side
 
--- A descriptor whose worker has opened a later one has gone on: it is decided, and stands in no cell if it succeeded. Where
+-- A descriptor whose worker has opened a later one is stale: it is decided, and stands in no cell if it succeeded. Where
 -- such a one stands in a cell after all, a Release puts the old value there.
-pub record GoneOn (w : World) (side : ℕ → Side) : Type 0 where
+pub record StaleDescriptors (w : World) (side : ℕ → Side) : Type 0 where
   pub gone : (d later : Ref) → IsOpened (w.control d) → IsOpened (w.control later) → later.worker ≡ d.worker → d.number < later.number
-      → HoldsIn w (over d) × HoldsIn w (passed d)
-  pub released : (d : Ref) (e : ℕ) → HoldsIn w (passed d) → w.cell (w.target d e) ≡ desc d → released_cell w d e ≡ plain (w.old d e)
+      → HoldsIn w (over d) × HoldsIn w (stale d)
+  pub released : (d : Ref) (e : ℕ) → HoldsIn w (stale d) → w.cell (w.target d e) ≡ desc d → released_cell w d e ≡ plain (w.old d e)
 
 abbrev pub LaterOnesTell : Type 0
-LaterOnesTell = (w : World) (side : ℕ → Side) → Rule w side → GoneOn w side
+LaterOnesTell = (w : World) (side : ℕ → Side) → Rule w side → StaleDescriptors w side
 
 -- The keys are shared out: a number below the keys was found by a Claim exactly if it is below the counter, by one
 -- worker alone, and once. Each number that was found is below the counter, so that all keys were found where the end was.

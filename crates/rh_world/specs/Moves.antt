@@ -8,7 +8,7 @@ use Rattle.rh_world.specs.World.Cell.{plain, mark, desc}
 use Rattle.rh_world.specs.World.Control.{unused, undecided, succeeded, withdrawn, failed}
 use Rattle.rh_world.specs.Logical.{entry_value, changed_by}
 use Rattle.rh_world.specs.Facts.{Fact, HoldsIn}
-use Rattle.rh_world.specs.Facts.Fact.{met, known, size_is, target_is, old_is, new_is, desc_is, which_is, decided, over, passed, failed_at, found, may_promote, may_demote, held, mismatch}
+use Rattle.rh_world.specs.Facts.Fact.{met, known, size_is, target_is, old_is, new_is, desc_is, which_is, decided, over, stale, failed_at, found, may_promote, may_demote, held, mismatch}
 use Rattle.rh_world.specs.Sides.{Side, is_number, note_side, open_side, place_side, settle_side, forget_side, paid_side, release_side, close_side, read_side, claim_side}
 
 -- the entries of a descriptor that is opened
@@ -48,25 +48,25 @@ next_mark w who = record { worker = who; number = w.marks_used who }
 
 -- When it is allowed.
 
--- what a row says, of an opened descriptor or of a used mark, or that it has gone on to a later one
-abbrev pub IsRowNote : Fact → Type 0
-IsRowNote (met d) = ⊥
-IsRowNote (known d) = ⊥
-IsRowNote (size_is d n) = Unit {0}
-IsRowNote (target_is d e c) = Unit {0}
-IsRowNote (old_is d e u) = Unit {0}
-IsRowNote (new_is d e u) = Unit {0}
-IsRowNote (decided d k) = ⊥
-IsRowNote (over d) = Unit {0}
-IsRowNote (passed d) = Unit {0}
-IsRowNote (failed_at d e) = Unit {0}
-IsRowNote (desc_is x d) = Unit {0}
-IsRowNote (which_is x e) = Unit {0}
-IsRowNote (found x c) = ⊥
-IsRowNote (may_promote x c) = ⊥
-IsRowNote (may_demote x) = Unit {0}
-IsRowNote (held d e) = ⊥
-IsRowNote (mismatch d e n) = ⊥
+-- what a row says, of an opened descriptor or of a used mark, or that it is of a later one
+abbrev pub IsRowFact : Fact → Type 0
+IsRowFact (met d) = ⊥
+IsRowFact (known d) = ⊥
+IsRowFact (size_is d n) = Unit {0}
+IsRowFact (target_is d e c) = Unit {0}
+IsRowFact (old_is d e u) = Unit {0}
+IsRowFact (new_is d e u) = Unit {0}
+IsRowFact (decided d k) = ⊥
+IsRowFact (over d) = Unit {0}
+IsRowFact (stale d) = Unit {0}
+IsRowFact (failed_at d e) = Unit {0}
+IsRowFact (desc_is x d) = Unit {0}
+IsRowFact (which_is x e) = Unit {0}
+IsRowFact (found x c) = ⊥
+IsRowFact (may_promote x c) = ⊥
+IsRowFact (may_demote x) = Unit {0}
+IsRowFact (held d e) = ⊥
+IsRowFact (mismatch d e n) = ⊥
 
 -- There is an entry, the cells rise, and nothing of the worker is open. That the cells are in range and the values plain
 -- is asked where the words are.
@@ -97,9 +97,9 @@ MayDecide s who d succeeded = (n : ℕ) × In (size_is d n) s.facts × ((e : ℕ
 MayDecide s who d withdrawn = d.worker ≡ who
 MayDecide s who d (failed e by) = (by ≡ who) × ((n : ℕ) × In (mismatch d e n) s.facts)
 
--- The worker knows how d is decided, or that it is and that its owner has gone on.
+-- The worker knows how d is decided, or that it is and that it is stale.
 abbrev pub KnowsOver : Side → Ref → Type 0
-KnowsOver s d = ((k : Control) × In (decided d k) s.facts) ⊎ (In (over d) s.facts × In (passed d) s.facts)
+KnowsOver s d = ((k : Control) × In (decided d k) s.facts) ⊎ (In (over d) s.facts × In (stale d) s.facts)
 
 -- nothing is open, and no earlier Claim found the end
 pub record MayClaim (w : World) (s : Side) (who : ℕ) : Type 0 where
@@ -110,10 +110,10 @@ pub record MayClaim (w : World) (s : Side) (who : ℕ) : Type 0 where
 -- A Read of a mark's control needs the mark found before, so that it comes after it. A Settle is allowed with a mark that
 -- was found in that cell, where the worker placed it or met it; and to its descriptor only if that was read as undecided
 -- after that, else only if it was read as decided. A Decide also asks that the worker opened d or read its
--- control as undecided, since only then is there a control to swap. A Release asks that d is known as decided, and how; or that it is, and that its owner
--- has gone on: then it stands in a cell only if it did not succeed, and the old value is put there.
+-- control as undecided, since only then is there a control to swap. A Release asks that d is known as decided, and how; or that
+-- it is stale: then it stands in a cell only if it did not succeed, and the old value is put there.
 abbrev pub IsAllowed : World → (ℕ → Side) → (who : ℕ) → Move → Type 0
-IsAllowed w side who (learns ns) = (n : Fact) → In n ns → IsRowNote n × HoldsIn w n
+IsAllowed w side who (learns ns) = (n : Fact) → In n ns → IsRowFact n × HoldsIn w n
 IsAllowed w side who (opens p) = CanOpen side who p
 IsAllowed w side who (reads_cell c) = Unit {0}
 IsAllowed w side who (reads_control d) = Unit {0}

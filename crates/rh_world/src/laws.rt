@@ -52,7 +52,7 @@ pub fn prefixes()
 
 /// A descriptor whose worker has opened a later one is decided, and stands in no cell if it
 /// succeeded; so where it stands a Release puts the old value.
-pub fn gone_on()
+pub fn stale_descriptors()
     ensures { LaterOnesTell }
 {}
 

@@ -1,16 +1,16 @@
 use Rattle.std.proofs.Common.{Option, inr, sym, subst}
 use Rattle.rh_world.specs.World.{In}
-use Rattle.rh_world.specs.Facts.Fact.{passed}
+use Rattle.rh_world.specs.Facts.Fact.{stale}
 use Rattle.rh_descriptor.specs.Words.{ref_of}
 use Rattle.rh_descriptor.specs.View.{View}
 use Rattle.rh_descriptor.specs.View.RowWord.{cell_word, new_word, old_word}
 use Rattle.rh_helping.specs.declared.goal.Owed.{Owed}
 use Rattle.rh_helping.specs.Goal.{GivesBack, HasReason, KnowsGoal, KnowsOwn, OwesNothing, opened_by}
 use Rattle.rh_helping.specs.Machine.{goal_of}
-use Rattle.rh_helping.specs.Work.{IsLeft, Owes}
+use Rattle.rh_helping.specs.Work.{IsGivenUp, Owes}
 use Rattle.rh_helping.proofs.Growing.{own_grows, owes_grows, reason_grows}
 use Rattle.rh_helping.proofs.Owing.{left_at}
-use Rattle.rh_helping.proofs.Rows.{read_goal, serial_gone, serial_grows, serial_tells, serial_view}
+use Rattle.rh_helping.proofs.Rows.{read_goal, serial_stale, serial_grows, serial_tells, serial_view}
 use Rattle.rh_helping.proofs.entering.EntrySerialStage.after.Goals as goal
 
 pub ready-requires-clause-own : goal.ready-requires-clause-own
@@ -47,9 +47,9 @@ pub returns-in-Some-clause-leads : goal.returns-in-Some-clause-leads
 returns-in-Some-clause-leads g c =
     let f = c.requires.follows in
     let t = c.args.machine.now.task in
-    let left = left_at f.before _ (serial_grows f.before (ref_of t.desc) c.args.found) t f.stands.0 f.stands.1 (serial_gone f.before (ref_of t.desc) c.args.found c.if-found-machine.false) in (
+    let left = left_at f.before _ (serial_grows f.before (ref_of t.desc) c.args.found) t f.stands.0 f.stands.1 (serial_stale f.before (ref_of t.desc) c.args.found c.if-found-machine.false) in (
       subst (λ (n : View). KnowsOwn n (opened_by c.args.opens)) (sym f.view_is) (own_grows _ _ (serial_grows f.before (ref_of t.desc) c.args.found) _ f.own),
-      subst (λ (n : View). GivesBack n c.in-Some.owed) (sym f.view_is) (subst (λ (o : Option Owed). IsLeft (serial_view f.before (ref_of t.desc) c.args.found) (ref_of t.desc) o) c.in-Some.is left),
+      subst (λ (n : View). GivesBack n c.in-Some.owed) (sym f.view_is) (subst (λ (o : Option Owed). IsGivenUp (serial_view f.before (ref_of t.desc) c.args.found) (ref_of t.desc) o) c.in-Some.is left),
     )
 
 pub resume-requires-clause-own : goal.resume-requires-clause-own
@@ -62,8 +62,8 @@ pub resume-requires-clause-owes : goal.resume-requires-clause-owes
 resume-requires-clause-owes g c =
     let f = c.requires.follows in
     let t = c.args.machine.now.task in
-    let left = left_at f.before _ (serial_grows f.before (ref_of t.desc) c.args.found) t f.stands.0 f.stands.1 (serial_gone f.before (ref_of t.desc) c.args.found c.if-found-machine.false) in
-    subst (λ (n : View). OwesNothing n) (sym f.view_is) (subst (λ (o : Option Owed). IsLeft (serial_view f.before (ref_of t.desc) c.args.found) (ref_of t.desc) o) c.in-None.is left).0
+    let left = left_at f.before _ (serial_grows f.before (ref_of t.desc) c.args.found) t f.stands.0 f.stands.1 (serial_stale f.before (ref_of t.desc) c.args.found c.if-found-machine.false) in
+    subst (λ (n : View). OwesNothing n) (sym f.view_is) (subst (λ (o : Option Owed). IsGivenUp (serial_view f.before (ref_of t.desc) c.args.found) (ref_of t.desc) o) c.in-None.is left).0
 
 pub returns-in-None-clause-leads : goal.returns-in-None-clause-leads
 returns-in-None-clause-leads g c = c.resume.ensures.leads _
@@ -72,4 +72,4 @@ pub returns-in-None-clause-ends : goal.returns-in-None-clause-ends
 returns-in-None-clause-ends g c =
     let f = c.requires.follows in
     let t = c.args.machine.now.task in
-    c.resume.ensures.ends _ (inr (subst (λ (n : View). In (passed (ref_of t.desc)) n.side.facts) (sym f.view_is) (serial_gone f.before (ref_of t.desc) c.args.found c.if-found-machine.false).1))
+    c.resume.ensures.ends _ (inr (subst (λ (n : View). In (stale (ref_of t.desc)) n.side.facts) (sym f.view_is) (serial_stale f.before (ref_of t.desc) c.args.found c.if-found-machine.false).1))

@@ -1,13 +1,13 @@
 use Rattle.std.proofs.Common.{None, inr, sym, subst}
 use Rattle.rh_world.specs.World.{In}
-use Rattle.rh_world.specs.Facts.Fact.{passed}
+use Rattle.rh_world.specs.Facts.Fact.{stale}
 use Rattle.rh_descriptor.specs.Words.{ref_of}
 use Rattle.rh_descriptor.specs.View.{View}
 use Rattle.rh_descriptor.specs.View.RowWord.{length_word}
 use Rattle.rh_helping.specs.Goal.{KnowsOwn, OwesNothing, opened_by}
 use Rattle.rh_helping.specs.Work.{Begins}
 use Rattle.rh_helping.proofs.Growing.{met_grows, nothing_grows, own_grows}
-use Rattle.rh_helping.proofs.Rows.{serial_gone, serial_grows, serial_tells}
+use Rattle.rh_helping.proofs.Rows.{serial_stale, serial_grows, serial_tells}
 use Rattle.rh_helping.proofs.Starting.{begins_first}
 use Rattle.rh_helping.proofs.entering.LengthSerialStage.after.Goals as goal
 
@@ -30,7 +30,7 @@ pub returns-then-found-task-clause-ends : goal.returns-then-found-task-clause-en
 returns-then-found-task-clause-ends g c =
     let f = c.requires.follows in
     let t = c.args.machine.now.task in
-    c.resume.ensures.ends _ (inr (subst (λ (n : View). In (passed (ref_of t.desc)) n.side.facts) (sym f.view_is) (serial_gone f.before (ref_of t.desc) c.args.found c.if-found-task.true).1))
+    c.resume.ensures.ends _ (inr (subst (λ (n : View). In (stale (ref_of t.desc)) n.side.facts) (sym f.view_is) (serial_stale f.before (ref_of t.desc) c.args.found c.if-found-task.true).1))
 
 pub begin-requires-clause-own : goal.begin-requires-clause-own
 begin-requires-clause-own g c =

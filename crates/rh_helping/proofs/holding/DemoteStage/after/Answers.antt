@@ -4,8 +4,8 @@ use Rattle.rh_descriptor.specs.Words.{ref_of}
 use Rattle.rh_helping.specs.declared.goal.Owed.{Owed}
 use Rattle.rh_helping.specs.declared.goal.Task.{Task}
 use Rattle.rh_helping.specs.Goal.{KnowsOwn, opened_by}
-use Rattle.rh_helping.specs.Work.{Begins, IsOut}
-use Rattle.rh_helping.proofs.Marking.{demoted, demoted_gone, settled_own}
+use Rattle.rh_helping.specs.Work.{Begins, IsDecidedOrStale}
+use Rattle.rh_helping.proofs.Marking.{demoted, demoted_stale, settled_own}
 use Rattle.rh_helping.proofs.holding.DemoteStage.after.Goals as goal
 
 pub begin-requires-clause-own : goal.begin-requires-clause-own
@@ -16,7 +16,7 @@ begin-requires-clause-begins g c =
     let f = c.requires.follows in
     let t = c.args.machine.now.task in
     subst (Begins c.args.side.now.known.view) (sym (c.decided-machine.ensures ∙ ap (λ (o : Owed). let u : Task = record { desc = t.desc; size = t.size; state = c.in-Some.state; entry = 0; owed = Some o; reason = None } in u) c.owed.ensures))
-    (demoted _ _ f.stands.0 c.args._found _ f.view_is c.in-Some.state (subst (λ k. IsOut f.before (ref_of t.desc) k) c.in-Some.is f.stands.1))
+    (demoted _ _ f.stands.0 c.args._found _ f.view_is c.in-Some.state (subst (λ k. IsDecidedOrStale f.before (ref_of t.desc) k) c.in-Some.is f.stands.1))
 
 pub returns-in-Some-clause-ends : goal.returns-in-Some-clause-ends
 returns-in-Some-clause-ends g c = c.begin.ensures.ends _
@@ -25,5 +25,5 @@ pub returns-in-None-clause-leads : goal.returns-in-None-clause-leads
 returns-in-None-clause-leads g c =
     let f = c.requires.follows in (
       subst (λ (n : View). KnowsOwn n (opened_by c.args.opens)) (sym f.view_is) (settled_own _ _ f.stands.0 _ f.own (Some c.args.machine.now.change.old) c.args._found),
-      demoted_gone _ _ f.stands.0 c.args._found _ f.view_is (subst (λ k. IsOut f.before (ref_of c.args.machine.now.task.desc) k) c.in-None.is f.stands.1),
+      demoted_stale _ _ f.stands.0 c.args._found _ f.view_is (subst (λ k. IsDecidedOrStale f.before (ref_of c.args.machine.now.task.desc) k) c.in-None.is f.stands.1),
     )

@@ -1,7 +1,7 @@
 use Rattle.std.proofs.Common.{None, Some, sym}
 use Rattle.rh_helping.specs.Goal.{opened_by}
 use Rattle.rh_helping.specs.Machine.{placed_of}
-use Rattle.rh_helping.proofs.Marking.{control_decided, control_gone, control_own, control_undecided}
+use Rattle.rh_helping.proofs.Marking.{control_decided, control_stale, control_own, control_undecided}
 use Rattle.rh_helping.proofs.holding.MarkControlStage.after.Goals as goal
 
 pub returns-then-is_decided-clause-leads : goal.returns-then-is_decided-clause-leads
@@ -14,4 +14,4 @@ returns-else-is_decided-clause-leads g c = let f = c.requires.follows in
 
 pub returns-in-None-clause-leads : goal.returns-in-None-clause-leads
 returns-in-None-clause-leads g c = let f = c.requires.follows in
-    (control_own f.before _ (placed_of c.args.machine.now) f.stands (opened_by c.args._opens) f.own c.args.found _ f.finds f.view_is None c.in-None.ensures, control_gone f.before _ (placed_of c.args.machine.now) f.stands (opened_by c.args._opens) f.own c.args.found _ f.finds f.view_is c.in-None.ensures)
+    (control_own f.before _ (placed_of c.args.machine.now) f.stands (opened_by c.args._opens) f.own c.args.found _ f.finds f.view_is None c.in-None.ensures, control_stale f.before _ (placed_of c.args.machine.now) f.stands (opened_by c.args._opens) f.own c.args.found _ f.finds f.view_is c.in-None.ensures)

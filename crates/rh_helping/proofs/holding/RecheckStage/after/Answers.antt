@@ -5,7 +5,7 @@ use Rattle.rh_helping.specs.Goal.{opened_by}
 use Rattle.rh_helping.specs.Machine.{goal_of}
 use Rattle.rh_helping.specs.Work.{Begins, IsNext}
 use Rattle.rh_helping.proofs.Knowing.{task_known}
-use Rattle.rh_helping.proofs.Marking.{recheck_decided, recheck_goal, recheck_gone, recheck_held, recheck_owes_goal, recheck_own, recheck_reason}
+use Rattle.rh_helping.proofs.Marking.{recheck_decided, recheck_goal, recheck_stale, recheck_held, recheck_owes_goal, recheck_own, recheck_reason}
 use Rattle.rh_helping.proofs.holding.RecheckStage.after.Goals as goal
 
 pub begin-requires-clause-own : goal.begin-requires-clause-own
@@ -50,5 +50,5 @@ pub returns-in-None-clause-leads : goal.returns-in-None-clause-leads
 returns-in-None-clause-leads g c =
     let f = c.requires.follows in (
       recheck_own f.before (goal_of c.args.machine.now) c.args.machine.now.promoted f.stands _ c.args.found _ (f.finds.1 (task_known _ _ f.knows c.args.machine.now.task f.stands.goal.task)) f.view_is (opened_by c.args.opens) f.own None c.in-None.ensures,
-      recheck_gone f.before (goal_of c.args.machine.now) c.args.machine.now.promoted f.stands _ c.args.found _ (f.finds.1 (task_known _ _ f.knows c.args.machine.now.task f.stands.goal.task)) f.view_is (opened_by c.args.opens) f.own c.in-None.ensures,
+      recheck_stale f.before (goal_of c.args.machine.now) c.args.machine.now.promoted f.stands _ c.args.found _ (f.finds.1 (task_known _ _ f.knows c.args.machine.now.task f.stands.goal.task)) f.view_is (opened_by c.args.opens) f.own c.in-None.ensures,
     )

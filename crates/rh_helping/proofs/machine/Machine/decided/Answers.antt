@@ -1,6 +1,6 @@
 use Rattle.std.proofs.Common.{None, Some, ap, inr, refl, sym, subst, ◌∙◌}
 use Rattle.rh_world.specs.World.{In}
-use Rattle.rh_world.specs.Facts.Fact.{passed}
+use Rattle.rh_world.specs.Facts.Fact.{stale}
 use Rattle.rh_helping.specs.CellContent.{state_said}
 use Rattle.rh_descriptor.specs.Words.{ref_of}
 use Rattle.rh_helping.specs.Goal.{opened_by}
@@ -35,4 +35,4 @@ returns-in-None-clause-leads g c = c.resume.ensures.leads _
 
 pub returns-in-None-clause-ends : goal.returns-in-None-clause-ends
 returns-in-None-clause-ends g c = let f = c.requires.follows in
-    λ w same. c.resume.ensures.ends w (inr (subst (λ d. In (passed (ref_of d)) c.args.side.now.known.view.side.facts) (sym same) (saw_decided f.before (ref_of c.args.self.now.task.desc) c.args.state c.requires.over c.requires.state.1 c.args.found f.finds (task_known _ _ f.knows c.args.self.now.task f.task) None (c.in-None.ensures ∙ ap (state_said c.args.self.now.task.desc.number) c.decided_word.ensures) _ _ f.view_is).0.told.1))
+    λ w same. c.resume.ensures.ends w (inr (subst (λ d. In (stale (ref_of d)) c.args.side.now.known.view.side.facts) (sym same) (saw_decided f.before (ref_of c.args.self.now.task.desc) c.args.state c.requires.over c.requires.state.1 c.args.found f.finds (task_known _ _ f.knows c.args.self.now.task f.task) None (c.in-None.ensures ∙ ap (state_said c.args.self.now.task.desc.number) c.decided_word.ensures) _ _ f.view_is).0.told.1))

@@ -4,7 +4,7 @@ ghost use Rattle.std.specs.Prelude.{IsTrue};
 ghost use Rattle.rh_descriptor.specs.Steps.{IsKnown};
 ghost use Rattle.rh_descriptor.specs.Words.{ref_of};
 ghost use Rattle.rh_kcas.specs.Rests.{Rests};
-ghost use Rattle.rh_kcas_tests.specs.GoneOn.{HasMet};
+ghost use Rattle.rh_kcas_tests.specs.StaleDescriptors.{HasMet};
 ghost use Rattle.rh_rdcss.specs.Calls.{IsHere, view_of};
 ghost use Rattle.rh_steps.specs.Relies.{Knows};
 
@@ -89,7 +89,7 @@ fn words<R: Abort>(rt: &R, table: &Table, seat: &mut Seat) -> [u64; 8]
 
 // The first worker's row is of its next descriptor, which stands undecided in cell 5.
 #[test]
-fn who_is_late_leaves_a_descriptor_that_has_gone_on(rt: HostRuntime) -> Result<(), Fail> {
+fn who_is_late_leaves_a_stale_descriptor(rt: HostRuntime) -> Result<(), Fail> {
     let (table, mut first, mut second) = two_workers(&rt, rt.alloc(), rooms(2, 8), &[0; 8])?;
     let entries = [change(4, 0, 9)];
     assert!(rt; are_entries(&table.shape, &entries));
