@@ -5,7 +5,7 @@ use Rattle.std.specs.Str.Parse.{ParsesUnsigned}
 use Rattle.clap.specs.Matches.{ReadsOne}
 use Rattle.clap.specs.Values.{IsUnsignedIn}
 use Rattle.clap.specs.Walk.{Row, Text, one_of}
-use Rattle.rh_cli.specs.Words.{GivesNumber, number_in}
+use Rattle.rh_cli.specs.Words.{GivesNumber, number_spelled}
 
 pub some_read : {X : Type 0} (f : X → Text) (read : Option X) (text : Option Text) → option_map f read ≡ text → is_some text ≡ true → IsSome read
 some_read f None text is some = let bad = rw (← is) at some in absurd cc
@@ -21,5 +21,5 @@ module _ {E : Type 0} (G : Text → Result ℕ E → Type 0) (parses : (u : Text
       → IsUnsignedIn least most text → read ≡ Some n → GivesNumber id least most rows n
   number_given id least most rows text None n at reads fits is = absurd cc
   number_given id least most rows text (Some m) n at reads fits is =
-      let same : n ≡ number_in text = sym (ap (λ o. unwrap_or o n) is) ∙ (parses text (Ok m) reads).1 in
-      rw same (ap (option_map number_in) at, fits.2, fits.3)
+      let same : n ≡ number_spelled text = sym (ap (λ o. unwrap_or o n) is) ∙ (parses text (Ok m) reads).1 in
+      rw same (ap (option_map number_spelled) at, fits.2, fits.3)

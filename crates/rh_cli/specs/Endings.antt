@@ -26,10 +26,10 @@ ending_of DisplayVersion = Done
 ending_of _ = CommandLine
 
 -- how a run ends that a fault ended early which any command may meet
-abbrev pub ending_by : ProgramFault → Status
-ending_by fault.NotText = CommandLine
-ending_by fault.Memory = Memory
-ending_by fault.Write = Write
+abbrev pub ending_by_program : ProgramFault → Status
+ending_by_program fault.NotText = CommandLine
+ending_by_program fault.Memory = Memory
+ending_by_program fault.Write = Write
 
 -- how a run ends whose key file could not be read, or is none
 abbrev pub ending_by_keys : KeyFault → Status

@@ -7,7 +7,7 @@ use Rattle.clap.specs.declared.builder.value_parser.ValueParser.TheVariants.{Uns
 use Rattle.rh_cli.specs.declared.keys_line.asked.Line.{Line}
 use Rattle.rh_cli.specs.declared.keys_line.asked.Line.TheVariants.{Pack, List as Listing, Split}
 use Rattle.rh_cli.specs.declared.limits.TheConstants.{MAX_PARTS}
-use Rattle.rh_cli.specs.Words.{Gives, GivesAll, GivesNumber, HasNumber, HasText, path_rule, program_app}
+use Rattle.rh_cli.specs.Words.{IsTextFor, GivesAll, GivesNumber, HasNumber, HasText, path_rule, program_app}
 
 -- the command `pack` takes no argument
 abbrev pub pack_app : App
@@ -46,8 +46,8 @@ abbrev pub HasSplitArguments : List Row → Type 0
 HasSplitArguments rows = HasNumber (codes "parts") 2 MAX_PARTS rows × HasText (codes "name") rows
 
 -- the name of a command, with what it needs
-abbrev pub IsCommand : Text → List Row → Type 0
-IsCommand name rows =
+abbrev pub IsKeysCommand : Text → List Row → Type 0
+IsKeysCommand name rows =
     (name ≡ codes "pack") ⊎ ((name ≡ codes "list") ⊎ ((name ≡ codes "split") × HasSplitArguments rows))
 
 -- the flag is told as given: `true` is the text that clap has for a flag that is
@@ -56,15 +56,15 @@ abbrev pub IsGiven : Text → List Row → Type 0
 IsGiven id rows = first_of id rows ≡ Some (codes "true")
 
 -- the line is the command, with what was found for it
-abbrev pub Says : Text → List Row → Line → Type 0
-Says name rows Pack = name ≡ codes "pack"
-Says name rows (Listing snapshot files) =
+abbrev pub SaysKeys : Text → List Row → Line → Type 0
+SaysKeys name rows Pack = name ≡ codes "pack"
+SaysKeys name rows (Listing snapshot files) =
     (name ≡ codes "list") × (IsTrue snapshot ↔ IsGiven (codes "snapshot") rows) × GivesAll (codes "file") rows files.items
-Says name rows (Split parts key_file plan text) =
+SaysKeys name rows (Split parts key_file plan text) =
     (name ≡ codes "split") × GivesNumber (codes "parts") 2 MAX_PARTS rows parts × (IsTrue key_file ↔ IsGiven (codes "key-file") rows)
-    × (IsTrue plan ↔ IsGiven (codes "plan") rows) × Gives (codes "name") rows text
+    × (IsTrue plan ↔ IsGiven (codes "plan") rows) × IsTextFor (codes "name") rows text
 
 -- a command was found, and the line is that
-abbrev pub Asks : Option (Text × List Row) → Line → Type 0
-Asks None line = ⊥
-Asks (Some found) line = Says found.0 found.1 line
+abbrev pub AsksKeys : Option (Text × List Row) → Line → Type 0
+AsksKeys None line = ⊥
+AsksKeys (Some found) line = SaysKeys found.0 found.1 line

@@ -7,7 +7,7 @@ use Rattle.clap.specs.declared.builder.value_parser.ValueParser.TheVariants.{Uns
 use Rattle.rh_cli.specs.declared.set_line.asked.Line.{Line}
 use Rattle.rh_cli.specs.declared.set_line.asked.Line.TheVariants.{Dump, Run, Play, Trace, Draw, Check}
 use Rattle.rh_cli.specs.declared.limits.TheConstants.{MAX_DRAWN, MAX_FROM, MAX_WORKERS}
-use Rattle.rh_cli.specs.Words.{Gives, GivesNumber, HasNumber, HasText, path_rule, program_app}
+use Rattle.rh_cli.specs.Words.{IsTextFor, GivesNumber, HasNumber, HasText, path_rule, program_app}
 
 -- ---- the commands
 
@@ -92,12 +92,12 @@ IsCommand name rows =
 abbrev pub Says : Text → List Row → Line → Type 0
 Says name rows Dump = name ≡ codes "dump"
 Says name rows (Run workers script) =
-    (name ≡ codes "run") × GivesNumber (codes "workers") 1 MAX_WORKERS rows workers × Gives (codes "script") rows script
-Says name rows (Play file) = (name ≡ codes "play") × Gives (codes "file") rows file
-Says name rows (Trace file) = (name ≡ codes "trace") × Gives (codes "file") rows file
+    (name ≡ codes "run") × GivesNumber (codes "workers") 1 MAX_WORKERS rows workers × IsTextFor (codes "script") rows script
+Says name rows (Play file) = (name ≡ codes "play") × IsTextFor (codes "file") rows file
+Says name rows (Trace file) = (name ≡ codes "trace") × IsTextFor (codes "file") rows file
 Says name rows (Draw from steps file) =
-    (name ≡ codes "draw") × GivesNumber (codes "from") 1 MAX_FROM rows from × GivesNumber (codes "steps") 0 MAX_DRAWN rows steps × Gives (codes "file") rows file
-Says name rows (Check snapshot) = (name ≡ codes "check") × Gives (codes "snapshot") rows snapshot
+    (name ≡ codes "draw") × GivesNumber (codes "from") 1 MAX_FROM rows from × GivesNumber (codes "steps") 0 MAX_DRAWN rows steps × IsTextFor (codes "file") rows file
+Says name rows (Check snapshot) = (name ≡ codes "check") × IsTextFor (codes "snapshot") rows snapshot
 
 -- a command was found, and the line is that
 abbrev pub Asks : Option (Text × List Row) → Line → Type 0

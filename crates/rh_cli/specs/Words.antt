@@ -37,17 +37,17 @@ HasNumber id least most rows = (text : Text) × (one_of id rows ≡ Some text) �
 -- ---- what is told of it
 
 -- the text is the one for the argument
-abbrev pub Gives : Text → List Row → String Global → Type 0
-Gives id rows text = first_of id rows ≡ Some (string_bytes text)
+abbrev pub IsTextFor : Text → List Row → String Global → Type 0
+IsTextFor id rows text = first_of id rows ≡ Some (string_bytes text)
 
 -- the texts are those for the argument, in their order
 abbrev pub GivesAll : Text → List Row → List (String Global) → Type 0
 GivesAll id rows texts = texts_of texts ≡ unwrap_or (all_of id rows) []
 
 -- the number that a text spells; a plus may stand before its digits
-abbrev pub number_in : Text → ℕ
-number_in text = digits_value 10 (without_leading_plus text)
+abbrev pub number_spelled : Text → ℕ
+number_spelled text = digits_value 10 (without_leading_plus text)
 
 -- the number is the one that the text for the argument spells, and lies in these bounds
 abbrev pub GivesNumber : (id : Text) (least most : ℕ) → List Row → ℕ → Type 0
-GivesNumber id least most rows n = (option_map number_in (one_of id rows) ≡ Some n) × (least ≤ n) × (n ≤ most)
+GivesNumber id least most rows n = (option_map number_spelled (one_of id rows) ≡ Some n) × (least ≤ n) × (n ≤ most)

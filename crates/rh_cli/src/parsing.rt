@@ -6,7 +6,7 @@ ghost use Rattle.clap.specs.Words.{AddsSubcommand, app_of, fault_of, found_of, i
 ghost use Rattle.clap.specs.Words.{rows_of, rule_of};
 ghost use Rattle.clap.specs.Words.{subcommand_of, subcommand_rows_of};
 ghost use Rattle.rh_cli.specs.Faults.{IsOneOf};
-ghost use Rattle.rh_cli.specs.Words.{Gives, GivesAll, GivesNumber, HasNumber, HasText, path_rule, program_app};
+ghost use Rattle.rh_cli.specs.Words.{IsTextFor, GivesAll, GivesNumber, HasNumber, HasText, path_rule, program_app};
 ghost use Rattle.rh_cli.specs.Words.{texts_of};
 
 use crate::fault::LineFault;
@@ -77,7 +77,7 @@ pub fn parsed<'a>(command: Command<'a>, words: &'a [String]) -> Result<ArgMatche
 /// The text for an argument that has to be given.
 pub fn text(alloc: Global, given: &ArgMatches<'_>, id: &str) -> Result<String, AllocError>
     requires { HasText id.now (rows_of (found_of given.now)) }
-    ensures { IfOk result (λ t. Gives id.now (rows_of (found_of given.now)) t) }
+    ensures { IfOk result (λ t. IsTextFor id.now (rows_of (found_of given.now)) t) }
 {
     String::from_str(alloc, given.get_str(id).unwrap())
 }

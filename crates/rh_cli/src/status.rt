@@ -1,7 +1,7 @@
 //! How a program ends.
 
 ghost use Rattle.std.specs.Prelude.{◌≡◌};
-ghost use Rattle.rh_cli.specs.Endings.{ending_by, ending_by_keys, ending_by_snapshot, number_of};
+ghost use Rattle.rh_cli.specs.Endings.{ending_by_program, ending_by_keys, ending_by_snapshot, number_of};
 
 use rh_key_files::KeyFault;
 use rh_snapshot::SnapFault;
@@ -42,7 +42,7 @@ pub enum ProgramFault {
 impl ProgramFault {
     /// How a run ends that this ended early.
     pub fn status(&self) -> Status
-        ensures { result ≡ ending_by self.now }
+        ensures { result ≡ ending_by_program self.now }
     {
         match self {
             ProgramFault::NotText => Status::CommandLine,

@@ -7,8 +7,8 @@ use Rattle.rh_rule.proofs.SeatsKept.{at_append}
 use Rattle.rh_rdcss.specs.declared.seat.Seat.{Seat}
 use Rattle.rh_rdcss.specs.declared.table.Table.{Table}
 use Rattle.rh_rdcss.specs.Calls.{view_of}
-use Rattle.rh_kcas.specs.Crews.{IsAt, IsFresh, IsQuiet, head_of, views_of}
-use Rattle.rh_kcas.specs.Rests.{Rests}
+use Rattle.rh_kcas.specs.Crews.{SitsAt, IsFresh, IsQuiet, head_of, views_of}
+use Rattle.rh_kcas.specs.Rests.{SeatRests}
 use Rattle.rh_kcas.proofs.Crews.{fresh_rests}
 
 -- what the seat of one worker keeps of it
@@ -16,7 +16,7 @@ alone_views : (s : Seat) → s.count ≡ 1 → views_of s ≡ known (view_of s) 
 alone_views s one = ap (λ x. x.0) (s.alone one)
 
 -- a fresh worker alone rests
-pub alone_rests : (t : Table) (s : Seat) → IsAt t s → InView IsFresh (views_of s) → s.count ≡ 1 → Rests t s
+pub alone_rests : (t : Table) (s : Seat) → SitsAt t s → InView IsFresh (views_of s) → s.count ≡ 1 → SeatRests t s
 alone_rests t s at fresh one =
     let views = alone_views s one in
     fresh_rests t s at one (sym (ap head_of views))

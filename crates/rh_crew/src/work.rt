@@ -3,8 +3,8 @@
 ghost use Rattle.std.specs.Prelude.{◌<◌};
 ghost use Rattle.std.specs.Thread.{IsSync};
 ghost use Rattle.rh_crew.specs.Worked.{HaveWorked};
-ghost use Rattle.rh_kcas.specs.Crews.{HasAll, IsAt, IsFresh, views_of};
-ghost use Rattle.rh_kcas.specs.Rests.{Rests};
+ghost use Rattle.rh_kcas.specs.Crews.{HasAll, SitsAt, IsFresh, views_of};
+ghost use Rattle.rh_kcas.specs.Rests.{SeatRests};
 ghost use Rattle.rh_rdcss.specs.Calls.{IsSame};
 ghost use Rattle.rh_rule.specs.Seats.{InView};
 
@@ -16,8 +16,8 @@ use std::thread::Threads;
 pub trait Work<R, T> {
     /// The work of one worker, of whom nothing is owed afterwards.
     fn work(&self, rt: &R, table: &Table, seat: Seat) -> (Seat, T)
-        requires rests { Rests table.now seat }
-        ensures rests { Rests table.now result.0 }
+        requires rests { SeatRests table.now seat }
+        ensures rests { SeatRests table.now result.0 }
         ensures same { IsSame seat result.0 };
 
     /// What the workers of two seats tell together, those of the first seat before the others.
@@ -32,7 +32,7 @@ pub fn all_work<R: Threads + Sync, T: Send, W: Work<R, T> + Sync>(
     seat: Seat,
     work: &W,
 ) -> (Seat, T)
-    requires here { IsAt table.now seat }
+    requires here { SitsAt table.now seat }
     requires fresh { InView IsFresh (views_of seat) }
     ensures { HaveWorked table.now seat result.0 }
 {
@@ -45,11 +45,11 @@ pub fn all_work<R: Threads + Sync, T: Send, W: Work<R, T> + Sync>(
     let ((others, theirs), (mut all, ours)) = thread::join(
         rt,
         || -> (Seat, T)
-            requires { IsSync R.row × IsSync W.row × IsAt table.now second × InView IsFresh (views_of second) }
+            requires { IsSync R.row × IsSync W.row × SitsAt table.now second × InView IsFresh (views_of second) }
             ensures { HaveWorked table.entry.now second result.0 }
         { all_work(rt, table, second, work) },
         || -> (Seat, T)
-            requires { IsSync R.row × IsSync W.row × IsAt table.now first × InView IsFresh (views_of first) }
+            requires { IsSync R.row × IsSync W.row × SitsAt table.now first × InView IsFresh (views_of first) }
             ensures { HaveWorked table.entry.now first result.0 }
         { all_work(rt, table, first, work) },
     );

@@ -7,15 +7,15 @@ use Rattle.rh_descriptor.specs.declared.steps.Effect.TheVariants as effect
 use Rattle.rh_descriptor.specs.Steps.{Step, swapped}
 use Rattle.rh_descriptor.specs.Words.{control_of, ref_of}
 
-abbrev pub step_of : Request → Step
-step_of (request.Write p u) = Step.writes p u
-step_of (request.Open size) = Step.opens size
-step_of (request.Read r) = Step.reads r
-step_of (request.Place p old) = Step.places (ref_of p.desc) p.entry p.cell old
-step_of (request.Settle x p old) = Step.settles (ref_of x) p.cell (ref_of p.desc) p.entry old
-step_of (request.Decide d k) = Step.decides (ref_of d) (control_of k)
-step_of (request.Release p k value) = Step.releases (ref_of p.desc) p.entry p.cell (option_map control_of k) value
-step_of request.Claim = Step.claims
+abbrev pub step_asked : Request → Step
+step_asked (request.Write p u) = Step.writes p u
+step_asked (request.Open size) = Step.opens size
+step_asked (request.Read r) = Step.reads r
+step_asked (request.Place p old) = Step.places (ref_of p.desc) p.entry p.cell old
+step_asked (request.Settle x p old) = Step.settles (ref_of x) p.cell (ref_of p.desc) p.entry old
+step_asked (request.Decide d k) = Step.decides (ref_of d) (control_of k)
+step_asked (request.Release p k value) = Step.releases (ref_of p.desc) p.entry p.cell (option_map control_of k) value
+step_asked request.Claim = Step.claims
 
 -- the word after, by the word before
 abbrev pub changed : Effect → (word : ℕ) → ℕ

@@ -5,7 +5,7 @@ use Rattle.std.specs.Prelude.{zero, suc, ◌≡◌, ℕ, ◌+◌, ◌<◌, ◌�
 use Rattle.rh_world.specs.World.{Ref, Control, In, is_ref}
 use Rattle.rh_world.specs.World.Control.{unused, undecided, succeeded, withdrawn, failed}
 use Rattle.rh_world.specs.Facts.{Fact}
-use Rattle.rh_world.specs.Facts.Fact.{met, known, size_is, target_is, old_is, new_is, desc_is, which_is, decided, over, stale, failed_at, found, may_promote, may_demote, held, mismatch}
+use Rattle.rh_world.specs.Facts.Fact.{met, known, size_is, target_is, old_is, new_is, desc_is, which_is, decided, over, stale, failed_at, found, may_promote, may_demote, installed, mismatch}
 use Rattle.rh_world.specs.Sides.{Side, is_number, note_side, open_side, paid_side, claim_side}
 use Rattle.rh_world.specs.Moves.{Entries, HasSeen, MayWork, MayDecide, note_entries, cell_noted, control_noted, mark_noted, place_noted, settle_noted, release_noted, note_all}
 use Rattle.rh_layout.specs.declared.entry.Entry.{Entry}
@@ -18,7 +18,7 @@ use Rattle.rh_descriptor.specs.Parts.{cell_count, word_count, entry_row, mark_ro
 use Rattle.rh_descriptor.specs.View.{MarkWord, OwnDesc, Raw, RawRow, RowWord, Written, View}
 use Rattle.rh_descriptor.specs.View.RowWord.{length_word, cell_word, old_word, new_word}
 use Rattle.rh_descriptor.specs.View.MarkWord.{desc_word, entry_word}
-use Rattle.rh_descriptor.specs.Words.{IsPlain, mark_number, desc_number, number_of, with_entry, serial_in, cell_in, read_control, desc_in, ref_of}
+use Rattle.rh_descriptor.specs.Words.{IsPlain, mark_number, desc_number, control_word_of, with_entry, serial_in, cell_in, read_control, desc_in, ref_of}
 
 -- Cell 4 of the table beside `index_of`, from empty to key 1, by descriptor 0 of worker 0: the Open takes word 8 from 0 to 1, the
 -- Place word 4 from 0 to 1, the Settle that from 1 to 2, the Decide word 8 from 1 to 2, the Release word 4 from 2 to 8. The next
@@ -134,7 +134,7 @@ pub record AreEntries (z : Shape) (es : List Entry) : Type 0 where
   pub news : (e : ℕ) → e < length es → IsPlain (entry_of es e).new
 
 -- the own row is of the next descriptor and says the entries, it has a number, and nothing of the worker is open
-pub record CanOpen (z : Shape) (v : View) (size : ℕ) : Type 0 where
+pub record CanOpenNext (z : Shape) (v : View) (size : ℕ) : Type 0 where
   pub row : HasRow v
   pub length_is : row_word v.written 2 ≡ size
   pub entries : AreEntries z (next_entries v size)
@@ -272,7 +272,7 @@ pub record CanClaim (z : Shape) (v : View) : Type 0 where
 
 abbrev pub IsStep : Shape → View → Step → Type 0
 IsStep z v (writes p u) = IsFree z v p u
-IsStep z v (opens size) = CanOpen z v size
+IsStep z v (opens size) = CanOpenNext z v size
 IsStep z v (reads r) = IsRead z r × IsNoted v r
 IsStep z v (places d e c old) = CanPlace z v d e c old
 IsStep z v (settles x c d e old) = CanSettle z v x c d e old
@@ -325,11 +325,11 @@ settled_word d (Some old) = old
 
 abbrev pub word_after : View → Step → (word : ℕ) → ℕ
 word_after v (writes p u) word = u
-word_after v (opens size) word = swapped v.control (number_of v.next_number undecided) word
+word_after v (opens size) word = swapped v.control (control_word_of v.next_number undecided) word
 word_after v (reads r) word = word
 word_after v (places d e c old) word = swapped old (mark_number (own_mark v)) word
 word_after v (settles x c d e old) word = swapped (mark_number x) (settled_word d old) word
-word_after v (decides d k) word = swapped (number_of d.number undecided) (number_of d.number k) word
+word_after v (decides d k) word = swapped (control_word_of d.number undecided) (control_word_of d.number k) word
 word_after v (releases d e c k value) word = swapped (desc_number d) value word
 word_after v claims word = (word + 1) % 2 ^ 64
 
@@ -397,7 +397,7 @@ tells_opened (which_is x e) d = false
 tells_opened (found x c) d = false
 tells_opened (may_promote x c) d = false
 tells_opened (may_demote x) d = false
-tells_opened (held f e) d = false
+tells_opened (installed f e) d = false
 tells_opened (mismatch f e n) d = false
 
 abbrev pub is_known : List Fact → Ref → Bool
@@ -498,7 +498,7 @@ abbrev pub open_noted : View → (size : ℕ) → View
 open_noted v size = record v {
   side = note_entries (open_side v.side v.next_number) (own_desc v) (entries_of (next_entries v size)) size;
   next_number = suc v.next_number;
-  control = number_of v.next_number undecided;
+  control = control_word_of v.next_number undecided;
   opened = record { number = v.next_number; entries = next_entries v size } ∷ v.opened;
 }
 
@@ -518,7 +518,7 @@ settle_view v x c d e old word =
 
 -- the control word of d after a swap of it from undecided to k that found this word
 abbrev pub decided_word : Ref → Control → (word : ℕ) → ℕ
-decided_word d k word = swapped (number_of d.number undecided) (number_of d.number k) word
+decided_word d k word = swapped (control_word_of d.number undecided) (control_word_of d.number k) word
 
 abbrev pub decide_view : View → Ref → Control → (word : ℕ) → View
 decide_view v d k word = record v {

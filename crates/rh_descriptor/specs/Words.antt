@@ -68,8 +68,8 @@ with_entry e withdrawn = withdrawn
 with_entry e (failed f by) = failed e by
 
 -- the control word of the descriptor of this number
-abbrev pub number_of : (number : ℕ) → Control → ℕ
-number_of number k = control_number number (state_of k)
+abbrev pub control_word_of : (number : ℕ) → Control → ℕ
+control_word_of number k = control_number number (state_of k)
 
 -- the serial number that a control word has, and the state; another number is never written
 abbrev pub serial_in : ℕ → ℕ

@@ -2,7 +2,7 @@
 //! and knows is kept for contracts alone.
 
 ghost use Rattle.std.specs.Prelude.{◌≡◌};
-ghost use Rattle.rh_descriptor.specs.Requests.{step_of};
+ghost use Rattle.rh_descriptor.specs.Requests.{step_asked};
 ghost use Rattle.rh_descriptor.specs.Parts.{IsShape};
 ghost use Rattle.rh_descriptor.specs.Steps.{Allowed, control_seen, noted};
 ghost use Rattle.rh_descriptor.specs.View.{new_view, round_view};
@@ -48,7 +48,7 @@ impl Change<&[u64]> for Renewed {
 struct Noted;
 
 impl Change<(Shape, Request, u64)> for Noted {
-    ghost after = { λ v a. noted a.0 v (step_of a.1) a.2 };
+    ghost after = { λ v a. noted a.0 v (step_asked a.1) a.2 };
 }
 
 impl Side {
@@ -81,8 +81,8 @@ impl Side {
     #[inline(always)]
     pub fn note(&mut self, shape: &Shape, request: Request, word: u64)
         requires shape { IsShape shape.now }
-        requires allowed { Allowed shape.now self.old.known.view (step_of request) }
-        ensures { self.new.known.view ≡ noted shape.now self.old.known.view (step_of request) word }
+        requires allowed { Allowed shape.now self.old.known.view (step_asked request) }
+        ensures { self.new.known.view ≡ noted shape.now self.old.known.view (step_asked request) word }
     {
         let control = self.control_after(shape, request, word);
         let known = Known::next::<Noted, (Shape, Request, u64)>(
@@ -106,8 +106,8 @@ impl Side {
     #[inline(always)]
     fn control_after(&self, shape: &Shape, request: Request, word: u64) -> u64
         requires shape { IsShape shape.now }
-        requires allowed { Allowed shape.now self.now.known.view (step_of request) }
-        ensures { result ≡ (noted shape.now self.now.known.view (step_of request) word).control }
+        requires allowed { Allowed shape.now self.now.known.view (step_asked request) }
+        ensures { result ≡ (noted shape.now self.now.known.view (step_asked request) word).control }
     {
         let _ = shape;
         match request {

@@ -1,7 +1,7 @@
 //! The steps of a worker, each of which touches one word of a table: as values, and on a slice of words.
 
 ghost use Rattle.std.specs.Prelude.{◌≡◌, ◌<◌, ℕ, length};
-ghost use Rattle.rh_descriptor.specs.Requests.{changed, step_of};
+ghost use Rattle.rh_descriptor.specs.Requests.{changed, step_asked};
 ghost use Rattle.rh_descriptor.specs.Parts.{IsShape, word_count};
 ghost use Rattle.rh_descriptor.specs.Steps.{Allowed, StepsTo, index, word_after};
 
@@ -79,8 +79,8 @@ impl Request {
     #[inline(always)]
     pub fn index(&self, shape: &Shape, side: &Side) -> usize
         requires shape { IsShape shape.now }
-        requires allowed { Allowed shape.now side.now.known.view (step_of self.now) }
-        ensures value { result ≡ index shape.now side.now.known.view (step_of self.now) }
+        requires allowed { Allowed shape.now side.now.known.view (step_asked self.now) }
+        ensures value { result ≡ index shape.now side.now.known.view (step_asked self.now) }
         ensures within { result < word_count shape.now }
     {
         match *self {
@@ -99,8 +99,8 @@ impl Request {
     #[inline(always)]
     pub fn effect(&self, shape: &Shape, side: &Side) -> Effect
         requires shape { IsShape shape.now }
-        requires allowed { Allowed shape.now side.now.known.view (step_of self.now) }
-        ensures { (n : ℕ) → changed result n ≡ word_after side.now.known.view (step_of self.now) n }
+        requires allowed { Allowed shape.now side.now.known.view (step_asked self.now) }
+        ensures { (n : ℕ) → changed result n ≡ word_after side.now.known.view (step_asked self.now) n }
     {
         match *self {
             Request::Write { word, .. } => Effect::Put(word),
@@ -144,8 +144,8 @@ impl Request {
 pub fn make_step(shape: &Shape, words: &mut [u64], side: &mut Side, request: Request) -> u64
     requires shape { IsShape shape.now }
     requires sized { length words.old ≡ word_count shape.now }
-    requires allowed { Allowed shape.now side.old.known.view (step_of request) }
-    ensures { StepsTo shape.now (step_of request) words.old side.old.known.view
+    requires allowed { Allowed shape.now side.old.known.view (step_asked request) }
+    ensures { StepsTo shape.now (step_asked request) words.old side.old.known.view
         result words.new side.new.known.view }
 {
     let index = request.index(shape, side);

@@ -3,7 +3,7 @@ use Rattle.std.proofs.Common.{◌≡◌, ℕ, zero, suc, ◌+◌, ◌-◌, ◌*�
 use Rattle.rh_draw.specs.Boxes.{box_at, boxes_at, last_box, last_boxes, value_label}
 use Rattle.rh_draw.specs.Changes.{changed_cells}
 use Rattle.rh_draw.specs.Frame.{all_heads, cell_head, cell_head_of, cell_heads, fixed, frame, heads, heads_in, lane, lane_head, lane_heads, lanes, picture_height, picture_width}
-use Rattle.rh_draw.specs.History.{change_of, following, history, longest, notice_of, notices, told}
+use Rattle.rh_draw.specs.History.{change_of, following, history, longest, notice_of, notices, shown_all}
 use Rattle.rh_draw.specs.Laws.{MarksAreSteps, mark_at, mark_of, marks_in}
 use Rattle.rh_svg.specs.Markup.{Content, Nothing, Text, Element, beside, each, for_all, labelled}
 use Rattle.rh_draw.specs.Notices.{notice_at, notice_line, notice_look, notice_text}
@@ -11,7 +11,7 @@ use Rattle.rh_draw.specs.Picture.{beginning, inside, plan}
 use Rattle.rh_draw.specs.Places.{column_x, moment_of, moment_y}
 use Rattle.rh_draw.specs.Plans.{Plan, Standing}
 use Rattle.rh_draw.specs.Records.{is_before, is_drawn}
-use Rattle.rh_draw.specs.Rows.{help_line, helped, mark, round_line, row, row_of, rows}
+use Rattle.rh_draw.specs.Rows.{help_line, helped, mark, round_stroke, row, step_row, rows}
 use Rattle.rh_draw.specs.declared.limits.TheConstants.{HEAD_RISE, HEAD_STEPS, INDENT, TEXT}
 use Rattle.rh_svg.specs.declared.looks.Look.{Look}
 use Rattle.rh_svg.specs.declared.looks.Look.TheVariants as looks
@@ -53,10 +53,10 @@ none-for_all drawn each_none (x ∷ more) =
 
 none-told : (shown : Standing → Record → Content) (last : Standing → Content) (plan : Plan) →
     ((s : Standing) (given : Record) → marks_in (shown s given) ≡ []) → ((s : Standing) → marks_in (last s) ≡ []) →
-    (s : Standing) (given : List Record) → marks_in (told shown last plan s given) ≡ []
+    (s : Standing) (given : List Record) → marks_in (shown_all shown last plan s given) ≡ []
 none-told shown last plan each_none none_last s [] = none_last s
 none-told shown last plan each_none none_last s (given ∷ more) =
-    none-beside (shown s given) (told shown last plan (following plan s given) more) (each_none s given)
+    none-beside (shown s given) (shown_all shown last plan (following plan s given) more) (each_none s given)
     (none-told shown last plan each_none none_last (following plan s given) more)
 
 none-value : (x y word value : ℕ) → marks_in (value_label x y word value) ≡ []
@@ -132,9 +132,9 @@ none-help worker y (Some other) = none-beside _ _ refl refl
 marks-row : (y : ℕ) (step : Traced) → marks_in (row y step) ≡ marks_in (mark y step)
 marks-row y step = rw (marks-beside, marks-beside, none-help step.worker y (helped step)) refl
 
-marks-record : (plan : Plan) (given : Record) → marks_in (row_of plan given) ≡ mark_of plan.window given
+marks-record : (plan : Plan) (given : Record) → marks_in (step_row plan given) ≡ mark_of plan.window given
 marks-record plan (Round next) =
-    none-if (is_before plan.window next) (round_line plan (next - plan.window.from)) Nothing (none-beside _ _ refl refl) refl
+    none-if (is_before plan.window next) (round_stroke plan (next - plan.window.from)) Nothing (none-beside _ _ refl refl) refl
 marks-record plan (Step step) = by_test (is_drawn plan.window step.number)
   where
     y : ℕ
@@ -148,7 +148,7 @@ marks-record plan (Step step) = by_test (is_drawn plan.window step.number)
 marks-rows : (plan : Plan) (given : List Record) → marks_in (rows plan given) ≡ flat_map (mark_of plan.window) given
 marks-rows plan [] = refl
 marks-rows plan (given ∷ more) =
-    rw (marks-beside (row_of plan given) (rows plan more), marks-record plan given, marks-rows plan more) refl
+    rw (marks-beside (step_row plan given) (rows plan more), marks-record plan given, marks-rows plan more) refl
 
 -- contents beside each other, of which only the first and the fourth have marks
 marks-five : (first second third fourth last : Content) → marks_in second ≡ [] → marks_in third ≡ [] → marks_in last ≡ [] →

@@ -4,7 +4,7 @@ use Rattle.rh_descriptor.specs.Parts.{cell_count}
 use Rattle.rh_descriptor.specs.declared.shape.Part.{Part}
 use Rattle.rh_descriptor.specs.declared.shape.Part.TheVariants.{Cell, Control, Serial, Length, EntryCell, EntryOld, EntryNew, MarkSerial, MarkDesc, MarkEntry, Reason, Counter}
 use Rattle.rh_descriptor.specs.declared.shape.Shape.{Shape}
-use Rattle.rh_draw.specs.Words.{word_at}
+use Rattle.rh_draw.specs.Words.{word_if_any}
 use Rattle.rh_tagword.specs.Control.{control_in, is_decided}
 use Rattle.rh_tagword.specs.declared.control.State.{State}
 use Rattle.rh_tagword.specs.declared.control.State.TheVariants.{Unused, Undecided, Succeeded, Withdrawn, Failed}
@@ -43,33 +43,33 @@ decided_at Counter touched = None
 abbrev pub decided : Touched → Option State
 decided touched = decided_at touched.part touched
 
-abbrev pub is_success : Option State → Bool
-is_success None = false
-is_success (Some Unused) = false
-is_success (Some Undecided) = false
-is_success (Some Succeeded) = true
-is_success (Some Withdrawn) = false
-is_success (Some (Failed decider)) = false
+abbrev pub has_succeeded : Option State → Bool
+has_succeeded None = false
+has_succeeded (Some Unused) = false
+has_succeeded (Some Undecided) = false
+has_succeeded (Some Succeeded) = true
+has_succeeded (Some Withdrawn) = false
+has_succeeded (Some (Failed decider)) = false
 
 -- whether the step is the one at which a descriptor succeeds
 abbrev pub is_act : Touched → Bool
-is_act touched = is_success (decided touched)
+is_act touched = has_succeeded (decided touched)
 
 -- ---- the entries of a worker's row
 
 abbrev pub entry_count : Shape → (words : List ℕ) → (worker : ℕ) → ℕ
-entry_count z words worker = min (word_at z words (Length worker)) (cell_count z)
+entry_count z words worker = min (word_if_any z words (Length worker)) (cell_count z)
 
 -- the cells of the first entries
 abbrev pub entry_cells : Shape → (words : List ℕ) → (worker count : ℕ) → List ℕ
 entry_cells z words worker zero = []
-entry_cells z words worker (suc e) = entry_cells z words worker e ++ word_at z words (EntryCell worker e) ∷ []
+entry_cells z words worker (suc e) = entry_cells z words worker e ++ word_if_any z words (EntryCell worker e) ∷ []
 
 -- the values, where those of the first entries' cells are their new words
 abbrev pub settled : Shape → (words : List ℕ) → (worker : ℕ) → (values : List ℕ) → (count : ℕ) → List ℕ
 settled z words worker values zero = values
 settled z words worker values (suc e) =
-    slice_set (settled z words worker values e) (word_at z words (EntryCell worker e)) (word_at z words (EntryNew worker e))
+    slice_set (settled z words worker values e) (word_if_any z words (EntryCell worker e)) (word_if_any z words (EntryNew worker e))
 
 -- ---- steps
 

@@ -16,9 +16,9 @@ following plan s (Round next) = s
 following plan s (Step step) = if is_past plan.window step.number then s else after plan s step
 
 -- what is shown of each record, by what stands where before it, and what is shown at the end
-abbrev pub told : (shown : Standing → Record → Content) → (last : Standing → Content) → Plan → Standing → List Record → Content
-told shown last plan s [] = last s
-told shown last plan s (given ∷ more) = beside (shown s given) (told shown last plan (following plan s given) more)
+abbrev pub shown_all : (shown : Standing → Record → Content) → (last : Standing → Content) → Plan → Standing → List Record → Content
+shown_all shown last plan s [] = last s
+shown_all shown last plan s (given ∷ more) = beside (shown s given) (shown_all shown last plan (following plan s given) more)
 
 -- of a step of the window: what stood until then in the cells that it changes
 abbrev pub change_of : Plan → Standing → Record → Content
@@ -29,7 +29,7 @@ change_of plan s (Step step) =
     else Nothing
 
 abbrev pub history : Plan → Standing → List Record → Content
-history plan s given = told (change_of plan) (last_boxes plan) plan s given
+history plan s given = shown_all (change_of plan) (last_boxes plan) plan s given
 
 -- of a step of the window: what it says
 abbrev pub notice_of : Plan → Standing → Record → Content
@@ -40,7 +40,7 @@ notice_of plan s (Step step) =
     else Nothing
 
 abbrev pub notices : Plan → Standing → List Record → Content
-notices plan s given = told (notice_of plan) (λ ended. Nothing) plan s given
+notices plan s given = shown_all (notice_of plan) (λ ended. Nothing) plan s given
 
 -- how many letters that is
 abbrev pub length_of : Plan → Standing → Record → ℕ

@@ -3,11 +3,11 @@ use Rattle.std.specs.Prelude.{ℕ, zero, suc, ◌+◌, ◌-◌, ◌/◌, ◌==�
 use Rattle.rh_descriptor.specs.declared.shape.Part.{Part}
 use Rattle.rh_descriptor.specs.declared.shape.Part.TheVariants.{Cell, Control, Serial, Length, EntryCell, EntryOld, EntryNew, MarkSerial, MarkDesc, MarkEntry, Reason, Counter}
 use Rattle.rh_descriptor.specs.declared.shape.Shape.{Shape}
-use Rattle.rh_draw.specs.Changes.{decided, entry_count, is_act, is_success}
+use Rattle.rh_draw.specs.Changes.{decided, entry_count, is_act, has_succeeded}
 use Rattle.rh_svg.specs.Markup.{Content, Nothing, beside, labelled, leaf}
 use Rattle.rh_draw.specs.Places.{column_x, moment_y}
 use Rattle.rh_draw.specs.Plans.{Plan, Standing}
-use Rattle.rh_draw.specs.Words.{word_at}
+use Rattle.rh_draw.specs.Words.{word_if_any}
 use Rattle.rh_draw.specs.declared.limits.TheConstants.{HALF_LETTER, INDENT, LANE, LEFT}
 use Rattle.rh_svg.specs.declared.looks.Look.{Look}
 use Rattle.rh_svg.specs.declared.looks.Look.TheVariants as looks
@@ -23,21 +23,21 @@ use Rattle.rh_recorder.specs.declared.recorder.Touched.{Touched}
 -- ---- decisions
 
 -- what becomes of the value of a cell, if it becomes another one
-abbrev pub change_text : (cell old new : ℕ) → List ℕ
-change_text cell old new =
+abbrev pub value_change_text : (cell old new : ℕ) → List ℕ
+value_change_text cell old new =
     if old == new then []
     else codes "; cell " ++ (decimal cell ++ (codes ": " ++
     (held_text old (word_in old) ++ (codes " -> " ++ held_text new (word_in new)))))
 
-abbrev pub entry_text : Shape → Standing → (worker entry : ℕ) → List ℕ
-entry_text z s worker entry =
-    let cell = word_at z s.words (EntryCell worker entry) in
-    change_text cell (slice_index s.values cell) (word_at z s.words (EntryNew worker entry))
+abbrev pub entry_notice : Shape → Standing → (worker entry : ℕ) → List ℕ
+entry_notice z s worker entry =
+    let cell = word_if_any z s.words (EntryCell worker entry) in
+    value_change_text cell (slice_index s.values cell) (word_if_any z s.words (EntryNew worker entry))
 
 -- of the first entries of a row: what becomes of the values of their cells
 abbrev pub entries_text : Shape → Standing → (worker count : ℕ) → List ℕ
 entries_text z s worker zero = []
-entries_text z s worker (suc e) = entries_text z s worker e ++ entry_text z s worker e
+entries_text z s worker (suc e) = entries_text z s worker e ++ entry_notice z s worker e
 
 -- whose descriptor was decided, and how
 abbrev pub verdict_text : (worker control : ℕ) → List ℕ
@@ -53,21 +53,21 @@ decision_text z s worker touched (Some state) =
 
 abbrev pub decision_look : Option State → Option Look
 decision_look None = None
-decision_look (Some state) = if is_success (Some state) then Some looks.Act else Some looks.Decision
+decision_look (Some state) = if has_succeeded (Some state) then Some looks.Act else Some looks.Decision
 
 -- ---- late promotions
 
 -- the worker and the serial number of the descriptor that a word refers to
-abbrev pub desc_in : Option Word → Option (ℕ × ℕ)
-desc_in None = None
-desc_in (Some words.Empty) = None
-desc_in (Some (words.Key key)) = None
-desc_in (Some (words.Mark worker number)) = None
-desc_in (Some (words.Desc worker number)) = Some (worker, number)
+abbrev pub desc_named : Option Word → Option (ℕ × ℕ)
+desc_named None = None
+desc_named (Some words.Empty) = None
+desc_named (Some (words.Key key)) = None
+desc_named (Some (words.Mark worker number)) = None
+desc_named (Some (words.Desc worker number)) = Some (worker, number)
 
 -- those of the descriptor to which a step swapped a cell
 abbrev pub promoted : Touched → Option (ℕ × ℕ)
-promoted touched = if touched.left == touched.found then None else desc_in (word_in touched.left)
+promoted touched = if touched.left == touched.found then None else desc_named (word_in touched.left)
 
 -- whether the descriptor of this number is decided by this control, or it is stale
 abbrev pub is_over : (number : ℕ) → (control : Option (ℕ × State)) → Bool
@@ -78,7 +78,7 @@ is_over number (Some control) = if number == control.0 then is_decided control.1
 -- (it decides nothing, and is told all the same: the order of two lines shows that it comes after the decision)
 abbrev pub late : Shape → (words : List ℕ) → (desc : Option (ℕ × ℕ)) → Option (ℕ × ℕ)
 late z words None = None
-late z words (Some desc) = if is_over desc.1 (control_in (word_at z words (Control desc.0))) then Some desc else None
+late z words (Some desc) = if is_over desc.1 (control_in (word_if_any z words (Control desc.0))) then Some desc else None
 
 abbrev pub late_text : (cell : ℕ) → (desc : Option (ℕ × ℕ)) → List ℕ
 late_text cell None = []

@@ -14,13 +14,13 @@ is_past window number = if nat_le window.from number then nat_le window.steps (n
 abbrev pub is_before : Window → (next : ℕ) → Bool
 is_before window next = if nat_le window.from next then nat_le (next - window.from) window.steps else false
 
-abbrev pub count_of : (from : ℕ) → Record → ℕ
-count_of from (Step step) = if nat_le from step.number then 1 else 0
-count_of from (Round next) = 0
+abbrev pub record_count : (from : ℕ) → Record → ℕ
+record_count from (Step step) = if nat_le from step.number then 1 else 0
+record_count from (Round next) = 0
 
 -- how many steps there are from a number on
 abbrev pub count_from : (from : ℕ) → List Record → ℕ
-count_from from records = sum_by (count_of from) records
+count_from from records = sum_by (record_count from) records
 
 abbrev pub drawn_of : Window → Record → ℕ
 drawn_of window (Step step) = if is_drawn window step.number then 1 else 0

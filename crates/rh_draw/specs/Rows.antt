@@ -83,17 +83,17 @@ row y step =
     (beside (help_line step.worker y (helped step)) (mark y step))
 
 -- a line across all lanes and columns, between the steps
-abbrev pub round_line : Plan → (moment : ℕ) → Content
-round_line plan moment =
+abbrev pub round_stroke : Plan → (moment : ℕ) → Content
+round_stroke plan moment =
     let y = moment_y moment + ROW / 2 in
     beside (leaf (tags.Line ROUNDS y (column_x plan.shape.workers plan.columns) y looks.Round))
     (labelled (tags.Label NUMBERS (y + HALF_LETTER) looks.Number) (codes "round"))
 
 -- a step of the window has a row, at the height of its number, and a round that begins there a line
-abbrev pub row_of : Plan → Record → Content
-row_of plan (Round next) = if is_before plan.window next then round_line plan (next - plan.window.from) else Nothing
-row_of plan (Step step) =
+abbrev pub step_row : Plan → Record → Content
+step_row plan (Round next) = if is_before plan.window next then round_stroke plan (next - plan.window.from) else Nothing
+step_row plan (Step step) =
     if is_drawn plan.window step.number then row (moment_y (moment_of plan.window step.number)) step else Nothing
 
 abbrev pub rows : Plan → List Record → Content
-rows plan records = for_all (row_of plan) records
+rows plan records = for_all (step_row plan) records

@@ -25,8 +25,8 @@ is_part z (Reason worker owner) = both (nat_lt worker z.workers) (nat_lt owner z
 is_part z Counter = true
 
 -- the word of a part; 0 where the table has no such part
-abbrev pub word_at : Shape → (words : List ℕ) → Part → ℕ
-word_at z words part = if is_part z part then slice_index words (index_of z part) else 0
+abbrev pub word_if_any : Shape → (words : List ℕ) → Part → ℕ
+word_if_any z words part = if is_part z part then slice_index words (index_of z part) else 0
 
 -- the words after a step
 abbrev pub words_after : Shape → (words : List ℕ) → Touched → List ℕ

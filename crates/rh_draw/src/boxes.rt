@@ -2,7 +2,7 @@
 
 ghost use Rattle.std.specs.Prelude.{◌≡◌, ◌<◌, ◌^◌};
 ghost use Rattle.rh_draw.specs.Boxes.{box_at, boxes_at, last_boxes, look_of, value_label};
-ghost use Rattle.rh_svg.specs.Markup.{Draws};
+ghost use Rattle.rh_svg.specs.Markup.{DrawsAfter};
 ghost use Rattle.rh_draw.specs.Plans.{plan_of, standing_of};
 
 use crate::canvas::Canvas;
@@ -35,7 +35,7 @@ pub(crate) fn draw_box(
     until: u64,
     cell: u64,
 ) -> Result<(), AllocError>
-    ensures { Draws canvas.old.out.items canvas.new.out.items
+    ensures { DrawsAfter canvas.old.out.items canvas.new.out.items
         (box_at (plan_of view.now) (standing_of sight.now) until cell) result }
 {
     let x = column_x(view.shape.workers as u64, at(&view.places, cell));
@@ -63,7 +63,7 @@ pub(crate) fn draw_box(
 fn draw_value(canvas: &mut Canvas, x: u64, y: u64, word: u64, value: u64) -> Result<(), AllocError>
     requires x { x < 2 ^ 32 }
     requires y { y < 2 ^ 32 }
-    ensures { Draws canvas.old.out.items canvas.new.out.items (value_label x y word value) result }
+    ensures { DrawsAfter canvas.old.out.items canvas.new.out.items (value_label x y word value) result }
 {
     if word == value {
         return Ok(());
@@ -85,7 +85,7 @@ pub(crate) fn draw_boxes(
     until: u64,
     cells: &[u64],
 ) -> Result<(), AllocError>
-    ensures { Draws canvas.old.out.items canvas.new.out.items
+    ensures { DrawsAfter canvas.old.out.items canvas.new.out.items
         (boxes_at (plan_of view.now) (standing_of sight.now) until cells.now) result }
 {
     for cell in cells {
@@ -101,7 +101,7 @@ pub(crate) fn draw_last_boxes(
     view: &View,
     sight: &Sight,
 ) -> Result<(), AllocError>
-    ensures { Draws canvas.old.out.items canvas.new.out.items
+    ensures { DrawsAfter canvas.old.out.items canvas.new.out.items
         (last_boxes (plan_of view.now) (standing_of sight.now)) result }
 {
     for (cell, flag) in view.flags.iter().enumerate() {

@@ -2,7 +2,7 @@
 
 ghost use Rattle.std.specs.Prelude.{◌≡◌, ◌≤◌, IfOk, length};
 ghost use Rattle.rh_descriptor.specs.Parts.{IsShape, cell_count};
-ghost use Rattle.rh_svg.specs.Markup.{Draws, Element, IsWellFormed, Nothing, render};
+ghost use Rattle.rh_svg.specs.Markup.{DrawsAfter, Element, IsWellFormed, Nothing, render};
 ghost use Rattle.rh_draw.specs.Picture.{beginning, inside, picture, plan, sized, whole};
 ghost use Rattle.rh_draw.specs.Plans.{plan_of};
 ghost use Rattle.rh_draw.specs.declared.limits.TheConstants.{MAX_STEPS};
@@ -50,7 +50,7 @@ fn draw_picture(
 ) -> Result<(), AllocError>
     requires shape { IsShape view.now.shape }
     requires cells { length cells.now ≡ cell_count view.now.shape }
-    ensures { Draws canvas.old.out.items canvas.new.out.items
+    ensures { DrawsAfter canvas.old.out.items canvas.new.out.items
         (whole (plan_of view.now) (beginning view.now.shape cells.now) records.now) result }
 {
     let letters = longest_notice(alloc, view, cells, records)?;
@@ -76,7 +76,7 @@ fn draw_inside(
 ) -> Result<(), AllocError>
     requires shape { IsShape view.now.shape }
     requires cells { length cells.now ≡ cell_count view.now.shape }
-    ensures { Draws canvas.old.out.items canvas.new.out.items
+    ensures { DrawsAfter canvas.old.out.items canvas.new.out.items
         (sized (plan_of view.now) (beginning view.now.shape cells.now) records.now size.0 size.1) result }
 {
     let tag = Tag::Svg {
@@ -99,7 +99,7 @@ fn draw_all(
 ) -> Result<(), AllocError>
     requires shape { IsShape view.now.shape }
     requires cells { length cells.now ≡ cell_count view.now.shape }
-    ensures { Draws canvas.old.out.items canvas.new.out.items
+    ensures { DrawsAfter canvas.old.out.items canvas.new.out.items
         (inside (plan_of view.now) (beginning view.now.shape cells.now) records.now size.0 size.1) result }
 {
     draw_frame(canvas, view, size)?;

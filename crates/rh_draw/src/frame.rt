@@ -3,7 +3,7 @@
 ghost use Rattle.std.specs.Prelude.{◌≡◌, ◌<◌, ◌^◌};
 ghost use Rattle.rh_draw.specs.Frame.{all_heads, cell_head, cell_heads, definitions, fixed, frame, heads, lane, lane_head, lane_heads, lanes, picture_height, picture_width};
 ghost use Rattle.rh_draw.specs.Legend.{caption, captions, signs};
-ghost use Rattle.rh_svg.specs.Markup.{Draws};
+ghost use Rattle.rh_svg.specs.Markup.{DrawsAfter};
 ghost use Rattle.rh_draw.specs.Plans.{plan_of};
 
 use crate::canvas::Canvas;
@@ -37,7 +37,7 @@ pub(crate) fn draw_frame(
     view: &View,
     size: (u64, u64),
 ) -> Result<(), AllocError>
-    ensures { Draws canvas.old.out.items canvas.new.out.items (frame (plan_of view.now) size.0 size.1) result }
+    ensures { DrawsAfter canvas.old.out.items canvas.new.out.items (frame (plan_of view.now) size.0 size.1) result }
 {
     let (width, height) = size;
     let ground = Tag::Box {
@@ -55,7 +55,7 @@ pub(crate) fn draw_frame(
 // What is the same in each picture.
 #[tactic(auto, using(crate::proofs::Rendering::rendering), unfolding(crate::specs::Frame::fixed))]
 fn draw_fixed(out: &mut Vec<u8>) -> Result<(), AllocError>
-    ensures { Draws out.old.items out.new.items fixed result }
+    ensures { DrawsAfter out.old.items out.new.items fixed result }
 {
     labelled(out, Tag::Style, STYLE.as_bytes())?;
     draw_outlines(out, OUTLINES)?;
@@ -65,7 +65,7 @@ fn draw_fixed(out: &mut Vec<u8>) -> Result<(), AllocError>
 
 #[tactic(auto, unfolding(rh_svg::specs::Markup::render))]
 fn draw_outlines(out: &mut Vec<u8>, outlines: &[Tag]) -> Result<(), AllocError>
-    ensures { Draws out.old.items out.new.items (definitions outlines.now) result }
+    ensures { DrawsAfter out.old.items out.new.items (definitions outlines.now) result }
 {
     open(out, Tag::Definitions)?;
     draw_signs(out, outlines)?;
@@ -73,7 +73,7 @@ fn draw_outlines(out: &mut Vec<u8>, outlines: &[Tag]) -> Result<(), AllocError>
 }
 
 fn draw_signs(out: &mut Vec<u8>, given: &[Tag]) -> Result<(), AllocError>
-    ensures { Draws out.old.items out.new.items (signs given.now) result }
+    ensures { DrawsAfter out.old.items out.new.items (signs given.now) result }
 {
     for tag in given {
         leaf(out, *tag)?;
@@ -82,14 +82,14 @@ fn draw_signs(out: &mut Vec<u8>, given: &[Tag]) -> Result<(), AllocError>
 }
 
 fn draw_caption(out: &mut Vec<u8>, given: Caption) -> Result<(), AllocError>
-    ensures { Draws out.old.items out.new.items (caption given) result }
+    ensures { DrawsAfter out.old.items out.new.items (caption given) result }
 {
     let Caption { x, y, look, says } = given;
     labelled(out, Tag::Label { x, y, look }, says.text().as_bytes())
 }
 
 fn draw_captions(out: &mut Vec<u8>, given: &[Caption]) -> Result<(), AllocError>
-    ensures { Draws out.old.items out.new.items (captions given.now) result }
+    ensures { DrawsAfter out.old.items out.new.items (captions given.now) result }
 {
     for caption in given {
         draw_caption(out, *caption)?;
@@ -99,7 +99,7 @@ fn draw_captions(out: &mut Vec<u8>, given: &[Caption]) -> Result<(), AllocError>
 
 #[tactic(auto, using(crate::proofs::Rendering::rendering))]
 fn draw_lanes(canvas: &mut Canvas, workers: u64, bottom: u64) -> Result<(), AllocError>
-    ensures { Draws canvas.old.out.items canvas.new.out.items (lanes workers bottom) result }
+    ensures { DrawsAfter canvas.old.out.items canvas.new.out.items (lanes workers bottom) result }
 {
     for worker in 0..workers {
         draw_lane(canvas, worker, bottom)?;
@@ -108,7 +108,7 @@ fn draw_lanes(canvas: &mut Canvas, workers: u64, bottom: u64) -> Result<(), Allo
 }
 
 fn draw_lane(canvas: &mut Canvas, worker: u64, bottom: u64) -> Result<(), AllocError>
-    ensures { Draws canvas.old.out.items canvas.new.out.items (lane bottom worker) result }
+    ensures { DrawsAfter canvas.old.out.items canvas.new.out.items (lane bottom worker) result }
 {
     let x = lane_x(worker);
     let line = Tag::Line {
@@ -124,7 +124,7 @@ fn draw_lane(canvas: &mut Canvas, worker: u64, bottom: u64) -> Result<(), AllocE
 /// What the lanes and the columns are, at the top and again and again below it.
 #[tactic(auto, using(crate::proofs::Rendering::rendering))]
 pub(crate) fn draw_all_heads(canvas: &mut Canvas, view: &View) -> Result<(), AllocError>
-    ensures { Draws canvas.old.out.items canvas.new.out.items (all_heads (plan_of view.now)) result }
+    ensures { DrawsAfter canvas.old.out.items canvas.new.out.items (all_heads (plan_of view.now)) result }
 {
     for part in 0..view.end / HEAD_STEPS + 1 {
         draw_heads(
@@ -138,7 +138,7 @@ pub(crate) fn draw_all_heads(canvas: &mut Canvas, view: &View) -> Result<(), All
 
 #[tactic(auto, using(crate::proofs::Rendering::rendering))]
 fn draw_heads(canvas: &mut Canvas, view: &View, y: u64) -> Result<(), AllocError>
-    ensures { Draws canvas.old.out.items canvas.new.out.items (heads (plan_of view.now) y) result }
+    ensures { DrawsAfter canvas.old.out.items canvas.new.out.items (heads (plan_of view.now) y) result }
 {
     draw_lane_heads(canvas, view.shape.workers as u64, y)?;
     draw_cell_heads(canvas, view, y)
@@ -146,7 +146,7 @@ fn draw_heads(canvas: &mut Canvas, view: &View, y: u64) -> Result<(), AllocError
 
 #[tactic(auto, using(crate::proofs::Rendering::rendering))]
 fn draw_lane_heads(canvas: &mut Canvas, workers: u64, y: u64) -> Result<(), AllocError>
-    ensures { Draws canvas.old.out.items canvas.new.out.items (lane_heads workers y) result }
+    ensures { DrawsAfter canvas.old.out.items canvas.new.out.items (lane_heads workers y) result }
 {
     for worker in 0..workers {
         let label = Tag::Label {
@@ -161,7 +161,7 @@ fn draw_lane_heads(canvas: &mut Canvas, workers: u64, y: u64) -> Result<(), Allo
 
 #[tactic(auto, using(crate::proofs::Rendering::rendering))]
 fn draw_cell_heads(canvas: &mut Canvas, view: &View, y: u64) -> Result<(), AllocError>
-    ensures { Draws canvas.old.out.items canvas.new.out.items (cell_heads (plan_of view.now) y) result }
+    ensures { DrawsAfter canvas.old.out.items canvas.new.out.items (cell_heads (plan_of view.now) y) result }
 {
     for (cell, flag) in view.flags.iter().enumerate() {
         if *flag != 0 {
@@ -172,7 +172,7 @@ fn draw_cell_heads(canvas: &mut Canvas, view: &View, y: u64) -> Result<(), Alloc
 }
 
 fn draw_cell_head(canvas: &mut Canvas, view: &View, y: u64, cell: u64) -> Result<(), AllocError>
-    ensures { Draws canvas.old.out.items canvas.new.out.items (cell_head (plan_of view.now) y cell) result }
+    ensures { DrawsAfter canvas.old.out.items canvas.new.out.items (cell_head (plan_of view.now) y cell) result }
 {
     let place = at(&view.places, cell);
     let label = Tag::Label {

@@ -3,7 +3,7 @@
 ghost use Rattle.std.specs.Prelude.{◌≡◌, IfOk, OnOk, length};
 ghost use Rattle.rh_descriptor.specs.Parts.{IsShape, cell_count};
 ghost use Rattle.rh_draw.specs.History.{change_of, following, history, length_of, longest, notice_of, notices};
-ghost use Rattle.rh_svg.specs.Markup.{Draws};
+ghost use Rattle.rh_svg.specs.Markup.{DrawsAfter};
 ghost use Rattle.rh_draw.specs.Picture.{beginning};
 ghost use Rattle.rh_draw.specs.Plans.{after, plan_of, standing_of};
 
@@ -28,7 +28,7 @@ pub(crate) fn draw_history(
 ) -> Result<(), AllocError>
     requires shape { IsShape view.now.shape }
     requires cells { length cells.now ≡ cell_count view.now.shape }
-    ensures { Draws canvas.old.out.items canvas.new.out.items
+    ensures { DrawsAfter canvas.old.out.items canvas.new.out.items
         (history (plan_of view.now) (beginning view.now.shape cells.now) records.now) result }
 {
     let mut sight = begin(alloc, &view.shape, cells)?;
@@ -50,7 +50,7 @@ pub(crate) fn draw_notices(
 ) -> Result<(), AllocError>
     requires shape { IsShape view.now.shape }
     requires cells { length cells.now ≡ cell_count view.now.shape }
-    ensures { Draws canvas.old.out.items canvas.new.out.items
+    ensures { DrawsAfter canvas.old.out.items canvas.new.out.items
         (notices (plan_of view.now) (beginning view.now.shape cells.now) records.now) result }
 {
     let mut sight = begin(alloc, &view.shape, cells)?;
@@ -128,7 +128,7 @@ fn draw_changes(
     list: &mut Vec<u64>,
 ) -> Result<(), AllocError>
     requires { IsShape view.now.shape }
-    ensures { Draws canvas.old.out.items canvas.new.out.items
+    ensures { DrawsAfter canvas.old.out.items canvas.new.out.items
         (change_of (plan_of view.now) (standing_of sight.now) given) result }
 {
     let Record::Step(step) = given else {
@@ -149,7 +149,7 @@ fn draw_notice_of(
     given: Record,
 ) -> Result<(), AllocError>
     requires { IsShape view.now.shape }
-    ensures { Draws canvas.old.out.items canvas.new.out.items
+    ensures { DrawsAfter canvas.old.out.items canvas.new.out.items
         (notice_of (plan_of view.now) (standing_of sight.now) given) result }
 {
     let Record::Step(step) = given else {

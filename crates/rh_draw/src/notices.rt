@@ -5,9 +5,9 @@ ghost use Rattle.std.specs.Prelude.{◌≡◌, ◌++◌, IfOk, OnOk};
 ghost use Rattle.rh_descriptor.specs.Parts.{IsShape};
 ghost use Rattle.rh_play.specs.Appending.{Prints};
 ghost use Rattle.rh_draw.specs.Changes.{decided, entry_count};
-ghost use Rattle.rh_draw.specs.Notices.{change_text, decision_look, decision_text, desc_in, entries_text, entry_text, is_over, late, late_look, late_text, notice_at, notice_line, notice_look, notice_text, promoted, verdict_text};
+ghost use Rattle.rh_draw.specs.Notices.{value_change_text, decision_look, decision_text, desc_named, entries_text, entry_notice, is_over, late, late_look, late_text, notice_at, notice_line, notice_look, notice_text, promoted, verdict_text};
 ghost use Rattle.rh_draw.specs.Plans.{plan_of, standing_of};
-ghost use Rattle.rh_svg.specs.Markup.{Draws};
+ghost use Rattle.rh_svg.specs.Markup.{DrawsAfter};
 ghost use Rattle.rh_tagword.specs.Control.{control_in};
 ghost use Rattle.rh_tagword.specs.Word.{word_in};
 
@@ -35,7 +35,7 @@ pub(crate) fn draw_notice(
     touched: Touched,
 ) -> Result<(), AllocError>
     requires { IsShape view.now.shape }
-    ensures { Draws canvas.old.out.items canvas.new.out.items
+    ensures { DrawsAfter canvas.old.out.items canvas.new.out.items
         (notice_at (plan_of view.now) (standing_of sight.now) moment touched.part touched) result }
 {
     canvas.line.clear();
@@ -50,7 +50,7 @@ fn draw_line(
     moment: u64,
     look: Option<Look>,
 ) -> Result<(), AllocError>
-    ensures { Draws canvas.old.out.items canvas.new.out.items
+    ensures { DrawsAfter canvas.old.out.items canvas.new.out.items
         (notice_line (plan_of view.now) moment look canvas.old.line.items) result }
 {
     let Some(look) = look else {
@@ -155,7 +155,7 @@ fn push_entry(
 ) -> Result<(), AllocError>
     requires { IsShape shape.now }
     ensures { OnOk result (line.new.items ≡
-        line.old.items ++ entry_text shape.now (standing_of sight.now) worker entry) }
+        line.old.items ++ entry_notice shape.now (standing_of sight.now) worker entry) }
 {
     let cell = word_at(shape, &sight.words, Part::EntryCell { worker, entry });
     let new = word_at(shape, &sight.words, Part::EntryNew { worker, entry });
@@ -164,7 +164,7 @@ fn push_entry(
 
 // What becomes of the value of a cell, if it becomes another one.
 fn push_change(line: &mut Vec<u8>, cell: u64, old: u64, new: u64) -> Result<(), AllocError>
-    ensures { OnOk result (line.new.items ≡ line.old.items ++ change_text cell old new) }
+    ensures { OnOk result (line.new.items ≡ line.old.items ++ value_change_text cell old new) }
 {
     if old == new {
         return Ok(());
@@ -181,7 +181,7 @@ fn push_change(line: &mut Vec<u8>, cell: u64, old: u64, new: u64) -> Result<(), 
 
 // The worker and the serial number of the descriptor that a word refers to.
 fn desc_in(word: u64) -> Option<(u64, u64)>
-    ensures { result ≡ desc_in (word_in word) }
+    ensures { result ≡ desc_named (word_in word) }
 {
     match unpack(word) {
         Some(Word::Desc { worker, number }) => Some((worker, number)),

@@ -1,8 +1,8 @@
 //! The rows of the steps: numbers, marks and lines of helping; and where rounds begin.
 
 ghost use Rattle.std.specs.Prelude.{◌≡◌, ◌<◌, ◌^◌};
-ghost use Rattle.rh_svg.specs.Markup.{Draws};
-ghost use Rattle.rh_draw.specs.Rows.{desc_owner, help_line, helped, mark, other_than, owner_at, owner_in_cell, round_line, row, row_of, rows};
+ghost use Rattle.rh_svg.specs.Markup.{DrawsAfter};
+ghost use Rattle.rh_draw.specs.Rows.{desc_owner, help_line, helped, mark, other_than, owner_at, owner_in_cell, round_stroke, row, step_row, rows};
 ghost use Rattle.rh_draw.specs.Plans.{plan_of};
 ghost use Rattle.rh_tagword.specs.Word.{word_in};
 
@@ -74,7 +74,7 @@ fn helped(step: &Traced) -> Option<u64>
 
 #[tactic(auto, using(crate::proofs::Rendering::rendering))]
 fn draw_help(canvas: &mut Canvas, worker: u64, y: u64, other: Option<u64>) -> Result<(), AllocError>
-    ensures { Draws canvas.old.out.items canvas.new.out.items (help_line worker y other) result }
+    ensures { DrawsAfter canvas.old.out.items canvas.new.out.items (help_line worker y other) result }
 {
     let Some(other) = other else {
         return Ok(());
@@ -95,7 +95,7 @@ fn draw_help(canvas: &mut Canvas, worker: u64, y: u64, other: Option<u64>) -> Re
 // The mark of a step, in the lane of its worker; on hover it tells the line of the step.
 #[tactic(auto, unfolding(rh_svg::specs::Markup::render))]
 fn draw_mark(canvas: &mut Canvas, y: u64, step: &Traced) -> Result<(), AllocError>
-    ensures { Draws canvas.old.out.items canvas.new.out.items (mark y step.now) result }
+    ensures { DrawsAfter canvas.old.out.items canvas.new.out.items (mark y step.now) result }
 {
     let tag = Tag::Mark {
         x: lane_x(step.worker as u64),
@@ -110,7 +110,7 @@ fn draw_mark(canvas: &mut Canvas, y: u64, step: &Traced) -> Result<(), AllocErro
 #[tactic(auto, using(crate::proofs::Rendering::rendering))]
 fn draw_row(canvas: &mut Canvas, y: u64, step: &Traced) -> Result<(), AllocError>
     requires { y < 2 ^ 32 }
-    ensures { Draws canvas.old.out.items canvas.new.out.items (row y step.now) result }
+    ensures { DrawsAfter canvas.old.out.items canvas.new.out.items (row y step.now) result }
 {
     let label = Tag::Label {
         x: NUMBERS,
@@ -125,7 +125,7 @@ fn draw_row(canvas: &mut Canvas, y: u64, step: &Traced) -> Result<(), AllocError
 // A line across all lanes and columns, between the steps.
 #[tactic(auto, using(crate::proofs::Rendering::rendering))]
 fn draw_round(canvas: &mut Canvas, view: &View, moment: u64) -> Result<(), AllocError>
-    ensures { Draws canvas.old.out.items canvas.new.out.items (round_line (plan_of view.now) moment) result }
+    ensures { DrawsAfter canvas.old.out.items canvas.new.out.items (round_stroke (plan_of view.now) moment) result }
 {
     let y = moment_y(moment) + ROW / 2;
     let line = Tag::Line {
@@ -146,7 +146,7 @@ fn draw_round(canvas: &mut Canvas, view: &View, moment: u64) -> Result<(), Alloc
 
 #[tactic(auto, using(crate::proofs::Rendering::rendering))]
 fn draw_record(canvas: &mut Canvas, view: &View, given: Record) -> Result<(), AllocError>
-    ensures { Draws canvas.old.out.items canvas.new.out.items (row_of (plan_of view.now) given) result }
+    ensures { DrawsAfter canvas.old.out.items canvas.new.out.items (step_row (plan_of view.now) given) result }
 {
     match given {
         Record::Step(step) => {
@@ -170,7 +170,7 @@ pub(crate) fn draw_rows(
     view: &View,
     records: &[Record],
 ) -> Result<(), AllocError>
-    ensures { Draws canvas.old.out.items canvas.new.out.items (rows (plan_of view.now) records.now) result }
+    ensures { DrawsAfter canvas.old.out.items canvas.new.out.items (rows (plan_of view.now) records.now) result }
 {
     for record in records {
         draw_record(canvas, view, *record)?;

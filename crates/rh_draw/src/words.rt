@@ -2,7 +2,7 @@
 
 ghost use Rattle.std.specs.Prelude.{◌≡◌, IfOk, IsTrue, length};
 ghost use Rattle.rh_descriptor.specs.Parts.{IsPart, IsShape, cell_count};
-ghost use Rattle.rh_draw.specs.Words.{all_words, is_part, word_at, words_after};
+ghost use Rattle.rh_draw.specs.Words.{all_words, is_part, word_if_any, words_after};
 
 use crate::lists::{at, put};
 use rh_descriptor::{Part, Shape};
@@ -34,7 +34,7 @@ fn has_part(shape: &Shape, part: Part) -> bool
 /// The word of a part; 0 where the table has no such part.
 pub(crate) fn word_at(shape: &Shape, words: &[u64], part: Part) -> u64
     requires { IsShape shape.now }
-    ensures { result ≡ word_at shape.now words.now part }
+    ensures { result ≡ word_if_any shape.now words.now part }
 {
     if has_part(shape, part) {
         at(words, shape.index(part) as u64)

@@ -1,7 +1,7 @@
 //! Two threads that move a value between two cells of one table, each time by one swap of both.
 
 ghost use Rattle.std.specs.Prelude.{◌≡◌, ◌<◌, ◌≤◌, ◌^◌, IfSome};
-ghost use Rattle.rh_kcas.specs.Rests.{Rests};
+ghost use Rattle.rh_kcas.specs.Rests.{SeatRests};
 ghost use Rattle.rh_rdcss.specs.Calls.{IsSame};
 ghost use Rattle.rh_tagword.specs.Word.{IsValue};
 
@@ -50,28 +50,28 @@ fn move_both<R: Threads + Wait + Sync>(
     first: Seat,
     second: Seat,
 ) -> (Seat, Seat)
-    requires first { Rests table.now first × (first.side.worker ≡ 0) }
-    requires second { Rests table.now second × (second.side.worker ≡ 1) }
-    ensures first { Rests table.now result.0 × (result.0.side.worker ≡ 0) }
-    ensures second { Rests table.now result.1 × (result.1.side.worker ≡ 1) }
+    requires first { SeatRests table.now first × (first.side.worker ≡ 0) }
+    requires second { SeatRests table.now second × (second.side.worker ≡ 1) }
+    ensures first { SeatRests table.now result.0 × (result.0.side.worker ≡ 0) }
+    ensures second { SeatRests table.now result.1 × (result.1.side.worker ≡ 1) }
 {
     thread::join(
         rt,
         || -> Seat
-            requires { Rests table.now first × (first.side.worker ≡ 0) }
-            ensures { Rests table.entry.now result × (result.side.worker ≡ 0) }
+            requires { SeatRests table.now first × (first.side.worker ≡ 0) }
+            ensures { SeatRests table.entry.now result × (result.side.worker ≡ 0) }
         { move_often(rt, table, first, 2, 6) },
         || -> Seat
-            requires { Rests table.now second × (second.side.worker ≡ 1) }
-            ensures { Rests table.entry.now result × (result.side.worker ≡ 1) }
+            requires { SeatRests table.now second × (second.side.worker ≡ 1) }
+            ensures { SeatRests table.entry.now result × (result.side.worker ≡ 1) }
         { move_often(rt, table, second, 6, 2) },
     )
 }
 
 /// Tries so often to move one.
 fn move_often<R: Wait>(rt: &R, table: &Table, mut seat: Seat, from: usize, to: usize) -> Seat
-    requires rests { Rests table.now seat }
-    ensures rests { Rests table.now result }
+    requires rests { SeatRests table.now seat }
+    ensures rests { SeatRests table.now result }
     ensures worker { result.side.worker ≡ seat.side.worker }
 {
     for _ in 0..TRIES {
@@ -83,8 +83,8 @@ fn move_often<R: Wait>(rt: &R, table: &Table, mut seat: Seat, from: usize, to: u
 /// Moves one from a cell to the other in one act, unless the other worker changes one of them meanwhile.
 /// It answers whether it did.
 fn move_one<R: Wait>(rt: &R, table: &Table, seat: &mut Seat, from: usize, to: usize) -> bool
-    requires rests { Rests table.now seat.old }
-    ensures rests { Rests table.now seat.new }
+    requires rests { SeatRests table.now seat.old }
+    ensures rests { SeatRests table.now seat.new }
     ensures worker { seat.new.side.worker ≡ seat.old.side.worker }
 {
     let Some(taken) = value(rt, table, seat, from) else {
@@ -108,8 +108,8 @@ fn move_one<R: Wait>(rt: &R, table: &Table, seat: &mut Seat, from: usize, to: us
 
 /// What the cell holds, or none where no mark is left.
 fn value<R: Wait>(rt: &R, table: &Table, seat: &mut Seat, cell: usize) -> Option<u64>
-    requires rests { Rests table.now seat.old }
-    ensures rests { Rests table.now seat.new }
+    requires rests { SeatRests table.now seat.old }
+    ensures rests { SeatRests table.now seat.new }
     ensures same { IsSame seat.old seat.new }
     ensures value { IfSome result IsValue }
 {

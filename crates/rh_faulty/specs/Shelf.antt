@@ -34,8 +34,8 @@ abbrev pub next_reader : FaultyShelf → ℕ
 next_reader s = min (s.readers + 1) last_count
 
 -- how often the shelf itself failed
-abbrev pub failures_in : FaultyShelf → ℕ
-failures_in s = s.failures
+abbrev pub own_failures_in : FaultyShelf → ℕ
+own_failures_in s = s.failures
 
 -- the number of the read that fails, of the reader of this number; 0 where none does
 abbrev pub read_that_fails : ShelfFailure → ℕ → ℕ

@@ -7,8 +7,8 @@ use Rattle.rh_faulty.specs.declared.writer.Refusal.{Refusal}
 use Rattle.rh_faulty.specs.declared.writer.Refusal.TheVariants as refusals
 
 -- the bytes that were not read yet, as far as the bytes are known
-abbrev pub rest_of : {T : Type 0} → (T → Option (List ℕ)) → FaultyReader T → Option (List ℕ)
-rest_of bytes r = cursor_remaining bytes r.bytes
+abbrev pub unread_of : {T : Type 0} → (T → Option (List ℕ)) → FaultyReader T → Option (List ℕ)
+unread_of bytes r = cursor_remaining bytes r.bytes
 
 -- at 1 the next call fails; at 0 none does any more
 abbrev pub fails_in : {T : Type 0} → FaultyReader T → ℕ

@@ -3,7 +3,7 @@
 ghost use Rattle.std.specs.Prelude.{◌≡◌, ◌≢◌, ◌-◌, IsErr, IsOk};
 ghost use Rattle.std.specs.Io.{ReadsAtMost};
 ghost use Rattle.std.specs.Io.KnownBytes.{ReadConsumes};
-ghost use Rattle.rh_faulty.specs.Streams.{rest_of, fails_in};
+ghost use Rattle.rh_faulty.specs.Streams.{unread_of, fails_in};
 
 use std::io::{self, AsBytes, Cursor, ErrorKind, Read};
 
@@ -20,7 +20,7 @@ pub struct FaultyReader<T> {
 impl<T: AsBytes> FaultyReader<T> {
     /// The call of this number fails, counted from 1. At 0 none does.
     pub fn new(bytes: T, fails_at: u64) -> FaultyReader<T>
-        ensures rest { rest_of T.bytes result ≡ T.bytes bytes }
+        ensures rest { unread_of T.bytes result ≡ T.bytes bytes }
         ensures fails_in { fails_in result ≡ fails_at }
     {
         FaultyReader {
@@ -31,11 +31,11 @@ impl<T: AsBytes> FaultyReader<T> {
 }
 
 impl<T: AsBytes> Read for FaultyReader<T> {
-    ghost remaining = { rest_of T.bytes };
+    ghost remaining = { unread_of T.bytes };
 
     fn read(&mut self, buf: &mut [u8]) -> io::Result<usize>
         ensures bound { ReadsAtMost result buf.new }
-        ensures bytes { ReadConsumes (rest_of T.bytes self.old) (rest_of T.bytes self.new)
+        ensures bytes { ReadConsumes (unread_of T.bytes self.old) (unread_of T.bytes self.new)
             result buf.new }
         ensures fails { fails_in self.old ≡ 1 → IsErr result }
         ensures reads { fails_in self.old ≢ 1 → IsOk result }

@@ -7,8 +7,8 @@ ghost use Rattle.rh_key_files.specs.Counting.{Rose};
 ghost use Rattle.rh_shelf.specs.Kinds.{files_of};
 ghost use Rattle.rh_shelf.specs.Shelf.{Finds, InDoubt, Lacks, Puts};
 ghost use Rattle.rh_faulty.specs.Shelf.{shelf_of, failure_of, calls_of, next_call, readers_of};
-ghost use Rattle.rh_faulty.specs.Shelf.{next_reader, failures_in, known_bytes, read_that_fails};
-ghost use Rattle.rh_faulty.specs.Streams.{fails_in, rest_of};
+ghost use Rattle.rh_faulty.specs.Shelf.{next_reader, own_failures_in, known_bytes, read_that_fails};
+ghost use Rattle.rh_faulty.specs.Streams.{fails_in, unread_of};
 
 use crate::reader::FaultyReader;
 use rh_shelf::{MemShelf, Shelf, ShelfFault};
@@ -40,7 +40,7 @@ impl FaultyShelf {
         ensures failure { failure_of result ≡ failure }
         ensures no_call { calls_of result ≡ 0 }
         ensures no_reader { readers_of result ≡ 0 }
-        ensures no_failure { failures_in result ≡ 0 }
+        ensures no_failure { own_failures_in result ≡ 0 }
     {
         FaultyShelf {
             shelf,
@@ -56,8 +56,8 @@ impl FaultyShelf {
         ensures counts { calls_of self.new ≡ next_call self.old }
         ensures fails { IsTrue result
             ↔ (failure_of self.old ≡ ShelfFailure.Call (next_call self.old)) }
-        ensures told { OnTrue result (Rose (failures_in self.old) (failures_in self.new)) }
-        ensures fine { OnFalse result (failures_in self.new ≡ failures_in self.old) }
+        ensures told { OnTrue result (Rose (own_failures_in self.old) (own_failures_in self.new)) }
+        ensures fine { OnFalse result (own_failures_in self.new ≡ own_failures_in self.old) }
         ensures same_failure { failure_of self.new ≡ failure_of self.old }
         ensures same_readers { readers_of self.new ≡ readers_of self.old }
         ensures same_shelf { shelf_of self.new ≡ shelf_of self.old }
@@ -73,9 +73,9 @@ impl FaultyShelf {
     /// Counts a call for which memory was refused.
     fn count<T>(&mut self, outcome: &Result<T, ShelfFault>)
         ensures told { IsErrOf outcome.now ShelfFault.Memory →
-            Rose (failures_in self.old) (failures_in self.new) }
+            Rose (own_failures_in self.old) (own_failures_in self.new) }
         ensures fine { (IsErrOf outcome.now ShelfFault.Memory → ⊥) →
-            failures_in self.new ≡ failures_in self.old }
+            own_failures_in self.new ≡ own_failures_in self.old }
         ensures same_calls { calls_of self.new ≡ calls_of self.old }
         ensures same_failure { failure_of self.new ≡ failure_of self.old }
         ensures same_readers { readers_of self.new ≡ readers_of self.old }
@@ -92,18 +92,18 @@ impl Shelf for FaultyShelf {
 
     ghost files = { λ s. Some (files_of (shelf_of s)) };
 
-    ghost failures = { failures_in };
+    ghost failures = { own_failures_in };
 
     fn fetch(&mut self, alloc: Global, path: &str) -> Result<FaultyReader<Vec<u8>>, ShelfFault>
         ensures found { IfOk result (λ r.
-            Finds (Some (files_of (shelf_of self.old))) path.now (rest_of known_bytes r)) }
+            Finds (Some (files_of (shelf_of self.old))) path.now (unread_of known_bytes r)) }
         ensures missing { IsErrOf result ShelfFault.Missing →
             Lacks (Some (files_of (shelf_of self.old))) path.now
-            ⊎ Rose (failures_in self.old) (failures_in self.new) }
+            ⊎ Rose (own_failures_in self.old) (own_failures_in self.new) }
         ensures memory { IsErrOf result ShelfFault.Memory →
-            Rose (failures_in self.old) (failures_in self.new) }
+            Rose (own_failures_in self.old) (own_failures_in self.new) }
         ensures no_write { IsErrOf result ShelfFault.Write → ⊥ }
-        ensures fine { OnOk result (failures_in self.new ≡ failures_in self.old) }
+        ensures fine { OnOk result (own_failures_in self.new ≡ own_failures_in self.old) }
         ensures same_files { files_of (shelf_of self.new) ≡ files_of (shelf_of self.old) }
 
         // Which call fails, and which reader.
@@ -111,7 +111,7 @@ impl Shelf for FaultyShelf {
         ensures fails { failure_of self.old ≡ ShelfFailure.Call (next_call self.old) →
             IsErrOf result ShelfFault.Missing }
         ensures fails_once { failure_of self.old ≢ ShelfFailure.Call (next_call self.old) →
-            (IsErrOf result ShelfFault.Memory → ⊥) → failures_in self.new ≡ failures_in self.old }
+            (IsErrOf result ShelfFault.Memory → ⊥) → own_failures_in self.new ≡ own_failures_in self.old }
         ensures given { OnOk result (readers_of self.new ≡ next_reader self.old) }
         ensures not_given { OnErr result (readers_of self.new ≡ readers_of self.old) }
         ensures reader { IfOk result (λ r.
@@ -139,16 +139,16 @@ impl Shelf for FaultyShelf {
             (Some (files_of (shelf_of self.new))) path.now) }
         ensures refused { OnErr result (files_of (shelf_of self.new)
             ≡ files_of (shelf_of self.old)) }
-        ensures failed { OnErr result (Rose (failures_in self.old) (failures_in self.new)) }
+        ensures failed { OnErr result (Rose (own_failures_in self.old) (own_failures_in self.new)) }
         ensures not_missing { IsErrOf result ShelfFault.Missing → ⊥ }
-        ensures fine { OnOk result (failures_in self.new ≡ failures_in self.old) }
+        ensures fine { OnOk result (own_failures_in self.new ≡ own_failures_in self.old) }
 
         // Which call fails.
         ensures counts { calls_of self.new ≡ next_call self.old }
         ensures fails { failure_of self.old ≡ ShelfFailure.Call (next_call self.old) →
             IsErrOf result ShelfFault.Write }
         ensures fails_once { failure_of self.old ≢ ShelfFailure.Call (next_call self.old) →
-            (IsErrOf result ShelfFault.Memory → ⊥) → failures_in self.new ≡ failures_in self.old }
+            (IsErrOf result ShelfFault.Memory → ⊥) → own_failures_in self.new ≡ own_failures_in self.old }
         ensures same_readers { readers_of self.new ≡ readers_of self.old }
         ensures same_failure { failure_of self.new ≡ failure_of self.old }
     {

@@ -12,11 +12,11 @@ use Rattle.rh_world.specs.Sides.{Debt, Side, note_side}
 use Rattle.rh_world.specs.Moves.{control_noted, mark_noted}
 use Rattle.rh_world.proofs.Tests.{eqb_not, eqb_yes}
 use Rattle.rh_descriptor.specs.View.{OwnDesc, View}
-use Rattle.rh_descriptor.specs.Words.{control_of, number_of, read_control, serial_in, state_of, without_entry}
+use Rattle.rh_descriptor.specs.Words.{control_of, control_word_of, read_control, serial_in, state_of, without_entry}
 use Rattle.rh_descriptor.specs.Steps.{IsKnown, control_read, decided_word, stale_noted, is_known, mark_control_read, tells_opened}
 use Rattle.rh_rule.specs.Sound.{ControlTells, IsControlWord}
 use Rattle.rh_rule.proofs.Said.{control_said_is, serial_said_is}
-use Rattle.rh_helping.specs.Goal.{IsFresh, IsMet, IsOther, KnowsOwn, StandsAt}
+use Rattle.rh_helping.specs.Goal.{IsAfterFailures, IsMet, IsOther, KnowsOwn, StandsAt}
 use Rattle.rh_helping.specs.CellContent.{state_said}
 use Rattle.rh_helping.specs.Settling.{FailsNone, Keeps}
 use Rattle.rh_helping.specs.Work.{IsOver}
@@ -197,7 +197,7 @@ pub record Saw (v : View) (d : Ref) (r : Option State) (next : View) : Type 0 wh
 -- by what is known of it
 abbrev Known : View → Ref → Option State → Type 0
 Known v d None = Unit {0}
-Known v d (Some k) = IsOpened (control_of k) × (k ≡ Undecided → IsFresh v d) × (d.worker ≡ v.worker → suc d.number ≡ v.next_number)
+Known v d (Some k) = IsOpened (control_of k) × (k ≡ Undecided → IsAfterFailures v d) × (d.worker ≡ v.worker → suc d.number ≡ v.next_number)
 
 no_entry_before : (A : Type 0) (f : ℕ) → f < 0 → A
 no_entry_before A f lt = absurd (let h : ⊥ = omega arith in h)
@@ -406,11 +406,11 @@ undecided_without withdrawn e = e
 undecided_without (failed i by) e = absurd (true≢false (sym (ap tells_undecided e)))
 
 -- a control word that tells that d is undecided is this one
-undecided_word : (word n : ℕ) → IsControlWord word → serial_in word ≡ n → read_control word ≡ undecided → word ≡ number_of n undecided
+undecided_word : (word n : ℕ) → IsControlWord word → serial_in word ≡ n → read_control word ≡ undecided → word ≡ control_word_of n undecided
 undecided_word word n w serial is =
     let number : w.number ≡ n = sym (serial_said_is w.number w.control w.state) ∙ ap serial_in (sym w.is) ∙ serial in
     let control : w.control ≡ undecided = undecided_without w.control (sym (control_said_is w.number w.control w.state) ∙ ap read_control (sym w.is) ∙ is) in
-    w.is ∙ (λ i. number_of (number i) (control i))
+    w.is ∙ (λ i. control_word_of (number i) (control i))
 
 module _ (v : View) (d : Ref) (k : State) (over_k : IsOver k) (state : IsState k) (found : ℕ) (tells : ControlTells v d found) where
   abbrev word : ℕ
@@ -420,14 +420,14 @@ module _ (v : View) (d : Ref) (k : State) (over_k : IsOver k) (state : IsState k
   has_state = subst IsState (sym (state_back k)) state
 
   -- it was swapped, or it was decided before, or is stale
-  either : (word ≡ number_of d.number (control_of k)) × (serial_in found ≡ d.number) ⊎ (word ≡ found) × (found ≢ number_of d.number undecided)
-  either = by (eqb found (number_of d.number undecided)) refl
+  either : (word ≡ control_word_of d.number (control_of k)) × (serial_in found ≡ d.number) ⊎ (word ≡ found) × (found ≢ control_word_of d.number undecided)
+  either = by (eqb found (control_word_of d.number undecided)) refl
     where
-      by : (b : Bool) → eqb found (number_of d.number undecided) ≡ b
-          → (cond b (number_of d.number (control_of k)) found ≡ number_of d.number (control_of k)) × (serial_in found ≡ d.number)
-          ⊎ (cond b (number_of d.number (control_of k)) found ≡ found) × (found ≢ number_of d.number undecided)
-      by true e = inl (refl, ap serial_in (eqb_yes found (number_of d.number undecided) e) ∙ serial_said_is d.number undecided tt)
-      by false e = inr (refl, eqb_not found (number_of d.number undecided) e)
+      by : (b : Bool) → eqb found (control_word_of d.number undecided) ≡ b
+          → (cond b (control_word_of d.number (control_of k)) found ≡ control_word_of d.number (control_of k)) × (serial_in found ≡ d.number)
+          ⊎ (cond b (control_word_of d.number (control_of k)) found ≡ found) × (found ≢ control_word_of d.number undecided)
+      by true e = inl (refl, ap serial_in (eqb_yes found (control_word_of d.number undecided) e) ∙ serial_said_is d.number undecided tt)
+      by false e = inr (refl, eqb_not found (control_word_of d.number undecided) e)
 
   now_over : (q : State) → option_map control_of (Some q) ≡ state_said d.number word → IsOver q × (d.worker ≡ v.worker → suc d.number ≡ v.next_number)
   now_over q is =

@@ -5,7 +5,7 @@ use Rattle.rh_tagword.specs.declared.control.State.TheVariants.{Unused, Undecide
 use Rattle.rh_world.specs.World.{In, Ref}
 use Rattle.rh_world.specs.World.Control.{failed}
 use Rattle.rh_world.specs.Facts.{Fact}
-use Rattle.rh_world.specs.Facts.Fact.{decided, failed_at, held, known, met, new_is, old_is, over, stale, size_is, target_is}
+use Rattle.rh_world.specs.Facts.Fact.{decided, failed_at, installed, known, met, new_is, old_is, over, stale, size_is, target_is}
 use Rattle.rh_descriptor.specs.View.{OwnDesc, View, Written, own_ref}
 use Rattle.rh_descriptor.specs.Words.{control_of, ref_of}
 use Rattle.rh_world.specs.Moves.{HasSeen}
@@ -23,7 +23,7 @@ Sub l m = (n : Fact) → In n l → In n m
 
 pub stands_sub : (l m : List Fact) → Sub l m → (d : Ref) (k : State) (e : ℕ) → StandsAt l d k e → StandsAt m d k e
 stands_sub l m s d Unused e h = h
-stands_sub l m s d Undecided e h = (s (known d) h.0, λ f i. s (held d f) (h.1 f i))
+stands_sub l m s d Undecided e h = (s (known d) h.0, λ f i. s (installed d f) (h.1 f i))
 stands_sub l m s d Succeeded e h = s (decided d (control_of Succeeded)) h
 stands_sub l m s d Withdrawn e h = s (decided d (control_of Withdrawn)) h
 stands_sub l m s d (Failed by) e h = s (decided d (control_of (Failed by))) h

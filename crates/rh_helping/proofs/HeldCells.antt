@@ -15,7 +15,7 @@ use Rattle.rh_helping.specs.Next.{Work as work}
 use Rattle.rh_helping.specs.Goal.{KnowsGoal, KnowsTask, OwesNothing, OwesOne, StandsAt, owed_of}
 use Rattle.rh_helping.specs.Held.{IsHeld, KnowsOld, held_by, held_in}
 use Rattle.rh_helping.specs.Looking.{IsLooking}
-use Rattle.rh_helping.specs.Work.{IsPlaced, IsSwapped, OwesAs, Stands}
+use Rattle.rh_helping.specs.Work.{IsMarkPlaced, IsSwapped, OwesAs, Stands}
 
 none_held : (v : View) → OwesNothing v → IsHeld v None
 none_held v owes = (owes.settled, owes.paid)
@@ -44,7 +44,7 @@ task_held v t Succeeded is h owes = released_held v (ref_of t.desc) t.entry t.si
 task_held v t Withdrawn is h owes = released_held v (ref_of t.desc) t.entry t.size t.owed h.size owes.settled owes.owes
 task_held v t (Failed by) is h owes = released_held v (ref_of t.desc) t.entry t.size t.owed h.size owes.settled owes.owes
 
-placed_held : (v : View) (p : Placed) → IsPlaced v p → IsHeld v (Some (owed_of p.goal))
+placed_held : (v : View) (p : Placed) → IsMarkPlaced v p → IsHeld v (Some (owed_of p.goal))
 placed_held v p h =
     let own : ref_of p.mark ≡ own_ref v p.mark.number = (λ i. record { worker = h.own i; number = p.mark.number }) in (
       goal_old v p.goal h.goal,

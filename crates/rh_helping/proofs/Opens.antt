@@ -14,14 +14,14 @@ use Rattle.rh_descriptor.specs.declared.shape.Part.TheVariants as part
 use Rattle.rh_descriptor.specs.declared.steps.StepKind.{StepKind}
 use Rattle.rh_descriptor.specs.Parts.{cell_count, entry_row}
 use Rattle.rh_descriptor.specs.View.{OwnDesc, View, Written}
-use Rattle.rh_descriptor.specs.Steps.{Allowed, AreEntries, CanOpen, HasRow, IsStep, Step, entries_at, entries_of, entry_of, next_entries, noted, open_noted, own_desc, row_word}
+use Rattle.rh_descriptor.specs.Steps.{Allowed, AreEntries, CanOpenNext, HasRow, IsStep, Step, entries_at, entries_of, entry_of, next_entries, noted, open_noted, own_desc, row_word}
 use Rattle.rh_rule.proofs.OpensKept.{entries_current, entries_length, entries_notes, fits_cells}
 use Rattle.rh_steps.specs.Relies.{Knows, Went}
 use Rattle.rh_helping.specs.declared.opening.Opening.{Opening}
 use Rattle.rh_helping.specs.declared.opening.Opening.TheVariants as opening
 use Rattle.rh_helping.specs.Goal.{IsAllNoted, KnowsOwn, OwesNothing}
 use Rattle.rh_helping.specs.Made.{HasStepped, kind_of}
-use Rattle.rh_helping.specs.Opening.{HasCell, HasNew, HasOld, HasWritten, IsOpening, MayOpen, OpensOn, after_opening, kind_of_opening, next_desc, opened_after, opening_step}
+use Rattle.rh_helping.specs.Opening.{HasCell, HasNew, HasOld, HasWritten, IsOpening, MayOpen, OpensOn, after_opening, kind_of_opening, next_own, opened_after, opening_step}
 use Rattle.rh_helping.proofs.Growing.{noted_sub, owns_sub}
 use Rattle.rh_helping.proofs.Knowing.{allowed}
 use Rattle.rh_helping.proofs.OwnRows.{entry_is}
@@ -159,7 +159,7 @@ module _ (s : Side) (d : Ref) (p : Entries) where
 -- ---- the Open
 
 module _ (z : Shape) (v : View) (es : List Entry) (may : MayOpen z v es) (written : HasWritten v es (length es)) where
-  can_open : CanOpen z v (length es)
+  can_open : CanOpenNext z v (length es)
   can_open = record {
     row = written.row;
     length_is = written.size;
@@ -188,10 +188,10 @@ module _ (z : Shape) (v : View) (es : List Entry) (may : MayOpen z v es) (writte
         news = λ e l. entries_new side (own_desc v) entries (length es) e (omega (arith, size));
       }
 
-  is_next : record { number = v.next_number; entries = next_entries v (length es) } ≡ next_desc v es
+  is_next : record { number = v.next_number; entries = next_entries v (length es) } ≡ next_own v es
   is_next = ap (λ (l : List Entry). record { number = v.next_number; entries = l }) (says v es written)
 
-  knows : KnowsOwn after (Some (next_desc v es))
+  knows : KnowsOwn after (Some (next_own v es))
   knows = subst (λ (o : OwnDesc). KnowsOwn after (Some o)) is_next record {
     owns = record {
       current = entries_current side (own_desc v) entries (length es);
@@ -208,7 +208,7 @@ module _ (z : Shape) (v : View) (es : List Entry) (may : MayOpen z v es) (writte
       let same = entries_same side (own_desc v) entries (length es) in
       record { settled = same.unsettled ∙ may.owes.settled; paid = same.debts ∙ may.owes.paid; unreleased = same.released }
 
-  open_leaves : Leaves (next_desc v es ∷ v.opened) v.side.reads v after
+  open_leaves : Leaves (next_own v es ∷ v.opened) v.side.reads v after
   open_leaves =
       let same = entries_same side (own_desc v) entries (length es) in
       record {

@@ -12,7 +12,7 @@ use Rattle.rh_descriptor.specs.Words.{ref_of}
 use Rattle.rh_helping.specs.Next.{Goal}
 use Rattle.rh_helping.specs.declared.goal.Owed.{Owed}
 use Rattle.rh_helping.specs.declared.goal.Task.{Task}
-use Rattle.rh_helping.specs.Goal.{IsStale, HasReleased, IsAllNoted, IsForeign, IsNewest, KnowsOwn, OwesNothing, OwesOne, Releases, ReleasesOther, ReleasesOwn, StandsAt, debt_of, open_number, owed_of}
+use Rattle.rh_helping.specs.Goal.{IsStale, HasReleased, IsAllNoted, IsForeign, IsNewestOwn, KnowsOwn, OwesNothing, OwesOne, Releases, ReleasesOther, ReleasesOwn, StandsAt, debt_of, open_number, owed_of}
 use Rattle.rh_helping.specs.Settling.{Grows}
 use Rattle.rh_helping.specs.Work.{IsAt, IsGivenUp, IsOver, OwesAs}
 use Rattle.rh_helping.proofs.Growing.{known_sub, nothing_grows, stands_known}
@@ -140,7 +140,7 @@ module _ (v next : View) (g : Grows v next) (t : Task) (h : IsAt v t) (foreign :
   left_at = left_by t.owed refl
 
 -- all is noted of the own open descriptor
-newest_noted : (v : View) (d : OwnDesc) (opened : List OwnDesc) → IsNewest opened d → ((o : OwnDesc) → In o opened → IsAllNoted v o) → IsAllNoted v d
+newest_noted : (v : View) (d : OwnDesc) (opened : List OwnDesc) → IsNewestOwn opened d → ((o : OwnDesc) → In o opened → IsAllNoted v o) → IsAllNoted v d
 newest_noted v d [] is noted = absurd is
 newest_noted v d (o ∷ os) is noted = subst (IsAllNoted v) is (noted o (inl refl))
 

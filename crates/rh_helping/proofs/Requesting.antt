@@ -7,7 +7,7 @@ use Rattle.rh_descriptor.specs.Steps.{Allowed, Step}
 use Rattle.rh_steps.specs.Relies.{Knows, Went}
 use Rattle.rh_helping.specs.Requested.{requested, asked_of_mark}
 use Rattle.rh_helping.specs.Goal.{KnowsOwn, piece_of}
-use Rattle.rh_helping.specs.Made.{HasMade, kind_of}
+use Rattle.rh_helping.specs.Made.{HasMadeStep, kind_of}
 use Rattle.rh_helping.specs.Next.{Settles, Work}
 use Rattle.rh_helping.specs.Next.{Settles as settles}
 use Rattle.rh_helping.specs.Next.{Work as work}
@@ -102,7 +102,7 @@ of_work v (work.GiveBack o) = (refl, tt)
 -- ---- so the step that it asks for and makes is one of its work
 
 pub asked_made : {T : Type 0} {shows : Shape → T → View → Type 0} {makes : Shape → Step → T → View → ℕ → T → View → Type 0} (z : Shape) (s asks : Step) (k : StepKind) (t : T) (v : View) (word : ℕ) (then later : T) (next : View)
-    → IsOf s k → asks ≡ s → later ≡ then → Allowed z v asks → Went shows makes z asks t v word then next → HasMade shows makes z k t v later next
+    → IsOf s k → asks ≡ s → later ≡ then → Allowed z v asks → Went shows makes z asks t v word then next → HasMadeStep shows makes z k t v later next
 asked_made {T} {shows} {makes} z s asks k t v word then later next of is same may went =
     let o : IsOf asks k = subst (λ (a : Step). IsOf a k) (sym is) of in
-    subst (λ (q : StepKind). HasMade shows makes z q t v later next) o.0 (made_then z asks t v word then later next same o.1 may went)
+    subst (λ (q : StepKind). HasMadeStep shows makes z q t v later next) o.0 (made_then z asks t v word then later next same o.1 may went)

@@ -4,7 +4,7 @@ use Rattle.rh_world.specs.World.{Cell, Control, In, Ref, is_ref}
 use Rattle.rh_world.specs.World.Cell.{desc, mark, plain}
 use Rattle.rh_world.specs.World.Control.{failed, succeeded, undecided, unused, withdrawn}
 use Rattle.rh_world.specs.Facts.{Fact}
-use Rattle.rh_world.specs.Facts.Fact.{decided, desc_is, failed_at, found, held, known, may_demote, may_promote, met, mismatch, new_is, old_is, over, stale, size_is, target_is, which_is}
+use Rattle.rh_world.specs.Facts.Fact.{decided, desc_is, failed_at, found, installed, known, may_demote, may_promote, met, mismatch, new_is, old_is, over, stale, size_is, target_is, which_is}
 use Rattle.rh_world.specs.Sides.{Side, note_side}
 use Rattle.rh_world.specs.Moves.{control_noted, mark_noted, note_all, place_noted, placed_noted, settle_noted}
 use Rattle.rh_world.proofs.Tests.{by_cond}
@@ -49,8 +49,8 @@ pub more_place : (s : Side) (x d : Ref) (e c old : ℕ) (n : Cell) → More s (p
 more_place s x d e c old (plain u) = by_cond (λ (t : Side). More s t) (eqb u old) (placed_noted s x d e c) (note_side s (mismatch d e 0))
     (λ h. record { current = refl; released = refl; reads = refl; claims = refl; facts = λ m i. inr (inr (inr i)) }) (λ h. more_note s (mismatch d e 0))
 more_place s x d e c old (mark y) = more_note s (found y c)
-more_place s x d e c old (desc f) = by_cond (λ (t : Side). More s t) (is_ref f d) (note_side s (held d e)) (note_side s (met f))
-    (λ h. more_note s (held d e)) (λ h. more_note s (met f))
+more_place s x d e c old (desc f) = by_cond (λ (t : Side). More s t) (is_ref f d) (note_side s (installed d e)) (note_side s (met f))
+    (λ h. more_note s (installed d e)) (λ h. more_note s (met f))
 
 pub more_settle : (s : Side) (d : Ref) (e c : ℕ) (b : Bool) → More s (settle_noted s d e c b)
 more_settle s d e c true = record { current = refl; released = refl; reads = refl; claims = refl; facts = λ n i. inr i }
@@ -77,7 +77,7 @@ tells_decided (which_is x e) = false
 tells_decided (found x c) = false
 tells_decided (may_promote x c) = false
 tells_decided (may_demote x) = false
-tells_decided (held d e) = false
+tells_decided (installed d e) = false
 tells_decided (mismatch d e n) = false
 
 -- each descriptor that is noted as decided so in the second list is noted so in the first
@@ -142,7 +142,7 @@ decided_desc d (which_is x e) = d
 decided_desc d (found x c) = d
 decided_desc d (may_promote x c) = d
 decided_desc d (may_demote x) = d
-decided_desc d (held f e) = d
+decided_desc d (installed f e) = d
 decided_desc d (mismatch f e n) = d
 
 abbrev decided_control : (other : Control) → Fact → Control
@@ -161,7 +161,7 @@ decided_control k (which_is x e) = k
 decided_control k (found x c) = k
 decided_control k (may_promote x c) = k
 decided_control k (may_demote x) = k
-decided_control k (held f e) = k
+decided_control k (installed f e) = k
 decided_control k (mismatch f e n) = k
 
 none_decided : (k : Control) (s : Side) (d : Ref) (said : Control) → (said ≡ k → In (decided d k) s.facts) → DecidesNone k s.facts (decided d said ∷ s.facts)

@@ -13,7 +13,7 @@ use Rattle.rh_descriptor.specs.Words.{ref_of}
 use Rattle.rh_helping.specs.declared.goal.Task.{Task}
 use Rattle.rh_helping.specs.Goal.{HasReason, IsMet, IsOther, KnowsOwn, OwesNothing}
 use Rattle.rh_steps.specs.Relies.{Knows}
-use Rattle.rh_helping.specs.Work.{Begins, IsNext, failed_by}
+use Rattle.rh_helping.specs.Work.{Begins, IsNextTask, failed_by}
 use Rattle.rh_helping.proofs.Controls.{Saw}
 use Rattle.rh_helping.proofs.Growing.{own_sub, stands_known}
 use Rattle.rh_helping.proofs.Knowing.{allowed}
@@ -37,7 +37,7 @@ reason_none v t none own now by is = absurd (some_not_none by (sym (ap failed_by
 pub reason_other : (v : View) (t : Task) → IsOther v (ref_of t.desc) → HasReason v t
 reason_other v t other own now by is = absurd (other own now)
 
-pub begins_next : (z : Shape) (v : View) → Knows z v → (t : Task) → Begins v t → HasReason v t → IsNext v t
+pub begins_next : (z : Shape) (v : View) → Knows z v → (t : Task) → Begins v t → HasReason v t → IsNextTask v t
 begins_next z v trusts t h reason = record {
   task = h.task;
   left = inl (let some = (trusts.sound.sizes (ref_of t.desc) t.size h.task.size).0 in let first = h.first in omega (arith, some, first));
@@ -46,7 +46,7 @@ begins_next z v trusts t h reason = record {
 }
 
 -- where an entry is left it has a number below the size
-pub left_below : (v : View) (t : Task) → IsNext v t → t.entry ≢ t.size → t.entry < t.size
+pub left_below : (v : View) (t : Task) → IsNextTask v t → t.entry ≢ t.size → t.entry < t.size
 left_below v t h ne = ⊎_elim (λ lt. lt) (λ u. below t.entry t.size h.task.within ne) h.left
   where
     below : (e n : ℕ) → e ≤ n → e ≢ n → e < n

@@ -5,7 +5,7 @@ use Rattle.rh_tagword.specs.declared.control.State.TheVariants.{Unused, Undecide
 use Rattle.rh_world.specs.World.{Ref, In}
 use Rattle.rh_world.specs.World.Control.{failed}
 use Rattle.rh_world.specs.Facts.{Fact}
-use Rattle.rh_world.specs.Facts.Fact.{known, size_is, target_is, old_is, new_is, held, decided, failed_at}
+use Rattle.rh_world.specs.Facts.Fact.{known, size_is, target_is, old_is, new_is, installed, decided, failed_at}
 use Rattle.rh_world.specs.Sides.{Debt}
 use Rattle.rh_world.specs.Moves.{MayWork}
 use Rattle.rh_descriptor.specs.declared.reference.Piece.{Piece}
@@ -28,13 +28,13 @@ pub record IsAllNoted (v : View) (o : OwnDesc) : Type 0 where
   pub news : (e : ℕ) → e < length o.entries → In (new_is (own_ref v o.number) e (entry_of o.entries e).new) v.side.facts
 
 -- this own descriptor is the newest
-abbrev pub IsNewest : List OwnDesc → OwnDesc → Type 0
-IsNewest [] d = ⊥
-IsNewest (o ∷ os) d = o ≡ d
+abbrev pub IsNewestOwn : List OwnDesc → OwnDesc → Type 0
+IsNewestOwn [] d = ⊥
+IsNewestOwn (o ∷ os) d = o ≡ d
 
 abbrev pub IsOpenOf : List OwnDesc → Option OwnDesc → Type 0
 IsOpenOf opened None = Unit {0}
-IsOpenOf opened (Some d) = IsNewest opened d
+IsOpenOf opened (Some d) = IsNewestOwn opened d
 
 abbrev pub open_number : Option OwnDesc → Option ℕ
 open_number None = None
@@ -71,13 +71,13 @@ abbrev pub IsOther : View → Ref → Type 0
 IsOther v d = d.worker ≡ v.worker → v.side.current ≡ Some d.number → ⊥
 
 -- each descriptor of its owner that this worker is noted to have decided as failed is older
-abbrev pub IsFresh : View → Ref → Type 0
-IsFresh v d = (f : Ref) → f.worker ≡ d.worker → In (decided f (failed 0 v.worker)) v.side.facts → f.number < d.number
+abbrev pub IsAfterFailures : View → Ref → Type 0
+IsAfterFailures v d = (f : Ref) → f.worker ≡ d.worker → In (decided f (failed 0 v.worker)) v.side.facts → f.number < d.number
 
--- undecided, each entry before this one is held; or it is decided so
+-- undecided, each entry before this one is installed; or it is decided so
 abbrev pub StandsAt : List Fact → Ref → State → (entry : ℕ) → Type 0
 StandsAt facts d Unused e = ⊥
-StandsAt facts d Undecided e = In (known d) facts × ((f : ℕ) → f < e → In (held d f) facts)
+StandsAt facts d Undecided e = In (known d) facts × ((f : ℕ) → f < e → In (installed d f) facts)
 StandsAt facts d Succeeded e = In (decided d (control_of Succeeded)) facts
 StandsAt facts d Withdrawn e = In (decided d (control_of Withdrawn)) facts
 StandsAt facts d (Failed by) e = In (decided d (control_of (Failed by))) facts
@@ -85,7 +85,7 @@ StandsAt facts d (Failed by) e = In (decided d (control_of (Failed by))) facts
 -- it stands so, as far as its entry e; an undecided one may still be failed by this worker, and an own one is the newest
 pub record IsMet (v : View) (d : Ref) (k : State) (e : ℕ) : Type 0 where
   pub stands : StandsAt v.side.facts d k e
-  pub fresh : k ≡ Undecided → IsFresh v d
+  pub fresh : k ≡ Undecided → IsAfterFailures v d
   pub last : d.worker ≡ v.worker → suc d.number ≡ v.next_number
 
 pub record KnowsTask (v : View) (t : Task) : Type 0 where

@@ -36,5 +36,5 @@ pub record HasStepped {T : Type 0} (shows : Shape → T → View → Type 0) (ma
   pub claims : next.side.claims ≡ v.side.claims
 
 -- The step opened no descriptor, and no cell was kept as read.
-abbrev pub HasMade : {T : Type 0} → (shows : Shape → T → View → Type 0) → (made : Shape → Step → T → View → ℕ → T → View → Type 0) → Shape → StepKind → T → View → T → View → Type 0
-HasMade shows made z k t v then next = HasStepped shows made z k v.opened v.side.reads t v then next
+abbrev pub HasMadeStep : {T : Type 0} → (shows : Shape → T → View → Type 0) → (made : Shape → Step → T → View → ℕ → T → View → Type 0) → Shape → StepKind → T → View → T → View → Type 0
+HasMadeStep shows made z k t v then next = HasStepped shows made z k v.opened v.side.reads t v then next

@@ -74,14 +74,14 @@ after_opening n (opening.New e) = cond (nat_lt (suc e) n) (Some (opening.Cell (s
 after_opening n opening.Open = None
 
 -- the descriptor that is opened next
-abbrev pub next_desc : View → List Entry → OwnDesc
-next_desc v es = record { number = v.next_number; entries = es }
+abbrev pub next_own : View → List Entry → OwnDesc
+next_own v es = record { number = v.next_number; entries = es }
 
 -- what is opened after the step
 abbrev pub opened_after : View → List Entry → Option Opening → List OwnDesc
-opened_after v es None = next_desc v es ∷ v.opened
+opened_after v es None = next_own v es ∷ v.opened
 opened_after v es (Some o) = v.opened
 
 abbrev pub OpensOn : Shape → List Entry → (v next : View) → Option Opening → Type 0
-OpensOn z es v next None = KnowsOwn next (Some (next_desc v es)) × OwesNothing next
+OpensOn z es v next None = KnowsOwn next (Some (next_own v es)) × OwesNothing next
 OpensOn z es v next (Some o) = MayOpen z next es × IsOpening next es o × (next.next_number ≡ v.next_number)

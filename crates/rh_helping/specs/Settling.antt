@@ -56,13 +56,13 @@ pub record IsFound (v : View) (x : Reference) (p : Piece) : Type 0 where
   pub of_entry : In (which_is (ref_of x) p.entry) v.side.facts
 
 -- this word was read in the row of the mark
-abbrev pub HasRead : View → Reference → MarkWord → Type 0
-HasRead v x u = In (record { mark = ref_of x; word = u }) v.raw
+abbrev pub HasReadMark : View → Reference → MarkWord → Type 0
+HasReadMark v x u = In (record { mark = ref_of x; word = u }) v.raw
 
 abbrev pub IsSettling : View → Settles → Type 0
 IsSettling v (settling.Desc x c) = In (found (ref_of x) c) v.side.facts
-IsSettling v (settling.Entry x c u) = In (found (ref_of x) c) v.side.facts × HasRead v x (desc_word u)
-IsSettling v (settling.Serial x c u e) = In (found (ref_of x) c) v.side.facts × HasRead v x (desc_word u) × HasRead v x (entry_word e)
+IsSettling v (settling.Entry x c u) = In (found (ref_of x) c) v.side.facts × HasReadMark v x (desc_word u)
+IsSettling v (settling.Serial x c u e) = In (found (ref_of x) c) v.side.facts × HasReadMark v x (desc_word u) × HasReadMark v x (entry_word e)
 IsSettling v (settling.Control x p) = IsFound v x p
 IsSettling v (settling.Old x p) = IsFound v x p × In (may_demote (ref_of x)) v.side.facts
 IsSettling v (settling.OldSerial x p old) = IsFound v x p × In (may_demote (ref_of x)) v.side.facts × HasReadRow v (ref_of p.desc) (old_word p.entry old)

@@ -4,7 +4,7 @@ use Rattle.rh_tagword.specs.declared.control.State.{State}
 use Rattle.rh_tagword.specs.declared.control.State.TheVariants.{Unused, Undecided, Succeeded, Withdrawn, Failed}
 use Rattle.rh_world.specs.World.{Ref, In}
 use Rattle.rh_world.specs.World.Control.{failed, succeeded, withdrawn}
-use Rattle.rh_world.specs.Facts.Fact.{held, mismatch, decided, failed_at, found, desc_is, which_is, may_promote, may_demote, stale}
+use Rattle.rh_world.specs.Facts.Fact.{installed, mismatch, decided, failed_at, found, desc_is, which_is, may_promote, may_demote, stale}
 use Rattle.rh_descriptor.specs.declared.reference.Ref.{Ref as Reference}
 use Rattle.rh_descriptor.specs.declared.shape.Shape.{Shape}
 use Rattle.rh_descriptor.specs.declared.steps.StepKind.{StepKind}
@@ -21,7 +21,7 @@ use Rattle.rh_helping.specs.Next.{Work as work}
 use Rattle.rh_helping.specs.Next.Outcome.{On, Over, Closed, Spent}
 use Rattle.rh_helping.specs.declared.machine.Ended.{Ended}
 use Rattle.rh_helping.specs.declared.machine.Ended.TheVariants as ended
-use Rattle.rh_helping.specs.Goal.{GivesBack, IsStale, HasReadRow, HasReason, IsForeign, IsMet, IsNewest, KnowsGoal, KnowsOwn, KnowsTask, OwesNothing, Releases, debt_of, owed_of}
+use Rattle.rh_helping.specs.Goal.{GivesBack, IsStale, HasReadRow, HasReason, IsForeign, IsMet, IsNewestOwn, KnowsGoal, KnowsOwn, KnowsTask, OwesNothing, Releases, debt_of, owed_of}
 use Rattle.rh_helping.specs.Settling.{IsSettling, kind_of_settling}
 
 abbrev pub kind_of_work : Work → StepKind
@@ -76,14 +76,14 @@ pub record IsAt (v : View) (t : Task) : Type 0 where
   pub owes : Owes v t
   pub reason : HasReason v t
 
--- the same, or all entries of an undecided one are held
-pub record IsNext (v : View) (t : Task) : Type 0 where
+-- the same, or all entries of an undecided one are installed
+pub record IsNextTask (v : View) (t : Task) : Type 0 where
   pub task : KnowsTask v t
   pub left : (t.entry < t.size) ⊎ (t.state ≡ Undecided)
   pub owes : Owes v t
   pub reason : HasReason v t
 
--- a task that is begun: none of its entries is held or released yet
+-- a task that is begun: none of its entries is installed or released yet
 pub record Begins (v : View) (t : Task) : Type 0 where
   pub task : KnowsTask v t
   pub first : t.entry ≡ 0
@@ -121,7 +121,7 @@ pub record NamesEntry (z : Shape) (v : View) (g : Goal) : Type 0 where
   pub entry : row_word v.written (mark_row z 2) ≡ g.task.entry
 
 -- the own mark is placed for the goal, whose descriptor was undecided then, and not settled yet
-pub record IsPlaced (v : View) (p : Placed) : Type 0 where
+pub record IsMarkPlaced (v : View) (p : Placed) : Type 0 where
   pub goal : KnowsGoal v p.goal
   pub undecided : p.goal.task.state ≡ Undecided
   pub own : p.mark.worker ≡ v.worker
@@ -139,7 +139,7 @@ pub record IsSwapped (v : View) (g : Goal) (promoted : Bool) : Type 0 where
   pub settled : v.side.unsettled ≡ None
   pub owes : v.side.debts ≡ debt_of (owed_of g) ∷ []
   pub unreleased : v.side.released ≡ []
-  pub holds : promoted ≡ true → In (held (ref_of g.task.desc) g.task.entry) v.side.facts
+  pub holds : promoted ≡ true → In (installed (ref_of g.task.desc) g.task.entry) v.side.facts
 
 -- the descriptor is decided so, or it is stale
 abbrev pub IsDecidedOrStale : View → Ref → Option State → Type 0
@@ -171,9 +171,9 @@ Stands z v (work.MarkDesc g) = CanTry z v g × HasSerial z v
 Stands z v (work.MarkEntry g) = CanTry z v g × NamesDesc z v g
 Stands z v (work.Place g) = CanTry z v g × NamesEntry z v g
 Stands z v (work.Settle s g) = CanTry z v g × NamesEntry z v g × IsSettling v s
-Stands z v (work.MarkControl p) = IsPlaced v p
-Stands z v (work.Promote p) = IsPlaced v p × In (may_promote (ref_of p.mark) p.goal.cell) v.side.facts
-Stands z v (work.Demote p k) = IsPlaced v p × IsDecidedOrStale v (ref_of p.goal.task.desc) k × In (may_demote (ref_of p.mark)) v.side.facts
+Stands z v (work.MarkControl p) = IsMarkPlaced v p
+Stands z v (work.Promote p) = IsMarkPlaced v p × In (may_promote (ref_of p.mark) p.goal.cell) v.side.facts
+Stands z v (work.Demote p k) = IsMarkPlaced v p × IsDecidedOrStale v (ref_of p.goal.task.desc) k × In (may_demote (ref_of p.mark)) v.side.facts
 Stands z v (work.Recheck g promoted) = IsSwapped v g promoted
 Stands z v (work.WriteReason t) = Mismatches v t
 Stands z v (work.Fail t) = Mismatches v t × (row_word v.written (reason_row z t.desc.worker) ≡ t.entry)
@@ -192,10 +192,10 @@ HasEnded v d ended.Withdrawn = In (decided d withdrawn) v.side.facts
 HasEnded v d (ended.Failed e) = ((by : ℕ) × In (decided d (failed 0 by)) v.side.facts) × In (failed_at d e) v.side.facts
 
 -- where it failed, it was at one of its entries, of which there are so many
-abbrev pub IsWithin : (size : ℕ) → Ended → Type 0
-IsWithin size ended.Succeeded = Unit {0}
-IsWithin size ended.Withdrawn = Unit {0}
-IsWithin size (ended.Failed e) = e < size
+abbrev pub FailsWithin : (size : ℕ) → Ended → Type 0
+FailsWithin size ended.Succeeded = Unit {0}
+FailsWithin size ended.Withdrawn = Unit {0}
+FailsWithin size (ended.Failed e) = e < size
 
 -- by its state, and by what its decider's reason says
 abbrev pub ended_as : State → Option ℕ → Ended
@@ -210,9 +210,9 @@ ended_as (Failed by) (Some e) = ended.Failed e
 pub record IsClosed (v : View) (desc : OwnDesc) (k : Ended) : Type 0 where
   pub own : KnowsOwn v None
   pub owes : OwesNothing v
-  pub newest : IsNewest v.opened desc
+  pub newest : IsNewestOwn v.opened desc
   pub result : HasEnded v (own_ref v desc.number) k
-  pub entry : IsWithin (length desc.entries) k
+  pub entry : FailsWithin (length desc.entries) k
 
 abbrev pub Leads : Shape → View → (opens : Option OwnDesc) → Outcome → Type 0
 Leads z v opens (On w) = KnowsOwn v opens × Stands z v w

@@ -28,10 +28,10 @@ pub struct Task {
     pub desc: Ref,
     /// The number of its entries.
     pub size: usize,
-    /// Undecided while its entries are to be held, else how it was decided, and then its entries are
+    /// Undecided while its entries are to be installed, else how it was decided, and then its entries are
     /// to be released.
     pub state: State,
-    /// The entries before this one are held, or released.
+    /// The entries before this one are installed, or released.
     pub entry: usize,
     /// The cell of one of its entries that the worker still owes. It is paid by the Release there.
     pub owed: Option<Owed>,

@@ -6,7 +6,7 @@ ghost use Rattle.rh_descriptor.specs.declared.shape.Shape.{Shape};
 ghost use Rattle.rh_helping.specs.Goal.{HasReason, IsMet, KnowsGoal, KnowsOwn, OwesNothing, open_number, opened_by};
 ghost use Rattle.rh_helping.specs.Machine.{goal_of, led};
 ghost use Rattle.rh_helping.specs.Next.{Work};
-ghost use Rattle.rh_helping.specs.Work.{Begins, HasFailedOwn, IsNext, Leads, MayEnd, Owes, ReleasesLast, desc_of, failed_by};
+ghost use Rattle.rh_helping.specs.Work.{Begins, HasFailedOwn, IsNextTask, Leads, MayEnd, Owes, ReleasesLast, desc_of, failed_by};
 ghost use Rattle.rh_steps.specs.Relies.{Trusts};
 ghost use Rattle.rh_world.specs.World.{In};
 ghost use Rattle.rh_world.specs.Facts.Fact.{stale};
@@ -100,7 +100,7 @@ impl Machine {
         desc.worker == side.worker && opens.is_some_and(|open| open.number == desc.number)
     }
 
-    /// The next step on a task: on its next entry, or, where all are held, its decision.
+    /// The next step on a task: on its next entry, or, where all are installed, its decision.
     #[inline(always)]
     pub(crate) fn at_entry<T: Steps>(
         &mut self,
@@ -111,7 +111,7 @@ impl Machine {
     ) -> Progress
         requires trusts { Trusts T.shows shape.now table.old side.now.known.view }
         requires own { KnowsOwn side.now.known.view (opened_by opens) }
-        requires next { IsNext side.now.known.view self.old.task }
+        requires next { IsNextTask side.now.known.view self.old.task }
         ensures same { table.new ≡ table.old }
         ensures leads { Leads shape.now side.now.known.view (opened_by opens.entry) (led result self.new) }
         ensures ends { (w : Work) → MayEnd side.now.known.view w (led result self.new) }

@@ -8,7 +8,7 @@ ghost use Rattle.rh_helping.specs.Held.{held_in};
 ghost use Rattle.rh_helping.specs.Looking.{IsLooking, LooksOn, MayLookOn, kind_of_looking, reads_after};
 ghost use Rattle.rh_helping.specs.Machine.{led, looked, looking_of, work_of};
 ghost use Rattle.rh_helping.specs.Work.{Leads, MayEnd, Stands, kind_of_work};
-ghost use Rattle.rh_helping.specs.Made.{HasMade, HasStepped};
+ghost use Rattle.rh_helping.specs.Made.{HasMadeStep, HasStepped};
 ghost use Rattle.rh_helping.specs.Next.{Looking};
 ghost use Rattle.rh_steps.specs.Relies.{Relies};
 

@@ -2,7 +2,7 @@
 //! from that of the last descriptor.
 
 ghost use Rattle.std.specs.Prelude.{◌≡◌, ◌<◌, length};
-ghost use Rattle.rh_descriptor.specs.Requests.{step_of};
+ghost use Rattle.rh_descriptor.specs.Requests.{step_asked};
 ghost use Rattle.rh_descriptor.specs.Parts.{IsShape};
 ghost use Rattle.rh_helping.specs.Made.{HasStepped};
 ghost use Rattle.rh_helping.specs.Opening.{IsOpening, MayOpen, OpensOn, after_opening, kind_of_opening, opened_after, opening_step};
@@ -69,7 +69,7 @@ impl Opening {
         requires shape { IsShape shape.now }
         requires may { MayOpen shape.now side.now.known.view entries.now }
         requires opening { IsOpening side.now.known.view entries.now self }
-        ensures { step_of result ≡ opening_step side.now.known.view entries.now self }
+        ensures { step_asked result ≡ opening_step side.now.known.view entries.now self }
     {
         let worker = side.worker;
         match self {

@@ -1,13 +1,13 @@
 //! Settling a mark that was met in a cell, as RDCSS is helped (Harris, Fraser and Pratt 2002).
 
 ghost use Rattle.std.specs.Prelude.{◌≡◌};
-ghost use Rattle.rh_descriptor.specs.Requests.{step_of};
+ghost use Rattle.rh_descriptor.specs.Requests.{step_asked};
 ghost use Rattle.rh_descriptor.specs.View.{View};
 ghost use Rattle.rh_descriptor.specs.declared.shape.Shape.{Shape};
 ghost use Rattle.rh_helping.specs.Requested.{FollowsSettling, SettledFrom, asked_of_mark};
 ghost use Rattle.rh_helping.specs.Goal.{OwesNothing};
 ghost use Rattle.rh_helping.specs.Machine.{left_on, settling_of};
-ghost use Rattle.rh_helping.specs.Made.{HasMade};
+ghost use Rattle.rh_helping.specs.Made.{HasMadeStep};
 ghost use Rattle.rh_helping.specs.Next.{Settles};
 ghost use Rattle.rh_helping.specs.Settling.{Grows, IsSettling, LeadsOn, kind_of_settling};
 ghost use Rattle.rh_steps.specs.Relies.{Relies};
@@ -90,7 +90,7 @@ impl Settling {
         requires relies { Relies T.shows T.serves shape.now table.old side.old.known.view }
         requires owes { OwesNothing side.old.known.view }
         requires settling { IsSettling side.old.known.view (settling_of self.old) }
-        ensures made { HasMade T.shows T.made shape.now (kind_of_settling (settling_of self.old)) table.old side.old.known.view
+        ensures made { HasMadeStep T.shows T.made shape.now (kind_of_settling (settling_of self.old)) table.old side.old.known.view
             table.new side.new.known.view }
         ensures grows { Grows side.old.known.view side.new.known.view }
         ensures leads { LeadsOn side.old.known.view side.new.known.view (settling_of self.old) (left_on result self.new) }
@@ -103,7 +103,7 @@ impl Settling {
     /// The step that is asked for.
     #[inline(always)]
     pub(crate) fn request(&self) -> Request
-        ensures { step_of result ≡ asked_of_mark (settling_of self.now) }
+        ensures { step_asked result ≡ asked_of_mark (settling_of self.now) }
     {
         let Settling {
             at,

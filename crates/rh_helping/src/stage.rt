@@ -1,7 +1,7 @@
 //! The stages of a machine. Each is one step: which one, and what follows from the word that it found.
 
 ghost use Rattle.std.specs.Prelude.{◌≡◌};
-ghost use Rattle.rh_descriptor.specs.Requests.{step_of};
+ghost use Rattle.rh_descriptor.specs.Requests.{step_asked};
 ghost use Rattle.rh_descriptor.specs.Parts.{IsShape};
 ghost use Rattle.rh_helping.specs.Requested.{Follows, requested};
 ghost use Rattle.rh_helping.specs.Goal.{opened_by};
@@ -25,7 +25,7 @@ pub(crate) trait Stage<T: Steps> {
         requires shape { IsShape shape.now }
         requires knows { Knows shape.now side.now.known.view }
         requires stands { Stands shape.now side.now.known.view (work_at at machine.now) }
-        ensures { step_of result ≡ requested side.now.known.view (work_at at machine.now) };
+        ensures { step_asked result ≡ requested side.now.known.view (work_at at machine.now) };
 
     /// Goes on from the word that the step found. The table is there for own rows alone: no step is made.
     fn after(

@@ -2,7 +2,7 @@
 
 ghost use Rattle.std.specs.Prelude.{◌≡◌, IfSome, None, Some};
 ghost use Rattle.rh_steps.specs.Relies.{Relies};
-ghost use Rattle.rh_helping.specs.Made.{HasMade};
+ghost use Rattle.rh_helping.specs.Made.{HasMadeStep};
 ghost use Rattle.rh_helping.specs.Goal.{KnowsOwn, opened_by};
 ghost use Rattle.rh_helping.specs.Machine.{led, work_at, work_of};
 ghost use Rattle.rh_helping.specs.Work.{Stands, Leads, MayEnd, kind_of_work};
@@ -36,7 +36,7 @@ impl Machine {
         requires own { KnowsOwn side.old.known.view (opened_by (Some own)) }
         requires stands { Stands shape.now side.old.known.view (work_of self.old) }
         ensures same { result ≡ None → (self.new ≡ self.old) × (table.new ≡ table.old) × (side.new ≡ side.old) }
-        ensures made { IfSome result (λ _. HasMade T.shows T.made shape.now (kind_of_work (work_of self.old)) table.old
+        ensures made { IfSome result (λ _. HasMadeStep T.shows T.made shape.now (kind_of_work (work_of self.old)) table.old
             side.old.known.view table.new side.new.known.view) }
         ensures leads { IfSome result (λ on. Leads shape.now side.new.known.view (opened_by (Some own.entry)) (led on self.new)) }
         ensures ends { IfSome result (λ on. MayEnd side.new.known.view (work_of self.old) (led on self.new)) }
@@ -71,7 +71,7 @@ impl Machine {
         requires relies { Relies T.shows T.serves shape.now table.old side.old.known.view }
         requires own { KnowsOwn side.old.known.view (opened_by (Some own)) }
         requires stands { Stands shape.now side.old.known.view (work_of self.old) }
-        ensures made { HasMade T.shows T.made shape.now (kind_of_work (work_of self.old)) table.old
+        ensures made { HasMadeStep T.shows T.made shape.now (kind_of_work (work_of self.old)) table.old
             side.old.known.view table.new side.new.known.view }
         ensures leads { Leads shape.now side.new.known.view (opened_by (Some own.entry)) (led result self.new) }
         ensures ends { MayEnd side.new.known.view (work_of self.old) (led result self.new) }
@@ -95,7 +95,7 @@ impl Machine {
         requires relies { Relies T.shows T.serves shape.now table.old side.old.known.view }
         requires own { KnowsOwn side.old.known.view (opened_by opens) }
         requires stands { Stands shape.now side.old.known.view (work_of self.old) }
-        ensures made { HasMade T.shows T.made shape.now (kind_of_work (work_of self.old)) table.old
+        ensures made { HasMadeStep T.shows T.made shape.now (kind_of_work (work_of self.old)) table.old
             side.old.known.view table.new side.new.known.view }
         ensures leads { Leads shape.now side.new.known.view (opened_by opens.entry) (led result self.new) }
         ensures ends { MayEnd side.new.known.view (work_of self.old) (led result self.new) }
@@ -139,7 +139,7 @@ impl Machine {
         requires relies { Relies T.shows T.serves shape.now table.old side.old.known.view }
         requires own { KnowsOwn side.old.known.view (opened_by opens) }
         requires stands { Stands shape.now side.old.known.view (work_at S.at self.old) }
-        ensures made { HasMade T.shows T.made shape.now (kind_of_work (work_at S.at self.old)) table.old
+        ensures made { HasMadeStep T.shows T.made shape.now (kind_of_work (work_at S.at self.old)) table.old
             side.old.known.view table.new side.new.known.view }
         ensures leads { Leads shape.now side.new.known.view (opened_by opens.entry) (led result self.new) }
         ensures ends { MayEnd side.new.known.view (work_at S.at self.old) (led result self.new) }

@@ -8,7 +8,7 @@ use Rattle.rh_descriptor.specs.declared.known.Known.{Known}
 use Rattle.rh_descriptor.specs.declared.shape.Shape.{Shape}
 use Rattle.rh_descriptor.specs.Parts.{IsShape, cell_count}
 use Rattle.rh_descriptor.specs.View.{View, round_view}
-use Rattle.rh_rule.specs.Seats.{AreMade, Begun, Holds, InView, IsWiping, NoSlot, Spans, WipeSteps, all_views, known}
+use Rattle.rh_rule.specs.Seats.{AreMade, Begun, RuleHolds, InView, IsWiping, NoSlot, Spans, WipeSteps, all_views, known}
 use Rattle.rh_rule.specs.Wipes.{row_total, wiping_view}
 use Rattle.rh_rule.proofs.SeatsKept.{all_may_wipe, of_map}
 use Rattle.rh_kcas.specs.Crews.{IsFresh, IsQuiet}
@@ -43,7 +43,7 @@ spans_views f same vs first count s = record {
 -- ---- the steps
 
 weaker : (z : Shape) (slots id i : ℕ) (me : Me NoSlot (List Known)) (f : ℕ → ℕ) (then more : Me NoSlot (List Known) → Type 0) → ((m : Me NoSlot (List Known)) → then m → more m)
-    → Allows {S = NoSlot} (Holds z) slots id me i f (λ word. then) → Allows {S = NoSlot} (Holds z) slots id me i f (λ word. more)
+    → Allows {S = NoSlot} (RuleHolds z) slots id me i f (λ word. then) → Allows {S = NoSlot} (RuleHolds z) slots id me i f (λ word. more)
 weaker z slots id i me f then more to a st h long is less = let r = a st h long is less in (r.0, r.1, r.2, r.3, to _ r.4)
 
 module _ (z : Shape) (slots id : ℕ) (me : Me NoSlot (List Known)) (shape : IsShape z) (empty : me.1 ≡ []) (some_one : 0 < z.workers) (all : Spans me.0 0 z.workers) where
@@ -53,16 +53,16 @@ module _ (z : Shape) (slots id : ℕ) (me : Me NoSlot (List Known)) (shape : IsS
   may : WipeSteps z slots id vs
   may = all_may_wipe z slots id vs shape some_one all
 
-  of_me : (i : ℕ) (f : ℕ → ℕ) (then : Me NoSlot (List Known) → Type 0) → Allows {S = NoSlot} (Holds z) slots id (vs, []) i f (λ word. then) → Allows {S = NoSlot} (Holds z) slots id me i f (λ word. then)
-  of_me i f then a = subst (λ l. Allows {S = NoSlot} (Holds z) slots id (vs, l) i f (λ word. then)) (sym empty) a
+  of_me : (i : ℕ) (f : ℕ → ℕ) (then : Me NoSlot (List Known) → Type 0) → Allows {S = NoSlot} (RuleHolds z) slots id (vs, []) i f (λ word. then) → Allows {S = NoSlot} (RuleHolds z) slots id me i f (λ word. then)
+  of_me i f then a = subst (λ l. Allows {S = NoSlot} (RuleHolds z) slots id (vs, l) i f (λ word. then)) (sym empty) a
 
-  pub may_begin : InView IsQuiet vs → Allows {S = NoSlot} (Holds z) slots id me 0 (λ n. n) (λ word. Begun z vs)
+  pub may_begin : InView IsQuiet vs → Allows {S = NoSlot} (RuleHolds z) slots id me 0 (λ n. n) (λ word. Begun z vs)
   may_begin quiet = of_me 0 (λ n. n) (Begun z vs) (may.begins 0 (λ r s e. (quiet r s e).still) (λ r s e. (quiet r s e).rest))
 
   pub may_clear : (cells : List ℕ) (n i : ℕ) → n < row_total z → i ≡ cell_count z + n → InView (IsWiping cells n) vs
-      → Allows {S = NoSlot} (Holds z) slots id me i (λ word. 0) (λ word m. m ≡ (all_views (with_cleared (n + 1)) vs, []))
+      → Allows {S = NoSlot} (RuleHolds z) slots id me i (λ word. 0) (λ word m. m ≡ (all_views (with_cleared (n + 1)) vs, []))
   may_clear cells n i inside index wiping =
-      subst (λ (j : ℕ). Allows {S = NoSlot} (Holds z) slots id me j (λ word. 0) (λ word m. m ≡ (all_views (with_cleared (n + 1)) vs, []))) (sym index)
+      subst (λ (j : ℕ). Allows {S = NoSlot} (RuleHolds z) slots id me j (λ word. 0) (λ word m. m ≡ (all_views (with_cleared (n + 1)) vs, []))) (sym index)
       (of_me (cell_count z + n) (λ word. 0) (λ m. m ≡ (all_views (with_cleared (n + 1)) vs, []))
       (weaker z slots id (cell_count z + n) (vs, []) (λ word. 0) (λ m. m ≡ (all_views (wiping_view cells (n + 1)) vs, [])) (λ m. m ≡ (all_views (with_cleared (n + 1)) vs, []))
       (λ m is. is ∙ (λ j. (all_same (wiping_view cells (n + 1)) (with_cleared (n + 1)) vs (λ r s e. clears cells s.view (wiping r s e)) j, [])))
@@ -71,7 +71,7 @@ module _ (z : Shape) (slots id : ℕ) (me : Me NoSlot (List Known)) (shape : IsS
       clears : (cells : List ℕ) (v : View) → IsWiping cells n v → wiping_view cells (n + 1) v ≡ with_cleared (n + 1) v
       clears cells v is = λ i. record v { wiping = cleared_to (n + 1) (sym is i) }
 
-  pub may_finish : (cells : List ℕ) → InView (IsWiping cells (row_total z)) vs → Allows {S = NoSlot} (Holds z) slots id me 0 (λ n. n) (λ word m. m ≡ (all_views renewed vs, []))
+  pub may_finish : (cells : List ℕ) → InView (IsWiping cells (row_total z)) vs → Allows {S = NoSlot} (RuleHolds z) slots id me 0 (λ n. n) (λ word m. m ≡ (all_views renewed vs, []))
   may_finish cells wiping =
       of_me 0 (λ n. n) (λ m. m ≡ (all_views renewed vs, []))
       (weaker z slots id 0 (vs, []) (λ n. n) (λ m. m ≡ (all_views (round_view cells) vs, [])) (λ m. m ≡ (all_views renewed vs, []))

@@ -12,8 +12,8 @@ use Rattle.rh_rule.specs.Sound.{Sound}
 use Rattle.rh_rule.proofs.SeatsKept.{at_append, at_drop, at_take}
 use Rattle.rh_rdcss.specs.declared.seat.Seat.{Seat}
 use Rattle.rh_rdcss.specs.declared.table.Table.{Table}
-use Rattle.rh_kcas.specs.Crews.{IsAt, IsFresh, head_of, views_of}
-use Rattle.rh_kcas.specs.Rests.{IsRested, Rests}
+use Rattle.rh_kcas.specs.Crews.{SitsAt, IsFresh, head_of, views_of}
+use Rattle.rh_kcas.specs.Rests.{IsRested, SeatRests}
 
 pub some_words : (z : Shape) → 0 < word_count z
 some_words z = omega arith
@@ -130,7 +130,7 @@ fresh_rested o v = record {
   over = λ d i. absurd i;
 }
 
-pub fresh_rests : (t : Table) (s : Seat) → IsAt t s → s.count ≡ 1 → s.side.known.view ≡ head_of (views_of s) → IsFresh (head_of (views_of s)) → Rests t s
+pub fresh_rests : (t : Table) (s : Seat) → SitsAt t s → s.count ≡ 1 → s.side.known.view ≡ head_of (views_of s) → IsFresh (head_of (views_of s)) → SeatRests t s
 fresh_rests t s at one is fresh =
     let v = s.side.known.view in
     let fresh_v : v ≡ round_view v.opening v = subst IsFresh (sym is) fresh in

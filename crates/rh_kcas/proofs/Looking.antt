@@ -7,14 +7,14 @@ use Rattle.rh_descriptor.specs.View.{View}
 use Rattle.rh_descriptor.specs.Steps.{Step}
 use Rattle.rh_descriptor.specs.Words.{IsPlain}
 use Rattle.rh_helping.specs.Made.{HasStepped}
-use Rattle.rh_kcas.specs.Swaps.{HasNoted, HasRead, IsSeen}
+use Rattle.rh_kcas.specs.Swaps.{HasNoted, HasReadCell, IsSeen}
 use Rattle.rh_kcas.proofs.Noting.{step_number, step_opening, step_worker}
 
 -- the word that the next step is to keep as read in cell c
 abbrev pub read_next : (c word : ℕ) → View → KeptRead
 read_next c word v = record { cell = c; word = word; acts = 0; next_number = v.next_number }
 
-pub none_seen : (z : Shape) (c : ℕ) (v next : View) → HasNoted v next → z.rooms.marks ≤ next.marks_used → HasRead z c v next None
+pub none_seen : (z : Shape) (c : ℕ) (v next : View) → HasNoted v next → z.rooms.marks ≤ next.marks_used → HasReadCell z c v next None
 none_seen z c v next n spent = record {
   seen_is = (n.reads, spent);
   worker = n.worker;
@@ -26,7 +26,7 @@ none_seen z c v next n spent = record {
 }
 
 pub plain_seen : {T : Type 0} {shows : Shape → T → View → Type 0} {makes : Shape → Step → T → View → ℕ → T → View → Type 0} (z : Shape) (k : StepKind) (c word : ℕ) (t : T) (v : View) (then : T) (next : View)
-    → HasStepped shows makes z k v.opened (read_next c word v ∷ v.side.reads) t v then next → IsPlain word → HasRead z c v next (Some word)
+    → HasStepped shows makes z k v.opened (read_next c word v ∷ v.side.reads) t v then next → IsPlain word → HasReadCell z c v next (Some word)
 plain_seen z k c word t v then next m plain = record {
   seen_is = (plain, m.reads);
   worker = step_worker z v next m.step m.word m.view_is;
@@ -38,7 +38,7 @@ plain_seen z k c word t v then next m plain = record {
 }
 
 -- after it noted more
-pub seen_later : (z : Shape) (c : ℕ) (v w next : View) (seen : Option ℕ) → HasNoted v w → HasRead z c w next seen → HasRead z c v next seen
+pub seen_later : (z : Shape) (c : ℕ) (v w next : View) (seen : Option ℕ) → HasNoted v w → HasReadCell z c w next seen → HasReadCell z c v next seen
 seen_later z c v w next seen n h = record {
   seen_is = still seen h.seen_is;
   worker = h.worker ∙ n.worker;

@@ -14,7 +14,7 @@ use Rattle.rh_descriptor.specs.Parts.{IsShape, cell_count, word_count}
 use Rattle.rh_descriptor.specs.View.{View, new_view}
 use Rattle.rh_descriptor.specs.Words.{IsPlain}
 use Rattle.rh_rule.specs.Rest.{AllRest}
-use Rattle.rh_rule.specs.Seats.{AreMade, Holds, InView, NoSlot, Spans, first_view, new_views}
+use Rattle.rh_rule.specs.Seats.{AreMade, RuleHolds, InView, NoSlot, Spans, first_view, new_views}
 use Rattle.rh_rule.specs.Wipes.{row_total}
 use Rattle.rh_rule.proofs.SeatsKept.{close_sees, item_at, new_at, new_long, starts}
 use Rattle.rh_rule.proofs.Telling.{rests}
@@ -26,7 +26,7 @@ use Rattle.rh_kcas.proofs.Crews.{IsHalf}
 
 -- the words of the cells, and behind them empty rows; what is kept of the cells for contracts alone is what their words are
 pub opens : (z : Shape) (cells plain all kept : List ℕ) (n m : ℕ) → IsShape z → length cells ≡ cell_count z → plain ≡ map plain_number cells
-    → n ≡ word_count z → m ≡ length plain → all ≡ take n plain ++ replicate (n - m) 0 → kept ≡ plain → Holds {S = NoSlot} z (opening {S = NoSlot} all [] (first_view z kept))
+    → n ≡ word_count z → m ≡ length plain → all ≡ take n plain ++ replicate (n - m) 0 → kept ≡ plain → RuleHolds {S = NoSlot} z (opening {S = NoSlot} all [] (first_view z kept))
 opens z cells plain all kept n m shape size plain_is n_is m_is all_is kept_is =
     let long : length plain ≡ cell_count z = ap length plain_is ∙ length-map cells plain_number ∙ size in
     let behind : n - m ≡ row_total z + 1 = omega (arith, n_is, m_is, long) in
@@ -34,8 +34,8 @@ opens z cells plain all kept n m shape size plain_is n_is m_is all_is kept_is =
     let are_plain = λ (c : ℕ) (inside : c < cell_count z).
     let at : get_or plain c 0 ≡ plain_number (get_or cells c 0) = ap (λ (l : List ℕ). get_or l c 0) plain_is ∙ get_or-map plain_number cells c 0 0 (omega (arith, inside, size)) in
     let tag : tag_of (get_or plain c 0) ≡ 0 = omega (arith, at) in tag in
-    subst (λ (ws : List ℕ). Holds {S = NoSlot} z (opening {S = NoSlot} all [] (first_view z ws))) (sym kept_is)
-    (subst (λ (ws : List ℕ). Holds {S = NoSlot} z (opening {S = NoSlot} ws [] (first_view z plain))) (sym whole) (starts z plain [] shape long are_plain))
+    subst (λ (ws : List ℕ). RuleHolds {S = NoSlot} z (opening {S = NoSlot} all [] (first_view z ws))) (sym kept_is)
+    (subst (λ (ws : List ℕ). RuleHolds {S = NoSlot} z (opening {S = NoSlot} ws [] (first_view z plain))) (sym whole) (starts z plain [] shape long are_plain))
 
 pub made_half : (z : Shape) (plain : List ℕ) (us : List Known) → us ≡ first_view z plain → IsHalf us 0 z.workers
 made_half z plain us is = subst (λ (l : List Known). IsHalf l 0 z.workers) (sym is) record {
@@ -61,10 +61,10 @@ get_from (x ∷ xs) zero a e = some-injective x a e
 get_from (x ∷ xs) (suc i) a e = get_from xs i a e
 
 -- where all workers are quiet, these are the cells
-closes : (z y : Shape) (id : ℕ) (vs : List Known) (st : State NoSlot (List Known)) → y ≡ z → 0 < z.workers → Spans vs 0 z.workers → Holds {S = NoSlot} y st → get_elem? st.views id ≡ some vs
+closes : (z y : Shape) (id : ℕ) (vs : List Known) (st : State NoSlot (List Known)) → y ≡ z → 0 < z.workers → Spans vs 0 z.workers → RuleHolds {S = NoSlot} y st → get_elem? st.views id ≡ some vs
     → InView IsQuiet vs → (m : AreMade z vs) × (m.cells ≡ take (cell_count z) st.words) × (cell_count z ≤ length st.words)
 closes z y id vs st same some_one all holds at quiet =
-    let sees = close_sees z id vs st some_one all (subst (λ (x : Shape). Holds {S = NoSlot} x st) same holds) at (λ r s e. (quiet r s e).still) in
+    let sees = close_sees z id vs st some_one all (subst (λ (x : Shape). RuleHolds {S = NoSlot} x st) same holds) at (λ r s e. (quiet r s e).still) in
     let keep = sees.0 in
     let ruled = sees.1 in
     let of_view = sees.2 in
@@ -96,7 +96,7 @@ closes z y id vs st same some_one all holds at quiet =
       omega (arith, sized),
     )
 
-pub closes_with : (z y : Shape) (id : ℕ) (vs : List Known) (st : State NoSlot (List Known)) (words : List ℕ) → y ≡ z → 0 < z.workers → Spans vs 0 z.workers → Holds {S = NoSlot} y st
+pub closes_with : (z y : Shape) (id : ℕ) (vs : List Known) (st : State NoSlot (List Known)) (words : List ℕ) → y ≡ z → 0 < z.workers → Spans vs 0 z.workers → RuleHolds {S = NoSlot} y st
     → get_elem? st.views id ≡ some vs → InView IsQuiet vs → st.words ≡ words → (m : AreMade z vs) × (m.cells ≡ take (cell_count z) words) × (cell_count z ≤ length words)
 closes_with z y id vs st words same some_one all holds at quiet is =
     let r = closes z y id vs st same some_one all holds at quiet in

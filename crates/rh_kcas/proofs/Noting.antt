@@ -9,7 +9,7 @@ use Rattle.rh_descriptor.specs.View.{OwnDesc, View}
 use Rattle.rh_descriptor.specs.Steps.{Step, noted}
 use Rattle.rh_descriptor.specs.Words.{control_of}
 use Rattle.rh_rule.proofs.SeatsKept.{noted_opening, noted_worker}
-use Rattle.rh_helping.specs.Made.{HasMade}
+use Rattle.rh_helping.specs.Made.{HasMadeStep}
 use Rattle.rh_kcas.specs.Swaps.{HasNoted, IsNotedOver, IsTold, is_over}
 
 pub noted_first : (v : View) → HasNoted v v
@@ -49,7 +49,7 @@ noted_number z v Step.claims word same = refl
 pub step_number : (z : Shape) (v next : View) (s : Step) (word : ℕ) → next ≡ noted z v s word → next.opened ≡ v.opened → next.next_number ≡ v.next_number
 step_number z v next s word is same = ap (λ (n : View). n.next_number) is ∙ noted_number z v s word (ap (λ (n : View). n.opened) (sym is) ∙ same)
 
-pub made_notes : {T : Type 0} {shows : Shape → T → View → Type 0} {makes : Shape → Step → T → View → ℕ → T → View → Type 0} (z : Shape) (k : StepKind) (t : T) (v : View) (then : T) (next : View) → HasMade shows makes z k t v then next → HasNoted v next
+pub made_notes : {T : Type 0} {shows : Shape → T → View → Type 0} {makes : Shape → Step → T → View → ℕ → T → View → Type 0} (z : Shape) (k : StepKind) (t : T) (v : View) (then : T) (next : View) → HasMadeStep shows makes z k t v then next → HasNoted v next
 made_notes z k t v then next m = record {
   worker = step_worker z v next m.step m.word m.view_is;
   opening = step_opening z v next m.step m.word m.view_is;

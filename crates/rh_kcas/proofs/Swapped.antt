@@ -12,7 +12,7 @@ use Rattle.rh_world.specs.Acts.{is_success}
 use Rattle.rh_descriptor.specs.declared.shape.Shape.{Shape}
 use Rattle.rh_descriptor.specs.View.{View, own_ref}
 use Rattle.rh_rule.specs.Rest.{made}
-use Rattle.rh_helping.specs.Opening.{next_desc}
+use Rattle.rh_helping.specs.Opening.{next_own}
 use Rattle.rh_steps.specs.Relies.{Knows}
 use Rattle.rh_kcas.specs.Rests.{IsRested}
 use Rattle.rh_kcas.specs.Swaps.{RestSpec, HasCarriedOut, HasOpened}
@@ -32,7 +32,7 @@ ended_noted v d (Failed e) h = (failed 0 h.0.0, h.0.1, refl)
 pub record IsSwapped (z : Shape) (es : List Entry) (v next : View) (k : Ended) : Type 0 where
   pub rested : IsRested next
   pub so : RestSpec es v next k
-  pub acts : made next ≡ cond (has_succeeded k) (next_desc v es ∷ made v) (made v)
+  pub acts : made next ≡ cond (has_succeeded k) (next_own v es ∷ made v) (made v)
   pub spends : k ≡ Withdrawn → z.rooms.marks ≤ next.marks_used
   pub opening : next.opening ≡ v.opening
   pub facts : (n : Fact) → In n v.side.facts → In n next.side.facts
@@ -40,7 +40,7 @@ pub record IsSwapped (z : Shape) (es : List Entry) (v next : View) (k : Ended) :
   pub claims : next.side.claims ≡ v.side.claims
 
 pub is_swapped : (z : Shape) (es : List Entry) (v open_one next : View) (number : ℕ) (k : Ended) → v.next_number ≡ number → Knows z next → IsRested v
-    → HasOpened v (next_desc v es) open_one → HasCarriedOut open_one (record { number = number; entries = es }) next k → IsSwapped z es v next k
+    → HasOpened v (next_own v es) open_one → HasCarriedOut open_one (record { number = number; entries = es }) next k → IsSwapped z es v next k
 is_swapped z es v mid next number k same knows rest o c =
     let worker = c.noted.worker ∙ o.worker in
     let facts : (n : Fact) → In n v.side.facts → In n next.side.facts = λ n i. c.noted.facts n (o.facts n i) in
@@ -48,9 +48,9 @@ is_swapped z es v mid next number k same knows rest o c =
     let result : HasEnded next (own_ref next v.next_number) k = subst (λ (n : ℕ). HasEnded next (own_ref next n) k) (sym same) c.result in
     let r = ended_noted next (own_ref next v.next_number) k result in
     record {
-      rested = record { clear = c.clear; over = over_more v next worker facts knows.sound.one_result rest (next_desc v es) opened r.0 r.1 };
+      rested = record { clear = c.clear; over = over_more v next worker facts knows.sound.one_result rest (next_own v es) opened r.0 r.1 };
       so = record { opened = opened; next_number = c.noted.next_number ∙ o.next_number; result = result; entry = c.entry };
-      acts = made_more v next worker facts knows.sound.one_result rest (next_desc v es) opened r.0 r.1 ∙ ap (λ (b : Bool). cond b (next_desc v es ∷ made v) (made v)) r.2;
+      acts = made_more v next worker facts knows.sound.one_result rest (next_own v es) opened r.0 r.1 ∙ ap (λ (b : Bool). cond b (next_own v es ∷ made v) (made v)) r.2;
       spends = λ is. knows.sound.withdrawals (own_ref next v.next_number) refl (subst (HasEnded next (own_ref next v.next_number)) is result);
       opening = c.noted.opening ∙ o.opening;
       facts = facts;

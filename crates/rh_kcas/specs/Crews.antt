@@ -7,7 +7,7 @@ use Rattle.rh_rdcss.specs.declared.seat.Seat.{Seat}
 use Rattle.rh_rdcss.specs.declared.table.Table.{Table}
 
 -- the seat is at the table, and its workers are of it
-pub record IsAt (t : Table) (s : Seat) : Type 0 where
+pub record SitsAt (t : Table) (s : Seat) : Type 0 where
   pub own : s.inner.table_id ≡ t.inner.shared.table_id
   pub within : s.side.worker + s.count ≤ t.shape.workers
 

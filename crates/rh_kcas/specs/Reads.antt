@@ -8,7 +8,7 @@ use Rattle.rh_descriptor.specs.declared.shape.Shape.{Shape}
 use Rattle.rh_descriptor.specs.View.{View}
 use Rattle.rh_rule.specs.Erased.{erased_read}
 use Rattle.rh_rule.specs.Rest.{Told}
-use Rattle.rh_kcas.specs.Swaps.{HasRead}
+use Rattle.rh_kcas.specs.Swaps.{HasReadCell}
 
 -- A worker of whom v was kept read this word in cell c. After so many acts the cell held the word. Among these are all acts that
 -- the worker had made, and no other one of it; and they are not fewer than those at anything that it had read before.
@@ -26,4 +26,4 @@ pub record HasReadSo (w : World) (side : ℕ → Side) (c word : ℕ) (v : View)
 -- So it is at the end of the call and at any later moment of the round, of which the rule tells.
 abbrev pub ReadsTell : Type 0
 ReadsTell = (w : World) (z : Shape) (keep : ℕ → View) (side : ℕ → Side) → Told w z keep side → (c word : ℕ) (v next : View) (newer : List KeptRead)
-    → v.worker < z.workers → HasRead z c v next (Some word) → (keep v.worker).side.reads ≡ newer ++ next.side.reads → HasReadSo w side c word v
+    → v.worker < z.workers → HasReadCell z c v next (Some word) → (keep v.worker).side.reads ≡ newer ++ next.side.reads → HasReadSo w side c word v

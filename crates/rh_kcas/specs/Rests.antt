@@ -13,7 +13,7 @@ pub record IsRested (v : View) : Type 0 where
   pub clear : IsClear v
   pub over : (o : OwnDesc) → In o v.opened → (k : Control) × In (decided (own_ref v o.number) k) v.side.facts
 
-pub record Rests (t : Table) (s : Seat) : Type 0 where
+pub record SeatRests (t : Table) (s : Seat) : Type 0 where
   pub here : IsHere t s
   pub knows : Knows t.shape (view_of s)
   pub rested : IsRested (view_of s)

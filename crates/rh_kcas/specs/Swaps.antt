@@ -14,8 +14,8 @@ use Rattle.rh_rule.specs.Rest.{made}
 use Rattle.rh_helping.specs.declared.machine.Ended.{Ended}
 use Rattle.rh_helping.specs.declared.machine.Ended.TheVariants as ended
 use Rattle.rh_helping.specs.Goal.{IsClear, KnowsOwn, OwesNothing, StandsAt}
-use Rattle.rh_helping.specs.Opening.{next_desc}
-use Rattle.rh_helping.specs.Work.{HasEnded, IsWithin}
+use Rattle.rh_helping.specs.Opening.{next_own}
+use Rattle.rh_helping.specs.Work.{HasEnded, FailsWithin}
 use Rattle.rh_kcas.specs.declared.swapping.Outcome.{Outcome}
 use Rattle.rh_kcas.specs.declared.swapping.Outcome.TheVariants.{Done, Failed, Spent}
 
@@ -49,14 +49,14 @@ pub record HasCarriedOut (v : View) (own : OwnDesc) (next : View) (k : Ended) : 
   pub noted : HasNoted v next
   pub clear : IsClear next
   pub result : HasEnded next (own_ref next own.number) k
-  pub entry : IsWithin (length own.entries) k
+  pub entry : FailsWithin (length own.entries) k
 
 -- it opened a descriptor of these entries, which ended so: where it failed, at one of them
 pub record RestSpec (es : List Entry) (v next : View) (k : Ended) : Type 0 where
-  pub opened : next.opened ≡ next_desc v es ∷ v.opened
+  pub opened : next.opened ≡ next_own v es ∷ v.opened
   pub next_number : next.next_number ≡ suc v.next_number
   pub result : HasEnded next (own_ref next v.next_number) k
-  pub entry : IsWithin (length es) k
+  pub entry : FailsWithin (length es) k
 
 -- it opened no descriptor, or one of these entries, which it withdrew
 abbrev pub HasGivenUp : List Entry → (v next : View) → Type 0
@@ -68,7 +68,7 @@ HasNoRoom z v next = (z.rooms.descriptors ≤ v.next_number) ⊎ (z.rooms.marks 
 
 -- What became of a K-CAS: whether the worker's own acts grew by these entries, in one act, or are the same.
 abbrev pub BecameOf : Shape → List Entry → (v next : View) → Outcome → Type 0
-BecameOf z es v next Done = RestSpec es v next ended.Succeeded × (made next ≡ next_desc v es ∷ made v)
+BecameOf z es v next Done = RestSpec es v next ended.Succeeded × (made next ≡ next_own v es ∷ made v)
 BecameOf z es v next (Failed e) = RestSpec es v next (ended.Failed e) × (made next ≡ made v)
 BecameOf z es v next Spent = HasNoRoom z v next × HasGivenUp es v next × (made next ≡ made v)
 
@@ -106,7 +106,7 @@ IsSeen z c v next None = (next.side.reads ≡ v.side.reads) × (z.rooms.marks �
 IsSeen z c v next (Some word) = IsPlain word
     × (next.side.reads ≡ record { cell = c; word = word; acts = 0; next_number = v.next_number } ∷ v.side.reads)
 
-pub record HasRead (z : Shape) (c : ℕ) (v next : View) (seen : Option ℕ) : Type 0 where
+pub record HasReadCell (z : Shape) (c : ℕ) (v next : View) (seen : Option ℕ) : Type 0 where
   pub seen_is : IsSeen z c v next seen
   pub worker : next.worker ≡ v.worker
   pub opening : next.opening ≡ v.opening
@@ -120,7 +120,7 @@ abbrev pub IsClaimed : Shape → (position : ℕ) → Option ℕ → Type 0
 IsClaimed z n None = z.keys ≤ n
 IsClaimed z n (Some p) = (n < z.keys) × (p ≡ n)
 
-pub record Claims (z : Shape) (v next : View) (claimed : Option ℕ) : Type 0 where
+pub record ClaimsOne (z : Shape) (v next : View) (claimed : Option ℕ) : Type 0 where
   pub position : ℕ
   pub view_is : next ≡ noted z v Step.claims position
   pub is : IsClaimed z position claimed

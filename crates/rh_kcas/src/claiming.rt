@@ -1,8 +1,8 @@
 //! Claiming the places of a list that several workers share.
 
 ghost use Rattle.std.specs.Prelude.{◌<◌, ℕ};
-ghost use Rattle.rh_kcas.specs.Rests.{Rests};
-ghost use Rattle.rh_kcas.specs.Swaps.{Claims};
+ghost use Rattle.rh_kcas.specs.Rests.{SeatRests};
+ghost use Rattle.rh_kcas.specs.Swaps.{ClaimsOne};
 ghost use Rattle.rh_rdcss.specs.Calls.{IsSame, view_of};
 ghost use Rattle.rh_world.specs.World.{In};
 
@@ -12,11 +12,11 @@ use rh_steps::Steps;
 
 /// The next position of the list, or none at its end.
 pub fn claim(table: &Table, seat: &mut Seat) -> Option<u64>
-    requires rests { Rests table.now seat.old }
+    requires rests { SeatRests table.now seat.old }
     requires keys { (n : ℕ) → In n (view_of seat.old).side.claims → n < table.now.shape.keys }
-    ensures rests { Rests table.now seat.new }
+    ensures rests { SeatRests table.now seat.new }
     ensures same { IsSame seat.old seat.new }
-    ensures claims { Claims table.now.shape (view_of seat.old) (view_of seat.new) result }
+    ensures claims { ClaimsOne table.now.shape (view_of seat.old) (view_of seat.new) result }
 {
     let mut here = OnTable {
         table,

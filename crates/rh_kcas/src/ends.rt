@@ -4,7 +4,7 @@ ghost use Rattle.std.specs.Prelude.{◌≡◌, ◌<◌, IfOk, ℕ, List, length,
 ghost use Rattle.rh_descriptor.specs.Parts.{IsShape, cell_count};
 ghost use Rattle.rh_kcas.specs.Crews.{HasAll, IsFresh, IsQuiet, views_of};
 ghost use Rattle.rh_kcas.specs.Ends.{Leaves};
-ghost use Rattle.rh_kcas.specs.Rests.{Rests};
+ghost use Rattle.rh_kcas.specs.Rests.{SeatRests};
 ghost use Rattle.rh_rule.specs.Seats.{InView, first_view};
 ghost use Rattle.rh_tagword.specs.Word.{IsValue, plain_number};
 
@@ -27,7 +27,7 @@ pub fn make(alloc: Global, shape: Shape, cells: &[u64]) -> Result<(Table, Seat),
     ensures all { IfOk result (λ r. HasAll r.0 r.1) }
     ensures views { IfOk result (λ r. views_of r.1 ≡ first_view shape (map plain_number cells.now)) }
     ensures fresh { IfOk result (λ r. InView IsFresh (views_of r.1)) }
-    ensures rests { IfOk result (λ r. r.1.count ≡ 1 → Rests r.0 r.1) }
+    ensures rests { IfOk result (λ r. r.1.count ≡ 1 → SeatRests r.0 r.1) }
 {
     let room = shape.words();
     let mut words = plain_words(alloc, room, cells)?;

@@ -4,7 +4,7 @@ ghost use Rattle.std.specs.Prelude.{◌≡◌};
 ghost use Rattle.rh_descriptor.specs.Steps.{IsKnown};
 ghost use Rattle.rh_descriptor.specs.Words.{ref_of};
 ghost use Rattle.rh_helping.specs.Goal.{IsClear};
-ghost use Rattle.rh_kcas.specs.Rests.{Rests};
+ghost use Rattle.rh_kcas.specs.Rests.{SeatRests};
 ghost use Rattle.rh_kcas.specs.Swaps.{HasHelped, HasNoted, IsTold, is_over};
 ghost use Rattle.rh_rdcss.specs.Calls.{IsSame, view_of};
 ghost use Rattle.rh_rdcss.specs.Sits.{Sits, Stays};
@@ -21,9 +21,9 @@ use std::sync::Wait;
 /// Goes about a descriptor until it is decided, or no mark is left; a stale one was decided.
 /// The seat owes nothing for it then.
 pub fn help<R: Wait>(rt: &R, table: &Table, seat: &mut Seat, desc: Ref)
-    requires rests { Rests table.now seat.old }
+    requires rests { SeatRests table.now seat.old }
     requires known { IsKnown (view_of seat.old).side.facts (ref_of desc) }
-    ensures rests { Rests table.now seat.new }
+    ensures rests { SeatRests table.now seat.new }
     ensures same { IsSame seat.old seat.new }
     ensures acts { made (view_of seat.new) ≡ made (view_of seat.old) }
     ensures helps { HasHelped table.now.shape (ref_of desc) (view_of seat.old) (view_of seat.new) }

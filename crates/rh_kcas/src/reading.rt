@@ -5,8 +5,8 @@ ghost use Rattle.rh_descriptor.specs.Parts.{cell_count};
 ghost use Rattle.rh_helping.specs.Goal.{IsClear};
 ghost use Rattle.rh_helping.specs.Looking.{IsLooking};
 ghost use Rattle.rh_helping.specs.Machine.{looking_of};
-ghost use Rattle.rh_kcas.specs.Rests.{Rests};
-ghost use Rattle.rh_kcas.specs.Swaps.{HasRead};
+ghost use Rattle.rh_kcas.specs.Rests.{SeatRests};
+ghost use Rattle.rh_kcas.specs.Swaps.{HasReadCell};
 ghost use Rattle.rh_rdcss.specs.Calls.{IsSame, view_of};
 ghost use Rattle.rh_rdcss.specs.Sits.{Sits, Stays};
 ghost use Rattle.rh_rule.specs.Rest.{made};
@@ -20,12 +20,12 @@ use std::sync::Wait;
 /// The plain word that the cell holds, or none where no mark is left.
 #[inline(always)]
 pub fn read<R: Wait>(rt: &R, table: &Table, seat: &mut Seat, cell: usize) -> Option<u64>
-    requires rests { Rests table.now seat.old }
+    requires rests { SeatRests table.now seat.old }
     requires cell { cell < cell_count table.now.shape }
-    ensures rests { Rests table.now seat.new }
+    ensures rests { SeatRests table.now seat.new }
     ensures same { IsSame seat.old seat.new }
     ensures acts { made (view_of seat.new) ≡ made (view_of seat.old) }
-    ensures reads { HasRead table.now.shape cell (view_of seat.old) (view_of seat.new) result }
+    ensures reads { HasReadCell table.now.shape cell (view_of seat.old) (view_of seat.new) result }
 {
     let mut here = OnTable {
         table,
@@ -49,7 +49,7 @@ fn look<R: Wait>(
     ensures trusts { Trusts Sits shape.now here.new side.new.known.view }
     ensures clear { IsClear side.new.known.view }
     ensures stays { Stays here.old here.new }
-    ensures reads { HasRead shape.now cell side.old.known.view side.new.known.view result }
+    ensures reads { HasReadCell shape.now cell side.old.known.view side.new.known.view result }
 {
     let mut machine = Machine::about(Ref {
         worker: side.worker,
@@ -80,7 +80,7 @@ fn look_on_copy<R: Wait>(
     ensures trusts { Trusts Sits shape.now here.new side.new.known.view }
     ensures clear { IsClear side.new.known.view }
     ensures stays { Stays here.old here.new }
-    ensures reads { HasRead shape.now cell side.old.known.view side.new.known.view result }
+    ensures reads { HasReadCell shape.now cell side.old.known.view side.new.known.view result }
 {
     let mut machine = *machine;
     look_on(rt, shape, here, side, cell, watch, &mut machine)
@@ -104,7 +104,7 @@ fn look_on<R: Wait>(
     ensures trusts { Trusts Sits shape.now here.new side.new.known.view }
     ensures clear { IsClear side.new.known.view }
     ensures stays { Stays here.old here.new }
-    ensures reads { HasRead shape.now cell side.old.known.view side.new.known.view result }
+    ensures reads { HasReadCell shape.now cell side.old.known.view side.new.known.view result }
 {
     let mut watch = watch;
     for _ in rt.forever() {

@@ -1,8 +1,8 @@
 //! Seats of several workers, which are cut and joined.
 
 ghost use Rattle.std.specs.Prelude.{◌≡◌, ◌+◌, ◌<◌, ◌++◌, [], ℕ, take, drop};
-ghost use Rattle.rh_kcas.specs.Crews.{IsAt, IsCut, IsFresh, IsJoined, IsQuiet, head_of, views_of};
-ghost use Rattle.rh_kcas.specs.Rests.{Rests};
+ghost use Rattle.rh_kcas.specs.Crews.{SitsAt, IsCut, IsFresh, IsJoined, IsQuiet, head_of, views_of};
+ghost use Rattle.rh_kcas.specs.Rests.{SeatRests};
 ghost use Rattle.rh_rule.specs.Seats.{InView};
 
 use atomic_table::{Join, Split};
@@ -75,15 +75,15 @@ fn cut<B: Point>(table: &Table, seat: &mut Inner, _at: usize) -> Inner
 /// Gives the workers from `at` on a seat of their own. None of them has done anything since the table
 /// was made or wiped, so that each may begin as the only worker of a seat.
 pub fn split(table: &Table, seat: &mut Seat, at: usize) -> Seat
-    requires here { IsAt table.now seat.old }
+    requires here { SitsAt table.now seat.old }
     requires within { (seat.old.side.worker < at) × (at < seat.old.side.worker + seat.old.count) }
     requires fresh { InView IsFresh (views_of seat.old) }
-    ensures left { IsAt table.now seat.new }
-    ensures right { IsAt table.now result }
+    ensures left { SitsAt table.now seat.new }
+    ensures right { SitsAt table.now result }
     ensures cut { IsCut seat.old seat.new result at }
     ensures still_fresh { InView IsFresh (views_of seat.new) × InView IsFresh (views_of result) }
-    ensures left_rests { seat.new.count ≡ 1 → Rests table.now seat.new }
-    ensures right_rests { result.count ≡ 1 → Rests table.now result }
+    ensures left_rests { seat.new.count ≡ 1 → SeatRests table.now seat.new }
+    ensures right_rests { result.count ≡ 1 → SeatRests table.now result }
 {
     let first = seat.side.worker;
     let kept = at - first;
@@ -102,12 +102,12 @@ pub fn split(table: &Table, seat: &mut Seat, at: usize) -> Seat
 /// Takes the workers of another seat in, which follow those of this one. All are at rest: the seat of
 /// several makes no step, so what one of them had open would never be ended.
 pub fn join(table: &Table, seat: &mut Seat, other: Seat)
-    requires here { IsAt table.now seat.old }
-    requires other { IsAt table.now other }
+    requires here { SitsAt table.now seat.old }
+    requires other { SitsAt table.now other }
     requires rest { InView IsQuiet (views_of seat.old) }
     requires other_rest { InView IsQuiet (views_of other) }
     requires follows { other.side.worker ≡ seat.old.side.worker + seat.old.count }
-    ensures here { IsAt table.now seat.new }
+    ensures here { SitsAt table.now seat.new }
     ensures joined { IsJoined seat.old other seat.new }
 {
     let Seat {

@@ -4,9 +4,9 @@ ghost use Rattle.std.specs.Prelude.{◌≡◌, Some};
 ghost use Rattle.rh_descriptor.specs.Steps.{AreEntries};
 ghost use Rattle.rh_helping.specs.Goal.{KnowsOwn, OwesNothing, opened_by, own_of};
 ghost use Rattle.rh_helping.specs.Machine.{work_of};
-ghost use Rattle.rh_helping.specs.Opening.{MayOpen, next_desc};
+ghost use Rattle.rh_helping.specs.Opening.{MayOpen, next_own};
 ghost use Rattle.rh_helping.specs.Work.{Stands};
-ghost use Rattle.rh_kcas.specs.Rests.{Rests};
+ghost use Rattle.rh_kcas.specs.Rests.{SeatRests};
 ghost use Rattle.rh_kcas.specs.Swaps.{HasCarriedOut, HasOpened, Swaps};
 ghost use Rattle.rh_rdcss.specs.Calls.{IsSame, view_of};
 ghost use Rattle.rh_rdcss.specs.Sits.{Sits, Stays};
@@ -33,9 +33,9 @@ pub enum Outcome {
 /// Where no number is left for a descriptor, or no mark, it makes no step: its descriptor would be
 /// withdrawn all the same. Later it is `Spent` only where the last mark was used up on the way.
 pub fn kcas<R: Wait>(rt: &R, table: &Table, seat: &mut Seat, entries: &[Entry]) -> Outcome
-    requires rests { Rests table.now seat.old }
+    requires rests { SeatRests table.now seat.old }
     requires entries { AreEntries table.now.shape entries.now }
-    ensures rests { Rests table.now seat.new }
+    ensures rests { SeatRests table.now seat.new }
     ensures same { IsSame seat.old seat.new }
     ensures swaps { Swaps table.now.shape entries.now (view_of seat.old) (view_of seat.new) result }
 {
@@ -68,7 +68,7 @@ pub fn open(shape: &Shape, here: &mut OnTable, side: &mut Side, entries: &[Entry
     requires may { MayOpen shape.now side.old.known.view entries.now }
     ensures trusts { Trusts Sits shape.now here.new side.new.known.view }
     ensures stays { Stays here.old here.new }
-    ensures opens { HasOpened side.old.known.view (next_desc side.old.known.view entries.now) side.new.known.view }
+    ensures opens { HasOpened side.old.known.view (next_own side.old.known.view entries.now) side.new.known.view }
 {
     let mut opening = Opening::Serial;
     while let Some(next) = opening.step(shape, here, side, entries) {

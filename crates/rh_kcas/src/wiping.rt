@@ -5,8 +5,8 @@ ghost use Rattle.atomic_table.specs.Table.{Allows};
 ghost use Rattle.rh_descriptor.specs.Parts.{word_count};
 ghost use Rattle.rh_kcas.specs.Crews.{HasAll, IsFresh, IsQuiet, views_of};
 ghost use Rattle.rh_kcas.specs.Ends.{IsWiped, renewed, with_cleared};
-ghost use Rattle.rh_kcas.specs.Rests.{Rests};
-ghost use Rattle.rh_rule.specs.Seats.{Begun, Holds, InView, IsWiping, NoSlot, Spans, all_views};
+ghost use Rattle.rh_kcas.specs.Rests.{SeatRests};
+ghost use Rattle.rh_rule.specs.Seats.{Begun, RuleHolds, InView, IsWiping, NoSlot, Spans, all_views};
 ghost use Rattle.rh_rule.specs.Wipes.{row_total};
 
 use crate::seats::fresh_side;
@@ -45,7 +45,7 @@ pub fn wipe(table: &Table, seat: &mut Seat)
     ensures all { HasAll table.now seat.new }
     ensures wiped { IsWiped table.now.shape (views_of seat.old) (views_of seat.new) }
     ensures fresh { InView IsFresh (views_of seat.new) }
-    ensures rests { seat.new.count ≡ 1 → Rests table.now seat.new }
+    ensures rests { seat.new.count ≡ 1 → SeatRests table.now seat.new }
 {
     wipe_rows(table, &mut seat.inner);
     seat.side = fresh_side(0, &seat.inner);
@@ -110,7 +110,7 @@ fn finish(table: &Table, seat: &mut Inner)
 
 fn load<B: Tells>(table: &Table, seat: &mut Inner)
     requires own { seat.old.table_id ≡ table.now.inner.shared.table_id }
-    requires allowed { Allows {S = NoSlot} (Holds table.now.shape) table.now.inner.shared.table_id.slots
+    requires allowed { Allows {S = NoSlot} (RuleHolds table.now.shape) table.now.inner.shared.table_id.slots
         seat.old.id seat.old.me 0 (λ n. n) (λ word me. B.tells me) }
     ensures own { seat.new.table_id ≡ seat.old.table_id }
     ensures tells { B.tells seat.new.me }
@@ -121,7 +121,7 @@ fn load<B: Tells>(table: &Table, seat: &mut Inner)
 fn store<B: Tells>(table: &Table, seat: &mut Inner, word: usize, _row: usize)
     requires own { seat.old.table_id ≡ table.now.inner.shared.table_id }
     requires word { word < word_count table.now.shape }
-    requires allowed { Allows {S = NoSlot} (Holds table.now.shape) table.now.inner.shared.table_id.slots
+    requires allowed { Allows {S = NoSlot} (RuleHolds table.now.shape) table.now.inner.shared.table_id.slots
         seat.old.id seat.old.me word (λ n. 0) (λ word me. B.tells me) }
     ensures own { seat.new.table_id ≡ seat.old.table_id }
     ensures tells { B.tells seat.new.me }

@@ -1,7 +1,7 @@
 //! What each thread does: swaps that raise each of its cells by one.
 
 ghost use Rattle.std.specs.Prelude.{◌≡◌, ◌<◌, ◌≤◌};
-ghost use Rattle.rh_kcas.specs.Rests.{Rests};
+ghost use Rattle.rh_kcas.specs.Rests.{SeatRests};
 ghost use Rattle.rh_rdcss.specs.Calls.{IsSame};
 
 use rh_crew::Work;
@@ -74,9 +74,9 @@ impl<R: Wait + Clock> Work<R, Told> for Load {
 
 /// Raises so many cells from this one on, time after time. Answers how many swaps were carried out.
 fn raise_often<R: Wait>(rt: &R, table: &Table, seat: &mut Seat, first: usize, count: usize) -> u64
-    requires rests { Rests table.now seat.old }
+    requires rests { SeatRests table.now seat.old }
     requires count { 0 < count }
-    ensures rests { Rests table.now seat.new }
+    ensures rests { SeatRests table.now seat.new }
     ensures same { IsSame seat.old seat.new }
 {
     let mut entries = [change(0, 0, 0); MOST];
@@ -115,9 +115,9 @@ fn see<R: Wait>(
     entries: &mut [Entry; MOST],
     count: usize,
 ) -> bool
-    requires rests { Rests table.now seat.old }
+    requires rests { SeatRests table.now seat.old }
     requires count { count ≤ 8 }
-    ensures rests { Rests table.now seat.new }
+    ensures rests { SeatRests table.now seat.new }
     ensures same { IsSame seat.old seat.new }
 {
     for entry in 0..count {

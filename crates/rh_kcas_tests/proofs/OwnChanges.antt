@@ -18,7 +18,7 @@ use Rattle.rh_helping.specs.Goal.{IsAllNoted}
 use Rattle.rh_helping.specs.declared.machine.Ended.TheVariants.{Succeeded}
 use Rattle.rh_kcas.specs.Reads.{ReadsTell}
 use Rattle.rh_kcas.specs.Rests.{IsRested}
-use Rattle.rh_kcas.specs.Swaps.{HasRead, RestSpec, Swaps}
+use Rattle.rh_kcas.specs.Swaps.{HasReadCell, RestSpec, Swaps}
 use Rattle.rh_kcas.specs.declared.swapping.Outcome.TheVariants.{Done}
 use Rattle.rh_kcas_tests.specs.ReadsBack.{ReadsBack}
 use Rattle.rh_rule.specs.Represents.{IsOpenedSo, numbers_of}
@@ -136,7 +136,7 @@ module _ (w : World) (z : Shape) (keep : ℕ → View) (side : ℕ → Side) (to
 -- ---- a swap, and a read after it
 
 pub read_back : (z : Shape) → z.workers ≡ 1 → (es : List Entry) → AreEntries z es → (e : ℕ) → e < length es → (v0 v1 v2 : View) → Knows z v2 → IsRested v2
-    → Swaps z es v0 v1 Done → ReadsTell → (r : Option ℕ) → HasRead z (entry_of es e).cell v1 v2 r → IfSome r (ReadsBack z es e v2)
+    → Swaps z es v0 v1 Done → ReadsTell → (r : Option ℕ) → HasReadCell z (entry_of es e).cell v1 v2 r → IfSome r (ReadsBack z es e v2)
 read_back z alone es fits e within v0 v1 v2 knows rest swaps tells None read = tt
 read_back z alone es fits e within v0 v1 v2 knows rest swaps tells (Some word) read = λ w keep side told now.
     let same : v1.worker ≡ v2.worker = sym read.worker in

@@ -1,6 +1,6 @@
 -- A worker that has met another one's descriptor while that was undecided.
 use Rattle.rh_descriptor.specs.declared.reference.Ref.{Ref}
-use Rattle.rh_kcas.specs.Rests.{Rests}
+use Rattle.rh_kcas.specs.Rests.{SeatRests}
 use Rattle.rh_rdcss.specs.Calls.{view_of}
 use Rattle.rh_rdcss.specs.Placing.{MayPlace}
 use Rattle.rh_rdcss.specs.declared.seat.Seat.{Seat}
@@ -8,5 +8,5 @@ use Rattle.rh_rdcss.specs.declared.table.Table.{Table}
 
 -- it rests, and may place a mark for it
 pub record HasMet (t : Table) (s : Seat) (d : Ref) : Type 0 where
-  pub rests : Rests t s
+  pub rests : SeatRests t s
   pub may : MayPlace t.shape (view_of s) d

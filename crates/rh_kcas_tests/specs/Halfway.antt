@@ -7,7 +7,7 @@ use Rattle.rh_rdcss.specs.declared.seat.Seat.{Seat}
 use Rattle.rh_rdcss.specs.declared.table.Table.{Table}
 use Rattle.rh_steps.specs.Relies.{Knows}
 
-pub record IsFree (t : Table) (s : Seat) : Type 0 where
+pub record IsIdle (t : Table) (s : Seat) : Type 0 where
   pub here : IsHere t s
   pub knows : Knows t.shape (view_of s)
   pub clear : IsClear (view_of s)

@@ -4,7 +4,7 @@
 ghost use Rattle.std.specs.Prelude.{◌≡◌, ◌<◌, IsTrue, IfSome, Some};
 ghost use Rattle.rh_descriptor.specs.Steps.{AreEntries};
 ghost use Rattle.rh_helping.specs.Goal.{KnowsOwn, OwesNothing, opened_by};
-ghost use Rattle.rh_kcas_tests.specs.Halfway.{IsFree, IsHalfway};
+ghost use Rattle.rh_kcas_tests.specs.Halfway.{IsIdle, IsHalfway};
 ghost use Rattle.rh_rdcss.specs.Calls.{view_of};
 ghost use Rattle.rh_rdcss.specs.Sits.{Sits, Stays};
 ghost use Rattle.rh_steps.specs.Relies.{Trusts};
@@ -22,7 +22,7 @@ const STEPS: usize = 40;
 
 /// Opens a descriptor of the entries, and stops there. Answers its number.
 pub fn open_one(table: &Table, seat: &mut Seat, entries: &[Entry]) -> u64
-    requires free { IsFree table.now seat.old }
+    requires free { IsIdle table.now seat.old }
     requires entries { AreEntries table.now.shape entries.now }
     requires room { (view_of seat.old).next_number < table.now.shape.rooms.descriptors }
     ensures { IsHalfway table.now seat.new entries.now result }
@@ -39,7 +39,7 @@ pub fn open_one(table: &Table, seat: &mut Seat, entries: &[Entry]) -> u64
 /// Opens a descriptor of the entries, and works at it until it is to be decided. Answers its number,
 /// or none where that takes too many steps.
 pub fn stop_halfway(table: &Table, seat: &mut Seat, entries: &[Entry]) -> Option<u64>
-    requires free { IsFree table.now seat.old }
+    requires free { IsIdle table.now seat.old }
     requires entries { AreEntries table.now.shape entries.now }
     requires room { (view_of seat.old).next_number < table.now.shape.rooms.descriptors }
     ensures { IfSome result (λ number. IsHalfway table.now seat.new entries.now number) }
@@ -121,7 +121,7 @@ pub fn go_on<R: Wait>(
     number: u64,
 ) -> Ended
     requires { IsHalfway table.now seat.old entries.now number }
-    ensures { IsFree table.now seat.new }
+    ensures { IsIdle table.now seat.new }
 {
     let mut here = OnTable {
         table,

@@ -1,7 +1,7 @@
 //! A worker that stops before its decision is helped to it by another one, on a thread of its own.
 
 ghost use Rattle.std.specs.Prelude.{◌≡◌};
-ghost use Rattle.rh_kcas.specs.Rests.{Rests};
+ghost use Rattle.rh_kcas.specs.Rests.{SeatRests};
 ghost use Rattle.rh_kcas_tests.specs.Halfway.{IsHalfway};
 
 use crate::halfway::{go_on, stop_halfway, watch};
@@ -59,7 +59,7 @@ fn run<R: Threads + Wait + Abort + Sync>(
 }
 
 fn stopped<R: Abort>(rt: &R, table: &Table, seat: Seat, entries: &[Entry]) -> (Seat, u64)
-    requires { Rests table.now seat }
+    requires { SeatRests table.now seat }
     ensures { IsHalfway table.now result.0 entries.now result.1 }
 {
     let mut seat = seat;
@@ -79,9 +79,9 @@ fn both<R: Threads + Wait + Abort + Sync>(
     swaps: bool,
 ) -> ((Seat, Option<State>), (Seat, Option<Outcome>))
     requires first { IsHalfway table.now first entries.now number }
-    requires second { Rests table.now second }
+    requires second { SeatRests table.now second }
     ensures first { IsHalfway table.now result.0.0 entries.now number }
-    ensures second { Rests table.now result.1.0 }
+    ensures second { SeatRests table.now result.1.0 }
 {
     join(
         rt,
@@ -90,8 +90,8 @@ fn both<R: Threads + Wait + Abort + Sync>(
             ensures { IsHalfway table.entry.now result.0 entries.entry.now number }
         { watched(table, first, entries, number) },
         || -> (Seat, Option<Outcome>)
-            requires { Rests table.now second }
-            ensures { Rests table.entry.now result.0 }
+            requires { SeatRests table.now second }
+            ensures { SeatRests table.entry.now result.0 }
         { helped(rt, table, second, swaps) },
     )
 }
@@ -111,8 +111,8 @@ fn helped<R: Wait + Abort>(
     seat: Seat,
     swaps: bool,
 ) -> (Seat, Option<Outcome>)
-    requires { Rests table.now seat }
-    ensures { Rests table.now result.0 }
+    requires { SeatRests table.now seat }
+    ensures { SeatRests table.now result.0 }
 {
     let mut seat = seat;
     if swaps {
@@ -125,8 +125,8 @@ fn helped<R: Wait + Abort>(
 
 /// Helps the descriptor that stands in the cell.
 fn help_at<R: Wait + Abort>(rt: &R, table: &Table, seat: &mut Seat, cell: usize)
-    requires { Rests table.now seat.old }
-    ensures { Rests table.now seat.new }
+    requires { SeatRests table.now seat.old }
+    ensures { SeatRests table.now seat.new }
 {
     assert!(rt; cell < table.shape.cells());
     let word = peek_cell(table, seat, cell);

@@ -1,8 +1,8 @@
 //! Marks that a worker places and settles by single calls, for a descriptor whose own worker has stopped.
 
 ghost use Rattle.std.specs.Prelude.{IfOk, IsTrue};
-ghost use Rattle.rh_kcas.specs.Rests.{Rests};
-ghost use Rattle.rh_kcas_tests.specs.Halfway.{IsFree, IsHalfway};
+ghost use Rattle.rh_kcas.specs.Rests.{SeatRests};
+ghost use Rattle.rh_kcas_tests.specs.Halfway.{IsIdle, IsHalfway};
 ghost use Rattle.rh_kcas_tests.specs.Marks.{HasFound, HasPlaced, IsSettled, MayTry};
 
 use crate::halfway::{go_on, open_one};
@@ -24,10 +24,10 @@ fn four_workers<R: Abort>(
     alloc: Global,
     cells: &[u64; 8],
 ) -> Result<(Table, Seat, Seat, Seat, Seat), AllocError>
-    ensures first { IfOk result (λ r. Rests r.0 r.1) }
-    ensures second { IfOk result (λ r. Rests r.0 r.2) }
-    ensures third { IfOk result (λ r. Rests r.0 r.3) }
-    ensures fourth { IfOk result (λ r. Rests r.0 r.4) }
+    ensures first { IfOk result (λ r. SeatRests r.0 r.1) }
+    ensures second { IfOk result (λ r. SeatRests r.0 r.2) }
+    ensures third { IfOk result (λ r. SeatRests r.0 r.3) }
+    ensures fourth { IfOk result (λ r. SeatRests r.0 r.4) }
 {
     assert!(rt; are_values(cells));
     let (table, mut first) = make(alloc, shape(4, rooms(2, 8), 0), cells)?;
@@ -39,7 +39,7 @@ fn four_workers<R: Abort>(
 
 /// Opens a descriptor of the entries. Answers its number.
 fn opened<R: Abort>(rt: &R, table: &Table, seat: &mut Seat, entries: &[Entry]) -> u64
-    requires { IsFree table.now seat.old }
+    requires { IsIdle table.now seat.old }
     ensures { IsHalfway table.now seat.new entries.now result }
 {
     assert!(rt; are_entries(&table.shape, entries));
@@ -80,8 +80,8 @@ fn marked<R: Abort>(
 ) -> Result<(Table, Seat, Seat, Seat, Seat, Ref), AllocError>
     ensures opened { IfOk result (λ r. IsHalfway r.0 r.1 entries.now r.5.number) }
     ensures placed { IfOk result (λ r. HasPlaced r.0 r.2 r.5 1) }
-    ensures third { IfOk result (λ r. Rests r.0 r.3) }
-    ensures fourth { IfOk result (λ r. Rests r.0 r.4) }
+    ensures third { IfOk result (λ r. SeatRests r.0 r.3) }
+    ensures fourth { IfOk result (λ r. SeatRests r.0 r.4) }
 {
     let (table, mut first, mut second, third, fourth) = four_workers(rt, alloc, cells)?;
     let number = opened(rt, &table, &mut first, entries);

@@ -3,7 +3,7 @@
 ghost use Rattle.std.specs.Prelude.{IsTrue};
 ghost use Rattle.rh_descriptor.specs.Steps.{IsKnown};
 ghost use Rattle.rh_descriptor.specs.Words.{ref_of};
-ghost use Rattle.rh_kcas.specs.Rests.{Rests};
+ghost use Rattle.rh_kcas.specs.Rests.{SeatRests};
 ghost use Rattle.rh_kcas_tests.specs.StaleDescriptors.{HasMet};
 ghost use Rattle.rh_rdcss.specs.Calls.{IsHere, view_of};
 ghost use Rattle.rh_steps.specs.Relies.{Knows};
@@ -21,7 +21,7 @@ use std::test::*;
 
 /// Meets the descriptor that stands in the cell, which is undecided.
 fn meet<R: Abort>(rt: &R, table: &Table, seat: &mut Seat, cell: usize) -> Ref
-    requires { Rests table.now seat.old }
+    requires { SeatRests table.now seat.old }
     ensures { HasMet table.now seat.new result }
 {
     let desc = found(rt, table, seat, cell);
@@ -31,8 +31,8 @@ fn meet<R: Abort>(rt: &R, table: &Table, seat: &mut Seat, cell: usize) -> Ref
 
 /// The descriptor that stands in the cell.
 fn found<R: Abort>(rt: &R, table: &Table, seat: &mut Seat, cell: usize) -> Ref
-    requires { Rests table.now seat.old }
-    ensures rests { Rests table.now seat.new }
+    requires { SeatRests table.now seat.old }
+    ensures rests { SeatRests table.now seat.new }
     ensures known { IsKnown (view_of seat.new).side.facts (ref_of result) }
 {
     assert!(rt; cell < table.shape.cells());
@@ -41,7 +41,7 @@ fn found<R: Abort>(rt: &R, table: &Table, seat: &mut Seat, cell: usize) -> Ref
 }
 
 fn is_undecided(table: &Table, seat: &mut Seat, desc: Ref) -> bool
-    requires rests { Rests table.now seat.old }
+    requires rests { SeatRests table.now seat.old }
     requires known { IsKnown (view_of seat.old).side.facts (ref_of desc) }
     ensures { IsTrue result → HasMet table.now seat.new desc }
 {

@@ -1,6 +1,6 @@
 ghost use Rattle.std.specs.Prelude.{◌≡◌, ◌<◌, IfSome, length};
 ghost use Rattle.rh_descriptor.specs.Steps.{AreEntries};
-ghost use Rattle.rh_kcas.specs.Rests.{Rests};
+ghost use Rattle.rh_kcas.specs.Rests.{SeatRests};
 ghost use Rattle.rh_kcas_tests.specs.ReadsBack.{ReadsBack};
 ghost use Rattle.rh_rdcss.specs.Calls.{view_of};
 
@@ -101,8 +101,8 @@ fn failed_cell<R: Wait + Abort>(
     seat: &mut Seat,
     entries: &[Entry],
 ) -> Option<usize>
-    requires rests { Rests table.now seat.old }
-    ensures rests { Rests table.now seat.new }
+    requires rests { SeatRests table.now seat.old }
+    ensures rests { SeatRests table.now seat.new }
 {
     assert!(rt; are_entries(&table.shape, entries));
     match kcas(rt, table, seat, entries) {
@@ -131,11 +131,11 @@ fn swapped_and_read<R: Wait>(
     entries: &[Entry],
     entry: usize,
 ) -> Option<u64>
-    requires rests { Rests table.now seat.old }
+    requires rests { SeatRests table.now seat.old }
     requires alone { table.now.shape.workers ≡ 1 }
     requires entries { AreEntries table.now.shape entries.now }
     requires entry { entry < length entries.now }
-    ensures rests { Rests table.now seat.new }
+    ensures rests { SeatRests table.now seat.new }
     ensures reads_back { IfSome result (ReadsBack table.now.shape entries.now entry (view_of seat.new)) }
 {
     reads_tell();

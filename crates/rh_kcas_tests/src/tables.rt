@@ -2,7 +2,7 @@
 
 ghost use Rattle.std.specs.Prelude.{◌≡◌, ◌<◌, ◌≤◌, ℕ, [], IfOk, IfSome, IsTrue, length, slice_index};
 ghost use Rattle.rh_descriptor.specs.Parts.{IsShape, cell_count};
-ghost use Rattle.rh_kcas.specs.Rests.{Rests};
+ghost use Rattle.rh_kcas.specs.Rests.{SeatRests};
 ghost use Rattle.rh_kcas_tests.specs.Rooms.{AreRooms};
 ghost use Rattle.rh_rdcss.specs.Calls.{IsHere, IsSame, view_of};
 ghost use Rattle.rh_steps.specs.Relies.{Knows};
@@ -68,7 +68,7 @@ pub fn one_worker<R: Abort>(
 ) -> Result<(Table, Seat), AllocError>
     requires keys { keys ≤ 1000 }
     requires rooms { AreRooms rooms }
-    ensures rests { IfOk result (λ r. Rests r.0 r.1) }
+    ensures rests { IfOk result (λ r. SeatRests r.0 r.1) }
     ensures workers { IfOk result (λ r. r.0.shape.workers ≡ 1) }
     ensures bits { IfOk result (λ r. r.0.shape.bits ≡ 3) }
     ensures keys { IfOk result (λ r. r.0.shape.keys ≡ keys) }
@@ -80,8 +80,8 @@ pub fn one_worker<R: Abort>(
 
 /// A swap of several cells.
 pub fn swap<R: Wait + Abort>(rt: &R, table: &Table, seat: &mut Seat, entries: &[Entry]) -> Outcome
-    requires rests { Rests table.now seat.old }
-    ensures rests { Rests table.now seat.new }
+    requires rests { SeatRests table.now seat.old }
+    ensures rests { SeatRests table.now seat.new }
     ensures same { IsSame seat.old seat.new }
 {
     assert!(rt; are_entries(&table.shape, entries));
@@ -90,8 +90,8 @@ pub fn swap<R: Wait + Abort>(rt: &R, table: &Table, seat: &mut Seat, entries: &[
 
 /// The value that a cell holds, or none where no mark is left.
 pub fn value<R: Wait + Abort>(rt: &R, table: &Table, seat: &mut Seat, cell: usize) -> Option<u64>
-    requires rests { Rests table.now seat.old }
-    ensures rests { Rests table.now seat.new }
+    requires rests { SeatRests table.now seat.old }
+    ensures rests { SeatRests table.now seat.new }
     ensures same { IsSame seat.old seat.new }
     ensures value { IfSome result IsValue }
 {
@@ -101,7 +101,7 @@ pub fn value<R: Wait + Abort>(rt: &R, table: &Table, seat: &mut Seat, cell: usiz
 
 /// What the table of one worker leaves.
 pub fn close_one(table: Table, seat: Seat) -> [u64; 8]
-    requires rests { Rests table seat }
+    requires rests { SeatRests table seat }
     requires workers { table.shape.workers ≡ 1 }
     requires bits { table.shape.bits ≡ 3 }
 {
@@ -112,9 +112,9 @@ pub fn close_one(table: Table, seat: Seat) -> [u64; 8]
 
 /// The next place of the list. It is asked for no more once there was none.
 pub fn next_place(table: &Table, seat: &mut Seat) -> Option<u64>
-    requires rests { Rests table.now seat.old }
+    requires rests { SeatRests table.now seat.old }
     requires keys { (n : ℕ) → In n (view_of seat.old).side.claims → n < table.now.shape.keys }
-    ensures rests { Rests table.now seat.new }
+    ensures rests { SeatRests table.now seat.new }
     ensures keys { IfSome result (λ _. (n : ℕ) → In n (view_of seat.new).side.claims → n < table.now.shape.keys) }
 {
     claim(table, seat)
@@ -122,9 +122,9 @@ pub fn next_place(table: &Table, seat: &mut Seat) -> Option<u64>
 
 /// A wipe of the table of one worker.
 pub fn wipe_one(table: &Table, seat: &mut Seat)
-    requires rests { Rests table.now seat.old }
+    requires rests { SeatRests table.now seat.old }
     requires workers { table.now.shape.workers ≡ 1 }
-    ensures rests { Rests table.now seat.new }
+    ensures rests { SeatRests table.now seat.new }
 {
     wipe(table, seat);
 }
@@ -137,8 +137,8 @@ pub fn two_workers<R: Abort>(
     cells: &[u64; 8],
 ) -> Result<(Table, Seat, Seat), AllocError>
     requires rooms { AreRooms rooms }
-    ensures first { IfOk result (λ r. Rests r.0 r.1 × (r.1.side.worker ≡ 0)) }
-    ensures second { IfOk result (λ r. Rests r.0 r.2 × (r.2.side.worker ≡ 1)) }
+    ensures first { IfOk result (λ r. SeatRests r.0 r.1 × (r.1.side.worker ≡ 0)) }
+    ensures second { IfOk result (λ r. SeatRests r.0 r.2 × (r.2.side.worker ≡ 1)) }
     ensures workers { IfOk result (λ r. r.0.shape.workers ≡ 2) }
     ensures bits { IfOk result (λ r. r.0.shape.bits ≡ 3) }
 {
@@ -150,8 +150,8 @@ pub fn two_workers<R: Abort>(
 
 /// What the table of two workers leaves.
 pub fn close_two(table: Table, first: Seat, second: Seat) -> [u64; 8]
-    requires first { Rests table first × (first.side.worker ≡ 0) }
-    requires second { Rests table second × (second.side.worker ≡ 1) }
+    requires first { SeatRests table first × (first.side.worker ≡ 0) }
+    requires second { SeatRests table second × (second.side.worker ≡ 1) }
     requires workers { table.shape.workers ≡ 2 }
     requires bits { table.shape.bits ≡ 3 }
 {

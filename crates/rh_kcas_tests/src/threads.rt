@@ -1,5 +1,5 @@
 ghost use Rattle.std.specs.Prelude.{◌≡◌};
-ghost use Rattle.rh_kcas.specs.Rests.{Rests};
+ghost use Rattle.rh_kcas.specs.Rests.{SeatRests};
 
 use crate::tables::*;
 use rh_kcas::{Outcome, Seat, Table, change};
@@ -14,8 +14,8 @@ const TRIES: u64 = 100;
 
 /// Moves one from a cell to another, unless the other worker changes one of them meanwhile.
 fn move_one<R: Wait + Abort>(rt: &R, table: &Table, seat: &mut Seat, from: usize, to: usize) -> bool
-    requires rests { Rests table.now seat.old }
-    ensures rests { Rests table.now seat.new }
+    requires rests { SeatRests table.now seat.old }
+    ensures rests { SeatRests table.now seat.new }
     ensures worker { seat.new.side.worker ≡ seat.old.side.worker }
 {
     let Some(taken) = value(rt, table, seat, from) else {
@@ -45,8 +45,8 @@ fn move_often<R: Wait + Abort>(
     from: usize,
     to: usize,
 ) -> (Seat, u64)
-    requires rests { Rests table.now seat }
-    ensures rests { Rests table.now result.0 }
+    requires rests { SeatRests table.now seat }
+    ensures rests { SeatRests table.now result.0 }
     ensures worker { result.0.side.worker ≡ seat.side.worker }
 {
     let mut moved = 0u64;
@@ -65,20 +65,20 @@ fn move_both<R: Threads + Wait + Abort + Sync>(
     first: Seat,
     second: Seat,
 ) -> ((Seat, u64), (Seat, u64))
-    requires first { Rests table.now first × (first.side.worker ≡ 0) }
-    requires second { Rests table.now second × (second.side.worker ≡ 1) }
-    ensures first { Rests table.now result.0.0 × (result.0.0.side.worker ≡ 0) }
-    ensures second { Rests table.now result.1.0 × (result.1.0.side.worker ≡ 1) }
+    requires first { SeatRests table.now first × (first.side.worker ≡ 0) }
+    requires second { SeatRests table.now second × (second.side.worker ≡ 1) }
+    ensures first { SeatRests table.now result.0.0 × (result.0.0.side.worker ≡ 0) }
+    ensures second { SeatRests table.now result.1.0 × (result.1.0.side.worker ≡ 1) }
 {
     join(
         rt,
         || -> (Seat, u64)
-            requires { Rests table.now first × (first.side.worker ≡ 0) }
-            ensures { Rests table.entry.now result.0 × (result.0.side.worker ≡ 0) }
+            requires { SeatRests table.now first × (first.side.worker ≡ 0) }
+            ensures { SeatRests table.entry.now result.0 × (result.0.side.worker ≡ 0) }
         { move_often(rt, table, first, 2, 6) },
         || -> (Seat, u64)
-            requires { Rests table.now second × (second.side.worker ≡ 1) }
-            ensures { Rests table.entry.now result.0 × (result.0.side.worker ≡ 1) }
+            requires { SeatRests table.now second × (second.side.worker ≡ 1) }
+            ensures { SeatRests table.entry.now result.0 × (result.0.side.worker ≡ 1) }
         { move_often(rt, table, second, 6, 2) },
     )
 }

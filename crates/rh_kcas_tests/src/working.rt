@@ -1,7 +1,7 @@
 //! One worker's many random swaps, and what it is told of them.
 
 ghost use Rattle.std.specs.Prelude.{◌≡◌, ◌<◌};
-ghost use Rattle.rh_kcas.specs.Rests.{Rests};
+ghost use Rattle.rh_kcas.specs.Rests.{SeatRests};
 ghost use Rattle.rh_rdcss.specs.Calls.{IsSame};
 
 use crate::random::*;
@@ -82,8 +82,8 @@ impl<R: Wait + Abort> Work<R, Told> for Swaps {
 
 /// Tries so many swaps, or fewer where the worker is spent.
 fn try_swaps<R: Wait + Abort>(rt: &R, table: &Table, seat: &mut Seat, swaps: Swaps) -> Told
-    requires rests { Rests table.now seat.old }
-    ensures rests { Rests table.now seat.new }
+    requires rests { SeatRests table.now seat.old }
+    ensures rests { SeatRests table.now seat.new }
     ensures same { IsSame seat.old seat.new }
 {
     let mut told = Told::nothing();
@@ -112,8 +112,8 @@ fn try_swaps<R: Wait + Abort>(rt: &R, table: &Table, seat: &mut Seat, swaps: Swa
 
 /// Reads an account so often, and helps the swaps that are met there.
 fn look_about<R: Wait + Abort>(rt: &R, table: &Table, seat: &mut Seat, looks: u64)
-    requires rests { Rests table.now seat.old }
-    ensures rests { Rests table.now seat.new }
+    requires rests { SeatRests table.now seat.old }
+    ensures rests { SeatRests table.now seat.new }
     ensures same { IsSame seat.old seat.new }
 {
     for looked in 0..looks {
@@ -130,8 +130,8 @@ fn add<R: Wait + Abort>(
     amounts: &[u64; CELLS],
     counter: usize,
 ) -> (Outcome, Option<u64>)
-    requires rests { Rests table.now seat.old }
-    ensures rests { Rests table.now seat.new }
+    requires rests { SeatRests table.now seat.old }
+    ensures rests { SeatRests table.now seat.new }
     ensures same { IsSame seat.old seat.new }
 {
     let mut entries = [change(0, 0, 0); CELLS];

@@ -3,15 +3,15 @@ use Rattle.std.proofs.Common.{◌≡◌, ℕ, zero, suc, ◌<◌, List, [], ◌�
 use Rattle.std.specs.Io.KnownBytes.{Appends}
 use Rattle.rh_key_files.specs.Counting.{AppendsFront}
 use Rattle.rh_key_files.proofs.Writing.{front_stops}
-use Rattle.rh_numbers.specs.Writing.{line_of, text_of}
+use Rattle.rh_numbers.specs.Writing.{number_line, text_of}
 
-text_split : (numbers : List ℕ) (i : ℕ) → i < length numbers → text_of numbers ≡ (text_of (take i numbers) ++ line_of (get_or numbers i 0)) ++ text_of (drop (suc i) numbers)
+text_split : (numbers : List ℕ) (i : ℕ) → i < length numbers → text_of numbers ≡ (text_of (take i numbers) ++ number_line (get_or numbers i 0)) ++ text_of (drop (suc i) numbers)
 text_split [] i lt = absurd (omega (arith, lt))
 text_split (n ∷ numbers) zero lt = refl
 text_split (n ∷ numbers) (suc i) lt =
-    ap (λ l. line_of n ++ l) (text_split numbers i (omega (arith, lt)))
-    ∙ sym (ap (λ l. l ++ text_of (drop (suc i) numbers)) (append_assoc (line_of n) (text_of (take i numbers)) (line_of (get_or numbers i 0))) ∙ append_assoc (line_of n) (text_of (take i numbers) ++ line_of (get_or numbers i 0)) (text_of (drop (suc i) numbers)))
+    ap (λ l. number_line n ++ l) (text_split numbers i (omega (arith, lt)))
+    ∙ sym (ap (λ l. l ++ text_of (drop (suc i) numbers)) (append_assoc (number_line n) (text_of (take i numbers)) (number_line (get_or numbers i 0))) ∙ append_assoc (number_line n) (text_of (take i numbers) ++ number_line (get_or numbers i 0)) (text_of (drop (suc i) numbers)))
 
-pub line_stops : (a b c : Option (List ℕ)) (numbers : List ℕ) (i : ℕ) → i < length numbers → Appends a b (text_of (take i numbers)) → AppendsFront b c (line_of (get_or numbers i 0)) → AppendsFront a c (text_of numbers)
+pub line_stops : (a b c : Option (List ℕ)) (numbers : List ℕ) (i : ℕ) → i < length numbers → Appends a b (text_of (take i numbers)) → AppendsFront b c (number_line (get_or numbers i 0)) → AppendsFront a c (text_of numbers)
 line_stops a b c numbers i inside before front =
-    front_stops a b c (text_of (take i numbers)) (line_of (get_or numbers i 0)) (text_of (drop (suc i) numbers)) (text_of numbers) (text_split numbers i inside) before front
+    front_stops a b c (text_of (take i numbers)) (number_line (get_or numbers i 0)) (text_of (drop (suc i) numbers)) (text_of numbers) (text_split numbers i inside) before front

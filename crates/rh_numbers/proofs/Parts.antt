@@ -9,7 +9,7 @@ use Rattle.rh_numbers.specs.declared.fault.TextFault.TheVariants.{NotAKey, OutOf
 use Rattle.rh_numbers.specs.declared.limits.TheConstants.{MAX_BYTES, PART_BYTES}
 use Rattle.rh_numbers.specs.declared.line_so_far.LineSoFar.{LineSoFar}
 use Rattle.rh_numbers.specs.declared.reading.Reading.{Reading}
-use Rattle.rh_numbers.specs.Parts.{PartGives, keys_of, said_by}
+use Rattle.rh_numbers.specs.Parts.{PartGives, keys_read, said_by}
 use Rattle.rh_numbers.specs.Reading.{Fails, Reads, Said, Stops, said_from, text_said, with_line}
 use Rattle.rh_numbers.proofs.Fronts.{all_said, the_fault, too_many_said}
 
@@ -65,7 +65,7 @@ pub whole_part : (part : List ℕ) (left : Option (List ℕ)) (old new : Reading
 whole_part part left old new true is gives = gives
 whole_part part left old new false is gives = absurd cc
 
-pub last_part : (part : List ℕ) (left : Option (List ℕ)) (old new : Reading) (on : Bool) → on ≡ false → PartGives part left old new (Ok on) → IsAtEnd left × (said_by old part ≡ (keys_of new, None))
+pub last_part : (part : List ℕ) (left : Option (List ℕ)) (old new : Reading) (on : Bool) → on ≡ false → PartGives part left old new (Ok on) → IsAtEnd left × (said_by old part ≡ (keys_read new, None))
 last_part part left old new true is gives = absurd cc
 last_part part left old new false is gives = gives
 

@@ -8,12 +8,12 @@ use Rattle.rh_numbers.specs.declared.line_so_far.LineSoFar.{LineSoFar}
 use Rattle.rh_numbers.specs.declared.reading.Reading.{Reading}
 use Rattle.rh_numbers.specs.Reading.{Said, Stops, said_from}
 
-abbrev pub keys_of : Reading → List ℕ
-keys_of reading = reading.keys.items
+abbrev pub keys_read : Reading → List ℕ
+keys_read reading = reading.keys.items
 
 -- the number of the line, and what it has said so far
-abbrev pub line_of : Reading → ℕ
-line_of reading = reading.line
+abbrev pub line_reached : Reading → ℕ
+line_reached reading = reading.line
 
 abbrev pub so_far_of : Reading → LineSoFar
 so_far_of reading = reading.so_far
@@ -26,8 +26,8 @@ said_by reading bytes = said_from reading.keys.items reading.line reading.so_far
 -- failed read, nothing is told.
 abbrev pub PartGives : (part : List ℕ) (left : Option (List ℕ)) (old new : Reading) → Result Bool TextFault → Type 0
 PartGives part left old new (Ok true) = (length part ≡ PART_BYTES) × ((rest : List ℕ) → said_by old (part ++ rest) ≡ said_by new rest)
-PartGives part left old new (Ok false) = IsAtEnd left × (said_by old part ≡ (keys_of new, None))
-PartGives part left old new (Err e) = e ≢ Read → MatchOption left (Unit {0}) (λ rest. Stops e (keys_of new) (said_by old (part ++ rest)))
+PartGives part left old new (Ok false) = IsAtEnd left × (said_by old part ≡ (keys_read new, None))
+PartGives part left old new (Err e) = e ≢ Read → MatchOption left (Unit {0}) (λ rest. Stops e (keys_read new) (said_by old (part ++ rest)))
 
 -- A part was taken of the bytes, and this came of it.
 pub record ReadsPart (bytes left : Option (List ℕ)) (old new : Reading) (r : Result Bool TextFault) : Type 0 where

@@ -30,14 +30,14 @@ impl Reading {
     ghost use Rattle.std.specs.Prelude.{◌≡◌, ◌≢◌, ◌≤◌, ◌<◌, ◌+◌, ◌^◌, ℕ, List, [], ◌∷◌, ◌++◌};
     ghost use Rattle.std.specs.Prelude.{IsErrOf, MatchResult, None, OnOk, Err};
     ghost use Rattle.rh_key_files.specs.Counting.{Rose, failures_of, inner_of};
-    ghost use Rattle.rh_numbers.specs.Parts.{ReadsPart, keys_of, line_of, said_by, so_far_of};
+    ghost use Rattle.rh_numbers.specs.Parts.{ReadsPart, keys_read, line_reached, said_by, so_far_of};
     ghost use Rattle.rh_numbers.specs.Reading.{Stops, with_key, with_line};
     ghost use Rattle.rh_numbers.specs.declared.limits.TheConstants.{PART_BYTES};
 
     /// Nothing was read yet.
     pub fn new(alloc: Global) -> Reading
-        ensures keys { keys_of result ≡ [] }
-        ensures line { line_of result ≡ 1 }
+        ensures keys { keys_read result ≡ [] }
+        ensures line { line_reached result ≡ 1 }
         ensures so_far { so_far_of result ≡ LineSoFar.Start }
     {
         Reading {
@@ -49,7 +49,7 @@ impl Reading {
 
     /// The keys that were read and not cleared, in the order of the text.
     pub fn keys(&self) -> &[u64]
-        ensures keys { result.now ≡ keys_of self.now }
+        ensures keys { result.now ≡ keys_read self.now }
         ensures in_range { All IsKey result.now }
         ensures few { length result.now ≤ MAX_KEYS }
     {
@@ -57,7 +57,7 @@ impl Reading {
     }
 
     pub(crate) fn into_keys(self) -> Vec<u64>
-        ensures keys { result.items ≡ keys_of self }
+        ensures keys { result.items ≡ keys_read self }
         ensures in_range { All IsKey result.items }
         ensures few { length result.items ≤ MAX_KEYS }
     {
@@ -66,8 +66,8 @@ impl Reading {
 
     /// Drops the keys that were read. The text goes on where it was, and room for as many keys stays.
     pub fn clear(&mut self)
-        ensures keys { keys_of self.new ≡ [] }
-        ensures line { line_of self.new ≡ line_of self.old }
+        ensures keys { keys_read self.new ≡ [] }
+        ensures line { line_reached self.new ≡ line_reached self.old }
         ensures so_far { so_far_of self.new ≡ so_far_of self.old }
     {
         self.keys.clear();
@@ -79,13 +79,13 @@ impl Reading {
     /// `TooMany` says that `MAX_KEYS` are held and one more came; whoever clears them before each
     /// part never meets it.
     pub fn read_part<R: Read>(&mut self, reader: &mut Counted<R>) -> Result<bool, TextFault>
-        requires { line_of self.old + PART_BYTES < 2 ^ 64 }
+        requires { line_reached self.old + PART_BYTES < 2 ^ 64 }
         ensures part { ReadsPart (R.remaining (inner_of reader.old))
             (R.remaining (inner_of reader.new)) self.old self.new result }
-        ensures line { OnOk result (line_of self.new ≤ line_of self.old + PART_BYTES) }
-        ensures many { length (keys_of self.new) ≤ length (keys_of self.old) + PART_BYTES + 1 }
-        ensures full { IsErrOf result TextFault.TooMany → length (keys_of self.new) ≡ MAX_KEYS }
-        ensures unread { IsErrOf result TextFault.Read → keys_of self.new ≡ keys_of self.old }
+        ensures line { OnOk result (line_reached self.new ≤ line_reached self.old + PART_BYTES) }
+        ensures many { length (keys_read self.new) ≤ length (keys_read self.old) + PART_BYTES + 1 }
+        ensures full { IsErrOf result TextFault.TooMany → length (keys_read self.new) ≡ MAX_KEYS }
+        ensures unread { IsErrOf result TextFault.Read → keys_read self.new ≡ keys_read self.old }
         ensures not_too_long { IsErrOf result TextFault.TooLong → ⊥ }
         ensures read { IsErrOf result TextFault.Read →
             Rose (failures_of reader.old) (failures_of reader.new) }
@@ -114,7 +114,7 @@ impl Reading {
             (λ _. (rest : List ℕ) →
             said_by self.old (bytes.now ++ rest) ≡ said_by self.new rest)
             (λ fault. (rest : List ℕ) →
-            Stops fault (keys_of self.new) (said_by self.old (bytes.now ++ rest))) }
+            Stops fault (keys_read self.new) (said_by self.old (bytes.now ++ rest))) }
     {
         for b in bytes {
             self.step(*b)?;
@@ -131,7 +131,7 @@ impl Reading {
         ensures read { MatchResult result
             (λ _. (rest : List ℕ) → said_by self.old (b ∷ rest) ≡ said_by self.new rest)
             (λ fault. (rest : List ℕ) →
-            Stops fault (keys_of self.new) (said_by self.old (b ∷ rest))) }
+            Stops fault (keys_read self.new) (said_by self.old (b ∷ rest))) }
     {
         if b == b'\n' {
             self.end_line()?;

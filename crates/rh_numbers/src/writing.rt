@@ -2,7 +2,7 @@
 
 ghost use Rattle.std.specs.Prelude.{◌≡◌, OnErr, OnOk};
 ghost use Rattle.rh_key_files.specs.Counting.{Rose, Writes, failures_of, inner_of};
-ghost use Rattle.rh_numbers.specs.Writing.{line_of, text_of};
+ghost use Rattle.rh_numbers.specs.Writing.{number_line, text_of};
 
 use itoa::Buffer;
 use rh_key_files::{Counted, WriteFault, write_texts};
@@ -25,7 +25,7 @@ pub fn write_numbers<W: Write>(numbers: &[u64], writer: &mut Counted<W>) -> Resu
 
 fn put_line<W: Write>(number: u64, writer: &mut Counted<W>) -> Result<(), WriteFault>
     ensures text { Writes (W.contents (inner_of writer.old)) (W.contents (inner_of writer.new))
-        (line_of number) result }
+        (number_line number) result }
     ensures failed { OnErr result (Rose (failures_of writer.old) (failures_of writer.new)) }
     ensures fine { OnOk result (failures_of writer.new ≡ failures_of writer.old) }
 {

@@ -25,7 +25,7 @@ use Rattle.rh_operations.specs.declared.key_lists.Source.{Source}
 use Rattle.rh_operations.specs.Causes.{of_keys, of_list}
 use Rattle.rh_operations.specs.Refusals.{RefusedAgain, RefusedBy}
 use Rattle.rh_operations.specs.Found.{count_again, count_or_cause, header_count, keys_again, keys_found, still}
-use Rattle.rh_operations.specs.KeyLists.{Gave, Opens, Stands, bytes_at}
+use Rattle.rh_operations.specs.KeyLists.{Gave, Opens, Stands, source_bytes}
 use Rattle.rh_operations.specs.Operations.{flipped_most, size_to_add, size_to_flip, size_to_keep}
 use Rattle.rh_operations.specs.Found.{keys_or_cause}
 use Rattle.rh_operations.specs.Sequence.{◌>>=◌}
@@ -72,9 +72,9 @@ count_stands (Some bytes) keys noted is many =
     ap (λ r. r >>= still noted) (header_of_keys bytes keys (header_at bytes) refl (the_keys (keys_of_file bytes) keys is))
     ∙ still_noted noted (length keys) many
 
-pub stands_again : (files : Files) (list : KeyList) (keys : List ℕ) → Stands (Some files) list keys → keys_again list.count (bytes_at files list.source) ≡ Ok keys
+pub stands_again : (files : Files) (list : KeyList) (keys : List ℕ) → Stands (Some files) list keys → keys_again list.count (source_bytes files list.source) ≡ Ok keys
 stands_again files list keys stands =
-    ap (λ r. r >>= (λ _. keys_found (bytes_at files list.source))) (count_stands (bytes_at files list.source) keys list.count stands.0 stands.1) ∙ stands.0
+    ap (λ r. r >>= (λ _. keys_found (source_bytes files list.source))) (count_stands (source_bytes files list.source) keys list.count stands.0 stands.1) ∙ stands.0
 
 -- Memory that is wanted once a list stands is wanted after its count was found.
 wanted : {Y : Type 0} (found : Result Y Cause) (failed : Type 0) (cause : Cause) → IsOk found → WantedAfter found failed cause
@@ -88,9 +88,9 @@ wanted found failed causes.NoThread ok = tt
 wanted found failed causes.Put ok = tt
 wanted found failed causes.Write ok = tt
 
-pub wanted_again : (files : Files) (list : KeyList) (keys : List ℕ) (failed : Type 0) (cause : Cause) → Stands (Some files) list keys → WantedAfter (count_again list.count (bytes_at files list.source)) failed cause
+pub wanted_again : (files : Files) (list : KeyList) (keys : List ℕ) (failed : Type 0) (cause : Cause) → Stands (Some files) list keys → WantedAfter (count_again list.count (source_bytes files list.source)) failed cause
 wanted_again files list keys failed cause stands =
-    wanted (count_again list.count (bytes_at files list.source)) failed cause (ap is_ok (count_stands (bytes_at files list.source) keys list.count stands.0 stands.1))
+    wanted (count_again list.count (source_bytes files list.source)) failed cause (ap is_ok (count_stands (source_bytes files list.source) keys list.count stands.0 stands.1))
 
 -- so what is said of them is said of its keys
 pub given : (P : List ℕ → Type 0) (files : Option Files) (list : KeyList) (keys : List ℕ) → Stands files list keys → (given : List ℕ) × Gave files list given × P given → P keys
@@ -105,16 +105,16 @@ as_it_was (Ok x) = refl
 as_it_was (Err e) = refl
 
 module _ (files : Files) (list : KeyList) (keys : List ℕ) (stands : Stands (Some files) list keys) (table : Held) where
-  pub add_again : size_to_add table list.count (bytes_at files list.source) ≡ size_for table.bits (set.len table.keys + length keys)
+  pub add_again : size_to_add table list.count (source_bytes files list.source) ≡ size_for table.bits (set.len table.keys + length keys)
   add_again =
-      ap (λ r. r >>= (λ count. size_for table.bits (set.len table.keys + count) >>= (λ size. keys_found (bytes_at files list.source) >>= (λ _. Ok size)))) (count_stands (bytes_at files list.source) keys list.count stands.0 stands.1)
+      ap (λ r. r >>= (λ count. size_for table.bits (set.len table.keys + count) >>= (λ size. keys_found (source_bytes files list.source) >>= (λ _. Ok size)))) (count_stands (source_bytes files list.source) keys list.count stands.0 stands.1)
       ∙ ap (λ r. size_for table.bits (set.len table.keys + length keys) >>= (λ size. r >>= (λ _. Ok size))) stands.0
       ∙ as_it_was (size_for table.bits (set.len table.keys + length keys))
 
-  pub keep_again : size_to_keep table list.count (bytes_at files list.source) ≡ size_for MIN_BITS (length (chosen Present table.keys keys))
+  pub keep_again : size_to_keep table list.count (source_bytes files list.source) ≡ size_for MIN_BITS (length (chosen Present table.keys keys))
   keep_again = ap (λ r. r >>= (λ k. size_for MIN_BITS (length (chosen Present table.keys k)))) (stands_again files list keys stands)
 
-  pub flip_again : size_to_flip table list.count (bytes_at files list.source) ≡ size_for table.bits (flipped_most table.keys keys)
+  pub flip_again : size_to_flip table list.count (source_bytes files list.source) ≡ size_for table.bits (flipped_most table.keys keys)
   flip_again = ap (λ r. r >>= (λ k. size_for table.bits (flipped_most table.keys k))) (stands_again files list keys stands)
 
 -- ---- refusals
@@ -160,38 +160,38 @@ module _ (files : Option Files) (known : Files) (is : files ≡ Some known) (sou
   abbrev opened : Opens (Some known) source bytes
   opened = subst (λ f. Opens f source bytes) is opens
 
-  pub not_again : {B : Type 0} (then : ℕ → Result B Cause) (failed refused : Type 0) (cause : Cause) → ((b : List ℕ) → bytes ≡ Some b → RefusedBy (count_again noted (Some b)) (ListFails ⊥) cause) → RefusedBy (count_again noted (bytes_at known source) >>= then) (PhaseFails failed refused) cause
+  pub not_again : {B : Type 0} (then : ℕ → Result B Cause) (failed refused : Type 0) (cause : Cause) → ((b : List ℕ) → bytes ≡ Some b → RefusedBy (count_again noted (Some b)) (ListFails ⊥) cause) → RefusedBy (count_again noted (source_bytes known source) >>= then) (PhaseFails failed refused) cause
   not_again then failed refused cause why =
       let said = subst (λ found. RefusedBy (count_again noted found) (ListFails ⊥) cause) (sym opened.1) (why opened.0 opened.2) in
-      first_refused (count_again noted (bytes_at known source)) then cause (ListFails ⊥) (PhaseFails failed refused) (λ out. list_fails failed refused cause (none_failed failed cause out)) said
+      first_refused (count_again noted (source_bytes known source)) then cause (ListFails ⊥) (PhaseFails failed refused) (λ out. list_fails failed refused cause (none_failed failed cause out)) said
 
-  pub is_again : ((b : List ℕ) → bytes ≡ Some b → count_again noted (Some b) ≡ Ok noted) → count_again noted (bytes_at known source) ≡ Ok noted
+  pub is_again : ((b : List ℕ) → bytes ≡ Some b → count_again noted (Some b) ≡ Ok noted) → count_again noted (source_bytes known source) ≡ Ok noted
   is_again again = ap (count_again noted) opened.1 ∙ again opened.0 opened.2
 
   module _ (coming : Coming) (comes : ComesFrom bytes coming) where
     coming_is : coming ≡ Some (keys_of_file opened.0)
     coming_is = let known : ComesFrom (Some opened.0) coming = subst (λ b. ComesFrom b coming) opened.2 comes in known
 
-    fault_comes : (fault : KeyFault) (failed refused : Type 0) → FaultComes coming fault → RefusedBy (keys_found (bytes_at known source)) (PhaseFails failed refused) (of_keys fault)
+    fault_comes : (fault : KeyFault) (failed refused : Type 0) → FaultComes coming fault → RefusedBy (keys_found (source_bytes known source)) (PhaseFails failed refused) (of_keys fault)
     fault_comes fault failed refused h =
         subst (λ found. RefusedBy (keys_found found) (PhaseFails failed refused) (of_keys fault)) (sym opened.1)
         (keys_fault opened.0 fault failed refused (subst (λ c. FaultComes c fault) coming_is h))
 
-    pub rest_refused : (failed : Type 0) (n m : ℕ) (e : ListFault) → Refused coming n m e → RefusedBy (keys_found (bytes_at known source)) (PhaseFails failed (Rose n m)) (of_list e)
+    pub rest_refused : (failed : Type 0) (n m : ℕ) (e : ListFault) → Refused coming n m e → RefusedBy (keys_found (source_bytes known source)) (PhaseFails failed (Rose n m)) (of_list e)
     rest_refused failed n m (list_faults.Keys fault) h = fault_comes fault failed (Rose n m) h
     rest_refused failed n m list_faults.Changed h = absurd h
     rest_refused failed n m (list_faults.Phase phase_faults.Memory) h = inr tt
     rest_refused failed n m (list_faults.Phase phase_faults.NoThread) h = inr h
 
     -- at the second reading of a list that was chosen from
-    pub again_refused : (failed : Type 0) (choice : Choice) (n m : ℕ) (e : ListFault) → count_again noted (bytes_at known source) ≡ Ok noted → RefusedFor coming choice n m e
-        → RefusedAgain (keys_again noted (bytes_at known source)) (by_choice choice) choice.many (PhaseFails failed (Rose n m)) (of_list e)
+    pub again_refused : (failed : Type 0) (choice : Choice) (n m : ℕ) (e : ListFault) → count_again noted (source_bytes known source) ≡ Ok noted → RefusedFor coming choice n m e
+        → RefusedAgain (keys_again noted (source_bytes known source)) (by_choice choice) choice.many (PhaseFails failed (Rose n m)) (of_list e)
     again_refused failed choice n m (list_faults.Keys fault) again h =
-        inl (later_refused (count_again noted (bytes_at known source)) (λ _. keys_found (bytes_at known source)) (of_keys fault) failed (Rose n m) noted again (fault_comes fault failed (Rose n m) h))
+        inl (later_refused (count_again noted (source_bytes known source)) (λ _. keys_found (source_bytes known source)) (of_keys fault) failed (Rose n m) noted again (fault_comes fault failed (Rose n m) h))
     again_refused failed choice n m list_faults.Changed again h = inr (
       refl,
       λ keys is.
-          let all : keys_found (bytes_at known source) ≡ Ok keys = sym (ap (λ r. r >>= (λ _. keys_found (bytes_at known source))) again) ∙ is in
+          let all : keys_found (source_bytes known source) ≡ Ok keys = sym (ap (λ r. r >>= (λ _. keys_found (source_bytes known source))) again) ∙ is in
           h keys (coming_is ∙ ap (λ r. Some r) (the_keys (keys_of_file opened.0) keys (ap keys_found (sym opened.1) ∙ all))),
     )
     again_refused failed choice n m (list_faults.Phase phase_faults.Memory) again h = inl (inr tt)

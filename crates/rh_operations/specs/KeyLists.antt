@@ -14,19 +14,19 @@ abbrev pub bytes_left : {R : Type 0} → (R → Option (List ℕ)) → ListReade
 bytes_left remaining (readers.File reader) = remaining reader
 bytes_left remaining (readers.Memory bytes) = Some bytes.now
 
-abbrev pub bytes_at : Files → Source → Option (List ℕ)
-bytes_at files (Path path) = files path.now
-bytes_at files (Memory bytes) = Some bytes.items
+abbrev pub source_bytes : Files → Source → Option (List ℕ)
+source_bytes files (Path path) = files path.now
+source_bytes files (Memory bytes) = Some bytes.items
 
 -- a reader of these bytes was opened, which are those of the source where the files are known
 abbrev pub Opens : Option Files → Source → Option (List ℕ) → Type 0
 Opens None source bytes = Unit {0}
-Opens (Some files) source bytes = (found : List ℕ) × (bytes_at files source ≡ Some found) × (bytes ≡ Some found)
+Opens (Some files) source bytes = (found : List ℕ) × (source_bytes files source ≡ Some found) × (bytes ≡ Some found)
 
 -- The files are known, and the list's has these keys, as many as were noted.
 abbrev pub Stands : Option Files → KeyList → List ℕ → Type 0
 Stands None list keys = ⊥
-Stands (Some files) list keys = (keys_found (bytes_at files list.source) ≡ Ok keys) × (length keys ≡ list.count)
+Stands (Some files) list keys = (keys_found (source_bytes files list.source) ≡ Ok keys) × (length keys ≡ list.count)
 
 -- A reading of the list gave these keys: as many as were noted, and those of its file where the files are known.
 abbrev pub Gave : Option Files → KeyList → List ℕ → Type 0

@@ -8,7 +8,7 @@ ghost use Rattle.rh_shelf.specs.Shelf.{Files, Finds, Lacks};
 ghost use Rattle.rh_operations.specs.Leaves.{KeepsShelf};
 ghost use Rattle.rh_operations.specs.Refusals.{RefusedBy};
 ghost use Rattle.rh_operations.specs.Found.{count_again, header_count};
-ghost use Rattle.rh_operations.specs.KeyLists.{Opens, bytes_at, bytes_left};
+ghost use Rattle.rh_operations.specs.KeyLists.{Opens, source_bytes, bytes_left};
 ghost use Rattle.rh_operations.specs.Refusals.{ListFails};
 
 use crate::cause::Cause;
@@ -50,7 +50,7 @@ pub(crate) fn open_list<'a, S: Shelf>(
     ensures opened { IfOk result (λ r. Opens (S.files shelf.old) list.now.source
         (bytes_left S.Reader.remaining (inner_of r))) }
     ensures refused { (files : Files) → S.files shelf.old ≡ Some files → IfErr result
-        (RefusedBy (header_count (bytes_at files list.now.source))
+        (RefusedBy (header_count (source_bytes files list.now.source))
         (ListFails (Rose (S.failures shelf.old) (S.failures shelf.new)))) }
     ensures memory { IfErr result (λ cause. cause ≡ Cause.Memory →
         Rose (S.failures shelf.old) (S.failures shelf.new)) }

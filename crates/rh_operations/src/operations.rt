@@ -16,7 +16,7 @@ ghost use Rattle.rh_edit.specs.Rising.{rising_keys};
 ghost use Rattle.rh_operations.specs.Leaves.{KeepsRunner, KeepsShelf};
 ghost use Rattle.rh_operations.specs.Refusals.{RefusedAgain, RefusedBy};
 ghost use Rattle.rh_operations.specs.Found.{count_again, keys_again, keys_found};
-ghost use Rattle.rh_operations.specs.KeyLists.{Gave, Stands, bytes_at, path_of};
+ghost use Rattle.rh_operations.specs.KeyLists.{Gave, Stands, source_bytes, path_of};
 ghost use Rattle.rh_operations.specs.Operations.{Added, Dropped, Flipped, Kept};
 ghost use Rattle.rh_operations.specs.Operations.{room_to_add, size_to_add, size_to_flip, size_to_keep};
 ghost use Rattle.rh_operations.specs.Refusals.{ListFails, PhaseFails, WantedAfter};
@@ -73,10 +73,10 @@ pub fn add<T: Threads + Wait + Sync, S: Shelf, N: Runner>(
     ensures added { IfOk result (λ told. (keys : List ℕ) × Gave (S.files shelf.old) list.now keys
         × Added keys set.old set.new told) }
     ensures memory { (files : Files) → S.files shelf.old ≡ Some files → IfErr result
-        (WantedAfter (room_to_add set.old list.now.count (bytes_at files list.now.source))
+        (WantedAfter (room_to_add set.old list.now.count (source_bytes files list.now.source))
         (Rose (S.failures shelf.old) (S.failures shelf.new))) }
     ensures refused { (files : Files) → S.files shelf.old ≡ Some files → IfErr result
-        (RefusedBy (size_to_add set.old list.now.count (bytes_at files list.now.source))
+        (RefusedBy (size_to_add set.old list.now.count (source_bytes files list.now.source))
         (PhaseFails (Rose (S.failures shelf.old) (S.failures shelf.new))
         (Rose (N.refused_starts runner.old) (N.refused_starts runner.new)))) }
     ensures unchanged { OnErr result (set.new ≡ set.old) }
@@ -107,10 +107,10 @@ pub fn drop_keys<T: Threads + Wait + Sync, S: Shelf, N: Runner>(
     ensures dropped { IfOk result (λ told. (keys : List ℕ) × Gave (S.files shelf.old) list.now keys
         × Dropped keys set.old set.new told) }
     ensures memory { (files : Files) → S.files shelf.old ≡ Some files → IfErr result
-        (WantedAfter (count_again list.now.count (bytes_at files list.now.source))
+        (WantedAfter (count_again list.now.count (source_bytes files list.now.source))
         (Rose (S.failures shelf.old) (S.failures shelf.new))) }
     ensures refused { (files : Files) → S.files shelf.old ≡ Some files → IfErr result
-        (RefusedBy (keys_again list.now.count (bytes_at files list.now.source))
+        (RefusedBy (keys_again list.now.count (source_bytes files list.now.source))
         (PhaseFails (Rose (S.failures shelf.old) (S.failures shelf.new))
         (Rose (N.refused_starts runner.old) (N.refused_starts runner.new)))) }
     ensures unchanged { OnErr result (set.new ≡ set.old) }
@@ -140,10 +140,10 @@ pub fn ask<T: Threads + Wait + Sync, S: Shelf, N: Runner>(
     ensures asked { IfOk result (λ answers. (keys : List ℕ) × Gave (S.files shelf.old) list.now keys
         × (answers.items ≡ looked_up set.now.keys keys)) }
     ensures memory { (files : Files) → S.files shelf.old ≡ Some files → IfErr result
-        (WantedAfter (count_again list.now.count (bytes_at files list.now.source))
+        (WantedAfter (count_again list.now.count (source_bytes files list.now.source))
         (Rose (S.failures shelf.old) (S.failures shelf.new))) }
     ensures refused { (files : Files) → S.files shelf.old ≡ Some files → IfErr result
-        (RefusedBy (keys_again list.now.count (bytes_at files list.now.source))
+        (RefusedBy (keys_again list.now.count (source_bytes files list.now.source))
         (PhaseFails (Rose (S.failures shelf.old) (S.failures shelf.new))
         (Rose (N.refused_starts runner.old) (N.refused_starts runner.new)))) }
     ensures shelf { KeepsShelf (S.files shelf.old) (S.files shelf.new) (S.failures shelf.old)
@@ -170,10 +170,10 @@ pub fn keep<T: Threads + Wait + Sync, S: Shelf, N: Runner>(
     ensures kept { IfOk result (λ found. (keys : List ℕ) × Gave (S.files shelf.old) list.now keys
         × Kept keys set.old set.new found) }
     ensures memory { (files : Files) → S.files shelf.old ≡ Some files → IfErr result
-        (WantedAfter (count_again list.now.count (bytes_at files list.now.source))
+        (WantedAfter (count_again list.now.count (source_bytes files list.now.source))
         (Rose (S.failures shelf.old) (S.failures shelf.new))) }
     ensures refused { (files : Files) → S.files shelf.old ≡ Some files → IfErr result
-        (RefusedBy (size_to_keep set.old list.now.count (bytes_at files list.now.source))
+        (RefusedBy (size_to_keep set.old list.now.count (source_bytes files list.now.source))
         (PhaseFails (Rose (S.failures shelf.old) (S.failures shelf.new))
         (Rose (N.refused_starts runner.old) (N.refused_starts runner.new)))) }
     ensures unchanged { OnErr result (set.new ≡ set.old) }
@@ -208,10 +208,10 @@ fn count_found<T: Threads + Wait + Sync, S: Shelf, N: Runner>(
     ensures found { IfOk result (λ found. (keys : List ℕ) × Gave (S.files shelf.old) list.now keys
         × (found ≡ length (chosen Present set.now.keys keys))) }
     ensures memory { (files : Files) → S.files shelf.old ≡ Some files → IfErr result
-        (WantedAfter (count_again list.now.count (bytes_at files list.now.source))
+        (WantedAfter (count_again list.now.count (source_bytes files list.now.source))
         (Rose (S.failures shelf.old) (S.failures shelf.new))) }
     ensures refused { (files : Files) → S.files shelf.old ≡ Some files → IfErr result
-        (RefusedBy (keys_again list.now.count (bytes_at files list.now.source))
+        (RefusedBy (keys_again list.now.count (source_bytes files list.now.source))
         (PhaseFails (Rose (S.failures shelf.old) (S.failures shelf.new))
         (Rose (N.refused_starts runner.old) (N.refused_starts runner.new)))) }
     ensures shelf { KeepsShelf (S.files shelf.old) (S.files shelf.new) (S.failures shelf.old)
@@ -248,10 +248,10 @@ fn insert_listed<T: Threads + Wait + Sync, S: Shelf, N: Runner>(
         × Ran Insert scratch.old.bits (by_choice choice.now keys) scratch.old.cells.items
         scratch.new.cells.items told) }
     ensures memory { (files : Files) → S.files shelf.old ≡ Some files → IfErr result
-        (WantedAfter (count_again list.now.count (bytes_at files list.now.source))
+        (WantedAfter (count_again list.now.count (source_bytes files list.now.source))
         (Rose (S.failures shelf.old) (S.failures shelf.new))) }
     ensures refused { (files : Files) → S.files shelf.old ≡ Some files → IfErr result
-        (RefusedAgain (keys_again list.now.count (bytes_at files list.now.source))
+        (RefusedAgain (keys_again list.now.count (source_bytes files list.now.source))
         (by_choice choice.now) choice.now.many
         (PhaseFails (Rose (S.failures shelf.old) (S.failures shelf.new))
         (Rose (N.refused_starts runner.old) (N.refused_starts runner.new)))) }
@@ -287,10 +287,10 @@ pub fn flip<T: Threads + Wait + Sync, S: Shelf, N: Runner>(
         × Gave (S.files shelf.old) list.now first × Gave (S.files shelf.old) list.now second
         × Flipped first second set.old set.new told) }
     ensures memory { (files : Files) → S.files shelf.old ≡ Some files → IfErr result
-        (WantedAfter (count_again list.now.count (bytes_at files list.now.source))
+        (WantedAfter (count_again list.now.count (source_bytes files list.now.source))
         (Rose (S.failures shelf.old) (S.failures shelf.new))) }
     ensures refused { (files : Files) → S.files shelf.old ≡ Some files → IfErr result
-        (RefusedBy (size_to_flip set.old list.now.count (bytes_at files list.now.source))
+        (RefusedBy (size_to_flip set.old list.now.count (source_bytes files list.now.source))
         (PhaseFails (Rose (S.failures shelf.old) (S.failures shelf.new))
         (Rose (N.refused_starts runner.old) (N.refused_starts runner.new)))) }
     ensures unchanged { OnErr result (set.new ≡ set.old) }
@@ -331,10 +331,10 @@ fn without_listed<T: Threads + Wait + Sync, S: Shelf, N: Runner>(
         × Dropped keys set.now r.set r.removed.tally
         × (r.removed.absent ≡ length (chosen Absent set.now.keys keys))) }
     ensures memory { (files : Files) → S.files shelf.old ≡ Some files → IfErr result
-        (WantedAfter (count_again list.now.count (bytes_at files list.now.source))
+        (WantedAfter (count_again list.now.count (source_bytes files list.now.source))
         (Rose (S.failures shelf.old) (S.failures shelf.new))) }
     ensures refused { (files : Files) → S.files shelf.old ≡ Some files → IfErr result
-        (RefusedBy (keys_again list.now.count (bytes_at files list.now.source))
+        (RefusedBy (keys_again list.now.count (source_bytes files list.now.source))
         (PhaseFails (Rose (S.failures shelf.old) (S.failures shelf.new))
         (Rose (N.refused_starts runner.old) (N.refused_starts runner.new)))) }
     ensures shelf { KeepsShelf (S.files shelf.old) (S.files shelf.new) (S.failures shelf.old)

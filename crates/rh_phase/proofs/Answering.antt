@@ -5,11 +5,11 @@ use Rattle.std.specs.FinSet.{contains}
 use Rattle.std.proofs.lemmas.List.{ext_get_or, get_or-map, get_or-replicate, length-map, length-replicate}
 use Rattle.rh_ledger.specs.declared.tally.Kind.TheVariants.{Ask}
 use Rattle.rh_ledger.specs.Phase.{looked_up}
-use Rattle.rh_phase.specs.Made.{HasMade, first_set}
+use Rattle.rh_phase.specs.Made.{HasWorkedOut, first_set}
 use Rattle.rh_phase.specs.Rounds.{Phase, is_marked}
 use Rattle.rh_phase.specs.declared.hand.Hand.{Hand}
 
-pub are_answered : (ph : Phase) (values : List ℕ) (hs : List Hand) (old new : List Bool) → ph.kind ≡ Ask → HasMade ph values hs → ph.positions ≡ length ph.keys → old ≡ replicate ph.positions false
+pub are_answered : (ph : Phase) (values : List ℕ) (hs : List Hand) (old new : List Bool) → ph.kind ≡ Ask → HasWorkedOut ph values hs → ph.positions ≡ length ph.keys → old ≡ replicate ph.positions false
     → length new ≡ length old → ((p : ℕ) → p < length old → slice_index_or new p false ≡ (slice_index_or old p false || is_marked hs p)) → new ≡ looked_up (first_set ph) ph.keys
 are_answered ph values hs old new asks made all old_is long marked = ext_get_or false new (looked_up (first_set ph) ph.keys) (new_long ∙ all ∙ sym (length-map ph.keys (contains (first_set ph)))) (λ p inside.
     let within : p < ph.positions = omega (arith, inside, new_long) in

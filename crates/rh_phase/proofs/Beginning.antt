@@ -31,7 +31,7 @@ use Rattle.rh_run.specs.Laws.{started}
 use Rattle.rh_run.proofs.Turning.{run_starts}
 use Rattle.rh_kcas.specs.Crews.{HasAll, IsFresh, views_of}
 use Rattle.rh_phase.specs.Crew.{CanWork}
-use Rattle.rh_phase.specs.Hands.{Stands, answer, left_over, progress_by}
+use Rattle.rh_phase.specs.Hands.{HandStands, answer, left_over, progress_by}
 use Rattle.rh_phase.specs.Made.{AreNew, IsNew}
 use Rattle.rh_phase.specs.Rounds.{Comes, past_of, phase}
 use Rattle.rh_phase.specs.declared.crew.Crew.{Crew}
@@ -106,7 +106,7 @@ module _ (t : Table) (kind : Kind) (positions : ℕ) (cells keys : List ℕ) (c 
     stands = λ r s h e f.
         let n = new_hand r h f in
         let less : r < t.shape.workers = let l = there c.hands r h f in let w = new.long in omega (arith, l, w) in
-        subst (λ (k : Known). Stands t.shape keys (past_of positions run k.view.worker) h k.view) (sym (view_is r s e)) (record {
+        subst (λ (k : Known). HandStands t.shape keys (past_of positions run k.view.worker) h k.view) (sym (view_is r s e)) (record {
           kind_is = n.kind_is;
           answers = [];
           doing = subst (λ (k : Kind). ProgressInvariant t.shape k (progress_by keys (past_of positions run r) (new_view (map plain_number cells) r) [])) (sym n.kind_is) (run.doing r less);

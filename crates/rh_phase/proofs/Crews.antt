@@ -14,9 +14,9 @@ use Rattle.rh_rule.proofs.SeatsKept.{at_append, at_drop, at_take, one_at, there}
 use Rattle.rh_rdcss.specs.Calls.{view_of}
 use Rattle.rh_rdcss.specs.declared.seat.Seat.{Seat}
 use Rattle.rh_rdcss.specs.declared.table.Table.{Table}
-use Rattle.rh_kcas.specs.Crews.{IsAt, IsCut, IsFresh, IsJoined, IsQuiet, views_of}
+use Rattle.rh_kcas.specs.Crews.{SitsAt, IsCut, IsFresh, IsJoined, IsQuiet, views_of}
 use Rattle.rh_phase.specs.Crew.{AllMayStart, AreHalves, CanWork, HaveWorked}
-use Rattle.rh_phase.specs.Hands.{AllStand, InPairs, IsHand, Past, Stands}
+use Rattle.rh_phase.specs.Hands.{AllStand, InPairs, IsHand, Past, HandStands}
 use Rattle.rh_phase.specs.declared.crew.Crew.{Crew}
 use Rattle.rh_phase.specs.declared.hand.Hand.{Hand}
 
@@ -56,7 +56,7 @@ are_halves c left right at half cut at_is first second =
     }
 
 module _ (t : Table) (keys : List ℕ) (c left right : Crew) (can : CanWork t keys c) (cut : AreHalves c left right) where
-  pub half_can_left : IsAt t left.seat → InView IsFresh (views_of left.seat) → CanWork t keys left
+  pub half_can_left : SitsAt t left.seat → InView IsFresh (views_of left.seat) → CanWork t keys left
   half_can_left here fresh = record {
     crew = record {
       here = here;
@@ -71,7 +71,7 @@ module _ (t : Table) (keys : List ℕ) (c left right : Crew) (can : CanWork t ke
       of_left : (P : View → Hand → Type 0) → InPairs P (views_of c.seat) c.hands → InPairs P (views_of left.seat) left.hands
       of_left P each = subst (λ (hs : List Hand). InPairs P (views_of left.seat) hs) (sym cut.left_hands) (subst (λ (vs : List Known). InPairs P vs (take left.seat.count c.hands)) (sym cut.seats.left_views) (pairs_left P (views_of c.seat) c.hands left.seat.count each))
 
-  pub half_can_right : IsAt t right.seat → InView IsFresh (views_of right.seat) → CanWork t keys right
+  pub half_can_right : SitsAt t right.seat → InView IsFresh (views_of right.seat) → CanWork t keys right
   half_can_right here fresh = record {
     crew = record {
       here = here;
@@ -87,7 +87,7 @@ module _ (t : Table) (keys : List ℕ) (c left right : Crew) (can : CanWork t ke
       of_right P each = subst (λ (hs : List Hand). InPairs P (views_of right.seat) hs) (sym cut.right_hands) (subst (λ (vs : List Known). InPairs P vs (drop left.seat.count c.hands)) (sym cut.seats.right_views) (pairs_right P (views_of c.seat) c.hands left.seat.count each))
 
   -- both halves have worked
-  pub all_worked : (l r both : Crew) → HaveWorked t keys left l → HaveWorked t keys right r → IsAt t both.seat → IsJoined l.seat r.seat both.seat → both.hands ≡ l.hands ++ r.hands → HaveWorked t keys c both
+  pub all_worked : (l r both : Crew) → HaveWorked t keys left l → HaveWorked t keys right r → SitsAt t both.seat → IsJoined l.seat r.seat both.seat → both.hands ≡ l.hands ++ r.hands → HaveWorked t keys c both
   all_worked l r both a b here joined hands = record {
     crew = record {
       here = here;
@@ -99,9 +99,9 @@ module _ (t : Table) (keys : List ℕ) (c left right : Crew) (can : CanWork t ke
     first = joined.first ∙ a.first ∙ cut.seats.first;
     count = let j = joined.count in let x = a.count in let y = b.count in let m = cut.seats.middle in let e = cut.seats.end in omega (arith, j, x, y, m, e);
     quiet = subst (InView IsQuiet) (sym joined.views) (view_both IsQuiet (views_of l.seat) (views_of r.seat) a.quiet b.quiet);
-    stands = λ past was. of_both (λ v h. Stands t.shape keys (past v.worker) h v)
-        (a.stands past (subst (λ (hs : List Hand). AllStand t.shape keys past (views_of left.seat) hs) (sym cut.left_hands) (subst (λ (vs : List Known). AllStand t.shape keys past vs (take left.seat.count c.hands)) (sym cut.seats.left_views) (pairs_left (λ v h. Stands t.shape keys (past v.worker) h v) (views_of c.seat) c.hands left.seat.count was))))
-        (b.stands past (subst (λ (hs : List Hand). AllStand t.shape keys past (views_of right.seat) hs) (sym cut.right_hands) (subst (λ (vs : List Known). AllStand t.shape keys past vs (drop left.seat.count c.hands)) (sym cut.seats.right_views) (pairs_right (λ v h. Stands t.shape keys (past v.worker) h v) (views_of c.seat) c.hands left.seat.count was))));
+    stands = λ past was. of_both (λ v h. HandStands t.shape keys (past v.worker) h v)
+        (a.stands past (subst (λ (hs : List Hand). AllStand t.shape keys past (views_of left.seat) hs) (sym cut.left_hands) (subst (λ (vs : List Known). AllStand t.shape keys past vs (take left.seat.count c.hands)) (sym cut.seats.left_views) (pairs_left (λ v h. HandStands t.shape keys (past v.worker) h v) (views_of c.seat) c.hands left.seat.count was))))
+        (b.stands past (subst (λ (hs : List Hand). AllStand t.shape keys past (views_of right.seat) hs) (sym cut.right_hands) (subst (λ (vs : List Known). AllStand t.shape keys past vs (drop left.seat.count c.hands)) (sym cut.seats.right_views) (pairs_right (λ v h. HandStands t.shape keys (past v.worker) h v) (views_of c.seat) c.hands left.seat.count was))));
   }
     where
       of_both : (P : View → Hand → Type 0) → InPairs P (views_of l.seat) l.hands → InPairs P (views_of r.seat) r.hands → InPairs P (views_of both.seat) both.hands
@@ -136,8 +136,8 @@ set_first [] h g some_one at = absurd (omega (arith, some_one))
 set_first (x ∷ xs) h g some_one at = some-injective h g at
 
 module _ (t : Table) (keys : List ℕ) (c : Crew) (one : c.seat.count ≡ 1) (can : CanWork t keys c) (seat : Seat) (hand next : Hand) (at : get_elem? c.hands 0 ≡ some hand) where
-  pub one_worked : IsAt t seat → seat.count ≡ 1 → seat.side.worker ≡ c.seat.side.worker → IsQuiet (view_of seat) → IsHand t.shape keys next (view_of seat)
-      → ((past : Past) → Stands t.shape keys past hand (view_of c.seat) → Stands t.shape keys past next (view_of seat)) → HaveWorked t keys c (record { seat = seat; hands = set c.hands 0 next })
+  pub one_worked : SitsAt t seat → seat.count ≡ 1 → seat.side.worker ≡ c.seat.side.worker → IsQuiet (view_of seat) → IsHand t.shape keys next (view_of seat)
+      → ((past : Past) → HandStands t.shape keys past hand (view_of c.seat) → HandStands t.shape keys past next (view_of seat)) → HaveWorked t keys c (record { seat = seat; hands = set c.hands 0 next })
   one_worked here alone same quiet is stands = record {
     crew = record {
       here = here;
@@ -149,8 +149,8 @@ module _ (t : Table) (keys : List ℕ) (c : Crew) (one : c.seat.count ≡ 1) (ca
     first = same;
     count = alone ∙ sym one;
     quiet = λ r s e. subst (λ (k : Known). IsQuiet k.view) (here_is r s e).1 quiet;
-    stands = λ past was. each (λ v h. Stands t.shape keys (past v.worker) h v)
-        (stands (past (view_of seat).worker) (subst (λ (w : ℕ). Stands t.shape keys (past w) hand (view_of c.seat)) (sym whose) (was 0 (known (view_of c.seat)) hand (alone_at c.seat one) at)));
+    stands = λ past was. each (λ v h. HandStands t.shape keys (past v.worker) h v)
+        (stands (past (view_of seat).worker) (subst (λ (w : ℕ). HandStands t.shape keys (past w) hand (view_of c.seat)) (sym whose) (was 0 (known (view_of c.seat)) hand (alone_at c.seat one) at)));
   }
     where
       whose : (view_of seat).worker ≡ (view_of c.seat).worker

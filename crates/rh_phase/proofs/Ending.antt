@@ -28,7 +28,7 @@ use Rattle.rh_run.proofs.Answering.{run_answers}
 use Rattle.rh_run.proofs.Sharing.{claims_at, claims_size, run_shared_ends, shared_out}
 use Rattle.rh_kcas.specs.Ends.{Leaves}
 use Rattle.rh_phase.specs.Hands.{Answer, InPairs, IsFinished, IsHand, answer, keys_done, left_over, positions_of, told_of}
-use Rattle.rh_phase.specs.Made.{HasMade, first_set}
+use Rattle.rh_phase.specs.Made.{HasWorkedOut, first_set}
 use Rattle.rh_phase.specs.Rounds.{Comes, Phase, all_changed, is_marked, run_of}
 use Rattle.rh_phase.specs.declared.hand.Hand.{Hand}
 use Rattle.rh_phase.proofs.Gathering.{Gathered, gathered}
@@ -142,7 +142,7 @@ module _ (ph : Phase) (vs : List Known) (hs : List Hand) (values : List ℕ) (so
             let by = ga.each one.0 less in
             by_one hs p one.0 by.hand by.at ((by.answered.marks p (let l = by.long in omega (arith, within, l))).1 it)
 
-  pub has_made : (ph.kind ≢ Ask → count_in ph.kind (tally_of ph.kind S ph.keys) < 2 ^ 64) → HasMade ph values hs
+  pub has_made : (ph.kind ≢ Ask → count_in ph.kind (tally_of ph.kind S ph.keys) < 2 ^ 64) → HasWorkedOut ph values hs
   has_made few = record {
     layout = subst (λ (cells : List ℕ). Layout cells ph.shape.bits (set_after ph.kind S ph.keys)) cells_are ends.layout;
     few = λ changes. subst (λ (n : ℕ). n < 2 ^ 64) (sym (changed_all (few changes))) (few changes);

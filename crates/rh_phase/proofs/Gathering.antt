@@ -14,7 +14,7 @@ use Rattle.rh_run.specs.Run.{ProgressInvariant, RunInvariant}
 use Rattle.rh_run.specs.Words.{IsWiped}
 use Rattle.rh_run.proofs.Stepping.{run_gathers}
 use Rattle.rh_run.proofs.Turning.{run_rounds}
-use Rattle.rh_phase.specs.Hands.{Answer, Answered, Past, Stands, keys_done, progress_by, told_of}
+use Rattle.rh_phase.specs.Hands.{Answer, Answered, Past, HandStands, keys_done, progress_by, told_of}
 use Rattle.rh_phase.specs.Rounds.{Comes, Phase, past_of, run_of}
 use Rattle.rh_phase.specs.declared.hand.Hand.{Hand}
 use Rattle.rh_phase.proofs.Wiped.{wiped_words}
@@ -54,7 +54,7 @@ module _ (ph : Phase) (vs : List Known) (hs : List Hand) (some_one : 0 < ph.shap
   record StandsAt (v : ℕ) (answers : List Answer) : Type 0 where
     hand : Hand
     at : get_elem? hs v ≡ some hand
-    stands : Stands ph.shape ph.keys (past v) hand (m.keep v)
+    stands : HandStands ph.shape ph.keys (past v) hand (m.keep v)
     same : stands.answers ≡ answers
 
   stands_at : (v : ℕ) → v < ph.shape.workers → (answers : List Answer) × StandsAt v answers
@@ -62,8 +62,8 @@ module _ (ph : Phase) (vs : List Known) (hs : List Hand) (some_one : 0 < ph.shap
       let s = item_at vs v (let l = spans.long in omega (arith, l, less)) in
       let h = item_at hs v (omega (arith, long, less)) in
       let whose : s.0.view.worker ≡ v = spans.each v s.0 s.1 ∙ zero-add v in
-      let st : Stands ph.shape ph.keys (past v) h.0 (m.keep v) = subst (λ (x : View). Stands ph.shape ph.keys (past v) h.0 x) (sym (m.of_view v s.0 s.1))
-      (subst (λ (w : ℕ). Stands ph.shape ph.keys (past w) h.0 s.0.view) whose (comes.stands v s.0 h.0 s.1 h.1)) in
+      let st : HandStands ph.shape ph.keys (past v) h.0 (m.keep v) = subst (λ (x : View). HandStands ph.shape ph.keys (past v) h.0 x) (sym (m.of_view v s.0 s.1))
+      (subst (λ (w : ℕ). HandStands ph.shape ph.keys (past w) h.0 s.0.view) whose (comes.stands v s.0 h.0 s.1 h.1)) in
       (st.answers, record { hand = h.0; at = h.1; stands = st; same = refl })
 
   chosen : (f : ℕ → List Answer) × ((v : ℕ) → v < ph.shape.workers → StandsAt v (f v))
@@ -103,10 +103,10 @@ module _ (ph : Phase) (vs : List Known) (hs : List Hand) (some_one : 0 < ph.shap
         let same : by.hand ≡ h = some-injective by.hand h (sym by.at ∙ f) in
         let whose : old.0.view.worker ≡ r = spans.each r old.0 old.1 ∙ zero-add r in
         let view : m.keep r ≡ old.0.view = m.of_view r old.0 old.1 in
-        subst (λ (k : Known). Stands ph.shape ph.keys (past_of ph.positions run k.view.worker) h k.view) (sym old.2)
-        (subst (λ (x : View). Stands ph.shape ph.keys (past_of ph.positions run x.worker) h (round_view m.cells x)) view
-        (subst (λ (w : ℕ). Stands ph.shape ph.keys (past_of ph.positions run w) h (round_view m.cells (m.keep r))) (sym (ap (λ (x : View). x.worker) view ∙ whose))
-        (subst (λ (g : Hand). Stands ph.shape ph.keys (past_of ph.positions run r) g (round_view m.cells (m.keep r))) same (record {
+        subst (λ (k : Known). HandStands ph.shape ph.keys (past_of ph.positions run k.view.worker) h k.view) (sym old.2)
+        (subst (λ (x : View). HandStands ph.shape ph.keys (past_of ph.positions run x.worker) h (round_view m.cells x)) view
+        (subst (λ (w : ℕ). HandStands ph.shape ph.keys (past_of ph.positions run w) h (round_view m.cells (m.keep r))) (sym (ap (λ (x : View). x.worker) view ∙ whose))
+        (subst (λ (g : Hand). HandStands ph.shape ph.keys (past_of ph.positions run r) g (round_view m.cells (m.keep r))) same (record {
           kind_is = by.kind_is;
           answers = gathered.answers r;
           doing = subst (λ (k : Kind). ProgressInvariant ph.shape k (progress_by ph.keys (past_of ph.positions run r) (round_view m.cells (m.keep r)) (gathered.answers r))) (sym by.kind_is) (run.doing r less);

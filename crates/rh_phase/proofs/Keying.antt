@@ -19,7 +19,7 @@ use Rattle.rh_descriptor.specs.Parts.{cell_count}
 use Rattle.rh_descriptor.specs.View.{OwnDesc, View, own_ref}
 use Rattle.rh_rule.specs.Rest.{is_noted_success, made}
 use Rattle.rh_rule.specs.Represents.{numbers_of}
-use Rattle.rh_helping.specs.Opening.{next_desc}
+use Rattle.rh_helping.specs.Opening.{next_own}
 use Rattle.rh_helping.specs.declared.machine.Ended.{Ended}
 use Rattle.rh_helping.specs.declared.machine.Ended.TheVariants as ended
 use Rattle.rh_run.specs.History.{act_of, is_current, kept_of, own_acts_of, value_of}
@@ -30,13 +30,13 @@ use Rattle.rh_run.specs.Run.{Progress, ProgressInvariant}
 use Rattle.rh_run.proofs.Stepping.{act_done, none_done, opened_more, opened_same, told_done}
 use Rattle.rh_kcas.specs.Rests.{IsRested}
 use Rattle.rh_kcas.specs.Swaps.{HasGivenUp, IsSeen, RestSpec}
-use Rattle.rh_kcas.specs.Swaps.{HasRead as WasRead}
+use Rattle.rh_kcas.specs.Swaps.{HasReadCell as WasRead}
 use Rattle.rh_kcas.specs.Swaps.{HasNoRoom as HadNoRoom}
 use Rattle.rh_rdcss.specs.Calls.{IsSame}
 use Rattle.rh_rdcss.specs.declared.seat.Seat.{Seat}
 use Rattle.rh_worker.specs.Deciding.{Decides}
 use Rattle.rh_worker.specs.declared.deciding.Decision.TheVariants.{Done}
-use Rattle.rh_worker.specs.Reading.{HasRead, IsToldAnew, seen_back}
+use Rattle.rh_worker.specs.Reading.{HasScanned, IsToldAnew, seen_back}
 use Rattle.rh_worker.specs.Worker.{HasNoRoom}
 use Rattle.rh_worker.proofs.Keeping.{read_first}
 use Rattle.rh_worker.proofs.Anew.{each_read, front_read, kept_alike, one_read}
@@ -132,7 +132,7 @@ done_on z kind k u v w told a b = record {
 
 -- what is told where the cells that were read decide
 pub scan_tells : (z : Shape) (kind : Kind) (k : ℕ) (before : List Kept) (next : View) (now : List ℕ) (n : ℕ) (entries : List Entry) (told : Bool) → n ≤ length now → length now ≤ cell_count z
-    → HasRead z before next k now n → Decides kind z.bits k (take n now) entries (Done told) → IsToldAnew z before next kind k told × IsTold kind z.bits (kept_of z next) k told
+    → HasScanned z before next k now n → Decides kind z.bits k (take n now) entries (Done told) → IsToldAnew z before next kind k told × IsTold kind z.bits (kept_of z next) k told
 scan_tells z kind k before next now n entries told within room read decides =
     let front = front_read z before next k now n within read in
     let few : length (take n now) ≤ cell_count z = let l = length-take-le n now within in omega (arith, l, within, room) in (
@@ -142,7 +142,7 @@ scan_tells z kind k before next now n entries told within room read decides =
 
 -- one cell more was read
 pub cell_read : (z : Shape) (k : ℕ) (before : List Kept) (v next : View) (seen : List ℕ) (n c word value : ℕ) → IsSeen z c v next (Some word) → value ≡ value_of word → c < cell_count z
-    → c ≡ cell_ahead (cell_count z) (home_of z.bits k) n → n < length seen → HasRead z before v k seen n → HasRead z before next k (set seen n value) (suc n)
+    → c ≡ cell_ahead (cell_count z) (home_of z.bits k) n → n < length seen → HasScanned z before v k seen n → HasScanned z before next k (set seen n value) (suc n)
 cell_read z k before v next seen n c word value is says inside at within read =
     one_read z before v next k seen (set seen n value) n c value (λ p less. get_or-set_other seen n p value 0 (let e : p ≡ n → ⊥ = λ q. omega (arith, q, less) in e)) (get_or-set_same seen n value 0 within) at
     (read_first z v next c word v.next_number value is.1 inside says) read
@@ -197,7 +197,7 @@ module _ (z : Shape) (kind : Kind) (k : ℕ) (v next : View) (rest : IsRested v)
   module _ (es : List Entry) (changes : Bool) (does : Does kind z.bits k changes (act_of es)) (reads : next.side.reads ≡ v.side.reads) (claims : next.side.claims ≡ v.side.claims) (opening : next.opening ≡ v.opening) where
     module _ (e : Ended) (is : RestSpec es v next e) (p : Progress) (among : Contains p.keys k) (so_far : ProgressInvariant z kind (record p { view = v })) where
       orderly : Orderly next
-      orderly = orderly_more v next (next_desc v es) so_far.orderly rests refl is.opened is.next_number
+      orderly = orderly_more v next (next_own v es) so_far.orderly rests refl is.opened is.next_number
 
       stay : (r : Kept) → Contains (kept_of z v) r → Contains (kept_of z next) r
       stay r h = subst (λ (l : List Kept). Contains l r) (sym (kept_alike z v next reads)) h
@@ -207,11 +207,11 @@ module _ (z : Shape) (kind : Kind) (k : ℕ) (v next : View) (rest : IsRested v)
 
       failed_on : made next ≡ made v → ProgressInvariant z kind (record p { view = next })
       failed_on same = none_done kind z (record p { view = v }) next so_far orderly held stay (own_same v next rest rests same)
-          (opened_more kind z (record p { view = v }) next so_far orderly held stay k among (next_desc v es) changes is.opened does)
+          (opened_more kind z (record p { view = v }) next so_far orderly held stay k among (next_own v es) changes is.opened does)
 
-      done_so : made next ≡ next_desc v es ∷ made v → ProgressInvariant z kind (furthered p next k (Some changes))
-      done_so more = act_done kind z (record p { view = v }) next so_far orderly held stay k changes (act_of es) (own_more v next (next_desc v es) rest rests more) does
-          (opened_more kind z (record p { view = v }) next so_far orderly held stay k among (next_desc v es) changes is.opened does)
+      done_so : made next ≡ next_own v es ∷ made v → ProgressInvariant z kind (furthered p next k (Some changes))
+      done_so more = act_done kind z (record p { view = v }) next so_far orderly held stay k changes (act_of es) (own_more v next (next_own v es) rest rests more) does
+          (opened_more kind z (record p { view = v }) next so_far orderly held stay k among (next_own v es) changes is.opened does)
 
     pub swap_failed : (e : Ended) → RestSpec es v next e → made next ≡ made v → IsUndone z kind k v next
     swap_failed e is same = record {
@@ -223,12 +223,12 @@ module _ (z : Shape) (kind : Kind) (k : ℕ) (v next : View) (rest : IsRested v)
       furthers = λ p among so_far. failed_on e is p among so_far same;
     }
 
-    pub swap_done : (e : Ended) → RestSpec es v next e → made next ≡ next_desc v es ∷ made v → IsDoneSo z kind k v next changes
+    pub swap_done : (e : Ended) → RestSpec es v next e → made next ≡ next_own v es ∷ made v → IsDoneSo z kind k v next changes
     swap_done e is more = record {
       claims = claims;
       opening = opening;
       furthers = λ p among so_far. done_so e is p among so_far more;
-      so = inl record { act = act_of es; own = own_more v next (next_desc v es) rest rests more; does = does };
+      so = inl record { act = act_of es; own = own_more v next (next_own v es) rest rests more; does = does };
     }
 
     pub swap_given_up : HadNoRoom z v next → HasGivenUp es v next → made next ≡ made v → IsUndone z kind k v next × HasNoRoom z next

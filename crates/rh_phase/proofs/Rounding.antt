@@ -9,7 +9,7 @@ use Rattle.rh_rule.specs.Seats.{InView, Spans, known}
 use Rattle.rh_rule.proofs.SeatsKept.{of_map}
 use Rattle.rh_rdcss.specs.declared.seat.Seat.{Seat}
 use Rattle.rh_rdcss.specs.declared.table.Table.{Table}
-use Rattle.rh_kcas.specs.Crews.{HasAll, IsAt, IsFresh, views_of}
+use Rattle.rh_kcas.specs.Crews.{HasAll, SitsAt, IsFresh, views_of}
 use Rattle.rh_kcas.specs.Ends.{IsWiped}
 use Rattle.rh_phase.specs.Crew.{CanWork, HaveWorked}
 use Rattle.rh_phase.specs.Hands.{InPairs, IsHand}
@@ -18,7 +18,7 @@ use Rattle.rh_phase.specs.declared.crew.Crew.{Crew}
 use Rattle.rh_phase.specs.declared.hand.Hand.{Hand}
 use Rattle.rh_phase.proofs.Gathering.{comes_on}
 
-pub all_at : (t : Table) (s : Seat) → HasAll t s → IsAt t s
+pub all_at : (t : Table) (s : Seat) → HasAll t s → SitsAt t s
 all_at t s all = record { own = all.own; within = let f = all.first in let c = all.count in omega (arith, f, c) }
 
 pub all_spans : (t : Table) (s : Seat) → HasAll t s → Spans (views_of s) 0 t.shape.workers

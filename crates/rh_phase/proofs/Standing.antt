@@ -19,7 +19,7 @@ use Rattle.rh_run.specs.Laws.{furthered}
 use Rattle.rh_run.specs.Run.{Progress, ProgressInvariant}
 use Rattle.rh_run.proofs.Stepping.{worker_claims}
 use Rattle.rh_phase.specs.Keys.{Furthers}
-use Rattle.rh_phase.specs.Hands.{Answer, Past, Stands, answer, keys_done, left_over, positions_of, progress_by, told_of}
+use Rattle.rh_phase.specs.Hands.{Answer, Past, HandStands, answer, keys_done, left_over, positions_of, progress_by, told_of}
 use Rattle.rh_phase.specs.declared.hand.Hand.{Hand}
 
 -- ---- the positions that it claimed
@@ -90,7 +90,7 @@ counts_more answers position old new told was is = go told is more
 
 -- ---- how it goes on
 
-module _ (z : Shape) (keys : List ℕ) (past : Past) (h then : Hand) (v next : View) (was : Stands z keys past h v) where
+module _ (z : Shape) (keys : List ℕ) (past : Past) (h then : Hand) (v next : View) (was : HandStands z keys past h v) where
   of_kind : (k : Kind) (p : Progress) → k ≡ h.kind → ProgressInvariant z h.kind p → ProgressInvariant z k p
   of_kind k p same is = subst (λ (q : Kind). ProgressInvariant z q p) (sym same) is
 
@@ -100,7 +100,7 @@ module _ (z : Shape) (keys : List ℕ) (past : Past) (h then : Hand) (v next : V
 
   -- with nothing done
   stands_with : then.kind ≡ h.kind → ProgressInvariant z h.kind (so_far next) → next.opening ≡ v.opening
-      → claimed z next ≡ positions_of was.answers ++ left_over then.has_key then.position → then.changed ≡ h.changed → then.found.items ≡ h.found.items → Stands z keys past then next
+      → claimed z next ≡ positions_of was.answers ++ left_over then.has_key then.position → then.changed ≡ h.changed → then.found.items ≡ h.found.items → HandStands z keys past then next
   stands_with kind doing opening claims changed found = record {
     kind_is = kind ∙ was.kind_is;
     answers = was.answers;
@@ -114,7 +114,7 @@ module _ (z : Shape) (keys : List ℕ) (past : Past) (h then : Hand) (v next : V
     long = ap length found ∙ was.long;
   }
 
-  pub stands_still : then.kind ≡ h.kind → next ≡ v → left_over then.has_key then.position ≡ left_over h.has_key h.position → then.changed ≡ h.changed → then.found.items ≡ h.found.items → Stands z keys past then next
+  pub stands_still : then.kind ≡ h.kind → next ≡ v → left_over then.has_key then.position ≡ left_over h.has_key h.position → then.changed ≡ h.changed → then.found.items ≡ h.found.items → HandStands z keys past then next
   stands_still kind same left changed found = stands_with kind
       (subst (λ (x : View). ProgressInvariant z h.kind (so_far x)) (sym same) was.doing)
       (ap (λ (x : View). x.opening) same)
@@ -131,11 +131,11 @@ module _ (z : Shape) (keys : List ℕ) (past : Past) (h then : Hand) (v next : V
     doing_then : ProgressInvariant z h.kind (so_far next)
     doing_then = worker_claims h.kind z (so_far v) word next allowed view_is sound was.doing
 
-    pub stands_claimed : word < z.keys → left_over then.has_key then.position ≡ word ∷ [] → Stands z keys past then next
+    pub stands_claimed : word < z.keys → left_over then.has_key then.position ≡ word ∷ [] → HandStands z keys past then next
     stands_claimed inside left = stands_with kind doing_then (ap (λ (x : View). x.opening) view_is)
         (one_more z v next word claims_are inside ∙ ap (λ (l : List ℕ). l ++ word ∷ []) none_left ∙ ap (λ (l : List ℕ). positions_of was.answers ++ l) (sym left)) changed found
 
-    pub stands_ended : z.keys ≤ word → left_over then.has_key then.position ≡ [] → Stands z keys past then next
+    pub stands_ended : z.keys ≤ word → left_over then.has_key then.position ≡ [] → HandStands z keys past then next
     stands_ended beyond left = stands_with kind doing_then (ap (λ (x : View). x.opening) view_is)
         (no_more z v next word claims_are beyond ∙ none_left ∙ sym (append-nil (positions_of was.answers)) ∙ ap (λ (l : List ℕ). positions_of was.answers ++ l) (sym left)) changed found
 
@@ -144,13 +144,13 @@ module _ (z : Shape) (keys : List ℕ) (past : Past) (h then : Hand) (v next : V
     left : left_over h.has_key h.position ≡ h.position ∷ []
     left = ap (λ (b : Bool). left_over b h.position) has
 
-    pub stands_left : Furthers z h.kind key v next None → left_over then.has_key then.position ≡ h.position ∷ [] → then.changed ≡ h.changed → then.found.items ≡ h.found.items → Stands z keys past then next
+    pub stands_left : Furthers z h.kind key v next None → left_over then.has_key then.position ≡ h.position ∷ [] → then.changed ≡ h.changed → then.found.items ≡ h.found.items → HandStands z keys past then next
     stands_left furthers leaves changed found = stands_with kind
         (furthers (so_far v) among was.doing) opening
         (same_claimed z v next claims ∙ was.answered.claimed_are ∙ ap (λ (l : List ℕ). positions_of was.answers ++ l) (left ∙ sym leaves)) changed found
 
     pub stands_done : (told : Bool) → Furthers z h.kind key v next (Some told) → then.has_key ≡ false → then.changed ≡ cond told (min (h.changed + 1) (2 ^ 64 - 1)) h.changed
-        → then.found.items ≡ cond told (set h.found.items h.position true) h.found.items → Stands z keys past then next
+        → then.found.items ≡ cond told (set h.found.items h.position true) h.found.items → HandStands z keys past then next
     stands_done told furthers no_key changed found = record {
       kind_is = kind ∙ was.kind_is;
       answers = answers;

@@ -4,7 +4,7 @@ use Rattle.std.specs.Vec.{vec_capacity}
 use Rattle.rh_phase.specs.declared.buffer.Buffer.{Buffer}
 
 -- room for each cell of the table, of which as much is in use for the one as for the others
-pub record HasRoom (b : ℕ) (r : Buffer) : Type 0 where
+pub record HasBufferRoom (b : ℕ) (r : Buffer) : Type 0 where
   pub seen : 2 ^ b ≤ vec_capacity r.seen
   pub news : 2 ^ b ≤ vec_capacity r.news
   pub entries : 2 ^ b ≤ vec_capacity r.entries

@@ -1,7 +1,7 @@
 -- Workers of a phase with their seat, who fork in halves and join again.
 use Rattle.std.specs.Prelude.{◌≡◌, ℕ, ◌+◌, ◌<◌, true, false, List, All, Bool, length, take, drop}
 use Rattle.rh_layout.specs.Key.{IsKey}
-use Rattle.rh_kcas.specs.Crews.{IsAt, IsCut, IsFresh, IsQuiet, views_of}
+use Rattle.rh_kcas.specs.Crews.{SitsAt, IsCut, IsFresh, IsQuiet, views_of}
 use Rattle.rh_rdcss.specs.declared.table.Table.{Table}
 use Rattle.rh_rule.specs.Seats.{InView}
 use Rattle.rh_phase.specs.Hands.{AllStand, InPairs, IsHand, Past}
@@ -15,7 +15,7 @@ use Rattle.rh_phase.specs.declared.crew.Refused.TheVariants.{NotAllowed, NotStar
 
 -- it sits at the table, each worker with its hand, at a list of keys of which each is claimed once
 pub record IsCrew (t : Table) (keys : List ℕ) (c : Crew) : Type 0 where
-  pub here : IsAt t c.seat
+  pub here : SitsAt t c.seat
   pub long : length c.hands ≡ c.seat.count
   pub hands : InPairs (λ v h. IsHand t.shape keys h v) (views_of c.seat) c.hands
   pub list : t.shape.keys ≡ length keys

@@ -13,7 +13,7 @@ use Rattle.rh_descriptor.specs.declared.shape.Shape.{Shape}
 use Rattle.rh_descriptor.specs.View.{View}
 use Rattle.rh_run.specs.Claimed.{FoundEnd, claimed}
 use Rattle.rh_run.specs.Run.{Progress, ProgressInvariant}
-use Rattle.rh_phase.specs.Buffer.{HasRoom}
+use Rattle.rh_phase.specs.Buffer.{HasBufferRoom}
 use Rattle.rh_phase.specs.declared.hand.Hand.{Hand}
 
 -- ---- a hand
@@ -25,7 +25,7 @@ pub record HasClaimed (z : Shape) (h : Hand) (v : View) : Type 0 where
 
 -- it has room for any key, and where it has one to do, this is a key of the list
 pub record IsHand (z : Shape) (keys : List ℕ) (h : Hand) (v : View) : Type 0 where
-  pub room : HasRoom z.bits h.buffer
+  pub room : HasBufferRoom z.bits h.buffer
   pub within : h.has_key ≡ true → h.position < length keys
   pub claims : HasClaimed z h v
 
@@ -79,7 +79,7 @@ progress_by keys past v answers =
     record { view = v; keys = keys; acts = past.acts; reads = past.reads; done = keys_done keys answers; told = told_of answers }
 
 -- The worker has come as far as its hand says.
-pub record Stands (z : Shape) (keys : List ℕ) (past : Past) (h : Hand) (v : View) : Type 0 where
+pub record HandStands (z : Shape) (keys : List ℕ) (past : Past) (h : Hand) (v : View) : Type 0 where
   pub kind_is : h.kind ≡ past.kind
   pub answers : List Answer
   pub doing : ProgressInvariant z h.kind (progress_by keys past v answers)
@@ -94,4 +94,4 @@ InPairs P vs hs = (r : ℕ) (s : Known) (h : Hand) → get_elem? vs r ≡ some s
 
 -- Each worker has come as far as its hand says, over these pasts.
 abbrev pub AllStand : Shape → (keys : List ℕ) → (past : ℕ → Past) → List Known → List Hand → Type 0
-AllStand z keys past vs hs = InPairs (λ v h. Stands z keys (past v.worker) h v) vs hs
+AllStand z keys past vs hs = InPairs (λ v h. HandStands z keys (past v.worker) h v) vs hs

@@ -8,7 +8,7 @@ use Rattle.rh_acts.specs.Done.{Does, IsTold, Kept}
 use Rattle.rh_descriptor.specs.declared.shape.Shape.{Shape}
 use Rattle.rh_descriptor.specs.View.{View}
 use Rattle.rh_run.specs.History.{kept_of, own_acts_of}
-use Rattle.rh_kcas.specs.Rests.{Rests}
+use Rattle.rh_kcas.specs.Rests.{SeatRests}
 use Rattle.rh_rdcss.specs.Calls.{view_of}
 use Rattle.rh_rdcss.specs.declared.seat.Seat.{Seat}
 use Rattle.rh_rdcss.specs.declared.table.Table.{Table}
@@ -45,7 +45,7 @@ Furthers z kind k v next answer = (p : Progress) → Contains p.keys k
 
 -- The seat is one worker's, which rests at the table, and what is kept of it says that it did the key, and what it was told of it.
 pub record HasDone (t : Table) (s : Seat) (bits : ℕ) (kind : Kind) (k : ℕ) (told : Bool) : Type 0 where
-  pub rests : Rests t s
+  pub rests : SeatRests t s
   pub bits_are : t.shape.bits ≡ bits
   pub before : View
   pub so : KeySpec t.shape kind k before (view_of s) told

@@ -11,7 +11,7 @@ use Rattle.rh_ledger.specs.Tally.{tally_by}
 use Rattle.rh_descriptor.specs.declared.limits.TheConstants.{MAX_ROOM, MAX_WORKERS}
 use Rattle.rh_descriptor.specs.declared.shape.Rooms.{Rooms}
 use Rattle.rh_descriptor.specs.declared.shape.Shape.{Shape}
-use Rattle.rh_phase.specs.Buffer.{HasRoom}
+use Rattle.rh_phase.specs.Buffer.{HasBufferRoom}
 use Rattle.rh_kcas.specs.Crews.{HasAll, IsQuiet, views_of}
 use Rattle.rh_rdcss.specs.declared.table.Table.{Table}
 use Rattle.rh_rule.specs.Seats.{InView}
@@ -36,7 +36,7 @@ pub record IsRooms (bits : ℕ) (rooms : Rooms) : Type 0 where
 pub record IsNew (z : Shape) (kind : Kind) (positions : ℕ) (h : Hand) : Type 0 where
   pub no_key : h.has_key ≡ false
   pub kind_is : h.kind ≡ kind
-  pub room : HasRoom z.bits h.buffer
+  pub room : HasBufferRoom z.bits h.buffer
   pub to_claim : h.ended ≡ false
   pub unchanged : h.changed ≡ 0
   pub unmarked : h.found.items ≡ replicate positions false
@@ -52,7 +52,7 @@ first_set ph = keys_of ph.opening
 
 -- These values are the layout of the set that is meant. The hands have counted what came of the phase, and marked the positions
 -- whose keys were found.
-pub record HasMade (ph : Phase) (values : List ℕ) (hs : List Hand) : Type 0 where
+pub record HasWorkedOut (ph : Phase) (values : List ℕ) (hs : List Hand) : Type 0 where
   pub layout : Layout values ph.shape.bits (set_after ph.kind (first_set ph) ph.keys)
   pub few : ph.kind ≢ Ask → all_changed hs < 2 ^ 64
   pub tally : ph.kind ≢ Ask → tally_by ph.kind (length ph.keys) (all_changed hs) ≡ tally_of ph.kind (first_set ph) ph.keys

@@ -2,7 +2,7 @@
 
 ghost use Rattle.std.specs.Prelude.{IfOk};
 ghost use Rattle.rh_layout.specs.Key.{IsBits};
-ghost use Rattle.rh_phase.specs.Buffer.{HasRoom};
+ghost use Rattle.rh_phase.specs.Buffer.{HasBufferRoom};
 
 use rh_layout::Entry;
 use std::alloc::{AllocError, Global};
@@ -33,7 +33,7 @@ impl Buffer {
     /// Room for a table of 2 to the power of `bits` cells.
     pub(crate) fn new(alloc: Global, bits: u32) -> Result<Buffer, AllocError>
         requires { IsBits bits }
-        ensures { IfOk result (HasRoom bits) }
+        ensures { IfOk result (HasBufferRoom bits) }
     {
         let cells = 1usize << bits;
         let mut buffer = Buffer {
@@ -48,8 +48,8 @@ impl Buffer {
     /// Has twice as much in use, as far as there is room. It takes no memory.
     pub(crate) fn use_more(&mut self, bits: u32)
         requires bits { IsBits bits }
-        requires room { HasRoom bits self.old }
-        ensures { HasRoom bits self.new }
+        requires room { HasBufferRoom bits self.old }
+        ensures { HasBufferRoom bits self.new }
     {
         let cells = self.seen.len().saturating_mul(2);
         self.use_first(bits, cells);
@@ -58,8 +58,8 @@ impl Buffer {
     /// Has so many in use, as far as there is room. It takes no memory.
     fn use_first(&mut self, bits: u32, cells: usize)
         requires bits { IsBits bits }
-        requires room { HasRoom bits self.old }
-        ensures { HasRoom bits self.new }
+        requires room { HasBufferRoom bits self.old }
+        ensures { HasBufferRoom bits self.new }
     {
         let cells = cells.min(1 << bits);
         // (there is room for them)

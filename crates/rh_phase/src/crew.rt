@@ -2,7 +2,7 @@
 
 ghost use Rattle.std.specs.Prelude.{◌≡◌, ◌+◌, ◌<◌, ◌++◌, IfErr, IfOk, OnErr, OnOk, length};
 ghost use Rattle.std.specs.Thread.{IsSync};
-ghost use Rattle.rh_kcas.specs.Crews.{IsAt, IsJoined, IsQuiet, views_of};
+ghost use Rattle.rh_kcas.specs.Crews.{SitsAt, IsJoined, IsQuiet, views_of};
 ghost use Rattle.rh_rule.specs.Seats.{InView};
 ghost use Rattle.rh_phase.specs.Crew.{AreHalves, CanWork, HaveWorked, OthersMayStart, RefusedBy};
 
@@ -101,14 +101,14 @@ fn cut(table: &Table, keys: &[u64], crew: Crew) -> (Crew, Crew)
 
 /// All of them again, who are at rest.
 fn glue(table: &Table, left: Crew, right: Crew) -> Crew
-    requires left { IsAt table.now left.seat }
-    requires right { IsAt table.now right.seat }
+    requires left { SitsAt table.now left.seat }
+    requires right { SitsAt table.now right.seat }
     requires left_rests { InView IsQuiet (views_of left.seat) }
     requires right_rests { InView IsQuiet (views_of right.seat) }
     requires left_long { length left.hands ≡ left.seat.count }
     requires right_long { length right.hands ≡ right.seat.count }
     requires follows { right.seat.side.worker ≡ left.seat.side.worker + left.seat.count }
-    ensures here { IsAt table.now result.seat }
+    ensures here { SitsAt table.now result.seat }
     ensures seats { IsJoined left.seat right.seat result.seat }
     ensures hands { result.hands ≡ left.hands ++ right.hands }
 {

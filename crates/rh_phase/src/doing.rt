@@ -3,10 +3,10 @@
 ghost use Rattle.std.specs.Prelude.{◌≡◌, ◌<◌, All, IfNone, IfSome, IsTrue, false, length, slice_index, true};
 ghost use Rattle.rh_layout.specs.Key.{IsKey};
 ghost use Rattle.rh_run.specs.History.{own_acts_of};
-ghost use Rattle.rh_kcas.specs.Rests.{Rests};
+ghost use Rattle.rh_kcas.specs.Rests.{SeatRests};
 ghost use Rattle.rh_ledger.specs.declared.tally.Kind.{Kind};
-ghost use Rattle.rh_phase.specs.Buffer.{HasRoom};
-ghost use Rattle.rh_phase.specs.Hands.{IsHand, Past, Stands};
+ghost use Rattle.rh_phase.specs.Buffer.{HasBufferRoom};
+ghost use Rattle.rh_phase.specs.Hands.{IsHand, Past, HandStands};
 ghost use Rattle.rh_phase.specs.Keys.{Furthers, IsTriedSo, KeySpec};
 ghost use Rattle.rh_rdcss.specs.Calls.{IsSame, view_of};
 ghost use Rattle.rh_worker.specs.Worker.{HasNoRoom};
@@ -29,14 +29,14 @@ pub(crate) fn do_keys<R: Wait, G: Gate>(
     keys: &[u64],
     gate: &G,
 )
-    requires rests { Rests table.now seat.old }
+    requires rests { SeatRests table.now seat.old }
     requires hand { IsHand table.now.shape keys.now hand.old (view_of seat.old) }
     requires keys { (table.now.shape.keys ≡ length keys.now) × All IsKey keys.now }
-    ensures rests { Rests table.now seat.new }
+    ensures rests { SeatRests table.now seat.new }
     ensures same { IsSame seat.old seat.new }
     ensures hand { IsHand table.now.shape keys.now hand.new (view_of seat.new) }
-    ensures stands { (past : Past) → Stands table.now.shape keys.now past hand.old (view_of seat.old) →
-        Stands table.now.shape keys.now past hand.new (view_of seat.new) }
+    ensures stands { (past : Past) → HandStands table.now.shape keys.now past hand.old (view_of seat.old) →
+        HandStands table.now.shape keys.now past hand.new (view_of seat.new) }
 {
     for _ in rt.forever() {
         if !next_key(table, seat, hand, keys, gate) {
@@ -64,15 +64,15 @@ fn next_key<G: Gate>(
     keys: &[u64],
     gate: &G,
 ) -> bool
-    requires rests { Rests table.now seat.old }
+    requires rests { SeatRests table.now seat.old }
     requires hand { IsHand table.now.shape keys.now hand.old (view_of seat.old) }
     requires keys { table.now.shape.keys ≡ length keys.now }
-    ensures rests { Rests table.now seat.new }
+    ensures rests { SeatRests table.now seat.new }
     ensures same { IsSame seat.old seat.new }
     ensures hand { IsHand table.now.shape keys.now hand.new (view_of seat.new) }
     ensures has_key { IsTrue result → hand.new.has_key ≡ true }
-    ensures stands { (past : Past) → Stands table.now.shape keys.now past hand.old (view_of seat.old) →
-        Stands table.now.shape keys.now past hand.new (view_of seat.new) }
+    ensures stands { (past : Past) → HandStands table.now.shape keys.now past hand.old (view_of seat.old) →
+        HandStands table.now.shape keys.now past hand.new (view_of seat.new) }
 {
     if hand.has_key {
         return true;
@@ -99,12 +99,12 @@ fn do_in_buffer<R: Wait>(
     key: u64,
     buffer: &mut Buffer,
 ) -> Option<bool>
-    requires rests { Rests table.now seat.old }
+    requires rests { SeatRests table.now seat.old }
     requires key { IsKey key }
-    requires room { HasRoom table.now.shape.bits buffer.old }
-    ensures rests { Rests table.now seat.new }
+    requires room { HasBufferRoom table.now.shape.bits buffer.old }
+    ensures rests { SeatRests table.now seat.new }
     ensures same { IsSame seat.old seat.new }
-    ensures room { HasRoom table.now.shape.bits buffer.new }
+    ensures room { HasBufferRoom table.now.shape.bits buffer.new }
     ensures claims { (view_of seat.new).side.claims ≡ (view_of seat.old).side.claims }
     ensures opening { (view_of seat.new).opening ≡ (view_of seat.old).opening }
     ensures furthers { Furthers table.now.shape kind key (view_of seat.old) (view_of seat.new) result }
@@ -132,12 +132,12 @@ fn try_in_buffer<R: Wait>(
     key: u64,
     buffer: &mut Buffer,
 ) -> Tried
-    requires rests { Rests table.now seat.old }
+    requires rests { SeatRests table.now seat.old }
     requires key { IsKey key }
-    requires room { HasRoom table.now.shape.bits buffer.old }
-    ensures rests { Rests table.now seat.new }
+    requires room { HasBufferRoom table.now.shape.bits buffer.old }
+    ensures rests { SeatRests table.now seat.new }
     ensures same { IsSame seat.old seat.new }
-    ensures room { HasRoom table.now.shape.bits buffer.new }
+    ensures room { HasBufferRoom table.now.shape.bits buffer.new }
     ensures tries { IsTriedSo table.now.shape kind key (view_of seat.old) (view_of seat.new) result }
 {
     let bits = table.shape.bits;

@@ -3,7 +3,7 @@
 ghost use Rattle.std.specs.Prelude.{◌≡◌, ◌^◌, ◌<◌, ◌≤◌, IfNone, IfSome, length};
 ghost use Rattle.rh_layout.specs.Key.{IsBits, IsKey};
 ghost use Rattle.rh_run.specs.History.{own_acts_of};
-ghost use Rattle.rh_kcas.specs.Rests.{Rests};
+ghost use Rattle.rh_kcas.specs.Rests.{SeatRests};
 ghost use Rattle.rh_phase.specs.Keys.{Furthers, IsTriedSo, IsUndone, KeySpec, ScanSpec};
 ghost use Rattle.rh_rdcss.specs.Calls.{IsSame, view_of};
 ghost use Rattle.rh_worker.specs.Worker.{HasNoRoom};
@@ -31,13 +31,13 @@ pub fn do_key<R: Wait>(
     news: &mut [u64],
     entries: &mut [Entry],
 ) -> Option<bool>
-    requires rests { Rests table.now seat.old }
+    requires rests { SeatRests table.now seat.old }
     requires bits { table.now.shape.bits ≡ bits }
     requires key { IsKey key }
     requires seen { length seen.old ≡ 2 ^ bits }
     requires news { length news.old ≡ 2 ^ bits }
     requires entries { length entries.old ≡ 2 ^ bits }
-    ensures rests { Rests table.now seat.new }
+    ensures rests { SeatRests table.now seat.new }
     ensures same { IsSame seat.old seat.new }
     ensures claims { (view_of seat.new).side.claims ≡ (view_of seat.old).side.claims }
     ensures opening { (view_of seat.new).opening ≡ (view_of seat.old).opening }
@@ -81,13 +81,13 @@ pub(crate) fn try_key<R: Wait>(
     news: &mut [u64],
     entries: &mut [Entry],
 ) -> Tried
-    requires rests { Rests table.now seat.old }
+    requires rests { SeatRests table.now seat.old }
     requires bits { table.now.shape.bits ≡ bits }
     requires key { IsKey key }
     requires room { length seen.old ≤ 2 ^ bits }
     requires news { length news.old ≡ length seen.old }
     requires entries { length entries.old ≡ length seen.old }
-    ensures rests { Rests table.now seat.new }
+    ensures rests { SeatRests table.now seat.new }
     ensures same { IsSame seat.old seat.new }
     ensures tries { IsTriedSo table.now.shape kind key (view_of seat.old) (view_of seat.new) result }
 {
@@ -129,13 +129,13 @@ fn scan<R: Wait>(
     news: &mut [u64],
     entries: &mut [Entry],
 ) -> Scanned
-    requires rests { Rests table.now seat.old }
+    requires rests { SeatRests table.now seat.old }
     requires bits { table.now.shape.bits ≡ bits }
     requires key { IsKey key }
     requires room { length seen.old ≤ 2 ^ bits }
     requires news { length news.old ≡ length seen.old }
     requires entries { length entries.old ≡ length seen.old }
-    ensures rests { Rests table.now seat.new }
+    ensures rests { SeatRests table.now seat.new }
     ensures same { IsSame seat.old seat.new }
     ensures undone { IsUndone table.now.shape kind key (view_of seat.old) (view_of seat.new) }
     ensures scans { ScanSpec table.now.shape kind key (view_of seat.old) (view_of seat.new)

@@ -1,7 +1,7 @@
 //! One key after the other at a table of one worker.
 
 ghost use Rattle.std.specs.Prelude.{◌≡◌, ◌<◌, ℕ, IsTrue, length, slice_index};
-ghost use Rattle.rh_kcas.specs.Rests.{Rests};
+ghost use Rattle.rh_kcas.specs.Rests.{SeatRests};
 ghost use Rattle.rh_tagword.specs.Word.{IsValue};
 
 use rh_descriptor::{Rooms, Shape};
@@ -32,9 +32,9 @@ fn are_values(cells: &[u64]) -> bool
 
 /// What `do_key` answers of key 2.
 fn done<R: Wait>(rt: &R, table: &Table, seat: &mut Seat, kind: Kind) -> Option<bool>
-    requires rests { Rests table.now seat.old }
+    requires rests { SeatRests table.now seat.old }
     requires bits { table.now.shape.bits ≡ 3 }
-    ensures { Rests table.now seat.new }
+    ensures { SeatRests table.now seat.new }
 {
     let mut seen = [0; 8];
     let mut news = [0; 8];

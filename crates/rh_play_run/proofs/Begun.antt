@@ -13,11 +13,11 @@ use Rattle.rh_descriptor.specs.declared.shape.Shape.{Shape}
 use Rattle.rh_turns.specs.Game.{Game}
 use Rattle.rh_stepper.specs.declared.fault.PlayFault.{PlayFault}
 use Rattle.rh_stepper.specs.declared.fault.PlayFault.TheVariants.{NoRoom}
-use Rattle.rh_stepper.specs.Start.{Makes, Refuses, StartsPieces, StartsShared, StartsWith, are_keys, joined, start_fault}
+use Rattle.rh_stepper.specs.Start.{MakesPlayer, Refuses, StartsPieces, StartsShared, StartsWith, are_keys, keys_of_pieces, start_fault}
 use Rattle.rh_play.specs.declared.play.Play.{Play}
 use Rattle.rh_play.specs.declared.play.Work.{Work}
 use Rattle.rh_play.specs.declared.play.Work.TheVariants.{Pieces, Share}
-use Rattle.rh_play_run.specs.Beginning.{Begins, CanBegin, IsPlayerFault, IsRefusedStart, IsBlank, StartsOn, bits_of, held_fault, held_of, keys_in, player_fault, rooms_in, workers_in}
+use Rattle.rh_play_run.specs.Beginning.{BeginsPlay, CanBegin, IsPlayerFault, IsRefusedStart, IsBlank, StartsOn, bits_of, held_fault, held_of, work_keys, player_fault, rooms_in, workers_in}
 
 pub many_held : (bits : ℕ) (keys : List ℕ) → are_keys keys ≡ true → 2 ^ bits ≤ length keys → held_fault bits keys ≡ Some NoRoom
 many_held bits keys good many = rw (good, le-ltb (length keys) (2 ^ bits) many) refl
@@ -32,7 +32,7 @@ then_player play held first none is = rw none is
 before_player : (play : Play) (held : Option PlayFault) (fault : PlayFault) → held ≡ Some fault → MatchOption held (IsPlayerFault play (Some fault)) (λ f. Some fault ≡ Some f)
 before_player play held fault is = rw is refl
 
-pub can_begin : (play : Play) (g : Game) → Begins play g → CanBegin play
+pub can_begin : (play : Play) (g : Game) → BeginsPlay play g → CanBegin play
 can_begin play g begins = then_player play _ None begins.held (begins.cells, begins.layout, begins.player)
 
 no_player : (play : Play) (cells : List ℕ) (fault : PlayFault) → held_fault (bits_of play) play.held.items ≡ None → Layout cells (bits_of play) (held_of play)
@@ -48,7 +48,7 @@ held_layout play given items keys same_cells same_keys layout =
     (subst (λ (l : List ℕ). Layout l (bits_of play) (set.from_list keys)) (sym same_cells) layout)
 
 pub begun : (play : Play) (given items keys : List ℕ) (r : Result Game PlayFault) → given ≡ items → keys ≡ play.held.items → held_fault (bits_of play) keys ≡ None
-    → Layout items (bits_of play) (set.from_list keys) → Makes (player_fault play given) (StartsOn given play play.work) r → IfOk r (λ player. Begins play player)
+    → Layout items (bits_of play) (set.from_list keys) → MakesPlayer (player_fault play given) (StartsOn given play play.work) r → IfOk r (λ player. BeginsPlay play player)
 begun play given items keys (Ok g) same_cells same_keys held layout made = record {
   cells = given;
   held = subst (λ (l : List ℕ). held_fault (bits_of play) l ≡ None) same_keys held;
@@ -59,7 +59,7 @@ begun play given items keys (Ok g) same_cells same_keys held layout made = recor
 begun play given items keys (Err fault) same_cells same_keys held layout made = tt
 
 pub not_begun : (play : Play) (given items keys : List ℕ) (r : Result Game PlayFault) → given ≡ items → keys ≡ play.held.items → held_fault (bits_of play) keys ≡ None
-    → Layout items (bits_of play) (set.from_list keys) → Makes (player_fault play given) (StartsOn given play play.work) r → IfErr r (IsRefusedStart play)
+    → Layout items (bits_of play) (set.from_list keys) → MakesPlayer (player_fault play given) (StartsOn given play play.work) r → IfErr r (IsRefusedStart play)
 not_begun play given items keys (Ok g) same_cells same_keys held layout made = tt
 not_begun play given items keys (Err fault) same_cells same_keys held layout made =
     no_player play given fault (subst (λ (l : List ℕ). held_fault (bits_of play) l ≡ None) same_keys held) (held_layout play given items keys same_cells same_keys layout) made
@@ -68,32 +68,32 @@ not_begun play given items keys (Err fault) same_cells same_keys held layout mad
 
 pub pieces_made : (play : Play) (cells : List ℕ) (given : List (Vec ℕ Global)) (pieces : Vec (Vec ℕ Global) Global) (rooms : Rooms) (r : Result Game PlayFault)
     → play.work ≡ Pieces pieces → given ≡ pieces.items → rooms ≡ rooms_in play.rooms
-    → Makes (start_fault play.kind (bits_of play) cells (length given) (joined given)) (StartsPieces play.kind (bits_of play) rooms cells given) r
-    → Makes (player_fault play cells) (StartsOn cells play play.work) r
+    → MakesPlayer (start_fault play.kind (bits_of play) cells (length given) (keys_of_pieces given)) (StartsPieces play.kind (bits_of play) rooms cells given) r
+    → MakesPlayer (player_fault play cells) (StartsOn cells play play.work) r
 pieces_made play cells given pieces rooms r is same_pieces same_rooms made =
-    subst (λ (w : Work). Makes (start_fault play.kind (bits_of play) cells (workers_in w) (keys_in w)) (StartsOn cells play w) r) (sym is)
-    (subst (λ (l : List (Vec ℕ Global)). Makes (start_fault play.kind (bits_of play) cells (length l) (joined l)) (StartsPieces play.kind (bits_of play) (rooms_in play.rooms) cells l) r) same_pieces
-    (subst (λ (o : Rooms). Makes (start_fault play.kind (bits_of play) cells (length given) (joined given)) (StartsPieces play.kind (bits_of play) o cells given) r) same_rooms made))
+    subst (λ (w : Work). MakesPlayer (start_fault play.kind (bits_of play) cells (workers_in w) (work_keys w)) (StartsOn cells play w) r) (sym is)
+    (subst (λ (l : List (Vec ℕ Global)). MakesPlayer (start_fault play.kind (bits_of play) cells (length l) (keys_of_pieces l)) (StartsPieces play.kind (bits_of play) (rooms_in play.rooms) cells l) r) same_pieces
+    (subst (λ (o : Rooms). MakesPlayer (start_fault play.kind (bits_of play) cells (length given) (keys_of_pieces given)) (StartsPieces play.kind (bits_of play) o cells given) r) same_rooms made))
 
 pub share_made : (play : Play) (cells : List ℕ) (given : List ℕ) (workers : ℕ) (keys : Vec ℕ Global) (rooms : Rooms) (r : Result Game PlayFault)
     → play.work ≡ Share workers keys → given ≡ keys.items → rooms ≡ rooms_in play.rooms
-    → Makes (start_fault play.kind (bits_of play) cells workers given) (StartsShared play.kind (bits_of play) workers rooms cells given) r
-    → Makes (player_fault play cells) (StartsOn cells play play.work) r
+    → MakesPlayer (start_fault play.kind (bits_of play) cells workers given) (StartsShared play.kind (bits_of play) workers rooms cells given) r
+    → MakesPlayer (player_fault play cells) (StartsOn cells play play.work) r
 share_made play cells given workers keys rooms r is same_keys same_rooms made =
-    subst (λ (w : Work). Makes (start_fault play.kind (bits_of play) cells (workers_in w) (keys_in w)) (StartsOn cells play w) r) (sym is)
-    (subst (λ (l : List ℕ). Makes (start_fault play.kind (bits_of play) cells workers l) (StartsShared play.kind (bits_of play) workers (rooms_in play.rooms) cells l) r) same_keys
-    (subst (λ (o : Rooms). Makes (start_fault play.kind (bits_of play) cells workers given) (StartsShared play.kind (bits_of play) workers o cells given) r) same_rooms made))
+    subst (λ (w : Work). MakesPlayer (start_fault play.kind (bits_of play) cells (workers_in w) (work_keys w)) (StartsOn cells play w) r) (sym is)
+    (subst (λ (l : List ℕ). MakesPlayer (start_fault play.kind (bits_of play) cells workers l) (StartsShared play.kind (bits_of play) workers (rooms_in play.rooms) cells l) r) same_keys
+    (subst (λ (o : Rooms). MakesPlayer (start_fault play.kind (bits_of play) cells workers given) (StartsShared play.kind (bits_of play) workers o cells given) r) same_rooms made))
 
 -- what a game has of its play
 pub record Matches (play : Play) (work : Work) (cells : List ℕ) (g : Game) : Type 0 where
   pub kind : g.kind ≡ play.kind
   pub bits : g.shape.bits ≡ bits_of play
   pub opening : g.opening ≡ cells
-  pub keys : g.keys ≡ keys_in work
+  pub keys : g.keys ≡ work_keys work
   pub workers : length g.hands ≡ workers_in work
   pub some : 0 < workers_in work
 
-matches_start : (play : Play) (work : Work) (cells : List ℕ) (g : Game) (z : Shape) → z.bits ≡ bits_of play → z.workers ≡ workers_in work → StartsWith play.kind z cells (keys_in work) g → Matches play work cells g
+matches_start : (play : Play) (work : Work) (cells : List ℕ) (g : Game) (z : Shape) → z.bits ≡ bits_of play → z.workers ≡ workers_in work → StartsWith play.kind z cells (work_keys work) g → Matches play work cells g
 matches_start play work cells g z bits workers start =
     let count : g.shape.workers ≡ workers_in work = ap (λ (s : Shape). s.workers) start.shape_is ∙ workers in
     record {

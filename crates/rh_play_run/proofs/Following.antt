@@ -19,12 +19,12 @@ use Rattle.rh_play_run.specs.declared.log.Log.{Log}
 use Rattle.rh_play_run.specs.declared.log.Telling.{Telling}
 use Rattle.rh_play_run.specs.declared.log.Telling.TheVariants.{Orders, Steps, Records}
 use Rattle.rh_draw.specs.declared.records.Record.{Record}
-use Rattle.rh_play_run.specs.Pieces.{Piece, Tells, piece_records, piece_text, recorded, round_pieces, steps_after, steps_with, told}
-use Rattle.rh_play_run.specs.Schedule.{ATurn, Does, Follows, Misses, Reaches, Rests, RestsWithin, Rounds, StandsAs, TurnOfEach, TurnsOf, TurnsUntil, last_of, makes_step, shown, word_line, words_shown}
+use Rattle.rh_play_run.specs.Pieces.{Piece, TellsPieces, piece_records, piece_text, recorded, round_pieces, steps_after, steps_with, told}
+use Rattle.rh_play_run.specs.Schedule.{ATurn, CarriesOut, CarriesOutAll, Misses, Reaches, PassesToRest, RestsWithin, Rounds, StandsAs, TurnOfEach, TurnsOf, TurnsUntil, last_of, makes_step, shown, word_line, words_shown}
 
 -- ---- what is told
 
-pub nothing_told : (log : Log) → Tells log [] log
+pub nothing_told : (log : Log) → TellsPieces log [] log
 nothing_told log = record { telling = refl; text = sym (append-nil log.text.items); records = sym (append-nil log.records.items); steps = refl }
 
 told_more : (telling : Telling) (n : ℕ) (ps qs : List Piece) → told telling n (ps ++ qs) ≡ told telling n ps ++ told telling (steps_after n ps) qs
@@ -43,7 +43,7 @@ steps_more : (n : ℕ) (ps qs : List Piece) → steps_after n (ps ++ qs) ≡ ste
 steps_more n [] qs = refl
 steps_more n (p ∷ ps) qs = steps_more (steps_with n p) ps qs
 
-pub then_tells : (a b c : Log) (ps qs : List Piece) → Tells a ps b → Tells b qs c → Tells a (ps ++ qs) c
+pub then_tells : (a b c : Log) (ps qs : List Piece) → TellsPieces a ps b → TellsPieces b qs c → TellsPieces a (ps ++ qs) c
 then_tells a b c ps qs one two = record {
   telling = two.telling ∙ one.telling;
   text =
@@ -74,7 +74,7 @@ no_records Orders n text = refl
 no_records Steps n text = refl
 no_records Records n text = refl
 
-lines_told : (a b : Log) (text : List ℕ) → b.telling ≡ a.telling → b.steps ≡ a.steps → b.records ≡ a.records → b.text.items ≡ a.text.items ++ text → Tells a (Piece.lines text ∷ []) b
+lines_told : (a b : Log) (text : List ℕ) → b.telling ≡ a.telling → b.steps ≡ a.steps → b.records ≡ a.records → b.text.items ≡ a.text.items ++ text → TellsPieces a (Piece.lines text ∷ []) b
 lines_told a b text telling steps records appended = record {
   telling = telling;
   text = appended ∙ ap (λ (l : List ℕ). a.text.items ++ l) (sym (append-nil text) ∙ ap (λ (l : List ℕ). l ++ []) (sym (lines_text a.telling a.steps text)));
@@ -123,38 +123,38 @@ unfolding TurnOfEach
 one_worker_more count from g mid next made before after some first others turned is rest =
     (made, first, others, mid, turned, subst (λ (b : Bool). TurnOfEach count (from + 1) mid b some others next) is rest, refl)
 
-pub last_pass : (more : ℕ) (g next : Game) (some : Bool) (pieces : List Piece) → TurnOfEach more 0 g false some pieces next → Rests 0 more g pieces next
-unfolding Rests
+pub last_pass : (more : ℕ) (g next : Game) (some : Bool) (pieces : List Piece) → TurnOfEach more 0 g false some pieces next → PassesToRest 0 more g pieces next
+unfolding PassesToRest
 last_pass more g next some pieces turns = (some, turns)
 
-pub quiet_pass : (passes more count : ℕ) (g next : Game) (pieces : List Piece) → length g.hands ≡ count → TurnOfEach count 0 g false false pieces next → Rests (suc passes) more g pieces next
-unfolding Rests
+pub quiet_pass : (passes more count : ℕ) (g next : Game) (pieces : List Piece) → length g.hands ≡ count → TurnOfEach count 0 g false false pieces next → PassesToRest (suc passes) more g pieces next
+unfolding PassesToRest
 quiet_pass passes more count g next pieces is turns =
     (false, pieces, [], next, subst (λ (n : ℕ). TurnOfEach n 0 g false false pieces next) (sym is) turns, (refl, refl), sym (append-nil pieces))
 
 pub one_pass_more : (passes more count : ℕ) (g mid next : Game) (first others : List Piece) → length g.hands ≡ count → TurnOfEach count 0 g false true first mid
-    → Rests passes more mid others next → Rests (suc passes) more g (first ++ others) next
-unfolding Rests
+    → PassesToRest passes more mid others next → PassesToRest (suc passes) more g (first ++ others) next
+unfolding PassesToRest
 one_pass_more passes more count g mid next first others is turns rest =
     (true, first, others, mid, subst (λ (n : ℕ). TurnOfEach n 0 g false true first mid) (sym is) turns, rest, refl)
 
 -- ---- orders
 
-pub no_order : (g : Game) → Follows [] g [] g
-unfolding Follows
+pub no_order : (g : Game) → CarriesOutAll [] g [] g
+unfolding CarriesOutAll
 no_order g = (refl, refl)
 
-pub one_order_more : (order : Order) (orders : List Order) (g mid next : Game) (first others : List Piece) → Does order g first mid
-    → Follows orders mid others next → Follows (order ∷ orders) g (first ++ others) next
-unfolding Follows
+pub one_order_more : (order : Order) (orders : List Order) (g mid next : Game) (first others : List Piece) → CarriesOut order g first mid
+    → CarriesOutAll orders mid others next → CarriesOutAll (order ∷ orders) g (first ++ others) next
+unfolding CarriesOutAll
 one_order_more order orders g mid next first others does rest = (first, others, mid, does, rest, refl)
 
-pub orders_from : (orders : List Order) (i : ℕ) (other : Order) (g mid next : Game) (first others : List Piece) → i < length orders → Does (get_or orders i other) g first mid
-    → Follows (drop (i + 1) orders) mid others next → Follows (drop i orders) g (first ++ others) next
+pub orders_from : (orders : List Order) (i : ℕ) (other : Order) (g mid next : Game) (first others : List Piece) → i < length orders → CarriesOut (get_or orders i other) g first mid
+    → CarriesOutAll (drop (i + 1) orders) mid others next → CarriesOutAll (drop i orders) g (first ++ others) next
 orders_from orders i other g mid next first others inside does rest =
     rw (drop-cons orders i other) (one_order_more (get_or orders i other) (drop (suc i) orders) g mid next first others does (rw add-one at rest))
 
-pub all_followed : (orders : List Order) (i : ℕ) (g : Game) → length orders ≤ i → Follows (drop i orders) g [] g
+pub all_followed : (orders : List Order) (i : ℕ) (g : Game) → length orders ≤ i → CarriesOutAll (drop i orders) g [] g
 all_followed orders i g past = rw (drop_all i orders past) (no_order g)
 
 pub a_round : (g next : Game) (began : Bool) → (IsTrue began ↔ AllStopped g) → (IsTrue began → BeginsRound g next) → (IsFalse began → next ≡ g) → Rounds g began next
@@ -165,47 +165,47 @@ a_round g next false decides begins stays =
 -- ---- what is told of an order
 
 -- After its steps its lines were appended, and what is told is that of the order.
-told_after : (todo done : Order) (g next : Game) (steps : List Piece) (text : List ℕ) (old mid new : Log) → todo ≡ done → Tells old steps mid
-    → new.telling ≡ mid.telling → new.steps ≡ mid.steps → new.records ≡ mid.records → new.text.items ≡ mid.text.items ++ text → Does done g (steps ++ Piece.lines text ∷ []) next
-    → (pieces : List Piece) × Does todo g pieces next × Tells old pieces new
+told_after : (todo done : Order) (g next : Game) (steps : List Piece) (text : List ℕ) (old mid new : Log) → todo ≡ done → TellsPieces old steps mid
+    → new.telling ≡ mid.telling → new.steps ≡ mid.steps → new.records ≡ mid.records → new.text.items ≡ mid.text.items ++ text → CarriesOut done g (steps ++ Piece.lines text ∷ []) next
+    → (pieces : List Piece) × CarriesOut todo g pieces next × TellsPieces old pieces new
 told_after todo done g next steps text old mid new is before telling count records prints does = (
   steps ++ Piece.lines text ∷ [],
-  subst (λ (o : Order). Does o g (steps ++ Piece.lines text ∷ []) next) (sym is) does,
+  subst (λ (o : Order). CarriesOut o g (steps ++ Piece.lines text ∷ []) next) (sym is) does,
   then_tells old mid new steps (Piece.lines text ∷ []) before (lines_told mid new text telling count records prints),
 )
 
-pub told_of : {X E : Type 0} (todo done : Order) (g next : Game) (steps : List Piece) (text : List ℕ) (old mid new : Log) (r : Result X E) → todo ≡ done → Tells old steps mid
-    → new.telling ≡ mid.telling → new.steps ≡ mid.steps → new.records ≡ mid.records → Prints mid.text.items new.text.items text r → Does done g (steps ++ Piece.lines text ∷ []) next
-    → OnOk r ((pieces : List Piece) × Does todo g pieces next × Tells old pieces new)
+pub told_of : {X E : Type 0} (todo done : Order) (g next : Game) (steps : List Piece) (text : List ℕ) (old mid new : Log) (r : Result X E) → todo ≡ done → TellsPieces old steps mid
+    → new.telling ≡ mid.telling → new.steps ≡ mid.steps → new.records ≡ mid.records → Prints mid.text.items new.text.items text r → CarriesOut done g (steps ++ Piece.lines text ∷ []) next
+    → OnOk r ((pieces : List Piece) × CarriesOut todo g pieces next × TellsPieces old pieces new)
 told_of todo done g next steps text old mid new (Ok x) is before telling count records prints does = told_after todo done g next steps text old mid new is before telling count records prints does
 told_of todo done g next steps text old mid new (Err e) is before telling count records prints does = tt
 
 pub told_so : {X E : Type 0} (todo done : Order) (g next : Game) (text : List ℕ) (old new : Log) (r : Result X E) → todo ≡ done
-    → new.telling ≡ old.telling → new.steps ≡ old.steps → new.records ≡ old.records → OnOk r (new.text.items ≡ old.text.items ++ text) → Does done g (Piece.lines text ∷ []) next
-    → OnOk r ((pieces : List Piece) × Does todo g pieces next × Tells old pieces new)
+    → new.telling ≡ old.telling → new.steps ≡ old.steps → new.records ≡ old.records → OnOk r (new.text.items ≡ old.text.items ++ text) → CarriesOut done g (Piece.lines text ∷ []) next
+    → OnOk r ((pieces : List Piece) × CarriesOut todo g pieces next × TellsPieces old pieces new)
 told_so todo done g next text old new (Ok x) is telling count records prints does = told_after todo done g next [] text old old new is (nothing_told old) telling count records prints does
 told_so todo done g next text old new (Err e) is telling count records prints does = tt
 
 pub turn_order : (worker turns : ℕ) (g : Game) (told : Last) (steps : List Piece) (next : Game) → TurnsOf worker turns g Limit told steps next
-    → Does (order.Turn worker turns) g (steps ++ Piece.lines (turn_line worker turns told) ∷ []) next
-unfolding Does
+    → CarriesOut (order.Turn worker turns) g (steps ++ Piece.lines (turn_line worker turns told) ∷ []) next
+unfolding CarriesOut
 turn_order worker turns g told steps next made = (told, steps, made, refl)
 
 pub until_order : (worker : ℕ) (kind : StepKind) (g : Game) (told : Last) (steps : List Piece) (next : Game) → TurnsUntil MAX_TURNS worker kind g told steps next
-    → Does (order.Until worker kind) g (steps ++ Piece.lines (until_line worker kind told) ∷ []) next
-unfolding Does
+    → CarriesOut (order.Until worker kind) g (steps ++ Piece.lines (until_line worker kind told) ∷ []) next
+unfolding CarriesOut
 until_order worker kind g told steps next made = (told, steps, made, refl)
 
-pub rest_order : (g next : Game) (told : Rest) (steps : List Piece) → RestsWithin MAX_TURNS g steps next → StandsAs told next → Does order.Rest g (steps ++ Piece.lines (rest_line told) ∷ []) next
-unfolding Does
+pub rest_order : (g next : Game) (told : Rest) (steps : List Piece) → RestsWithin MAX_TURNS g steps next → StandsAs told next → CarriesOut order.Rest g (steps ++ Piece.lines (rest_line told) ∷ []) next
+unfolding CarriesOut
 rest_order g next told steps made stands = (told, steps, made, stands, refl)
 
-pub round_order : (g next : Game) (began : Bool) → Rounds g began next → Does order.Round g (round_pieces began ++ Piece.lines (round_line began) ∷ []) next
-unfolding Does
+pub round_order : (g next : Game) (began : Bool) → Rounds g began next → CarriesOut order.Round g (round_pieces began ++ Piece.lines (round_line began) ∷ []) next
+unfolding CarriesOut
 round_order g next began made = (began, made, refl)
 
-pub show_order : (g : Game) → Does order.Show g (Piece.lines (shown g) ∷ []) g
-unfolding Does
+pub show_order : (g : Game) → CarriesOut order.Show g (Piece.lines (shown g) ∷ []) g
+unfolding CarriesOut
 show_order g = (refl, refl)
 
 -- ---- what is shown

@@ -11,7 +11,7 @@ use Rattle.rh_play.specs.declared.schedule.Order.TheVariants as order
 use Rattle.rh_play.specs.declared.endings.Last.{Last}
 use Rattle.rh_stepper.proofs.Turning.{turned_so}
 use Rattle.rh_play_run.specs.Pieces.{Piece}
-use Rattle.rh_play_run.specs.Schedule.{ATurn, Does, Follows, Rests, Rounds, TurnOfEach, TurnsOf, TurnsUntil, last_of}
+use Rattle.rh_play_run.specs.Schedule.{ATurn, CarriesOut, CarriesOutAll, PassesToRest, Rounds, TurnOfEach, TurnsOf, TurnsUntil, last_of}
 
 -- the keys, the table's size and first cells, and the number of workers
 pub record Keeps (g next : Game) : Type 0 where
@@ -69,24 +69,24 @@ each_keeps zero from g before some pieces next h = stays g next h.2
 each_keeps (suc count) from g before some pieces next (made, first, others, mid, turned, rest, is) =
     then_keeps g mid next (a_turn_keeps g from made first mid turned) (each_keeps count (from + 1) mid _ some others next rest)
 
-rests_keep : (passes more : ℕ) (g : Game) (pieces : List Piece) (next : Game) → Rests passes more g pieces next → Keeps g next
-unfolding Rests
+rests_keep : (passes more : ℕ) (g : Game) (pieces : List Piece) (next : Game) → PassesToRest passes more g pieces next → Keeps g next
+unfolding PassesToRest
 rests_keep zero more g pieces next (some, turns) = each_keeps more 0 g false some pieces next turns
 rests_keep (suc passes) more g pieces next (true, first, others, mid, turns, rest, is) =
     then_keeps g mid next (each_keeps (length g.hands) 0 g false true first mid turns) (rests_keep passes more mid others next rest)
 rests_keep (suc passes) more g pieces next (false, first, others, mid, turns, same, is) =
     then_keeps g mid next (each_keeps (length g.hands) 0 g false false first mid turns) (stays mid next same.1)
 
-pub order_keeps : (todo : Order) (g : Game) (pieces : List Piece) (next : Game) → Does todo g pieces next → Keeps g next
-unfolding Does
+pub order_keeps : (todo : Order) (g : Game) (pieces : List Piece) (next : Game) → CarriesOut todo g pieces next → Keeps g next
+unfolding CarriesOut
 order_keeps (order.Turn worker turns) g pieces next (told, steps, h, is) = turns_keep worker turns g _ told steps next h
 order_keeps (order.Until worker step) g pieces next (told, steps, h, is) = until_keeps _ worker _ g told steps next h
 order_keeps order.Rest g pieces next (told, steps, h, stands, is) = rests_keep _ _ g steps next h
 order_keeps order.Round g pieces next (began, h, is) = round_keeps g began next h
 order_keeps order.Show g pieces next (same, is) = stays g next same
 
-pub schedule_keeps : (orders : List Order) (g : Game) (pieces : List Piece) (next : Game) → Follows orders g pieces next → Keeps g next
-unfolding Follows
+pub schedule_keeps : (orders : List Order) (g : Game) (pieces : List Piece) (next : Game) → CarriesOutAll orders g pieces next → Keeps g next
+unfolding CarriesOutAll
 schedule_keeps [] g pieces next h = stays g next h.1
 schedule_keeps (todo ∷ orders) g pieces next (first, others, mid, does, rest, is) =
     then_keeps g mid next (order_keeps todo g first mid does) (schedule_keeps orders mid others next rest)

@@ -8,7 +8,7 @@ use Rattle.rh_descriptor.specs.declared.shape.Rooms.{Rooms}
 use Rattle.rh_turns.specs.Game.{Game}
 use Rattle.rh_stepper.specs.declared.fault.PlayFault.{PlayFault}
 use Rattle.rh_stepper.specs.declared.fault.PlayFault.TheVariants.{BadKey, NoRoom}
-use Rattle.rh_stepper.specs.Start.{Refuses, StartsPieces, StartsShared, are_keys, joined, start_fault}
+use Rattle.rh_stepper.specs.Start.{Refuses, StartsPieces, StartsShared, are_keys, keys_of_pieces, start_fault}
 use Rattle.rh_play.specs.declared.play.Play.{Play}
 use Rattle.rh_play.specs.declared.play.Rooms as said
 use Rattle.rh_play.specs.declared.play.Work.TheVariants.{Pieces, Share}
@@ -28,9 +28,9 @@ workers_in (Pieces pieces) = length pieces.items
 workers_in (Share workers keys) = workers
 
 -- the keys of all workers
-abbrev pub keys_in : Work → List ℕ
-keys_in (Pieces pieces) = joined pieces.items
-keys_in (Share workers keys) = keys.items
+abbrev pub work_keys : Work → List ℕ
+work_keys (Pieces pieces) = keys_of_pieces pieces.items
+work_keys (Share workers keys) = keys.items
 
 -- the rooms that are said, or the usual ones
 abbrev pub rooms_in : Option said.Rooms → Rooms
@@ -48,7 +48,7 @@ held_fault bits keys =
 
 -- the first fault of the player, on these cells
 abbrev pub player_fault : Play → (cells : List ℕ) → Option PlayFault
-player_fault play cells = start_fault play.kind (bits_of play) cells (workers_in play.work) (keys_in play.work)
+player_fault play cells = start_fault play.kind (bits_of play) cells (workers_in play.work) (work_keys play.work)
 
 -- the first fault of the player on the layout of the keys held, if there is one
 abbrev pub IsPlayerFault : Play → Option PlayFault → Type 0
@@ -78,7 +78,7 @@ StartsOn cells play (Pieces pieces) g = StartsPieces play.kind (bits_of play) (r
 StartsOn cells play (Share workers keys) g = StartsShared play.kind (bits_of play) workers (rooms_in play.rooms) cells keys.items g
 
 -- There is no fault, and the table is the layout of the keys held.
-pub record Begins (play : Play) (g : Game) : Type 0 where
+pub record BeginsPlay (play : Play) (g : Game) : Type 0 where
   pub cells : List ℕ
   pub held : held_fault (bits_of play) play.held.items ≡ None
   pub layout : Layout cells (bits_of play) (held_of play)

@@ -34,18 +34,18 @@ round_pieces true = Piece.round ∷ []
 round_pieces false = []
 
 -- the steps with one more, up to the greatest number
-abbrev pub counted : (steps : ℕ) → ℕ
-counted steps = min (steps + 1) (2 ^ 64 - 1)
+abbrev pub one_step_more : (steps : ℕ) → ℕ
+one_step_more steps = min (steps + 1) (2 ^ 64 - 1)
 
 -- how many steps were made after it
 abbrev pub steps_with : (steps : ℕ) → Piece → ℕ
-steps_with steps (Piece.step worker kind touched) = counted steps
+steps_with steps (Piece.step worker kind touched) = one_step_more steps
 steps_with steps Piece.round = steps
 steps_with steps (Piece.lines text) = steps
 
 -- the step that comes after so many
 abbrev pub traced : (steps worker : ℕ) → StepKind → Touched → Traced
-traced steps worker kind touched = record { number = counted steps; worker = worker; kind = kind; touched = touched }
+traced steps worker kind touched = record { number = one_step_more steps; worker = worker; kind = kind; touched = touched }
 
 -- its text after so many steps
 abbrev pub piece_text : Telling → (steps : ℕ) → Piece → List ℕ
@@ -60,7 +60,7 @@ abbrev pub piece_records : Telling → (steps : ℕ) → Piece → List Record
 piece_records Orders steps piece = []
 piece_records Steps steps piece = []
 piece_records Records steps (Piece.step worker kind touched) = Step (traced steps worker kind touched) ∷ []
-piece_records Records steps Piece.round = Round (counted steps) ∷ []
+piece_records Records steps Piece.round = Round (one_step_more steps) ∷ []
 piece_records Records steps (Piece.lines text) = []
 
 -- the text of all of them
@@ -78,7 +78,7 @@ steps_after steps [] = steps
 steps_after steps (p ∷ pieces) = steps_after (steps_with steps p) pieces
 
 -- These were told.
-pub record Tells (old : Log) (pieces : List Piece) (new : Log) : Type 0 where
+pub record TellsPieces (old : Log) (pieces : List Piece) (new : Log) : Type 0 where
   pub telling : new.telling ≡ old.telling
   pub text : new.text.items ≡ old.text.items ++ told old.telling old.steps pieces
   pub records : new.records.items ≡ old.records.items ++ recorded old.telling old.steps pieces

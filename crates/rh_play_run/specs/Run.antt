@@ -7,7 +7,7 @@ use Rattle.rh_ledger.specs.Phase.{set_after, tally_of}
 use Rattle.rh_turns.specs.Game.{AllFinished, Game}
 use Rattle.rh_stepper.specs.declared.fault.PlayFault.{PlayFault}
 use Rattle.rh_ledger.specs.Tally.{tally_by}
-use Rattle.rh_stepper.specs.Made.{MadeSoFar, TallySpec, changed_count, done_count}
+use Rattle.rh_stepper.specs.Made.{IsMadeSoFar, TallySpec, changed_count, done_count}
 use Rattle.rh_key_files.specs.Counting.{AppendsFront}
 use Rattle.rh_key_files.specs.Dump.{dump_text}
 use Rattle.rh_play.specs.declared.fault.PlayTextFault.{PlayTextFault}
@@ -20,10 +20,10 @@ use Rattle.rh_play.specs.Play.{said_of}
 use Rattle.rh_play.specs.Lines.{end_line, tally_line}
 use Rattle.rh_play_run.specs.declared.fault.PlayRunFault.{PlayRunFault}
 use Rattle.rh_play_run.specs.declared.fault.PlayRunFault.TheVariants.{Read, Text, Start, Memory, Write}
-use Rattle.rh_play_run.specs.Beginning.{Begins, CanBegin, IsRefusedStart, bits_of, held_of, keys_in}
+use Rattle.rh_play_run.specs.Beginning.{BeginsPlay, CanBegin, IsRefusedStart, bits_of, held_of, work_keys}
 use Rattle.rh_play_run.specs.declared.log.Telling.{Telling}
 use Rattle.rh_play_run.specs.Pieces.{Piece, told}
-use Rattle.rh_play_run.specs.Schedule.{Follows}
+use Rattle.rh_play_run.specs.Schedule.{CarriesOutAll}
 
 -- ---- the end of a play
 
@@ -46,7 +46,7 @@ ClosesWith g text = (finished : Bool) × IsAllFinished g finished × (text ≡ c
 -- The cells that are dumped stand for what the workers have made.
 pub record Ends (bits : ℕ) (g : Game) (text : List ℕ) : Type 0 where
   pub cells : List ℕ
-  pub so_far : MadeSoFar g cells
+  pub so_far : IsMadeSoFar g cells
   pub close : List ℕ
   pub closes : ClosesWith g close
   pub text_is : text ≡ dump_text bits cells ++ close
@@ -54,8 +54,8 @@ pub record Ends (bits : ℕ) (g : Game) (text : List ℕ) : Type 0 where
 -- The text tells the layout and the tally of one worker that does all keys one after the other.
 pub record EndsAsOne (play : Play) (text : List ℕ) : Type 0 where
   pub cells : List ℕ
-  pub layout : Layout cells (bits_of play) (set_after play.kind (held_of play) (keys_in play.work))
-  pub text_is : text ≡ dump_text (bits_of play) cells ++ closing (tally_of play.kind (held_of play) (keys_in play.work)) true
+  pub layout : Layout cells (bits_of play) (set_after play.kind (held_of play) (work_keys play.work))
+  pub text_is : text ≡ dump_text (bits_of play) cells ++ closing (tally_of play.kind (held_of play) (work_keys play.work)) true
 
 -- ---- the whole text
 
@@ -63,9 +63,9 @@ pub record EndsAsOne (play : Play) (text : List ℕ) : Type 0 where
 pub record IsPlayed (telling : Telling) (play : Play) (text : List ℕ) : Type 0 where
   pub first : Game
   pub last : Game
-  pub begins : Begins play first
+  pub begins : BeginsPlay play first
   pub pieces : List Piece
-  pub follows : Follows play.schedule.items first pieces last
+  pub follows : CarriesOutAll play.schedule.items first pieces last
   pub ending : List ℕ
   pub ends : Ends (bits_of play) last ending
   pub as_one : AllFinished last → EndsAsOne play ending

@@ -80,15 +80,15 @@ TurnOfEach (suc count) from g before some pieces next =
 
 -- Passes over all workers, up to the first in which no turn makes a step: so many at most, and where that is not enough so
 -- many turns of one more.
-unfoldable pub Rests : (passes more : ℕ) → Game → (pieces : List Piece) → Game → Type 0
-Rests zero more g pieces next = (some : Bool) × TurnOfEach more 0 g false some pieces next
-Rests (suc passes) more g pieces next =
+unfoldable pub PassesToRest : (passes more : ℕ) → Game → (pieces : List Piece) → Game → Type 0
+PassesToRest zero more g pieces next = (some : Bool) × TurnOfEach more 0 g false some pieces next
+PassesToRest (suc passes) more g pieces next =
     (some : Bool) × (first : List Piece) × (others : List Piece) × (mid : Game) × TurnOfEach (length g.hands) 0 g false some first mid
-    × MatchBool some (Rests passes more mid others next) ((others ≡ []) × (next ≡ mid)) × (pieces ≡ first ++ others)
+    × MatchBool some (PassesToRest passes more mid others next) ((others ≡ []) × (next ≡ mid)) × (pieces ≡ first ++ others)
 
 -- no more turns than a line may ask for
 abbrev pub RestsWithin : (turns : ℕ) → Game → (pieces : List Piece) → Game → Type 0
-RestsWithin turns g pieces next = Rests (turns / length g.hands) (turns % length g.hands) g pieces next
+RestsWithin turns g pieces next = PassesToRest (turns / length g.hands) (turns % length g.hands) g pieces next
 
 -- how the workers stand: all are finished, or none has a step left and some are spent, or one has a step left
 abbrev pub StandsAs : Rest → Game → Type 0
@@ -119,22 +119,22 @@ shown g = words_shown g.words (cell_count g.shape)
 -- ---- a schedule
 
 -- What an order does to a game, and what is told of it: its steps, and then its lines.
-unfoldable pub Does : Order → Game → (pieces : List Piece) → Game → Type 0
-Does (order.Turn worker turns) g pieces next =
+unfoldable pub CarriesOut : Order → Game → (pieces : List Piece) → Game → Type 0
+CarriesOut (order.Turn worker turns) g pieces next =
     (told : Last) × (steps : List Piece) × TurnsOf worker turns g last.Limit told steps next × (pieces ≡ steps ++ Piece.lines (turn_line worker turns told) ∷ [])
-Does (order.Until worker step) g pieces next =
+CarriesOut (order.Until worker step) g pieces next =
     (told : Last) × (steps : List Piece) × TurnsUntil MAX_TURNS worker step g told steps next
     × (pieces ≡ steps ++ Piece.lines (until_line worker step told) ∷ [])
-Does order.Rest g pieces next =
+CarriesOut order.Rest g pieces next =
     (told : Rest) × (steps : List Piece) × RestsWithin MAX_TURNS g steps next × StandsAs told next × (pieces ≡ steps ++ Piece.lines (rest_line told) ∷ [])
-Does order.Round g pieces next = (began : Bool) × Rounds g began next × (pieces ≡ round_pieces began ++ Piece.lines (round_line began) ∷ [])
-Does order.Show g pieces next = (next ≡ g) × (pieces ≡ Piece.lines (shown g) ∷ [])
+CarriesOut order.Round g pieces next = (began : Bool) × Rounds g began next × (pieces ≡ round_pieces began ++ Piece.lines (round_line began) ∷ [])
+CarriesOut order.Show g pieces next = (next ≡ g) × (pieces ≡ Piece.lines (shown g) ∷ [])
 
 -- The orders are carried out one after the other, and what is told of them follows one another.
-unfoldable pub Follows : List Order → Game → (pieces : List Piece) → Game → Type 0
-Follows [] g pieces next = (pieces ≡ []) × (next ≡ g)
-Follows (order ∷ orders) g pieces next =
-    (first : List Piece) × (others : List Piece) × (mid : Game) × Does order g first mid × Follows orders mid others next × (pieces ≡ first ++ others)
+unfoldable pub CarriesOutAll : List Order → Game → (pieces : List Piece) → Game → Type 0
+CarriesOutAll [] g pieces next = (pieces ≡ []) × (next ≡ g)
+CarriesOutAll (order ∷ orders) g pieces next =
+    (first : List Piece) × (others : List Piece) × (mid : Game) × CarriesOut order g first mid × CarriesOutAll orders mid others next × (pieces ≡ first ++ others)
 
 -- ---- its size
 

@@ -4,8 +4,8 @@ ghost use Rattle.std.specs.Prelude.{◌≡◌, ◌^◌, ◌<◌, All, IfErr, IfO
 ghost use Rattle.std.specs.FinSet as set;
 ghost use Rattle.rh_layout.specs.Key.{IsBits, IsKey};
 ghost use Rattle.rh_layout.specs.Layout.{Layout};
-ghost use Rattle.rh_stepper.specs.Start.{IsRooms, Makes, are_keys};
-ghost use Rattle.rh_play_run.specs.Beginning.{Begins, IsRefusedStart, IsBlank, StartsOn};
+ghost use Rattle.rh_stepper.specs.Start.{IsRooms, MakesPlayer, are_keys};
+ghost use Rattle.rh_play_run.specs.Beginning.{BeginsPlay, IsRefusedStart, IsBlank, StartsOn};
 ghost use Rattle.rh_play_run.specs.Beginning.{held_fault, player_fault};
 
 use rh_descriptor::Rooms;
@@ -28,7 +28,7 @@ pub(crate) fn blank_cells(alloc: Global) -> Result<Vec<u64>, AllocError>
 /// The player of a play, whose table is made of blank cells. The keys held are tested first.
 pub(crate) fn begin(alloc: Global, blank: Vec<u64>, play: &Play) -> Result<Player, PlayFault>
     requires { IsBlank blank.items }
-    ensures begins { IfOk result (λ player. Begins play.now player) }
+    ensures begins { IfOk result (λ player. BeginsPlay play.now player) }
     ensures refused { IfErr result (IsRefusedStart play.now) }
 {
     let bits = play.bits.value as u32;
@@ -80,7 +80,7 @@ pub(crate) fn cells_in(bits: u32) -> usize
 
 /// The player of a play whose table has these cells at first.
 fn player_on(alloc: Global, cells: &[u64], play: &Play) -> Result<Player, PlayFault>
-    ensures { Makes (player_fault play.now cells.now) (StartsOn cells.now play.now play.now.work)
+    ensures { MakesPlayer (player_fault play.now cells.now) (StartsOn cells.now play.now play.now.work)
         result }
 {
     let (bits, kind) = (play.bits.value as u32, play.kind);

@@ -5,7 +5,7 @@ ghost use Rattle.rh_layout.specs.Layout.{IsLayout, Layout};
 ghost use Rattle.rh_ledger.specs.Phase.{set_after, tally_of};
 ghost use Rattle.rh_descriptor.specs.Parts.{cell_count};
 ghost use Rattle.rh_turns.specs.Game.{AllFinished};
-ghost use Rattle.rh_stepper.specs.Made.{MadeSoFar, held_first};
+ghost use Rattle.rh_stepper.specs.Made.{IsMadeSoFar, held_first};
 ghost use Rattle.rh_key_files.specs.Counting.{Rose, Writes, failures_of, inner_of};
 ghost use Rattle.rh_key_files.specs.Dump.{dump_text};
 ghost use Rattle.rh_play_run.specs.Run.{ClosesWith, closing};
@@ -23,7 +23,7 @@ pub(crate) fn made_cells(
     cells: usize,
 ) -> Result<Vec<u64>, AllocError>
     requires { cell_count player.now.shape ≡ cells }
-    ensures so_far { IfOk result (λ made. MadeSoFar player.now made.items) }
+    ensures so_far { IfOk result (λ made. IsMadeSoFar player.now made.items) }
     ensures finished { IfOk result (λ made. AllFinished player.now →
         Layout made.items player.now.shape.bits
         (set_after player.now.kind (held_first player.now) player.now.keys)) }

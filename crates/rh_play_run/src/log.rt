@@ -1,7 +1,7 @@
 //! What is told of a play so far.
 
 ghost use Rattle.std.specs.Prelude.{◌≡◌, [], ◌∷◌, OnOk};
-ghost use Rattle.rh_play_run.specs.Pieces.{Tells, round_pieces, turn_pieces};
+ghost use Rattle.rh_play_run.specs.Pieces.{TellsPieces, round_pieces, turn_pieces};
 ghost use Rattle.rh_play_run.specs.Pieces.Piece.{step as step_piece};
 
 use rh_descriptor::StepKind;
@@ -55,7 +55,7 @@ impl Log {
         turn: Turn,
         touched: Option<Touched>,
     ) -> Result<(), AllocError>
-        ensures { OnOk result (Tells self.old (turn_pieces worker turn touched) self.new) }
+        ensures { OnOk result (TellsPieces self.old (turn_pieces worker turn touched) self.new) }
     {
         match (turn, touched) {
             (Turn::Did(kind), Some(touched)) => self.step(worker, kind, touched),
@@ -64,7 +64,7 @@ impl Log {
     }
 
     fn step(&mut self, worker: usize, kind: StepKind, touched: Touched) -> Result<(), AllocError>
-        ensures { OnOk result (Tells self.old (step_piece worker kind touched ∷ []) self.new) }
+        ensures { OnOk result (TellsPieces self.old (step_piece worker kind touched ∷ []) self.new) }
     {
         self.steps = self.steps.saturating_add(1);
         let step = Traced {
@@ -82,7 +82,7 @@ impl Log {
 
     /// Tells of a further round, where it began.
     pub(crate) fn begin_round(&mut self, began: bool) -> Result<(), AllocError>
-        ensures { OnOk result (Tells self.old (round_pieces began) self.new) }
+        ensures { OnOk result (TellsPieces self.old (round_pieces began) self.new) }
     {
         if began && self.telling == Telling::Records {
             let next = self.steps.saturating_add(1);

@@ -2,8 +2,8 @@
 
 ghost use Rattle.std.specs.Prelude.{◌≡◌, ◌++◌, List, OnOk};
 ghost use Rattle.rh_descriptor.specs.Parts.{cell_count};
-ghost use Rattle.rh_play_run.specs.Pieces.{Piece, Tells};
-ghost use Rattle.rh_play_run.specs.Schedule.{Does, HasSize, Rounds, shown};
+ghost use Rattle.rh_play_run.specs.Pieces.{Piece, TellsPieces};
+ghost use Rattle.rh_play_run.specs.Schedule.{CarriesOut, HasSize, Rounds, shown};
 
 use crate::log::Log;
 use crate::resting::rest;
@@ -27,8 +27,8 @@ pub(crate) fn carry_out(
     log: &mut Log,
 ) -> Result<(), AllocError>
     requires { HasSize size.workers size.cells player.old }
-    ensures { OnOk result ((pieces : List Piece) × Does order player.old pieces player.new
-        × Tells log.old pieces log.new) }
+    ensures { OnOk result ((pieces : List Piece) × CarriesOut order player.old pieces player.new
+        × TellsPieces log.old pieces log.new) }
 {
     match order {
         Order::Turn { worker, turns } => {

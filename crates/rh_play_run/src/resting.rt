@@ -1,8 +1,8 @@
 //! Turns of all workers.
 
 ghost use Rattle.std.specs.Prelude.{◌≡◌, ◌<◌, IfOk, List, OnOk, length, false};
-ghost use Rattle.rh_play_run.specs.Pieces.{Piece, Tells};
-ghost use Rattle.rh_play_run.specs.Schedule.{Rests, RestsWithin, StandsAs, TurnOfEach, makes_step};
+ghost use Rattle.rh_play_run.specs.Pieces.{Piece, TellsPieces};
+ghost use Rattle.rh_play_run.specs.Schedule.{PassesToRest, RestsWithin, StandsAs, TurnOfEach, makes_step};
 
 use crate::log::Log;
 use crate::turns::take_turn;
@@ -22,7 +22,7 @@ pub(crate) fn rest(
     requires workers { length player.old.hands ≡ workers }
     requires some { 0 < workers }
     ensures rests { OnOk result ((pieces : List Piece)
-        × RestsWithin turns player.old pieces player.new × Tells log.old pieces log.new) }
+        × RestsWithin turns player.old pieces player.new × TellsPieces log.old pieces log.new) }
     ensures stands { IfOk result (λ rest. StandsAs rest player.new) }
 {
     let count = workers as u64;
@@ -47,7 +47,7 @@ fn take_passes(
 ) -> Result<(), AllocError>
     requires { length player.old.hands ≡ workers }
     ensures { OnOk result ((pieces : List Piece)
-        × Rests passes more player.old pieces player.new × Tells log.old pieces log.new) }
+        × PassesToRest passes more player.old pieces player.new × TellsPieces log.old pieces log.new) }
 {
     'passes: for _ in 0..passes {
         let some = take_turn_of_each(player, workers, log)?;
@@ -62,7 +62,7 @@ fn take_passes(
 /// One turn of each of so many workers in order, and whether one of these turns made a step.
 fn take_turn_of_each(player: &mut Player, count: usize, log: &mut Log) -> Result<bool, AllocError>
     ensures { IfOk result (λ some. (pieces : List Piece)
-        × TurnOfEach count 0 player.old false some pieces player.new × Tells log.old pieces log.new) }
+        × TurnOfEach count 0 player.old false some pieces player.new × TellsPieces log.old pieces log.new) }
 {
     let mut some = false;
     for worker in 0..count {

@@ -1,8 +1,8 @@
 //! A schedule, from its first order to its last.
 
 ghost use Rattle.std.specs.Prelude.{List, OnOk};
-ghost use Rattle.rh_play_run.specs.Pieces.{Piece, Tells};
-ghost use Rattle.rh_play_run.specs.Schedule.{Follows, HasSize};
+ghost use Rattle.rh_play_run.specs.Pieces.{Piece, TellsPieces};
+ghost use Rattle.rh_play_run.specs.Schedule.{CarriesOutAll, HasSize};
 
 use crate::log::Log;
 use crate::orders::{Size, carry_out};
@@ -18,8 +18,8 @@ pub(crate) fn follow(
     log: &mut Log,
 ) -> Result<(), AllocError>
     requires { HasSize size.workers size.cells player.old }
-    ensures { OnOk result ((pieces : List Piece) × Follows orders.now player.old pieces player.new
-        × Tells log.old pieces log.new) }
+    ensures { OnOk result ((pieces : List Piece) × CarriesOutAll orders.now player.old pieces player.new
+        × TellsPieces log.old pieces log.new) }
 {
     for order in orders {
         carry_out(player, size, *order, log)?;

@@ -1,7 +1,7 @@
 //! Turns of one worker.
 
 ghost use Rattle.std.specs.Prelude.{◌≡◌, IfOk, IsFalse, IsTrue, List};
-ghost use Rattle.rh_play_run.specs.Pieces.{Piece, Tells};
+ghost use Rattle.rh_play_run.specs.Pieces.{Piece, TellsPieces};
 ghost use Rattle.rh_play_run.specs.Schedule.{ATurn, Misses, Reaches, TurnsOf, TurnsUntil, last_of};
 
 use crate::log::Log;
@@ -18,7 +18,7 @@ pub(crate) fn take_turn(
     log: &mut Log,
 ) -> Result<Turn, AllocError>
     ensures { IfOk result (λ turn. (pieces : List Piece)
-        × ATurn player.old worker turn pieces player.new × Tells log.old pieces log.new) }
+        × ATurn player.old worker turn pieces player.new × TellsPieces log.old pieces log.new) }
 {
     let (turn, touched) = player.trace(worker);
     log.take(worker, turn, touched)?;
@@ -34,7 +34,7 @@ pub(crate) fn take_turns(
 ) -> Result<Last, AllocError>
     ensures { IfOk result (λ last. (pieces : List Piece)
         × TurnsOf worker turns player.old Last.Limit last pieces player.new
-        × Tells log.old pieces log.new) }
+        × TellsPieces log.old pieces log.new) }
 {
     let mut last = Last::Limit;
     'turns: for _ in 0..turns {
@@ -55,7 +55,7 @@ pub(crate) fn take_turns_until(
 ) -> Result<Last, AllocError>
     ensures { IfOk result (λ last. (pieces : List Piece)
         × TurnsUntil limit worker kind player.old last pieces player.new
-        × Tells log.old pieces log.new) }
+        × TellsPieces log.old pieces log.new) }
 {
     'turns: for _ in 0..limit {
         let turn = take_turn(player, worker, log)?;

@@ -6,16 +6,16 @@ use Rattle.rh_descriptor.specs.declared.shape.Shape.{Shape}
 use Rattle.rh_descriptor.specs.Parts.{IsShape}
 use Rattle.rh_descriptor.specs.View.{View}
 use Rattle.rh_descriptor.specs.Steps.{Allowed, Step, index, word_after}
-use Rattle.rh_rule.specs.Seats.{Holds, NoSlot, StepTells, known}
+use Rattle.rh_rule.specs.Seats.{RuleHolds, NoSlot, StepTells, known}
 use Rattle.rh_rule.proofs.SeatsKept.{steps_are_allowed}
 
 pub allows : (z y : Shape) (slots id : ℕ) (me : Me NoSlot (List Known)) (v : View) (s : Step) (at : ℕ) (f : ℕ → ℕ) → IsShape z → y ≡ z
     → me ≡ (known v ∷ [], []) → Allowed z v s → at ≡ index z v s → ((n : ℕ) → f n ≡ word_after v s n)
-    → Allows {S = NoSlot} (Holds y) slots id me at f (StepTells z v s)
+    → Allows {S = NoSlot} (RuleHolds y) slots id me at f (StepTells z v s)
 allows z y slots id me v s at f shape same view may here effect =
-    subst (λ (x : Shape). Allows {S = NoSlot} (Holds x) slots id me at f (StepTells z v s)) (sym same)
-    (subst (λ (m : Me NoSlot (List Known)). Allows {S = NoSlot} (Holds z) slots id m at f (StepTells z v s)) (sym view)
-    (subst (λ (i : ℕ). Allows {S = NoSlot} (Holds z) slots id (known v ∷ [], []) i f (StepTells z v s)) (sym here)
+    subst (λ (x : Shape). Allows {S = NoSlot} (RuleHolds x) slots id me at f (StepTells z v s)) (sym same)
+    (subst (λ (m : Me NoSlot (List Known)). Allows {S = NoSlot} (RuleHolds z) slots id m at f (StepTells z v s)) (sym view)
+    (subst (λ (i : ℕ). Allows {S = NoSlot} (RuleHolds z) slots id (known v ∷ [], []) i f (StepTells z v s)) (sym here)
     (λ st h long is less.
     let r = steps_are_allowed z slots id v s shape may st h long is less in
-    (r.0, r.1, r.2, subst (λ (m : ℕ). Holds z (stepped st (index z v s) m id [] r.0 r.1)) (sym (effect (get_or st.words (index z v s) 0))) r.3, r.4))))
+    (r.0, r.1, r.2, subst (λ (m : ℕ). RuleHolds z (stepped st (index z v s) m id [] r.0 r.1)) (sym (effect (get_or st.words (index z v s) 0))) r.3, r.4))))

@@ -23,7 +23,7 @@ use Rattle.rh_descriptor.specs.Steps.{Allowed, is_none, mark_control_read, noted
 use Rattle.rh_descriptor.specs.Steps.Step.{reads, settles}
 use Rattle.rh_helping.specs.Goal.{HasReadRow}
 use Rattle.rh_helping.specs.CellContent.{state_said}
-use Rattle.rh_helping.specs.Settling.{HasRead, IsFound, Keeps}
+use Rattle.rh_helping.specs.Settling.{HasReadMark, IsFound, Keeps}
 use Rattle.rh_helping.proofs.Controls.{MarkedAs, saw_mark_control}
 use Rattle.rh_helping.proofs.Marks.{found_keeps, may_read_entry, may_read_old, may_read_row, may_read_serial, may_settle, serial_tells}
 use Rattle.rh_helping.proofs.Rows.{grows_read, serial_grows, serial_tells as row_tells_so}
@@ -65,7 +65,7 @@ module _ (z : Shape) (v : View) (x : Reference) (c : ℕ) (here : In (found (ref
     -- while the row is of the mark, it names a descriptor
     pub names_desc : serial ≡ x.number → None ≡ desc_in named → ⊥
     names_desc is none =
-        let raw : HasRead r.second x (desc_word named) = subst (λ (u : View). HasRead u x (desc_word named)) (sym said_is) (inr (inl refl)) in
+        let raw : HasReadMark r.second x (desc_word named) = subst (λ (u : View). HasReadMark u x (desc_word named)) (sym said_is) (inr (inl refl)) in
         let d = r.of_serial.finds named is raw in
         let both : None ≡ Some d.0 = none ∙ d.1 in
         cc
@@ -74,7 +74,7 @@ module _ (z : Shape) (v : View) (x : Reference) (c : ℕ) (here : In (found (ref
     row_tells p at of_entry is names =
         subst (λ (u : View). IsFound u x p) (sym (r.of_serial.view_is ∙ ap (λ (u : View). noted z u (reads (reading.MarkSerial x)) serial) said_is))
         (serial_tells said x serial p named is names (subst (λ (n : ℕ). In (found (ref_of x) n) v.side.facts) (sym at) here) (inr (inl refl))
-        (subst (λ (n : ℕ). HasRead said x (entry_word n)) (sym of_entry) (inl refl)))
+        (subst (λ (n : ℕ). HasReadMark said x (entry_word n)) (sym of_entry) (inl refl)))
 
   pub row_met : (p : Piece) (next : View) → (p.cell ≡ c) × Named z x p v next → IsFound next x p
   row_met p next h = row_tells h.1.word p.entry x.number next h.1.row p h.0 refl refl h.1.names

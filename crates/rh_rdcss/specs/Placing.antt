@@ -70,11 +70,11 @@ pub record KnowsPiece (z : Shape) (v : View) (p : Piece) (old : ℕ) : Type 0 wh
   pub knows_old : In (old_is (ref_of p.desc) p.entry old) v.side.facts
 
 -- the mark row is written: it is of the next own mark, and names the entry
-abbrev pub with_serial : Shape → View → View
-with_serial z v = noted z v (writes (part.MarkSerial v.worker) v.marks_used) 0
+abbrev pub with_mark_serial : Shape → View → View
+with_mark_serial z v = noted z v (writes (part.MarkSerial v.worker) v.marks_used) 0
 
 abbrev pub with_desc : Shape → View → Piece → View
-with_desc z v p = noted z (with_serial z v) (writes (part.MarkDesc v.worker) (desc_number (ref_of p.desc))) 0
+with_desc z v p = noted z (with_mark_serial z v) (writes (part.MarkDesc v.worker) (desc_number (ref_of p.desc))) 0
 
 abbrev pub with_row : Shape → View → Piece → View
 with_row z v p = noted z (with_desc z v p) (writes (part.MarkEntry v.worker) p.entry) 0

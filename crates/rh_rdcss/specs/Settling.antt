@@ -41,7 +41,7 @@ pub record Named (z : Shape) (x : Reference) (p : Piece) (v next : View) : Type 
   pub names : desc_in word ≡ Some (ref_of p.desc)
 
 -- the row is of another mark by now
-pub record IsStale (z : Shape) (x : Reference) (v next : View) : Type 0 where
+pub record IsStaleMark (z : Shape) (x : Reference) (v next : View) : Type 0 where
   pub named : ℕ
   pub entry : ℕ
   pub serial : ℕ
@@ -50,7 +50,7 @@ pub record IsStale (z : Shape) (x : Reference) (v next : View) : Type 0 where
 
 -- of a mark that was found in this cell
 abbrev pub RowSays : Shape → Reference → (c : ℕ) → Option Piece → View → View → Type 0
-RowSays z x c None v next = IsStale z x v next
+RowSays z x c None v next = IsStaleMark z x v next
 RowSays z x c (Some p) v next = (p.cell ≡ c) × Named z x p v next
 
 -- none stands for the descriptor
@@ -104,7 +104,7 @@ pub record HasSettled (z : Shape) (x : Reference) (c : ℕ) (v : View) (word : �
 
 -- or one of the two rows was stale, and no Settle was made
 abbrev pub SettlesMet : Shape → Reference → (c : ℕ) → View → Option ℕ → View → Type 0
-SettlesMet z x c v None next = IsStale z x v next ⊎ ((piece : Piece) × HasJudged z x c piece v None next)
+SettlesMet z x c v None next = IsStaleMark z x v next ⊎ ((piece : Piece) × HasJudged z x c piece v None next)
 SettlesMet z x c v (Some word) next = HasSettled z x c v word next
 
 -- what the own mark is settled to by what the control tells of its descriptor: to that, or to the old value

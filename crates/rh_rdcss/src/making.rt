@@ -1,6 +1,6 @@
 //! A step by the seat of one worker.
 
-ghost use Rattle.rh_descriptor.specs.Requests.{step_of};
+ghost use Rattle.rh_descriptor.specs.Requests.{step_asked};
 ghost use Rattle.rh_descriptor.specs.Steps.{Allowed};
 ghost use Rattle.rh_steps.specs.Relies.{Knows};
 ghost use Rattle.rh_rdcss.specs.Calls.{IsHere, IsSame, Learned, view_of};
@@ -16,9 +16,9 @@ use rh_steps::Steps;
 pub(crate) fn make(table: &Table, seat: &mut Seat, request: Request) -> u64
     requires here { IsHere table.now seat.old }
     requires knows { Knows table.now.shape (view_of seat.old) }
-    requires allowed { Allowed table.now.shape (view_of seat.old) (step_of request) }
+    requires allowed { Allowed table.now.shape (view_of seat.old) (step_asked request) }
     ensures same { IsSame seat.old seat.new }
-    ensures learned { Learned table.now.shape (step_of request) (view_of seat.old) result (view_of seat.new) }
+    ensures learned { Learned table.now.shape (step_asked request) (view_of seat.old) result (view_of seat.new) }
 {
     let mut here = OnTable {
         table,

@@ -8,6 +8,7 @@ use Rattle.rh_report.specs.declared.answers.TheConstants.{ANSWERS_PER_LINE}
 abbrev pub Numbers : Type 0
 Numbers = List (List ℕ × ℕ)
 
+-- a line as far as its numbers
 abbrev pub front_text : (word name : List ℕ) → Numbers → List ℕ
 front_text word name numbers = word ++ (name ++ flat_map (λ number. number.0 ++ decimal number.1) numbers)
 

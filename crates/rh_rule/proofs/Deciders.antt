@@ -7,7 +7,7 @@ use Rattle.rh_world.specs.Logical.{entry_value}
 use Rattle.rh_world.specs.Acts.{is_success}
 use Rattle.rh_descriptor.specs.declared.shape.Shape.{Shape}
 use Rattle.rh_descriptor.specs.View.{View}
-use Rattle.rh_descriptor.specs.Words.{number_of, state_of, with_entry, without_entry}
+use Rattle.rh_descriptor.specs.Words.{control_word_of, state_of, with_entry, without_entry}
 use Rattle.rh_descriptor.specs.Steps.{IsResult}
 
 pub told_decided : (k : Control) → IsDecided k → IsDecided (without_entry k)
@@ -54,7 +54,7 @@ told_value withdrawn old new = refl
 told_value (failed e by) old new = refl
 
 -- its word is the same
-pub told_number : (n : ℕ) (k : Control) → number_of n (without_entry k) ≡ number_of n k
+pub told_number : (n : ℕ) (k : Control) → control_word_of n (without_entry k) ≡ control_word_of n k
 told_number n unused = refl
 told_number n undecided = refl
 told_number n succeeded = refl
@@ -77,7 +77,7 @@ told_failed (failed i b) e by q = (i, (let same : b ≡ by = cc in λ t. failed 
 
 -- ---- a control that a worker sets
 
-pub set_number : (n e : ℕ) (k : Control) → number_of n (with_entry e k) ≡ number_of n k
+pub set_number : (n e : ℕ) (k : Control) → control_word_of n (with_entry e k) ≡ control_word_of n k
 set_number n e unused = refl
 set_number n e undecided = refl
 set_number n e succeeded = refl

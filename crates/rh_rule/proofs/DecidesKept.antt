@@ -3,7 +3,7 @@ use Rattle.std.proofs.Common.{suc, ◌≡◌, ◌≢◌, ℕ, eqb, ◌<◌, ◌�
 use Rattle.std.proofs.lemmas.List.{set-get_or}
 use Rattle.rh_world.specs.World.{Cell, Control, In, IsDecided, IsOpened, Ref, World, updated, updated_ref}
 use Rattle.rh_world.specs.World.Control.{failed, succeeded, undecided, unused, withdrawn}
-use Rattle.rh_world.specs.Facts.Fact.{decided, held, known, size_is}
+use Rattle.rh_world.specs.Facts.Fact.{decided, installed, known, size_is}
 use Rattle.rh_world.specs.Later.{Steady}
 use Rattle.rh_world.specs.Sides.{Side}
 use Rattle.rh_world.specs.Rule.{Rule}
@@ -17,7 +17,7 @@ use Rattle.rh_descriptor.specs.declared.shape.Part.TheVariants as part
 use Rattle.rh_descriptor.specs.declared.reference.Reading.TheVariants as reading
 use Rattle.rh_descriptor.specs.Parts.{IsShape, reason_row, index_of}
 use Rattle.rh_descriptor.specs.View.{View}
-use Rattle.rh_descriptor.specs.Words.{number_of, read_control, serial_in, with_entry, without_entry}
+use Rattle.rh_descriptor.specs.Words.{control_word_of, read_control, serial_in, with_entry, without_entry}
 use Rattle.rh_descriptor.specs.Steps.{CanDecide, IsResult, control_read, control_seen, decided_so, row_word, swapped}
 use Rattle.rh_rule.specs.Erased.{erased}
 use Rattle.rh_rule.specs.Represents.{Controls, Kept, Represents, word_at}
@@ -95,12 +95,12 @@ module _ (z : Shape) (shape : IsShape z) (words : List ℕ) (keep : ℕ → View
   set_to = decided_so z k d r
 
   abbrev num : ℕ
-  num = number_of d.number set_to
+  num = control_word_of d.number set_to
 
   may_decide : (r : Control) → MayDecide k.side k.worker d (with_entry entry r) → MayDecide t who d (with_entry entry r)
   may_decide unused q = q
   may_decide undecided q = q
-  may_decide succeeded q = (q.0, known_note z shape words keep w side rule m who mine (size_is d q.0) tt q.1, λ e i. known_note z shape words keep w side rule m who mine (held d e) tt (q.2 e i))
+  may_decide succeeded q = (q.0, known_note z shape words keep w side rule m who mine (size_is d q.0) tt q.1, λ e i. known_note z shape words keep w side rule m who mine (installed d e) tt (q.2 e i))
   may_decide withdrawn q = q ∙ h.worker
   may_decide (failed e by) q = (q.0 ∙ h.worker, in_mismatch d entry q.1.0 t (subst (λ (s : Side). In (Rattle.rh_world.specs.Facts.Fact.mismatch d entry q.1.0) s.facts) h.side_is q.1.1))
 
@@ -130,17 +130,17 @@ module _ (z : Shape) (shape : IsShape z) (words : List ℕ) (keep : ℕ → View
       (updated keep who (record k { side = control_read k.side d left; control = control_seen k d left }))
 
   -- the swap found another word: so d is decided, and this is a Read
-  pub closed : eqb word (number_of d.number undecided) ≡ false → is_undecided (w.control d) ≡ false
+  pub closed : eqb word (control_word_of d.number undecided) ≡ false → is_undecided (w.control d) ≡ false
   closed late = either (eqb (serial_in word) d.number) refl
     where
       either : (b : Bool) → eqb (serial_in word) d.number ≡ b → is_undecided (w.control d) ≡ false
       either true e =
           let next = control_word z shape words keep w side rule m who mine d can.desc.0 (eqb_yes (serial_in word) d.number e) opened in
           let is = newest_word z shape words keep w side rule m who mine d can.desc.0 next in
-          sym (undecided_test d.number (w.control d) is.1) ∙ ap (λ (n : ℕ). eqb n (number_of d.number undecided)) (sym is.0) ∙ late
+          sym (undecided_test d.number (w.control d) is.1) ∙ ap (λ (n : ℕ). eqb n (control_word_of d.number undecided)) (sym is.0) ∙ late
       either false e = decided_closed (w.control d) (older_stale z shape words keep w side rule m who mine d opened (eqb_not (serial_in word) d.number e)).0
 
-  decides_late : eqb word (number_of d.number undecided) ≡ false → After word
+  decides_late : eqb word (control_word_of d.number undecided) ≡ false → After word
   decides_late late =
       let same : world_after w who (decides d set_to) ≡ w = decided_before w d (w.control d) set_to (closed late) in
       subst (λ (y : World × List ℕ). Core y.0 z y.1 (updated keep who (record k { side = control_read k.side d word; control = control_seen k d word })))
@@ -148,14 +148,14 @@ module _ (z : Shape) (shape : IsShape z) (words : List ℕ) (keep : ℕ → View
       (keeps_read z shape words keep w side rule m who mine (reading.Control record { worker = d.worker; number = d.number }) can.desc tt word refl)
 
   -- the swap took place: d was undecided, and the newest of its worker
-  module _ (hit : word ≡ number_of d.number undecided) where
+  module _ (hit : word ≡ control_word_of d.number undecided) where
     next : suc d.number ≡ w.next_number d.worker
     next = control_word z shape words keep w side rule m who mine d can.desc.0 (ap serial_in hit ∙ serial_said_is d.number undecided tt) opened
 
     before : w.control d ≡ undecided
     before =
         let is = newest_word z shape words keep w side rule m who mine d can.desc.0 next in
-        undecided_is (w.control d) (sym (undecided_test d.number (w.control d) is.1) ∙ eq-eqb (number_of d.number (w.control d)) (number_of d.number undecided) (sym is.0 ∙ hit))
+        undecided_is (w.control d) (sym (undecided_test d.number (w.control d) is.1) ∙ eq-eqb (control_word_of d.number (w.control d)) (control_word_of d.number undecided) (sym is.0 ∙ hit))
 
     abbrev v : World
     v = decided_world w d undecided set_to
@@ -206,13 +206,13 @@ module _ (z : Shape) (shape : IsShape z) (words : List ℕ) (keep : ℕ → View
     note_same by owner lt own = word_same z words p num can.desc.0 (part.Reason by owner) (lt, own) (λ e. cc)
 
     newest : (f : Ref) → f.worker < z.workers → suc f.number ≡ w.next_number f.worker → ((f ≡ d) × (v.control f ≡ set_to)) ⊎ ((f ≢ d) × (v.control f ≡ w.control f))
-        → IsOpened (v.control f) × (word_at z then (part.Control f.worker) ≡ number_of f.number (v.control f))
-    newest f lt e (inl q) = subst (λ (y : Ref). IsOpened (v.control y) × (word_at z then (part.Control y.worker) ≡ number_of y.number (v.control y))) (sym q.0)
-        (subst (λ (c : Control). IsOpened c) (sym now) (opened_decided set_to is_decided), word_new z words p num can.desc.0 m.sized ∙ ap (number_of d.number) (sym now))
+        → IsOpened (v.control f) × (word_at z then (part.Control f.worker) ≡ control_word_of f.number (v.control f))
+    newest f lt e (inl q) = subst (λ (y : Ref). IsOpened (v.control y) × (word_at z then (part.Control y.worker) ≡ control_word_of y.number (v.control y))) (sym q.0)
+        (subst (λ (c : Control). IsOpened c) (sym now) (opened_decided set_to is_decided), word_new z words p num can.desc.0 m.sized ∙ ap (control_word_of d.number) (sym now))
     newest f lt e (inr q) =
         let was = m.controls.newest f lt e in
         let other : f.worker ≢ d.worker = λ a. q.0 (ref_path f d a (let b : suc f.number ≡ suc d.number = e ∙ ap w.next_number a ∙ sym next in omega (arith, b))) in
-        ((λ o. was.0 (sym q.1 ∙ o)), other_word f.worker lt other ∙ was.1 ∙ ap (number_of f.number) (sym q.1))
+        ((λ o. was.0 (sym q.1 ∙ o)), other_word f.worker lt other ∙ was.1 ∙ ap (control_word_of f.number) (sym q.1))
 
     controls : Controls z then v
     controls = record {
@@ -251,7 +251,7 @@ module _ (z : Shape) (shape : IsShape z) (words : List ℕ) (keep : ℕ → View
     meets : Meets z then v who k x (control_seen k d num)
     meets = meets_seen z shape words keep w side rule m who mine then v (serial_same z words keep w side m p can.desc.0 num v l (λ o. o) who mine) d (read_control num) x
         (in_control k.side d (read_control num)) (λ j i. absurd (not_decided j i)) (grows_control k.side d (read_control num)) num
-        (λ q. sym (told_number d.number set_to) ∙ ap (number_of d.number) (sym said))
+        (λ q. sym (told_number d.number set_to) ∙ ap (control_word_of d.number) (sym said))
         (λ f e q. ⊎_elim
         (λ a. let told : read_control num ≡ failed 0 who = said ∙ ap without_entry (sym now ∙ ap v.control (sym a.0) ∙ q) in
         subst (λ (y : Ref). In (decided y (failed 0 who)) x.facts) (sym a.0) (subst (λ (c : Control). In (decided d (failed 0 who)) (control_noted k.side d c).facts) (sym told) (inl refl)))
@@ -281,9 +281,9 @@ module _ (z : Shape) (shape : IsShape z) (words : List ℕ) (keep : ℕ → View
               (λ u ne f e q. ⊎_elim (λ a. absurd (ne a.2)) (λ a. a) (failed_or f e u q)));
         })
 
-  pub keeps_decide : After (swapped (number_of d.number undecided) (number_of d.number r) word)
-  keeps_decide = either (eqb word (number_of d.number undecided)) refl
+  pub keeps_decide : After (swapped (control_word_of d.number undecided) (control_word_of d.number r) word)
+  keeps_decide = either (eqb word (control_word_of d.number undecided)) refl
     where
-      either : (b : Bool) → eqb word (number_of d.number undecided) ≡ b → After (cond b (number_of d.number r) word)
-      either true e = subst After (set_number d.number entry r) (decides_now (eqb_yes word (number_of d.number undecided) e))
+      either : (b : Bool) → eqb word (control_word_of d.number undecided) ≡ b → After (cond b (control_word_of d.number r) word)
+      either true e = subst After (set_number d.number entry r) (decides_now (eqb_yes word (control_word_of d.number undecided) e))
       either false e = decides_late e

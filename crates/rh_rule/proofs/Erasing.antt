@@ -4,7 +4,7 @@ use Rattle.rh_world.specs.World.{Cell, Control, In, Ref, is_ref}
 use Rattle.rh_world.specs.World.Cell.{desc, mark, plain}
 use Rattle.rh_world.specs.World.Control.{failed, succeeded, undecided, unused, withdrawn}
 use Rattle.rh_world.specs.Facts.{Fact}
-use Rattle.rh_world.specs.Facts.Fact.{decided, desc_is, failed_at, found, held, known, may_demote, may_promote, met, mismatch, new_is, old_is, over, stale, size_is, target_is, which_is}
+use Rattle.rh_world.specs.Facts.Fact.{decided, desc_is, failed_at, found, installed, known, may_demote, may_promote, met, mismatch, new_is, old_is, over, stale, size_is, target_is, which_is}
 use Rattle.rh_world.specs.Sides.{KeptRead, Side, close_side, note_side, release_side, settle_side}
 use Rattle.rh_world.specs.Moves.{Entries, IsRowFact, cell_noted, control_noted, covers, mark_noted, note_all, note_entries, place_noted, placed_noted, release_noted, settle_noted}
 use Rattle.rh_descriptor.specs.Words.{without_entry}
@@ -27,7 +27,7 @@ IsWhole (which_is x e) = Unit {0}
 IsWhole (found x c) = Unit {0}
 IsWhole (may_promote x c) = Unit {0}
 IsWhole (may_demote x) = Unit {0}
-IsWhole (held d e) = Unit {0}
+IsWhole (installed d e) = Unit {0}
 IsWhole (mismatch d e n) = ⊥
 
 same_note : (m n : Fact) → n ≡ erased_fact m → IsWhole n → n ≡ m
@@ -46,7 +46,7 @@ same_note (which_is x i) n e h = e
 same_note (found x c) n e h = e
 same_note (may_promote x c) n e h = e
 same_note (may_demote x) n e h = e
-same_note (held d i) n e h = e
+same_note (installed d i) n e h = e
 same_note (mismatch d i k) n e h = absurd (subst IsWhole e h)
 
 in_notes : (n : Fact) (l : List Fact) → IsWhole n → In n (map erased_fact l) → In n l
@@ -77,7 +77,7 @@ mismatch_of (which_is x i) d e j q = cc
 mismatch_of (found x c) d e j q = cc
 mismatch_of (may_promote x c) d e j q = cc
 mismatch_of (may_demote x) d e j q = cc
-mismatch_of (held f i) d e j q = cc
+mismatch_of (installed f i) d e j q = cc
 mismatch_of (mismatch f i k) d e j q = (k, (let a : d ≡ f = cc in let b : e ≡ i = cc in λ t. mismatch (a t) (b t) k))
 
 in_mismatches : (d : Ref) (e j : ℕ) (l : List Fact) → In (mismatch d e j) (map erased_fact l)
@@ -105,7 +105,7 @@ decided_of (which_is x i) d k q = cc
 decided_of (found x c) d k q = cc
 decided_of (may_promote x c) d k q = cc
 decided_of (may_demote x) d k q = cc
-decided_of (held f i) d k q = cc
+decided_of (installed f i) d k q = cc
 decided_of (mismatch f i n) d k q = cc
 
 in_results : (d : Ref) (k : Control) (l : List Fact) → In (decided d k) (map erased_fact l)
@@ -152,11 +152,11 @@ pub erased_place : (s : Side) (x d : Ref) (e c old : ℕ) (k : Cell) (acts : ℕ
     → place_noted (erased s) x d e c old k 0 ≡ erased (place_noted s x d e c old k acts)
 erased_place s x d e c old (plain u) acts = erased_cond (eqb u old) (placed_noted s x d e c) (note_side s (mismatch d e acts))
 erased_place s x d e c old (mark y) acts = refl
-erased_place s x d e c old (desc f) acts = erased_cond (is_ref f d) (note_side s (held d e)) (note_side s (met f))
+erased_place s x d e c old (desc f) acts = erased_cond (is_ref f d) (note_side s (installed d e)) (note_side s (met f))
 
 pub erased_settle : (s : Side) (d : Ref) (e c : ℕ) (b : Bool)
     → settle_noted (erased s) d e c b ≡ erased (settle_noted s d e c b)
-erased_settle s d e c b = erased_cond b (note_side (settle_side s d c) (held d e)) (settle_side s d c)
+erased_settle s d e c b = erased_cond b (note_side (settle_side s d c) (installed d e)) (settle_side s d c)
 
 pub erased_release : (s : Side) (e n : ℕ) → release_noted (erased s) e n ≡ erased (release_noted s e n)
 erased_release s e n = erased_cond (covers n (e ∷ s.released)) (close_side (release_side s e)) (release_side s e)
@@ -178,7 +178,7 @@ row_whole (which_is x e) h = refl
 row_whole (found x c) h = refl
 row_whole (may_promote x c) h = refl
 row_whole (may_demote x) h = refl
-row_whole (held d e) h = absurd h
+row_whole (installed d e) h = absurd h
 row_whole (mismatch d e i) h = absurd h
 
 pub erased_all : (s : Side) (ns : List Fact) → ((n : Fact) → In n ns → IsRowFact n) → note_all (erased s) ns ≡ erased (note_all s ns)

@@ -15,10 +15,10 @@ use Rattle.rh_descriptor.specs.Parts.{cell_count, word_count}
 use Rattle.rh_descriptor.specs.View.{MarkWord, OwnDesc, Raw, RawRow, RowWord, View}
 use Rattle.rh_descriptor.specs.View.RowWord.{length_word, cell_word, old_word, new_word}
 use Rattle.rh_descriptor.specs.View.MarkWord.{desc_word, entry_word}
-use Rattle.rh_descriptor.specs.Words.{desc_number, number_of}
+use Rattle.rh_descriptor.specs.Words.{desc_number, control_word_of}
 use Rattle.rh_descriptor.specs.Steps.{IsDesc, IsMark}
 use Rattle.rh_rule.specs.Erased.{erased}
-use Rattle.rh_rule.specs.Represents.{Cells, Controls, DescRow, HasEntries, HasItsRow, IsOwn, IsRaw, IsRawRow, IsRowSaid, IsSaid, Kept, MarkRow, RowWords, Stands, word_at, Represents}
+use Rattle.rh_rule.specs.Represents.{Cells, Controls, DescRow, HasEntries, HasItsRow, IsOwn, IsRaw, IsRawRow, IsRowSaid, IsSaid, Kept, MarkRow, RowWords, MarkStands, word_at, Represents}
 
 -- an opened descriptor that has its row after a step had it before, and the row says the same
 pub record DescStays (z : Shape) (words then : List ℕ) (d : Ref) : Type 0 where
@@ -33,12 +33,12 @@ DescsStay z words then w = (d : Ref) → IsDesc z d → IsOpened (w.control d) �
 
 -- a used mark whose row stands after a step had it before, and the row says the same
 pub record RowStays (z : Shape) (words then : List ℕ) (x : Ref) : Type 0 where
-  pub stood : Stands z words x
+  pub stood : MarkStands z words x
   pub desc : word_at z then (part.MarkDesc x.worker) ≡ word_at z words (part.MarkDesc x.worker)
   pub entry : word_at z then (part.MarkEntry x.worker) ≡ word_at z words (part.MarkEntry x.worker)
 
 abbrev pub MarksStay : Shape → (words then : List ℕ) → World → Type 0
-MarksStay z words then w = (x : Ref) → IsMark z x → IsUsed w x → Stands z then x → RowStays z words then x
+MarksStay z words then w = (x : Ref) → IsMark z x → IsUsed w x → MarkStands z then x → RowStays z words then x
 
 -- what is kept of which descriptors are over
 abbrev pub Over : (who : ℕ) → List OwnDesc → Side → Type 0
@@ -49,7 +49,7 @@ Over who opened s = (o : OwnDesc) → In o opened
 pub record Meets (z : Shape) (words : List ℕ) (w : World) (u : ℕ) (k : View) (x : Side) (c : ℕ) : Type 0 where
   pub over : Over u k.opened x
   pub no_control : k.next_number ≡ 0 → c ≡ 0
-  pub control : (n : ℕ) (r : Control) → suc n ≡ k.next_number → In (decided (record { worker = u; number = n }) r) x.facts → c ≡ number_of n r
+  pub control : (n : ℕ) (r : Control) → suc n ≡ k.next_number → In (decided (record { worker = u; number = n }) r) x.facts → c ≡ control_word_of n r
   pub open_row : (n : ℕ) → x.current ≡ Some n → HasItsRow z words (record { worker = u; number = n })
   pub failures : (d : Ref) (e : ℕ) → w.control d ≡ failed e u → In (decided d (failed 0 u)) x.facts
 
@@ -116,7 +116,7 @@ module _ (z : Shape) (words then : List ℕ) (w v : World) (l : Steady w v) wher
   said_stays x (desc_word n) u s = s ∙ ap desc_number (sym (l.mark_desc x u))
   said_stays x (entry_word n) u s = s ∙ sym (l.mark_entry x u)
 
-  pub mark_row_stays : MarksStay z words then w → RowWords z words w → (x : Ref) → IsUsed w x → Stands z then x
+  pub mark_row_stays : MarksStay z words then w → RowWords z words w → (x : Ref) → IsUsed w x → MarkStands z then x
       → MarkRow z then v x
   mark_row_stays same rows x u stands =
       let s = same x (rows.are_marks x u) u stands in let r = rows.marks x u s.stood in record {
@@ -133,7 +133,7 @@ module _ (z : Shape) (words then : List ℕ) (w v : World) (l : Steady w v) wher
   -- where nothing is opened and no mark is placed
   pub rows_stay : ((d : Ref) → IsOpened (w.control d) → IsDesc z d) → ((d : Ref) → IsOpened (v.control d) → IsOpened (w.control d))
       → ((x : Ref) → IsUsed v x → IsUsed w x) → DescsStay z words then w → MarksStay z words then w
-      → ((j : ℕ) (x : Ref) → j < cell_count z → v.cell j ≡ mark x → Stands z then x) → RowWords z words w → RowWords z then v
+      → ((j : ℕ) (x : Ref) → j < cell_count z → v.cell j ≡ mark x → MarkStands z then x) → RowWords z words w → RowWords z then v
   rows_stay are back fewer descs marks placed r = record {
     entries = λ d o. let h = back d o in entries_stay d h (r.entries d h);
     descs = λ d o. let h = back d o in desc_row_stays descs r d (are d h) h;

@@ -16,8 +16,8 @@ use Rattle.rh_descriptor.specs.declared.shape.Part.{Part}
 use Rattle.rh_descriptor.specs.declared.shape.Part.TheVariants as part
 use Rattle.rh_descriptor.specs.Parts.{IsShape, cell_count, entry_row, index_of}
 use Rattle.rh_descriptor.specs.View.{OwnDesc, View, Written}
-use Rattle.rh_descriptor.specs.Words.{IsPlain, number_of, without_entry}
-use Rattle.rh_descriptor.specs.Steps.{AreEntries, CanOpen, IsDesc, Step, entries_at, entries_of, entry_of, next_entries, noted, open_noted, own_desc, row_of, row_word, swapped}
+use Rattle.rh_descriptor.specs.Words.{IsPlain, control_word_of, without_entry}
+use Rattle.rh_descriptor.specs.Steps.{AreEntries, CanOpenNext, IsDesc, Step, entries_at, entries_of, entry_of, next_entries, noted, open_noted, own_desc, row_of, row_word, swapped}
 use Rattle.rh_rule.specs.Erased.{erased}
 use Rattle.rh_rule.specs.Represents.{Controls, DescRow, HasEntries, HasItsRow, IsOpenedSo, IsOwn, Kept, numbers_of, word_at, Represents}
 use Rattle.rh_rule.specs.Core.{Core}
@@ -68,7 +68,7 @@ no_decided : (s : Side) (d : Ref) (p : Entries) (n : ℕ) (f : Ref) (r : Control
 no_decided s d p zero f r i = ⊎_elim (λ e. cc) (λ j. ⊎_elim (λ e. cc) (λ j. j) j) i
 no_decided s d p (suc n) f r i = ⊎_elim (λ e. cc) (λ j. ⊎_elim (λ e. cc) (λ j. ⊎_elim (λ e. cc) (λ j. no_decided s d p n f r j) j) j) i
 
-module _ (z : Shape) (shape : IsShape z) (words : List ℕ) (keep : ℕ → View) (w : World) (side : ℕ → Side) (rule : Rule w side) (m : Represents z words keep w side) (who : ℕ) (mine : who < z.workers) (size : ℕ) (can : CanOpen z (keep who) size) where
+module _ (z : Shape) (shape : IsShape z) (words : List ℕ) (keep : ℕ → View) (w : World) (side : ℕ → Side) (rule : Rule w side) (m : Represents z words keep w side) (who : ℕ) (mine : who < z.workers) (size : ℕ) (can : CanOpenNext z (keep who) size) where
   abbrev k : View
   k = keep who
 
@@ -128,7 +128,7 @@ module _ (z : Shape) (shape : IsShape z) (words : List ℕ) (keep : ℕ → View
           (λ c. let bad : None ≡ Some listed.0.number = sym can.closed ∙ c in cc)
           (λ g. (g.0, subst (λ (i : ℕ). In (decided (record { worker = who; number = i }) g.0) k.side.facts) listed.2 g.1)) (h.over listed.0 listed.1) in
           let told = true_decided z shape words keep w side rule m who mine f known.0 known.1 in
-          q.0 ∙ sym (told_number n (w.control f)) ∙ ap (number_of n) told.1 ∙ sym (h.control n known.0 (sym (h.next_number ∙ some)) known.1)
+          q.0 ∙ sym (told_number n (w.control f)) ∙ ap (control_word_of n) told.1 ∙ sym (h.control n known.0 (sym (h.next_number ∙ some)) known.1)
 
   abbrev v : World
   v = open_world w d es_of
@@ -146,7 +146,7 @@ module _ (z : Shape) (shape : IsShape z) (words : List ℕ) (keep : ℕ → View
   side_is = (λ i. note_entries (open_side (h.side_is i) (h.next_number i)) (desc_is i) es_of (sym long i)) ∙ erased_entries (open_side t (w.next_number who)) d es_of (length es)
 
   abbrev then : List ℕ
-  then = set words (index_of z p) (number_of (w.next_number who) undecided)
+  then = set words (index_of z p) (control_word_of (w.next_number who) undecided)
 
   size_is : v.size d ≡ size
   size_is = updated_ref_here w.size d d es_of.size refl ∙ long
@@ -165,7 +165,7 @@ module _ (z : Shape) (shape : IsShape z) (words : List ℕ) (keep : ℕ → View
 
   -- the row of the descriptor was written before
   written : (q : Part) → IsOwn z who q → word_at z then q ≡ row_word k.written (row_of z q)
-  written q i = own_same z words keep w side m p mine (number_of (w.next_number who) undecided) v l who mine (λ o. o) q i ∙ h.written q i
+  written q i = own_same z words keep w side m p mine (control_word_of (w.next_number who) undecided) v l who mine (λ o. o) q i ∙ h.written q i
 
   has_row : HasItsRow z then d
   has_row = written (part.Serial who) refl ∙ can.row ∙ h.next_number
@@ -244,8 +244,8 @@ module _ (z : Shape) (shape : IsShape z) (words : List ℕ) (keep : ℕ → View
     marks_used = h.marks_used;
     mark_room = h.mark_room;
     written = written;
-    raw_rows = λ r i. raw_row_same z words keep w side m p mine (number_of (w.next_number who) undecided) v l (λ o. o) r (h.raw_rows r i);
-    raw = λ r i. raw_same z words keep w side m p mine (number_of (w.next_number who) undecided) v l (λ o. o) r (h.raw r i);
+    raw_rows = λ r i. raw_row_same z words keep w side m p mine (control_word_of (w.next_number who) undecided) v l (λ o. o) r (h.raw_rows r i);
+    raw = λ r i. raw_same z words keep w side m p mine (control_word_of (w.next_number who) undecided) v l (λ o. o) r (h.raw r i);
     opened = λ o i. ⊎_elim
         (λ (e : o ≡ record { number = k.next_number; entries = es }).
         subst (λ (y : OwnDesc). IsOpenedSo v (record { worker = who; number = y.number }) y) (sym e)
@@ -281,12 +281,12 @@ module _ (z : Shape) (shape : IsShape z) (words : List ℕ) (keep : ℕ → View
     newest = λ f lt e. ⊎_elim
         (λ (q : (f.worker ≡ who) × (updated w.next_number who (suc (w.next_number who)) f.worker ≡ suc (w.next_number who))).
         let same : f ≡ d = ref_path f d q.0 (let a : suc f.number ≡ suc (w.next_number who) = e ∙ q.1 in omega (arith, a)) in
-        subst (λ (x : Ref). IsOpened (v.control x) × (word_at z then (part.Control x.worker) ≡ number_of x.number (v.control x))) (sym same)
-        ((λ o. let bad : undecided ≡ unused = sym now ∙ o in cc), word_new z words p (number_of (w.next_number who) undecided) mine m.sized ∙ ap (number_of (w.next_number who)) (sym now)))
+        subst (λ (x : Ref). IsOpened (v.control x) × (word_at z then (part.Control x.worker) ≡ control_word_of x.number (v.control x))) (sym same)
+        ((λ o. let bad : undecided ≡ unused = sym now ∙ o in cc), word_new z words p (control_word_of (w.next_number who) undecided) mine m.sized ∙ ap (control_word_of (w.next_number who)) (sym now)))
         (λ (q : (f.worker ≢ who) × (updated w.next_number who (suc (w.next_number who)) f.worker ≡ w.next_number f.worker)).
         let before = m.controls.newest f lt (e ∙ q.1) in
         let same : v.control f ≡ w.control f = updated_ref_else w.control d f undecided (λ r. q.0 (ap (λ (x : Ref). x.worker) r)) in
-        ((λ o. before.0 (sym same ∙ o)), other_word f.worker q.0 lt ∙ before.1 ∙ ap (number_of f.number) (sym same)))
+        ((λ o. before.0 (sym same ∙ o)), other_word f.worker q.0 lt ∙ before.1 ∙ ap (control_word_of f.number) (sym same)))
         (updated_at w.next_number who f.worker (suc (w.next_number who)));
     descs = λ f o. ⊎_elim (λ (e : f ≡ d). subst (λ (x : Ref). IsDesc z x) (sym e) (mine, subst (λ (n : ℕ). n < z.rooms.descriptors) h.next_number can.room)) (m.controls.descs f) (opened_or f o);
     withdrawals = λ f q. ⊎_elim (λ r. let bad : undecided ≡ withdrawn = sym r.1 ∙ q in cc) (λ r. m.controls.withdrawals f (sym r.1 ∙ q)) (updated_ref_at w.control d f undecided);
@@ -300,7 +300,7 @@ module _ (z : Shape) (shape : IsShape z) (words : List ℕ) (keep : ℕ → View
         (λ (x : (f.worker ≡ who) × (updated w.next_number who (suc (w.next_number who)) f.worker ≡ suc (w.next_number who))).
         absurd (r.0 (ref_path f d x.0 (let a : suc f.number ≡ suc (w.next_number who) = is ∙ x.1 in omega (arith, a)))))
         (λ (x : (f.worker ≢ who) × (updated w.next_number who (suc (w.next_number who)) f.worker ≡ w.next_number f.worker)).
-        word_same z words p (number_of (w.next_number who) undecided) mine (part.Reason by f.worker) (m.controls.deciders f e by before, (m.controls.descs f o).0) (λ y. cc)
+        word_same z words p (control_word_of (w.next_number who) undecided) mine (part.Reason by f.worker) (m.controls.deciders f e by before, (m.controls.descs f o).0) (λ y. cc)
         ∙ m.controls.reasons f e by before (is ∙ x.1))
         (updated_at w.next_number who f.worker (suc (w.next_number who))))
         (updated_ref_at w.control d f undecided);
@@ -310,36 +310,36 @@ module _ (z : Shape) (shape : IsShape z) (words : List ℕ) (keep : ℕ → View
       now = updated_ref_here w.control d d undecided refl
 
       other_word : (u : ℕ) → u ≢ who → u < z.workers → word_at z then (part.Control u) ≡ word_at z words (part.Control u)
-      other_word u ne lt = word_same z words p (number_of (w.next_number who) undecided) mine (part.Control u) lt (λ e. ne (let q : u ≡ who = cc in q))
+      other_word u ne lt = word_same z words p (control_word_of (w.next_number who) undecided) mine (part.Control u) lt (λ e. ne (let q : u ≡ who = cc in q))
 
   abbrev pub index : ℕ
   index = index_of z (part.Control k.worker)
 
-  opens_to : Core v z (set words (index_of z p) (number_of (w.next_number who) undecided)) (updated keep who k')
+  opens_to : Core v z (set words (index_of z p) (control_word_of (w.next_number who) undecided)) (updated keep who k')
   opens_to = record {
     side = updated side who s;
     rule = rule_at z shape words keep w side rule m who mine (opens es_of) may v refl;
     represents = represents z words then keep w v side m l who mine s k'
-        (set_sized z words keep w side m p mine (number_of (w.next_number who) undecided) v l)
-        (counter_same z words keep w side m p mine (number_of (w.next_number who) undecided) v l (λ q. cc) refl)
-        (cells_same z words keep w side m p mine (number_of (w.next_number who) undecided) v l (λ c q. cc) (λ c. refl))
+        (set_sized z words keep w side m p mine (control_word_of (w.next_number who) undecided) v l)
+        (counter_same z words keep w side m p mine (control_word_of (w.next_number who) undecided) v l (λ q. cc) refl)
+        (cells_same z words keep w side m p mine (control_word_of (w.next_number who) undecided) v l (λ c q. cc) (λ c. refl))
         controls_open
         record {
           entries = λ f o. ⊎_elim (λ (e : f ≡ d). subst (λ (x : Ref). HasEntries z v x) (sym e) new_entries) (λ (o : IsOpened (w.control f)). entries_stay z words then w v l f o (m.rows.entries f o)) (opened_or f o);
           descs = λ f o has. ⊎_elim (λ (e : f ≡ d). subst (λ (x : Ref). DescRow z then v x) (sym e) new_row)
-              (λ (o : IsOpened (w.control f)). desc_row_stays z words then w v l (descs_same z words keep w side m p mine (number_of (w.next_number who) undecided) v l (λ o. o)) m.rows f (m.controls.descs f o) o has) (opened_or f o);
+              (λ (o : IsOpened (w.control f)). desc_row_stays z words then w v l (descs_same z words keep w side m p mine (control_word_of (w.next_number who) undecided) v l (λ o. o)) m.rows f (m.controls.descs f o) o has) (opened_or f o);
           are_marks = m.rows.are_marks;
-          marks = mark_row_stays z words then w v l (marks_same z words keep w side m p mine (number_of (w.next_number who) undecided) v l (λ o. o)) m.rows;
-          placed = placed_same z words keep w side m p mine (number_of (w.next_number who) undecided) v l (λ o. o) (λ j i q. q);
+          marks = mark_row_stays z words then w v l (marks_same z words keep w side m p mine (control_word_of (w.next_number who) undecided) v l (λ o. o)) m.rows;
+          placed = placed_same z words keep w side m p mine (control_word_of (w.next_number who) undecided) v l (λ o. o) (λ j i q. q);
         }
         kept
-        (others_stay z words keep w side m p mine (number_of (w.next_number who) undecided) v l who (λ u ne. updated_else w.next_number who u (suc (w.next_number who)) ne) (λ u ne. refl)
+        (others_stay z words keep w side m p mine (control_word_of (w.next_number who) undecided) v l who (λ u ne. updated_else w.next_number who u (suc (w.next_number who)) ne) (λ u ne. refl)
         (λ f ne o. ⊎_elim (λ e. absurd (ne (number_or f e))) (λ o. o) (opened_or f o)) (λ u ne o. o)
-        (descs_same z words keep w side m p mine (number_of (w.next_number who) undecided) v l (λ o. o)) (marks_same z words keep w side m p mine (number_of (w.next_number who) undecided) v l (λ o. o))
+        (descs_same z words keep w side m p mine (control_word_of (w.next_number who) undecided) v l (λ o. o)) (marks_same z words keep w side m p mine (control_word_of (w.next_number who) undecided) v l (λ o. o))
         (λ u ne f e q. ⊎_elim (λ r. let bad : undecided ≡ failed e u = sym r.1 ∙ q in cc) (λ r. sym r.1 ∙ q) (updated_ref_at w.control d f undecided)));
   }
 
-  pub keeps_open : Core v z (set words index (swapped k.control (number_of k.next_number undecided) (get_or words index 0))) (updated keep who (noted z k (Step.opens size) (get_or words index 0)))
-  keeps_open = subst (λ (n : ℕ). (let a : ℕ = index_of z (part.Control n) in Core v z (set words a (swapped k.control (number_of k.next_number undecided) (get_or words a 0))) (updated keep who k'))) (sym h.worker)
-      (subst (λ (n : Bool). Core v z (set words (index_of z p) (cond n (number_of k.next_number undecided) word)) (updated keep who k')) (sym (eq-eqb word k.control word_is))
-      (subst (λ (n : ℕ). Core v z (set words (index_of z p) (number_of n undecided)) (updated keep who k')) (sym h.next_number) opens_to))
+  pub keeps_open : Core v z (set words index (swapped k.control (control_word_of k.next_number undecided) (get_or words index 0))) (updated keep who (noted z k (Step.opens size) (get_or words index 0)))
+  keeps_open = subst (λ (n : ℕ). (let a : ℕ = index_of z (part.Control n) in Core v z (set words a (swapped k.control (control_word_of k.next_number undecided) (get_or words a 0))) (updated keep who k'))) (sym h.worker)
+      (subst (λ (n : Bool). Core v z (set words (index_of z p) (cond n (control_word_of k.next_number undecided) word)) (updated keep who k')) (sym (eq-eqb word k.control word_is))
+      (subst (λ (n : ℕ). Core v z (set words (index_of z p) (control_word_of n undecided)) (updated keep who k')) (sym h.next_number) opens_to))

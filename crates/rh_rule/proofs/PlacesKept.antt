@@ -3,7 +3,7 @@ use Rattle.std.proofs.Common.{◌≡◌, ◌≢◌, ℕ, suc, eqb, ◌<◌, ◌�
 use Rattle.rh_world.specs.World.{Cell, Control, IsOpened, IsUsed, Ref, World, is_ref, updated}
 use Rattle.rh_world.specs.World.Cell.{desc, mark, plain}
 use Rattle.rh_world.specs.Facts.{Fact}
-use Rattle.rh_world.specs.Facts.Fact.{decided, found, held, met, mismatch, old_is, size_is, target_is}
+use Rattle.rh_world.specs.Facts.Fact.{decided, found, installed, met, mismatch, old_is, size_is, target_is}
 use Rattle.rh_world.specs.Later.{Steady}
 use Rattle.rh_world.specs.Sides.{Side, note_side}
 use Rattle.rh_world.specs.Rule.{Rule}
@@ -18,7 +18,7 @@ use Rattle.rh_descriptor.specs.View.{View}
 use Rattle.rh_descriptor.specs.Words.{IsPlain, cell_in, desc_number, mark_number}
 use Rattle.rh_descriptor.specs.Steps.{CanPlace, IsMark, Step, noted, own_mark, swapped}
 use Rattle.rh_rule.specs.Erased.{erased}
-use Rattle.rh_rule.specs.Represents.{IsCell, Kept, MarkRow, Stands, Represents}
+use Rattle.rh_rule.specs.Represents.{IsCell, Kept, MarkRow, MarkStands, Represents}
 use Rattle.rh_rule.specs.Core.{Core}
 use Rattle.rh_rule.proofs.Frames.{word_same}
 use Rattle.rh_rule.proofs.CellsKept.{cell_found, cells_new, rule_at, steady_at, still_step}
@@ -37,8 +37,8 @@ grows_place s x d e c old (plain u) = either (eqb u old)
 grows_place s x d e c old (mark y) = grows_note s (found y c)
 grows_place s x d e c old (desc f) = either (is_ref f d)
   where
-    either : (b : Bool) → Grows s (cond b (note_side s (held d e)) (note_side s (met f)))
-    either true = grows_note s (held d e)
+    either : (b : Bool) → Grows s (cond b (note_side s (installed d e)) (note_side s (met f)))
+    either true = grows_note s (installed d e)
     either false = grows_note s (met f)
 
 quiet_note : (s : Side) (n : Fact) → ((f : Ref) (r : Control) → decided f r ≡ n → ⊥) → Quiet s (note_side s n)
@@ -57,8 +57,8 @@ quiet_index s x d e c old (plain u) = either (eqb u old)
 quiet_index s x d e c old (mark y) = quiet_note s (found y c) (λ f r q. cc)
 quiet_index s x d e c old (desc f) = either (is_ref f d)
   where
-    either : (b : Bool) → Quiet s (cond b (note_side s (held d e)) (note_side s (met f)))
-    either true = quiet_note s (held d e) (λ g r q. cc)
+    either : (b : Bool) → Quiet s (cond b (note_side s (installed d e)) (note_side s (met f)))
+    either true = quiet_note s (installed d e) (λ g r q. cc)
     either false = quiet_note s (met f) (λ g r q. cc)
 
 module _ (z : Shape) (shape : IsShape z) (words : List ℕ) (keep : ℕ → View) (w : World) (side : ℕ → Side) (rule : Rule w side) (m : Represents z words keep w side) (who : ℕ) (mine : who < z.workers) (d : Ref) (e : ℕ) (can : CanPlace z (keep who) d e (w.target d e) (w.old d e)) where
@@ -127,7 +127,7 @@ module _ (z : Shape) (shape : IsShape z) (words : List ℕ) (keep : ℕ → View
   is_mark = (mine, subst (λ (n : ℕ). n < z.rooms.marks) h.marks_used can.room)
 
   -- the row of the mark was written before
-  stands : Stands z then x
+  stands : MarkStands z then x
   stands = word_same z words p (mark_number x) can.cell (part.MarkSerial who) mine (λ q. cc) ∙ h.written (part.MarkSerial who) refl ∙ can.serial ∙ h.marks_used
 
   new_row : MarkRow z then v x
@@ -162,7 +162,7 @@ module _ (z : Shape) (shape : IsShape z) (words : List ℕ) (keep : ℕ → View
               marks = λ y u here. ⊎_elim (λ (q : y ≡ x). subst (λ (i : Ref). MarkRow z then v i) (sym q) new_row)
                   (λ (u : IsUsed w y). mark_row_stays z words then w v l (marks_same z words keep w side m p can.cell n v l (λ o. o)) m.rows y u here) (used_or y u);
               placed = λ j y lt q. ⊎_elim
-                  (λ (r : (j ≡ c) × (updated w.cell c (mark x) j ≡ mark x)). let same : x ≡ y = (let i : mark x ≡ mark y = sym r.1 ∙ q in cc) in subst (λ (i : Ref). Stands z then i) same stands)
+                  (λ (r : (j ≡ c) × (updated w.cell c (mark x) j ≡ mark x)). let same : x ≡ y = (let i : mark x ≡ mark y = sym r.1 ∙ q in cc) in subst (λ (i : Ref). MarkStands z then i) same stands)
                   (λ (r : (j ≢ c) × (updated w.cell c (mark x) j ≡ w.cell j)).
                   let before : w.cell j ≡ mark y = sym r.1 ∙ q in
                   let here : IsMark z y = subst (λ (i : Cell). IsCell z i) before (m.cells.standing j lt) in

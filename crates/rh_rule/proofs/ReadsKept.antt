@@ -4,7 +4,7 @@ use Rattle.rh_world.specs.World.{Cell, Control, In, IsDecided, IsOpened, IsUsed,
 use Rattle.rh_world.specs.World.Cell.{desc, mark, plain}
 use Rattle.rh_world.specs.World.Control.{failed, succeeded, undecided, unused, withdrawn}
 use Rattle.rh_world.specs.Facts.{HoldsIn, Fact, part_of}
-use Rattle.rh_world.specs.Facts.Fact.{decided, desc_is, failed_at, found, held, known, may_demote, may_promote, met, mismatch, new_is, old_is, over, stale, size_is, target_is, which_is}
+use Rattle.rh_world.specs.Facts.Fact.{decided, desc_is, failed_at, found, installed, known, may_demote, may_promote, met, mismatch, new_is, old_is, over, stale, size_is, target_is, which_is}
 use Rattle.rh_world.specs.Facts.Part.{of_rows}
 use Rattle.rh_world.specs.Sides.{Side, note_side}
 use Rattle.rh_world.specs.Rule.{Rule}
@@ -22,10 +22,10 @@ use Rattle.rh_descriptor.specs.Parts.{IsShape}
 use Rattle.rh_descriptor.specs.View.{MarkWord, Raw, RawRow, RowWord, View}
 use Rattle.rh_descriptor.specs.View.RowWord.{length_word, cell_word, old_word, new_word}
 use Rattle.rh_descriptor.specs.View.MarkWord.{desc_word, entry_word}
-use Rattle.rh_descriptor.specs.Words.{cell_in, desc_in, number_of, read_control, ref_of, serial_in, without_entry}
+use Rattle.rh_descriptor.specs.Words.{cell_in, desc_in, control_word_of, read_control, ref_of, serial_in, without_entry}
 use Rattle.rh_descriptor.specs.Steps.{IsKnown, IsNoted, IsRead, KnowsMark, WasOpened, control_seen, desc_row_said, desc_said, stale_noted, is_known, is_newest, mark_said, index_read, read_noted, read_view, row_said, rows_said, tells_opened}
 use Rattle.rh_rule.specs.Erased.{erased}
-use Rattle.rh_rule.specs.Represents.{HasItsRow, IsRaw, IsRawRow, IsRowSaid, IsSaid, Kept, Stands, word_at, Represents}
+use Rattle.rh_rule.specs.Represents.{HasItsRow, IsRaw, IsRawRow, IsRowSaid, IsSaid, Kept, MarkStands, word_at, Represents}
 use Rattle.rh_rule.specs.Core.{Core}
 use Rattle.rh_rule.proofs.Deciders.{told_decided, told_failed, told_number}
 use Rattle.rh_rule.proofs.Erasing.{IsWhole, erased_all, erased_cell, erased_control, erased_mark, in_decided, in_whole}
@@ -96,7 +96,7 @@ tells_yes (which_is x i) d e = absurd (true≢false (sym e))
 tells_yes (found x c) d e = absurd (true≢false (sym e))
 tells_yes (may_promote x c) d e = absurd (true≢false (sym e))
 tells_yes (may_demote x) d e = absurd (true≢false (sym e))
-tells_yes (held f i) d e = absurd (true≢false (sym e))
+tells_yes (installed f i) d e = absurd (true≢false (sym e))
 tells_yes (mismatch f i n) d e = absurd (true≢false (sym e))
 
 known_yes : (ns : List Fact) (d : Ref) → is_known ns d ≡ true → IsKnown ns d
@@ -301,7 +301,7 @@ module _ (z : Shape) (shape : IsShape z) (words : List ℕ) (keep : ℕ → View
 
   -- the control word of a worker that opened one
   pub newest_word : (d : Ref) → d.worker < z.workers → suc d.number ≡ w.next_number d.worker
-      → (word_at z words (part.Control d.worker) ≡ number_of d.number (w.control d)) × HasState (w.control d)
+      → (word_at z words (part.Control d.worker) ≡ control_word_of d.number (w.control d)) × HasState (w.control d)
   newest_word d u is = let q = m.controls.newest d u is in (q.1, state_of_control d q.0)
 
   -- with the number of d it tells of d; with another, d is not the newest
@@ -315,7 +315,7 @@ module _ (z : Shape) (shape : IsShape z) (words : List ℕ) (keep : ℕ → View
       subst (λ (i : ℕ). suc i ≡ w.next_number d.worker) same n.1
 
   -- while the row of a mark stands, all that was read in it is true
-  module _ (x : Ref) (used : IsUsed w x) (stands : Stands z words x) where
+  module _ (x : Ref) (used : IsUsed w x) (stands : MarkStands z words x) where
     true_word : (u : MarkWord) → IsSaid w x u → (n : Fact) → In n (mark_said x u) → IsRowFact n × HoldsIn w n
     true_word (desc_word u) said n i =
         let d : Ref = w.mark_desc x in
@@ -335,7 +335,7 @@ module _ (z : Shape) (shape : IsShape z) (words : List ℕ) (keep : ℕ → View
         either others true e i =
             let same : r.mark ≡ x = is_ref_yes r.mark x e in
             let raw = h.raw r (sub r (inl refl)) in
-            let said : IsSaid w x r.word = subst (λ (y : Ref). Stands z words y → IsSaid w y r.word) same raw.said stands in
+            let said : IsSaid w x r.word = subst (λ (y : Ref). MarkStands z words y → IsSaid w y r.word) same raw.said stands in
             ⊎_elim (true_word r.word said n) others (in_append n (mark_said x r.word) (row_said rs x) i)
         either others false e i = others i
 
@@ -359,7 +359,7 @@ module _ (z : Shape) (shape : IsShape z) (words : List ℕ) (keep : ℕ → View
   pub meets_seen : (then : List ℕ) (v : World) → word_at z then (part.Serial who) ≡ word_at z words (part.Serial who) → (d : Ref) (now : Control) (x : Side)
       → ((e : Ref) (r : Control) → In (decided e r) x.facts → ((e ≡ d) × (r ≡ now)) ⊎ In (decided e r) k.side.facts)
       → ((r : Control) → In (decided d r) k.side.facts → r ≡ now) → Grows k.side x → (seen : ℕ)
-      → (suc d.number ≡ w.next_number d.worker → seen ≡ number_of d.number now)
+      → (suc d.number ≡ w.next_number d.worker → seen ≡ control_word_of d.number now)
       → ((f : Ref) (e : ℕ) → v.control f ≡ failed e who → In (decided f (failed 0 who)) x.facts) → Meets z then v who k x (control_seen k d seen)
   meets_seen then v serial d now x facts before g seen seen_is fails = record {
     over = over_grows k.side x who k.opened g h.over;
@@ -370,7 +370,7 @@ module _ (z : Shape) (shape : IsShape z) (words : List ℕ) (keep : ℕ → View
         let newest : suc d.number ≡ k.next_number = ap (λ (y : Ref). suc y.number) (sym e) ∙ next in
         let told : r ≡ now = ⊎_elim (λ q. q.1) (λ j. before r (subst (λ (y : Ref). In (decided y r) k.side.facts) e j)) (facts record { worker = who; number = n } r i) in
         ap (λ (b : Bool). cond b seen k.control) (and_true (eq-eqb d.worker k.worker own) (eq-eqb (suc d.number) k.next_number newest))
-        ∙ seen_is (newest ∙ h.next_number ∙ ap w.next_number (ap (λ (y : Ref). y.worker) e)) ∙ ap (λ (c : Control). number_of d.number c) (sym told) ∙ ap (λ (y : Ref). number_of y.number r) (sym e))
+        ∙ seen_is (newest ∙ h.next_number ∙ ap w.next_number (ap (λ (y : Ref). y.worker) e)) ∙ ap (λ (c : Control). control_word_of d.number c) (sym told) ∙ ap (λ (y : Ref). control_word_of y.number r) (sym e))
         (λ (ne : record { worker = who; number = n } ≢ d).
         ap (λ (b : Bool). cond b seen k.control) (other_newest n next ne)
         ∙ h.control n r next (⊎_elim (λ q. absurd (ne q.0)) (λ j. j) (facts record { worker = who; number = n } r i)))

@@ -15,7 +15,7 @@ use Rattle.rh_world.specs.Moves.{is_desc, is_mark, is_plain}
 use Rattle.rh_world.proofs.Updated.{is_ref_not, ref_path, same_ref, updated_ref_here}
 use Rattle.rh_descriptor.specs.declared.shape.Shape.{Shape}
 use Rattle.rh_descriptor.specs.Parts.{IsShape}
-use Rattle.rh_descriptor.specs.Words.{IsPlain, cell_in, cell_said, control_of, control_said, desc_in, desc_number, mark_number, number_of, read_control, ref_said, serial_in, state_of, without_entry}
+use Rattle.rh_descriptor.specs.Words.{IsPlain, cell_in, cell_said, control_of, control_said, desc_in, desc_number, mark_number, control_word_of, read_control, ref_said, serial_in, state_of, without_entry}
 use Rattle.rh_descriptor.specs.Steps.{IsDesc, IsMark}
 use Rattle.rh_rule.specs.Represents.{IsCell, cell_number}
 
@@ -103,12 +103,12 @@ of_state withdrawn = refl
 of_state (failed e by) = refl
 
 -- its word tells it, but for the entry at which it failed, and the number of its descriptor
-pub control_said_is : (n : ℕ) (k : Control) → HasState k → read_control (number_of n k) ≡ without_entry k
+pub control_said_is : (n : ℕ) (k : Control) → HasState k → read_control (control_word_of n k) ≡ without_entry k
 control_said_is n k h =
     ap (λ (i : ℕ). control_said (Rattle.rh_tagword.specs.Control.state_in i)) (mod-mul-add n (2 ^ 8) (state_number (state_of k)) (state_number_fits (state_of k) h))
     ∙ ap control_said (state_in-state_number (state_of k) h) ∙ of_state k
 
-pub serial_said_is : (n : ℕ) (k : Control) → HasState k → serial_in (number_of n k) ≡ n
+pub serial_said_is : (n : ℕ) (k : Control) → HasState k → serial_in (control_word_of n k) ≡ n
 serial_said_is n k h = div-mul-add n (2 ^ 8) (state_number (state_of k)) (state_number_fits (state_of k) h)
 
 abbrev pub is_undecided : Control → Bool
@@ -118,9 +118,9 @@ is_undecided succeeded = false
 is_undecided withdrawn = false
 is_undecided (failed e by) = false
 
-pub undecided_test : (n : ℕ) (k : Control) → HasState k → eqb (number_of n k) (number_of n undecided) ≡ is_undecided k
-undecided_test n unused h = ne_eqb (number_of n unused) (number_of n undecided) (λ q. omega (arith, q))
-undecided_test n undecided h = eq-eqb (number_of n undecided) (number_of n undecided) refl
-undecided_test n succeeded h = ne_eqb (number_of n succeeded) (number_of n undecided) (λ q. omega (arith, q))
-undecided_test n withdrawn h = ne_eqb (number_of n withdrawn) (number_of n undecided) (λ q. omega (arith, q))
-undecided_test n (failed e by) h = ne_eqb (number_of n (failed e by)) (number_of n undecided) (λ q. omega (arith, q))
+pub undecided_test : (n : ℕ) (k : Control) → HasState k → eqb (control_word_of n k) (control_word_of n undecided) ≡ is_undecided k
+undecided_test n unused h = ne_eqb (control_word_of n unused) (control_word_of n undecided) (λ q. omega (arith, q))
+undecided_test n undecided h = eq-eqb (control_word_of n undecided) (control_word_of n undecided) refl
+undecided_test n succeeded h = ne_eqb (control_word_of n succeeded) (control_word_of n undecided) (λ q. omega (arith, q))
+undecided_test n withdrawn h = ne_eqb (control_word_of n withdrawn) (control_word_of n undecided) (λ q. omega (arith, q))
+undecided_test n (failed e by) h = ne_eqb (control_word_of n (failed e by)) (control_word_of n undecided) (λ q. omega (arith, q))

@@ -6,7 +6,7 @@ use Rattle.rh_descriptor.specs.declared.shape.Shape.{Shape}
 use Rattle.rh_descriptor.specs.Parts.{IsShape}
 use Rattle.rh_descriptor.specs.View.{View}
 use Rattle.rh_descriptor.specs.Steps.{IsStep, Step, noted, index, index_read, read_view, word_after}
-use Rattle.rh_rule.specs.Core.{Core, EachStepKeeps, world_then}
+use Rattle.rh_rule.specs.Core.{Core, EachStepOnWordsKeeps, world_then}
 use Rattle.rh_rule.proofs.CellsKept.{keeps_release, keeps_settle}
 use Rattle.rh_rule.proofs.DecidesKept.{keeps_decide}
 use Rattle.rh_rule.proofs.OpensKept.{keeps_open}
@@ -29,7 +29,7 @@ step_keeps w z words keep who (Step.decides d k) shape core mine may = keeps_dec
 step_keeps w z words keep who (Step.releases d e c k value) shape core mine may = keeps_release z shape words keep w core.side core.rule core.represents who mine d e c k value may
 step_keeps w z words keep who Step.claims shape core mine may = keeps_claim z shape words keep w core.side core.rule core.represents who mine may
 
-pub each_step_keeps : EachStepKeeps
+pub each_step_keeps : EachStepOnWordsKeeps
 each_step_keeps w z words then keep who s word next shape core mine may to =
     let p : ℕ = index z (keep who) s in
     subst (λ (x : List ℕ × View). Core (world_then z w who (keep who) s) z x.0 (updated keep who x.1))

@@ -4,7 +4,7 @@ use Rattle.rh_tagword.specs.Word.{tag_of}
 use Rattle.rh_world.specs.World.{Cell, Control, HasFailed, In, Ref, World, is_ref}
 use Rattle.rh_world.specs.World.Control.{succeeded}
 use Rattle.rh_world.specs.Facts.{Fact}
-use Rattle.rh_world.specs.Facts.Fact.{decided, desc_is, failed_at, found, held, known, may_demote, may_promote, met, mismatch, new_is, old_is, over, stale, size_is, target_is, which_is}
+use Rattle.rh_world.specs.Facts.Fact.{decided, desc_is, failed_at, found, installed, known, may_demote, may_promote, met, mismatch, new_is, old_is, over, stale, size_is, target_is, which_is}
 use Rattle.rh_world.specs.Acts.{cells_after, is_success}
 use Rattle.rh_world.specs.Laws.{Foretold}
 use Rattle.rh_world.specs.Sides.{Side}
@@ -18,7 +18,7 @@ use Rattle.rh_descriptor.specs.View.{OwnDesc, View}
 use Rattle.rh_descriptor.specs.Words.{without_entry}
 use Rattle.rh_rule.specs.Represents.{IsCell, IsOpenedSo, cell_number, numbers_of}
 use Rattle.rh_rule.specs.Core.{Core}
-use Rattle.rh_rule.specs.Rest.{HasMissed, Rests, Tells, Told, is_noted_success, says_success}
+use Rattle.rh_rule.specs.Rest.{HasMissed, TableRests, TableTells, Told, is_noted_success, says_success}
 use Rattle.rh_rule.proofs.Deciders.{told_success}
 use Rattle.rh_rule.proofs.Erasing.{in_decided, in_whole}
 use Rattle.rh_rule.proofs.WipesKept.{all_rest}
@@ -61,7 +61,7 @@ told w z words keep core =
       workers = λ i lt. (m.controls.descs (w.act i) (succeeded_opened (w.control (w.act i)) (order.succeeded i lt))).0;
     }
 
-pub tells : Tells
+pub tells : TableTells
 tells w z words keep core = told w z words keep core
 
 -- ---- the acts that were noted
@@ -90,7 +90,7 @@ says_so (which_is x i) d e = absurd (true≢false (sym e))
 says_so (found x c) d e = absurd (true≢false (sym e))
 says_so (may_promote x c) d e = absurd (true≢false (sym e))
 says_so (may_demote x) d e = absurd (true≢false (sym e))
-says_so (held f i) d e = absurd (true≢false (sym e))
+says_so (installed f i) d e = absurd (true≢false (sym e))
 says_so (mismatch f i n) d e = absurd (true≢false (sym e))
 
 ref_self : (d : Ref) → is_ref d d ≡ true
@@ -141,7 +141,7 @@ filtered f g (o ∷ os) same =
     over true e = ap (λ (l : List ℕ). o.number ∷ l) e
     over false e = e
 
-pub rests : Rests
+pub rests : TableRests
 rests w z words keep core rest =
     let m = core.represents in
     let settled = rest_is_settled w core.side core.rule (all_rest w z words keep core rest) in

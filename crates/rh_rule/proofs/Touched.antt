@@ -10,8 +10,8 @@ use Rattle.rh_descriptor.specs.declared.shape.Part.{Part}
 use Rattle.rh_descriptor.specs.declared.shape.Part.TheVariants as part
 use Rattle.rh_descriptor.specs.Parts.{IsPart, cell_count, index_of, word_count}
 use Rattle.rh_descriptor.specs.View.{Raw, RawRow, View}
-use Rattle.rh_descriptor.specs.Words.{number_of}
-use Rattle.rh_rule.specs.Represents.{Cells, Controls, IsCell, IsOwn, IsRaw, IsRawRow, Kept, RowWords, Stands, cell_number, word_at, Represents}
+use Rattle.rh_descriptor.specs.Words.{control_word_of}
+use Rattle.rh_rule.specs.Represents.{Cells, Controls, IsCell, IsOwn, IsRaw, IsRawRow, Kept, RowWords, MarkStands, cell_number, word_at, Represents}
 use Rattle.rh_rule.proofs.Frames.{word_same}
 use Rattle.rh_rule.proofs.Kept.{DescsStay, MarksStay, Meets, Over, Quiet, kept_stays, quiet, raw_row_stays, raw_stays, rows_stay}
 
@@ -105,7 +105,7 @@ module _ (z : Shape) (words : List ℕ) (keep : ℕ → View) (w : World) (side 
 
   -- no mark comes to stand in a cell
   pub placed_same : (IsOfMark p → ⊥) → ((j : ℕ) (x : Ref) → v.cell j ≡ mark x → w.cell j ≡ mark x)
-      → (j : ℕ) (x : Ref) → j < cell_count z → v.cell j ≡ mark x → Stands z then x
+      → (j : ℕ) (x : Ref) → j < cell_count z → v.cell j ≡ mark x → MarkStands z then x
   placed_same clear back j x lt e =
       let before = back j x e in
       let is = subst (λ (k : Cell). IsCell z k) before (m.cells.standing j lt) in
@@ -128,7 +128,7 @@ module _ (z : Shape) (words : List ℕ) (keep : ℕ → View) (w : World) (side 
   controls_same ne not_note same numbers = record {
     unopened = λ u lt e. word_same z words p n here (part.Control u) lt (ne u) ∙ m.controls.unopened u lt (sym (numbers u) ∙ e);
     newest = λ d lt e. let q = m.controls.newest d lt (e ∙ numbers d.worker) in
-        ((λ o. q.0 (sym (same d) ∙ o)), word_same z words p n here (part.Control d.worker) lt (ne d.worker) ∙ q.1 ∙ ap (number_of d.number) (sym (same d)));
+        ((λ o. q.0 (sym (same d) ∙ o)), word_same z words p n here (part.Control d.worker) lt (ne d.worker) ∙ q.1 ∙ ap (control_word_of d.number) (sym (same d)));
     descs = λ d o. m.controls.descs d (λ e. o (same d ∙ e));
     withdrawals = λ d q. marks_stay z.rooms.marks w v l d.worker (m.controls.withdrawals d (sym (same d) ∙ q));
     deciders = λ d e by q. m.controls.deciders d e by (sym (same d) ∙ q);
@@ -139,7 +139,7 @@ module _ (z : Shape) (words : List ℕ) (keep : ℕ → View) (w : World) (side 
   }
 
   pub rows_same : ((d : Ref) → IsOpened (v.control d) → IsOpened (w.control d)) → ((x : Ref) → IsUsed v x → IsUsed w x)
-      → DescsStay z words then w → MarksStay z words then w → ((j : ℕ) (x : Ref) → j < cell_count z → v.cell j ≡ mark x → Stands z then x) → RowWords z then v
+      → DescsStay z words then w → MarksStay z words then w → ((j : ℕ) (x : Ref) → j < cell_count z → v.cell j ≡ mark x → MarkStands z then x) → RowWords z then v
   rows_same back fewer descs marks placed = rows_stay z words then w v l m.controls.descs back fewer descs marks placed m.rows
 
   -- what is kept of the other workers

@@ -20,7 +20,7 @@ use Rattle.rh_descriptor.specs.Parts.{IsPart, IsShape, cell_count, index_of, row
 use Rattle.rh_descriptor.specs.View.{View}
 use Rattle.rh_descriptor.specs.Steps.{CanClaim, IsFree, Step, noted, row_of, row_word, word_after}
 use Rattle.rh_descriptor.proofs.IndexLemmas.{same_part}
-use Rattle.rh_rule.specs.Represents.{Controls, HasItsRow, IsOwn, Kept, Stands, word_at, Represents}
+use Rattle.rh_rule.specs.Represents.{Controls, HasItsRow, IsOwn, Kept, MarkStands, word_at, Represents}
 use Rattle.rh_rule.specs.Core.{Core}
 use Rattle.rh_rule.proofs.Erasing.{in_mismatch}
 use Rattle.rh_rule.proofs.Frames.{word_new, word_same}
@@ -259,10 +259,10 @@ module _ (z : Shape) (shape : IsShape z) (words : List ℕ) (keep : ℕ → View
               entry = others_same x.worker is.0 ne (part.MarkEntry x.worker) refl;
             }) (same_nat x.worker who)
 
-    placed_still : (j : ℕ) (x : Ref) → j < cell_count z → w.cell j ≡ mark x → Stands z then x
+    placed_still : (j : ℕ) (x : Ref) → j < cell_count z → w.cell j ≡ mark x → MarkStands z then x
     placed_still = ⊎_elim of_mark (λ clear. placed_same z words keep w side m p here u w l clear (λ j x q. q)) (of_mark_or p)
       where
-        of_mark : IsOfMark p → (j : ℕ) (x : Ref) → j < cell_count z → w.cell j ≡ mark x → Stands z then x
+        of_mark : IsOfMark p → (j : ℕ) (x : Ref) → j < cell_count z → w.cell j ≡ mark x → MarkStands z then x
         of_mark o j x lt q =
             let in_cell = rule.rows.marks j x q in
             let ne : x.worker ≢ who = λ e. (

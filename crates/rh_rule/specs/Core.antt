@@ -34,7 +34,7 @@ world_then z w who v (Step.releases d e c k value) = world_after w who (releases
 world_then z w who v Step.claims = world_after w who claims
 
 -- Each allowed step of a worker of the table keeps the rule, and takes the world to the next one.
-abbrev pub EachStepKeeps : Type 0
-EachStepKeeps = (w : World) (z : Shape) (words then : List ℕ) (keep : ℕ → View) (who : ℕ) (s : Step) (word : ℕ) (next : View)
+abbrev pub EachStepOnWordsKeeps : Type 0
+EachStepOnWordsKeeps = (w : World) (z : Shape) (words then : List ℕ) (keep : ℕ → View) (who : ℕ) (s : Step) (word : ℕ) (next : View)
     → IsShape z → Core w z words keep → who < z.workers → Allowed z (keep who) s → StepsTo z s words (keep who) word then next
     → Core (world_then z w who (keep who) s) z then (updated keep who next)

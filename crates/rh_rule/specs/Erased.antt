@@ -2,7 +2,7 @@
 -- 0.
 use Rattle.std.specs.Prelude.{map}
 use Rattle.rh_world.specs.Facts.{Fact}
-use Rattle.rh_world.specs.Facts.Fact.{met, known, size_is, target_is, old_is, new_is, decided, over, stale, failed_at, desc_is, which_is, found, may_promote, may_demote, held, mismatch}
+use Rattle.rh_world.specs.Facts.Fact.{met, known, size_is, target_is, old_is, new_is, decided, over, stale, failed_at, desc_is, which_is, found, may_promote, may_demote, installed, mismatch}
 use Rattle.rh_world.specs.Sides.{KeptRead, Side}
 use Rattle.rh_descriptor.specs.Words.{without_entry}
 
@@ -23,7 +23,7 @@ erased_fact (which_is x e) = which_is x e
 erased_fact (found x c) = found x c
 erased_fact (may_promote x c) = may_promote x c
 erased_fact (may_demote x) = may_demote x
-erased_fact (held d e) = held d e
+erased_fact (installed d e) = installed d e
 erased_fact (mismatch d e n) = mismatch d e 0
 
 abbrev pub erased_read : KeptRead → KeptRead

@@ -12,7 +12,7 @@ use Rattle.rh_descriptor.specs.Parts.{cell_count, index_of, word_count}
 use Rattle.rh_descriptor.specs.View.{MarkWord, OwnDesc, Raw, RawRow, RowWord, View}
 use Rattle.rh_descriptor.specs.View.RowWord.{length_word, cell_word, old_word, new_word}
 use Rattle.rh_descriptor.specs.View.MarkWord.{desc_word, entry_word}
-use Rattle.rh_descriptor.specs.Words.{IsPlain, mark_number, desc_number, number_of}
+use Rattle.rh_descriptor.specs.Words.{IsPlain, mark_number, desc_number, control_word_of}
 use Rattle.rh_descriptor.specs.Steps.{IsDesc, IsMark, row_of, row_word, entry_of}
 use Rattle.rh_rule.specs.Erased.{erased}
 
@@ -38,7 +38,7 @@ pub record Cells (z : Shape) (words : List ℕ) (w : World) : Type 0 where
 pub record Controls (z : Shape) (words : List ℕ) (w : World) : Type 0 where
   pub unopened : (v : ℕ) → v < z.workers → w.next_number v ≡ 0 → word_at z words (part.Control v) ≡ 0
   pub newest : (d : Ref) → d.worker < z.workers → suc d.number ≡ w.next_number d.worker
-      → IsOpened (w.control d) × (word_at z words (part.Control d.worker) ≡ number_of d.number (w.control d))
+      → IsOpened (w.control d) × (word_at z words (part.Control d.worker) ≡ control_word_of d.number (w.control d))
   pub descs : (d : Ref) → IsOpened (w.control d) → IsDesc z d
   -- a descriptor is withdrawn only where no mark of its worker is left (worlds do not know how many there is room for)
   pub withdrawals : (d : Ref) → w.control d ≡ withdrawn → z.rooms.marks ≤ w.marks_used d.worker
@@ -74,8 +74,8 @@ pub record DescRow (z : Shape) (words : List ℕ) (w : World) (d : Ref) : Type 0
   pub news : (e : ℕ) → e < w.size d → word_at z words (part.EntryNew d.worker e) ≡ w.new d e
 
 -- the mark row of its worker is of x
-abbrev pub Stands : Shape → List ℕ → Ref → Type 0
-Stands z words x = word_at z words (part.MarkSerial x.worker) ≡ x.number
+abbrev pub MarkStands : Shape → List ℕ → Ref → Type 0
+MarkStands z words x = word_at z words (part.MarkSerial x.worker) ≡ x.number
 
 -- what a word of the row of x says of x
 abbrev pub IsSaid : World → Ref → MarkWord → Type 0
@@ -93,8 +93,8 @@ pub record RowWords (z : Shape) (words : List ℕ) (w : World) : Type 0 where
   pub entries : (d : Ref) → IsOpened (w.control d) → HasEntries z w d
   pub descs : (d : Ref) → IsOpened (w.control d) → HasItsRow z words d → DescRow z words w d
   pub are_marks : (x : Ref) → IsUsed w x → IsMark z x
-  pub marks : (x : Ref) → IsUsed w x → Stands z words x → MarkRow z words w x
-  pub placed : (c : ℕ) (x : Ref) → c < cell_count z → w.cell c ≡ mark x → Stands z words x
+  pub marks : (x : Ref) → IsUsed w x → MarkStands z words x → MarkRow z words w x
+  pub placed : (c : ℕ) (x : Ref) → c < cell_count z → w.cell c ≡ mark x → MarkStands z words x
 
 -- a part of the rows of worker v that v alone writes
 abbrev pub IsOwn : Shape → (v : ℕ) → Part → Type 0
@@ -125,7 +125,7 @@ numbers_of opened = map (λ o. o.number) opened
 -- A word that was read in the row of a mark says of it what the row says, as long as the row is of it.
 pub record IsRaw (z : Shape) (words : List ℕ) (w : World) (r : Raw) : Type 0 where
   pub used : IsUsed w r.mark
-  pub said : Stands z words r.mark → IsSaid w r.mark r.word
+  pub said : MarkStands z words r.mark → IsSaid w r.mark r.word
 
 -- so it is of descriptors
 pub record IsRawRow (z : Shape) (words : List ℕ) (w : World) (r : RawRow) : Type 0 where
@@ -143,7 +143,7 @@ pub record Kept (z : Shape) (words : List ℕ) (w : World) (side : Side) (v : �
   -- the own control word, once its newest descriptor is noted as decided
   pub no_control : k.next_number ≡ 0 → k.control ≡ 0
   pub control : (n : ℕ) (r : Control) → suc n ≡ k.next_number → In (decided (record { worker = v; number = n }) r) k.side.facts
-      → k.control ≡ number_of n r
+      → k.control ≡ control_word_of n r
   -- its open descriptor has its row
   pub open_row : (n : ℕ) → k.side.current ≡ Some n → HasItsRow z words (record { worker = v; number = n })
   -- each descriptor that it decided as failed is noted so

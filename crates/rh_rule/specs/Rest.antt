@@ -2,7 +2,7 @@
 use Rattle.std.specs.Prelude.{◌≡◌, ◌≢◌, ℕ, ◌<◌, ◌≤◌, Bool, false, ◌&&◌, ◌||◌, List, [], ◌∷◌, filter, length, slice_index, None}
 use Rattle.rh_world.specs.World.{Ref, Control, World, HasFailed, In, is_ref}
 use Rattle.rh_world.specs.Facts.{IsPrefix, Fact}
-use Rattle.rh_world.specs.Facts.Fact.{met, known, size_is, target_is, old_is, new_is, decided, over, stale, failed_at, desc_is, which_is, found, may_promote, may_demote, held, mismatch}
+use Rattle.rh_world.specs.Facts.Fact.{met, known, size_is, target_is, old_is, new_is, decided, over, stale, failed_at, desc_is, which_is, found, may_promote, may_demote, installed, mismatch}
 use Rattle.rh_world.specs.Sides.{KeptRead, Side, AtRest}
 use Rattle.rh_world.specs.Acts.{cells_after, is_success, own_acts, successes_of}
 use Rattle.rh_world.specs.Laws.{Foretold, OneOrder, SharedOut}
@@ -46,8 +46,8 @@ pub record Told (w : World) (z : Shape) (keep : ℕ → View) (side : ℕ → Si
   -- and each act is of a worker of the table
   pub workers : (i : ℕ) → i < w.act_count → (w.act i).worker < z.workers
 
-abbrev pub Tells : Type 0
-Tells = (w : World) (z : Shape) (words : List ℕ) (keep : ℕ → View) → (core : Core w z words keep) → Told w z keep core.side
+abbrev pub TableTells : Type 0
+TableTells = (w : World) (z : Shape) (words : List ℕ) (keep : ℕ → View) → (core : Core w z words keep) → Told w z keep core.side
 
 -- all workers of the table are at rest, and no wipe is under way
 pub record AllRest (z : Shape) (keep : ℕ → View) : Type 0 where
@@ -71,7 +71,7 @@ says_success (which_is x e) d = false
 says_success (found x c) d = false
 says_success (may_promote x c) d = false
 says_success (may_demote x) d = false
-says_success (held f e) d = false
+says_success (installed f e) d = false
 says_success (mismatch f e n) d = false
 
 abbrev pub is_noted_success : List Fact → Ref → Bool
@@ -89,6 +89,6 @@ pub record Rested (w : World) (z : Shape) (words : List ℕ) (keep : ℕ → Vie
   pub plain : (c : ℕ) → c < cell_count z → IsPlain (slice_index words c)
   pub acts : (v : ℕ) → v < z.workers → own_acts w v w.act_count ≡ numbers_of (made (keep v))
 
-abbrev pub Rests : Type 0
-Rests = (w : World) (z : Shape) (words : List ℕ) (keep : ℕ → View) → (core : Core w z words keep) → AllRest z keep
+abbrev pub TableRests : Type 0
+TableRests = (w : World) (z : Shape) (words : List ℕ) (keep : ℕ → View) → (core : Core w z words keep) → AllRest z keep
     → Rested w z words keep core.side

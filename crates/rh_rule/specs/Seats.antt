@@ -29,7 +29,7 @@ pub record Seated (z : Shape) (keep : ℕ → View) (views : List (List Known)) 
       → (s.view.worker < z.workers) × (keep s.view.worker ≡ s.view) × (seat_of s.view.worker ≡ j) × (rank_of s.view.worker ≡ r)
 
 -- the rule of the table
-pub record Holds {S : Type 0} (z : Shape) (t : State S (List Known)) : Type 0 where
+pub record RuleHolds {S : Type 0} (z : Shape) (t : State S (List Known)) : Type 0 where
   pub keep : ℕ → View
   pub seated : Seated z keep t.views
   pub rules : Rules z t.words keep
@@ -65,10 +65,10 @@ abbrev pub NoSlot : Type 0
 NoSlot = Unit {0}
 
 -- A table starts with plain cells, whose other words are 0, and with one seat for all workers.
-abbrev pub Starts : Type 0
-Starts = (z : Shape) (cells : List ℕ) (slots : List NoSlot) → IsShape z → length cells ≡ cell_count z
+abbrev pub TableBegins : Type 0
+TableBegins = (z : Shape) (cells : List ℕ) (slots : List NoSlot) → IsShape z → length cells ≡ cell_count z
     → ((c : ℕ) → c < cell_count z → IsPlain (slice_index cells c))
-    → Holds z (opening (cells ++ replicate (row_total z + 1) 0) slots (first_view z cells))
+    → RuleHolds z (opening (cells ++ replicate (row_total z + 1) 0) slots (first_view z cells))
 
 -- what a step tells the seat of one worker, of whom this was kept before
 pub record StepTells (z : Shape) (v : View) (s : Step) (word : ℕ) (me : Me NoSlot (List Known)) : Type 0 where
@@ -80,15 +80,15 @@ pub record StepTells (z : Shape) (v : View) (s : Step) (word : ℕ) (me : Me NoS
 -- what it may rely on.
 abbrev pub StepsAreAllowed : Type 0
 StepsAreAllowed = (z : Shape) (slots id : ℕ) (v : View) (s : Step) → IsShape z → Allowed z v s
-    → Allows {S = NoSlot} (Holds z) slots id (known v ∷ [], []) (index z v s) (word_after v s) (StepTells z v s)
+    → Allows {S = NoSlot} (RuleHolds z) slots id (known v ∷ [], []) (index z v s) (word_after v s) (StepTells z v s)
 
 -- A view may be cut in two at any place, and two views may be joined.
 abbrev pub ViewsSplit : Type 0
-ViewsSplit = (z : Shape) (id n : ℕ) (vs : List Known) → Splits {S = NoSlot} (Holds z) id vs (take n vs) (drop n vs)
+ViewsSplit = (z : Shape) (id n : ℕ) (vs : List Known) → Splits {S = NoSlot} (RuleHolds z) id vs (take n vs) (drop n vs)
 
 abbrev pub ViewsJoin : Type 0
 ViewsJoin = (z : Shape) (id : ℕ) (vs : List Known) (other : ℕ) (us : List Known)
-    → Joins {S = NoSlot} (Holds z) id vs other us (vs ++ us) []
+    → Joins {S = NoSlot} (RuleHolds z) id vs other us (vs ++ us) []
 
 -- Where all workers of a seat's view are at rest: the words of the table, which is ruled, and its cells, as words. These are
 -- those that it was made or wiped with, changed by all acts since, act by act.
@@ -114,14 +114,14 @@ pub record Begun (z : Shape) (vs : List Known) (me : Me NoSlot (List Known)) : T
 pub record WipeSteps (z : Shape) (slots id : ℕ) (vs : List Known) : Type 0 where
   -- where all are at rest it begins one, by a load of any word
   pub begins : (i : ℕ) → InView (λ v. v.wiping ≡ None) vs → InView (λ v. AtRest v.side) vs
-      → Allows {S = NoSlot} (Holds z) slots id (vs, []) i (λ n. n) (λ word. Begun z vs)
+      → Allows {S = NoSlot} (RuleHolds z) slots id (vs, []) i (λ n. n) (λ word. Begun z vs)
   -- it clears the next row word
   pub stores : (cells : List ℕ) (n : ℕ) → n < row_total z → InView (IsWiping cells n) vs
-      → Allows {S = NoSlot} (Holds z) slots id (vs, []) (cell_count z + n) (λ word. 0)
+      → Allows {S = NoSlot} (RuleHolds z) slots id (vs, []) (cell_count z + n) (λ word. 0)
       (λ word me. me ≡ (all_views (wiping_view cells (n + 1)) vs, []))
   -- it ends the wipe, by a load of any word
   pub ends : (cells : List ℕ) (i : ℕ) → InView (IsWiping cells (row_total z)) vs
-      → Allows {S = NoSlot} (Holds z) slots id (vs, []) i (λ n. n) (λ word me. me ≡ (all_views (round_view cells) vs, []))
+      → Allows {S = NoSlot} (RuleHolds z) slots id (vs, []) i (λ n. n) (λ word me. me ≡ (all_views (round_view cells) vs, []))
 
 abbrev pub AllMayWipe : Type 0
 AllMayWipe = (z : Shape) (slots id : ℕ) (vs : List Known) → IsShape z → 0 < z.workers → Spans vs 0 z.workers
@@ -130,5 +130,5 @@ AllMayWipe = (z : Shape) (slots id : ℕ) (vs : List Known) → IsShape z → 0 
 -- At the close the seat of all workers has what the rule speaks of.
 abbrev pub CloseSees : Type 0
 CloseSees = (z : Shape) (id : ℕ) (vs : List Known) (t : State NoSlot (List Known)) → 0 < z.workers → Spans vs 0 z.workers
-    → Holds z t → get_elem? t.views id ≡ some vs → InView (λ v. v.wiping ≡ None) vs
+    → RuleHolds z t → get_elem? t.views id ≡ some vs → InView (λ v. v.wiping ≡ None) vs
     → (keep : ℕ → View) × Ruled z t.words keep × ((r : ℕ) (s : Known) → get_elem? vs r ≡ some s → keep r ≡ s.view)

@@ -14,7 +14,7 @@ use Rattle.rh_descriptor.specs.declared.reference.Reading.TheVariants as reading
 use Rattle.rh_descriptor.specs.Parts.{IsShape, cell_count, entry_row, index_of}
 use Rattle.rh_descriptor.specs.View.{OwnDesc, View}
 use Rattle.rh_descriptor.specs.View.MarkWord.{desc_word}
-use Rattle.rh_descriptor.specs.Words.{IsPlain, cell_in, desc_in, number_of, read_control, ref_of, serial_in, state_of}
+use Rattle.rh_descriptor.specs.Words.{IsPlain, cell_in, desc_in, control_word_of, read_control, ref_of, serial_in, state_of}
 use Rattle.rh_descriptor.specs.Steps.{Allowed, IsDesc, IsKnown, IsMark, KnowsMark, Step, entry_of, index, row_of, row_word}
 use Rattle.rh_rule.specs.Represents.{IsCell, IsOwn}
 use Rattle.rh_rule.specs.Core.{Core}
@@ -68,11 +68,11 @@ pub record IsControlWord (word : ℕ) : Type 0 where
   pub number : ℕ
   pub control : Control
   pub state : IsState (state_of control)
-  pub is : word ≡ number_of number control
+  pub is : word ≡ control_word_of number control
 
 -- The control word has the number of d, which was opened. Where this worker decided that d failed, it noted so; while d is
 -- undecided, all descriptors of its owner that this worker decided as failed are older; and an own d is the newest.
-pub record Tells (v : View) (d : Ref) (word : ℕ) : Type 0 where
+pub record ControlTellsOf (v : View) (d : Ref) (word : ℕ) : Type 0 where
   pub opened : IsOpened (read_control word)
   pub noted : (e : ℕ) → read_control word ≡ failed e v.worker → In (decided d (failed 0 v.worker)) v.side.facts
   pub older : read_control word ≡ undecided → (f : Ref) → f.worker ≡ d.worker → In (decided f (failed 0 v.worker)) v.side.facts → f.number < d.number
@@ -81,7 +81,7 @@ pub record Tells (v : View) (d : Ref) (word : ℕ) : Type 0 where
 -- And it has the number of an own d that is the newest.
 pub record ControlTells (v : View) (d : Ref) (word : ℕ) : Type 0 where
   pub word_is : IsControlWord word
-  pub tells : serial_in word ≡ d.number → Tells v d word
+  pub tells : serial_in word ≡ d.number → ControlTellsOf v d word
   pub stays : d.worker ≡ v.worker → suc d.number ≡ v.next_number → serial_in word ≡ d.number
 
 -- what a word says that is read

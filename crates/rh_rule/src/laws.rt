@@ -1,14 +1,14 @@
 //! Laws of the rule. They do nothing when they run.
 
-ghost use Rattle.rh_rule.specs.Core.{EachStepKeeps};
-ghost use Rattle.rh_rule.specs.Rest.{Tells, Rests};
+ghost use Rattle.rh_rule.specs.Core.{EachStepOnWordsKeeps};
+ghost use Rattle.rh_rule.specs.Rest.{TableTells, TableRests};
 ghost use Rattle.rh_rule.specs.Sound.{ViewsAreSound, StepsFind};
 ghost use Rattle.rh_rule.specs.Wipes.{TableStarts, WipeBegins, WipeStores, WipeEnds};
 
 /// Each allowed step of any worker keeps the rule of the table, for up to 16 workers, and takes its
 /// world to the next one.
 pub fn each_step_keeps()
-    ensures { EachStepKeeps }
+    ensures { EachStepOnWordsKeeps }
 {}
 
 /// What a worker may rely on: what its steps find, and that what it noted fits the table and does not
@@ -21,14 +21,14 @@ pub fn workers_rely()
 /// What the rule says at any moment of what is kept of the workers: the acts stand in one order, and
 /// each kept read and each failed descriptor has its prefix of them, which never goes back.
 pub fn tells()
-    ensures { Tells }
+    ensures { TableTells }
 {}
 
 /// Where all workers are at rest, no mark and no descriptor stands in a cell: each holds the opening
 /// cell changed act by act, and the acts of a worker are those of its descriptors that it noted as
 /// succeeded.
 pub fn rests()
-    ensures { Rests }
+    ensures { TableRests }
 {}
 
 /// A table starts under the rule, with plain cells and no word but theirs.

@@ -16,9 +16,9 @@ pub struct TableKey {
 pub struct RowRule;
 
 impl TableRule<(), LinkedList<Known>, TableKey> for RowRule {
-    ghost use Rattle.rh_rule.specs.Seats.{Holds, first_view};
+    ghost use Rattle.rh_rule.specs.Seats.{RuleHolds, first_view};
 
-    ghost holds = { λ o. Holds o.shape };
+    ghost holds = { λ o. RuleHolds o.shape };
 
     ghost first = { λ o. first_view o.shape o.cells.value.items };
 }

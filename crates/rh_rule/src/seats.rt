@@ -1,10 +1,10 @@
 //! Laws of the seats of a table. They do nothing when they run.
 
-ghost use Rattle.rh_rule.specs.Seats.{Starts, StepsAreAllowed, ViewsSplit, ViewsJoin, AllMayWipe, CloseSees};
+ghost use Rattle.rh_rule.specs.Seats.{TableBegins, StepsAreAllowed, ViewsSplit, ViewsJoin, AllMayWipe, CloseSees};
 
 /// A table starts with plain cells and one seat for all workers.
 pub fn starts()
-    ensures { Starts }
+    ensures { TableBegins }
 {}
 
 /// The seat of one worker may make each allowed step of it.

@@ -10,8 +10,8 @@ use Rattle.rh_world.proofs.Tests.{is_number_yes}
 use Rattle.rh_world.proofs.Updated.{ref_path, some_injective, some_not_none}
 use Rattle.rh_descriptor.specs.declared.shape.Shape.{Shape}
 use Rattle.rh_descriptor.specs.View.{OwnDesc, Raw, RawRow, View, Written, own_ref}
-use Rattle.rh_descriptor.specs.Words.{number_of}
-use Rattle.rh_descriptor.specs.Steps.{CanOpen, KnowsValue, Step, entries_of, next_entries, noted, own_desc, size_in, with_side}
+use Rattle.rh_descriptor.specs.Words.{control_word_of}
+use Rattle.rh_descriptor.specs.Steps.{CanOpenNext, KnowsValue, Step, entries_of, next_entries, noted, own_desc, size_in, with_side}
 use Rattle.rh_rule.specs.Represents.{numbers_of}
 use Rattle.rh_rule.specs.Rest.{is_noted_success}
 use Rattle.rh_rule.proofs.OpensKept.{entries_current}
@@ -179,11 +179,11 @@ kept_open z v s word h one tidy =
     let k = noted z v s word in
     as_before v k.side g.learns one tidy k.control k.marks_used k.written k.raw_rows k.raw g.current
 
-opens_next : (z : Shape) (v : View) (size word : ℕ) → CanOpen z v size → OneResult (noted z v (Step.opens size) word).side.facts → Orderly v
+opens_next : (z : Shape) (v : View) (size word : ℕ) → CanOpenNext z v size → OneResult (noted z v (Step.opens size) word).side.facts → Orderly v
     → StepFinishes v (noted z v (Step.opens size) word)
 opens_next z v size word can one tidy =
     as_opened v (noted z v (Step.opens size) word).side (steps_learn z v (Step.opens size) word) one tidy
-    record { number = v.next_number; entries = next_entries v size } (number_of v.next_number undecided) refl can.closed
+    record { number = v.next_number; entries = next_entries v size } (control_word_of v.next_number undecided) refl can.closed
     (entries_current (open_side v.side v.next_number) (own_desc v) (entries_of (next_entries v size)) size)
 
 module _ (v : View) (d : Ref) (e c : ℕ) (tidy : Orderly v) where

@@ -3,7 +3,7 @@ use Rattle.std.proofs.Common.{◌≡◌, ℕ, zero, suc, inl, inr, ⊎_elim, ref
 use Rattle.rh_world.specs.World.{Cell, In, Ref, is_ref}
 use Rattle.rh_world.specs.World.Cell.{desc, mark, plain}
 use Rattle.rh_world.specs.Facts.{Fact}
-use Rattle.rh_world.specs.Facts.Fact.{desc_is, found, held, met, mismatch}
+use Rattle.rh_world.specs.Facts.Fact.{desc_is, found, installed, met, mismatch}
 use Rattle.rh_world.specs.Sides.{Debt, Side, close_side, is_number, note_side, open_side, paid_side, release_side}
 use Rattle.rh_world.specs.Moves.{Entries, covers, note_entries, place_noted, placed_noted, release_noted, settle_noted}
 use Rattle.rh_world.proofs.Tests.{is_number_yes}
@@ -100,7 +100,7 @@ module _ (z : Shape) (v : View) (d : Ref) (e c old : ℕ) (can : CanPlace z v d 
   a_place : (k : Cell) → KnowsHeld (place_noted v.side (own_mark v) d e c old k 0) v.worker
   a_place (plain u) = either (λ t. KnowsHeld t v.worker) (eqb u old) (placed_noted v.side (own_mark v) d e c) (note_side v.side (mismatch d e 0)) placed (noting (mismatch d e 0))
   a_place (mark y) = noting (found y c)
-  a_place (desc f) = either (λ t. KnowsHeld t v.worker) (is_ref f d) (note_side v.side (held d e)) (note_side v.side (met f)) (noting (held d e)) (noting (met f))
+  a_place (desc f) = either (λ t. KnowsHeld t v.worker) (is_ref f d) (note_side v.side (installed d e)) (note_side v.side (met f)) (noting (installed d e)) (noting (met f))
 
 -- one is settled, and its cell is owed
 module _ (z : Shape) (v : View) (x : Ref) (c : ℕ) (d : Ref) (e : ℕ) (old : Option ℕ) (can : CanSettle z v x c d e old) (knows : KnowsHeld v.side v.worker) where
@@ -158,7 +158,7 @@ knows_next z v s word may sound knows = go s may sound
         less (Step.releases d e c k value) (a_release v.side d e c (size_in v.opened d.number) (is_number v.side.current v.worker d))
     go Step.claims may sound = less Step.claims record { unsettled = refl; debts = λ q i. i }
 
--- ---- where nothing is held
+-- ---- where nothing is installed
 
 pub nothing_held : (s : Side) (who : ℕ) → s.unsettled ≡ None → s.debts ≡ [] → KnowsHeld s who
 nothing_held s who settled paid = record {

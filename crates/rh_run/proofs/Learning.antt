@@ -6,7 +6,7 @@ use Rattle.std.proofs.lemmas.Bool.Decides.{nat_tests}
 use Rattle.rh_world.specs.World.{Cell, In, Ref, is_ref}
 use Rattle.rh_world.specs.World.Cell.{desc, mark, plain}
 use Rattle.rh_world.specs.Facts.{Fact}
-use Rattle.rh_world.specs.Facts.Fact.{found, held, met, mismatch}
+use Rattle.rh_world.specs.Facts.Fact.{found, installed, met, mismatch}
 use Rattle.rh_world.specs.Sides.{KeptRead, Side, close_side, is_number, note_side, open_side, paid_side, read_side, release_side, settle_side}
 use Rattle.rh_world.specs.Moves.{Entries, cell_noted, covers, note_entries, place_noted, placed_noted, release_noted, settle_noted}
 use Rattle.rh_descriptor.specs.declared.reference.Reading.TheVariants as reading
@@ -51,10 +51,10 @@ a_place : (s : Side) (x d : Ref) (e c old : ℕ) (k : Cell) → Grows s (place_n
 a_place s x d e c old (plain u) = either (Grows s) (eqb u old) (placed_noted s x d e c) (note_side s (mismatch d e 0))
     record { learns = record { facts = λ n i. inr (inr (inr i)); reads = λ r i. i }; current = refl } (grows.note s (mismatch d e 0))
 a_place s x d e c old (mark y) = grows.note s (found y c)
-a_place s x d e c old (desc f) = either (Grows s) (is_ref f d) (note_side s (held d e)) (note_side s (met f)) (grows.note s (held d e)) (grows.note s (met f))
+a_place s x d e c old (desc f) = either (Grows s) (is_ref f d) (note_side s (installed d e)) (note_side s (met f)) (grows.note s (installed d e)) (grows.note s (met f))
 
 a_settle : (s : Side) (d : Ref) (e c : ℕ) (promoted : Bool) → Grows s (settle_noted s d e c promoted)
-a_settle s d e c promoted = either (Grows s) promoted (note_side (settle_side s d c) (held d e)) (settle_side s d c)
+a_settle s d e c promoted = either (Grows s) promoted (note_side (settle_side s d c) (installed d e)) (settle_side s d c)
     record { learns = record { facts = λ n i. inr i; reads = λ r i. i }; current = refl }
     record { learns = record { facts = λ n i. i; reads = λ r i. i }; current = refl }
 

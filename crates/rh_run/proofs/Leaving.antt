@@ -11,7 +11,7 @@ use Rattle.rh_descriptor.specs.declared.shape.Shape.{Shape}
 use Rattle.rh_descriptor.specs.declared.shape.Part.TheVariants as part
 use Rattle.rh_descriptor.specs.Parts.{IsShape, reason_row}
 use Rattle.rh_descriptor.specs.View.{View}
-use Rattle.rh_descriptor.specs.Words.{number_of, with_entry}
+use Rattle.rh_descriptor.specs.Words.{control_word_of, with_entry}
 use Rattle.rh_descriptor.specs.Steps.{CanDecide, IsStep, Step, decided_so, is_none, index, row_word}
 use Rattle.rh_rule.specs.Core.{Core, world_then}
 use Rattle.rh_rule.specs.Represents.{word_at}
@@ -54,11 +54,11 @@ no_success e (failed f by) ne is = absurd cc
 module _ (w : World) (z : Shape) (words : List ℕ) (keep : ℕ → View) (who : ℕ) (shape : IsShape z) (core : Core w z words keep) (mine : who < z.workers) where
   decide_leaves : (d : Ref) (k : Control) (word : ℕ) → word ≡ word_at z words (part.Control d.worker) → CanDecide z (keep who) d k → (IsSuccess (Step.decides d k) word → ⊥)
       → left (world_then z w who (keep who) (Step.decides d k)) ≡ left w
-  decide_leaves d k word found can none = either (eqb (word_at z words (part.Control d.worker)) (number_of d.number undecided)) refl
+  decide_leaves d k word found can none = either (eqb (word_at z words (part.Control d.worker)) (control_word_of d.number undecided)) refl
     where
-      either : (b : Bool) → eqb (word_at z words (part.Control d.worker)) (number_of d.number undecided) ≡ b → left (world_then z w who (keep who) (Step.decides d k)) ≡ left w
+      either : (b : Bool) → eqb (word_at z words (part.Control d.worker)) (control_word_of d.number undecided) ≡ b → left (world_then z w who (keep who) (Step.decides d k)) ≡ left w
       either true e = decided_leaves w d (w.control d) (decided_so z (keep who) d k)
-          (no_success (row_word (keep who).written (reason_row z d.worker)) k (λ is. none (found ∙ eqb_yes (word_at z words (part.Control d.worker)) (number_of d.number undecided) e, is)))
+          (no_success (row_word (keep who).written (reason_row z d.worker)) k (λ is. none (found ∙ eqb_yes (word_at z words (part.Control d.worker)) (control_word_of d.number undecided) e, is)))
       either false e = ap left (decided_before w d (w.control d) (decided_so z (keep who) d k) (closed z shape words keep w core.side core.rule core.represents who mine d k can e))
 
   step_leaves : (s : Step) (word : ℕ) → word ≡ slice_index words (index z (keep who) s) → IsStep z (keep who) s → (IsSuccess s word → ⊥) → left (world_then z w who (keep who) s) ≡ left w

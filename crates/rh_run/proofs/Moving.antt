@@ -8,13 +8,13 @@ use Rattle.rh_acts.specs.Act.{apply_acts}
 use Rattle.rh_acts.specs.Workers.{LeavesRoom, acts_of}
 use Rattle.rh_run.specs.History.{history}
 use Rattle.rh_run.specs.Laws.{started}
-use Rattle.rh_run.specs.Moves.{AreNext, IsNext, KeepsKeys, Move, NoKeyIsLost, after, after_all}
+use Rattle.rh_run.specs.Moves.{AreNext, MayCome, KeepsKeys, Move, NoKeyIsLost, after, after_all}
 use Rattle.rh_run.specs.Run.{Run, RunInvariant}
 use Rattle.rh_run.proofs.Standing.{run_moment}
 use Rattle.rh_run.proofs.Stepping.{run_claims, run_steps}
 use Rattle.rh_run.proofs.Turning.{run_rounds, run_starts}
 
-goes_on : (r : Run) (m : Move) → IsShape r.shape → 0 < r.shape.workers → IsNext r m → RunInvariant r → RunInvariant (after r m)
+goes_on : (r : Run) (m : Move) → IsShape r.shape → 0 < r.shape.workers → MayCome r m → RunInvariant r → RunInvariant (after r m)
 goes_on r (Move.steps who k s word then next answer) shape some it run = run_steps r who s word then next k answer shape it.within it.allowed it.made it.own_key it.advances run
 goes_on r (Move.claims who word then next) shape some it run = run_claims r who word then next shape it.within it.allowed it.made run
 goes_on r (Move.round then cells) shape some it run = run_rounds r then cells shape some it.rest it.cells_are it.wiped run

@@ -10,7 +10,7 @@ use Rattle.rh_world.specs.Rows.{ByDebt, ByPlacer}
 use Rattle.rh_world.specs.Rule.{Rule}
 use Rattle.rh_world.specs.Sides.{Side}
 use Rattle.rh_world.specs.Acts.{cells_after, is_success}
-use Rattle.rh_world.specs.Logical.{EntryStandsFor, StandsFor as StandsInWorld, entry_value}
+use Rattle.rh_world.specs.Logical.{EntryStandsFor, WordStandsFor as StandsInWorld, entry_value}
 use Rattle.rh_world.proofs.ActsKept.{one_entry}
 use Rattle.rh_world.proofs.OwnList.{success_yes}
 use Rattle.rh_world.proofs.Updated.{same_nat}
@@ -18,7 +18,7 @@ use Rattle.rh_descriptor.specs.declared.shape.Shape.{Shape}
 use Rattle.rh_descriptor.specs.declared.shape.Part.TheVariants as part
 use Rattle.rh_descriptor.specs.Parts.{IsShape, cell_count}
 use Rattle.rh_descriptor.specs.View.{OwnDesc, View, own_ref}
-use Rattle.rh_descriptor.specs.Words.{cell_in, number_of, read_control, serial_in, without_entry}
+use Rattle.rh_descriptor.specs.Words.{cell_in, control_word_of, read_control, serial_in, without_entry}
 use Rattle.rh_rule.specs.Represents.{DescRow, HasItsRow, IsCell, Represents, word_at}
 use Rattle.rh_rule.specs.Core.{Core}
 use Rattle.rh_rule.specs.Rest.{is_noted_success}
@@ -28,7 +28,7 @@ use Rattle.rh_rule.proofs.Said.{cell_said_is, control_said_is, serial_said_is}
 use Rattle.rh_rule.proofs.Telling.{in_noted, noted_in, same_bool, tells}
 use Rattle.rh_run.specs.Known.{KnowsHeld, NotesOld}
 use Rattle.rh_run.specs.Laws.{LogicalWords, WordsLeadInside, WordsStand}
-use Rattle.rh_run.specs.Words.{StaleStandsFor, Holds, IsLogicalWord, LeadsInside, MarkIsFor, MarkStandsFor, RowStandsFor, StandsFor, entry_for, has_succeeded, value_in}
+use Rattle.rh_run.specs.Words.{StaleStandsFor, HoldsCell, IsLogicalWord, LeadsInside, MarkIsFor, MarkStandsFor, RowStandsFor, WordStandsFor, entry_for, has_succeeded, value_in}
 
 counts_new : (k : Control) (old new : ℕ) → cond (is_success k) new old ≡ entry_value k old new
 counts_new unused old new = refl
@@ -86,7 +86,7 @@ module _ (w : World) (z : Shape) (words : List ℕ) (keep : ℕ → View) (shape
 
   said_succeeded : (d : Ref) → IsOpened (w.control d) → has_succeeded z words d ≡ true → w.control d ≡ succeeded
   said_succeeded d opened is =
-      let word : word_at z words (part.Control d.worker) ≡ number_of d.number succeeded = eqb-true (word_at z words (part.Control d.worker)) (number_of d.number succeeded) is in
+      let word : word_at z words (part.Control d.worker) ≡ control_word_of d.number succeeded = eqb-true (word_at z words (part.Control d.worker)) (control_word_of d.number succeeded) is in
       told_succeeded (w.control d) (
       sym (reads_desc_control z shape words keep w side rule m d.worker (worker_of d opened) d (worker_of d opened) (ap serial_in word ∙ serial_said_is d.number succeeded tt))
       ∙ ap read_control word
@@ -94,8 +94,8 @@ module _ (w : World) (z : Shape) (words : List ℕ) (keep : ℕ → View) (shape
 
   newest_succeeded : (d : Ref) → d.worker < z.workers → suc d.number ≡ w.next_number d.worker → w.control d ≡ succeeded → has_succeeded z words d ≡ true
   newest_succeeded d mine newest is =
-      eq-eqb (word_at z words (part.Control d.worker)) (number_of d.number succeeded)
-      ((newest_word z shape words keep w side rule m d.worker mine d mine newest).0 ∙ ap (number_of d.number) is)
+      eq-eqb (word_at z words (part.Control d.worker)) (control_word_of d.number succeeded)
+      ((newest_word z shape words keep w side rule m d.worker mine d mine newest).0 ∙ ap (control_word_of d.number) is)
 
   -- of one that stands in a cell the control word always tells it
   standing_succeeded : (c : ℕ) (d : Ref) → w.cell c ≡ desc d → IsOpened (w.control d) → has_succeeded z words d ≡ is_success (w.control d)
@@ -198,7 +198,7 @@ module _ (w : World) (z : Shape) (words : List ℕ) (keep : ℕ → View) (shape
 
   -- ---- a cell
 
-  says : (c v word : ℕ) (k : Cell) → w.cell c ≡ k → StandsInWorld w c k v → StandsFor z words keep c k word → word ≡ v
+  says : (c v word : ℕ) (k : Cell) → w.cell c ≡ k → StandsInWorld w c k v → WordStandsFor z words keep c k word → word ≡ v
   says c v word (plain u) e so is = sym is ∙ so
   says c v word (mark x) e so is = sym (mark_says c x word e is) ∙ so
   says c v word (desc d) e so is = ⊎_elim (row_says c d e v so word) (stale_says c d e v so word) is
@@ -208,7 +208,7 @@ module _ (w : World) (z : Shape) (words : List ℕ) (keep : ℕ → View) (shape
 
   pub words_say : (c word : ℕ) → c < cell_count z → IsLogicalWord z words keep c word → word ≡ cells_after w w.act_count c
   words_say c word inside is = says c (cells_after w w.act_count c) word (w.cell c) refl ((tells w z words keep core).order.now c)
-      (subst (λ (k : Cell). StandsFor z words keep c k word) (cell_is c inside) is)
+      (subst (λ (k : Cell). WordStandsFor z words keep c k word) (cell_is c inside) is)
 
   -- ---- who holds what stands in a cell
 
@@ -224,19 +224,19 @@ module _ (w : World) (z : Shape) (words : List ℕ) (keep : ℕ → View) (shape
         },
       )
 
-  placer_holds : (d : Ref) (e c : ℕ) → w.target d e ≡ c → ByPlacer w side d e → (v : ℕ) × (v < z.workers) × Holds (keep v).side v d c
+  placer_holds : (d : Ref) (e c : ℕ) → w.target d e ≡ c → ByPlacer w side d e → (v : ℕ) × (v < z.workers) × HoldsCell (keep v).side v d c
   placer_holds d e c here by =
       let x = by.who in
       let is = mark_is_for x c by.unsettled ((λ i. w.target (by.mark_desc i) (by.mark_entry i)) ∙ here) in
       (x.worker, is.0, inr (x.number, subst (λ (f : Ref). MarkIsFor (keep x.worker).side x f c) by.mark_desc is.1))
 
-  debtor_holds : (d : Ref) (c : ℕ) → ByDebt side d c → (v : ℕ) × (v < z.workers) × Holds (keep v).side v d c
+  debtor_holds : (d : Ref) (c : ℕ) → ByDebt side d c → (v : ℕ) × (v < z.workers) × HoldsCell (keep v).side v d c
   debtor_holds d c by = ⊎_elim
       (λ (mine : by.who < z.workers). (by.who, mine, inl (subst (λ (s : Side). In record { desc = d; cell = c } s.debts) (sym (m.kept by.who mine).side_is) by.debt)))
       (λ past. absurd (subst (λ (s : Side). In record { desc = d; cell = c } s.debts) (m.beyond by.who (omega (arith, past))) by.debt))
       (cases_lt by.who z.workers)
 
-  holder : (c : ℕ) (d : Ref) → w.cell c ≡ desc d → (HasItsRow z words d → ⊥) → (v : ℕ) × (v < z.workers) × Holds (keep v).side v d c
+  holder : (c : ℕ) (d : Ref) → w.cell c ≡ desc d → (HasItsRow z words d → ⊥) → (v : ℕ) × (v < z.workers) × HoldsCell (keep v).side v d c
   holder c d stands gone =
       let is = rule.rows.descs c d stands in
       ⊎_elim (λ owner. absurd (row_stale z shape words keep w side rule m d.worker (worker_of d is.opened) d is.opened gone owner.current))
@@ -274,7 +274,7 @@ module _ (w : World) (z : Shape) (words : List ℕ) (keep : ℕ → View) (shape
           },
         )
 
-    held_old : (v : ℕ) → v < z.workers → (d : Ref) (c : ℕ) → Holds (keep v).side v d c → (word : ℕ) × NotesOld (keep v).side d c word
+    held_old : (v : ℕ) → v < z.workers → (d : Ref) (c : ℕ) → HoldsCell (keep v).side v d c → (word : ℕ) × NotesOld (keep v).side d c word
     held_old v mine d c holds = ⊎_elim
         (λ debt.
         let known = (knows v mine).debts d c debt in (
@@ -290,7 +290,7 @@ module _ (w : World) (z : Shape) (words : List ℕ) (keep : ℕ → View) (shape
         ))
         holds
 
-    desc_stands : (c : ℕ) (d : Ref) → w.cell c ≡ desc d → (word : ℕ) × StandsFor z words keep c (desc d) word
+    desc_stands : (c : ℕ) (d : Ref) → w.cell c ≡ desc d → (word : ℕ) × WordStandsFor z words keep c (desc d) word
     desc_stands c d stands = ⊎_elim
         (λ (has : HasItsRow z words d). (entry_for z words d c (word_at z words (part.Length d.worker)), inl record { row = has; value = refl }))
         (λ (gone : HasItsRow z words d → ⊥).
@@ -299,7 +299,7 @@ module _ (w : World) (z : Shape) (words : List ℕ) (keep : ℕ → View) (shape
         (old.0, inr record { gone = gone; worker = by.0; within = by.1; old = old.1 }))
         (same_nat (word_at z words (part.Serial d.worker)) d.number)
 
-    stands_for : (c : ℕ) (k : Cell) → w.cell c ≡ k → (word : ℕ) × StandsFor z words keep c k word
+    stands_for : (c : ℕ) (k : Cell) → w.cell c ≡ k → (word : ℕ) × WordStandsFor z words keep c k word
     stands_for c (plain u) e = (u, refl)
     stands_for c (mark x) e = mark_stands c x e
     stands_for c (desc d) e = desc_stands c d e
@@ -307,7 +307,7 @@ module _ (w : World) (z : Shape) (words : List ℕ) (keep : ℕ → View) (shape
     pub words_tell : (c : ℕ) → c < cell_count z → (word : ℕ) × IsLogicalWord z words keep c word
     words_tell c inside =
         let is = stands_for c (w.cell c) refl in
-        (is.0, subst (λ (k : Cell). StandsFor z words keep c k is.0) (sym (cell_is c inside)) is.1)
+        (is.0, subst (λ (k : Cell). WordStandsFor z words keep c k is.0) (sym (cell_is c inside)) is.1)
 
 pub words_lead_inside : WordsLeadInside
 words_lead_inside w z words keep c shape core inside = words_lead w z words keep shape core c inside

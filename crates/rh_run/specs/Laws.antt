@@ -13,7 +13,7 @@ use Rattle.rh_world.specs.Acts.{cells_after}
 use Rattle.rh_descriptor.specs.declared.shape.Shape.{Shape}
 use Rattle.rh_descriptor.specs.Parts.{IsShape, cell_count}
 use Rattle.rh_descriptor.specs.View.{View, new_view, round_view}
-use Rattle.rh_descriptor.specs.Words.{cell_in, number_of}
+use Rattle.rh_descriptor.specs.Words.{cell_in, control_word_of}
 use Rattle.rh_descriptor.specs.Steps.{Allowed, Step, StepsTo, noted}
 use Rattle.rh_rule.specs.Core.{Core}
 use Rattle.rh_rule.specs.Rest.{AllRest}
@@ -156,7 +156,7 @@ IsSuccess (Step.opens size) word = ⊥
 IsSuccess (Step.reads r) word = ⊥
 IsSuccess (Step.places d e c old) word = ⊥
 IsSuccess (Step.settles x c d e old) word = ⊥
-IsSuccess (Step.decides d k) word = (word ≡ number_of d.number undecided) × (k ≡ succeeded)
+IsSuccess (Step.decides d k) word = (word ≡ control_word_of d.number undecided) × (k ≡ succeeded)
 IsSuccess (Step.releases d e c k value) word = ⊥
 IsSuccess Step.claims word = ⊥
 

@@ -30,7 +30,7 @@ after r (Move.claims who word then next) = stepped r then who next
 after r (Move.round then cells) = record r { words = then; keep = λ v. round_view cells (r.keep v) }
 
 -- A worker of the table makes a step that is allowed to it, for its own descriptor or for another's, at one of its keys.
-pub record IsStep (r : Run) (who k : ℕ) (s : Step) (word : ℕ) (then : List ℕ) (next : View) (answer : Option Bool) : Type 0 where
+pub record IsRunStep (r : Run) (who k : ℕ) (s : Step) (word : ℕ) (then : List ℕ) (next : View) (answer : Option Bool) : Type 0 where
   pub within : who < r.shape.workers
   pub allowed : Allowed r.shape (r.keep who) s
   pub made : StepsTo r.shape s r.words (r.keep who) word then next
@@ -50,10 +50,10 @@ pub record IsRound (r : Run) (then cells : List ℕ) : Type 0 where
   pub wiped : IsWiped r.shape r.words then
 
 -- it may come next
-abbrev pub IsNext : Run → Move → Type 0
-IsNext r (Move.steps who k s word then next answer) = IsStep r who k s word then next answer
-IsNext r (Move.claims who word then next) = IsClaim r who word then next
-IsNext r (Move.round then cells) = IsRound r then cells
+abbrev pub MayCome : Run → Move → Type 0
+MayCome r (Move.steps who k s word then next answer) = IsRunStep r who k s word then next answer
+MayCome r (Move.claims who word then next) = IsClaim r who word then next
+MayCome r (Move.round then cells) = IsRound r then cells
 
 -- the run after all of them
 abbrev pub after_all : Run → List Move → Run
@@ -63,7 +63,7 @@ after_all r (m ∷ moves) = after_all (after r m) moves
 -- each may come next where it comes
 abbrev pub AreNext : Run → List Move → Type 0
 AreNext r [] = Unit {0}
-AreNext r (m ∷ moves) = IsNext r m × AreNext (after r m) moves
+AreNext r (m ∷ moves) = MayCome r m × AreNext (after r m) moves
 
 -- ---- what they keep
 

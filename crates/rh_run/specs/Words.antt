@@ -10,7 +10,7 @@ use Rattle.rh_descriptor.specs.declared.shape.Shape.{Shape}
 use Rattle.rh_descriptor.specs.declared.shape.Part.TheVariants as part
 use Rattle.rh_descriptor.specs.Parts.{cell_count}
 use Rattle.rh_descriptor.specs.View.{View, own_ref}
-use Rattle.rh_descriptor.specs.Words.{cell_in, number_of}
+use Rattle.rh_descriptor.specs.Words.{cell_in, control_word_of}
 use Rattle.rh_descriptor.specs.Steps.{IsDesc, IsMark}
 use Rattle.rh_rule.specs.Represents.{HasItsRow, word_at}
 use Rattle.rh_rule.specs.Rest.{is_noted_success}
@@ -23,7 +23,7 @@ use Rattle.rh_run.specs.Known.{NotesOld}
 
 -- whether the control word of its worker says that the descriptor succeeded
 abbrev pub has_succeeded : Shape → (words : List ℕ) → Ref → Bool
-has_succeeded z words d = word_at z words (part.Control d.worker) == number_of d.number succeeded
+has_succeeded z words d = word_at z words (part.Control d.worker) == control_word_of d.number succeeded
 
 -- of an entry's two values in the row of d the one that counts
 abbrev pub value_in : Shape → (words : List ℕ) → Ref → (e : ℕ) → ℕ
@@ -57,14 +57,14 @@ pub record StaleStandsFor (z : Shape) (words : List ℕ) (keep : ℕ → View) (
 -- value of its entry for the cell
 -- A cell with descriptor 0 of worker 0, whose entry takes it from 0 to 8, stands for 0 before the decision and for 8, key 1,
 -- after it.
-abbrev pub StandsFor : Shape → (words : List ℕ) → (keep : ℕ → View) → (c : ℕ) → Cell → (word : ℕ) → Type 0
-StandsFor z words keep c (plain u) word = u ≡ word
-StandsFor z words keep c (mark x) word = MarkStandsFor keep c x word
-StandsFor z words keep c (desc d) word = RowStandsFor z words c d word ⊎ StaleStandsFor z words keep c d word
+abbrev pub WordStandsFor : Shape → (words : List ℕ) → (keep : ℕ → View) → (c : ℕ) → Cell → (word : ℕ) → Type 0
+WordStandsFor z words keep c (plain u) word = u ≡ word
+WordStandsFor z words keep c (mark x) word = MarkStandsFor keep c x word
+WordStandsFor z words keep c (desc d) word = RowStandsFor z words c d word ⊎ StaleStandsFor z words keep c d word
 
 -- cell c stands for this word
 abbrev pub IsLogicalWord : Shape → (words : List ℕ) → (keep : ℕ → View) → (c word : ℕ) → Type 0
-IsLogicalWord z words keep c word = StandsFor z words keep c (cell_in (slice_index words c)) word
+IsLogicalWord z words keep c word = WordStandsFor z words keep c (cell_in (slice_index words c)) word
 
 -- each cell of the table stands for a word, and these are the values of the words
 pub record AreNow (z : Shape) (words : List ℕ) (keep : ℕ → View) (cells : List ℕ) : Type 0 where
@@ -81,8 +81,8 @@ pub record MarkIsFor (s : Side) (x d : Ref) (c : ℕ) : Type 0 where
   pub cell : (b : ℕ) → In (found x b) s.facts → b ≡ c
 
 -- a worker holds d in cell c: it owes d there, or its unsettled mark is for it
-abbrev pub Holds : Side → (who : ℕ) → (d : Ref) → (c : ℕ) → Type 0
-Holds s who d c = In (record { desc = d; cell = c }) s.debts ⊎ ((n : ℕ) × MarkIsFor s (record { worker = who; number = n }) d c)
+abbrev pub HoldsCell : Side → (who : ℕ) → (d : Ref) → (c : ℕ) → Type 0
+HoldsCell s who d c = In (record { desc = d; cell = c }) s.debts ⊎ ((n : ℕ) × MarkIsFor s (record { worker = who; number = n }) d c)
 
 -- a mark is one of the table, and its worker has not settled it
 pub record MarkLeads (z : Shape) (keep : ℕ → View) (c : ℕ) (x : Ref) : Type 0 where
@@ -94,7 +94,7 @@ pub record MarkLeads (z : Shape) (keep : ℕ → View) (c : ℕ) (x : Ref) : Typ
 pub record DescLeads (z : Shape) (words : List ℕ) (keep : ℕ → View) (c : ℕ) (d : Ref) : Type 0 where
   pub is_desc : IsDesc z d
   pub entries : HasItsRow z words d → word_at z words (part.Length d.worker) ≤ cell_count z
-  pub held : (HasItsRow z words d → ⊥) → (v : ℕ) × (v < z.workers) × Holds (keep v).side v d c
+  pub held : (HasItsRow z words d → ⊥) → (v : ℕ) × (v < z.workers) × HoldsCell (keep v).side v d c
 
 -- What stands in cell c is a plain word, or leads to a row that the table has or to a worker that holds it.
 abbrev pub LeadsInside : Shape → (words : List ℕ) → (keep : ℕ → View) → (c : ℕ) → Cell → Type 0

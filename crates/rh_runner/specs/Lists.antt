@@ -55,10 +55,10 @@ RefusedPhase n m Memory = Unit {0}
 RefusedPhase n m NoThread = Rose n m
 
 -- A fault of the keys is the one that their source told, and with any other it told none.
-abbrev pub Tells : (told told' : Option KeyFault) → ListFault → Type 0
-Tells before after (faults.Keys e) = after ≡ Some e
-Tells before after faults.Changed = after ≡ before
-Tells before after (faults.Phase e) = after ≡ before
+abbrev pub TellsKeyFault : (told told' : Option KeyFault) → ListFault → Type 0
+TellsKeyFault before after (faults.Keys e) = after ≡ Some e
+TellsKeyFault before after faults.Changed = after ≡ before
+TellsKeyFault before after (faults.Phase e) = after ≡ before
 
 -- Why a list was not gone through: a fault of its keys was to come, or its phase failed. No list is found changed.
 abbrev pub Refused : Coming → (starts starts' : ℕ) → ListFault → Type 0

@@ -9,7 +9,7 @@ ghost use Rattle.rh_layout.specs.Layout.{Keys, IsLayout, keys_of};
 ghost use Rattle.rh_ledger.specs.Phase.{looked_up};
 ghost use Rattle.rh_ledger.specs.declared.tally.Kind.TheVariants.{Insert, Remove};
 ghost use Rattle.rh_runner.specs.Lists.{Took, Ran, Refused, RefusedBatch, RefusedFor, by_choice};
-ghost use Rattle.rh_runner.specs.Lists.{Tells, is_chosen, chosen};
+ghost use Rattle.rh_runner.specs.Lists.{TellsKeyFault, is_chosen, chosen};
 ghost use Rattle.rh_runner.specs.declared.choice.Chosen.TheVariants.{Absent};
 
 use crate::choice::{Choice, Chosen, Scratch};
@@ -68,7 +68,7 @@ pub fn count_chosen<T: Threads + Wait + Sync, N: Runner, K: KeySource>(
         × (many ≡ length (chosen which set.now.keys list))) }
     ensures refused { IfErr result (Refused (K.coming keys.old)
         (N.refused_starts runner.old) (N.refused_starts runner.new)) }
-    ensures told { IfErr result (Tells (K.told_by keys.old) (K.told_by keys.new)) }
+    ensures told { IfErr result (TellsKeyFault (K.told_by keys.old) (K.told_by keys.new)) }
     ensures fine { OnOk result (N.refused_starts runner.new ≡ N.refused_starts runner.old) }
     ensures others { IfErr result (λ fault. fault ≢ ListFault.Phase PhaseFault.NoThread →
         N.refused_starts runner.new ≡ N.refused_starts runner.old) }
@@ -141,7 +141,7 @@ pub fn insert_chosen<T: Threads + Wait + Sync, N: Runner, K: KeySource>(
         scratch.new.cells.items t) }
     ensures refused { IfErr result (RefusedFor (K.coming keys.old) choice.now
         (N.refused_starts runner.old) (N.refused_starts runner.new)) }
-    ensures told { IfErr result (Tells (K.told_by keys.old) (K.told_by keys.new)) }
+    ensures told { IfErr result (TellsKeyFault (K.told_by keys.old) (K.told_by keys.new)) }
     ensures fine { OnOk result (N.refused_starts runner.new ≡ N.refused_starts runner.old) }
     ensures others { IfErr result (λ fault. fault ≢ ListFault.Phase PhaseFault.NoThread →
         N.refused_starts runner.new ≡ N.refused_starts runner.old) }
@@ -190,7 +190,7 @@ pub fn remove_and_count_absent<T: Threads + Wait + Sync, N: Runner, K: KeySource
         × (r.absent ≡ length (chosen Absent set.now.keys list))) }
     ensures refused { IfErr result (Refused (K.coming keys.old)
         (N.refused_starts runner.old) (N.refused_starts runner.new)) }
-    ensures told { IfErr result (Tells (K.told_by keys.old) (K.told_by keys.new)) }
+    ensures told { IfErr result (TellsKeyFault (K.told_by keys.old) (K.told_by keys.new)) }
     ensures fine { OnOk result (N.refused_starts runner.new ≡ N.refused_starts runner.old) }
     ensures others { IfErr result (λ fault. fault ≢ ListFault.Phase PhaseFault.NoThread →
         N.refused_starts runner.new ≡ N.refused_starts runner.old) }

@@ -5,7 +5,7 @@ ghost use Rattle.std.specs.FinSet as set;
 ghost use Rattle.rh_layout.specs.Layout.{IsLayout, keys_of};
 ghost use Rattle.rh_key_files.specs.Source.{FaultComes};
 ghost use Rattle.rh_ledger.specs.Phase.{looked_up};
-ghost use Rattle.rh_runner.specs.Lists.{Took, Ran, Refused, Tells, may_add};
+ghost use Rattle.rh_runner.specs.Lists.{Took, Ran, Refused, TellsKeyFault, may_add};
 
 use crate::choice::Scratch;
 use crate::fault::ListFault;
@@ -68,7 +68,7 @@ pub fn change_all<T: Threads + Wait + Sync, N: Runner, K: KeySource>(
         × Ran kind scratch.old.bits list scratch.old.cells.items scratch.new.cells.items t) }
     ensures refused { IfErr result (Refused (K.coming keys.old)
         (N.refused_starts runner.old) (N.refused_starts runner.new)) }
-    ensures told { IfErr result (Tells (K.told_by keys.old) (K.told_by keys.new)) }
+    ensures told { IfErr result (TellsKeyFault (K.told_by keys.old) (K.told_by keys.new)) }
     ensures fine { OnOk result (N.refused_starts runner.new ≡ N.refused_starts runner.old) }
     ensures others { IfErr result (λ fault. fault ≢ ListFault.Phase PhaseFault.NoThread →
         N.refused_starts runner.new ≡ N.refused_starts runner.old) }
@@ -105,7 +105,7 @@ pub fn ask_all<T: Threads + Wait + Sync, N: Runner, K: KeySource>(
         × (found.items ≡ looked_up (keys_of cells.now) list)) }
     ensures refused { IfErr result (Refused (K.coming keys.old)
         (N.refused_starts runner.old) (N.refused_starts runner.new)) }
-    ensures told { IfErr result (Tells (K.told_by keys.old) (K.told_by keys.new)) }
+    ensures told { IfErr result (TellsKeyFault (K.told_by keys.old) (K.told_by keys.new)) }
     ensures fine { OnOk result (N.refused_starts runner.new ≡ N.refused_starts runner.old) }
     ensures others { IfErr result (λ fault. fault ≢ ListFault.Phase PhaseFault.NoThread →
         N.refused_starts runner.new ≡ N.refused_starts runner.old) }

@@ -25,9 +25,9 @@ use Rattle.rh_operations.specs.declared.key_lists.Source.TheVariants.{Path, Memo
 use Rattle.rh_operations.specs.Operations.{IsSnapshotOf}
 use Rattle.rh_operations.specs.Found.{keys_found, table_found}
 use Rattle.rh_script_run.specs.Files.{Bytes, File, FileMap, HasFiles, IsFile, Sealed, with_snapshot}
-use Rattle.rh_operations.specs.KeyLists.{Stands, bytes_at as bytes_in, path_of, paths_of}
+use Rattle.rh_operations.specs.KeyLists.{Stands, source_bytes as bytes_in, path_of, paths_of}
 use Rattle.rh_operations.specs.Found.{keys_or_cause, table_or_cause}
-use Rattle.rh_script_run.specs.Meaning.{keys_in, table_in}
+use Rattle.rh_script_run.specs.Meaning.{keys_at_path, table_at}
 use Rattle.rh_script_run.specs.Steps.{ListsStand, Named}
 
 -- ---- before the first command
@@ -50,12 +50,12 @@ unfolding file_keys header_at version_at
 not_keys bits cells =
     ap (λ four. source.keys_in (((four >>= named) >>= after_version) >>= after_header)) (four_read 82 72 83 50 _ refl)
 
-found_keys : (file : Option File) (found : Option (List ℕ)) → IsFile file found → keys_found found ≡ keys_in file
+found_keys : (file : Option File) (found : Option (List ℕ)) → IsFile file found → keys_found found ≡ keys_at_path file
 found_keys None found is = ap keys_found is
 found_keys (Some (Bytes bytes)) found is = ap keys_found is
 found_keys (Some (Sealed table)) found is = ap keys_found is.3 ∙ ap keys_or_cause (not_keys table.bits is.0)
 
-found_table : (file : Option File) (found : Option (List ℕ)) → IsFile file found → table_found found ≡ table_in file
+found_table : (file : Option File) (found : Option (List ℕ)) → IsFile file found → table_found found ≡ table_at file
 found_table None found is = ap table_found is
 found_table (Some (Bytes bytes)) found is = ap table_found is
 found_table (Some (Sealed table)) found is =
@@ -75,10 +75,10 @@ module _ (files : FileMap) (before : Option Files) (now : Files) (known : before
   its_file : IsFile (files path) (now path)
   its_file = (subst (HasFiles files) known has) path
 
-  pub same_keys : keys_found (now path) ≡ keys_in (files path)
+  pub same_keys : keys_found (now path) ≡ keys_at_path (files path)
   same_keys = found_keys (files path) (now path) its_file
 
-  pub same_table : table_found (now path) ≡ table_in (files path)
+  pub same_table : table_found (now path) ≡ table_at (files path)
   same_table = found_table (files path) (now path) its_file
 
 -- ---- a snapshot that was put

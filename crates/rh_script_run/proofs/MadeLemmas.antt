@@ -5,7 +5,7 @@ use Rattle.rh_report.specs.Account.{Account}
 use Rattle.rh_operations.specs.declared.cause.Cause.{Cause}
 use Rattle.rh_operations.specs.Sequence.{◌>>=◌}
 use Rattle.rh_script_run.specs.declared.fault.RunFault.{RunFault}
-use Rattle.rh_script_run.specs.Meaning.{Outcome, ScriptState, at_line, meaning, outcome_of}
+use Rattle.rh_script_run.specs.Meaning.{Outcome, ScriptState, outcome_at, meaning, outcome_of}
 use Rattle.rh_script_run.proofs.RunLemmas.{Course, reached_in, then_ok}
 
 -- what the steps make up to the first that is refused, and their accounts
@@ -20,7 +20,7 @@ unfoldable pub made_by : ScriptState → List Numbered → Made
 made_by w [] = (w, [])
 made_by w (step ∷ steps) = made_further w (outcome_of w step.instruction) (λ v. made_by v steps)
 
-line_ok : (line : ℕ) (outcome : Outcome) (done : ScriptState × Account) → at_line line outcome ≡ Ok done → outcome ≡ Ok done
+line_ok : (line : ℕ) (outcome : Outcome) (done : ScriptState × Account) → outcome_at line outcome ≡ Ok done → outcome ≡ Ok done
 line_ok line (Ok done') done is = ap (λ (r : Result (ScriptState × Account) RunFault). unline r) is
   where
     unline : Result (ScriptState × Account) RunFault → Outcome
@@ -35,7 +35,7 @@ made_on w [] after x means =
     let here : (w, []) ≡ x = ap (reached_in (w, [])) means in
     ap (λ (y : Made). ((made_by y.0 after).0, y.1 ++ (made_by y.0 after).1)) here
 made_on w (s ∷ before) after x means =
-    let first = then_ok (at_line s.line (outcome_of w s.instruction)) _ x means in
+    let first = then_ok (outcome_at s.line (outcome_of w s.instruction)) _ x means in
     let rest = then_ok (meaning first.0.0 before) _ x first.2 in
     let here : (rest.0.0, first.0.1 ∷ rest.0.1) ≡ x = ap (reached_in x) rest.2 in
     ap (λ o. made_further w o (λ v. made_by v (before ++ after))) (line_ok s.line _ first.0 first.1)
@@ -67,9 +67,9 @@ module _ (step : Numbered) (after : List Numbered) where
     refused_at w [] x means refused =
         let here : (w, []) ≡ x = ap (reached_in (w, [])) means in
         let there : outcome_of w step.instruction ≡ Err cause = ap (λ (y : Made). outcome_of y.0 step.instruction) here ∙ refused in
-        ap (λ o. at_line step.line o >>= (λ d. meaning d.0 after >>= (λ others. Ok (others.0, d.1 ∷ others.1)))) there
+        ap (λ o. outcome_at step.line o >>= (λ d. meaning d.0 after >>= (λ others. Ok (others.0, d.1 ∷ others.1)))) there
     refused_at w (s ∷ before) x means refused =
-        let first = then_ok (at_line s.line (outcome_of w s.instruction)) _ x means in
+        let first = then_ok (outcome_at s.line (outcome_of w s.instruction)) _ x means in
         let rest = then_ok (meaning first.0.0 before) _ x first.2 in
         let here : (rest.0.0, first.0.1 ∷ rest.0.1) ≡ x = ap (reached_in x) rest.2 in
         let there : Refused rest.0 = ap (λ (y : Made). outcome_of y.0 step.instruction) here ∙ refused in

@@ -23,7 +23,7 @@ use Rattle.rh_script_run.specs.Agree.{AllReadWhere, AppendSame, EndsByItself, Is
 use Rattle.rh_script_run.specs.Ends.{Ends, SaysAll}
 use Rattle.rh_script_run.specs.Environment.{Environment}
 use Rattle.rh_script_run.specs.Files.{Bytes, FileMap, HasFiles, IsFile, Sealed, given_files, with_snapshot}
-use Rattle.rh_script_run.specs.Meaning.{Outcome, ScriptState, at_line, keys_in, list_of, meaning, named, outcome_of, start, table_in, table_of}
+use Rattle.rh_script_run.specs.Meaning.{Outcome, ScriptState, outcome_at, keys_at_path, list_of, meaning, with_list, outcome_of, start, table_at, held_table}
 use Rattle.rh_script_run.proofs.RunLemmas.{Course}
 use Rattle.rh_script_run.proofs.UniqueLemmas.{one_found, one_text_of_all}
 use Rattle.rh_script_run.proofs.MadeLemmas.{Made, made_by, made_further}
@@ -62,10 +62,10 @@ module _ (P : List ℕ → Type 0) where
     outcome_same : (said : Instruction) → ReadsWhere P said → SameOutcome (outcome_of w said) (outcome_of (with_files w g) said)
     unfolding outcome_of
     outcome_same (Use name path) reads =
-        then_same (keys_in (w.files path)) (keys_in (g path))
-        (λ x. Ok (named w name x, accounts.Used name (length x)))
-        (λ x. Ok (named (with_files w g) name x, accounts.Used name (length x)))
-        (ap keys_in (same path reads)) (λ x. (g, refl, same))
+        then_same (keys_at_path (w.files path)) (keys_at_path (g path))
+        (λ x. Ok (with_list w name x, accounts.Used name (length x)))
+        (λ x. Ok (with_list (with_files w g) name x, accounts.Used name (length x)))
+        (ap keys_at_path (same path reads)) (λ x. (g, refl, same))
     outcome_same (Add name) reads =
         sized_same (size_for w.bits (set.len w.held + length (list_of name w.lists))) (set_after Insert w.held (list_of name w.lists))
         (λ x. accounts.Added name (length (list_of name w.lists)) (tally_of Insert w.held (list_of name w.lists)).added (set.len (set_after Insert w.held (list_of name w.lists))) x)
@@ -81,12 +81,12 @@ module _ (P : List ℕ → Type 0) where
     outcome_same Clear reads = (g, refl, same)
     outcome_same Dump reads = (g, refl, same)
     outcome_same (Snapshot path) reads =
-        (with_snapshot g path (table_of w), refl, λ other has. ap (λ f. cond (bytes_eq path other) (Some (Sealed (table_of w))) f) (same other has))
+        (with_snapshot g path (held_table w), refl, λ other has. ap (λ f. cond (bytes_eq path other) (Some (Sealed (held_table w))) f) (same other has))
     outcome_same (Restore path) reads =
-        then_same (table_in (w.files path)) (table_in (g path))
+        then_same (table_at (w.files path)) (table_at (g path))
         (λ x. Ok (restored w x, accounts.Restored path (set.len x.keys) x.bits))
         (λ x. Ok (restored (with_files w g) x, accounts.Restored path (set.len x.keys) x.bits))
-        (ap table_in (same path reads)) (λ x. (g, refl, same))
+        (ap table_at (same path reads)) (λ x. (g, refl, same))
 
   -- the other run has other files, and these at most elsewhere
   abbrev SameMade : (made other : Made) → Type 0
@@ -111,14 +111,14 @@ module _ (P : List ℕ → Type 0) where
   result_one all account (Err fault) = refl
 
   result_on_same : (all : List Numbered) (line : ℕ) (o o' : Outcome) (later : ScriptState → Course) → SameOutcome o o' → ((v : ScriptState) (h : FileMap) → Same v.files h → result_of all (later v) ≡ result_of all (later (with_files v h)))
-      → result_of all (at_line line o >>= (λ done. later done.0 >>= (λ rest. Ok (rest.0, done.1 ∷ rest.1)))) ≡ result_of all (at_line line o' >>= (λ done. later done.0 >>= (λ rest. Ok (rest.0, done.1 ∷ rest.1))))
+      → result_of all (outcome_at line o >>= (λ done. later done.0 >>= (λ rest. Ok (rest.0, done.1 ∷ rest.1)))) ≡ result_of all (outcome_at line o' >>= (λ done. later done.0 >>= (λ rest. Ok (rest.0, done.1 ∷ rest.1))))
   result_on_same all line (Ok done) o' later its rest =
       result_one all done.1 (later done.0)
       ∙ rest done.0 its.0 its.2
       ∙ sym (result_one all done.1 (later (with_files done.0 its.0)))
-      ∙ ap (λ (o : Outcome). result_of all (at_line line o >>= (λ d. later d.0 >>= (λ others. Ok (others.0, d.1 ∷ others.1))))) its.1
+      ∙ ap (λ (o : Outcome). result_of all (outcome_at line o >>= (λ d. later d.0 >>= (λ others. Ok (others.0, d.1 ∷ others.1))))) its.1
   result_on_same all line (Err cause) o' later its rest =
-      ap (λ (o : Outcome). result_of all (at_line line o >>= (λ d. later d.0 >>= (λ others. Ok (others.0, d.1 ∷ others.1))))) its
+      ap (λ (o : Outcome). result_of all (outcome_at line o >>= (λ d. later d.0 >>= (λ others. Ok (others.0, d.1 ∷ others.1))))) its
 
   result_same : (all steps : List Numbered) (w : ScriptState) (g : FileMap) → Same w.files g → AllReadWhere P steps → result_of all (meaning w steps) ≡ result_of all (meaning (with_files w g) steps)
   unfolding meaning

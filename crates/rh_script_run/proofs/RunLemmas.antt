@@ -24,7 +24,7 @@ use Rattle.rh_script_run.specs.Files.{HasFiles, given_files}
 use Rattle.rh_operations.specs.KeyLists.{paths_of}
 use Rattle.rh_operations.specs.Sequence.{◌>>=◌}
 use Rattle.rh_operations.specs.Size.{size_for}
-use Rattle.rh_script_run.specs.Meaning.{ScriptState, Outcome, at_line, keys_in, meaning, outcome_of, start, table_in}
+use Rattle.rh_script_run.specs.Meaning.{ScriptState, Outcome, outcome_at, keys_at_path, meaning, outcome_of, start, table_at}
 use Rattle.rh_script_run.specs.Environment.{Environment}
 use Rattle.rh_script_run.specs.Ends.{Done, EndsBy, LeavesFiles, SaysAll, Stopped, step_in}
 use Rattle.rh_script_run.specs.Steps.{HasList, IsApart, ListsStand, Named, StepDone, names_of, world_of}
@@ -55,7 +55,7 @@ names_push (n ∷ named) name keys = ap (λ l. n.0 ∷ l) (names_push named name
 names_after : (w : ScriptState) (said : Instruction) (done : ScriptState × Account) → outcome_of w said ≡ Ok done → names_of done.0.lists ≡ names_of w.lists ++ given_by said
 unfolding outcome_of
 names_after w (Use name path) done is =
-    let s = then_ok (keys_in (w.files path)) _ done is in
+    let s = then_ok (keys_at_path (w.files path)) _ done is in
     ap (λ (o : Outcome). names_of (lists_of o)) (sym s.2) ∙ names_push w.lists name s.0
 names_after w (Add name) done is = let s = then_ok (size_for _ _) _ done is in same_names w _ done _ s.2 refl
 names_after w (Drop name) done is = same_names w _ done _ is refl
@@ -66,7 +66,7 @@ names_after w (Save name) done is = ap (λ (o : Outcome). names_of (lists_of o))
 names_after w Clear done is = same_names w _ done _ is refl
 names_after w Dump done is = same_names w w done _ is refl
 names_after w (Snapshot path) done is = same_names w _ done _ is refl
-names_after w (Restore path) done is = let s = then_ok (table_in (w.files path)) _ done is in same_names w _ done _ s.2 refl
+names_after w (Restore path) done is = let s = then_ok (table_at (w.files path)) _ done is in same_names w _ done _ s.2 refl
 
 -- ---- one step more
 
@@ -82,9 +82,9 @@ unfolding meaning
 meaning_more w [] step v accounts done means is =
     let here : (w, []) ≡ (v, accounts) = ap (reached_in (w, [])) means in
     let there : outcome_of w step.instruction ≡ Ok done = ap (λ (x : ScriptState × List Account). outcome_of x.0 step.instruction) here ∙ is in
-    ap (λ o. at_line step.line o >>= (λ d. Ok (d.0, d.1 ∷ []))) there ∙ ap (λ (x : ScriptState × List Account). Ok (done.0, x.1 ++ done.1 ∷ [])) here
+    ap (λ o. outcome_at step.line o >>= (λ d. Ok (d.0, d.1 ∷ []))) there ∙ ap (λ (x : ScriptState × List Account). Ok (done.0, x.1 ++ done.1 ∷ [])) here
 meaning_more w (s ∷ before) step v accounts done means is =
-    let first = then_ok (at_line s.line (outcome_of w s.instruction)) _ (v, accounts) means in
+    let first = then_ok (outcome_at s.line (outcome_of w s.instruction)) _ (v, accounts) means in
     let rest = then_ok (meaning first.0.0 before) _ (v, accounts) first.2 in
     let here : (rest.0.0, first.0.1 ∷ rest.0.1) ≡ (v, accounts) = ap (reached_in (v, accounts)) rest.2 in
     let there : outcome_of rest.0.0 step.instruction ≡ Ok done = ap (λ (x : ScriptState × List Account). outcome_of x.0 step.instruction) here ∙ is in

@@ -7,7 +7,7 @@ use Rattle.rh_report.specs.Account.{Account, Says}
 use Rattle.rh_report.specs.Account as accounts
 use Rattle.rh_operations.specs.declared.cause.Cause.{Cause}
 use Rattle.rh_operations.specs.Sequence.{◌>>=◌}
-use Rattle.rh_script_run.specs.Meaning.{Outcome, keys_in, restores, table_in, uses}
+use Rattle.rh_script_run.specs.Meaning.{Outcome, keys_at_path, restores, table_at, uses}
 use Rattle.rh_script_run.specs.Steps.{Named, world_of}
 
 -- ---- refusals
@@ -24,14 +24,14 @@ module _ {Out : Type 0} (cause : Cause) where
 
 -- ---- a list more
 
-pub uses_is : (set : Held) (named : Named) (files : FileMap) (name path keys : List ℕ) (count : ℕ) → keys_in (files path) ≡ Ok keys → length keys ≡ count → uses (world_of set named files) name path ≡ Ok (world_of set (named ++ (name, keys) ∷ []) files, accounts.Used name count)
+pub uses_is : (set : Held) (named : Named) (files : FileMap) (name path keys : List ℕ) (count : ℕ) → keys_at_path (files path) ≡ Ok keys → length keys ≡ count → uses (world_of set named files) name path ≡ Ok (world_of set (named ++ (name, keys) ∷ []) files, accounts.Used name count)
 uses_is set named files name path keys count found many =
     ap (λ r. r >>= (λ (keys : List ℕ). Ok (world_of set (named ++ (name, keys) ∷ []) files, accounts.Used name (length keys)))) found
     ∙ (λ i. Ok (world_of set (named ++ (name, keys) ∷ []) files, accounts.Used name (many i)))
 
 -- ---- snapshots
 
-pub restores_is : (old new : Held) (named : Named) (files : FileMap) (path : List ℕ) → table_in (files path) ≡ Ok new
+pub restores_is : (old new : Held) (named : Named) (files : FileMap) (path : List ℕ) → table_at (files path) ≡ Ok new
     → restores (world_of old named files) path ≡ Ok (world_of new named files, accounts.Restored path (set.len new.keys) new.bits)
 restores_is old new named files path found =
     ap (λ r. r >>= (λ (table : Held). Ok (world_of table named files, accounts.Restored path (set.len table.keys) table.bits))) found

@@ -34,8 +34,8 @@ pub record KeepsWriter {X : Type 0} (failures failures' : ℕ) (r : Result X Cau
   pub write : IfErr r (λ cause. cause ≡ Write → Rose failures failures')
 
 -- a text that says this account was appended
-abbrev pub Tells : Account → Option (List ℕ) → Option (List ℕ) → Type 0
-Tells account old new = (text : List ℕ) × Says account text × Appends old new text
+abbrev pub TellsAccount : Account → Option (List ℕ) → Option (List ℕ) → Type 0
+TellsAccount account old new = (text : List ℕ) × Says account text × Appends old new text
 
 -- a front of a text that says this account was appended
 abbrev pub TellsFront : Account → Option (List ℕ) → Option (List ℕ) → Type 0

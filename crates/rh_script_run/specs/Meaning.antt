@@ -52,23 +52,23 @@ abbrev pub Outcome : Type 0
 Outcome = Result (ScriptState × Account) Cause
 
 -- the keys of the file at a path, or why it has none; a snapshot is no key file
-abbrev pub keys_in : Option File → Result (List ℕ) Cause
-keys_in None = Err Missing
-keys_in (Some (Bytes bytes)) = keys_or_cause (keys_of_file bytes)
-keys_in (Some (Sealed table)) = Err (causes.Keys NotKeys)
+abbrev pub keys_at_path : Option File → Result (List ℕ) Cause
+keys_at_path None = Err Missing
+keys_at_path (Some (Bytes bytes)) = keys_or_cause (keys_of_file bytes)
+keys_at_path (Some (Sealed table)) = Err (causes.Keys NotKeys)
 
 -- the table of the snapshot at a path, or why there is none
-abbrev pub table_in : Option File → Result Held Cause
-table_in None = Err Missing
-table_in (Some (Bytes bytes)) = table_or_cause (file_table bytes)
-table_in (Some (Sealed table)) = Ok table
+abbrev pub table_at : Option File → Result Held Cause
+table_at None = Err Missing
+table_at (Some (Bytes bytes)) = table_or_cause (file_table bytes)
+table_at (Some (Sealed table)) = Ok table
 
 -- the list has a name from now on
-abbrev pub named : ScriptState → (name keys : List ℕ) → ScriptState
-named w name keys = record w { lists = w.lists ++ (name, keys) ∷ [] }
+abbrev pub with_list : ScriptState → (name keys : List ℕ) → ScriptState
+with_list w name keys = record w { lists = w.lists ++ (name, keys) ∷ [] }
 
 abbrev pub uses : ScriptState → (name path : List ℕ) → Outcome
-uses w name path = keys_in (w.files path) >>= (λ keys. Ok (named w name keys, Used name (length keys)))
+uses w name path = keys_at_path (w.files path) >>= (λ keys. Ok (with_list w name keys, Used name (length keys)))
 
 -- the keys of the list are held too
 abbrev pub adds : ScriptState → (name keys : List ℕ) → Outcome
@@ -106,7 +106,7 @@ flips w name keys =
 
 -- the keys that are held become a list, in rising order
 abbrev pub saves : ScriptState → (name : List ℕ) → Outcome
-saves w name = Ok (named w name (rising_keys w.held), Saved name (set.len w.held))
+saves w name = Ok (with_list w name (rising_keys w.held), Saved name (set.len w.held))
 
 abbrev pub clears : ScriptState → Outcome
 clears w = Ok (record w { held = set.empty; bits = MIN_BITS }, Cleared)
@@ -114,17 +114,17 @@ clears w = Ok (record w { held = set.empty; bits = MIN_BITS }, Cleared)
 abbrev pub dumps : ScriptState → Outcome
 dumps w = Ok (w, Dumped w.held w.bits)
 
-abbrev pub table_of : ScriptState → Held
-table_of w = record { bits = w.bits; keys = w.held }
+abbrev pub held_table : ScriptState → Held
+held_table w = record { bits = w.bits; keys = w.held }
 
 -- the path has a snapshot of the table from now on
 abbrev pub snapshots : ScriptState → (path : List ℕ) → Outcome
-snapshots w path = Ok (record w { files = with_snapshot w.files path (table_of w) }, accounts.Sealed path (set.len w.held) w.bits)
+snapshots w path = Ok (record w { files = with_snapshot w.files path (held_table w) }, accounts.Sealed path (set.len w.held) w.bits)
 
 -- the table is that of the snapshot
 abbrev pub restores : ScriptState → (path : List ℕ) → Outcome
 restores w path =
-    table_in (w.files path)
+    table_at (w.files path)
     >>= (λ table. Ok (record w { held = table.keys; bits = table.bits }, Restored path (set.len table.keys) table.bits))
 
 -- With 1 and 2 held in 4 bits `keep b` of the list 1, 2 leaves both, in 3 bits. `snapshot s`, `clear` and `restore s` leave what
@@ -144,12 +144,12 @@ outcome_of w (instructions.Restore path) = restores w path
 
 -- ---- the steps of a script
 
-abbrev pub at_line : ℕ → Outcome → Result (ScriptState × Account) RunFault
-at_line line (Ok done) = Ok done
-at_line line (Err cause) = Err (record { line = line; cause = cause })
+abbrev pub outcome_at : ℕ → Outcome → Result (ScriptState × Account) RunFault
+outcome_at line (Ok done) = Ok done
+outcome_at line (Err cause) = Err (record { line = line; cause = cause })
 
 -- what the steps make, and their accounts; or the first refusal
 unfoldable pub meaning : ScriptState → List Numbered → Result (ScriptState × List Account) RunFault
 meaning w [] = Ok (w, [])
 meaning w (step ∷ steps) =
-    at_line step.line (outcome_of w step.instruction) >>= (λ done. meaning done.0 steps >>= (λ rest. Ok (rest.0, done.1 ∷ rest.1)))
+    outcome_at step.line (outcome_of w step.instruction) >>= (λ done. meaning done.0 steps >>= (λ rest. Ok (rest.0, done.1 ∷ rest.1)))

@@ -1,20 +1,20 @@
 -- What the code has of a script's world, and what a step makes of it.
 use Rattle.std.specs.Prelude.{◌≡◌, ℕ, ◌<◌, false, List, [], ◌∷◌, map, Option, Result, Ok, MatchResult}
 use Rattle.rh_edit.specs.Held.{Held}
-use Rattle.rh_report.specs.Account.{Account}
 use Rattle.rh_shelf.specs.Shelf.{Files}
+use Rattle.rh_script.specs.Instruction.{Instruction}
 use Rattle.rh_script.specs.Names.{is_given}
 use Rattle.rh_script.specs.declared.task.Task.{Task}
 use Rattle.rh_script.specs.declared.task.Task.TheVariants as tasks
+use Rattle.rh_report.specs.Account.{Account}
 use Rattle.rh_operations.specs.declared.cause.Cause.{Cause}
 use Rattle.rh_operations.specs.declared.key_lists.KeyList.{KeyList}
 use Rattle.rh_operations.specs.KeyLists.{Stands, paths_of}
-use Rattle.rh_script_run.specs.Files.{FileMap, HasFiles}
 use Rattle.rh_operations.specs.Refusals.{RefusedBy}
-use Rattle.rh_script_run.specs.Meaning.{ScriptState, Outcome}
-use Rattle.rh_script.specs.Instruction.{Instruction}
 use Rattle.rh_script_run.specs.declared.told.Told.{Told}
-use Rattle.rh_script_run.specs.Ends.{EndsBy, LeavesFiles, LeavesOthers, Step, Tells}
+use Rattle.rh_script_run.specs.Ends.{EndsBy, LeavesFiles, LeavesOthers, Step, TellsAccount}
+use Rattle.rh_script_run.specs.Files.{FileMap, HasFiles}
+use Rattle.rh_script_run.specs.Meaning.{ScriptState, Outcome}
 use Rattle.rh_script_run.specs.Told.{told_as}
 
 -- the names of lists, each with its keys
@@ -61,7 +61,7 @@ MakesState said outcome outside found now set lists r =
 pub record StepDone (step : Step) (set : Held) (lists : List KeyList) : Type 0 where
   pub account : Account
   pub made : Made step.outcome step.after.files set lists account
-  pub told : Tells account step.before.text step.after.text
+  pub told : TellsAccount account step.before.text step.after.text
 
 -- Any step ends so; or it was refused, or could not be told, and this is what it left of the files.
 abbrev pub StateEnds : Step → (found : FileMap) → Held → List KeyList → Result (Unit {0}) Cause → Type 0

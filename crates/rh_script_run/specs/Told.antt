@@ -6,8 +6,8 @@ use Rattle.rh_report.specs.Account.{Account, Asked, Dumped, account_as}
 use Rattle.rh_script_run.specs.declared.told.Told.{Told}
 use Rattle.rh_script_run.specs.declared.told.Told.TheVariants.{Line, Answers, Dump}
 
-abbrev pub table_as : Held → Table
-table_as table = record { held = set.len table.keys; bits = table.bits }
+abbrev pub report_table : Held → Table
+report_table table = record { held = set.len table.keys; bits = table.bits }
 
 -- the account of a command that left this set
 abbrev pub told_as : Held → Told → Account

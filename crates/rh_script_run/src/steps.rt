@@ -18,7 +18,7 @@ ghost use Rattle.rh_script_run.specs.Ends.{LeavesShelf};
 ghost use Rattle.rh_script_run.specs.Files.{FileMap, HasFiles};
 ghost use Rattle.rh_script_run.specs.Meaning.{asks, clears, restores, saves, snapshots, uses};
 ghost use Rattle.rh_script_run.specs.Steps.{ListsStand, Makes, MakesLists, MakesState, Named, world_of};
-ghost use Rattle.rh_script_run.specs.Told.{table_as, told_as};
+ghost use Rattle.rh_script_run.specs.Told.{report_table, told_as};
 
 use crate::told::Told;
 use rh_edit::SeqSet;
@@ -93,7 +93,7 @@ pub(crate) fn change_step<'a, T: Threads + Wait + Sync, S: Shelf, N: Runner>(
 }
 
 fn changed<'a>(set: &SeqSet, list: &KeyList<'_>, name: &'a str, change: Change) -> Told<'a>
-    ensures { told_as set.now result ≡ change_as name.now list.now.count change (table_as set.now) }
+    ensures { told_as set.now result ≡ change_as name.now list.now.count change (report_table set.now) }
 {
     let read = list.count;
     let table = table_of(set);
@@ -106,7 +106,7 @@ fn changed<'a>(set: &SeqSet, list: &KeyList<'_>, name: &'a str, change: Change) 
 }
 
 fn table_of(set: &SeqSet) -> Table
-    ensures { result ≡ table_as set.now }
+    ensures { result ≡ report_table set.now }
 {
     let held = set.len() as u64;
     let bits = set.bits();

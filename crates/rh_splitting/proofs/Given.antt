@@ -15,7 +15,7 @@ use Rattle.rh_key_files.specs.declared.version.Version.TheVariants.{Second}
 use Rattle.rh_key_files.specs.declared.parts.TheConstants.{MAX_KEYS}
 use Rattle.rh_ranges.specs.Ranges.{in_part, part_of, stands_in}
 use Rattle.rh_splitting.specs.declared.part.Part.{Part}
-use Rattle.rh_splitting.specs.Parts.{EachGot, Got, IsFull, count_of, writer_of}
+use Rattle.rh_splitting.specs.Parts.{EachGot, Got, IsFull, part_count, writer_of}
 use Rattle.rh_splitting.specs.Splitting.{FailedAt}
 
 -- ---- one part
@@ -104,8 +104,8 @@ pub still_given : {W : Type 0} (contents : W → Option (List ℕ)) (first parts
 still_given contents first parts place old new keys given there same =
     subst (λ ps. EachGot contents first ps keys) (sym (ap (slice_set parts place) same ∙ set_same parts place old there)) given
 
-pub is_full : {W : Type 0} (parts : List (Part W)) (place : ℕ) (old new : Part W) → slice_get parts place ≡ Some old → new ≡ old → count_of old ≡ MAX_KEYS → IsFull (slice_set parts place new) place
-is_full parts place old new there same full = (new, set_here parts place new (slice_get_within parts place old there), ap count_of same ∙ full)
+pub is_full : {W : Type 0} (parts : List (Part W)) (place : ℕ) (old new : Part W) → slice_get parts place ≡ Some old → new ≡ old → part_count old ≡ MAX_KEYS → IsFull (slice_set parts place new) place
+is_full parts place old new there same full = (new, set_here parts place new (slice_get_within parts place old there), ap part_count same ∙ full)
 
 -- a write failed after these keys
 pub failed_after : {W : Type 0} (contents : W → Option (List ℕ)) (first mid last : List (Part W)) (place : ℕ) (keys : List ℕ) → EachGot contents first mid keys → FailedAt mid last place → FailedAt first last place

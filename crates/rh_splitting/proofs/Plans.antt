@@ -6,51 +6,51 @@ use Rattle.std.proofs.KnownBytes.{Appends-trans}
 use Rattle.rh_key_files.specs.Counting.{AppendsFront}
 use Rattle.rh_key_files.proofs.Writing.{front_stops}
 use Rattle.rh_splitting.specs.declared.part.Part.{Part}
-use Rattle.rh_splitting.specs.Parts.{count_of}
-use Rattle.rh_splitting.specs.Plan.{line_of, lines_from, plan_text}
+use Rattle.rh_splitting.specs.Parts.{part_count}
+use Rattle.rh_splitting.specs.Plan.{part_line, part_lines, plan_text}
 
 same_some : {X : Type 0} (x y : X) → Some x ≡ Some y → x ≡ y
 same_some x y h = cc
 
-first_line : {W : Type 0} (from : ℕ) (p part : Part W) → p ≡ part → line_of from (count_of p) ≡ line_of (from + 0) (count_of part)
+first_line : {W : Type 0} (from : ℕ) (p part : Part W) → p ≡ part → part_line from (part_count p) ≡ part_line (from + 0) (part_count part)
 first_line from p part is =
     let here : from ≡ from + 0 = omega arith in
-    ap (λ n. line_of n (count_of p)) here ∙ ap (λ q. line_of (from + 0) (count_of q)) is
+    ap (λ n. part_line n (part_count p)) here ∙ ap (λ q. part_line (from + 0) (part_count q)) is
 
-one_more_line : {W : Type 0} (from : ℕ) (parts : List (Part W)) (i : ℕ) (part : Part W) → slice_get parts i ≡ Some part → lines_from from (take (suc i) parts) ≡ lines_from from (take i parts) ++ line_of (from + i) (count_of part)
+one_more_line : {W : Type 0} (from : ℕ) (parts : List (Part W)) (i : ℕ) (part : Part W) → slice_get parts i ≡ Some part → part_lines from (take (suc i) parts) ≡ part_lines from (take i parts) ++ part_line (from + i) (part_count part)
 one_more_line from [] i part is = absurd cc
-one_more_line from (p ∷ parts) zero part is = append-nil (line_of from (count_of p)) ∙ first_line from p part (same_some p part is)
+one_more_line from (p ∷ parts) zero part is = append-nil (part_line from (part_count p)) ∙ first_line from p part (same_some p part is)
 one_more_line from (p ∷ parts) (suc i) part is =
     let next : from + 1 + i ≡ from + suc i = omega arith in
-    ap (λ l. line_of from (count_of p) ++ l) (one_more_line (from + 1) parts i part is ∙ ap (λ n. lines_from (from + 1) (take i parts) ++ line_of n (count_of part)) next)
-    ∙ sym (append_assoc (line_of from (count_of p)) (lines_from (from + 1) (take i parts)) (line_of (from + suc i) (count_of part)))
+    ap (λ l. part_line from (part_count p) ++ l) (one_more_line (from + 1) parts i part is ∙ ap (λ n. part_lines (from + 1) (take i parts) ++ part_line n (part_count part)) next)
+    ∙ sym (append_assoc (part_line from (part_count p)) (part_lines (from + 1) (take i parts)) (part_line (from + suc i) (part_count part)))
 
-lines_in_two : {W : Type 0} (from : ℕ) (parts : List (Part W)) (i : ℕ) → lines_from from parts ≡ lines_from from (take i parts) ++ lines_from (from + i) (drop i parts)
+lines_in_two : {W : Type 0} (from : ℕ) (parts : List (Part W)) (i : ℕ) → part_lines from parts ≡ part_lines from (take i parts) ++ part_lines (from + i) (drop i parts)
 lines_in_two from parts zero =
     let here : from ≡ from + 0 = omega arith in
-    ap (λ n. lines_from n parts) here
+    ap (λ n. part_lines n parts) here
 lines_in_two from [] (suc i) = refl
 lines_in_two from (p ∷ parts) (suc i) =
     let next : from + 1 + i ≡ from + suc i = omega arith in
-    ap (λ l. line_of from (count_of p) ++ l) (lines_in_two (from + 1) parts i ∙ ap (λ n. lines_from (from + 1) (take i parts) ++ lines_from n (drop i parts)) next)
-    ∙ sym (append_assoc (line_of from (count_of p)) (lines_from (from + 1) (take i parts)) (lines_from (from + suc i) (drop i parts)))
+    ap (λ l. part_line from (part_count p) ++ l) (lines_in_two (from + 1) parts i ∙ ap (λ n. part_lines (from + 1) (take i parts) ++ part_lines n (drop i parts)) next)
+    ∙ sym (append_assoc (part_line from (part_count p)) (part_lines (from + 1) (take i parts)) (part_lines (from + suc i) (drop i parts)))
 
-more_from_first : {W : Type 0} (parts : List (Part W)) (i : ℕ) (part : Part W) → slice_get parts i ≡ Some part → lines_from 0 (take (suc i) parts) ≡ lines_from 0 (take i parts) ++ line_of i (count_of part)
+more_from_first : {W : Type 0} (parts : List (Part W)) (i : ℕ) (part : Part W) → slice_get parts i ≡ Some part → part_lines 0 (take (suc i) parts) ≡ part_lines 0 (take i parts) ++ part_line i (part_count part)
 more_from_first parts i part is =
     let here : 0 + i ≡ i = omega arith in
-    one_more_line 0 parts i part is ∙ ap (λ n. lines_from 0 (take i parts) ++ line_of n (count_of part)) here
+    one_more_line 0 parts i part is ∙ ap (λ n. part_lines 0 (take i parts) ++ part_line n (part_count part)) here
 
-pub line_goes_on : {W : Type 0} (a b c : Option (List ℕ)) (parts : List (Part W)) (i : ℕ) (part : Part W) → slice_get parts i ≡ Some part → Appends a b (lines_from 0 (take i parts)) → Appends b c (line_of i (count_of part))
-    → Appends a c (lines_from 0 (take (i + 1) parts))
+pub line_goes_on : {W : Type 0} (a b c : Option (List ℕ)) (parts : List (Part W)) (i : ℕ) (part : Part W) → slice_get parts i ≡ Some part → Appends a b (part_lines 0 (take i parts)) → Appends b c (part_line i (part_count part))
+    → Appends a c (part_lines 0 (take (i + 1) parts))
 line_goes_on a b c parts i part is before line =
     let next : suc i ≡ i + 1 = omega arith in
-    subst (λ n. Appends a c (lines_from 0 (take n parts))) next
-    (subst (Appends a c) (sym (more_from_first parts i part is)) (Appends-trans a b c (lines_from 0 (take i parts)) (line_of i (count_of part)) before line))
+    subst (λ n. Appends a c (part_lines 0 (take n parts))) next
+    (subst (Appends a c) (sym (more_from_first parts i part is)) (Appends-trans a b c (part_lines 0 (take i parts)) (part_line i (part_count part)) before line))
 
-pub line_stops : {W : Type 0} (a b c : Option (List ℕ)) (parts : List (Part W)) (i : ℕ) (part : Part W) → slice_get parts i ≡ Some part → Appends a b (lines_from 0 (take i parts)) → AppendsFront b c (line_of i (count_of part))
+pub line_stops : {W : Type 0} (a b c : Option (List ℕ)) (parts : List (Part W)) (i : ℕ) (part : Part W) → slice_get parts i ≡ Some part → Appends a b (part_lines 0 (take i parts)) → AppendsFront b c (part_line i (part_count part))
     → AppendsFront a c (plan_text parts)
 line_stops a b c parts i part is before line =
     let here : 0 + suc i ≡ suc i = omega arith in
-    front_stops a b c (lines_from 0 (take i parts)) (line_of i (count_of part)) (lines_from (suc i) (drop (suc i) parts)) (plan_text parts)
-    (lines_in_two 0 parts (suc i) ∙ ap (λ n. lines_from 0 (take (suc i) parts) ++ lines_from n (drop (suc i) parts)) here
-    ∙ ap (λ l. l ++ lines_from (suc i) (drop (suc i) parts)) (more_from_first parts i part is)) before line
+    front_stops a b c (part_lines 0 (take i parts)) (part_line i (part_count part)) (part_lines (suc i) (drop (suc i) parts)) (plan_text parts)
+    (lines_in_two 0 parts (suc i) ∙ ap (λ n. part_lines 0 (take (suc i) parts) ++ part_lines n (drop (suc i) parts)) here
+    ∙ ap (λ l. l ++ part_lines (suc i) (drop (suc i) parts)) (more_from_first parts i part is)) before line

@@ -6,7 +6,7 @@ use Rattle.rh_numbers.specs.declared.fault.TextFault.TheVariants as faults
 use Rattle.rh_numbers.specs.declared.limits.TheConstants.{MAX_BYTES, PART_BYTES}
 use Rattle.rh_numbers.specs.declared.line_so_far.LineSoFar.{LineSoFar}
 use Rattle.rh_numbers.specs.declared.reading.Reading.{Reading}
-use Rattle.rh_numbers.specs.Parts.{PartGives, ReadsPart, keys_of, line_of, said_by, so_far_of}
+use Rattle.rh_numbers.specs.Parts.{PartGives, ReadsPart, keys_read, line_reached, said_by, so_far_of}
 use Rattle.rh_numbers.specs.Reading.{Said, Stops, said_from, text_said}
 use Rattle.rh_numbers.proofs.Fronts.{Begins, begins, behind, said_behind}
 use Rattle.rh_numbers.proofs.Meaning.{any_text_read}
@@ -21,15 +21,15 @@ use Rattle.rh_splitting.specs.Splitting.{IsTextFrom, Puts, SayFirst, SayThen, Sp
 use Rattle.rh_splitting.proofs.Given.{both_given, failed_after}
 
 -- what a reading that holds no key says comes behind the keys that were given
-pub behind_given : (given bytes : List ℕ) (reading : Reading) → keys_of reading ≡ [] → said_from given (line_of reading) (so_far_of reading) bytes ≡ behind given (said_by reading bytes)
+pub behind_given : (given bytes : List ℕ) (reading : Reading) → keys_read reading ≡ [] → said_from given (line_reached reading) (so_far_of reading) bytes ≡ behind given (said_by reading bytes)
 behind_given given bytes reading none =
-    ap (λ k. said_from k (line_of reading) (so_far_of reading) bytes) (sym (ap (λ l. given ++ l) none ∙ append-nil given))
-    ∙ said_behind given (keys_of reading) (line_of reading) (so_far_of reading) bytes
+    ap (λ k. said_from k (line_reached reading) (so_far_of reading) bytes) (sym (ap (λ l. given ++ l) none ∙ append-nil given))
+    ∙ said_behind given (keys_read reading) (line_reached reading) (so_far_of reading) bytes
 
-pub goes_behind : (given part : List ℕ) (old new : Reading) → keys_of old ≡ [] → ((rest : List ℕ) → said_by old (part ++ rest) ≡ said_by new rest)
-    → (rest : List ℕ) → said_from given (line_of old) (so_far_of old) (part ++ rest) ≡ said_from (given ++ keys_of new) (line_of new) (so_far_of new) rest
+pub goes_behind : (given part : List ℕ) (old new : Reading) → keys_read old ≡ [] → ((rest : List ℕ) → said_by old (part ++ rest) ≡ said_by new rest)
+    → (rest : List ℕ) → said_from given (line_reached old) (so_far_of old) (part ++ rest) ≡ said_from (given ++ keys_read new) (line_reached new) (so_far_of new) rest
 goes_behind given part old new none step rest =
-    behind_given given (part ++ rest) old none ∙ ap (behind given) (step rest) ∙ sym (said_behind given (keys_of new) (line_of new) (so_far_of new) rest)
+    behind_given given (part ++ rest) old none ∙ ap (behind given) (step rest) ∙ sym (said_behind given (keys_read new) (line_reached new) (so_far_of new) rest)
 
 -- ---- what the text says first
 
@@ -45,26 +45,26 @@ stops_begins (faults.OutOfRange line) keys said h = ([], ap (λ s. s.0) h ∙ sy
 stops_begins faults.TooMany keys said (full, key, more, is) = (key ∷ more, is)
 
 -- the keys of a part are said first behind those before it, whatever came of it
-part_begins : (part rest : List ℕ) (old new : Reading) (r : Result Bool TextFault) → PartGives part (Some rest) old new r → (r ≡ Err faults.Read → keys_of new ≡ []) → Begins (keys_of new) (said_by old (part ++ rest))
-part_begins part rest old new (Ok true) gives unread = subst (Begins (keys_of new)) (sym (gives.1 rest)) (begins (keys_of new) (line_of new) (so_far_of new) rest)
+part_begins : (part rest : List ℕ) (old new : Reading) (r : Result Bool TextFault) → PartGives part (Some rest) old new r → (r ≡ Err faults.Read → keys_read new ≡ []) → Begins (keys_read new) (said_by old (part ++ rest))
+part_begins part rest old new (Ok true) gives unread = subst (Begins (keys_read new)) (sym (gives.1 rest)) (begins (keys_read new) (line_reached new) (so_far_of new) rest)
 part_begins part rest old new (Ok false) gives unread =
     let whole : part ++ rest ≡ part = ap (λ l. part ++ l) gives.0 ∙ append-nil part in
-    ([], ap (λ s. s.0) (ap (said_by old) whole ∙ gives.1) ∙ sym (append-nil (keys_of new)))
+    ([], ap (λ s. s.0) (ap (said_by old) whole ∙ gives.1) ∙ sym (append-nil (keys_read new)))
 part_begins part rest old new (Err faults.Read) gives unread = subst (λ k. Begins k (said_by old (part ++ rest))) (sym (unread refl)) ((said_by old (part ++ rest)).0, refl)
-part_begins part rest old new (Err faults.Memory) gives unread = stops_begins faults.Memory (keys_of new) (said_by old (part ++ rest)) (gives (λ is. absurd cc))
-part_begins part rest old new (Err faults.TooLong) gives unread = stops_begins faults.TooLong (keys_of new) (said_by old (part ++ rest)) (gives (λ is. absurd cc))
-part_begins part rest old new (Err faults.TooMany) gives unread = stops_begins faults.TooMany (keys_of new) (said_by old (part ++ rest)) (gives (λ is. absurd cc))
-part_begins part rest old new (Err (faults.NotAKey line)) gives unread = stops_begins (faults.NotAKey line) (keys_of new) (said_by old (part ++ rest)) (gives (λ is. absurd cc))
-part_begins part rest old new (Err (faults.OutOfRange line)) gives unread = stops_begins (faults.OutOfRange line) (keys_of new) (said_by old (part ++ rest)) (gives (λ is. absurd cc))
+part_begins part rest old new (Err faults.Memory) gives unread = stops_begins faults.Memory (keys_read new) (said_by old (part ++ rest)) (gives (λ is. absurd cc))
+part_begins part rest old new (Err faults.TooLong) gives unread = stops_begins faults.TooLong (keys_read new) (said_by old (part ++ rest)) (gives (λ is. absurd cc))
+part_begins part rest old new (Err faults.TooMany) gives unread = stops_begins faults.TooMany (keys_read new) (said_by old (part ++ rest)) (gives (λ is. absurd cc))
+part_begins part rest old new (Err (faults.NotAKey line)) gives unread = stops_begins (faults.NotAKey line) (keys_read new) (said_by old (part ++ rest)) (gives (λ is. absurd cc))
+part_begins part rest old new (Err (faults.OutOfRange line)) gives unread = stops_begins (faults.OutOfRange line) (keys_read new) (said_by old (part ++ rest)) (gives (λ is. absurd cc))
 
-pub part_first : (bytes before left : Option (List ℕ)) (n : ℕ) (given : List ℕ) (old new : Reading) (r : Result Bool TextFault) → GoesOn bytes before n given (line_of old) (so_far_of old) → keys_of old ≡ []
-    → ReadsPart before left old new r → (r ≡ Err faults.Read → keys_of new ≡ []) → SayFirst bytes (given ++ keys_of new)
+pub part_first : (bytes before left : Option (List ℕ)) (n : ℕ) (given : List ℕ) (old new : Reading) (r : Result Bool TextFault) → GoesOn bytes before n given (line_reached old) (so_far_of old) → keys_read old ≡ []
+    → ReadsPart before left old new r → (r ≡ Err faults.Read → keys_read new ≡ []) → SayFirst bytes (given ++ keys_read new)
 part_first None before left n given old new r goes none reads unread = tt
 part_first (Some bytes) None left n given old new r goes none reads unread = absurd goes
 part_first (Some bytes) (Some rest) None n given old new r goes none reads unread = absurd reads.taken
 part_first (Some bytes) (Some rest) (Some more) n given old new r goes none reads unread =
-    let here : text_said bytes ≡ behind given (said_by old (reads.part ++ more)) = goes.0 ∙ ap (said_from given (line_of old) (so_far_of old)) reads.taken ∙ behind_given given (reads.part ++ more) old none in
-    subst (Begins (given ++ keys_of new)) (sym here) (begins_behind given (keys_of new) (said_by old (reads.part ++ more)) (part_begins reads.part more old new r reads.gives unread))
+    let here : text_said bytes ≡ behind given (said_by old (reads.part ++ more)) = goes.0 ∙ ap (said_from given (line_reached old) (so_far_of old)) reads.taken ∙ behind_given given (reads.part ++ more) old none in
+    subst (Begins (given ++ keys_read new)) (sym here) (begins_behind given (keys_read new) (said_by old (reads.part ++ more)) (part_begins reads.part more old new r reads.gives unread))
 
 -- of what is said first a front is said first
 pub first_of_them : (bytes : Option (List ℕ)) (given keys front : List ℕ) (key : ℕ) (more : List ℕ) → keys ≡ front ++ (key ∷ more) → SayFirst bytes (given ++ keys) → SayFirst bytes ((given ++ front) ++ (key ∷ []))
@@ -77,34 +77,34 @@ first_of_them (Some bytes) given keys front key more is (others, say) = (
 
 -- ---- how the text ends
 
-pub text_ends : (bytes before left : Option (List ℕ)) (n : ℕ) (given : List ℕ) (old new : Reading) (r : Bool) → r ≡ false → GoesOn bytes before n given (line_of old) (so_far_of old) → keys_of old ≡ []
-    → ReadsPart before left old new (Ok r) → IsTextFrom bytes left (given ++ keys_of new)
+pub text_ends : (bytes before left : Option (List ℕ)) (n : ℕ) (given : List ℕ) (old new : Reading) (r : Bool) → r ≡ false → GoesOn bytes before n given (line_reached old) (so_far_of old) → keys_read old ≡ []
+    → ReadsPart before left old new (Ok r) → IsTextFrom bytes left (given ++ keys_read new)
 text_ends bytes before left n given old new true is goes none reads = absurd cc
 text_ends None before left n given old new false is goes none reads = tt
 text_ends (Some bytes) None left n given old new false is goes none reads = absurd goes
 text_ends (Some bytes) (Some rest) None n given old new false is goes none reads = absurd reads.taken
 text_ends (Some bytes) (Some rest) (Some more) n given old new false is goes none reads =
     let whole : rest ≡ reads.part = reads.taken ∙ ap (λ l. reads.part ++ l) reads.gives.0 ∙ append-nil reads.part in
-    (any_text_read bytes (given ++ keys_of new) (goes.0 ∙ ap (said_from given (line_of old) (so_far_of old)) whole ∙ behind_given given reads.part old none ∙ ap (behind given) reads.gives.1), reads.gives.0)
+    (any_text_read bytes (given ++ keys_read new) (goes.0 ∙ ap (said_from given (line_reached old) (so_far_of old)) whole ∙ behind_given given reads.part old none ∙ ap (behind given) reads.gives.1), reads.gives.0)
 
-pub text_goes_on : (bytes before left : Option (List ℕ)) (n : ℕ) (given : List ℕ) (old new : Reading) (r : Bool) → r ≡ true → GoesOn bytes before n given (line_of old) (so_far_of old) → keys_of old ≡ []
-    → ReadsPart before left old new (Ok r) → GoesOn bytes left (n + PART_BYTES) (given ++ keys_of new) (line_of new) (so_far_of new)
+pub text_goes_on : (bytes before left : Option (List ℕ)) (n : ℕ) (given : List ℕ) (old new : Reading) (r : Bool) → r ≡ true → GoesOn bytes before n given (line_reached old) (so_far_of old) → keys_read old ≡ []
+    → ReadsPart before left old new (Ok r) → GoesOn bytes left (n + PART_BYTES) (given ++ keys_read new) (line_reached new) (so_far_of new)
 text_goes_on bytes before left n given old new false is goes none reads = absurd cc
 text_goes_on bytes before left n given old new true is goes none reads =
-    goes_on bytes before left n PART_BYTES reads.part given (given ++ keys_of new) (line_of old) (line_of new) (so_far_of old) (so_far_of new) goes reads.taken reads.gives.0 (goes_behind given reads.part old new none reads.gives.1)
+    goes_on bytes before left n PART_BYTES reads.part given (given ++ keys_read new) (line_reached old) (line_reached new) (so_far_of old) (so_far_of new) goes reads.taken reads.gives.0 (goes_behind given reads.part old new none reads.gives.1)
 
-pub still_fresh : (bytes before left : Option (List ℕ)) (given : List ℕ) (old new : Reading) (r : Bool) → r ≡ true → Fresh bytes before given (line_of old) (so_far_of old) → keys_of old ≡ []
-    → ReadsPart before left old new (Ok r) → Fresh bytes left (given ++ keys_of new) (line_of new) (so_far_of new)
+pub still_fresh : (bytes before left : Option (List ℕ)) (given : List ℕ) (old new : Reading) (r : Bool) → r ≡ true → Fresh bytes before given (line_reached old) (so_far_of old) → keys_read old ≡ []
+    → ReadsPart before left old new (Ok r) → Fresh bytes left (given ++ keys_read new) (line_reached new) (so_far_of new)
 still_fresh bytes before left given old new false is fresh none reads = absurd cc
 still_fresh bytes before left given old new true is fresh none reads =
-    fresh_after bytes before left reads.part given (given ++ keys_of new) (line_of old) (line_of new) (so_far_of old) (so_far_of new) fresh reads.taken (goes_behind given reads.part old new none reads.gives.1)
+    fresh_after bytes before left reads.part given (given ++ keys_read new) (line_reached old) (line_reached new) (so_far_of old) (so_far_of new) fresh reads.taken (goes_behind given reads.part old new none reads.gives.1)
 
 -- a fault that says where the text stops
-stops_there : (bytes rest given : List ℕ) (old new : Reading) (e : TextFault) → text_said bytes ≡ behind given (said_by old rest) → said_by old rest ≡ (keys_of new, Some e) → text_said bytes ≡ (given ++ keys_of new, Some e)
+stops_there : (bytes rest given : List ℕ) (old new : Reading) (e : TextFault) → text_said bytes ≡ behind given (said_by old rest) → said_by old rest ≡ (keys_read new, Some e) → text_said bytes ≡ (given ++ keys_read new, Some e)
 stops_there bytes rest given old new e here is = here ∙ ap (behind given) is
 
 then_fault : (bytes rest given : List ℕ) (old new : Reading) (e : TextFault) → text_said bytes ≡ behind given (said_by old rest) → e ≢ faults.TooMany → e ≢ faults.TooLong
-    → SayFirst (Some bytes) (given ++ keys_of new) → (e ≢ faults.Read → Stops e (keys_of new) (said_by old rest)) → SayThen (Some bytes) (given ++ keys_of new) e
+    → SayFirst (Some bytes) (given ++ keys_read new) → (e ≢ faults.Read → Stops e (keys_read new) (said_by old rest)) → SayThen (Some bytes) (given ++ keys_read new) e
 then_fault bytes rest given old new faults.Memory here many long first stops = first
 then_fault bytes rest given old new faults.Read here many long first stops = first
 then_fault bytes rest given old new faults.TooLong here many long first stops = absurd (long refl)
@@ -112,13 +112,13 @@ then_fault bytes rest given old new faults.TooMany here many long first stops = 
 then_fault bytes rest given old new (faults.NotAKey line) here many long first stops = stops_there bytes rest given old new (faults.NotAKey line) here (stops (λ is. absurd cc))
 then_fault bytes rest given old new (faults.OutOfRange line) here many long first stops = stops_there bytes rest given old new (faults.OutOfRange line) here (stops (λ is. absurd cc))
 
-pub text_stops : (bytes before left : Option (List ℕ)) (n : ℕ) (given : List ℕ) (old new : Reading) (e : TextFault) → GoesOn bytes before n given (line_of old) (so_far_of old) → keys_of old ≡ []
-    → ReadsPart before left old new (Err e) → e ≢ faults.TooMany → e ≢ faults.TooLong → SayFirst bytes (given ++ keys_of new) → SayThen bytes (given ++ keys_of new) e
+pub text_stops : (bytes before left : Option (List ℕ)) (n : ℕ) (given : List ℕ) (old new : Reading) (e : TextFault) → GoesOn bytes before n given (line_reached old) (so_far_of old) → keys_read old ≡ []
+    → ReadsPart before left old new (Err e) → e ≢ faults.TooMany → e ≢ faults.TooLong → SayFirst bytes (given ++ keys_read new) → SayThen bytes (given ++ keys_read new) e
 text_stops None before left n given old new e goes none reads many long first = tt
 text_stops (Some bytes) None left n given old new e goes none reads many long first = absurd goes
 text_stops (Some bytes) (Some rest) None n given old new e goes none reads many long first = absurd reads.taken
 text_stops (Some bytes) (Some rest) (Some more) n given old new e goes none reads many long first =
-    then_fault bytes (reads.part ++ more) given old new e (goes.0 ∙ ap (said_from given (line_of old) (so_far_of old)) reads.taken ∙ behind_given given (reads.part ++ more) old none) many long first reads.gives
+    then_fault bytes (reads.part ++ more) given old new e (goes.0 ∙ ap (said_from given (line_reached old) (so_far_of old)) reads.taken ∙ behind_given given (reads.part ++ more) old none) many long first reads.gives
 
 pub text_too_long : (bytes left : Option (List ℕ)) (n : ℕ) (given : List ℕ) (line : ℕ) (so_far : LineSoFar) → GoesOn bytes left n given line so_far → MAX_BYTES ≤ n → SayThen bytes given faults.TooLong
 text_too_long None left n given line so_far goes long = tt
@@ -127,14 +127,14 @@ text_too_long (Some bytes) (Some rest) n given line so_far goes long = (omega (a
 
 -- ---- how much of it was taken
 
-pub takes_part : (bytes before left : Option (List ℕ)) (given : List ℕ) (old new : Reading) (r : Result Bool TextFault) → Fresh bytes before given (line_of old) (so_far_of old) → ReadsPart before left old new r → TakesText bytes left
+pub takes_part : (bytes before left : Option (List ℕ)) (given : List ℕ) (old new : Reading) (r : Result Bool TextFault) → Fresh bytes before given (line_reached old) (so_far_of old) → ReadsPart before left old new r → TakesText bytes left
 takes_part bytes before left given old new r (front, taken, on) reads = record {
   before = front;
   last = reads.part;
   taken = Consumes-trans bytes before left front reads.part taken reads.taken;
   short = reads.short;
   keys = given;
-  no_fault = (line_of old, so_far_of old, on);
+  no_fault = (line_reached old, so_far_of old, on);
 }
 
 pub takes_all : (bytes left : Option (List ℕ)) (given : List ℕ) (line : ℕ) (so_far : LineSoFar) → Fresh bytes left given line so_far → TakesText bytes left

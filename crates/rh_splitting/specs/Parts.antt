@@ -12,13 +12,13 @@ abbrev pub writer_of : {W : Type 0} → Part W → Counted W
 writer_of part = part.writer
 
 -- how many keys it was given
-abbrev pub count_of : {W : Type 0} → Part W → ℕ
-count_of part = part.count
+abbrev pub part_count : {W : Type 0} → Part W → ℕ
+part_count part = part.count
 
 -- The part was given these keys: they were written one after the other, and counted, and no write failed.
 pub record Got {W : Type 0} (contents : W → Option (List ℕ)) (old new : Part W) (keys : List ℕ) : Type 0 where
   pub written : Appends (contents (inner_of (writer_of old))) (contents (inner_of (writer_of new))) (spelled_keys keys)
-  pub counted : count_of new ≡ count_of old + length keys
+  pub counted : part_count new ≡ part_count old + length keys
   pub fine : failures_of (writer_of new) ≡ failures_of (writer_of old)
 
 -- Each part was given its keys of the list, in the order of the list.
@@ -30,4 +30,4 @@ pub record EachGot {W : Type 0} (contents : W → Option (List ℕ)) (old new : 
 
 -- the part of this number has as many keys as it may have
 abbrev pub IsFull : {W : Type 0} → List (Part W) → ℕ → Type 0
-IsFull {W} parts part = (full : Part W) × (slice_get parts part ≡ Some full) × (count_of full ≡ MAX_KEYS)
+IsFull {W} parts part = (full : Part W) × (slice_get parts part ≡ Some full) × (part_count full ≡ MAX_KEYS)

@@ -26,13 +26,13 @@ pub struct Part<W> {
 impl<W> Part<W> {
     ghost use Rattle.std.specs.Prelude.{◌≡◌, ◌≤◌};
     ghost use Rattle.rh_key_files.specs.Counting.{failures_of, inner_of};
-    ghost use Rattle.rh_splitting.specs.Parts.{count_of, writer_of};
+    ghost use Rattle.rh_splitting.specs.Parts.{part_count, writer_of};
 
     /// A part that was given no key.
     pub fn new(writer: W) -> Part<W>
         ensures writer { inner_of (writer_of result) ≡ writer }
         ensures failures { failures_of (writer_of result) ≡ 0 }
-        ensures count { count_of result ≡ 0 }
+        ensures count { part_count result ≡ 0 }
     {
         Part {
             writer: Counted::new(writer),
@@ -42,7 +42,7 @@ impl<W> Part<W> {
 
     /// How many keys it was given.
     pub fn count(&self) -> u64
-        ensures count { result ≡ count_of self.now }
+        ensures count { result ≡ part_count self.now }
         ensures few { result ≤ MAX_KEYS }
     {
         self.count
@@ -62,7 +62,7 @@ impl<W: Write> Part<W> {
     ghost use Rattle.rh_key_files.specs.Counting.{Rose, failures_of, inner_of};
     ghost use Rattle.rh_key_files.specs.KeyFile.{header};
     ghost use Rattle.rh_key_files.specs.declared.version.Version.TheVariants.{Second};
-    ghost use Rattle.rh_splitting.specs.Parts.{Got, count_of, writer_of};
+    ghost use Rattle.rh_splitting.specs.Parts.{Got, part_count, writer_of};
 
     /// A part that was given no key, with room for the header of its key file.
     pub fn begin(writer: W) -> Result<Part<W>, WriteFault>
@@ -71,7 +71,7 @@ impl<W: Write> Part<W> {
         ensures room { IfOk result (λ part. Appends (W.contents writer)
             (W.contents (inner_of (writer_of part))) (header Second 0)) }
         ensures failures { IfOk result (λ part. failures_of (writer_of part) ≡ 0) }
-        ensures count { IfOk result (λ part. count_of part ≡ 0) }
+        ensures count { IfOk result (λ part. part_count part ≡ 0) }
     {
         let mut writer = Counted::new(writer);
         write_header(0, &mut writer)?;
@@ -81,7 +81,7 @@ impl<W: Write> Part<W> {
     /// Writes the key behind those that the part was given.
     pub(crate) fn put(&mut self, key: u64) -> Result<(), PartFault>
         ensures put { OnOk result (Got W.contents self.old self.new (key ∷ [])) }
-        ensures full { IsErrOf result PartFault.Full → count_of self.old ≡ MAX_KEYS }
+        ensures full { IsErrOf result PartFault.Full → part_count self.old ≡ MAX_KEYS }
         ensures unchanged { IsErrOf result PartFault.Full → self.new ≡ self.old }
         ensures write { IsErrOf result PartFault.Write →
             Rose (failures_of (writer_of self.old)) (failures_of (writer_of self.new)) }

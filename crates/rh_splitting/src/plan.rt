@@ -3,7 +3,7 @@
 ghost use Rattle.std.specs.Prelude.{◌≡◌, ◌≤◌, ◌+◌, ◌%◌, OnErr, OnOk, length};
 ghost use Rattle.rh_key_files.specs.Counting.{Rose, Writes, failures_of, inner_of};
 ghost use Rattle.rh_ranges.specs.declared.part.TheConstants.{MAX_PARTS};
-ghost use Rattle.rh_splitting.specs.Plan.{line_of, plan_text, three_digits};
+ghost use Rattle.rh_splitting.specs.Plan.{part_line, plan_text, three_digits};
 
 use crate::part::Part;
 use itoa::Buffer;
@@ -28,7 +28,7 @@ pub fn write_plan<P, W: Write>(parts: &[Part<P>], writer: &mut Counted<W>) -> Re
 
 fn put_line<W: Write>(part: u64, count: u64, writer: &mut Counted<W>) -> Result<(), WriteFault>
     ensures text { Writes (W.contents (inner_of writer.old)) (W.contents (inner_of writer.new))
-        (line_of part count) result }
+        (part_line part count) result }
     ensures failed { OnErr result (Rose (failures_of writer.old) (failures_of writer.new)) }
     ensures fine { OnOk result (failures_of writer.new ≡ failures_of writer.old) }
 {

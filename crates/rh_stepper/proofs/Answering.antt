@@ -11,7 +11,7 @@ use Rattle.rh_ledger.specs.Phase.{looked_up}
 use Rattle.rh_turns.specs.declared.hand.Hand.{Hand}
 use Rattle.rh_turns.specs.declared.hand.Share.{Share}
 use Rattle.rh_turns.specs.declared.hand.Share.TheVariants.{Piece, Claims}
-use Rattle.rh_turns.specs.Hands.{IsClaiming, keys_for, keys_in}
+use Rattle.rh_turns.specs.Hands.{IsClaiming, keys_for, share_keys}
 use Rattle.rh_turns.specs.Game.{ArePieces, Game, IsDoneAt, Plays, at_hand, done_at, keys_at, positions_at, shares_of}
 use Rattle.rh_turns.specs.Laws.{OutcomeSpec}
 use Rattle.rh_turns.proofs.Apart.{end_of, first_of, piece_within}
@@ -120,7 +120,7 @@ module _ (g : Game) (plays : Plays g) (asks : g.kind ≡ Ask) where
         let less : position < piece.1 - piece.0 = omega (arith, within, first_is, end_is) in
         let at : p ≡ piece.0 + position = omega (arith, first_is) in
         ap (slice_index g.keys) at ∙ sym (part_at g.keys piece.0 piece.1 position less)
-        ∙ ap (λ (ks : List ℕ). slice_index ks position) (sym (at_hand_is (keys_for g.keys) [] g.hands worker (some_hand g plays) inside ∙ ap (keys_in g.keys) piece.2))
+        ∙ ap (λ (ks : List ℕ). slice_index ks position) (sym (at_hand_is (keys_for g.keys) [] g.hands worker (some_hand g plays) inside ∙ ap (share_keys g.keys) piece.2))
 
     nothing_told : length (positions_at g worker) ≤ position → told ≡ None
     nothing_told high = ⊎_elim
@@ -165,7 +165,7 @@ module _ (g : Game) (plays : Plays g) where
           let r = piece_within 0 g.hands (length g.keys) are worker (some_hand g plays) inside in
           let first : ℕ = r.0 in
           let end : ℕ = r.1 in
-          let keys_are : keys_at g worker ≡ keys_in g.keys (Piece first end) = at_hand_is (keys_for g.keys) [] g.hands worker (some_hand g plays) inside ∙ ap (keys_in g.keys) r.2 in
+          let keys_are : keys_at g worker ≡ share_keys g.keys (Piece first end) = at_hand_is (keys_for g.keys) [] g.hands worker (some_hand g plays) inside ∙ ap (share_keys g.keys) r.2 in
           let size : length (keys_at g worker) ≡ end - first = ap length keys_are ∙ length-map-range_with_len (slice_index g.keys) first (end - first) in
           let less : position < end - first = omega (arith, low, size) in
           let within : first + position < length g.keys = omega (arith, less, r.3, r.4) in

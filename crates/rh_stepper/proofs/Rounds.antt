@@ -9,7 +9,7 @@ use Rattle.rh_rule.specs.Wipes.{row_total}
 use Rattle.rh_run.specs.Words.{IsWiped}
 use Rattle.rh_turns.specs.declared.hand.Hand.{Hand}
 use Rattle.rh_turns.specs.Game.{AllStopped, Game, Plays}
-use Rattle.rh_turns.specs.Laws.{Begins, begun}
+use Rattle.rh_turns.specs.Laws.{HandBegins, begun}
 use Rattle.rh_turns.proofs.Rounds.{plays_round}
 use Rattle.rh_stepper.specs.Turned.{AllBegin, BeginsRound}
 
@@ -64,12 +64,12 @@ module _ (z : Shape) (words mid : List ℕ) (cells rows : ℕ) (sized : length w
 
 -- one worker more has begun
 pub begins_more : (z : Shape) (cells : List ℕ) (hs now : List Hand) (n : ℕ) (next : Hand) → length now ≡ length hs → n < length hs
-    → ((v : ℕ) (other : Hand) → v < n → Begins z cells (get_or hs v other) (get_or now v other)) → ((other : Hand) → Begins z cells (get_or hs n other) next)
-    → (v : ℕ) (other : Hand) → v < n + 1 → Begins z cells (get_or hs v other) (get_or (set now n next) v other)
+    → ((v : ℕ) (other : Hand) → v < n → HandBegins z cells (get_or hs v other) (get_or now v other)) → ((other : Hand) → HandBegins z cells (get_or hs n other) next)
+    → (v : ℕ) (other : Hand) → v < n + 1 → HandBegins z cells (get_or hs v other) (get_or (set now n next) v other)
 begins_more z cells hs now n next size inside before begins v other less = ⊎_elim
-    (λ (here : v ≡ n). subst (λ (m : ℕ). Begins z cells (get_or hs m other) (get_or (set now n next) m other)) (sym here)
-    (subst (Begins z cells (get_or hs n other)) (sym (get_or-set_same now n next other (omega (arith, size, inside)))) (begins other)))
-    (λ ne. subst (Begins z cells (get_or hs v other)) (sym (get_or-set_other now n v next other ne)) (before v other (earlier v n less ne))) (cases_eq v n)
+    (λ (here : v ≡ n). subst (λ (m : ℕ). HandBegins z cells (get_or hs m other) (get_or (set now n next) m other)) (sym here)
+    (subst (HandBegins z cells (get_or hs n other)) (sym (get_or-set_same now n next other (omega (arith, size, inside)))) (begins other)))
+    (λ ne. subst (HandBegins z cells (get_or hs v other)) (sym (get_or-set_other now n v next other ne)) (before v other (earlier v n less ne))) (cases_eq v n)
   where
     earlier : (v n : ℕ) → v < n + 1 → (v ≡ n → ⊥) → v < n
     earlier v n less ne = omega (arith, less, ne)

@@ -18,7 +18,7 @@ use Rattle.rh_turns.specs.declared.hand.Share.{Share}
 use Rattle.rh_turns.specs.declared.hand.Share.TheVariants.{Claims}
 use Rattle.rh_turns.specs.Hands.{IsNew}
 use Rattle.rh_turns.specs.Game.{ArePieces, Game, shares_of}
-use Rattle.rh_turns.specs.Laws.{Starts, WillClaim}
+use Rattle.rh_turns.specs.Laws.{GameStarts, WillClaim}
 use Rattle.rh_stepper.specs.SetUp.{AreNew, AreShares, ClaimsAll}
 
 -- a cell of a layout holds a value
@@ -88,7 +88,7 @@ module _ (kind : Kind) (z : Shape) (cells keys : List ℕ) (shares : List Share)
       all_is ∙ (λ i. take_all n words (omega (arith, n_is, size)) i ++ replicate (behind i) 0)
       ∙ ap (λ (ws : List ℕ). ws ++ replicate (row_total z + 1) 0) (words_are ∙ ap (map plain_number) (sym opening_is))
 
-  pub starts : Starts game
+  pub starts : GameStarts game
   starts = record {
     shape = shape;
     some = some;

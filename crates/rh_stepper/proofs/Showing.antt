@@ -9,7 +9,7 @@ use Rattle.rh_tagword.specs.Word.{tag_of, word_in, word_with}
 use Rattle.rh_descriptor.specs.Parts.{cell_count}
 use Rattle.rh_descriptor.specs.Words.{cell_said}
 use Rattle.rh_run.specs.History.{history, value_of}
-use Rattle.rh_run.specs.Words.{AreNow, IsLogicalWord, StandsFor}
+use Rattle.rh_run.specs.Words.{AreNow, IsLogicalWord, WordStandsFor}
 use Rattle.rh_run.proofs.Saying.{logical_words}
 use Rattle.rh_turns.specs.Game.{Game, Plays, keep}
 use Rattle.rh_turns.specs.Readable.{IsValueOf}
@@ -53,7 +53,7 @@ is_there (Some a) none = refl
 pub is_word : (g : Game) → Plays g → (c : ℕ) → c < cell_count g.shape → word_in (slice_index g.words c) ≡ None → ⊥
 is_word g plays c inside none =
     let word : ℕ = slice_index g.words c in
-    let stands : IsLogicalWord g.shape g.words (keep g) c word = subst (λ (r : Option Word). StandsFor g.shape g.words (keep g) c (cell_said r word) word) (sym none) refl in
+    let stands : IsLogicalWord g.shape g.words (keep g) c word = subst (λ (r : Option Word). WordStandsFor g.shape g.words (keep g) c (cell_said r word) word) (sym none) refl in
     let plain : tag_of word ≡ PLAIN = (plays_readable g plays c inside).value word stands in
     true≢false (sym (ap (λ (t : ℕ). is_some (word_with t (word / 2 ^ TAG_BITS))) plain) ∙ ap is_some none)
 

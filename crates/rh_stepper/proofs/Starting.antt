@@ -18,13 +18,13 @@ use Rattle.rh_descriptor.specs.Parts.{IsShape}
 use Rattle.rh_acts.specs.Workers.{LeavesRoom}
 use Rattle.rh_turns.specs.declared.hand.Hand.{Hand}
 use Rattle.rh_turns.specs.declared.hand.Share.{Share}
-use Rattle.rh_turns.specs.Hands.{keys_in}
+use Rattle.rh_turns.specs.Hands.{share_keys}
 use Rattle.rh_turns.specs.Game.{Game, keys_at, shares_of}
 use Rattle.rh_turns.proofs.AtHands.{at_hand_is, first_of_all}
 use Rattle.rh_stepper.specs.declared.fault.PlayFault.{PlayFault}
 use Rattle.rh_stepper.specs.declared.fault.PlayFault.TheVariants.{NotALayout, NoRoom, BadWorkers, BadKey, Memory}
 use Rattle.rh_stepper.specs.SetUp.{AreDealt}
-use Rattle.rh_stepper.specs.Start.{IsRooms, Makes, Refuses, are_keys, joined, shape_for, start_fault, table_fault, then_keys}
+use Rattle.rh_stepper.specs.Start.{IsRooms, MakesPlayer, Refuses, are_keys, keys_of_pieces, shape_for, start_fault, table_fault, then_keys}
 use Rattle.rh_stepper.proofs.Dealing.{joined_more}
 use Rattle.rh_stepper.proofs.Room.{leaves_room}
 
@@ -32,17 +32,17 @@ use Rattle.rh_stepper.proofs.Room.{leaves_room}
 
 -- one piece more
 pub keys_more : (pieces : List (Vec ℕ Global)) (i : ℕ) (piece d : Vec ℕ Global) → i < length pieces → piece ≡ get_or pieces i d
-    → are_keys (joined (take (i + 1) pieces)) ≡ (are_keys (joined (take i pieces)) && are_keys piece.items)
+    → are_keys (keys_of_pieces (take (i + 1) pieces)) ≡ (are_keys (keys_of_pieces (take i pieces)) && are_keys piece.items)
 keys_more pieces i piece d inside is =
-    ap are_keys (sym (joined_more pieces i d inside)) ∙ list_all-append (λ k. nat_le k MAX_KEY) (joined (take i pieces)) (get_or pieces i d).items
-    ∙ ap (λ (x : Vec ℕ Global). are_keys (joined (take i pieces)) && are_keys x.items) (sym is)
+    ap are_keys (sym (joined_more pieces i d inside)) ∙ list_all-append (λ k. nat_le k MAX_KEY) (keys_of_pieces (take i pieces)) (get_or pieces i d).items
+    ∙ ap (λ (x : Vec ℕ Global). are_keys (keys_of_pieces (take i pieces)) && are_keys x.items) (sym is)
 
 -- a piece has a key out of range
-pub bad_piece : (pieces : List (Vec ℕ Global)) (i : ℕ) (piece d : Vec ℕ Global) → i < length pieces → piece ≡ get_or pieces i d → are_keys piece.items ≡ false → are_keys (joined pieces) ≡ false
+pub bad_piece : (pieces : List (Vec ℕ Global)) (i : ℕ) (piece d : Vec ℕ Global) → i < length pieces → piece ≡ get_or pieces i d → are_keys piece.items ≡ false → are_keys (keys_of_pieces pieces) ≡ false
 bad_piece (x ∷ pieces) zero piece d inside is bad =
-    list_all-append (λ k. nat_le k MAX_KEY) x.items (joined pieces) ∙ ap (λ (b : Bool). b && are_keys (joined pieces)) (ap (λ (p : Vec ℕ Global). are_keys p.items) (sym is) ∙ bad)
+    list_all-append (λ k. nat_le k MAX_KEY) x.items (keys_of_pieces pieces) ∙ ap (λ (b : Bool). b && are_keys (keys_of_pieces pieces)) (ap (λ (p : Vec ℕ Global). are_keys p.items) (sym is) ∙ bad)
 bad_piece (x ∷ pieces) (suc i) piece d inside is bad =
-    list_all-append (λ k. nat_le k MAX_KEY) x.items (joined pieces) ∙ and_right (are_keys x.items) (are_keys (joined pieces)) (bad_piece pieces i piece d (omega (arith, inside)) is bad)
+    list_all-append (λ k. nat_le k MAX_KEY) x.items (keys_of_pieces pieces) ∙ and_right (are_keys x.items) (are_keys (keys_of_pieces pieces)) (bad_piece pieces i piece d (omega (arith, inside)) is bad)
 bad_piece [] i piece d inside is bad = absurd (omega (arith, inside))
 
 pub all_keys : (keys : List ℕ) → are_keys keys ≡ true → All IsKey keys
@@ -109,12 +109,12 @@ pieces_are pieces shares g shares_are dealt v other inside =
     let many : length g.hands ≡ length pieces = sym (length-map g.hands (λ (h : Hand). h.share)) ∙ ap length shares_are ∙ dealt.size in
     let here : v < length g.hands = omega (arith, inside, many) in
     let h : Hand = first_of_all g.hands (omega (arith, here)) in
-    at_hand_is (λ h. keys_in g.keys h.share) [] g.hands v h here ∙ ap (keys_in g.keys) (sym (get_or-map (λ (x : Hand). x.share) g.hands v h h.share here) ∙ ap (λ (ss : List Share). get_or ss v h.share) shares_are)
+    at_hand_is (λ h. share_keys g.keys h.share) [] g.hands v h here ∙ ap (share_keys g.keys) (sym (get_or-map (λ (x : Hand). x.share) g.hands v h h.share here) ∙ ap (λ (ss : List Share). get_or ss v h.share) shares_are)
     ∙ dealt.each v h.share other inside
 
 -- a growth was refused
 pub made_none : (first : Option PlayFault) (IsMade : Game → Type 0) (r : Result Game PlayFault) (Gives : PlayFault → Type 0) → IsErr r → IsErrAnd r Gives → ((given : PlayFault) → Gives given → given ≡ Memory)
-    → Refuses first Memory → Makes first IsMade r
+    → Refuses first Memory → MakesPlayer first IsMade r
 made_none first IsMade (Ok g) Gives bad gives is refuses = absurd (true≢false (sym bad))
 made_none first IsMade (Err given) Gives bad gives is refuses = subst (Refuses first) (sym (is given gives)) refuses
 

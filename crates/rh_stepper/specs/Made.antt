@@ -31,8 +31,8 @@ pub record SoFar (g : Game) : Type 0 where
 
 -- At each moment: the cells stand for the layout of the first set changed by the acts so far, and the set reflects each key
 -- that is done.
-abbrev pub MadeSoFar : Game → (cells : List ℕ) → Type 0
-MadeSoFar g cells = AreNow g.shape g.words (keep g) cells × SoFar g
+abbrev pub IsMadeSoFar : Game → (cells : List ℕ) → Type 0
+IsMadeSoFar g cells = AreNow g.shape g.words (keep g) cells × SoFar g
 
 -- ---- the tally
 

@@ -6,13 +6,13 @@ use Rattle.rh_descriptor.specs.declared.shape.Shape.{Shape}
 use Rattle.rh_turns.specs.declared.hand.Hand.{Hand}
 use Rattle.rh_turns.specs.declared.hand.Share.{Share}
 use Rattle.rh_turns.specs.declared.hand.Share.TheVariants.{Claims}
-use Rattle.rh_turns.specs.Hands.{IsNew, keys_in}
+use Rattle.rh_turns.specs.Hands.{IsNew, share_keys}
 use Rattle.rh_turns.specs.Game.{ArePieces}
 
 -- each piece is what its share says of the keys
 pub record AreDealt (keys : List ℕ) (shares : List Share) (pieces : List (Vec ℕ Global)) : Type 0 where
   pub size : length shares ≡ length pieces
-  pub each : (v : ℕ) (share : Share) (piece : Vec ℕ Global) → v < length pieces → keys_in keys (slice_index_or shares v share) ≡ (slice_index_or pieces v piece).items
+  pub each : (v : ℕ) (share : Share) (piece : Vec ℕ Global) → v < length pieces → share_keys keys (slice_index_or shares v share) ≡ (slice_index_or pieces v piece).items
 
 abbrev pub ClaimsAll : Share → Type 0
 ClaimsAll s = s ≡ Claims 0 false

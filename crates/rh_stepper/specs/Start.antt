@@ -11,7 +11,7 @@ use Rattle.rh_descriptor.specs.declared.limits.TheConstants.{MAX_ROOM, MAX_WORKE
 use Rattle.rh_descriptor.specs.declared.shape.Rooms.{Rooms}
 use Rattle.rh_descriptor.specs.declared.shape.Shape.{Shape}
 use Rattle.rh_turns.specs.Game.{Game, keys_at}
-use Rattle.rh_turns.specs.Laws.{Starts, WillClaim}
+use Rattle.rh_turns.specs.Laws.{GameStarts, WillClaim}
 use Rattle.rh_stepper.specs.declared.fault.PlayFault.{PlayFault}
 use Rattle.rh_stepper.specs.declared.fault.PlayFault.TheVariants.{NotALayout, NoRoom, BadWorkers, BadKey, Memory}
 
@@ -56,15 +56,15 @@ pub record StartsWith (kind : Kind) (z : Shape) (cells keys : List ℕ) (g : Gam
   pub shape_is : g.shape ≡ z
   pub opening_is : g.opening ≡ cells
   pub keys_are : g.keys ≡ keys
-  pub starts : Starts g
+  pub starts : GameStarts g
 
 -- the keys of all pieces, one piece after the other
-abbrev pub joined : List (Vec ℕ Global) → List ℕ
-joined pieces = flat_map (λ piece. piece.items) pieces
+abbrev pub keys_of_pieces : List (Vec ℕ Global) → List ℕ
+keys_of_pieces pieces = flat_map (λ piece. piece.items) pieces
 
 -- each worker has its piece
 pub record StartsPieces (kind : Kind) (bits : ℕ) (rooms : Rooms) (cells : List ℕ) (pieces : List (Vec ℕ Global)) (g : Game) : Type 0 where
-  pub start : StartsWith kind (shape_for bits (length pieces) rooms 0) cells (joined pieces) g
+  pub start : StartsWith kind (shape_for bits (length pieces) rooms 0) cells (keys_of_pieces pieces) g
   pub pieces_are : (v : ℕ) (other : Vec ℕ Global) → v < length pieces → keys_at g v ≡ (slice_index_or pieces v other).items
 
 -- so many workers claim the keys
@@ -73,6 +73,6 @@ pub record StartsShared (kind : Kind) (bits workers : ℕ) (rooms : Rooms) (cell
   pub claims : All WillClaim g.hands
 
 -- what comes of a call that makes a player
-abbrev pub Makes : Option PlayFault → (Game → Type 0) → Result Game PlayFault → Type 0
-Makes fault IsMade (Ok g) = (fault ≡ None) × IsMade g
-Makes fault IsMade (Err given) = Refuses fault given
+abbrev pub MakesPlayer : Option PlayFault → (Game → Type 0) → Result Game PlayFault → Type 0
+MakesPlayer fault IsMade (Ok g) = (fault ≡ None) × IsMade g
+MakesPlayer fault IsMade (Err given) = Refuses fault given

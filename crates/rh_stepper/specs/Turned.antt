@@ -13,7 +13,7 @@ use Rattle.rh_recorder.specs.Records.{Records}
 use Rattle.rh_recorder.specs.declared.recorder.Touched.{Touched}
 use Rattle.rh_turns.specs.Hands.{IsFinished, IsSpent, Making, TurnsBy, moment}
 use Rattle.rh_turns.specs.Game.{Game, keep}
-use Rattle.rh_turns.specs.Laws.{Begins, begun, hand, moment_of, turned}
+use Rattle.rh_turns.specs.Laws.{HandBegins, begun, hand, moment_of, turned}
 
 -- This worker made one step of this kind, of which this is so, and nothing else changed.
 pub record Steps (made : Making) (g : Game) (who : ℕ) (k : StepKind) (next : Game) : Type 0 where
@@ -52,7 +52,7 @@ IsStopped h = IsFinished h ⊎ IsSpent h
 
 -- each worker begins the round with the cells as they stand
 abbrev pub AllBegin : Shape → (words : List ℕ) → List Hand → (next : List Hand) → Type 0
-AllBegin z words hands next = (v : ℕ) (other : Hand) → v < length hands → Begins z (take (cell_count z) words) (slice_index_or hands v other) (slice_index_or next v other)
+AllBegin z words hands next = (v : ℕ) (other : Hand) → v < length hands → HandBegins z (take (cell_count z) words) (slice_index_or hands v other) (slice_index_or next v other)
 
 -- The rows are unused again, each worker begins the round, and nothing else changed.
 pub record BeginsRound (g next : Game) : Type 0 where

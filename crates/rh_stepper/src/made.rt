@@ -8,7 +8,7 @@ ghost use Rattle.rh_descriptor.specs.Parts.{IsShape, cell_count};
 ghost use Rattle.rh_tagword.specs.Word.{word_in};
 ghost use Rattle.rh_ledger.specs.Tally.{tally_by};
 ghost use Rattle.rh_turns.specs.Game.{AllFinished, IsDoneAt, done_at, keys_at};
-ghost use Rattle.rh_stepper.specs.Made.{AnswersAll, IsAnswer, MadeSoFar, TallySpec, changed_count};
+ghost use Rattle.rh_stepper.specs.Made.{AnswersAll, IsAnswer, IsMadeSoFar, TallySpec, changed_count};
 ghost use Rattle.rh_stepper.specs.Made.{done_count, held_first, is_shared, told_at, told_of};
 
 use crate::player::Player;
@@ -44,7 +44,7 @@ impl Player {
     /// Writes what the cells stand for.
     pub fn logical(&self, cells: &mut [u64])
         requires { length cells.old ≡ cell_count self.now.shape }
-        ensures so_far { MadeSoFar self.now cells.new }
+        ensures so_far { IsMadeSoFar self.now cells.new }
         ensures finished { AllFinished self.now →
             Layout cells.new self.now.shape.bits (set_after self.now.kind (held_first self.now) self.now.keys) }
     {

@@ -7,7 +7,7 @@ ghost use Rattle.rh_descriptor.specs.Parts.{IsShape};
 ghost use Rattle.rh_acts.specs.Workers.{LeavesRoom};
 ghost use Rattle.rh_turns.specs.Game.{ArePieces, shares_of};
 ghost use Rattle.rh_stepper.specs.SetUp.{AreDealt, AreNew, AreShares, ClaimsAll};
-ghost use Rattle.rh_stepper.specs.Start.{StartsWith, joined};
+ghost use Rattle.rh_stepper.specs.Start.{StartsWith, keys_of_pieces};
 
 use crate::player::Player;
 use rh_descriptor::Shape;
@@ -20,7 +20,7 @@ use std::alloc::{AllocError, Global};
 
 /// The keys of all pieces, and for each piece its part of them.
 pub(crate) fn deal(alloc: Global, pieces: &[Vec<u64>]) -> Result<(Vec<u64>, Vec<Share>), AllocError>
-    ensures keys { IfOk result (λ dealt. dealt.0.items ≡ joined pieces.now) }
+    ensures keys { IfOk result (λ dealt. dealt.0.items ≡ keys_of_pieces pieces.now) }
     ensures parts { IfOk result (λ dealt. ArePieces 0 dealt.1.items (length dealt.0.items)) }
     ensures each { IfOk result (λ dealt. AreDealt dealt.0.items dealt.1.items pieces.now) }
 {

@@ -4,8 +4,8 @@ ghost use Rattle.std.specs.Prelude.{◌≡◌, ℕ, IfOk, List, None, Some, Matc
 ghost use Rattle.rh_layout.specs.Layout.{IsLayout};
 ghost use Rattle.rh_ledger.specs.Phase.{most_added};
 ghost use Rattle.rh_stepper.specs.Made.{cut};
-ghost use Rattle.rh_stepper.specs.Start.{IsRooms, Makes, StartsPieces, StartsShared};
-ghost use Rattle.rh_stepper.specs.Start.{are_keys, joined, shape_for, start_fault, table_fault};
+ghost use Rattle.rh_stepper.specs.Start.{IsRooms, MakesPlayer, StartsPieces, StartsShared};
+ghost use Rattle.rh_stepper.specs.Start.{are_keys, keys_of_pieces, shape_for, start_fault, table_fault};
 ghost use Rattle.rh_descriptor.specs.Parts.{usual_rooms};
 
 use crate::fault::PlayFault;
@@ -25,7 +25,7 @@ impl Player {
         kind: Kind,
         pieces: &[Vec<u64>],
     ) -> Result<Player, PlayFault>
-        ensures { Makes (start_fault kind bits cells.now (length pieces.now) (joined pieces.now))
+        ensures { MakesPlayer (start_fault kind bits cells.now (length pieces.now) (keys_of_pieces pieces.now))
             (StartsPieces kind bits usual_rooms cells.now pieces.now) result }
     {
         Player::with_rooms(alloc, bits, cells, kind, pieces, Rooms::usual())
@@ -41,7 +41,7 @@ impl Player {
         rooms: Rooms,
     ) -> Result<Player, PlayFault>
         requires { IsRooms rooms }
-        ensures { Makes (start_fault kind bits cells.now (length pieces.now) (joined pieces.now))
+        ensures { MakesPlayer (start_fault kind bits cells.now (length pieces.now) (keys_of_pieces pieces.now))
             (StartsPieces kind bits rooms cells.now pieces.now) result }
     {
         test_table(kind, bits, cells, pieces.len(), count_keys(pieces))?;
@@ -62,7 +62,7 @@ impl Player {
         workers: usize,
         keys: &[u64],
     ) -> Result<Player, PlayFault>
-        ensures { Makes (start_fault kind bits cells.now workers keys.now)
+        ensures { MakesPlayer (start_fault kind bits cells.now workers keys.now)
             (StartsShared kind bits workers usual_rooms cells.now keys.now) result }
     {
         Player::share_with_rooms(alloc, bits, cells, kind, workers, keys, Rooms::usual())
@@ -79,7 +79,7 @@ impl Player {
         rooms: Rooms,
     ) -> Result<Player, PlayFault>
         requires { IsRooms rooms }
-        ensures { Makes (start_fault kind bits cells.now workers keys.now)
+        ensures { MakesPlayer (start_fault kind bits cells.now workers keys.now)
             (StartsShared kind bits workers rooms cells.now keys.now) result }
     {
         test_table(kind, bits, cells, workers, keys.len())?;
@@ -130,7 +130,7 @@ pub fn are_keys(keys: &[u64]) -> bool
 }
 
 fn are_all_keys(pieces: &[Vec<u64>]) -> bool
-    ensures { result ≡ are_keys (joined pieces.now) }
+    ensures { result ≡ are_keys (keys_of_pieces pieces.now) }
 {
     for piece in pieces {
         if !are_keys(piece) {
@@ -142,7 +142,7 @@ fn are_all_keys(pieces: &[Vec<u64>]) -> bool
 
 /// How many keys the pieces have. A count past the greatest number stays there.
 fn count_keys(pieces: &[Vec<u64>]) -> usize
-    ensures { result ≡ cut (length (joined pieces.now)) }
+    ensures { result ≡ cut (length (keys_of_pieces pieces.now)) }
 {
     let mut count = 0usize;
     for piece in pieces {

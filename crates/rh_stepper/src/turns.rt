@@ -5,7 +5,7 @@ ghost use Rattle.rh_descriptor.specs.Parts.{IsShape, word_count};
 ghost use Rattle.rh_run.specs.Words.{IsWiped};
 ghost use Rattle.rh_worker.specs.Worker.{IsWorker};
 ghost use Rattle.rh_turns.specs.Game.{AllFinished, AllStopped};
-ghost use Rattle.rh_turns.specs.Hands.{IsWithin};
+ghost use Rattle.rh_turns.specs.Hands.{IsDoneWithin};
 ghost use Rattle.rh_stepper.specs.Turned.{AllBegin, BeginsRound, IsStopped, Traced, Turned, touched_in};
 
 use crate::player::Player;
@@ -93,7 +93,7 @@ fn touched_in(turn: Turn, last: Option<Touched>) -> Option<Touched>
 
 /// Whether the worker has no step left in this round.
 fn is_stopped(hand: &Hand) -> bool
-    requires { IsWithin hand.now.share hand.now.done }
+    requires { IsDoneWithin hand.now.share hand.now.done }
     ensures { IsTrue result ↔ IsStopped hand.now }
 {
     hand.is_finished() || hand.worker.is_spent()

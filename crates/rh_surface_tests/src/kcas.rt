@@ -3,8 +3,8 @@
 ghost use Rattle.rh_descriptor.specs.Parts.{IsShape, cell_count};
 ghost use Rattle.rh_descriptor.specs.Steps.{AreEntries, IsKnown};
 ghost use Rattle.rh_descriptor.specs.Words.{ref_of};
-ghost use Rattle.rh_kcas.specs.Crews.{HasAll, IsAt, IsFresh, IsQuiet, views_of};
-ghost use Rattle.rh_kcas.specs.Rests.{Rests};
+ghost use Rattle.rh_kcas.specs.Crews.{HasAll, SitsAt, IsFresh, IsQuiet, views_of};
+ghost use Rattle.rh_kcas.specs.Rests.{SeatRests};
 ghost use Rattle.rh_rdcss.specs.Calls.{view_of};
 ghost use Rattle.rh_rule.specs.Seats.{InView};
 ghost use Rattle.rh_tagword.specs.Word.{IsValue};
@@ -26,7 +26,7 @@ pub fn make(alloc: Global, shape: Shape, cells: &[u64]) -> Result<(Table, Seat),
 }
 
 pub fn split(table: &Table, seat: &mut Seat, at: usize) -> Seat
-    requires here { IsAt table.now seat.old }
+    requires here { SitsAt table.now seat.old }
     requires within { (seat.old.side.worker < at) × (at < seat.old.side.worker + seat.old.count) }
     requires fresh { InView IsFresh (views_of seat.old) }
 {
@@ -34,8 +34,8 @@ pub fn split(table: &Table, seat: &mut Seat, at: usize) -> Seat
 }
 
 pub fn join(table: &Table, seat: &mut Seat, other: Seat)
-    requires here { IsAt table.now seat.old }
-    requires other { IsAt table.now other }
+    requires here { SitsAt table.now seat.old }
+    requires other { SitsAt table.now other }
     requires rest { InView IsQuiet (views_of seat.old) }
     requires other_rest { InView IsQuiet (views_of other) }
     requires follows { other.side.worker ≡ seat.old.side.worker + seat.old.count }
@@ -44,21 +44,21 @@ pub fn join(table: &Table, seat: &mut Seat, other: Seat)
 }
 
 pub fn kcas<R: Wait>(rt: &R, table: &Table, seat: &mut Seat, entries: &[Entry]) -> Outcome
-    requires rests { Rests table.now seat.old }
+    requires rests { SeatRests table.now seat.old }
     requires entries { AreEntries table.now.shape entries.now }
 {
     rh_kcas::kcas(rt, table, seat, entries)
 }
 
 pub fn help<R: Wait>(rt: &R, table: &Table, seat: &mut Seat, desc: Ref)
-    requires rests { Rests table.now seat.old }
+    requires rests { SeatRests table.now seat.old }
     requires known { IsKnown (view_of seat.old).side.facts (ref_of desc) }
 {
     rh_kcas::help(rt, table, seat, desc);
 }
 
 pub fn read<R: Wait>(rt: &R, table: &Table, seat: &mut Seat, cell: usize) -> Option<u64>
-    requires rests { Rests table.now seat.old }
+    requires rests { SeatRests table.now seat.old }
     requires cell { cell < cell_count table.now.shape }
 {
     rh_kcas::read(rt, table, seat, cell)
@@ -80,7 +80,7 @@ pub fn close(table: Table, seat: Seat, cells: &mut [u64])
 }
 
 pub fn claim(table: &Table, seat: &mut Seat) -> Option<u64>
-    requires rests { Rests table.now seat.old }
+    requires rests { SeatRests table.now seat.old }
     requires keys { (n : ℕ) → In n (view_of seat.old).side.claims → n < table.now.shape.keys }
 {
     rh_kcas::claim(table, seat)

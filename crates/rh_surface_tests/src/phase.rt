@@ -1,6 +1,6 @@
 //! Phases by several workers.
 
-ghost use Rattle.rh_kcas.specs.Rests.{Rests};
+ghost use Rattle.rh_kcas.specs.Rests.{SeatRests};
 ghost use Rattle.rh_layout.specs.Key.{IsKey};
 ghost use Rattle.rh_layout.specs.Layout.{IsLayout, keys_of};
 ghost use Rattle.rh_ledger.specs.Phase.{most_added};
@@ -27,7 +27,7 @@ pub fn do_key<R: Wait>(
     news: &mut [u64],
     entries: &mut [Entry],
 ) -> Option<bool>
-    requires rests { Rests table.now seat.old }
+    requires rests { SeatRests table.now seat.old }
     requires bits { table.now.shape.bits ≡ bits }
     requires key { IsKey key }
     requires seen { length seen.old ≡ 2 ^ bits }

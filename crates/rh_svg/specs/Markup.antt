@@ -35,8 +35,8 @@ pub record IsWellFormed (text : List ℕ) : Type 0 where
   pub whole : text ≡ render (Element tag inside Nothing)
 
 -- The content was drawn after what was there.
-abbrev pub Draws : {X E : Type 0} → (old new : List ℕ) → Content → Result X E → Type 0
-Draws old new content r = OnOk r (new ≡ old ++ render content)
+abbrev pub DrawsAfter : {X E : Type 0} → (old new : List ℕ) → Content → Result X E → Type 0
+DrawsAfter old new content r = OnOk r (new ≡ old ++ render content)
 
 -- ---- contents
 

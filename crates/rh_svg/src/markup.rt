@@ -1,7 +1,7 @@
 //! Elements and texts.
 
 ghost use Rattle.std.specs.Prelude.{◌≡◌, ◌++◌, OnOk};
-ghost use Rattle.rh_svg.specs.Markup.{Draws, escaped, escaped_byte, labelled, leaf, text_of};
+ghost use Rattle.rh_svg.specs.Markup.{DrawsAfter, escaped, escaped_byte, labelled, leaf, text_of};
 
 use crate::tags::{Tag, close, open};
 use rh_play::push_texts;
@@ -10,7 +10,7 @@ use std::alloc::AllocError;
 // Appends a text so that it has no markup.
 #[tactic(auto, unfolding(crate::specs::Markup::render))]
 fn text(out: &mut Vec<u8>, text: &[u8]) -> Result<(), AllocError>
-    ensures { Draws out.old.items out.new.items (text_of text.now) result }
+    ensures { DrawsAfter out.old.items out.new.items (text_of text.now) result }
 {
     for byte in text {
         escape(out, *byte)?;
@@ -33,7 +33,7 @@ fn escape(out: &mut Vec<u8>, byte: u8) -> Result<(), AllocError>
 /// Appends an element that holds nothing.
 #[tactic(auto, unfolding(crate::specs::Markup::render))]
 pub fn leaf(out: &mut Vec<u8>, given: Tag) -> Result<(), AllocError>
-    ensures { Draws out.old.items out.new.items (leaf given) result }
+    ensures { DrawsAfter out.old.items out.new.items (leaf given) result }
 {
     open(out, given)?;
     close(out, given)
@@ -42,7 +42,7 @@ pub fn leaf(out: &mut Vec<u8>, given: Tag) -> Result<(), AllocError>
 /// Appends an element that holds a text.
 #[tactic(auto, unfolding(crate::specs::Markup::render))]
 pub fn labelled(out: &mut Vec<u8>, tag: Tag, label: &[u8]) -> Result<(), AllocError>
-    ensures { Draws out.old.items out.new.items (labelled tag label.now) result }
+    ensures { DrawsAfter out.old.items out.new.items (labelled tag label.now) result }
 {
     open(out, tag)?;
     text(out, label)?;

@@ -23,7 +23,7 @@ use Rattle.rh_run.proofs.Sharing.{claims_at, claims_size, run_shared_ends, share
 use Rattle.rh_turns.specs.declared.hand.Hand.{Hand}
 use Rattle.rh_turns.specs.declared.hand.Share.{Share}
 use Rattle.rh_turns.specs.declared.hand.Share.TheVariants.{Piece, Claims}
-use Rattle.rh_turns.specs.Hands.{IsAtEnd, IsClaiming, IsHand, IsIdle, IsShare, done_keys, keys_for, keys_in, positions, positions_of, view_of}
+use Rattle.rh_turns.specs.Hands.{IsAtEnd, IsClaiming, IsHand, IsIdle, IsShare, done_keys, keys_for, share_keys, positions, positions_of, view_of}
 use Rattle.rh_turns.specs.Game.{AllFinished, ArePieces, Game, IsDoneAt, Plays, at_hand, changed_at, done_at, keep, positions_at, run_of, shares_of}
 use Rattle.rh_turns.specs.Laws.{EndsWith}
 use Rattle.rh_turns.proofs.AtHands.{at_hand_is}
@@ -63,7 +63,7 @@ module _ (keys : List ℕ) where
   pieces_join : (low : ℕ) (hs : List Hand) (count : ℕ) → ArePieces low (shares_of hs) count → joined (map (keys_for keys) hs) ≡ keys_at_positions low (count - low)
   pieces_join low [] count are = let none : zero ≡ count - low = omega (arith, are) in ap (keys_at_positions low) none
   pieces_join low (h ∷ hs) count are =
-      (λ i. keys_in keys (are.1 i) ++ pieces_join are.0 hs count are.3 i) ∙ parts_join low are.0 count are.2 (up_to are.0 hs count are.3)
+      (λ i. share_keys keys (are.1 i) ++ pieces_join are.0 hs count are.3 i) ∙ parts_join low are.0 count are.2 (up_to are.0 hs count are.3)
 
   pub pieces_are : (hs : List Hand) → ArePieces 0 (shares_of hs) (length keys) → joined (map (keys_for keys) hs) ≡ keys
   pieces_are hs are =
@@ -84,7 +84,7 @@ in_some_piece low (h ∷ hs) count are p d least inside = ⊎_elim
 -- ---- a worker that has done all its keys
 
 -- of a piece
-piece_done : (z : Shape) (keys : List ℕ) (v : View) (s : Share) (done : ℕ) → IsPiece s → IsAtEnd s done → (map (slice_index keys) (positions_of z s v done) ≡ keys_in keys s) × (length (positions_of z s v done) ≡ done) × (first_of s + done ≡ end_of s)
+piece_done : (z : Shape) (keys : List ℕ) (v : View) (s : Share) (done : ℕ) → IsPiece s → IsAtEnd s done → (map (slice_index keys) (positions_of z s v done) ≡ share_keys keys s) × (length (positions_of z s v done) ≡ done) × (first_of s + done ≡ end_of s)
 piece_done z keys v (Piece first end) done piece at_end =
     let size : done ≡ end - first = omega (arith, at_end) in
     (ap (λ (n : ℕ). map (slice_index keys) (range_with_len first n)) size, length-range_with_len first done, at_end)

@@ -12,7 +12,7 @@ use Rattle.rh_helping.specs.Goal.{debt_of}
 use Rattle.rh_helping.specs.Held.{IsHeld, KnowsOld}
 use Rattle.rh_helping.specs.declared.goal.Owed.{Owed}
 use Rattle.rh_run.specs.Known.{NotesOld}
-use Rattle.rh_run.specs.Words.{Holds, MarkIsFor}
+use Rattle.rh_run.specs.Words.{HoldsCell, MarkIsFor}
 use Rattle.rh_worker.specs.Worker.{IsWorker}
 use Rattle.rh_turns.specs.declared.hand.Hand.{Hand}
 use Rattle.rh_turns.specs.Hands.{view_of}
@@ -58,10 +58,10 @@ module _ (v : View) (who : ℕ) (is : v.worker ≡ who) where
       (record { of_desc = of_desc; at = at; knows = h.0 }, subst (λ (r : Ref). In (desc_is (record { worker = who; number = n }) r) v.side.facts) of_desc names))
       (λ owed. absurd (some_not_none n (sym mark.unsettled ∙ owed.0))) h.1
 
-  pub holds_it : (o : Owed) → IsHeld v (Some o) → (d : Ref) (c : ℕ) → Holds v.side who d c → HoldsEntry v o d c
+  pub holds_it : (o : Owed) → IsHeld v (Some o) → (d : Ref) (c : ℕ) → HoldsCell v.side who d c → HoldsEntry v o d c
   holds_it o h d c holds = ⊎_elim (owes_it o h d c) (λ mark. (marks_it o h mark.0 d c mark.1).0) holds
 
-  pub holds_none : IsHeld v None → (d : Ref) (c : ℕ) → Holds v.side who d c → ⊥
+  pub holds_none : IsHeld v None → (d : Ref) (c : ℕ) → HoldsCell v.side who d c → ⊥
   holds_none h d c holds = ⊎_elim (no_debt d c h.1) (λ mark. some_not_none mark.0 (sym mark.1.unsettled ∙ h.0)) holds
 
 -- what is kept of a worker, and its number

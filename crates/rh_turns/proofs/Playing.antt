@@ -34,7 +34,7 @@ use Rattle.rh_run.specs.History.{history}
 use Rattle.rh_turns.specs.declared.hand.Hand.{Hand}
 use Rattle.rh_turns.specs.declared.hand.Share.{Share}
 use Rattle.rh_turns.specs.declared.hand.Share.TheVariants.{Piece, Claims}
-use Rattle.rh_turns.specs.Hands.{HasClaimed, HasNext, IsFinished, IsHand, IsIdle, IsShare, IsSpent, keys_for, keys_in, position_of, positions, view_of}
+use Rattle.rh_turns.specs.Hands.{HasClaimed, HasNext, IsFinished, IsHand, IsIdle, IsShare, IsSpent, keys_for, share_keys, position_of, positions, view_of}
 use Rattle.rh_turns.specs.Readable.{AreWorkers, IsReadable}
 use Rattle.rh_turns.specs.Game.{AllStopped, Game, Plays, keep, keys_at, run_of}
 use Rattle.rh_turns.proofs.AtHands.{at_hand_is, first_of_all}
@@ -78,7 +78,7 @@ done_in z keys h (Claims last ended) falls o =
 -- ---- its keys
 
 -- those that it may come to do are of the list
-keys_from : (z : Shape) (keys : List ℕ) (h : Hand) (s : Share) (k : ℕ) → IsShare z keys h s → Contains (keys_in keys s) k → Contains keys k
+keys_from : (z : Shape) (keys : List ℕ) (h : Hand) (s : Share) (k : ℕ) → IsShare z keys h s → Contains (share_keys keys s) k → Contains keys k
 keys_from z keys h (Piece first end) k o has =
     let i : ℕ = has.0 in
     let size : length (map (slice_index keys) (range_with_len first (end - first))) ≡ end - first = length-map-range_with_len (slice_index keys) first (end - first) in
@@ -88,7 +88,7 @@ keys_from z keys h (Piece first end) k o has =
 keys_from z keys h (Claims last ended) k o has = has
 
 -- the next one is among them
-pub next_among : (keys : List ℕ) (s : Share) (done : ℕ) → HasNext s done → position_of s done < length keys → Contains (keys_in keys s) (slice_index keys (position_of s done))
+pub next_among : (keys : List ℕ) (s : Share) (done : ℕ) → HasNext s done → position_of s done < length keys → Contains (share_keys keys s) (slice_index keys (position_of s done))
 next_among keys (Piece first end) done next within =
     let size : length (map (slice_index keys) (range_with_len first (end - first))) ≡ end - first = length-map-range_with_len (slice_index keys) first (end - first) in
     let inside : done < end - first = omega (arith, next) in

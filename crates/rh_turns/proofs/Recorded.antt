@@ -11,7 +11,7 @@ use Rattle.rh_steps.specs.Relies.{Relies, Serves, Shows}
 use Rattle.rh_turns.specs.declared.turning.Turn.{Turn}
 use Rattle.rh_turns.specs.declared.turning.Turn.TheVariants.{Did, Finished, Spent, NoSuchWorker}
 use Rattle.rh_turns.specs.Hands.{ClaimsBy, Moment, StepsBy, TurnsBy, TurnsOn}
-use Rattle.rh_worker.specs.Makes.{Makes}
+use Rattle.rh_worker.specs.Makes.{MakesStep}
 
 abbrev pub shows : Shape → Recorder → View → Type 0
 shows z t v = Shows z t.words.items v
@@ -25,8 +25,8 @@ made z s t v word then next = Records then.last z s t.words.items v word then.wo
 pub relies_so : (z : Shape) (t : Recorder) (v : View) → Relies Shows Serves z t.words.items v → Relies shows serves z t v
 relies_so z t v r = record { now = record { shape = r.now.shape; knows = r.now.knows; rows = r.now.rows }; may = r.may }
 
-pub makes_so : (z : Shape) (k : StepKind) (t : Recorder) (v : View) (then : Recorder) (next : View) → Makes shows made z k t v then next
-    → Makes Shows (Records then.last) z k t.words.items v then.words.items next
+pub makes_so : (z : Shape) (k : StepKind) (t : Recorder) (v : View) (then : Recorder) (next : View) → MakesStep shows made z k t v then next
+    → MakesStep Shows (Records then.last) z k t.words.items v then.words.items next
 makes_so z k t v then next m = record {
   step = m.step;
   word = m.word;

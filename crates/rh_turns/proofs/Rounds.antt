@@ -19,9 +19,9 @@ use Rattle.rh_run.proofs.Turning.{run_rounds}
 use Rattle.rh_turns.specs.declared.hand.Hand.{Hand}
 use Rattle.rh_turns.specs.declared.hand.Share.{Share}
 use Rattle.rh_turns.specs.declared.hand.Share.TheVariants.{Piece, Claims}
-use Rattle.rh_turns.specs.Hands.{IsAtKey, IsClaiming, IsFinished, IsHand, IsIdle, IsShare, IsSpent, done_keys, keys_for, keys_in, position_now, position_of, positions, positions_of, view_of}
+use Rattle.rh_turns.specs.Hands.{IsAtKey, IsClaiming, IsFinished, IsHand, IsIdle, IsShare, IsSpent, done_keys, keys_for, share_keys, position_now, position_of, positions, positions_of, view_of}
 use Rattle.rh_turns.specs.Game.{AllStopped, ArePieces, Game, IsDealt, Plays, at_hand, done_at, keep, keys_at, positions_at, run_of, shares_of}
-use Rattle.rh_turns.specs.Laws.{Begins, begun}
+use Rattle.rh_turns.specs.Laws.{HandBegins, begun}
 use Rattle.rh_turns.proofs.AtHands.{at_hand_is}
 use Rattle.rh_turns.proofs.Playing.{in_hands, plays_stopped, some_hand}
 use Rattle.rh_turns.proofs.Turned.{same_claims}
@@ -31,7 +31,7 @@ use Rattle.rh_turns.proofs.Turned.{same_claims}
 idle_not_spent : (p : Stage) → p ≡ stage.Idle → p ≡ stage.Spent → ⊥
 idle_not_spent p idle spent = cc
 
-module _ (z : Shape) (kind : Kind) (keys cells : List ℕ) (h next : Hand) (begins : Begins z cells h next) where
+module _ (z : Shape) (kind : Kind) (keys cells : List ℕ) (h next : Hand) (begins : HandBegins z cells h next) where
   claims_same : (view_of next).side.claims ≡ (view_of h).side.claims
   claims_same = ap (λ (v : View). v.side.claims) begins.view
 
@@ -98,7 +98,7 @@ pieces_alike low (h ∷ hs) (k ∷ ks) count size same are =
     (are.0, same 0 h (omega arith) ∙ are.1, are.2, pieces_alike are.0 hs ks count (omega (arith, size)) (λ v d l. same (suc v) d (omega (arith, l))) are.3)
 
 -- the game as a round begins
-module _ (g : Game) (plays : Plays g) (stopped : AllStopped g) (then cells : List ℕ) (wiped : IsWiped g.shape g.words then) (same : (c : ℕ) → c < cell_count g.shape → slice_index g.words c ≡ slice_index cells c) (hands : List Hand) (size : length hands ≡ length g.hands) (begins : (v : ℕ) (d : Hand) → v < length g.hands → Begins g.shape cells (get_or g.hands v d) (get_or hands v d)) where
+module _ (g : Game) (plays : Plays g) (stopped : AllStopped g) (then cells : List ℕ) (wiped : IsWiped g.shape g.words then) (same : (c : ℕ) → c < cell_count g.shape → slice_index g.words c ≡ slice_index cells c) (hands : List Hand) (size : length hands ≡ length g.hands) (begins : (v : ℕ) (d : Hand) → v < length g.hands → HandBegins g.shape cells (get_or g.hands v d) (get_or hands v d)) where
   abbrev z : Shape
   z = g.shape
 
@@ -117,7 +117,7 @@ module _ (g : Game) (plays : Plays g) (stopped : AllStopped g) (then cells : Lis
   now : {A : Type 0} (f : Hand → A) (default : A) (v : ℕ) → v < z.workers → f (get_or hands v d) ≡ at_hand f default hands v
   now f default v mine = sym (at_hand_is f default hands v d (omega (arith, inside v mine, size)))
 
-  of : (v : ℕ) → v < z.workers → Begins z cells (get_or g.hands v d) (get_or hands v d)
+  of : (v : ℕ) → v < z.workers → HandBegins z cells (get_or g.hands v d) (get_or hands v d)
   of v mine = begins v d (inside v mine)
 
   positions_are : (v : ℕ) → v < z.workers → positions_at g v ≡ positions_at game v
@@ -130,7 +130,7 @@ module _ (g : Game) (plays : Plays g) (stopped : AllStopped g) (then cells : Lis
   alike : (v : ℕ) → v < z.workers → AreAlike after (record after { keep = keep game; keys = keys_at game; done = done_at game }) v
   alike v mine = record {
     kept = ap (round_view cells) (was view_of (new_view [] 0) v mine) ∙ sym (of v mine).view ∙ now view_of (new_view [] 0) v mine;
-    keys_are = was (keys_for g.keys) [] v mine ∙ ap (keys_in g.keys) (sym (of v mine).share) ∙ now (keys_for g.keys) [] v mine;
+    keys_are = was (keys_for g.keys) [] v mine ∙ ap (share_keys g.keys) (sym (of v mine).share) ∙ now (keys_for g.keys) [] v mine;
     done_are = was (done_keys z g.keys) [] v mine
         ∙ ap (map (slice_index g.keys)) (sym (positions_same z g.kind g.keys cells (get_or g.hands v d) (get_or hands v d) (of v mine))) ∙ now (done_keys z g.keys) [] v mine;
     told_are = refl;

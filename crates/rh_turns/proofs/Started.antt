@@ -16,7 +16,7 @@ use Rattle.rh_turns.specs.declared.hand.Share.{Share}
 use Rattle.rh_turns.specs.declared.hand.Share.TheVariants.{Piece, Claims}
 use Rattle.rh_turns.specs.Hands.{IsHand, IsShare, done_keys, positions_of, view_of}
 use Rattle.rh_turns.specs.Game.{ArePieces, Game, IsDealt, Plays, at_hand, done_at, keep, keys_at, run_of, shares_of}
-use Rattle.rh_turns.specs.Laws.{Starts, WillClaim}
+use Rattle.rh_turns.specs.Laws.{GameStarts, WillClaim}
 use Rattle.rh_turns.proofs.AtHands.{at_hand_is, first_of_all}
 use Rattle.rh_turns.proofs.Apart.{piece_within}
 
@@ -32,7 +32,7 @@ none_at (suc n) (suc p) = none_at n p
 none_claimed : (z : Shape) (h : Hand) (cells : List ℕ) (v : ℕ) → view_of h ≡ new_view cells v → claimed z (view_of h) ≡ []
 none_claimed z h cells v is = ap (claimed z) is
 
-module _ (g : Game) (starts : Starts g) where
+module _ (g : Game) (starts : GameStarts g) where
   abbrev z : Shape
   z = g.shape
 

@@ -26,7 +26,7 @@ use Rattle.rh_turns.specs.declared.hand.Share.{Share}
 use Rattle.rh_turns.specs.declared.hand.Share.TheVariants.{Piece, Claims}
 use Rattle.rh_turns.specs.declared.turning.Turn.{Turn}
 use Rattle.rh_turns.specs.declared.turning.Turn.TheVariants.{Did, Finished, Spent, NoSuchWorker}
-use Rattle.rh_turns.specs.Hands.{ClaimsOn, IsClaiming, IsHand, IsIdle, IsShare, Moment, StepsOn, TurnsOn, answered, counted, done_keys, keys_for, keys_in, moment, position_now, position_of, positions, positions_of, view_of}
+use Rattle.rh_turns.specs.Hands.{ClaimsOn, IsClaiming, IsHand, IsIdle, IsShare, Moment, StepsOn, TurnsOn, answered, HasCounted, done_keys, keys_for, share_keys, moment, position_now, position_of, positions, positions_of, view_of}
 use Rattle.rh_turns.specs.Game.{ArePieces, Game, IsDealt, IsDoneAt, Plays, at_hand, changed_at, done_at, keep, keys_at, positions_at, run_of, shares_of}
 use Rattle.rh_turns.specs.Laws.{moment_of, turned}
 use Rattle.rh_turns.proofs.AtHands.{at_hand_is, at_hand_set}
@@ -80,12 +80,12 @@ module _ (z : Shape) (keys : List ℕ) (h next : Hand) (claims : (view_of next).
   one_done (Piece first end) is was now done = range_more first h.done
   one_done (Claims last ended) is was now done = last_done last ended is was now done
 
-  positions_then : (answer : Option Bool) → next.share ≡ h.share → IsShare z keys h h.share → IsShare z keys next next.share → counted h answer next
+  positions_then : (answer : Option Bool) → next.share ≡ h.share → IsShare z keys h h.share → IsShare z keys next next.share → HasCounted h answer next
       → positions z next ≡ also_at (positions z h) (position_now h) answer
   positions_then answer share was now counts =
       ap (λ (s : Share). positions_of z s (view_of next) next.done) share ∙ same_claims z (view_of h) (view_of next) h.share next.done claims ∙ go answer counts
     where
-      go : (answer : Option Bool) → counted h answer next → positions_of z h.share (view_of h) next.done ≡ also_at (positions z h) (position_now h) answer
+      go : (answer : Option Bool) → HasCounted h answer next → positions_of z h.share (view_of h) next.done ≡ also_at (positions z h) (position_now h) answer
       go None counts = ap (positions_of z h.share (view_of h)) counts.0
       go (Some told) counts = ap (positions_of z h.share (view_of h)) counts.0 ∙ one_done h.share refl was (subst (IsShare z keys next) share now) counts.0
 
@@ -102,7 +102,7 @@ keys_then z keys h next answer is = go answer ∙ sym (ap (map (slice_index keys
 how_many_more : (told : List Bool) (so : Bool) → count_by (λ so. so) (told ++ so ∷ []) ≡ count_by (λ so. so) told + cond so 1 0
 how_many_more told so = sum_by_push (λ (so : Bool). cond so 1 0) told so
 
-counts_then : (h next : Hand) (told : List Bool) (answer : Option Bool) → counted h answer next → h.changed ≡ count_by (λ so. so) told → next.changed ≡ count_by (λ so. so) (also_told told answer)
+counts_then : (h next : Hand) (told : List Bool) (answer : Option Bool) → HasCounted h answer next → h.changed ≡ count_by (λ so. so) told → next.changed ≡ count_by (λ so. so) (also_told told answer)
 counts_then h next told None counts was = counts.1 ∙ was
 counts_then h next told (Some so) counts was = counts.1 ∙ ap (λ (n : ℕ). n + cond so 1 0) was ∙ sym (how_many_more told so)
 
@@ -257,7 +257,7 @@ module _ (g : Game) (plays : Plays g) (who : ℕ) (mine : who < g.shape.workers)
       ∙ plays.unanswered p (λ done. undone (done_then (at ∷ []) positions_are p done))
 
   -- its keys, its done keys and what it was told
-  module _ (answer : Option Bool) (share : keys_for g.keys next ≡ keys_for g.keys h) (positions_are : positions z next ≡ also_at (positions z h) (position_now h) answer) (counts : counted h answer next) (hand : IsHand z g.kind g.keys next) (dealt : IsDealt game) where
+  module _ (answer : Option Bool) (share : keys_for g.keys next ≡ keys_for g.keys h) (positions_are : positions z next ≡ also_at (positions z h) (position_now h) answer) (counts : HasCounted h answer next) (hand : IsHand z g.kind g.keys next) (dealt : IsDealt game) where
     abbrev told : ℕ → List Bool
     told = updated plays.told who (also_told (plays.told who) answer)
 
@@ -337,7 +337,7 @@ module _ (g : Game) (plays : Plays g) (who : ℕ) (mine : who < g.shape.workers)
       (subst (λ (l : List ℕ). Contains l key) (sym (at_who (keys_for g.keys) [])) (next_among g.keys h.share h.done s.next_key s.within))
       (subst (λ (x : View). Advances z g.kind key x (view_of next) s.done) kept (subst (λ (k : Kind). Advances z k key (view_of h) (view_of next) s.done) was.kind_is s.advances))
       plays.running in
-      plays_then s.done (ap (keys_in g.keys) s.share) positions_are s.counts hand (dealt_then g who d next is s.share plays.dealt)
+      plays_then s.done (ap (share_keys g.keys) s.share) positions_are s.counts hand (dealt_then g who d next is s.share plays.dealt)
       (subst (λ (l : List ℕ). RunInvariant (record (also_done_by (stepped (run_of g plays.told) then who (view_of next)) who key s.done) { done = updated (done_at g) who l })) done run)
       (fits s.done s.within) s.told_is
     where
@@ -351,7 +351,7 @@ module _ (g : Game) (plays : Plays g) (who : ℕ) (mine : who < g.shape.workers)
       let kept : view_of h ≡ keep g who = sym (kept_at g plays who mine d) in
       let share = c.claiming.0.2 in
       let share_then = c.claiming.1.2 in
-      let keys_are : keys_for g.keys next ≡ keys_for g.keys h = ap (keys_in g.keys) share_then ∙ sym (ap (keys_in g.keys) share) in
+      let keys_are : keys_for g.keys next ≡ keys_for g.keys h = ap (share_keys g.keys) share_then ∙ sym (ap (share_keys g.keys) share) in
       let most : h.done ≤ length (claimed z (view_of h)) = done_claimed z h c.claiming.0.0 c.claiming.0.1 (subst (IsShare z g.keys h) share was.share).1 in
       let positions_are : positions z next ≡ positions z h =
       ap (λ (s : Share). positions_of z s (view_of next) next.done) share_then ∙ ap (λ (n : ℕ). take n (claimed z (view_of next))) c.counts.0

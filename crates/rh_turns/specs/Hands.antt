@@ -8,7 +8,7 @@ use Rattle.rh_descriptor.specs.declared.steps.StepKind.{StepKind}
 use Rattle.rh_descriptor.specs.declared.steps.StepKind.TheVariants as kind
 use Rattle.rh_descriptor.specs.View.{View, new_view}
 use Rattle.rh_descriptor.specs.Steps.{Allowed, Step, StepsTo}
-use Rattle.rh_worker.specs.Makes.{Makes}
+use Rattle.rh_worker.specs.Makes.{MakesStep}
 use Rattle.rh_steps.specs.Relies.{Shows}
 use Rattle.rh_run.specs.Advance.{Advances}
 use Rattle.rh_worker.specs.Worker.{GivesUp, HasNoRoom, IsWorker}
@@ -53,12 +53,12 @@ abbrev pub IsClaiming : Hand → Type 0
 IsClaiming h = (last : ℕ) × (ended : Bool) × (h.share ≡ Claims last ended)
 
 -- all keys that it may come to do: its piece, or the list that is shared
-abbrev pub keys_in : (keys : List ℕ) → Share → List ℕ
-keys_in keys (Piece first end) = map (slice_index keys) (range_with_len first (end - first))
-keys_in keys (Claims last ended) = keys
+abbrev pub share_keys : (keys : List ℕ) → Share → List ℕ
+share_keys keys (Piece first end) = map (slice_index keys) (range_with_len first (end - first))
+share_keys keys (Claims last ended) = keys
 
 abbrev pub keys_for : (keys : List ℕ) → Hand → List ℕ
-keys_for keys h = keys_in keys h.share
+keys_for keys h = share_keys keys h.share
 
 abbrev pub done_keys : Shape → (keys : List ℕ) → Hand → List ℕ
 done_keys z keys h = map (slice_index keys) (positions z h)
@@ -70,9 +70,9 @@ IsAtEnd (Piece first end) done = first + done ≡ end
 IsAtEnd (Claims last ended) done = ended ≡ true
 
 -- its done keys lie within its piece
-abbrev pub IsWithin : Share → (done : ℕ) → Type 0
-IsWithin (Piece first end) done = first + done ≤ end
-IsWithin (Claims last ended) done = Unit {0}
+abbrev pub IsDoneWithin : Share → (done : ℕ) → Type 0
+IsDoneWithin (Piece first end) done = first + done ≤ end
+IsDoneWithin (Claims last ended) done = Unit {0}
 
 -- a key comes after those that are done
 abbrev pub HasNext : Share → (done : ℕ) → Type 0
@@ -117,10 +117,10 @@ pub record IsNew (kind : Kind) (z : Shape) (words : List ℕ) (v : ℕ) (h : Han
 
 -- ---- a turn of it
 
--- what it has counted once it is told of a key
-abbrev pub counted : Hand → Option Bool → Hand → Type 0
-counted h None next = (next.done ≡ h.done) × (next.changed ≡ h.changed)
-counted h (Some told) next = (next.done ≡ h.done + 1) × (next.changed ≡ h.changed + cond told 1 0)
+-- what it has HasCounted once it is told of a key
+abbrev pub HasCounted : Hand → Option Bool → Hand → Type 0
+HasCounted h None next = (next.done ≡ h.done) × (next.changed ≡ h.changed)
+HasCounted h (Some told) next = (next.done ≡ h.done + 1) × (next.changed ≡ h.changed + cond told 1 0)
 
 abbrev pub answered : (answers : List (Option Bool)) → (position : ℕ) → Option Bool → List (Option Bool)
 answered answers position None = answers
@@ -145,12 +145,12 @@ pub record StepsBy (made : Making) (z : Shape) (keys : List ℕ) (k : StepKind) 
   pub unspent : IsSpent m.hand → ⊥
   pub next_key : HasNext m.hand.share m.hand.done
   pub within : position_now m.hand < length keys
-  pub makes : Makes Shows made z k m.words (view_of m.hand) next.words (view_of next.hand)
+  pub makes : MakesStep Shows made z k m.words (view_of m.hand) next.words (view_of next.hand)
   pub done : Option Bool
   pub advances : Advances z m.hand.worker.kind (slice_index keys (position_now m.hand)) (view_of m.hand) (view_of next.hand) done
   pub gives_up : GivesUp (view_of m.hand) (view_of next.hand) → IsSpent next.hand
   pub share : next.hand.share ≡ m.hand.share
-  pub counts : counted m.hand done next.hand
+  pub counts : HasCounted m.hand done next.hand
   pub told_is : next.answers ≡ answered m.answers (position_now m.hand) done
 
 -- One Claim of a worker that is at no key.

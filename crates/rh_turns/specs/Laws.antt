@@ -39,7 +39,7 @@ WillClaim h = (last : ℕ) × (h.share ≡ Claims last false)
 abbrev pub IsNewlyDealt : Game → Type 0
 IsNewlyDealt g = ArePieces 0 (shares_of g.hands) (length g.keys) ⊎ ((g.shape.keys ≡ length g.keys) × All WillClaim g.hands)
 
-pub record Starts (g : Game) : Type 0 where
+pub record GameStarts (g : Game) : Type 0 where
   pub shape : IsShape g.shape
   pub some : 0 < g.shape.workers
   pub workers : length g.hands ≡ g.shape.workers
@@ -52,7 +52,7 @@ pub record Starts (g : Game) : Type 0 where
   pub dealt : IsNewlyDealt g
 
 abbrev pub StartsPlay : Type 0
-StartsPlay = (g : Game) → Starts g → Plays g
+StartsPlay = (g : Game) → GameStarts g → Plays g
 
 -- ---- a turn
 
@@ -76,7 +76,7 @@ TurnsKeep = (g : Game) → Plays g → (who : ℕ) → who < g.shape.workers →
 -- ---- a round
 
 -- It begins a round with these cells, which are given as words. One that was spent begins its key again.
-pub record Begins (z : Shape) (cells : List ℕ) (h next : Hand) : Type 0 where
+pub record HandBegins (z : Shape) (cells : List ℕ) (h next : Hand) : Type 0 where
   pub worker : IsWorker z next.worker
   pub kind_same : next.worker.kind ≡ h.worker.kind
   pub key_same : next.worker.key ≡ h.worker.key
@@ -95,7 +95,7 @@ begun g then hands = record g { words = then; hands = hands }
 abbrev pub RoundsKeep : Type 0
 RoundsKeep = (g : Game) → Plays g → AllStopped g → AllRest g.shape (keep g)
     × ((then cells : List ℕ) → IsWiped g.shape g.words then → ((c : ℕ) → c < cell_count g.shape → slice_index g.words c ≡ slice_index cells c)
-    → (hands : List Hand) → length hands ≡ length g.hands → ((v : ℕ) (other : Hand) → v < length g.hands → Begins g.shape cells (hand g v other) (slice_index_or hands v other))
+    → (hands : List Hand) → length hands ≡ length g.hands → ((v : ℕ) (other : Hand) → v < length g.hands → HandBegins g.shape cells (hand g v other) (slice_index_or hands v other))
     → Plays (begun g then hands))
 
 -- ---- what was made

@@ -6,7 +6,7 @@ use Rattle.rh_descriptor.specs.View.{View, new_view}
 use Rattle.rh_descriptor.specs.Words.{IsPlain, cell_in}
 use Rattle.rh_run.specs.History.{value_of}
 use Rattle.rh_run.specs.Known.{NotesOld}
-use Rattle.rh_run.specs.Words.{Holds, IsLogicalWord, LeadsInside}
+use Rattle.rh_run.specs.Words.{HoldsCell, IsLogicalWord, LeadsInside}
 use Rattle.rh_worker.specs.Worker.{IsWorker}
 use Rattle.rh_turns.specs.declared.hand.Hand.{Hand}
 use Rattle.rh_turns.specs.Hands.{view_of}
@@ -34,7 +34,7 @@ pub record IsValueOf (z : Shape) (words : List ℕ) (keep : ℕ → View) (c val
 
 -- of n workers one holds d in cell c
 abbrev pub HasHolder : (n : ℕ) → (keep : ℕ → View) → (d : Ref) → (c : ℕ) → Type 0
-HasHolder n keep d c = (v : ℕ) × (v < n) × Holds (keep v).side v d c
+HasHolder n keep d c = (v : ℕ) × (v < n) × HoldsCell (keep v).side v d c
 
 -- and noted the old value of its entry for the cell
 abbrev pub HasNoted : (n : ℕ) → (keep : ℕ → View) → (d : Ref) → (c word : ℕ) → Type 0

@@ -25,11 +25,11 @@ pub struct Hand {
 
 impl Share {
     ghost use Rattle.std.specs.Prelude.{◌≡◌, ◌↔◌, IsTrue};
-    ghost use Rattle.rh_turns.specs.Hands.{IsAtEnd, IsWithin, position_of};
+    ghost use Rattle.rh_turns.specs.Hands.{IsAtEnd, IsDoneWithin, position_of};
 
     /// The position of the key that comes after those that are done.
     pub(crate) fn position(self, done: usize) -> usize
-        requires { IsWithin self done }
+        requires { IsDoneWithin self done }
         ensures { result ≡ position_of self done }
     {
         match self {
@@ -40,7 +40,7 @@ impl Share {
 
     /// Whether no key comes after those that are done.
     pub(crate) fn is_at_end(self, done: usize) -> bool
-        requires { IsWithin self done }
+        requires { IsDoneWithin self done }
         ensures { IsTrue result ↔ IsAtEnd self done }
     {
         match self {
@@ -52,11 +52,11 @@ impl Share {
 
 impl Hand {
     ghost use Rattle.std.specs.Prelude.{◌↔◌, IsTrue};
-    ghost use Rattle.rh_turns.specs.Hands.{IsFinished, IsWithin};
+    ghost use Rattle.rh_turns.specs.Hands.{IsFinished, IsDoneWithin};
 
     /// Whether all its keys are done.
     pub fn is_finished(&self) -> bool
-        requires { IsWithin self.now.share self.now.done }
+        requires { IsDoneWithin self.now.share self.now.done }
         ensures { IsTrue result ↔ IsFinished self.now }
     {
         self.worker.is_idle() && self.share.is_at_end(self.done)

@@ -5,7 +5,7 @@ ghost use Rattle.rh_descriptor.specs.Parts.{IsShape, cell_count, word_count};
 ghost use Rattle.rh_descriptor.specs.Words.{ref_of};
 ghost use Rattle.rh_descriptor.specs.Steps.{IsDesc};
 ghost use Rattle.rh_rule.specs.Represents.{word_at};
-ghost use Rattle.rh_run.specs.Words.{DescLeads, IsLogicalWord, MarkIsFor, MarkStandsFor, StandsFor, entry_for};
+ghost use Rattle.rh_run.specs.Words.{DescLeads, IsLogicalWord, MarkIsFor, MarkStandsFor, WordStandsFor, entry_for};
 ghost use Rattle.rh_turns.specs.Readable.{AreWorkers, HasHolder, HasNoted, IsReadable, IsValueOf, views_of};
 ghost use Rattle.rh_descriptor.specs.declared.shape.Part.TheVariants as part;
 ghost use Rattle.rh_world.specs.World.Cell.{desc as is_desc};
@@ -69,7 +69,7 @@ fn described_word(shape: &Shape, words: &[u64], hands: &[Hand], desc: Ref, cell:
     requires workers { AreWorkers hands.now }
     requires count { length hands.now ≡ shape.now.workers }
     requires leads { DescLeads shape.now words.now (views_of hands.now) cell (ref_of desc) }
-    ensures { StandsFor shape.now words.now (views_of hands.now) cell (is_desc (ref_of desc)) result }
+    ensures { WordStandsFor shape.now words.now (views_of hands.now) cell (is_desc (ref_of desc)) result }
 {
     let worker = desc.worker;
     if words[shape.index(Part::Serial { worker })] == desc.number {

@@ -15,7 +15,7 @@ use Rattle.rh_run.specs.History.{kept_of, value_of}
 use Rattle.rh_descriptor.specs.declared.shape.Shape.{Shape}
 use Rattle.rh_descriptor.specs.Parts.{cell_count}
 use Rattle.rh_descriptor.specs.View.{View}
-use Rattle.rh_worker.specs.Reading.{HasRead, IsToldAnew, TellsAnew, seen_back}
+use Rattle.rh_worker.specs.Reading.{HasScanned, IsToldAnew, TellsAnew, seen_back}
 use Rattle.rh_worker.specs.Worker.{WereRead}
 
 -- the same reads are kept
@@ -24,11 +24,11 @@ kept_alike z v next same = ap (λ (rs : List KeptRead). map (λ r. kept r.cell (
 
 -- nothing more was read
 pub none_read : (z : Shape) (before : List Kept) (v next : View) (k : ℕ) (seen : List ℕ) (n : ℕ) → kept_of z next ≡ kept_of z v
-    → HasRead z before v k seen n → HasRead z before next k seen n
+    → HasScanned z before v k seen n → HasScanned z before next k seen n
 none_read z before v next k seen n same h = record { since = h.since; reads = same ∙ h.reads }
 
 -- what was seen is left
-pub left_off : (z : Shape) (before : List Kept) (v : View) (k : ℕ) (seen other : List ℕ) (n : ℕ) → HasRead z before v k seen n → HasRead z before v k other 0
+pub left_off : (z : Shape) (before : List Kept) (v : View) (k : ℕ) (seen other : List ℕ) (n : ℕ) → HasScanned z before v k seen n → HasScanned z before v k other 0
 left_off z before v k seen other n h = record { since = seen_back z k seen n ++ h.since; reads = h.reads ∙ sym (append_assoc (seen_back z k seen n) h.since before) }
 
 -- the first n cells are seen alike
@@ -39,7 +39,7 @@ alike z k seen other (suc n) same =
     ∙ ap (λ (l : List Kept). kept (cell_ahead (cell_count z) (home_of z.bits k) n) (get_or seen n 0) ∷ l) (alike z k seen other n (λ p l. same p (omega arith)))
 
 pub seen_alike : (z : Shape) (before : List Kept) (v : View) (k : ℕ) (seen other : List ℕ) (n : ℕ) → ((p : ℕ) → p < n → get_or other p 0 ≡ get_or seen p 0)
-    → HasRead z before v k seen n → HasRead z before v k other n
+    → HasScanned z before v k seen n → HasScanned z before v k other n
 seen_alike z before v k seen other n same h = record {
   since = h.since;
   reads = h.reads ∙ ap (λ (l : List Kept). l ++ (h.since ++ before)) (sym (alike z k seen other n same));
@@ -48,7 +48,7 @@ seen_alike z before v k seen other n same h = record {
 -- the next cell is read
 pub one_read : (z : Shape) (before : List Kept) (v next : View) (k : ℕ) (seen now : List ℕ) (n c value : ℕ) → ((p : ℕ) → p < n → get_or now p 0 ≡ get_or seen p 0) → get_or now n 0 ≡ value
     → c ≡ cell_ahead (cell_count z) (home_of z.bits k) n → kept_of z next ≡ kept c value ∷ kept_of z v
-    → HasRead z before v k seen n → HasRead z before next k now (suc n)
+    → HasScanned z before v k seen n → HasScanned z before next k now (suc n)
 one_read z before v next k seen now n c value same last at read h =
     let old = seen_alike z before v k seen now n same h in
     record {
@@ -59,9 +59,9 @@ one_read z before v next k seen now n c value same last at read h =
 
 -- what was seen, as a list of its own
 pub front_read : (z : Shape) (before : List Kept) (v : View) (k : ℕ) (seen : List ℕ) (n : ℕ) → n ≤ length seen
-    → HasRead z before v k seen n → HasRead z before v k (take n seen) (length (take n seen))
+    → HasScanned z before v k seen n → HasScanned z before v k (take n seen) (length (take n seen))
 front_read z before v k seen n within h =
-    subst (HasRead z before v k (take n seen)) (sym (length-take-le n seen within))
+    subst (HasScanned z before v k (take n seen)) (sym (length-take-le n seen within))
     (seen_alike z before v k seen (take n seen) n (λ p less. get_or-take n seen p 0 less) h)
 
 -- each of these reads is kept
@@ -72,7 +72,7 @@ in_back z k seen (suc n) p less = ⊎_elim
     (λ (ne : p ≢ n). Contains-append_right (kept (cell_ahead (cell_count z) (home_of z.bits k) n) (get_or seen n 0) ∷ []) (seen_back z k seen n) _ (in_back z k seen n p (omega (arith, less, ne))))
     (same_nat p n)
 
-pub each_read : (z : Shape) (before : List Kept) (v : View) (k : ℕ) (seen : List ℕ) → HasRead z before v k seen (length seen) → WereRead z v k seen
+pub each_read : (z : Shape) (before : List Kept) (v : View) (k : ℕ) (seen : List ℕ) → HasScanned z before v k seen (length seen) → WereRead z v k seen
 each_read z before v k seen h p less =
     subst (λ (l : List Kept). Contains l (kept (cell_ahead (cell_count z) (home_of z.bits k) p) (get_or seen p 0))) (sym h.reads)
     (Contains-append_left (seen_back z k seen (length seen)) (h.since ++ before) _ (in_back z k seen (length seen) p less))

@@ -15,8 +15,8 @@ use Rattle.rh_descriptor.specs.declared.steps.StepKind.{StepKind}
 use Rattle.rh_helping.specs.Next.Outcome.{Closed}
 use Rattle.rh_helping.specs.declared.machine.Ended.{Ended}
 use Rattle.rh_helping.specs.declared.machine.Ended.TheVariants as ended
-use Rattle.rh_helping.specs.Goal.{IsNewest, KnowsOwn}
-use Rattle.rh_helping.specs.Made.{HasMade}
+use Rattle.rh_helping.specs.Goal.{IsNewestOwn, KnowsOwn}
+use Rattle.rh_helping.specs.Made.{HasMadeStep}
 use Rattle.rh_helping.specs.Work.{HasEnded, Leads}
 use Rattle.rh_worker.specs.Worker.{GivesUp}
 use Rattle.rh_rule.specs.Sound.{Sound}
@@ -56,13 +56,13 @@ module _ (z : Shape) (v : View) (word n : ℕ) (opened : v.side.current ≡ Some
   noted_before (Step.releases d e c k value) closed m i = subst (λ (ns : List Fact). In m ns) (released_notes v d e c) i
   noted_before Step.claims closed m i = absurd (stays_open Step.claims refl closed)
 
-module _ {T : Type 0} {shows : Shape → T → View → Type 0} {does : Shape → Step → T → View → ℕ → T → View → Type 0} (z : Shape) (kp : StepKind) (t : T) (v : View) (then : T) (next : View) (made : HasMade shows does z kp t v then next)
+module _ {T : Type 0} {shows : Shape → T → View → Type 0} {does : Shape → Step → T → View → ℕ → T → View → Type 0} (z : Shape) (kp : StepKind) (t : T) (v : View) (then : T) (next : View) (made : HasMadeStep shows does z kp t v then next)
     (kind : Kind) (key : ℕ) (changes : Bool) (own : OwnDesc) (knows : KnowsOwn v (Some own)) (done : Does kind z.bits key changes (act_of own.entries))
     (end : Ended) (leads : Leads z next (Some own) (Closed end)) where
   same_number : leads.0.number ≡ own.number
   same_number = let e : Some own ≡ Some leads.0 = leads.1 in let d : own ≡ leads.0 = cc in ap (λ (x : OwnDesc). x.number) (sym d)
 
-  newest_in : (os : List OwnDesc) → IsNewest os own → In own os
+  newest_in : (os : List OwnDesc) → IsNewestOwn os own → In own os
   newest_in [] is = absurd is
   newest_in (o ∷ os) is = inl (sym is)
 

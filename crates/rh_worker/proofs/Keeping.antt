@@ -18,8 +18,8 @@ use Rattle.rh_helping.specs.Goal.{IsClear}
 use Rattle.rh_helping.specs.Made.{HasStepped}
 use Rattle.rh_helping.specs.Settling.{Grows}
 use Rattle.rh_helping.proofs.Growing.{clear_grows}
-use Rattle.rh_worker.specs.Worker.{HasSeen}
-use Rattle.rh_worker.specs.Makes.{Makes}
+use Rattle.rh_worker.specs.Worker.{HasSeenCells}
+use Rattle.rh_worker.specs.Makes.{MakesStep}
 use Rattle.rh_worker.specs.declared.scan_buffer.ScanBuffer.{ScanBuffer}
 
 pub claim_clear : (v next : View) (word : ℕ) → next ≡ with_side v (claim_side v.side word) → IsClear v → IsClear next
@@ -37,7 +37,7 @@ claim_clear v next word is = clear_grows v next (subst (Grows v) (sym is)
     })
 
 pub stepped_makes : {T : Type 0} {shows : Shape → T → View → Type 0} {does : Shape → Step → T → View → ℕ → T → View → Type 0} (z : Shape) (k : StepKind) (descs : List OwnDesc) (reads : List KeptRead) (t : T) (v : View) (then : T) (next : View)
-    → HasStepped shows does z k descs reads t v then next → Makes shows does z k t v then next
+    → HasStepped shows does z k descs reads t v then next → MakesStep shows does z k t v then next
 stepped_makes z k descs reads t v then next m = record {
   step = m.step;
   word = m.word;
@@ -50,8 +50,8 @@ stepped_makes z k descs reads t v then next m = record {
   reads = λ r h. subst (λ (n : View). Contains (kept_of z n) r) (sym m.view_is) ((reads_stay z v m.step m.word).1 r h);
 }
 
-pub has_seen : {T : Type 0} {shows : Shape → T → View → Type 0} {does : Shape → Step → T → View → ℕ → T → View → Type 0} (z : Shape) (k : StepKind) (t : T) (v : View) (then : T) (next : View) → Makes shows does z k t v then next
-    → (key : ℕ) (s : ScanBuffer) (n : ℕ) → HasSeen z v key s n → HasSeen z next key s n
+pub has_seen : {T : Type 0} {shows : Shape → T → View → Type 0} {does : Shape → Step → T → View → ℕ → T → View → Type 0} (z : Shape) (k : StepKind) (t : T) (v : View) (then : T) (next : View) → MakesStep shows does z k t v then next
+    → (key : ℕ) (s : ScanBuffer) (n : ℕ) → HasSeenCells z v key s n → HasSeenCells z next key s n
 has_seen z k t v then next m key s n h = record { within = h.within; seen = h.seen; were_read = λ p l. m.reads _ (h.were_read p l) }
 
 -- ---- the Read of a cell

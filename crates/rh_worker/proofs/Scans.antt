@@ -20,7 +20,7 @@ use Rattle.rh_run.specs.Advance.{GoesOn}
 use Rattle.rh_worker.specs.declared.scan_buffer.ScanBuffer.{ScanBuffer}
 use Rattle.rh_worker.specs.declared.deciding.Decision.TheVariants.{Done}
 use Rattle.rh_worker.specs.Deciding.{Decides}
-use Rattle.rh_worker.specs.Worker.{HasSeen, WereRead}
+use Rattle.rh_worker.specs.Worker.{HasSeenCells, WereRead}
 
 pub told_is : (kind : Kind) (z : Shape) (v : View) (k : ℕ) (seen : List ℕ) (entries : List Entry) (told : Bool) → length seen ≤ cell_count z → WereRead z v k seen
     → Decides kind z.bits k seen entries (Done told) → IsTold kind z.bits (kept_of z v) k told
@@ -31,10 +31,10 @@ told_is Remove z v k seen entries told room read d = absurd d
 told_is Ask z v k seen entries told room read d = record { seen = seen; room = room; read = read; tells = d }
 
 pub seen_again : (z : Shape) (v : View) (k : ℕ) (s t : ScanBuffer) (n : ℕ) → n < cell_count z → n ≤ length s.seen.items → t.seen.items ≡ s.seen.items → WereRead z v k (take n s.seen.items)
-    → HasSeen z v k t n
+    → HasSeenCells z v k t n
 seen_again z v k s t n inside within same h = record { within = inside; seen = omega (arith, ap length same, within); were_read = subst (λ (l : List ℕ). WereRead z v k (take n l)) (sym same) h }
 
-pub none_seen : (z : Shape) (v : View) (k : ℕ) (s : ScanBuffer) → 0 < cell_count z → HasSeen z v k s 0
+pub none_seen : (z : Shape) (v : View) (k : ℕ) (s : ScanBuffer) → 0 < cell_count z → HasSeenCells z v k s 0
 none_seen z v k s more = record { within = more; seen = omega arith; were_read = λ p l. absurd (omega arith) }
 
 -- one more cell is read

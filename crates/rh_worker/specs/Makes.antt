@@ -11,7 +11,7 @@ use Rattle.rh_helping.specs.Made.{kind_of}
 use Rattle.rh_run.specs.History.{kept_of}
 
 -- One allowed step of this kind was made. It claimed no key, and what was kept as read is still kept.
-pub record Makes {T : Type 0} (shows : Shape → T → View → Type 0) (made : Shape → Step → T → View → ℕ → T → View → Type 0) (z : Shape) (k : StepKind) (t : T) (v : View) (then : T) (next : View) : Type 0 where
+pub record MakesStep {T : Type 0} (shows : Shape → T → View → Type 0) (made : Shape → Step → T → View → ℕ → T → View → Type 0) (z : Shape) (k : StepKind) (t : T) (v : View) (then : T) (next : View) : Type 0 where
   pub step : Step
   pub word : ℕ
   pub kind : kind_of step ≡ k

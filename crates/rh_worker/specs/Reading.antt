@@ -22,7 +22,7 @@ seen_back z k seen (suc n) = kept (cell_ahead (cell_count z) (home_of z.bits k) 
 -- These were kept as read before the key was begun. Of those since, the newest are of the first n cells from its home on,
 -- in their order, and held what was seen.
 -- (What is kept of a worker is not cut where a key begins: its reads in a round are one list.)
-pub record HasRead (z : Shape) (before : List Kept) (v : View) (k : ℕ) (seen : List ℕ) (n : ℕ) : Type 0 where
+pub record HasScanned (z : Shape) (before : List Kept) (v : View) (k : ℕ) (seen : List ℕ) (n : ℕ) : Type 0 where
   pub since : List Kept
   pub reads : kept_of z v ≡ seen_back z k seen n ++ (since ++ before)
 
@@ -36,12 +36,12 @@ seen_at (stage.Swap n p) = 0
 
 -- what the worker sees was read anew
 abbrev pub ReadsAnew : Shape → (before : List Kept) → Worker → Type 0
-ReadsAnew z before w = HasRead z before w.side.known.view w.key w.buffer.seen.items (seen_at w.stage)
+ReadsAnew z before w = HasScanned z before w.side.known.view w.key w.buffer.seen.items (seen_at w.stage)
 
 -- what is told of a key that no act does, by the cells that were read in turn since it was begun
 pub record IsToldAnew (z : Shape) (before : List Kept) (v : View) (kind : Kind) (k : ℕ) (told : Bool) : Type 0 where
   pub seen : List ℕ
-  pub read : HasRead z before v k seen (length seen)
+  pub read : HasScanned z before v k seen (length seen)
   pub tells : IsDoneBy kind z.bits k seen told
 
 -- where a step does the key, it is done by an own act, or is told so

@@ -58,7 +58,7 @@ abbrev pub WereRead : Shape → View → (k : ℕ) → (seen : List ℕ) → Typ
 WereRead z v k seen = (p : ℕ) → p < length seen → Contains (kept_of z v) (kept (cell_ahead (cell_count z) (home_of z.bits k) p) (slice_index seen p))
 
 -- the first n cells from the key's home on were read, and there is a next one
-pub record HasSeen (z : Shape) (v : View) (k : ℕ) (s : ScanBuffer) (n : ℕ) : Type 0 where
+pub record HasSeenCells (z : Shape) (v : View) (k : ℕ) (s : ScanBuffer) (n : ℕ) : Type 0 where
   pub within : n < cell_count z
   pub seen : n ≤ length s.seen.items
   pub were_read : WereRead z v k (take n s.seen.items)
@@ -96,18 +96,18 @@ HasNoRoom z v = (z.rooms.marks ≤ v.marks_used) ⊎ (z.rooms.descriptors ≤ v.
 abbrev pub Stays : Shape → View → Kind → (k : ℕ) → ScanBuffer → Machine → Stage → Type 0
 Stays z v kind k s m stage.Idle = IsClear v
 Stays z v kind k s m stage.Spent = IsClear v × HasNoRoom z v
-Stays z v kind k s m (stage.Scan l n) = IsLooking z v (looking_of l m) × HasSeen z v k s n
+Stays z v kind k s m (stage.Scan l n) = IsLooking z v (looking_of l m) × HasSeenCells z v k s n
 Stays z v kind k s m (stage.Open o p) = IsPlanned z v kind k s p × IsOpening v (planned s p) o
 Stays z v kind k s m (stage.Swap n p) = KnowsOwn v (Some (opened_as n s p)) × Stands z v (work_of m) × IsPlan kind z.bits k s.entries.items p
 
 -- what is so of a worker at a stage
-pub record IsAt (z : Shape) (w : Worker) (p : Stage) : Type 0 where
+pub record IsAtStage (z : Shape) (w : Worker) (p : Stage) : Type 0 where
   pub key : IsKey w.key
   pub room : HasRoom z.bits w.buffer
   pub stays : Stays z w.side.known.view w.kind w.key w.buffer w.machine p
 
 abbrev pub IsWorker : Shape → Worker → Type 0
-IsWorker z w = IsAt z w w.stage
+IsWorker z w = IsAtStage z w w.stage
 
 -- it is at the same key, and does the same with it
 pub record KeepsKey (w next : Worker) : Type 0 where

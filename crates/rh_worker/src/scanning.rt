@@ -3,12 +3,12 @@
 ghost use Rattle.std.specs.Prelude.{◌≡◌, ◌≤◌, IfSome, List, None, length, take};
 ghost use Rattle.rh_descriptor.specs.Parts.{IsShape};
 ghost use Rattle.rh_run.specs.Advance.{Advances};
-ghost use Rattle.rh_worker.specs.Makes.{Makes};
+ghost use Rattle.rh_worker.specs.Makes.{MakesStep};
 ghost use Rattle.rh_steps.specs.Relies.{Relies};
-ghost use Rattle.rh_worker.specs.Worker.{IsAt, IsWorker, KeepsKey};
+ghost use Rattle.rh_worker.specs.Worker.{IsAtStage, IsWorker, KeepsKey};
 ghost use Rattle.rh_worker.specs.declared.stage.Stage.TheVariants as stage;
 ghost use Rattle.rh_acts.specs.Done.{IsTold, Kept};
-ghost use Rattle.rh_worker.specs.Reading.{HasRead, IsToldAnew, ReadsAnew, TellsAnew, seen_at};
+ghost use Rattle.rh_worker.specs.Reading.{HasScanned, IsToldAnew, ReadsAnew, TellsAnew, seen_at};
 ghost use Rattle.rh_run.specs.History.{kept_of};
 ghost use Rattle.rh_helping.specs.Goal.{IsClear};
 ghost use Rattle.rh_helping.specs.Looking.{kind_of_looking};
@@ -41,15 +41,15 @@ pub(crate) fn scan<T: Steps>(
     seen: usize,
 ) -> Option<bool>
     requires relies { Relies T.shows T.serves shape.now table.old worker.old.side.known.view }
-    requires worker { IsAt shape.now worker.old (stage.Scan watch seen) }
-    ensures makes { Makes T.shows T.made shape.now (kind_of_looking (looking_of watch worker.old.machine)) table.old worker.old.side.known.view
+    requires worker { IsAtStage shape.now worker.old (stage.Scan watch seen) }
+    ensures makes { MakesStep T.shows T.made shape.now (kind_of_looking (looking_of watch worker.old.machine)) table.old worker.old.side.known.view
         table.new worker.new.side.known.view }
     ensures worker { IsWorker shape.now worker.new }
     ensures keeps { KeepsKey worker.old worker.new }
     ensures advances { Advances shape.now worker.old.kind worker.old.key worker.old.side.known.view
         worker.new.side.known.view result }
     ensures ends { EndsAt result worker.new.stage }
-    ensures anew { (before : List Kept) → HasRead shape.now before worker.old.side.known.view worker.old.key
+    ensures anew { (before : List Kept) → HasScanned shape.now before worker.old.side.known.view worker.old.key
         worker.old.buffer.seen.items seen → ReadsAnew shape.now before worker.new ×
         TellsAnew shape.now before worker.old.kind worker.old.key worker.old.side.known.view
         worker.new.side.known.view result }
@@ -93,7 +93,7 @@ fn decide(worker: &mut Worker, shape: &Shape, count: usize) -> Option<bool>
     ensures ends { EndsAt result worker.new.stage }
     ensures told { IfSome result (IsTold worker.old.kind shape.now.bits
         (kept_of shape.now worker.old.side.known.view) worker.old.key) }
-    ensures anew { (before : List Kept) → HasRead shape.now before worker.old.side.known.view worker.old.key
+    ensures anew { (before : List Kept) → HasScanned shape.now before worker.old.side.known.view worker.old.key
         worker.old.buffer.seen.items count → ReadsAnew shape.now before worker.new ×
         IfSome result (IsToldAnew shape.now before worker.new.side.known.view worker.old.kind worker.old.key) }
 {

@@ -2,10 +2,10 @@
 
 ghost use Rattle.std.specs.Prelude.{◌≡◌, List, None};
 ghost use Rattle.rh_run.specs.Advance.{Advances};
-ghost use Rattle.rh_worker.specs.Makes.{Makes};
+ghost use Rattle.rh_worker.specs.Makes.{MakesStep};
 ghost use Rattle.rh_steps.specs.Relies.{Relies};
-ghost use Rattle.rh_worker.specs.Worker.{EndsAt, GivesUp, IsAt, IsWorker, KeepsKey};
-ghost use Rattle.rh_worker.specs.Reading.{HasRead, ReadsAnew};
+ghost use Rattle.rh_worker.specs.Worker.{EndsAt, GivesUp, IsAtStage, IsWorker, KeepsKey};
+ghost use Rattle.rh_worker.specs.Reading.{HasScanned, ReadsAnew};
 ghost use Rattle.rh_worker.specs.declared.stage.Stage.TheVariants as stage;
 ghost use Rattle.rh_acts.specs.Done.{Kept};
 ghost use Rattle.rh_helping.specs.Opening.{kind_of_opening};
@@ -28,15 +28,15 @@ pub(crate) fn open<T: Steps>(
     plan: Plan,
 )
     requires relies { Relies T.shows T.serves shape.now table.old worker.old.side.known.view }
-    requires worker { IsAt shape.now worker.old (stage.Open opening plan) }
-    ensures makes { Makes T.shows T.made shape.now (kind_of_opening opening) table.old worker.old.side.known.view
+    requires worker { IsAtStage shape.now worker.old (stage.Open opening plan) }
+    ensures makes { MakesStep T.shows T.made shape.now (kind_of_opening opening) table.old worker.old.side.known.view
         table.new worker.new.side.known.view }
     ensures worker { IsWorker shape.now worker.new }
     ensures keeps { KeepsKey worker.old worker.new }
     ensures advances { Advances shape.now worker.old.kind worker.old.key worker.old.side.known.view
         worker.new.side.known.view None }
     ensures ends { EndsAt None worker.new.stage }
-    ensures anew { (before : List Kept) → HasRead shape.now before worker.old.side.known.view worker.old.key
+    ensures anew { (before : List Kept) → HasScanned shape.now before worker.old.side.known.view worker.old.key
         worker.old.buffer.seen.items 0 → ReadsAnew shape.now before worker.new }
 {
     let desc = Ref {
@@ -67,8 +67,8 @@ pub(crate) fn swap<T: Steps>(
     plan: Plan,
 ) -> Option<bool>
     requires relies { Relies T.shows T.serves shape.now table.old worker.old.side.known.view }
-    requires worker { IsAt shape.now worker.old (stage.Swap number plan) }
-    ensures makes { Makes T.shows T.made shape.now (kind_of_work (work_of worker.old.machine)) table.old worker.old.side.known.view
+    requires worker { IsAtStage shape.now worker.old (stage.Swap number plan) }
+    ensures makes { MakesStep T.shows T.made shape.now (kind_of_work (work_of worker.old.machine)) table.old worker.old.side.known.view
         table.new worker.new.side.known.view }
     ensures worker { IsWorker shape.now worker.new }
     ensures keeps { KeepsKey worker.old worker.new }
@@ -77,7 +77,7 @@ pub(crate) fn swap<T: Steps>(
     ensures ends { EndsAt result worker.new.stage }
     ensures gives_up { GivesUp worker.old.side.known.view worker.new.side.known.view →
         worker.new.stage ≡ stage.Spent }
-    ensures anew { (before : List Kept) → HasRead shape.now before worker.old.side.known.view worker.old.key
+    ensures anew { (before : List Kept) → HasScanned shape.now before worker.old.side.known.view worker.old.key
         worker.old.buffer.seen.items 0 → ReadsAnew shape.now before worker.new }
 {
     let open = OpenDesc {

@@ -8,7 +8,7 @@ ghost use Rattle.rh_descriptor.specs.declared.shape.Shape.{Shape};
 ghost use Rattle.rh_descriptor.specs.View.{new_view, round_view};
 ghost use Rattle.rh_descriptor.specs.Steps.Step.{claims};
 ghost use Rattle.rh_run.specs.Advance.{Advances};
-ghost use Rattle.rh_worker.specs.Makes.{Makes};
+ghost use Rattle.rh_worker.specs.Makes.{MakesStep};
 ghost use Rattle.rh_steps.specs.Relies.{Relies, Went};
 ghost use Rattle.rh_worker.specs.Worker.{EndsAt, GivesUp, IsBusy, IsWorker, KeepsKey};
 ghost use Rattle.rh_worker.specs.Reading.{ReadsAnew, TellsAnew};
@@ -156,7 +156,7 @@ impl Worker {
         requires relies { Relies T.shows T.serves shape.now table.old self.old.side.known.view }
         requires worker { IsWorker shape.now self.old }
         requires busy { IsBusy self.old.stage }
-        ensures makes { Makes T.shows T.made shape.now result.kind table.old self.old.side.known.view
+        ensures makes { MakesStep T.shows T.made shape.now result.kind table.old self.old.side.known.view
             table.new self.new.side.known.view }
         ensures worker { IsWorker shape.now self.new }
         ensures keeps { KeepsKey self.old self.new }

@@ -6,7 +6,7 @@ use Rattle.rh_world.specs.World.{Cell, Control, In, IsFalling, Ref, World, is_re
 use Rattle.rh_world.specs.World.Cell.{desc, mark, plain}
 use Rattle.rh_world.specs.World.Control.{failed, succeeded, undecided, unused, withdrawn}
 use Rattle.rh_world.specs.Facts.{Fact}
-use Rattle.rh_world.specs.Facts.Fact.{held, met, mismatch}
+use Rattle.rh_world.specs.Facts.Fact.{installed, met, mismatch}
 use Rattle.rh_world.specs.Sides.{Side, claim_side, close_side, is_number, note_side, open_side, paid_side, release_side}
 use Rattle.rh_world.specs.Claims.{Claims, ends_found, found_end}
 use Rattle.rh_world.specs.Moves.{Entries, IsAllowed, MayClaim, Move, cell_noted, cell_world, claim_world, control_noted, covers, decided_world, is_desc, is_mark, is_plain, mark_noted, next_desc, next_mark, note_all, note_entries, place_noted, place_world, placed_noted, release_noted, released_cell, settle_noted, settled_cell, side_after, sides_after, world_after}
@@ -76,7 +76,7 @@ either_claims s t r false p q = q
 place_claims : (s : Side) (x d : Ref) (e c old : ℕ) (k : Cell) (acts : ℕ) → (place_noted s x d e c old k acts).claims ≡ s.claims
 place_claims s x d e c old (plain u) acts = either_claims (placed_noted s x d e c) (note_side s (mismatch d e acts)) s (eqb u old) refl refl
 place_claims s x d e c old (mark y) acts = refl
-place_claims s x d e c old (desc f) acts = either_claims (note_side s (held d e)) (note_side s (met f)) s (is_ref f d) refl refl
+place_claims s x d e c old (desc f) acts = either_claims (note_side s (installed d e)) (note_side s (met f)) s (is_ref f d) refl refl
 
 settle_claims : (s : Side) (d : Ref) (e c : ℕ) (b : Bool) → (settle_noted s d e c b).claims ≡ s.claims
 settle_claims s d e c true = refl

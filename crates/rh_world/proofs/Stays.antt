@@ -4,7 +4,7 @@ use native.Mathlib.Decide.{dec_lt}
 use Rattle.rh_world.specs.World.{IsDecided, IsOpened, Ref, World}
 use Rattle.rh_world.specs.World.Control.{undecided, unused}
 use Rattle.rh_world.specs.Facts.{HoldsIn, IsMismatch, IsPrefix, Fact, part_of}
-use Rattle.rh_world.specs.Facts.Fact.{decided, desc_is, failed_at, found, held, known, may_demote, may_promote, met, mismatch, new_is, old_is, over, stale, size_is, target_is, which_is}
+use Rattle.rh_world.specs.Facts.Fact.{decided, desc_is, failed_at, found, installed, known, may_demote, may_promote, met, mismatch, new_is, old_is, over, stale, size_is, target_is, which_is}
 use Rattle.rh_world.specs.Facts.Part.{of_acts, of_prefixes, of_rows}
 use Rattle.rh_world.specs.Later.{Later, Steady}
 use Rattle.rh_world.specs.Sides.{Side}
@@ -70,7 +70,7 @@ module _ (w v : World) (side : ℕ → Side) (rows : Rows w side) where
       (l.marks x t.0, (ap (λ (f : Ref). v.target f (v.mark_entry x)) (l.mark_desc x t.0) ∙ (ap (λ (e : ℕ). v.target (w.mark_desc x) e) (l.mark_entry x t.0) ∙ (l.target (w.mark_desc x) (w.mark_entry x) h.0 ∙ t.1))))
   rows_fact_stays l (may_promote x c) p t = cc
   rows_fact_stays l (may_demote x) p t = (l.marks x t.0, subst IsDecided (sym (ap v.control (l.mark_desc x t.0) ∙ l.decided (w.mark_desc x) t.1)) t.1)
-  rows_fact_stays l (held d e) p t = cc
+  rows_fact_stays l (installed d e) p t = cc
   rows_fact_stays l (mismatch d e n) p t = cc
 
   pub acts_fact_stays : Later w v → (n : Fact) → part_of n ≡ of_acts → HoldsIn w n → HoldsIn v n
@@ -93,7 +93,7 @@ module _ (w v : World) (side : ℕ → Side) (rows : Rows w side) where
   acts_fact_stays l (found x c) p t = cc
   acts_fact_stays l (may_promote x c) p t = (l.marks x t.0, λ s q. t.1 (l.stood c x t.0 s) (l.late c x t.0 s (ap v.control (sym (l.mark_desc x t.0)) ∙ q)))
   acts_fact_stays l (may_demote x) p t = cc
-  acts_fact_stays l (held d e) p t = (l.opened d t.0, λ u. ap v.cell (l.target d e t.0) ∙ l.stays (w.target d e) d (t.1 (l.was_undecided d t.0 u)) u)
+  acts_fact_stays l (installed d e) p t = (l.opened d t.0, λ u. ap v.cell (l.target d e t.0) ∙ l.stays (w.target d e) d (t.1 (l.was_undecided d t.0 u)) u)
   acts_fact_stays l (mismatch d e n) p t = cc
 
   pub prefixes_fact_stays : Steady w v → (n : Fact) → part_of n ≡ of_prefixes → HoldsIn w n → HoldsIn v n
@@ -112,7 +112,7 @@ module _ (w v : World) (side : ℕ → Side) (rows : Rows w side) where
   prefixes_fact_stays l (found x c) p t = cc
   prefixes_fact_stays l (may_promote x c) p t = cc
   prefixes_fact_stays l (may_demote x) p t = cc
-  prefixes_fact_stays l (held d e) p t = cc
+  prefixes_fact_stays l (installed d e) p t = cc
   prefixes_fact_stays l (mismatch d e n) p t = (
     l.opened d t.0,
     λ u.

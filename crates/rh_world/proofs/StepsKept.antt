@@ -5,7 +5,7 @@ use Rattle.rh_world.specs.World.Cell.{desc, mark, plain}
 use Rattle.rh_world.specs.World.Control.{failed, succeeded, undecided, unused, withdrawn}
 use Rattle.rh_world.specs.Logical.{StandsFor}
 use Rattle.rh_world.specs.Facts.{HoldsIn, IsMismatch, Fact}
-use Rattle.rh_world.specs.Facts.Fact.{decided, desc_is, found, held, known, may_demote, may_promote, met, mismatch, new_is, old_is, size_is, target_is, which_is}
+use Rattle.rh_world.specs.Facts.Fact.{decided, desc_is, found, installed, known, may_demote, may_promote, met, mismatch, new_is, old_is, size_is, target_is, which_is}
 use Rattle.rh_world.specs.Sides.{Side, close_side, forget_side, is_number, note_side, open_side, paid_side, place_side, release_side, settle_side}
 use Rattle.rh_world.specs.Acts.{Acts}
 use Rattle.rh_world.specs.Prefixes.{Prefixes}
@@ -100,8 +100,8 @@ module _ (A P : Type 0) where
 
     step_place_desc : (d f : Ref) (e : ℕ) → IsOpened (w.control d) → w.cell (w.target d e) ≡ desc f → (b : Bool)
         → is_ref f d ≡ b
-        → Partly A P w (updated side who (cond b (note_side (side who) (held d e)) (note_side (side who) (met f))))
-    step_place_desc d f e o here true q = one_note (held d e) (o, λ und. here ∙ ap desc (is_ref_yes f d q))
+        → Partly A P w (updated side who (cond b (note_side (side who) (installed d e)) (note_side (side who) (met f))))
+    step_place_desc d f e o here true q = one_note (installed d e) (o, λ und. here ∙ ap desc (is_ref_yes f d q))
     step_place_desc d f e o here false q = one_note (met f) (r.rows.descs (w.target d e) f here).opened
 
     step_place : (d : Ref) (e : ℕ) (k : Cell) → IsOpened (w.control d) → e < w.size d → (side who).unsettled ≡ None
@@ -119,8 +119,8 @@ module _ (A P : Type 0) where
     step_settled x c u here gone b holds true q =
         let p = is_number_yes (side who).unsettled who x q in
         let settled = parts_settle A P w side who r x c p.0 p.1 here gone in
-        by_cond (λ (t : Side). Partly A P w (updated side who t)) b (note_side (settle_side (side who) (w.mark_desc x) c) (held (w.mark_desc x) (w.mark_entry x))) (settle_side (side who) (w.mark_desc x) c)
-        (λ bt. more_note w side who (settle_side (side who) (w.mark_desc x) c) (held (w.mark_desc x) (w.mark_entry x)) ((r.rows.used x u).0, λ und. ap w.cell here ∙ holds bt) settled)
+        by_cond (λ (t : Side). Partly A P w (updated side who t)) b (note_side (settle_side (side who) (w.mark_desc x) c) (installed (w.mark_desc x) (w.mark_entry x))) (settle_side (side who) (w.mark_desc x) c)
+        (λ bt. more_note w side who (settle_side (side who) (w.mark_desc x) c) (installed (w.mark_desc x) (w.mark_entry x)) ((r.rows.used x u).0, λ und. ap w.cell here ∙ holds bt) settled)
         (λ bf. settled)
     step_settled x c u here gone b holds false q = parts_none A P w side who r
 
@@ -147,7 +147,7 @@ module _ (A P : Type 0) where
     step_decided d undecided undecided e may = r
     step_decided d undecided succeeded e may =
         let size = r.rows.facts who (size_is d may.0) may.1 refl in
-        parts_succeed A P w side d e (λ a i h. ((r.acts a).facts who (held d i) (may.2 i (subst (λ (n : ℕ). i < n) size.1 h)) refl).1 e) r
+        parts_succeed A P w side d e (λ a i h. ((r.acts a).facts who (installed d i) (may.2 i (subst (λ (n : ℕ). i < n) size.1 h)) refl).1 e) r
     step_decided d undecided withdrawn e may = parts_withdraw A P w side d e r
     step_decided d undecided (failed i by) e may = parts_fail A P w side d i by may.1.0 e (λ a p. ((r.prefixes a p).facts who (mismatch d i may.1.0) may.1.1 refl).1 e) r
     step_decided d succeeded x e may = r

@@ -3,7 +3,7 @@ use Rattle.std.proofs.Common.{◌≡◌, ◌≢◌, ℕ, ◌<◌, Bool, true, fa
 use Rattle.rh_world.specs.World.{Cell, Control, IsDecided, Ref, World}
 use Rattle.rh_world.specs.World.Cell.{desc, mark, plain}
 use Rattle.rh_world.specs.World.Control.{failed, succeeded, undecided, unused, withdrawn}
-use Rattle.rh_world.specs.Facts.Fact.{decided, held, may_promote, over, size_is}
+use Rattle.rh_world.specs.Facts.Fact.{decided, installed, may_promote, over, size_is}
 use Rattle.rh_world.specs.Later.{Later}
 use Rattle.rh_world.specs.Sides.{Side}
 use Rattle.rh_world.specs.Rows.{Rows}
@@ -20,7 +20,7 @@ decided_later w side who d undecided unused rows acts e may = later_same w
 decided_later w side who d undecided undecided rows acts e may = later_same w
 decided_later w side who d undecided succeeded rows acts e may =
     let size = rows.facts who (size_is d may.0) may.1 refl in
-    later_succeed w side d rows e (λ i h. (acts.facts who (held d i) (may.2 i (subst (λ (n : ℕ). i < n) size.1 h)) refl).1 e)
+    later_succeed w side d rows e (λ i h. (acts.facts who (installed d i) (may.2 i (subst (λ (n : ℕ). i < n) size.1 h)) refl).1 e)
 decided_later w side who d undecided withdrawn rows acts e may = later_decide w d withdrawn e tt (λ q. cc)
 decided_later w side who d undecided (failed i by) rows acts e may = later_decide w d (failed i by) e tt (λ q. cc)
 decided_later w side who d succeeded x rows acts e may = later_same w

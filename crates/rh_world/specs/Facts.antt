@@ -23,7 +23,7 @@ pub data Fact : Type 0 where
   may_promote : Ref → ℕ → Fact
   may_demote : Ref → Fact
   -- of an entry of a descriptor: its cell was seen to hold the descriptor; it did not hold the old value after n acts
-  held : Ref → ℕ → Fact
+  installed : Ref → ℕ → Fact
   mismatch : Ref → ℕ → ℕ → Fact
 
 -- The first n acts are a prefix for number p of worker v: the acts of v among them are exactly those of its
@@ -59,7 +59,7 @@ HoldsIn w (which_is x e) = IsUsed w x × (w.mark_entry x ≡ e)
 HoldsIn w (found x c) = IsUsed w x × (w.target (w.mark_desc x) (w.mark_entry x) ≡ c)
 HoldsIn w (may_promote x c) = IsUsed w x × (w.cell c ≡ mark x → w.control (w.mark_desc x) ≢ succeeded)
 HoldsIn w (may_demote x) = IsUsed w x × IsDecided (w.control (w.mark_desc x))
-HoldsIn w (held d e) = IsOpened (w.control d) × (w.control d ≡ undecided → w.cell (w.target d e) ≡ desc d)
+HoldsIn w (installed d e) = IsOpened (w.control d) × (w.control d ≡ undecided → w.cell (w.target d e) ≡ desc d)
 HoldsIn w (mismatch d e n) = IsOpened (w.control d) × (w.control d ≡ undecided → IsMismatch w d e n)
 
 -- which part of the rule says that the fact holds
@@ -83,5 +83,5 @@ part_of (which_is x e) = of_rows
 part_of (found x c) = of_rows
 part_of (may_promote x c) = of_acts
 part_of (may_demote x) = of_rows
-part_of (held d e) = of_acts
+part_of (installed d e) = of_acts
 part_of (mismatch d e n) = of_prefixes

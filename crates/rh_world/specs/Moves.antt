@@ -8,7 +8,7 @@ use Rattle.rh_world.specs.World.Cell.{plain, mark, desc}
 use Rattle.rh_world.specs.World.Control.{unused, undecided, succeeded, withdrawn, failed}
 use Rattle.rh_world.specs.Logical.{entry_value, changed_by}
 use Rattle.rh_world.specs.Facts.{Fact, HoldsIn}
-use Rattle.rh_world.specs.Facts.Fact.{met, known, size_is, target_is, old_is, new_is, desc_is, which_is, decided, over, stale, failed_at, found, may_promote, may_demote, held, mismatch}
+use Rattle.rh_world.specs.Facts.Fact.{met, known, size_is, target_is, old_is, new_is, desc_is, which_is, decided, over, stale, failed_at, found, may_promote, may_demote, installed, mismatch}
 use Rattle.rh_world.specs.Sides.{Side, is_number, note_side, open_side, place_side, settle_side, forget_side, paid_side, release_side, close_side, read_side, claim_side}
 
 -- the entries of a descriptor that is opened
@@ -65,7 +65,7 @@ IsRowFact (which_is x e) = Unit {0}
 IsRowFact (found x c) = ⊥
 IsRowFact (may_promote x c) = ⊥
 IsRowFact (may_demote x) = Unit {0}
-IsRowFact (held d e) = ⊥
+IsRowFact (installed d e) = ⊥
 IsRowFact (mismatch d e n) = ⊥
 
 -- There is an entry, the cells rise, and nothing of the worker is open. That the cells are in range and the values plain
@@ -87,13 +87,13 @@ pub record MayWork (s : Side) (d : Ref) (e : ℕ) : Type 0 where
 abbrev pub HasSeen : List Fact → Ref → Type 0
 HasSeen facts d = In (known d) facts ⊎ ((k : Control) × In (decided d k) facts)
 
--- Succeeded: each entry is noted as held, of the entries that d is known to have. Failed: a mismatch is noted at the
+-- Succeeded: each entry is noted as installed, of the entries that d is known to have. Failed: a mismatch is noted at the
 -- entry, and the worker names itself. Withdrawn: d is the worker's own. That no mark is left to it then is asked where
 -- the marks have room: the rule is kept without it.
 abbrev pub MayDecide : Side → (who : ℕ) → Ref → Control → Type 0
 MayDecide s who d unused = ⊥
 MayDecide s who d undecided = ⊥
-MayDecide s who d succeeded = (n : ℕ) × In (size_is d n) s.facts × ((e : ℕ) → e < n → In (held d e) s.facts)
+MayDecide s who d succeeded = (n : ℕ) × In (size_is d n) s.facts × ((e : ℕ) → e < n → In (installed d e) s.facts)
 MayDecide s who d withdrawn = d.worker ≡ who
 MayDecide s who d (failed e by) = (by ≡ who) × ((n : ℕ) × In (mismatch d e n) s.facts)
 
@@ -263,11 +263,11 @@ placed_noted s x d e c = note_side (note_side (note_side (place_side s x.number)
 abbrev pub place_noted : Side → (x d : Ref) → (e c old : ℕ) → Cell → (acts : ℕ) → Side
 place_noted s x d e c old (plain u) acts = cond (u == old) (placed_noted s x d e c) (note_side s (mismatch d e acts))
 place_noted s x d e c old (mark y) acts = note_side s (found y c)
-place_noted s x d e c old (desc f) acts = cond (is_ref f d) (note_side s (held d e)) (note_side s (met f))
+place_noted s x d e c old (desc f) acts = cond (is_ref f d) (note_side s (installed d e)) (note_side s (met f))
 
--- An own mark for entry e of d is settled, whatever the swap found; where it was swapped to its descriptor, that is held.
+-- An own mark for entry e of d is settled, whatever the swap found; where it was swapped to its descriptor, that is installed.
 abbrev pub settle_noted : Side → (d : Ref) → (e c : ℕ) → (promoted : Bool) → Side
-settle_noted s d e c promoted = cond promoted (note_side (settle_side s d c) (held d e)) (settle_side s d c)
+settle_noted s d e c promoted = cond promoted (note_side (settle_side s d c) (installed d e)) (settle_side s d c)
 
 abbrev pub has : (e : ℕ) → List ℕ → Bool
 has e [] = false

@@ -1,5 +1,5 @@
 -- How the program ends.
-use Rattle.rh_cli.specs.Endings.{ending_by as ending_by_program, ending_by_keys, ending_by_snapshot}
+use Rattle.rh_cli.specs.Endings.{ending_by_program as ending_by_program, ending_by_keys, ending_by_snapshot}
 use Rattle.rh_cli.specs.declared.status.Status.{Status}
 use Rattle.rh_cli.specs.declared.status.Status.TheVariants.{Refused, CommandLine, Memory, Write}
 use Rattle.rh_numbers.specs.declared.fault.TextFault.{TextFault}

@@ -4,7 +4,7 @@ ghost use Rattle.std.specs.Prelude.{◌≡◌, ◌↔◌, [], IfOk, IfErr, IsTru
 ghost use Rattle.clap.specs.Words.{app_of, fault_of, found_of, rows_of, rule_of};
 ghost use Rattle.clap.specs.Words.{subcommand_of, subcommand_rows_of};
 ghost use Rattle.rh_cli.specs.Faults.{IsOneOf};
-ghost use Rattle.rh_cli.specs.KeysLine.{Asks, HasSplitArguments, IsCommand, IsGiven, Says, flag_rule};
+ghost use Rattle.rh_cli.specs.KeysLine.{AsksKeys, HasSplitArguments, IsKeysCommand, IsGiven, SaysKeys, flag_rule};
 ghost use Rattle.rh_cli.specs.KeysLine.{files_rule, list_app, pack_app, parts_rule, rhkeys_app, split_app};
 ghost use Rattle.rh_cli.specs.Words.{Finds, texts_of};
 
@@ -24,7 +24,7 @@ const NAME: &str = "rhkeys";
 ///
 /// `LineFault::Memory` comes only where a growth was refused.
 pub fn line(alloc: Global, words: &[String]) -> Result<Line, LineFault>
-    ensures asked { IfOk result (λ l. Asks (subcommand_of rhkeys_app (texts_of words.now)) l) }
+    ensures asked { IfOk result (λ l. AsksKeys (subcommand_of rhkeys_app (texts_of words.now)) l) }
     ensures taken { IfOk result (λ l. fault_of rhkeys_app (texts_of words.now) ≡ []) }
     ensures refused { IfErr result (λ f. IsOneOf (fault_of rhkeys_app (texts_of words.now)) f) }
 {
@@ -34,8 +34,8 @@ pub fn line(alloc: Global, words: &[String]) -> Result<Line, LineFault>
 }
 
 fn asked(alloc: Global, matches: &ArgMatches<'_>) -> Result<Line, AllocError>
-    requires { Finds IsCommand (subcommand_rows_of matches.now) }
-    ensures { IfOk result (λ l. Asks (subcommand_rows_of matches.now) l) }
+    requires { Finds IsKeysCommand (subcommand_rows_of matches.now) }
+    ensures { IfOk result (λ l. AsksKeys (subcommand_rows_of matches.now) l) }
 {
     match matches.subcommand() {
         Some(("pack", _)) => Ok(Line::Pack),
@@ -46,7 +46,7 @@ fn asked(alloc: Global, matches: &ArgMatches<'_>) -> Result<Line, AllocError>
 }
 
 fn list_asked(alloc: Global, given: &ArgMatches<'_>) -> Result<Line, AllocError>
-    ensures { IfOk result (λ l. Says (codes "list") (rows_of (found_of given.now)) l) }
+    ensures { IfOk result (λ l. SaysKeys (codes "list") (rows_of (found_of given.now)) l) }
 {
     let snapshot = is_given(given, "snapshot");
     let files = texts(alloc, given, "file")?;
@@ -55,7 +55,7 @@ fn list_asked(alloc: Global, given: &ArgMatches<'_>) -> Result<Line, AllocError>
 
 fn split_asked(alloc: Global, given: &ArgMatches<'_>) -> Result<Line, AllocError>
     requires { HasSplitArguments (rows_of (found_of given.now)) }
-    ensures { IfOk result (λ l. Says (codes "split") (rows_of (found_of given.now)) l) }
+    ensures { IfOk result (λ l. SaysKeys (codes "split") (rows_of (found_of given.now)) l) }
 {
     let parts = number(given, "parts", 2, MAX_PARTS);
     let key_file = is_given(given, "key-file");

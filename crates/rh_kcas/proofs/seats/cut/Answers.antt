@@ -1,7 +1,7 @@
 use Rattle.std.proofs.Common.{ℕ, ◌<◌, take, drop, sym, subst}
 use Rattle.atomic_table.specs.Table.{Splits}
 use Rattle.rh_descriptor.specs.declared.shape.Shape.{Shape}
-use Rattle.rh_rule.specs.Seats.{Holds, NoSlot}
+use Rattle.rh_rule.specs.Seats.{RuleHolds, NoSlot}
 use Rattle.rh_rule.proofs.SeatsKept.{views_split}
 use Rattle.rh_kcas.proofs.Crews.{some_words}
 use Rattle.rh_kcas.proofs.seats.cut.Goals as goal
@@ -13,5 +13,5 @@ split_seat-requires g c =
     let n = g.B.Point.at in (
       c.requires,
       subst (λ (m : ℕ). 0 < m) (sym t.sized) (some_words t.shape),
-      subst (λ (z : Shape). Splits {S = NoSlot} (Holds z) q.id q.me.0 (take n q.me.0) (drop n q.me.0)) (sym t.same) (views_split t.shape q.id n q.me.0),
+      subst (λ (z : Shape). Splits {S = NoSlot} (RuleHolds z) q.id q.me.0 (take n q.me.0) (drop n q.me.0)) (sym t.same) (views_split t.shape q.id n q.me.0),
     )

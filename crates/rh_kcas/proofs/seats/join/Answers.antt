@@ -1,7 +1,7 @@
 use Rattle.std.proofs.Common.{ℕ, ◌+◌, ◌<◌, ◌++◌, [], ap, ◌∙◌, sym, subst, arith}
 use Rattle.atomic_table.specs.Table.{Joins}
 use Rattle.rh_descriptor.specs.declared.shape.Shape.{Shape}
-use Rattle.rh_rule.specs.Seats.{Holds, NoSlot, Spans}
+use Rattle.rh_rule.specs.Seats.{RuleHolds, NoSlot, Spans}
 use Rattle.rh_rule.proofs.SeatsKept.{views_join}
 use Rattle.rh_kcas.proofs.Crews.{some_words, spans_append}
 use Rattle.rh_kcas.proofs.seats.join.Goals as goal
@@ -15,7 +15,7 @@ join_seat-requires c =
       c.requires.other.own,
       o.empty,
       subst (λ (m : ℕ). 0 < m) (sym t.sized) (some_words t.shape),
-      subst (λ (z : Shape). Joins {S = NoSlot} (Holds z) q.inner.id q.inner.me.0 o.inner.id o.inner.me.0 (q.inner.me.0 ++ o.inner.me.0) []) (sym t.same) (views_join t.shape q.inner.id q.inner.me.0 o.inner.id o.inner.me.0),
+      subst (λ (z : Shape). Joins {S = NoSlot} (RuleHolds z) q.inner.id q.inner.me.0 o.inner.id o.inner.me.0 (q.inner.me.0 ++ o.inner.me.0) []) (sym t.same) (views_join t.shape q.inner.id q.inner.me.0 o.inner.id o.inner.me.0),
     )
 
 pub invariant_of-seat : goal.invariant_of-seat

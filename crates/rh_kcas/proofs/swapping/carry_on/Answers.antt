@@ -1,6 +1,6 @@
 use Rattle.std.proofs.Common.{length, subst}
 use Rattle.rh_descriptor.specs.View.{OwnDesc, own_ref}
-use Rattle.rh_helping.specs.Work.{HasEnded, IsWithin}
+use Rattle.rh_helping.specs.Work.{HasEnded, FailsWithin}
 use Rattle.rh_rdcss.proofs.Lending.{stays_first, stays_on}
 use Rattle.rh_kcas.proofs.Noting.{closed_is, made_notes, noted_first, noted_on}
 use Rattle.rh_kcas.proofs.swapping.carry_on.Goals as goal
@@ -33,5 +33,5 @@ returns-in-Closed-clause-carries g c =
       noted = noted_on _ _ _ c.loop.invariant.noted (made_notes _ _ _ _ _ _ e.made);
       clear = record { own = l.own; owes = l.owes };
       result = subst (λ (o : OwnDesc). HasEnded c.step.new.side.known.view (own_ref c.step.new.side.known.view o.number) c.in-Closed.ended) same l.result;
-      entry = subst (λ (o : OwnDesc). IsWithin (length o.entries) c.in-Closed.ended) same l.entry;
+      entry = subst (λ (o : OwnDesc). FailsWithin (length o.entries) c.in-Closed.ended) same l.entry;
     }

@@ -7,7 +7,7 @@ use Rattle.rh_helping.specs.Next.{Work}
 use Rattle.rh_helping.specs.declared.machine.Progress.{Progress}
 use Rattle.rh_helping.specs.Goal.{opened_by}
 use Rattle.rh_helping.specs.Machine.{led}
-use Rattle.rh_helping.specs.Work.{HasEnded, IsWithin, Leads, Stands}
+use Rattle.rh_helping.specs.Work.{HasEnded, FailsWithin, Leads, Stands}
 use Rattle.rh_helping.proofs.Owing.{open_all_noted}
 use Rattle.rh_rdcss.proofs.Lending.{stays_first, stays_on}
 use Rattle.rh_kcas.specs.Swaps.{HasNoted}
@@ -49,7 +49,7 @@ returns-in-Some-Closed-clause-carries g c =
       noted = noted_on _ _ _ c.loop.invariant.noted (made_notes _ _ _ _ _ _ c.in-Some-Closed.ensures.made);
       clear = record { own = l.own; owes = l.owes };
       result = subst (λ (o : OwnDesc). HasEnded next (own_ref next o.number) c.in-Some-Closed.ended) (closed_is _ e.0 e.1) l.result;
-      entry = subst (λ (o : OwnDesc). IsWithin (length o.entries) c.in-Some-Closed.ended) (closed_is _ e.0 e.1) l.entry;
+      entry = subst (λ (o : OwnDesc). FailsWithin (length o.entries) c.in-Some-Closed.ended) (closed_is _ e.0 e.1) l.entry;
     }
 
 pub returns-in-None-step_fast-clause-carries : goal.returns-in-None-step_fast-clause-carries

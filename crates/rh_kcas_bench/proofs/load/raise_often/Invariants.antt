@@ -1,9 +1,9 @@
-use Rattle.rh_kcas.specs.Rests.{Rests}
+use Rattle.rh_kcas.specs.Rests.{SeatRests}
 use Rattle.rh_rdcss.specs.Calls.{IsSame}
 use Rattle.rh_kcas_bench.proofs.load.raise_often.Given as goal
 
 abbrev pub invariant-loop-tried : goal.invariant-loop-tried
 invariant-loop-tried g l = record {
-  rests : Rests l.table l.seat;
+  rests : SeatRests l.table l.seat;
   same : IsSame l.fn.seat l.seat;
 }

@@ -1,9 +1,9 @@
-use Rattle.rh_kcas.specs.Rests.{Rests}
+use Rattle.rh_kcas.specs.Rests.{SeatRests}
 use Rattle.rh_rdcss.specs.Calls.{IsSame}
 use Rattle.rh_kcas_bench.proofs.load.see.Given as goal
 
 abbrev pub invariant-loop-entry : goal.invariant-loop-entry
 invariant-loop-entry g l = record {
-  rests : Rests l.table l.seat;
+  rests : SeatRests l.table l.seat;
   same : IsSame l.fn.seat l.seat;
 }

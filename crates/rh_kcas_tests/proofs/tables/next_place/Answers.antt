@@ -2,13 +2,13 @@ use Rattle.std.proofs.Common.{ℕ, ◌<◌, Option, Some, None, IfSome, ⊎_elim
 use Rattle.rh_world.specs.World.{In}
 use Rattle.rh_descriptor.specs.declared.shape.Shape.{Shape}
 use Rattle.rh_descriptor.specs.View.{View}
-use Rattle.rh_kcas.specs.Swaps.{Claims, IsClaimed}
+use Rattle.rh_kcas.specs.Swaps.{ClaimsOne, IsClaimed}
 use Rattle.rh_kcas_tests.proofs.tables.next_place.Goals as goal
 
 abbrev IsWithin : Shape → View → Type 0
 IsWithin z v = (n : ℕ) → In n v.side.claims → n < z.keys
 
-goes_on : (z : Shape) (v next : View) (found : Option ℕ) → Claims z v next found → IsWithin z v → IfSome found (λ _. IsWithin z next)
+goes_on : (z : Shape) (v next : View) (found : Option ℕ) → ClaimsOne z v next found → IsWithin z v → IfSome found (λ _. IsWithin z next)
 goes_on z v next None c within = tt
 goes_on z v next (Some p) c within = λ n i.
     let is : IsClaimed z c.position (Some p) = c.is in

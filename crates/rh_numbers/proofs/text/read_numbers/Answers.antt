@@ -1,7 +1,7 @@
 use Rattle.std.proofs.Common.{◌≡◌, ◌+◌, ◌*◌, subst, arith, rules}
 use Rattle.std.proofs.lemmas.Result.{err_from_is_err_and}
 use Rattle.rh_numbers.specs.declared.limits.TheConstants.{PART_BYTES}
-use Rattle.rh_numbers.specs.Parts.{keys_of, line_of, so_far_of}
+use Rattle.rh_numbers.specs.Parts.{keys_read, line_reached, so_far_of}
 use Rattle.rh_numbers.proofs.Meaning.{read_from}
 use Rattle.rh_numbers.proofs.Parts.{GoesOn, finished, goes_on, refused, whole_part, last_part}
 use Rattle.rh_numbers.proofs.Taken.{fresh_after, taken_to_fault}
@@ -37,7 +37,7 @@ loop-preserved g c =
     let whole = whole_part part.part now c.loop.reading next c.in_ok-read_part.field-0 (search rules) part.gives in
     let place : 8192 * c.loop.counter + PART_BYTES ≡ 8192 * (c.loop.counter + 1) = omega arith in
     record {
-      going = subst (λ n. GoesOn start now n (keys_of next) (line_of next) (so_far_of next)) place (goes_on _ _ _ (8192 * c.loop.counter) PART_BYTES part.part _ _ _ _ _ _ c.loop.invariant.going part.taken whole.0 whole.1);
+      going = subst (λ n. GoesOn start now n (keys_read next) (line_reached next) (so_far_of next)) place (goes_on _ _ _ (8192 * c.loop.counter) PART_BYTES part.part _ _ _ _ _ _ c.loop.invariant.going part.taken whole.0 whole.1);
       fresh = fresh_after _ _ _ part.part _ _ _ _ _ _ c.loop.invariant.fresh part.taken whole.1;
       line = omega (arith, c.loop.invariant.line, c.in_ok-read_part.ensures.line);
       fine = search rules;

@@ -8,7 +8,7 @@ use Rattle.rh_runner.specs.Lists.{chosen}
 use Rattle.rh_operations.specs.Operations.{flipped_most}
 use Rattle.rh_operations.specs.Refusals.{RefusedBy}
 use Rattle.rh_operations.specs.Found.{keys_again}
-use Rattle.rh_operations.specs.KeyLists.{Gave, bytes_at}
+use Rattle.rh_operations.specs.KeyLists.{Gave, source_bytes}
 use Rattle.rh_operations.specs.Size.{size_for}
 use Rattle.rh_operations.specs.Refusals.{MemoryFails}
 use Rattle.rh_operations.proofs.AgainLemmas.{later_refused, met_later, same_again, stands_again, wanted_again}
@@ -28,7 +28,7 @@ returns-in_err-scratch-clause-refused g c files known =
     let want : set.len rest.keys + c.in_ok-rest.rest.removed.absent ≡ flipped_most S first.0 = omega (arith, ap (λ (T : Keys). set.len T) first.2.held, first.3) in
     let size = ap (λ b. size_for b (set.len rest.keys + c.in_ok-rest.rest.removed.absent)) first.2.size in
     rw (p.1, p.2)
-    (later_refused (keys_again c.args.list.now.count (bytes_at files c.args.list.now.source)) (λ keys. size_for bits (flipped_most S keys)) _ failed refused first.0 again
+    (later_refused (keys_again c.args.list.now.count (source_bytes files c.args.list.now.source)) (λ keys. size_for bits (flipped_most S keys)) _ failed refused first.0 again
     (size_refused bits (set.len rest.keys) c.in_ok-rest.rest.removed.absent (flipped_most S first.0) failed refused _ want (subst (λ r. RefusedBy r MemoryFails c.in_err-scratch.field-0.0) size c.in_err-scratch.ensures.refused)))
 
 pub returns-in_err-added-clause-refused : goal.returns-in_err-added-clause-refused
@@ -39,7 +39,7 @@ returns-in_err-added-clause-refused g c files known =
     let why = c.in_err-added.ensures.refused files (c.in_ok-rest.ensures.shelf.same_files ∙ known) in
     rw (p.1, p.2)
     (inr (met_later _ _ _ _ _ _ _ c.in_ok-rest.ensures.shelf.fine c.in_ok-rest.ensures.runner.fine
-    (same_again (keys_again c.args.list.now.count (bytes_at files c.args.list.now.source)) first.0 (chosen Absent c.args.set.now.keys) c.in_ok-rest.rest.removed.absent
+    (same_again (keys_again c.args.list.now.count (source_bytes files c.args.list.now.source)) first.0 (chosen Absent c.args.set.now.keys) c.in_ok-rest.rest.removed.absent
     (Rose (g.S.Shelf.failures c.without_listed.new.shelf) (g.S.Shelf.failures c.insert_listed.new.shelf))
     (Rose (g.N.Runner.refused_starts c.without_listed.new.runner) (g.N.Runner.refused_starts c.insert_listed.new.runner)) _ again (sym first.3) why)))
 

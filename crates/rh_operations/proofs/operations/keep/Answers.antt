@@ -11,7 +11,7 @@ use Rattle.rh_runner.specs.Lists.{chosen}
 use Rattle.rh_operations.specs.Refusals.{RefusedBy}
 use Rattle.rh_operations.specs.declared.cause.Cause.TheVariants.{Memory}
 use Rattle.rh_operations.specs.Found.{keys_again}
-use Rattle.rh_operations.specs.KeyLists.{Gave, bytes_at}
+use Rattle.rh_operations.specs.KeyLists.{Gave, source_bytes}
 use Rattle.rh_operations.specs.Size.{size_for}
 use Rattle.rh_operations.specs.Refusals.{MemoryFails}
 use Rattle.rh_operations.proofs.AgainLemmas.{later_refused, met_later, same_again, stands_again, wanted_again}
@@ -29,7 +29,7 @@ returns-in_err-scratch-clause-refused g c files known =
     let want : set.len c.in_ok-empty.empty.keys + c.in_ok-found.found ≡ length (chosen Present S first.0) = omega (arith, nothing_held c.in_ok-empty.empty.keys c.in_ok-empty.ensures.keys, first.2) in
     let size = ap (λ b. size_for b (set.len c.in_ok-empty.empty.keys + c.in_ok-found.found)) c.in_ok-empty.ensures.bits in
     rw (p.1, p.2)
-    (later_refused (keys_again c.args.list.now.count (bytes_at files c.args.list.now.source)) (λ keys. size_for MIN_BITS (length (chosen Present S keys))) _ failed refused first.0 again
+    (later_refused (keys_again c.args.list.now.count (source_bytes files c.args.list.now.source)) (λ keys. size_for MIN_BITS (length (chosen Present S keys))) _ failed refused first.0 again
     (size_refused MIN_BITS (set.len c.in_ok-empty.empty.keys) c.in_ok-found.found (length (chosen Present S first.0)) failed refused _ want (subst (λ r. RefusedBy r MemoryFails c.in_err-scratch.field-0.0) size c.in_err-scratch.ensures.refused)))
 
 pub returns-in_err-insert_listed-clause-refused : goal.returns-in_err-insert_listed-clause-refused
@@ -41,7 +41,7 @@ returns-in_err-insert_listed-clause-refused g c files known =
     let why = c.in_err-insert_listed.ensures.refused files (c.in_ok-found.ensures.shelf.same_files ∙ known) in
     rw (p.1, p.2)
     (inr (met_later _ _ _ _ _ _ _ c.in_ok-found.ensures.shelf.fine c.in_ok-found.ensures.runner.fine
-    (same_again (keys_again c.args.list.now.count (bytes_at files c.args.list.now.source)) first.0 (chosen Present S) c.in_ok-found.found
+    (same_again (keys_again c.args.list.now.count (source_bytes files c.args.list.now.source)) first.0 (chosen Present S) c.in_ok-found.found
     (Rose (g.S.Shelf.failures c.count_found.new.shelf) (g.S.Shelf.failures c.insert_listed.new.shelf))
     (Rose (g.N.Runner.refused_starts c.count_found.new.runner) (g.N.Runner.refused_starts c.insert_listed.new.runner)) _ again (sym first.2) why)))
 

@@ -2,7 +2,7 @@ use Rattle.std.proofs.Common.{◌∙◌, ◌^◌, ◌<◌, ap, arith}
 use Rattle.std.proofs.lemmas.Result.{err_from_is_err_and}
 use Rattle.rh_key_files.specs.Counting.{Rose}
 use Rattle.rh_operations.specs.Found.{count_again, keys_found}
-use Rattle.rh_operations.specs.KeyLists.{bytes_at}
+use Rattle.rh_operations.specs.KeyLists.{source_bytes}
 use Rattle.rh_operations.proofs.AgainLemmas.{gave, is_again, later_refused, not_again, not_opened, rest_refused}
 use Rattle.std.specs.FinSet as set
 use Rattle.rh_layout.specs.Layout.{keys_of}
@@ -28,7 +28,7 @@ returns-clause-dropped g c =
 pub returns-in_err-removed-clause-refused : goal.returns-in_err-removed-clause-refused
 returns-in_err-removed-clause-refused g c files known =
     let p = err_from_is_err_and c.from_residual-in_err-removed.result c.from_residual-in_err-removed.ensures.1 in
-    let found = bytes_at files c.args.list.now.source in
+    let found = source_bytes files c.args.list.now.source in
     let count = c.args.list.now.count in
     let failed : Type 0 = Rose (g.S.Shelf.failures c.args.shelf.now) (g.S.Shelf.failures c.open_list.new.shelf) in
     let starts = g.N.Runner.refused_starts c.args.runner.now in
@@ -40,11 +40,11 @@ returns-in_err-removed-clause-refused g c files known =
 pub returns-in_err-keys-clause-refused : goal.returns-in_err-keys-clause-refused
 returns-in_err-keys-clause-refused g c files known =
     let p = err_from_is_err_and c.from_residual-in_err-keys.result c.from_residual-in_err-keys.ensures.1 in
-    let found = bytes_at files c.args.list.now.source in
+    let found = source_bytes files c.args.list.now.source in
     rw (p.1, p.2) (not_again _ files known _ _ c.args.list.now.count c.in_ok-reader.ensures.opened (λ _. keys_found found) _ _ _ c.in_err-keys.ensures.refused)
 
 pub returns-in_err-reader-clause-refused : goal.returns-in_err-reader-clause-refused
 returns-in_err-reader-clause-refused g c files known =
     let p = err_from_is_err_and c.from_residual.result c.from_residual.ensures.1 in
-    let found = bytes_at files c.args.list.now.source in
+    let found = source_bytes files c.args.list.now.source in
     rw (p.1, p.2) (not_opened found c.args.list.now.count (λ _. keys_found found) _ _ _ (c.in_err-reader.ensures.refused files known))

@@ -1,13 +1,13 @@
-use Rattle.rh_kcas.specs.Rests.{Rests}
+use Rattle.rh_kcas.specs.Rests.{SeatRests}
 use Rattle.rh_rdcss.specs.Calls.{IsSame, view_of}
-use Rattle.rh_phase.specs.Buffer.{HasRoom}
+use Rattle.rh_phase.specs.Buffer.{HasBufferRoom}
 use Rattle.rh_phase.specs.Keys.{IsUndone}
 use Rattle.rh_phase.proofs.doing.do_in_buffer.Given as goal
 
 abbrev pub invariant-loop : goal.invariant-loop
 invariant-loop g l = record {
-  rests : Rests l.table l.seat;
+  rests : SeatRests l.table l.seat;
   same : IsSame l.fn.seat l.seat;
   undone : IsUndone l.table.shape l.kind l.key (view_of l.fn.seat) (view_of l.seat);
-  room : HasRoom l.table.shape.bits l.buffer;
+  room : HasBufferRoom l.table.shape.bits l.buffer;
 }

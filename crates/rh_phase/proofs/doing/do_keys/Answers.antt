@@ -1,7 +1,7 @@
 use Rattle.std.proofs.Common.{◌≡◌, ◌∙◌, ap, refl, subst, sym, true, true≢false, Bool}
 use Rattle.std.specs.Prelude.{slice_index}
 use Rattle.rh_rdcss.specs.Calls.{view_of}
-use Rattle.rh_phase.specs.Buffer.{HasRoom}
+use Rattle.rh_phase.specs.Buffer.{HasBufferRoom}
 use Rattle.rh_phase.specs.Hands.{left_over}
 use Rattle.rh_phase.proofs.Claiming.{among, claims_on}
 use Rattle.rh_phase.proofs.Keying.{same_on}
@@ -23,7 +23,7 @@ loop-preserved g c =
       rests = e.rests;
       same = same_on _ _ _ (same_on _ _ _ h.same next.same) e.same;
       hand = record {
-        room = subst (HasRoom z.bits) (sym c.count.ensures.buffer) e.room;
+        room = subst (HasBufferRoom z.bits) (sym c.count.ensures.buffer) e.room;
         within = λ still. absurd (true≢false (sym still ∙ c.count.ensures.no_key));
         claims = claims_on z n then (view_of c.next_key.new.seat) (view_of c.do_in_buffer.new.seat) next.hand.claims c.count.ensures.ended e.claims;
       };

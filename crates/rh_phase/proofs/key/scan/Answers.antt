@@ -6,7 +6,7 @@ use Rattle.rh_descriptor.specs.Parts.{cell_count}
 use Rattle.rh_run.specs.History.{kept_of}
 use Rattle.rh_rdcss.specs.Calls.{view_of}
 use Rattle.rh_worker.specs.Deciding.{Decides}
-use Rattle.rh_worker.specs.Reading.{HasRead}
+use Rattle.rh_worker.specs.Reading.{HasScanned}
 use Rattle.rh_worker.specs.declared.deciding.Decision.TheVariants.{Done}
 use Rattle.rh_worker.proofs.Keeping.{value_read}
 use Rattle.rh_phase.proofs.Keying.{cell_read, scan_tells, one_value, same_on, undone_on, undone_read}
@@ -53,7 +53,7 @@ returns-in-Done-clause-scans g c =
     let next : suc n ≡ n + 1 = omega arith in
     scan_tells z c.args.kind k before (view_of c.read.new.seat) now (n + 1) c.decide.new.entries c.in-Done.told (omega (arith, long, within))
     (let s = h.seen in let r = c.requires.room in let b = c.requires.bits in subst (λ (b : ℕ). length now ≤ 2 ^ b) (sym b) (omega (arith, long, s, r)))
-    (subst (HasRead z before (view_of c.read.new.seat) k now) next read)
+    (subst (HasScanned z before (view_of c.read.new.seat) k now) next read)
     (subst (λ (b : ℕ). Decides c.args.kind b k (take (n + 1) now) c.decide.new.entries (Done c.in-Done.told)) (sym c.requires.bits) c.in-Done.ensures)
 
 pub loop-count-preserved : goal.loop-count-preserved
@@ -77,7 +77,7 @@ loop-count-preserved g c =
       same = same_on c.args.seat.now l.seat c.read.new.seat h.same e.same;
       undone = undone_on z c.args.kind k (view_of c.args.seat.now) (view_of l.seat) (view_of c.read.new.seat) h.undone
           (undone_read z c.args.kind k (view_of l.seat) (view_of c.read.new.seat) h.rests.rested e.rests.rested c.cell_after-cell.result _ (search rules) e.acts e.reads);
-      read = subst (HasRead z before (view_of c.read.new.seat) k now) next read;
+      read = subst (HasScanned z before (view_of c.read.new.seat) k now) next read;
       values = one_value l.seen n c.unwrap-value.result within said.0 h.values;
       seen = length-set l.seen n c.unwrap-value.result ∙ h.seen;
       news = search rules;

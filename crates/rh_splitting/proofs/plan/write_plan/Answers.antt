@@ -4,8 +4,8 @@ use Rattle.std.specs.Io.KnownBytes.{Appends}
 use Rattle.std.proofs.lemmas.Option.{slice_get_read}
 use Rattle.std.proofs.lemmas.Result.{err_from_is_err_and}
 use Rattle.rh_key_files.specs.Counting.{AppendsFront, inner_of}
-use Rattle.rh_splitting.specs.Parts.{count_of}
-use Rattle.rh_splitting.specs.Plan.{line_of}
+use Rattle.rh_splitting.specs.Parts.{part_count}
+use Rattle.rh_splitting.specs.Plan.{part_line}
 use Rattle.rh_splitting.proofs.Plans.{line_goes_on, line_stops}
 use Rattle.rh_splitting.proofs.plan.write_plan.Goals as goal
 
@@ -14,7 +14,7 @@ returns-in_err-put_line-clause-text g c =
     let p = err_from_is_err_and c.from_residual.result c.from_residual.ensures.1 in
     let parts = c.args.parts.now in
     let there : slice_get parts c.loop-part.part-index ≡ Some c.part-item.result = slice_get_read parts (length parts) _ _ refl (search rules) c.part-item.is in
-    let line : AppendsFront (g.W.Write.contents (inner_of c.loop-part.writer)) (g.W.Write.contents (inner_of c.put_line.new.writer)) (line_of c.loop-part.part-index (count_of c.part-item.result)) =
+    let line : AppendsFront (g.W.Write.contents (inner_of c.loop-part.writer)) (g.W.Write.contents (inner_of c.put_line.new.writer)) (part_line c.loop-part.part-index (part_count c.part-item.result)) =
     rw (← c.loop-part.invariant.number, ← c.count.ensures.count) c.in_err-put_line.ensures.text in
     rw p.1 (line_stops _ _ _ parts c.loop-part.part-index _ there c.loop-part.invariant.written line)
 
@@ -22,7 +22,7 @@ pub loop-part-preserved : goal.loop-part-preserved
 loop-part-preserved g c =
     let parts = c.args.parts.now in
     let there : slice_get parts c.loop-part.part-index ≡ Some c.part-item.result = slice_get_read parts (length parts) _ _ refl (search rules) c.part-item.is in
-    let line : Appends (g.W.Write.contents (inner_of c.loop-part.writer)) (g.W.Write.contents (inner_of c.put_line.new.writer)) (line_of c.loop-part.part-index (count_of c.part-item.result)) =
+    let line : Appends (g.W.Write.contents (inner_of c.loop-part.writer)) (g.W.Write.contents (inner_of c.put_line.new.writer)) (part_line c.loop-part.part-index (part_count c.part-item.result)) =
     rw (← c.loop-part.invariant.number, ← c.count.ensures.count) c.in_ok-put_line.ensures.text in
     record {
       number = search rules;

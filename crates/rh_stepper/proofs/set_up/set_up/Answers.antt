@@ -1,10 +1,10 @@
 use Rattle.std.proofs.Common.{◌∙◌, ℕ, None, ap, refl, replicate}
-use Rattle.rh_turns.specs.Laws.{Starts}
+use Rattle.rh_turns.specs.Laws.{GameStarts}
 use Rattle.rh_turns.proofs.Started.{plays_start}
 use Rattle.rh_stepper.proofs.Setting.{is_value, none_alone, starts}
 use Rattle.rh_stepper.proofs.set_up.set_up.Goals as goal
 
-made : (c : goal.In_ok-answers) → Starts (record {
+made : (c : goal.In_ok-answers) → GameStarts (record {
   kind = c.args.kind;
   shape = c.args.shape;
   opening = c.in_ok-opening.opening.items;

@@ -6,7 +6,7 @@ use Rattle.rh_descriptor.specs.View.{round_view}
 use Rattle.rh_worker.specs.Worker.{IsWorker}
 use Rattle.rh_turns.specs.declared.hand.Hand.{Hand}
 use Rattle.rh_turns.specs.Hands.{view_of}
-use Rattle.rh_turns.specs.Laws.{Begins}
+use Rattle.rh_turns.specs.Laws.{HandBegins}
 use Rattle.rh_stepper.proofs.Rounds.{begins_more, between, front_same, wipes}
 use Rattle.rh_stepper.proofs.turns.begin_round.Goals as goal
 
@@ -21,7 +21,7 @@ loop-number-preserved c =
     record {
       size = length-set c.loop-number.hands n _ ∙ c.loop-number.invariant.size;
       begun = begins_more z (take (cell_count z) c.args.words.now) c.args.hands.now c.loop-number.hands n _ c.loop-number.invariant.size inside c.loop-number.invariant.begun
-          (λ other. subst (λ (x : Hand). Begins z (take (cell_count z) c.args.words.now) x (record h { worker = c.begin_round.new.self })) (before other) (record {
+          (λ other. subst (λ (x : Hand). HandBegins z (take (cell_count z) c.args.words.now) x (record h { worker = c.begin_round.new.self })) (before other) (record {
             worker = c.begin_round.ensures.worker z (subst (λ (x : Hand). IsWorker z x.worker) (sym (before h)) (c.requires.workers n h inside));
             kind_same = c.begin_round.ensures.keeps.kind;
             key_same = c.begin_round.ensures.keeps.key;

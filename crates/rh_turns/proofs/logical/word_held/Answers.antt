@@ -5,7 +5,7 @@ use Rattle.rh_world.proofs.Tests.{is_desc_not, is_ref_yes}
 use Rattle.rh_descriptor.specs.declared.shape.Shape.{Shape}
 use Rattle.rh_descriptor.specs.Words.{ref_of}
 use Rattle.rh_helping.specs.Held.{IsHeld}
-use Rattle.rh_run.specs.Words.{Holds}
+use Rattle.rh_run.specs.Words.{HoldsCell}
 use Rattle.rh_worker.specs.Worker.{IsWorker}
 use Rattle.rh_turns.specs.declared.hand.Hand.{Hand}
 use Rattle.rh_turns.specs.Hands.{view_of}
@@ -36,7 +36,7 @@ loop-hand-preserved c v l holds =
     let held = held_at hands c.requires.workers at c.hand-item.result inside c.held.result (subst (λ (h : Hand). (z : Shape) → IsWorker z h.worker → IsHeld (view_of h) c.held.result) c.hand-item.is c.held.ensures) in
     ⊎_elim
     (λ (here : v ≡ at).
-    let holds_here : Holds k.side at d c.args.cell = subst (λ (u : ℕ). Holds (views_of hands u).side u d c.args.cell) here holds in
+    let holds_here : HoldsCell k.side at d c.args.cell = subst (λ (u : ℕ). HoldsCell (views_of hands u).side u d c.args.cell) here holds in
     elim c.match-held.branch [
       | in-Some+else-eq w ↦
           let it = holds_it k at number w.in-Some.owed (subst (IsHeld k) w.in-Some.is held) d c.args.cell holds_here in

@@ -1,8 +1,8 @@
 use Rattle.std.proofs.Common.{ℕ, ◌<◌}
 use Rattle.rh_descriptor.specs.Words.{ref_of}
-use Rattle.rh_run.specs.Words.{Holds}
+use Rattle.rh_run.specs.Words.{HoldsCell}
 use Rattle.rh_turns.specs.Readable.{views_of}
 use Rattle.rh_turns.proofs.logical.word_held.Given as goal
 
 abbrev pub invariant-loop-hand : goal.invariant-loop-hand
-invariant-loop-hand l = (v : ℕ) → v < l.hand-index → Holds (views_of l.hands v).side v (ref_of l.desc) l.cell → ⊥
+invariant-loop-hand l = (v : ℕ) → v < l.hand-index → HoldsCell (views_of l.hands v).side v (ref_of l.desc) l.cell → ⊥

@@ -1,7 +1,7 @@
 use Rattle.std.proofs.Common.{ℕ, List, length-take, rules, subst, sym, take, arith}
 use Rattle.rh_helping.specs.declared.looking.Watch.TheVariants as watch
 use Rattle.rh_worker.specs.Worker.{Stays}
-use Rattle.rh_worker.specs.Reading.{HasRead, seen_at}
+use Rattle.rh_worker.specs.Reading.{HasScanned, seen_at}
 use Rattle.rh_worker.specs.declared.stage.Stage.{Stage}
 use Rattle.rh_worker.specs.declared.stage.Stage.TheVariants as stage
 use Rattle.rh_worker.proofs.Anew.{front_read, left_off}
@@ -45,7 +45,7 @@ pub returns-in-Acts-clause-anew : goal.returns-in-Acts-clause-anew
 returns-in-Acts-clause-anew c before h =
     let w = c.args.worker.now in
     let z = c.args.shape.now in
-    (subst (HasRead z before w.side.known.view w.key _) (sym c.planned-worker.ensures.unseen) (left_off z before w.side.known.view w.key w.buffer.seen.items _ c.args.count h), tt)
+    (subst (HasScanned z before w.side.known.view w.key _) (sym c.planned-worker.ensures.unseen) (left_off z before w.side.known.view w.key w.buffer.seen.items _ c.args.count h), tt)
 
 pub returns-after-count-cells-clause-anew : goal.returns-after-count-cells-clause-anew
 returns-after-count-cells-clause-anew c before h =
@@ -54,9 +54,9 @@ returns-after-count-cells-clause-anew c before h =
     let v = w.side.known.view in
     let t = c.decide-decision.new.self in
     let same = c.in-More.ensures.seen in (
-      subst (λ (p : Stage). HasRead z before v w.key t.seen.items (seen_at p)) (sym c.reading-worker.ensures) (elim c.if-count-cells.branch [
-        | then-count-cells b ↦ subst (HasRead z before v w.key t.seen.items) (sym b.seen-is) (subst (λ (l : List ℕ). HasRead z before v w.key l c.args.count) (sym same) h)
-        | else-count-cells b ↦ subst (HasRead z before v w.key t.seen.items) (sym b.seen-is) (left_off z before v w.key w.buffer.seen.items t.seen.items c.args.count h)
+      subst (λ (p : Stage). HasScanned z before v w.key t.seen.items (seen_at p)) (sym c.reading-worker.ensures) (elim c.if-count-cells.branch [
+        | then-count-cells b ↦ subst (HasScanned z before v w.key t.seen.items) (sym b.seen-is) (subst (λ (l : List ℕ). HasScanned z before v w.key l c.args.count) (sym same) h)
+        | else-count-cells b ↦ subst (HasScanned z before v w.key t.seen.items) (sym b.seen-is) (left_off z before v w.key w.buffer.seen.items t.seen.items c.args.count h)
       ]),
       tt,
     )

@@ -8,8 +8,8 @@ use Rattle.rh_run.specs.Advance.{GoesOn}
 use Rattle.rh_helping.specs.Next.Looked.{On, Sees}
 use Rattle.rh_helping.specs.Looking.{kind_of_looking}
 use Rattle.rh_helping.specs.Machine.{looking_of}
-use Rattle.rh_worker.specs.Makes.{Makes}
-use Rattle.rh_worker.specs.Reading.{HasRead}
+use Rattle.rh_worker.specs.Makes.{MakesStep}
+use Rattle.rh_worker.specs.Reading.{HasScanned}
 use Rattle.rh_worker.proofs.Anew.{kept_alike, left_off, none_read, one_read, tells_anew}
 use Rattle.rh_worker.proofs.Keeping.{has_seen, read_first, stepped_makes, value_kept, value_read}
 use Rattle.rh_worker.proofs.Scans.{looks_on, more_seen}
@@ -72,7 +72,7 @@ pub returns-in-Sees-clause-makes : goal.returns-in-Sees-clause-makes
 returns-in-Sees-clause-makes g c =
     let z = c.args.shape.now in
     let made = stepped_makes z _ _ _ _ c.args.worker.now.side.known.view _ _ c.in-Sees.ensures.made in
-    subst (λ (n : View). Makes g.T.Steps.shows g.T.Steps.made z (kind_of_looking (looking_of c.args.watch c.args.worker.now.machine)) c.args.table.now c.args.worker.now.side.known.view c.look.new.table n) (sym c.decide.ensures.same_view) made
+    subst (λ (n : View). MakesStep g.T.Steps.shows g.T.Steps.made z (kind_of_looking (looking_of c.args.watch c.args.worker.now.machine)) c.args.table.now c.args.worker.now.side.known.view c.look.new.table n) (sym c.decide.ensures.same_view) made
 
 pub returns-in-Sees-clause-anew : goal.returns-in-Sees-clause-anew
 returns-in-Sees-clause-anew g c before h =
@@ -87,7 +87,7 @@ returns-in-Sees-clause-anew g c before h =
     let on = looks_on z v next (looking_of c.args.watch w.machine) (Sees a.word) c.requires.worker.stays.0 a.ensures.leads a.ensures.made.opened in
     let count : suc c.args.seen ≡ c.args.seen + 1 = omega arith in
     let one = one_read z before v next w.key w.buffer.seen.items c.see.new.self.seen.items c.args.seen c.cell_after-cell.result c.unwrap-value.result c.see.ensures.before c.see.ensures.seen at first h in
-    let got = c.decide.ensures.anew before (subst (HasRead z before next w.key c.see.new.self.seen.items) count one) in
+    let got = c.decide.ensures.anew before (subst (HasScanned z before next w.key c.see.new.self.seen.items) count one) in
     (got.0, tells_anew z before w.kind w.key v _ _ (subst (GoesOn v) (sym c.decide.ensures.same_view) on) got.1)
 
 pub returns-in-Spent-clause-anew : goal.returns-in-Spent-clause-anew

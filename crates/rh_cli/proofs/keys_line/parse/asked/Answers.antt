@@ -1,6 +1,6 @@
 use Rattle.std.proofs.Common.{◌≡◌, inl, inr, List, Some, option_map, arith}
 use Rattle.clap.specs.Words.{Row, Text}
-use Rattle.rh_cli.specs.KeysLine.{IsCommand}
+use Rattle.rh_cli.specs.KeysLine.{IsKeysCommand}
 use Rattle.rh_cli.proofs.CommandLemmas.{name_told}
 use Rattle.rh_cli.proofs.keys_line.parse.asked.Goals as goal
 use Rattle.rh_cli.proofs.keys_line.parse.asked.Goals.{in_default-via-in-Some+in_default, in_default-via-in_default}
@@ -8,8 +8,8 @@ use Rattle.rh_cli.proofs.keys_line.parse.asked.Goals.{in_default-via-in-Some+in_
 -- the arms above have each command
 pub unreachable-requires : goal.unreachable-requires
 unreachable-requires c =
-    let named : (row : Text × List Row) × (option_map (λ p. p.0.now) c.subcommand.result ≡ Some row.0) × IsCommand row.0 row.1 =
-    name_told IsCommand c.args.matches.now _ c.subcommand.ensures.name c.requires in
+    let named : (row : Text × List Row) × (option_map (λ p. p.0.now) c.subcommand.result ≡ Some row.0) × IsKeysCommand row.0 row.1 =
+    name_told IsKeysCommand c.args.matches.now _ c.subcommand.ensures.name c.requires in
     elim c.in_default.branch [
       | in_default-via-in-Some+in_default w ↦ elim named.2 [
         | inl pack ↦ grind (arith, named.1, pack, w.in_default.is)

@@ -1,5 +1,5 @@
 use Rattle.std.proofs.Common.{◌≡◌, ◌+◌, ◌-◌, ap, arith, inl, inr, refl, suc, sym, subst, ◌∙◌}
-use Rattle.rh_world.specs.Facts.Fact.{found, held, met, mismatch}
+use Rattle.rh_world.specs.Facts.Fact.{found, installed, met, mismatch}
 use Rattle.rh_descriptor.specs.declared.reference.Ref.{Ref as Reference}
 use Rattle.rh_descriptor.specs.View.{View}
 use Rattle.rh_descriptor.specs.Words.{ref_of}
@@ -9,7 +9,7 @@ use Rattle.rh_helping.specs.Next.{Settles as settles}
 use Rattle.rh_helping.specs.Next.{Settles}
 use Rattle.rh_helping.specs.Goal.{KnowsOwn, opened_by}
 use Rattle.rh_helping.specs.Machine.{goal_of}
-use Rattle.rh_helping.specs.Work.{IsNext, Leads}
+use Rattle.rh_helping.specs.Work.{IsNextTask, Leads}
 use Rattle.rh_helping.proofs.Growing.{at_grows, nothing_grows, own_grows}
 use Rattle.rh_helping.proofs.Leading.{lead}
 use Rattle.rh_helping.proofs.Marking.{at_goal, held_next, is_placed, names_grows, noted_next, placed_marks, saw_held, saw_mark, saw_other, saw_value, try_grows}
@@ -33,17 +33,17 @@ returns-then-found-machine-clause-leads g c =
 pub at_entry-requires-clause-own : goal.at_entry-requires-clause-own
 at_entry-requires-clause-own g c =
     let f = c.requires.follows in
-    let n = held (ref_of c.args.machine.now.task.desc) c.args.machine.now.task.entry in
+    let n = installed (ref_of c.args.machine.now.task.desc) c.args.machine.now.task.entry in
     subst (λ (x : View). KnowsOwn x (opened_by c.args.opens)) (sym (f.view_is ∙ noted_next c.args.shape.now f.before f.knows (goal_of c.args.machine.now) f.stands.0 c.args.found c.if-found-machine.false n (saw_held c.args.shape.now f.before f.knows (goal_of c.args.machine.now) f.stands.0 c.args.found (ref_of c.in-Desc.desc) c.in-Desc.ensures (sym c.if-eq.ensures)))) (own_grows _ _ (grows_note f.before n refl) _ f.own)
 
 pub at_entry-requires-clause-next : goal.at_entry-requires-clause-next
 at_entry-requires-clause-next g c =
     let f = c.requires.follows in
     let t = c.args.machine.now.task in
-    let n = held (ref_of t.desc) t.entry in
+    let n = installed (ref_of t.desc) t.entry in
     let g = grows_note f.before n refl in
-    subst (IsNext c.args.side.now.known.view) (sym c.after-machine.ensures)
-    (subst (λ (x : View). IsNext x (record { desc = t.desc; size = t.size; state = t.state; entry = t.entry + 1; owed = t.owed; reason = t.reason })) (sym (f.view_is ∙ noted_next c.args.shape.now f.before f.knows (goal_of c.args.machine.now) f.stands.0 c.args.found c.if-found-machine.false n (saw_held c.args.shape.now f.before f.knows (goal_of c.args.machine.now) f.stands.0 c.args.found (ref_of c.in-Desc.desc) c.in-Desc.ensures (sym c.if-eq.ensures))))
+    subst (IsNextTask c.args.side.now.known.view) (sym c.after-machine.ensures)
+    (subst (λ (x : View). IsNextTask x (record { desc = t.desc; size = t.size; state = t.state; entry = t.entry + 1; owed = t.owed; reason = t.reason })) (sym (f.view_is ∙ noted_next c.args.shape.now f.before f.knows (goal_of c.args.machine.now) f.stands.0 c.args.found c.if-found-machine.false n (saw_held c.args.shape.now f.before f.knows (goal_of c.args.machine.now) f.stands.0 c.args.found (ref_of c.in-Desc.desc) c.in-Desc.ensures (sym c.if-eq.ensures))))
     (held_next f.before _ g.keeps g.failures (goal_of c.args.machine.now) f.stands.0.undecided f.stands.0.goal (nothing_grows _ _ g f.stands.0.owes) (inl refl)))
 
 pub returns-in-Value-clause-leads : goal.returns-in-Value-clause-leads

@@ -3,7 +3,7 @@ use Rattle.rh_helping.specs.declared.goal.Owed.{Owed}
 use Rattle.rh_helping.specs.declared.goal.Task.{Task}
 use Rattle.rh_helping.specs.Goal.{opened_by}
 use Rattle.rh_helping.specs.Machine.{goal_of}
-use Rattle.rh_helping.specs.Work.{Begins, IsNext}
+use Rattle.rh_helping.specs.Work.{Begins, IsNextTask}
 use Rattle.rh_helping.proofs.Knowing.{task_known}
 use Rattle.rh_helping.proofs.Marking.{recheck_decided, recheck_goal, recheck_stale, recheck_held, recheck_owes_goal, recheck_own, recheck_reason}
 use Rattle.rh_helping.proofs.holding.RecheckStage.after.Goals as goal
@@ -28,7 +28,7 @@ pub returns-then-is_decided-clause-ends : goal.returns-then-is_decided-clause-en
 returns-then-is_decided-clause-ends g c = c.begin.ensures.ends _
 
 pub at_entry-requires-clause-next : goal.at_entry-requires-clause-next
-at_entry-requires-clause-next g c = let f = c.requires.follows in subst (IsNext c.args.side.now.known.view) (sym c.after-machine.ensures)
+at_entry-requires-clause-next g c = let f = c.requires.follows in subst (IsNextTask c.args.side.now.known.view) (sym c.after-machine.ensures)
     (recheck_held f.before (goal_of c.args.machine.now) c.args.machine.now.promoted f.stands _ c.args.found _ (f.finds.1 (task_known _ _ f.knows c.args.machine.now.task f.stands.goal.task)) f.view_is c.in-Some.state c.in-Some.ensures (sym c.if-is_decided.ensures) c.if-machine.true)
 
 pub ready-requires-clause-goal : goal.ready-requires-clause-goal

@@ -5,7 +5,7 @@ use Rattle.rh_helping.specs.declared.machine.Ended.{Ended}
 use Rattle.rh_helping.specs.Next.Outcome.{Closed}
 use Rattle.rh_helping.specs.Goal.{opened_by, released_value}
 use Rattle.rh_helping.specs.Machine.{goal_of}
-use Rattle.rh_helping.specs.Work.{IsNext, Leads}
+use Rattle.rh_helping.specs.Work.{IsNextTask, Leads}
 use Rattle.rh_helping.proofs.Released.{release_closes, release_leaves, release_next, release_own}
 use Rattle.rh_helping.proofs.releasing.ReleaseStage.after.Goals as goal
 
@@ -16,7 +16,7 @@ pub at_entry-requires-clause-next : goal.at_entry-requires-clause-next
 at_entry-requires-clause-next g c =
     let f = c.requires.follows in
     let t = c.args.machine.now.task in
-    subst (λ (o : Option Owed). IsNext c.args.side.now.known.view (record { desc = t.desc; size = t.size; state = t.state; entry = t.entry + 1; owed = o; reason = t.reason })) (sym c.owed_after-machine.ensures)
+    subst (λ (o : Option Owed). IsNextTask c.args.side.now.known.view (record { desc = t.desc; size = t.size; state = t.state; entry = t.entry + 1; owed = o; reason = t.reason })) (sym c.owed_after-machine.ensures)
     (release_next c.args.shape.now f.before _ f.knows (goal_of c.args.machine.now) f.stands.0 f.stands.1 (opened_by c.args.opens) f.own f.stands.2 c.args._found (released_value c.args.machine.now.task.state c.args.machine.now.change.old c.args.machine.now.change.new) f.view_is f.stands.3 c.if-task.true)
 
 pub resume-requires-clause-own : goal.resume-requires-clause-own

@@ -1,6 +1,6 @@
 use Rattle.std.proofs.Common.{◌≡◌, ◌+◌, ◌∷◌, ap, sym, subst, ◌∙◌, rules}
 use Rattle.std.proofs.lemmas.Result.{err_from_is_err_and}
-use Rattle.rh_numbers.specs.Parts.{keys_of, said_by}
+use Rattle.rh_numbers.specs.Parts.{keys_read, said_by}
 use Rattle.rh_numbers.specs.Reading.{Stops}
 use Rattle.rh_numbers.proofs.Fronts.{stops_then}
 use Rattle.rh_numbers.proofs.Spelling.{at_feed}
@@ -12,6 +12,6 @@ returns-in_err-end_line-clause-read c =
     let old = c.args.self.now in
     let feed : c.args.b ≡ 10 = search rules in
     rw (p.1, p.2) (λ rest.
-    subst (Stops c.in_err-end_line.field-0.0 (keys_of c.end_line.new.self))
+    subst (Stops c.in_err-end_line.field-0.0 (keys_read c.end_line.new.self))
     (sym (ap (λ b. said_by old (b ∷ rest)) feed ∙ at_feed old.keys.items old.line old.so_far rest))
-    (stops_then c.in_err-end_line.field-0.0 (keys_of c.end_line.new.self) _ (old.line + 1) rest c.in_err-end_line.ensures.keys))
+    (stops_then c.in_err-end_line.field-0.0 (keys_read c.end_line.new.self) _ (old.line + 1) rest c.in_err-end_line.ensures.keys))

@@ -6,26 +6,26 @@ use Rattle.rh_acts.specs.Workers.{LeavesRoom}
 use Rattle.rh_descriptor.specs.declared.shape.Shape.{Shape}
 use Rattle.rh_descriptor.specs.Parts.{IsShape}
 use Rattle.rh_stepper.specs.SetUp.{AreDealt}
-use Rattle.rh_stepper.specs.Start.{are_keys, joined}
+use Rattle.rh_stepper.specs.Start.{are_keys, keys_of_pieces}
 use Rattle.rh_stepper.proofs.Starting.{all_keys, has_room, is_shape, made_none, no_fault, pieces_are, refuses_key, refuses_memory}
 use Rattle.rh_stepper.proofs.player.Player.with_rooms.Goals as goal
 
 pub returns-then-not-are_all_keys : goal.returns-then-not-are_all_keys
 returns-then-not-are_all_keys c =
-    refuses_key c.args.kind c.args.bits c.args.cells.now (length c.args.pieces.now) (joined c.args.pieces.now)
-    (c.in_ok-test_table.ensures.tests (joined c.args.pieces.now) c.count_keys.ensures) (sym c.are_all_keys.ensures ∙ c.if-not-are_all_keys.true)
+    refuses_key c.args.kind c.args.bits c.args.cells.now (length c.args.pieces.now) (keys_of_pieces c.args.pieces.now)
+    (c.in_ok-test_table.ensures.tests (keys_of_pieces c.args.pieces.now) c.count_keys.ensures) (sym c.are_all_keys.ensures ∙ c.if-not-are_all_keys.true)
 
 pub returns-in_err-keys : goal.returns-in_err-keys
 returns-in_err-keys c =
     made_none _ _ c.from_residual-in_err-keys.result _ c.from_residual-in_err-keys.ensures.0 c.from_residual-in_err-keys.ensures.1 (λ given gives. gives)
-    (refuses_memory c.args.kind c.args.bits c.args.cells.now (length c.args.pieces.now) (joined c.args.pieces.now)
-    (c.in_ok-test_table.ensures.tests (joined c.args.pieces.now) c.count_keys.ensures) (sym c.are_all_keys.ensures ∙ c.if-not-are_all_keys.false))
+    (refuses_memory c.args.kind c.args.bits c.args.cells.now (length c.args.pieces.now) (keys_of_pieces c.args.pieces.now)
+    (c.in_ok-test_table.ensures.tests (keys_of_pieces c.args.pieces.now) c.count_keys.ensures) (sym c.are_all_keys.ensures ∙ c.if-not-are_all_keys.false))
 
 pub set_up-requires-clause-shape : goal.set_up-requires-clause-shape
 set_up-requires-clause-shape c =
     subst IsShape (sym c.shape_for-shape.ensures)
-    (is_shape c.args.kind c.args.bits c.args.cells.now (length c.args.pieces.now) (joined c.args.pieces.now)
-    (c.in_ok-test_table.ensures.tests (joined c.args.pieces.now) c.count_keys.ensures) c.in_ok-test_table.ensures.layout c.args.rooms c.requires 0 (omega arith))
+    (is_shape c.args.kind c.args.bits c.args.cells.now (length c.args.pieces.now) (keys_of_pieces c.args.pieces.now)
+    (c.in_ok-test_table.ensures.tests (keys_of_pieces c.args.pieces.now) c.count_keys.ensures) c.in_ok-test_table.ensures.layout c.args.rooms c.requires 0 (omega arith))
 
 pub set_up-requires-clause-opening : goal.set_up-requires-clause-opening
 set_up-requires-clause-opening c = subst (λ (z : Shape). IsLayout z.bits c.args.cells.now) (sym c.shape_for-shape.ensures) c.in_ok-test_table.ensures.layout
@@ -33,28 +33,28 @@ set_up-requires-clause-opening c = subst (λ (z : Shape). IsLayout z.bits c.args
 pub set_up-requires-clause-room : goal.set_up-requires-clause-room
 set_up-requires-clause-room c =
     subst (λ (keys : List ℕ). LeavesRoom c.args.kind c.shape_for-shape.result.bits (keys_of c.args.cells.now) keys) (sym c.in_ok-keys.ensures.keys)
-    (subst (λ (z : Shape). LeavesRoom c.args.kind z.bits (keys_of c.args.cells.now) (joined c.args.pieces.now)) (sym c.shape_for-shape.ensures)
-    (has_room c.args.kind c.args.bits c.args.cells.now (length c.args.pieces.now) (joined c.args.pieces.now)
-    (c.in_ok-test_table.ensures.tests (joined c.args.pieces.now) c.count_keys.ensures) c.in_ok-test_table.ensures.layout))
+    (subst (λ (z : Shape). LeavesRoom c.args.kind z.bits (keys_of c.args.cells.now) (keys_of_pieces c.args.pieces.now)) (sym c.shape_for-shape.ensures)
+    (has_room c.args.kind c.args.bits c.args.cells.now (length c.args.pieces.now) (keys_of_pieces c.args.pieces.now)
+    (c.in_ok-test_table.ensures.tests (keys_of_pieces c.args.pieces.now) c.count_keys.ensures) c.in_ok-test_table.ensures.layout))
 
 pub set_up-requires-clause-keys : goal.set_up-requires-clause-keys
 set_up-requires-clause-keys c =
-    subst (λ (keys : List ℕ). All IsKey keys) (sym c.in_ok-keys.ensures.keys) (all_keys (joined c.args.pieces.now) (sym c.are_all_keys.ensures ∙ c.if-not-are_all_keys.false))
+    subst (λ (keys : List ℕ). All IsKey keys) (sym c.in_ok-keys.ensures.keys) (all_keys (keys_of_pieces c.args.pieces.now) (sym c.are_all_keys.ensures ∙ c.if-not-are_all_keys.false))
 
 pub returns-in_err-set_up : goal.returns-in_err-set_up
 returns-in_err-set_up c =
     made_none _ _ c.from_residual-in_err-set_up.result _ c.from_residual-in_err-set_up.ensures.0 c.from_residual-in_err-set_up.ensures.1 (λ given gives. gives)
-    (refuses_memory c.args.kind c.args.bits c.args.cells.now (length c.args.pieces.now) (joined c.args.pieces.now)
-    (c.in_ok-test_table.ensures.tests (joined c.args.pieces.now) c.count_keys.ensures) (sym c.are_all_keys.ensures ∙ c.if-not-are_all_keys.false))
+    (refuses_memory c.args.kind c.args.bits c.args.cells.now (length c.args.pieces.now) (keys_of_pieces c.args.pieces.now)
+    (c.in_ok-test_table.ensures.tests (keys_of_pieces c.args.pieces.now) c.count_keys.ensures) (sym c.are_all_keys.ensures ∙ c.if-not-are_all_keys.false))
 
 pub returns : goal.returns
 returns c =
-    let good : are_keys (joined c.args.pieces.now) ≡ true = sym c.are_all_keys.ensures ∙ c.if-not-are_all_keys.false in
+    let good : are_keys (keys_of_pieces c.args.pieces.now) ≡ true = sym c.are_all_keys.ensures ∙ c.if-not-are_all_keys.false in
     let g = c.in_ok-set_up.field-0 in
     let start = c.in_ok-set_up.ensures.start in
     let keys_are = start.keys_are ∙ c.in_ok-keys.ensures.keys in (
-      no_fault c.args.kind c.args.bits c.args.cells.now (length c.args.pieces.now) (joined c.args.pieces.now)
-          (c.in_ok-test_table.ensures.tests (joined c.args.pieces.now) c.count_keys.ensures) good,
+      no_fault c.args.kind c.args.bits c.args.cells.now (length c.args.pieces.now) (keys_of_pieces c.args.pieces.now)
+          (c.in_ok-test_table.ensures.tests (keys_of_pieces c.args.pieces.now) c.count_keys.ensures) good,
       record {
         start = record { kind_is = start.kind_is; shape_is = start.shape_is ∙ c.shape_for-shape.ensures; opening_is = start.opening_is; keys_are = keys_are; starts = start.starts };
         pieces_are = pieces_are c.args.pieces.now c.in_ok-keys.shares.items g (c.in_ok-set_up.ensures.shares ∙ c.deref.ensures.value)

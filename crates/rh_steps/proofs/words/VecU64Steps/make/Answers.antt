@@ -1,7 +1,7 @@
 use Rattle.std.proofs.Common.{List, ◌≡◌, ◌∙◌, ℕ, length, subst, sym}
 use Rattle.std.specs.Vec.{with_items}
 use Rattle.std.proofs.lemmas.List.{with_items_is}
-use Rattle.rh_descriptor.specs.Requests.{step_of}
+use Rattle.rh_descriptor.specs.Requests.{step_asked}
 use Rattle.rh_descriptor.specs.Steps.{StepsTo}
 use Rattle.rh_rule.specs.Sound.{Finds}
 use Rattle.rh_steps.specs.Relies.{Shows}
@@ -12,7 +12,7 @@ returns c =
     let z = c.args.shape.now in
     let v = c.args.side.now.known.view in
     let next = c.make_step.new.side.known.view in
-    let s = step_of c.args.request in
+    let s = step_asked c.args.request in
     let word = c.make_step.result in
     let after = c.make_step.new.words in
     let size : length after ≡ c.args.self.now.len = c.make_step.auto.words ∙ c.as_mut_slice.ensures.len in
