@@ -3,7 +3,8 @@ use Rattle.std.proofs.Common.{◌≡◌, ℕ, zero, suc, ◌+◌, ◌-◌, ◌�
 use borrow.Rule.Slice.PartMut.{put_mid, post_of}
 use Rattle.rh_key_files.specs.declared.version.Version.{Version}
 use Rattle.rh_key_files.specs.declared.fault.KeyFault.{KeyFault}
-use Rattle.rh_key_files.specs.Reading.{◌>>=◌, Reads, always, key_at, keys_at}
+use Rattle.rh_key_files.specs.Input.{◌>>=◌, always}
+use Rattle.rh_key_files.specs.Reading.{Reads, key_at, keys_at, is_silent}
 use Rattle.rh_key_files.proofs.Reading.{Fails-then, Reads-ok}
 
 abbrev Read : Type 0
@@ -62,12 +63,12 @@ pub batch_fails : {X Y : Type 0} (version : Version) (index m n : ℕ) (a b c : 
     → Reads a c (keys_at version index (m + n)) w (Err e)
 batch_fails version index m n None b c front v w e p q = tt
 batch_fails version index m n (Some x) None c front v w e p q = absurd p
-batch_fails version index m n (Some x) (Some y) c front v w e p q = rw (keys_at-add version index m n x, p) (Fails-then e (keys_at version (index + m) n y) (with_front front) q)
+batch_fails version index m n (Some x) (Some y) c front v w e p q = rw (keys_at-add version index m n x, p) (Fails-then is_silent e (keys_at version (index + m) n y) (with_front front) q)
 
 -- a fault in some keys is one of these and others
 pub fails_with_more : {X Y : Type 0} (version : Version) (index m n : ℕ) (a b : Option (List ℕ)) (v : X → List ℕ) (w : Y → List ℕ) (e : KeyFault) → Reads a b (keys_at version index m) v (Err e) → Reads a b (keys_at version index (m + n)) w (Err e)
 fails_with_more version index m n None b v w e h = tt
-fails_with_more version index m n (Some x) b v w e h = rw (keys_at-add version index m n x) (Fails-then e (keys_at version index m x) (and_next version (index + m) n) h)
+fails_with_more version index m n (Some x) b v w e h = rw (keys_at-add version index m n x) (Fails-then is_silent e (keys_at version index m x) (and_next version (index + m) n) h)
 
 -- ---- as a loop goes on
 
@@ -86,7 +87,7 @@ part_stops version index done at many all a b c front v w e place within p q =
 
 pub no_keys : (version : Version) (index : ℕ) (a : Option (List ℕ)) → Reads a a (keys_at version index 0) (always {X = Unit {0}} []) (Ok tt)
 unfolding keys_at
-no_keys version index a = Reads-ok a (λ bytes. Ok ([], bytes)) (always {X = Unit {0}} []) tt (λ bytes. refl)
+no_keys version index a = Reads-ok is_silent a (λ bytes. Ok ([], bytes)) (always {X = Unit {0}} []) tt (λ bytes. refl)
 
 -- a part of a batch lies within it
 pub part_inside : (a k : ℕ) (batch keys : List ℕ) → a ≤ length batch → a + length keys ≤ length (put_mid a k batch keys)

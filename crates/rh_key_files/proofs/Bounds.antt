@@ -1,6 +1,6 @@
 -- Which faults come where, and how many bytes are taken before they are told.
-use Rattle.std.proofs.Common.{◌≡◌, ◌∙◌, refl, sym, ap, subst, ℕ, zero, suc, ◌+◌, ◌*◌, ◌≤◌, le_refl, List, [], ◌∷◌, Option, Some, None, Result, Ok, Err, inl, inr, arith}
-use Rattle.std.specs.Prelude.{nat_lt, IsErrOf}
+use Rattle.std.proofs.Common.{◌≡◌, ◌∙◌, refl, sym, ap, subst, ℕ, zero, suc, ◌+◌, ◌*◌, ◌≤◌, le_refl, List, ◌∷◌, Option, Some, None, Result, Ok, Err, inl, inr, arith}
+use Rattle.std.specs.Prelude.{nat_lt, IfErr, IsErrOf}
 use Rattle.std.proofs.lemmas.Bool.{cases_Bool}
 use Rattle.rh_key_files.specs.declared.version.Version.{Version}
 use Rattle.rh_key_files.specs.declared.batch.TheConstants.{PART_KEYS}
@@ -8,55 +8,45 @@ use Rattle.rh_key_files.specs.declared.parts.TheConstants.{MAX_KEYS}
 use Rattle.rh_key_files.specs.declared.fault.KeyFault.{KeyFault}
 use Rattle.rh_key_files.specs.declared.fault.KeyFault.TheVariants as faults
 use Rattle.rh_key_files.specs.declared.fault.KeyFault.TheVariants.{NotKeys, Short, TooMany, BadKey, Long}
-use Rattle.rh_key_files.specs.Reading.{◌>>=◌, Fails, Reads, begins_with_bytes, bytes_at, number_in, number_at, few, count_at, is_key_in, in_range, key_at, keys_at, end_at, header_at}
+use Rattle.rh_key_files.specs.Input.{◌>>=◌, number_at, end_at}
+use Rattle.rh_key_files.specs.Reading.{Fails, Reads, few, count_at, is_key_in, in_range, key_at, keys_at, header_at}
 use Rattle.rh_key_files.specs.Taking.{TakesAtMost}
 use Rattle.rh_key_files.specs.Limits.{magic_bytes, header_bytes, header_taken, keys_taken, whole_bytes, most_bytes, file_bytes, count_in, count_said, TakesOfFile}
 use Rattle.rh_key_files.proofs.Taking.{takes_of_unknown, takes_fewer, takes_then, takes_both}
+use Rattle.rh_key_files.proofs.Told.{end_told, number_told, then_told}
 use Rattle.rh_key_files.proofs.Grammar.{header_read}
+use Rattle.rh_key_files.specs.declared.header.Header.{Header}
 
 -- ---- the header
 
 -- the magic is not what is wrong
-abbrev NamesKeys : {A : Type 0} → Result A KeyFault → Type 0
-NamesKeys (Err NotKeys) = ⊥
-NamesKeys r = Unit {0}
+abbrev IsLater : KeyFault → Type 0
+IsLater NotKeys = ⊥
+IsLater e = Unit {0}
 
-then_names : {A B : Type 0} (r : Result A KeyFault) (f : A → Result B KeyFault) → NamesKeys r → ((x : A) → NamesKeys (f x)) → NamesKeys (r >>= f)
-then_names (Ok x) f first next = next x
-then_names (Err NotKeys) f first next = first
-then_names (Err e) f first next = tt
+few_later : (n : ℕ × List ℕ) → IfErr (few n) IsLater
+few_later n = elim (cases_Bool (nat_lt MAX_KEYS n.0)) [ inl more ↦ rw more tt | inr other ↦ rw other tt ]
 
-bytes_name : (n : ℕ) (bytes : List ℕ) → NamesKeys (bytes_at n bytes)
-unfolding bytes_at
-bytes_name n bytes = elim (cases_Bool (begins_with_bytes n bytes)) [ inl there ↦ rw there tt | inr other ↦ rw other tt ]
-
-few_name : (n : ℕ × List ℕ) → NamesKeys (few n)
-few_name n = elim (cases_Bool (nat_lt MAX_KEYS n.0)) [ inl more ↦ rw more tt | inr other ↦ rw other tt ]
-
-count_names : (bytes : List ℕ) → NamesKeys (count_at bytes)
-unfolding count_at number_at
-count_names bytes = then_names (bytes_at 8 bytes >>= number_in) few (then_names (bytes_at 8 bytes) number_in (bytes_name 8 bytes) (λ eight. tt)) few_name
+count_later : (bytes : List ℕ) → IfErr (count_at bytes) IsLater
+unfolding count_at
+count_later bytes = then_told IsLater (number_at Short bytes) few (number_told IsLater Short tt bytes) few_later
 
 pub header_stops : (a b c : Option (List ℕ)) (e : KeyFault) → TakesAtMost a b magic_bytes → TakesAtMost b c 8 → Reads b c count_at (λ (n : ℕ). n) (Err e) → TakesAtMost a c (header_taken (Some e))
 header_stops None b c e s t h = takes_of_unknown c (header_taken (Some e))
 header_stops (Some x) None c e s t h = absurd s.consumed
-header_stops (Some x) (Some y) c NotKeys s t h = absurd (subst NamesKeys h (count_names y))
+header_stops (Some x) (Some y) c NotKeys s t h = absurd (subst (λ r. IfErr r IsLater) h (count_later y))
 header_stops (Some x) (Some y) c e s t h = takes_then (Some x) (Some y) c magic_bytes 8 s t
 
 -- ---- the keys
 
 -- of keys from this index on
-abbrev ComesFrom : {A : Type 0} → ℕ → Result A KeyFault → Type 0
-ComesFrom index (Ok x) = Unit {0}
-ComesFrom index (Err Short) = Unit {0}
-ComesFrom index (Err (BadKey bad)) = index ≤ bad
-ComesFrom index (Err e) = ⊥
+abbrev IsFrom : ℕ → KeyFault → Type 0
+IsFrom index Short = Unit {0}
+IsFrom index (BadKey bad) = index ≤ bad
+IsFrom index e = ⊥
 
-then_comes : {A B : Type 0} (index : ℕ) (r : Result A KeyFault) (f : A → Result B KeyFault) → ComesFrom index r → ((x : A) → ComesFrom index (f x)) → ComesFrom index (r >>= f)
-then_comes index (Ok x) f first next = next x
-then_comes index (Err Short) f first next = tt
-then_comes index (Err (BadKey bad)) f first next = first
-then_comes index (Err e) f first next = absurd first
+abbrev ComesFrom : {A : Type 0} → ℕ → Result A KeyFault → Type 0
+ComesFrom index r = IfErr r (IsFrom index)
 
 comes_before : {A : Type 0} (index : ℕ) (r : Result A KeyFault) → ComesFrom (index + 1) r → ComesFrom index r
 comes_before index (Ok x) h = tt
@@ -64,25 +54,21 @@ comes_before index (Err Short) h = tt
 comes_before index (Err (BadKey bad)) h = omega arith
 comes_before index (Err e) h = absurd h
 
-bytes_come : (index n : ℕ) (bytes : List ℕ) → ComesFrom index (bytes_at n bytes)
-unfolding bytes_at
-bytes_come index n bytes = elim (cases_Bool (begins_with_bytes n bytes)) [ inl there ↦ rw there tt | inr other ↦ rw other tt ]
-
 test_comes : (version : Version) (index : ℕ) (k : ℕ × List ℕ) → ComesFrom index (in_range version index k)
 test_comes version index k =
     elim (cases_Bool (is_key_in version k.0)) [ inl fits ↦ rw fits tt | inr other ↦ rw other (le_refl index) ]
 
 key_comes : (version : Version) (index : ℕ) (bytes : List ℕ) → ComesFrom index (key_at version index bytes)
-unfolding key_at number_at
+unfolding key_at
 key_comes version index bytes =
-    then_comes index (bytes_at 8 bytes >>= number_in) (in_range version index) (then_comes index (bytes_at 8 bytes) number_in (bytes_come index 8 bytes) (λ eight. tt)) (test_comes version index)
+    then_told (IsFrom index) (number_at Short bytes) (in_range version index) (number_told (IsFrom index) Short tt bytes) (test_comes version index)
 
 keys_come : (version : Version) (index n : ℕ) (bytes : List ℕ) → ComesFrom index (keys_at version index n bytes)
 unfolding keys_at
 keys_come version index zero bytes = tt
 keys_come version index (suc n) bytes =
-    then_comes index (key_at version index bytes) (λ first. keys_at version (index + 1) n first.1 >>= (λ others. Ok (first.0 ∷ others.0, others.1))) (key_comes version index bytes)
-    (λ first. then_comes index (keys_at version (index + 1) n first.1) (λ others. Ok (first.0 ∷ others.0, others.1)) (comes_before index (keys_at version (index + 1) n first.1) (keys_come version (index + 1) n first.1)) (λ others. tt))
+    then_told (IsFrom index) (key_at version index bytes) (λ first. keys_at version (index + 1) n first.1 >>= (λ others. Ok (first.0 ∷ others.0, others.1))) (key_comes version index bytes)
+    (λ first. then_told (IsFrom index) (keys_at version (index + 1) n first.1) (λ others. Ok (first.0 ∷ others.0, others.1)) (comes_before index (keys_at version (index + 1) n first.1) (keys_come version (index + 1) n first.1)) (λ others. tt))
 
 -- a part in which there is a fault is the last that is taken
 part_within : (index done many all : ℕ) (e : KeyFault) (r : Result (List ℕ × List ℕ) KeyFault) → many ≤ PART_KEYS → done + many ≤ all → ComesFrom (index + done) r → Fails e r → 8 * done + 8 * many ≤ 8 * keys_taken index all (Some e)
@@ -100,16 +86,10 @@ keys_stop v version index done at many all (Some x) (Some y) c e place fits with
 
 -- ---- a whole file
 
--- where the bytes end
-abbrev Ends : {A : Type 0} → Result A KeyFault → Type 0
-Ends (Ok x) = Unit {0}
-Ends (Err Long) = Unit {0}
-Ends (Err e) = ⊥
-
-end_ends : (bytes : List ℕ) → Ends (end_at bytes)
-unfolding end_at
-end_ends [] = tt
-end_ends (b ∷ bytes) = tt
+-- the bytes do not end
+abbrev IsLong : KeyFault → Type 0
+IsLong Long = Unit {0}
+IsLong e = ⊥
 
 keys_fit : (X : Type 0) (count : ℕ) (e : KeyFault) (r : Result (List ℕ × List ℕ) KeyFault) → (IsErrOf {T = X} (Err e) faults.Memory → ⊥) → ComesFrom 0 r → Fails e r → header_bytes + 8 * keys_taken 0 count (Some e) ≤ file_bytes count (Some e)
 keys_fit X count faults.Read r other comes fails = omega arith
@@ -120,19 +100,19 @@ keys_fit X count TooMany r other comes fails = absurd (subst (ComesFrom 0) fails
 keys_fit X count (BadKey index) r other comes fails = omega arith
 keys_fit X count Long r other comes fails = omega arith
 
-end_fits : (X : Type 0) (count : ℕ) (e : KeyFault) (r : Result (List ℕ × List ℕ) KeyFault) → (IsErrOf {T = X} (Err e) faults.Memory → ⊥) → Ends r → Fails e r → whole_bytes count ≤ file_bytes count (Some e)
+end_fits : (X : Type 0) (count : ℕ) (e : KeyFault) (r : Result (List ℕ × List ℕ) KeyFault) → (IsErrOf {T = X} (Err e) faults.Memory → ⊥) → IfErr r IsLong → Fails e r → whole_bytes count ≤ file_bytes count (Some e)
 end_fits X count faults.Read r other ends fails = omega arith
 end_fits X count faults.Memory r other ends fails = absurd (other refl)
-end_fits X count NotKeys r other ends fails = absurd (subst Ends fails ends)
+end_fits X count NotKeys r other ends fails = absurd (subst (λ r. IfErr r IsLong) fails ends)
 end_fits X count Short r other ends fails = omega arith
-end_fits X count TooMany r other ends fails = absurd (subst Ends fails ends)
-end_fits X count (BadKey index) r other ends fails = absurd (subst Ends fails ends)
+end_fits X count TooMany r other ends fails = absurd (subst (λ r. IfErr r IsLong) fails ends)
+end_fits X count (BadKey index) r other ends fails = absurd (subst (λ r. IfErr r IsLong) fails ends)
 end_fits X count Long r other ends fails = omega arith
 
 -- the header that was read, of a file of so many keys
 pub record HeaderRead (a b : Option (List ℕ)) (version : Version) (count : ℕ) : Type 0 where
   pub said : ℕ
-  pub read : Reads a b header_at (λ (h : Version × ℕ). h) (Ok (version, said))
+  pub read : Reads a b header_at (λ (h : Header). h) (Ok (record { version = version; count = said }))
   pub same : count ≡ said
   pub taken : TakesAtMost a b header_bytes
 
@@ -147,13 +127,13 @@ file_stops_in_keys {X = X} (Some x) (Some y) c version count v e h other t fails
     subst (λ n. TakesAtMost (Some x) c (file_bytes n (Some e))) (sym (count_is x (Some y) version count h)) (takes_both (Some x) (Some y) c header_bytes (8 * keys_taken 0 count (Some e)) (file_bytes count (Some e)) h.taken t
     (keys_fit X count e (keys_at version 0 count y) other (keys_come version 0 count y) fails))
 
-pub file_stops_at_end : {X : Type 0} (a b c d : Option (List ℕ)) (version : Version) (count : ℕ) (v : X → List ℕ) (e : KeyFault) → HeaderRead a b version count → (IsErrOf {T = X} (Err e) faults.Memory → ⊥) → TakesAtMost b c (8 * count) → TakesAtMost c d 1 → Reads c d end_at v (Err e) → TakesOfFile a d (Some e)
+pub file_stops_at_end : {X : Type 0} (a b c d : Option (List ℕ)) (version : Version) (count : ℕ) (v : X → List ℕ) (e : KeyFault) → HeaderRead a b version count → (IsErrOf {T = X} (Err e) faults.Memory → ⊥) → TakesAtMost b c (8 * count) → TakesAtMost c d 1 → Reads c d (end_at Long) v (Err e) → TakesOfFile a d (Some e)
 file_stops_at_end None b c d version count v e h other s t fails = takes_of_unknown d (file_bytes 0 (Some e))
 file_stops_at_end (Some x) None c d version count v e h other s t fails = absurd h.read
 file_stops_at_end (Some x) (Some y) None d version count v e h other s t fails = absurd s.consumed
 file_stops_at_end {X = X} (Some x) (Some y) (Some z) d version count v e h other s t fails =
     subst (λ n. TakesAtMost (Some x) d (file_bytes n (Some e))) (sym (count_is x (Some y) version count h)) (takes_both (Some x) (Some z) d (header_bytes + 8 * count) 1 (file_bytes count (Some e)) (takes_then (Some x) (Some y) (Some z) header_bytes (8 * count) h.taken s) t
-    (end_fits X count e (end_at z) other (end_ends z) fails))
+    (end_fits X count e (end_at Long z) other (end_told IsLong Long tt z) fails))
 
 pub file_taken : (a b c d : Option (List ℕ)) (version : Version) (count : ℕ) → HeaderRead a b version count → TakesAtMost b c (8 * count) → TakesAtMost c d 1 → TakesOfFile a d None
 file_taken None b c d version count h s t = takes_of_unknown d (whole_bytes 0)
@@ -165,7 +145,7 @@ of_file_moved a b d fault e t = rw e t
 
 -- ---- any file
 
-few_said : (r : Result ((Version × ℕ) × List ℕ) KeyFault) (bytes : List ℕ) → header_at bytes ≡ r → count_in r ≤ MAX_KEYS
+few_said : (r : Result (Header × List ℕ) KeyFault) (bytes : List ℕ) → header_at bytes ≡ r → count_in r ≤ MAX_KEYS
 few_said (Ok p) bytes h = (header_read bytes p h).1
 few_said (Err e) bytes h = omega arith
 

@@ -8,13 +8,16 @@ use Rattle.rh_key_files.specs.declared.fault.KeyFault.TheVariants as faults
 use Rattle.rh_key_files.specs.declared.fault.KeyFault.TheVariants.{NotKeys, Short, TooMany, BadKey, Long}
 use Rattle.rh_key_files.specs.declared.stream.State.{State}
 use Rattle.rh_key_files.specs.declared.stream.State.TheVariants.{Open, Ended, Failed}
-use Rattle.rh_key_files.specs.Reading.{◌>>=◌, Fails, Reads, front_of, header_at, keys_at, end_at, batch_at, after_header, ended, file_keys}
+use Rattle.rh_key_files.specs.Input.{◌>>=◌, end_at}
+use Rattle.rh_key_files.specs.Reading.{Fails, Reads, front_of, header_at, keys_at, batch_at, after_header, ended, file_keys, is_silent}
 use Rattle.rh_key_files.specs.Source.{Gives, ComesFrom, FaultComes, HasCount, keys_in, keys_of_file, keys_then}
 use Rattle.rh_key_files.specs.Stream.{answer_again, coming_in, keys_to_end, state_after}
 use Rattle.rh_key_files.proofs.Reading.{Fails-then}
 use Rattle.rh_key_files.proofs.Next.{none_left, some_left}
 use Rattle.rh_key_files.proofs.Batches.{keys_at-add, and_next, with_front}
-use Rattle.rh_key_files.proofs.Grammar.{then_ok, keys_read, same_value}
+use Rattle.rh_key_files.proofs.Parsed.{then_ok, same_value}
+use Rattle.rh_key_files.proofs.Grammar.{keys_read}
+use Rattle.rh_key_files.specs.declared.header.Header.{Header}
 
 abbrev Read : Type 0
 Read = Result (List ℕ × List ℕ) KeyFault
@@ -50,13 +53,13 @@ end_last front keys (Ok p) = refl
 end_last front keys (Err e) = refl
 
 front_first : (front : List ℕ) (r : Read) → keys_in ((r >>= with_front front) >>= ended) ≡ keys_then front (keys_in (r >>= ended))
-front_first front (Ok p) = end_last front p.0 (end_at p.1)
+front_first front (Ok p) = end_last front p.0 (end_at Long p.1)
 front_first front (Err e) = refl
 
 batch_fault : (version : Version) (index left room : ℕ) (bytes : List ℕ) (e : KeyFault) → Fails e (batch_at version index left room bytes) → Fails e (keys_to_end version index left bytes)
 unfolding keys_at
 batch_fault version index zero room bytes e h =
-    keys_fail e (end_at bytes >>= (λ end. Ok ([], end.1))) (Fails-then e (end_at bytes) (λ end. Ok ([], end.1)) (subst (Fails e) (none_left version index 0 room bytes refl) h))
+    keys_fail e (end_at Long bytes >>= (λ end. Ok ([], end.1))) (Fails-then is_silent e (end_at Long bytes) (λ end. Ok ([], end.1)) (subst (Fails e) (none_left version index 0 room bytes refl) h))
 batch_fault version index (suc left) room bytes e h =
     let many : ℕ = min room (suc left) in
     let first : Read = keys_at version index many bytes in
@@ -64,12 +67,12 @@ batch_fault version index (suc left) room bytes e h =
     let fails : Fails e first = subst (Fails e) (some_left version index (suc left) room many bytes (omega arith) refl) h in
     let whole : many + (suc left - many) ≡ suc left = omega arith in
     subst (λ r. Fails e (keys_in (r >>= ended))) (sym (in_two version index (suc left) many bytes whole))
-    (keys_fail e ((first >>= both) >>= ended) (Fails-then e (first >>= both) ended (Fails-then e first both fails)))
+    (keys_fail e ((first >>= both) >>= ended) (Fails-then is_silent e (first >>= both) ended (Fails-then is_silent e first both fails)))
 
 no_batch : (version : Version) (index left room : ℕ) (bytes keys rest : List ℕ) → left ≡ 0 → batch_at version index left room bytes ≡ Ok (keys, rest) → keys_to_end version index left bytes ≡ Ok []
 unfolding keys_at
 no_batch version index left room bytes keys rest none h =
-    let end : end_at bytes ≡ Ok (keys, rest) = sym (none_left version index left room bytes none) ∙ h in
+    let end : end_at Long bytes ≡ Ok (keys, rest) = sym (none_left version index left room bytes none) ∙ h in
     ap (λ n. keys_to_end version index n bytes) none ∙ ap (λ (r : Read). keys_in (r >>= (λ end. Ok ([], end.1)))) end
 
 one_batch : (version : Version) (index left room many : ℕ) (bytes keys rest : List ℕ) → 0 < left → many ≡ min room left → batch_at version index left room bytes ≡ Ok (keys, rest) → keys_to_end version index left bytes ≡ keys_then keys (keys_to_end version (index + many) (left - many) rest)
@@ -111,37 +114,37 @@ gives Open now version index left room (Some x) (Some y) later batch (Ok (suc m)
     subst (λ c. Gives (Some (keys_to_end version index left x)) c batch (Ok (suc m))) (sym coming)
     (one_batch version index left room (suc m) x (take (suc m) batch) y left_some (many refl) (reads refl))
 
-pub moved_on : (header later : Version × ℕ) (taken now : ℕ) (r : Result ℕ KeyFault) → later ≡ header → IfOk r (λ n. now ≡ taken + n) → (n : ℕ) → r ≡ Ok n → keys_to_end later.0 now (later.1 - now) ≡ keys_to_end header.0 (taken + n) (header.1 - taken - n)
+pub moved_on : (header later : Header) (taken now : ℕ) (r : Result ℕ KeyFault) → later ≡ header → IfOk r (λ n. now ≡ taken + n) → (n : ℕ) → r ≡ Ok n → keys_to_end later.version now (later.count - now) ≡ keys_to_end header.version (taken + n) (header.count - taken - n)
 moved_on header later taken now r same taken_too n is =
     let on : now ≡ taken + n = subst (λ r. IfOk r (λ n. now ≡ taken + n)) is taken_too in
-    let left : header.1 - (taken + n) ≡ header.1 - taken - n = omega arith in
-    ap (λ (h : Version × ℕ). keys_to_end h.0 now (h.1 - now)) same ∙ ap (λ i. keys_to_end header.0 i (header.1 - i)) on ∙ ap (keys_to_end header.0 (taken + n)) left
+    let left : header.count - (taken + n) ≡ header.count - taken - n = omega arith in
+    ap (λ (h : Header). keys_to_end h.version now (h.count - now)) same ∙ ap (λ i. keys_to_end header.version i (header.count - i)) on ∙ ap (keys_to_end header.version (taken + n)) left
 
 -- ---- at the beginning
 
-pub comes : (version : Version) (count : ℕ) (a b : Option (List ℕ)) → Reads a b header_at (λ (h : Version × ℕ). h) (Ok (version, count)) → ComesFrom a (option_map (keys_to_end version 0 count) b)
+pub comes : (header : Header) (a b : Option (List ℕ)) → Reads a b header_at (λ (h : Header). h) (Ok header) → ComesFrom a (option_map (keys_to_end header.version 0 header.count) b)
 unfolding file_keys
-comes version count None b h = tt
-comes version count (Some x) None h = absurd h
-comes version count (Some x) (Some y) h = rw h refl
+comes header None b h = tt
+comes header (Some x) None h = absurd h
+comes header (Some x) (Some y) h = rw h refl
 
-pub does_not_come : (a : Option (List ℕ)) (e : KeyFault) → Reads a None header_at (λ (h : Version × ℕ). h) (Err e) → FaultComes (option_map keys_of_file a) e
+pub does_not_come : (a : Option (List ℕ)) (e : KeyFault) → Reads a None header_at (λ (h : Header). h) (Err e) → FaultComes (option_map keys_of_file a) e
 unfolding file_keys
 does_not_come None e h = tt
-does_not_come (Some x) e h = keys_fail e (header_at x >>= after_header) (Fails-then e (header_at x) after_header h)
+does_not_come (Some x) e h = keys_fail e (header_at x >>= after_header) (Fails-then is_silent e (header_at x) after_header h)
 
 keys_told : (r : Read) (keys : List ℕ) → keys_in r ≡ Ok keys → (p : List ℕ × List ℕ) × (r ≡ Ok p) × (p.0 ≡ keys)
 keys_told (Ok p) keys h = (p, refl, ap (λ (r : Result (List ℕ) KeyFault). elim r [ Ok k ↦ k | Err e ↦ p.0 ]) h)
 keys_told (Err e) keys h = absurd cc
 
-pub counts : (version : Version) (count : ℕ) (a b : Option (List ℕ)) → Reads a b header_at (λ (h : Version × ℕ). h) (Ok (version, count)) → HasCount a count
+pub counts : (header : Header) (a b : Option (List ℕ)) → Reads a b header_at (λ (h : Header). h) (Ok header) → HasCount a header.count
 unfolding file_keys
-counts version count None b h = tt
-counts version count (Some x) None h = absurd h
-counts version count (Some x) (Some y) h = λ keys is.
-    let here : keys_in (keys_at version 0 count y >>= ended) ≡ Ok keys = rw h at is in
-    let p = keys_told (keys_at version 0 count y >>= ended) keys here in
-    let t = then_ok (keys_at version 0 count y) ended p.0 p.1 in
-    let u = then_ok (end_at t.0.1) (λ end. Ok (t.0.0, end.1)) p.0 t.2 in
+counts header None b h = tt
+counts header (Some x) None h = absurd h
+counts header (Some x) (Some y) h = λ keys is.
+    let here : keys_in (keys_at header.version 0 header.count y >>= ended) ≡ Ok keys = rw h at is in
+    let p = keys_told (keys_at header.version 0 header.count y >>= ended) keys here in
+    let t = then_ok (keys_at header.version 0 header.count y) ended p.0 p.1 in
+    let u = then_ok (end_at Long t.0.1) (λ end. Ok (t.0.0, end.1)) p.0 t.2 in
     let same : t.0.0 ≡ keys = same_value (t.0.0, u.0.1) p.0 u.2 ∙ p.2 in
-    ap length (sym same) ∙ (keys_read version 0 count y t.0 t.1).many
+    ap length (sym same) ∙ (keys_read header.version 0 header.count y t.0 t.1).many

@@ -1,6 +1,6 @@
 -- Numbers that are made of the bytes that spell them.
 use Rattle.std.proofs.Common.{◌≡◌, ◌∙◌, sym, ap, ℕ, zero, suc, ◌+◌, ◌*◌, ◌<◌, ◌≤◌, List, [], ◌∷◌, ◌++◌, length, take, drop, get_or, get_or-drop, drop-drop, length-take, length-drop, take-append-drop, arith}
-use Rattle.std.specs.Int.{w32, w64, from_be_bytes}
+use Rattle.std.specs.Int.{w64, from_be_bytes}
 use Rattle.std.proofs.lemmas.List.{nil_from_length}
 use Rattle.std.proofs.lemmas.Nat.{be_bytes_8}
 use Rattle.byteorder.specs.Endian.{IsRead, big_number}
@@ -10,11 +10,7 @@ use Rattle.rh_key_files.specs.KeyFile.{eight_bytes, spelled_keys}
 abbrev AreBytes : List ℕ → Type 0
 AreBytes bytes = (i : ℕ) → get_or bytes i 0 < 256
 
--- the number of four bytes, and that of eight
-pub four_read : (bytes : List ℕ) → big_number 4 bytes ≡ from_be_bytes w32 bytes
-four_read bytes = omega arith
-
-pub eight_read : (bytes : List ℕ) → big_number 8 bytes ≡ from_be_bytes w64 bytes
+eight_read : (bytes : List ℕ) → big_number 8 bytes ≡ from_be_bytes w64 bytes
 eight_read bytes = omega arith
 
 front_bytes : (n : ℕ) (bytes : List ℕ) → AreBytes bytes → AreBytes (take n bytes)

@@ -5,7 +5,8 @@ use Rattle.std.specs.Io.KnownBytes.{Consumes}
 use Rattle.rh_key_files.specs.declared.version.Version.{Version}
 use Rattle.rh_key_files.specs.declared.fault.KeyFault.TheVariants.{Short}
 use Rattle.rh_key_files.specs.KeyFile.{spelled_keys}
-use Rattle.rh_key_files.specs.Reading.{CutShort, Reads, always, is_refused, keys_at}
+use Rattle.rh_key_files.specs.Input.{always}
+use Rattle.rh_key_files.specs.Reading.{CutShort, Reads, is_refused, keys_at}
 use Rattle.rh_key_files.proofs.Batches.{keys_at-add}
 use Rattle.rh_key_files.proofs.Filled.{IsFilled, part_short}
 use Rattle.rh_key_files.proofs.Grammar.{keys_given, keys_read}

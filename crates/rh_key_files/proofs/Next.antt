@@ -5,9 +5,11 @@ use Rattle.std.proofs.Common.{arith}
 use Rattle.std.proofs.lemmas.List.{take_at}
 use Rattle.rh_key_files.specs.declared.version.Version.{Version}
 use Rattle.rh_key_files.specs.declared.fault.KeyFault.{KeyFault}
-use Rattle.rh_key_files.specs.Reading.{CutShort, Reads, always, front_of, end_at, keys_at, batch_at}
+use Rattle.rh_key_files.specs.Input.{always, end_at}
+use Rattle.rh_key_files.specs.Reading.{CutShort, Reads, front_of, keys_at, batch_at}
+use Rattle.rh_key_files.specs.declared.fault.KeyFault.TheVariants.{Long}
 
-pub none_left : (version : Version) (index left room : ℕ) (bytes : List ℕ) → left ≡ 0 → batch_at version index left room bytes ≡ end_at bytes
+pub none_left : (version : Version) (index left room : ℕ) (bytes : List ℕ) → left ≡ 0 → batch_at version index left room bytes ≡ end_at Long bytes
 unfolding batch_at
 none_left version index left room bytes e = rw (eq-eqb left 0 e) refl
 
@@ -15,11 +17,11 @@ pub some_left : (version : Version) (index left room many : ℕ) (bytes : List �
 unfolding batch_at
 some_left version index left room many bytes lt e = rw (ne_eqb left 0 (λ z. omega (arith, z, lt)), e) refl
 
-pub end_fails : (version : Version) (index left room : ℕ) (a b : Option (List ℕ)) (v : ℕ → List ℕ) (w : Unit {0} → List ℕ) (e : KeyFault) → left ≡ 0 → Reads a b end_at w (Err e) → Reads a b (batch_at version index left room) v (Err e)
+pub end_fails : (version : Version) (index left room : ℕ) (a b : Option (List ℕ)) (v : ℕ → List ℕ) (w : Unit {0} → List ℕ) (e : KeyFault) → left ≡ 0 → Reads a b (end_at Long) w (Err e) → Reads a b (batch_at version index left room) v (Err e)
 end_fails version index left room None b v w e z h = tt
 end_fails version index left room (Some x) b v w e z h = rw (none_left version index left room x z) h
 
-pub end_comes : (version : Version) (index left room : ℕ) (a b : Option (List ℕ)) (xs : List ℕ) → left ≡ 0 → Reads a b end_at (λ (u : Unit {0}). []) (Ok tt) → Reads a b (batch_at version index left room) (front_of xs) (Ok 0)
+pub end_comes : (version : Version) (index left room : ℕ) (a b : Option (List ℕ)) (xs : List ℕ) → left ≡ 0 → Reads a b (end_at Long) (λ (u : Unit {0}). []) (Ok tt) → Reads a b (batch_at version index left room) (front_of xs) (Ok 0)
 end_comes version index left room None b xs z h = tt
 end_comes version index left room (Some x) None xs z h = absurd h
 end_comes version index left room (Some x) (Some y) xs z h = none_left version index left room x z ∙ h

@@ -5,7 +5,7 @@ use Rattle.std.specs.Int.{w64, to_be_bytes}
 use Rattle.std.proofs.lemmas.Bool.{ltb-true, lt-ltb, le-leb, lt-leb, and_parts, and_from, and_left}
 use Rattle.std.proofs.lemmas.List.{take_at, length-append}
 use Rattle.std.proofs.Math.Nat.{mod-lt}
-use Rattle.rh_key_files.specs.Reading.{is_byte, begins_with_bytes}
+use Rattle.rh_key_files.specs.Input.{is_byte, begins_with_bytes}
 
 -- numbers below 256 are bytes, and the other way round
 pub are_bytes : (bs : List ℕ) → ((i : ℕ) → get_or bs i 0 < 256) → list_all is_byte bs ≡ true

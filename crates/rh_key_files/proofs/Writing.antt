@@ -11,7 +11,7 @@ use Rattle.std.specs.Borrow.{Bor}
 use Rattle.byteorder.specs.Endian.{big_bytes}
 use Rattle.rh_layout.specs.Key.{is_full, cell_of}
 use Rattle.rh_key_files.specs.declared.version.Version.TheVariants.{Second}
-use Rattle.rh_key_files.specs.KeyFile.{eight_bytes, header, spelled_keys, spelling}
+use Rattle.rh_key_files.specs.KeyFile.{eight_bytes, header, magic, spelled_keys, spelling}
 use Rattle.rh_key_files.specs.Dump.{cell_text, line_of, lines_from, head_of, dump_text}
 
 take_past : (xs ys : List ℕ) (n : ℕ) → take (length xs + n) (xs ++ ys) ≡ xs ++ take n ys
@@ -58,11 +58,11 @@ joined-split texts i d lt = split_at_place (λ text. text.now) texts i d lt
 
 -- ---- key files
 
-pub header_written : {X E : Type 0} (a b : Option (List ℕ)) (n : ℕ) (count : List ℕ) (r : Result X E) → count ≡ eight_bytes n → Writes a b (codes "RHK2" ++ (count ++ [])) r → Writes a b (header Second n) r
-header_written a b n count r is written = subst (λ t. Writes a b t r) (ap (λ l. codes "RHK2" ++ l) (append-nil count ∙ is)) written
+pub header_written : {X E : Type 0} (a b : Option (List ℕ)) (n : ℕ) (four count : List ℕ) (r : Result X E) → four ≡ magic Second → count ≡ eight_bytes n → Writes a b (four ++ (count ++ [])) r → Writes a b (header Second n) r
+header_written a b n four count r first is written = subst (λ t. Writes a b t r) (ap (λ l. l ++ (count ++ [])) first ∙ ap (λ l. magic Second ++ l) (append-nil count ∙ is)) written
 
 spelled_from_header : (keys : List ℕ) → header Second (length keys) ++ spelled_keys keys ≡ spelling Second keys
-spelled_from_header keys = append_assoc (codes "RHK2") (eight_bytes (length keys)) (spelled_keys keys)
+spelled_from_header keys = append_assoc (magic Second) (eight_bytes (length keys)) (spelled_keys keys)
 
 pub file_written : {X E : Type 0} (a b c : Option (List ℕ)) (keys : List ℕ) (r : Result X E) → Appends a b (header Second (length keys)) → Writes b c (spelled_keys keys) r → Writes a c (spelling Second keys) r
 file_written a b c keys r head rest =

@@ -1,6 +1,7 @@
 pub mod Counting
 pub mod Taking
 pub mod KeyFile
+pub mod Input
 pub mod Reading
 pub mod Limits
 pub mod Source

@@ -1,6 +1,6 @@
 -- How many bytes of a key file the reading calls take, by what they answer.
 use Rattle.std.specs.Prelude.{ℕ, ◌+◌, ◌-◌, ◌*◌, min, ◌==◌, if◌then◌else◌, List, Option, Some, None, Result, Ok, Err}
-use Rattle.rh_key_files.specs.declared.version.Version.{Version}
+use Rattle.rh_key_files.specs.declared.header.Header.{Header}
 use Rattle.rh_key_files.specs.declared.parts.TheConstants.{MAX_KEYS}
 use Rattle.rh_key_files.specs.declared.batch.TheConstants.{PART_KEYS}
 use Rattle.rh_key_files.specs.declared.fault.KeyFault.{KeyFault}
@@ -14,11 +14,6 @@ magic_bytes = 4
 -- the magic and the number of keys
 abbrev pub header_bytes : ℕ
 header_bytes = magic_bytes + 8
-
--- the fault that a call tells
-abbrev pub fault_of : {X : Type 0} → Result X KeyFault → Option KeyFault
-fault_of (Ok x) = None
-fault_of (Err e) = Some e
 
 -- What a call tells says that no read failed. A key out of range does not: it may stand in a part before a failed read.
 abbrev pub NoReadFailed : Option KeyFault → Type 0
@@ -56,8 +51,8 @@ file_bytes count fault = whole_bytes count
 abbrev pub most_bytes : ℕ
 most_bytes = whole_bytes MAX_KEYS
 
-abbrev pub count_in : Result ((Version × ℕ) × List ℕ) KeyFault → ℕ
-count_in (Ok header) = header.0.1
+abbrev pub count_in : Result (Header × List ℕ) KeyFault → ℕ
+count_in (Ok header) = header.0.count
 count_in (Err e) = 0
 
 -- the number of keys that the header says, where the bytes are known and begin with one

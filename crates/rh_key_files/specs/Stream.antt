@@ -3,10 +3,12 @@ use Rattle.std.specs.Prelude.{ℕ, ◌-◌, List, [], Option, Some, None, Result
 use Rattle.std.specs.Borrow.{GName}
 use Rattle.rh_key_files.specs.declared.counted.Counted.{Counted}
 use Rattle.rh_key_files.specs.Counting.{inner_of}
-use Rattle.rh_key_files.specs.Reading.{◌>>=◌, Reads, ended, header_at, keys_at}
+use Rattle.rh_key_files.specs.Input.{◌>>=◌}
+use Rattle.rh_key_files.specs.Reading.{Reads, ended, header_at, keys_at}
 use Rattle.rh_key_files.specs.Source.{Coming, keys_in}
 use Rattle.rh_key_files.specs.declared.fault.KeyFault.{KeyFault}
 use Rattle.rh_key_files.specs.declared.version.Version.{Version}
+use Rattle.rh_key_files.specs.declared.header.Header.{Header}
 use Rattle.rh_key_files.specs.declared.stream.KeyStream.{KeyStream}
 use Rattle.rh_key_files.specs.declared.stream.State.{State}
 use Rattle.rh_key_files.specs.declared.stream.State.TheVariants.{Open, Ended, Failed}
@@ -37,8 +39,8 @@ abbrev pub lender_of : {R : Type 0} → KeyStream R → GName
 lender_of s = s.reader.ghost_name
 
 -- the header that a stream was made from
-abbrev pub header_of : {R : Type 0} → KeyStream R → Version × ℕ
-header_of s = (version_of s, count_of s)
+abbrev pub header_of : {R : Type 0} → KeyStream R → Header
+header_of s = record { version = version_of s; count = count_of s }
 
 -- A fault ends the stream, and so does the 0 where no key is left.
 abbrev pub state_after : ℕ → Result ℕ KeyFault → State
@@ -51,10 +53,10 @@ answer_again Open = Ok 0
 answer_again Ended = Ok 0
 answer_again (Failed e) = Err e
 
-abbrev as_ok : Version × ℕ → Result (Version × ℕ) KeyFault
+abbrev as_ok : Header → Result Header KeyFault
 as_ok header = Ok header
 
-abbrev as_err : KeyFault → Result (Version × ℕ) KeyFault
+abbrev as_err : KeyFault → Result Header KeyFault
 as_err e = Err e
 
 -- The header was read as the reader's bytes say, where they are known.

@@ -6,15 +6,16 @@ ghost use Rattle.std.specs.List.{position_from};
 ghost use Rattle.rh_layout.specs.Key.{IsKey};
 ghost use Rattle.rh_key_files.specs.Counting.{Rose};
 ghost use Rattle.rh_key_files.specs.Taking.{TakesAtMost};
-ghost use Rattle.rh_key_files.specs.Reading.{CutShort, Reads, always, front_of};
+ghost use Rattle.rh_key_files.specs.Reading.{CutShort, Reads, front_of};
 ghost use Rattle.rh_key_files.specs.Reading.{batch_at, keys_at, is_refused};
-ghost use Rattle.rh_key_files.specs.Limits.{NoReadFailed, batch_bytes, fault_of, keys_taken};
+ghost use Rattle.rh_key_files.specs.Limits.{NoReadFailed, batch_bytes, keys_taken};
+ghost use Rattle.rh_key_files.specs.Input.{always, fault_of};
 
 use crate::bytes::{Filled, fill_front};
 use crate::counted::Counted;
 use crate::fault::KeyFault;
+use crate::input::read_end;
 use crate::numbers::decode_numbers;
-use crate::parts::read_end;
 use crate::version::Version;
 use std::io::Read;
 
@@ -130,7 +131,7 @@ pub(crate) fn read_batch<R: Read>(
     ensures fine { NoReadFailed (fault_of result) → reader.new.failures ≡ reader.old.failures }
 {
     if left == 0 {
-        read_end(reader)?;
+        read_end::<_, KeyFault>(reader)?;
         return Ok(0);
     }
     let many = batch.len().min(left as usize);

@@ -10,6 +10,7 @@ ghost use Rattle.rh_key_files.specs.declared.version.Version.TheVariants.{Second
 use crate::bytes::{put, write_texts};
 use crate::counted::Counted;
 use crate::fault::WriteFault;
+use crate::version::Version;
 use byteorder::{BigEndian, ByteOrder};
 use std::io::Write;
 
@@ -38,7 +39,7 @@ pub fn write_header<W: Write>(count: u64, writer: &mut Counted<W>) -> Result<(),
 {
     let mut eight = [0; 8];
     BigEndian::write_u64(&mut eight, count);
-    write_texts(writer, &[b"RHK2", &eight])
+    write_texts(writer, &[&Version::Second.magic(), &eight])
 }
 
 fn put_keys<W: Write>(keys: &[u64], writer: &mut Counted<W>) -> Result<(), WriteFault>

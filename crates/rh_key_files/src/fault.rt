@@ -1,5 +1,10 @@
 //! What can be wrong.
 
+ghost use Rattle.std.specs.Prelude.{refl};
+ghost use Rattle.rh_key_files.specs.Reading.{is_silent};
+ghost use Rattle.rh_key_files.specs.declared.fault.KeyFault.TheVariants.{Long, Memory, Read, Short};
+
+use crate::input::InputFault;
 use crate::parts::MAX_KEYS;
 use thiserror::Error;
 
@@ -21,6 +26,38 @@ pub enum KeyFault {
     Read,
     #[error("out of memory")]
     Memory,
+}
+
+impl InputFault for KeyFault {
+    ghost is_silent = { is_silent };
+
+    ghost short_fault = { Short };
+
+    ghost long_fault = { Long };
+
+    ghost read_fault = { Read };
+
+    ghost memory_fault = { Memory };
+
+    ghost are_faults = { record {
+      short_says = refl;
+      long_says = refl;
+      read_silent = refl;
+      memory_silent = refl;
+      apart = λ same. cc;
+    } };
+
+    fn short() -> KeyFault {
+        KeyFault::Short
+    }
+
+    fn long() -> KeyFault {
+        KeyFault::Long
+    }
+
+    fn read() -> KeyFault {
+        KeyFault::Read
+    }
 }
 
 /// Why a text could not be written.

@@ -4,9 +4,9 @@ ghost use Rattle.std.specs.Prelude.{◌≡◌, ◌*◌, [], length, All, IfOk, I
 ghost use Rattle.rh_layout.specs.Key.{IsKey};
 ghost use Rattle.rh_key_files.specs.Counting.{Rose, failures_of, inner_of};
 ghost use Rattle.rh_key_files.specs.Taking.{TakesAtMost};
-ghost use Rattle.rh_key_files.specs.Limits.{NoReadFailed, TakesOfFile, fault_of, keys_taken, most_bytes};
-ghost use Rattle.rh_key_files.specs.Reading.{BeginsWithHeader, Reads, IsReadFrom, always};
-ghost use Rattle.rh_key_files.specs.Reading.{end_at, file_keys, keys_at};
+ghost use Rattle.rh_key_files.specs.Limits.{NoReadFailed, TakesOfFile, keys_taken, most_bytes};
+ghost use Rattle.rh_key_files.specs.Input.{always, end_at, fault_of};
+ghost use Rattle.rh_key_files.specs.Reading.{BeginsWithHeader, Reads, IsReadFrom, file_keys, keys_at};
 ghost use Rattle.rh_key_files.specs.Stream.{reader_of, lender_of, version_of, count_of, taken_of};
 ghost use Rattle.rh_key_files.specs.Stream.{left_of, state_of};
 
@@ -50,7 +50,7 @@ fn read_end<R: Read>(stream: &mut KeyStream<'_, R>) -> Result<(), KeyFault>
     requires none_left { left_of stream.old ≡ 0 }
     ensures same_reference { lender_of stream.new ≡ lender_of stream.old }
     ensures known { Reads (R.remaining (inner_of (reader_of stream.old)))
-        (R.remaining (inner_of (reader_of stream.new))) end_at (always []) result }
+        (R.remaining (inner_of (reader_of stream.new))) (end_at KeyFault.Long) (always []) result }
     ensures takes { TakesAtMost (R.remaining (inner_of (reader_of stream.old)))
         (R.remaining (inner_of (reader_of stream.new))) 1 }
     ensures read { IsErrOf result KeyFault.Read →

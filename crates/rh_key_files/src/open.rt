@@ -5,7 +5,8 @@ ghost use Rattle.std.specs.Borrow.{sem, RestsIfErr};
 ghost use Rattle.rh_key_files.specs.contracts.counted.Counted.{the_row};
 ghost use Rattle.rh_key_files.specs.Counting.{Rose, failures_of, inner_of};
 ghost use Rattle.rh_key_files.specs.Taking.{TakesAtMost};
-ghost use Rattle.rh_key_files.specs.Limits.{fault_of, header_bytes, header_taken};
+ghost use Rattle.rh_key_files.specs.Input.{fault_of};
+ghost use Rattle.rh_key_files.specs.Limits.{header_bytes, header_taken};
 ghost use Rattle.rh_key_files.specs.Source.{ComesFrom, FaultComes, HasCount, keys_of_file};
 ghost use Rattle.rh_key_files.specs.Stream.{ReadsHeader, reader_of, lender_of, taken_of, state_of};
 ghost use Rattle.rh_key_files.specs.Stream.{coming_of, count_of};
@@ -40,11 +41,11 @@ pub fn open_keys<R: Read>(reader: &mut Counted<R>) -> Result<KeyStream<'_, R>, K
         × TakesAtMost (R.remaining (inner_of reader.old)) (R.remaining (inner_of new))
         (header_taken (fault_of result)))) }
 {
-    let (version, count) = read_header(reader)?;
+    let header = read_header(reader)?;
     Ok(KeyStream {
         reader,
-        version,
-        count,
+        version: header.version,
+        count: header.count,
         taken: 0,
         state: State::Open,
     })

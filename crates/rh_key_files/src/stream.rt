@@ -40,7 +40,8 @@ impl<R: Read> KeyStream<'_, R> {
     ghost use Rattle.rh_layout.specs.Key.{IsKey};
     ghost use Rattle.rh_key_files.specs.Counting.{Rose, failures_of, inner_of};
     ghost use Rattle.rh_key_files.specs.Taking.{TakesAtMost};
-    ghost use Rattle.rh_key_files.specs.Limits.{NoReadFailed, batch_bytes, fault_of};
+    ghost use Rattle.rh_key_files.specs.Limits.{NoReadFailed, batch_bytes};
+    ghost use Rattle.rh_key_files.specs.Input.{fault_of};
     ghost use Rattle.rh_key_files.specs.Reading.{CutShort, Reads, front_of, batch_at};
     ghost use Rattle.rh_key_files.specs.Stream.{reader_of, lender_of, header_of, version_of, count_of};
     ghost use Rattle.rh_key_files.specs.Stream.{taken_of, left_of, state_of, state_after, answer_again};

@@ -1,7 +1,7 @@
 //! The versions of the key file.
 
 ghost use Rattle.std.specs.Prelude.{◌≡◌, ◌↔◌, IsTrue};
-ghost use Rattle.rh_key_files.specs.KeyFile.{least_key, IsKeyIn};
+ghost use Rattle.rh_key_files.specs.KeyFile.{magic, least_key, IsKeyIn};
 ghost use Rattle.rh_key_files.specs.Reading.{is_key_in};
 
 use rh_layout::MAX_KEY;
@@ -14,6 +14,16 @@ pub enum Version {
 }
 
 impl Version {
+    /// The first four bytes.
+    pub(crate) fn magic(self) -> [u8; 4]
+        ensures { result ≡ magic self }
+    {
+        match self {
+            Version::First => *b"RHK1",
+            Version::Second => *b"RHK2",
+        }
+    }
+
     fn least_key(self) -> u64
         ensures { result ≡ least_key self }
     {

@@ -1,10 +1,9 @@
 -- Which faults come where in a snapshot, and how many bytes are taken before they are told.
-use Rattle.std.proofs.Common.{◌≡◌, refl, sym, ap, subst, ℕ, zero, suc, ◌+◌, ◌*◌, ◌≤◌, ◌^◌, List, [], ◌∷◌, Option, Some, None, Result, Ok, Err, inl, inr, arith}
-use Rattle.std.specs.Prelude.{IsErrOf, slice_index}
+use Rattle.std.proofs.Common.{◌≡◌, refl, sym, ap, subst, ℕ, zero, suc, ◌+◌, ◌*◌, ◌≤◌, ◌^◌, List, ◌∷◌, Option, Some, None, Result, Ok, Err, inl, inr, arith}
+use Rattle.std.specs.Prelude.{IsErrOf, slice_index, IfErr}
 use Rattle.std.proofs.Math.Pow.{pow_mono}
 use Rattle.std.proofs.lemmas.Bool.{cases_Bool}
 use Rattle.rh_layout.specs.declared.limits.TheConstants.{MAX_BITS}
-use Rattle.rh_key_files.specs.Reading.{begins_with_bytes}
 use Rattle.rh_key_files.specs.Taking.{TakesAtMost}
 use Rattle.rh_key_files.proofs.Taking.{takes_of_unknown, takes_fewer, takes_then, takes_both}
 use Rattle.rh_snapshot.specs.declared.version.Version.{Version}
@@ -13,119 +12,95 @@ use Rattle.rh_snapshot.specs.declared.header.Header.{Header}
 use Rattle.rh_snapshot.specs.declared.fault.SnapFault.{SnapFault}
 use Rattle.rh_snapshot.specs.declared.fault.SnapFault.TheVariants as faults
 use Rattle.rh_snapshot.specs.declared.fault.SnapFault.TheVariants.{NotSnapshot, Short, BadBits, Damaged, NotALayout, Long}
-use Rattle.rh_snapshot.specs.Reading.{◌>>=◌, Fails, Reads, bytes_at, are_bits, bits_in, bits_at, number_in, number_at, header_at, numbers_at, end_at}
+use Rattle.rh_key_files.specs.Input.{◌>>=◌, bytes_at, number_at, end_at}
+use Rattle.rh_snapshot.specs.Reading.{Fails, Reads, are_bits, bits_in, bits_at, header_at, numbers_at}
 use Rattle.rh_snapshot.specs.Limits.{magic_bytes, header_bytes, seal_bytes, header_taken, numbers_taken, sealed_bytes, whole_bytes, file_bytes, most_bytes, cells_in, cells_said, TakesOfFile}
 use Rattle.rh_snapshot.proofs.Whole.{HeaderRead}
 use Rattle.rh_snapshot.proofs.Grammar.{InRange, header_read}
+use Rattle.rh_key_files.proofs.Told.{then_told, bytes_told, number_told, end_told}
 
 -- ---- the header
 
 -- the magic is not what is wrong
-abbrev NamesSnapshot : {A : Type 0} → Result A SnapFault → Type 0
-NamesSnapshot (Err NotSnapshot) = ⊥
-NamesSnapshot r = Unit {0}
+abbrev IsNamed : SnapFault → Type 0
+IsNamed NotSnapshot = ⊥
+IsNamed e = Unit {0}
 
-then_names : {A B : Type 0} (r : Result A SnapFault) (f : A → Result B SnapFault) → NamesSnapshot r → ((x : A) → NamesSnapshot (f x)) → NamesSnapshot (r >>= f)
-then_names (Ok x) f first next = next x
-then_names (Err NotSnapshot) f first next = first
-then_names (Err e) f first next = tt
+bits_in_named : (version : Version) (one : List ℕ × List ℕ) → IfErr (bits_in version one) IsNamed
+bits_in_named version one = elim (cases_Bool (are_bits version (slice_index one.0 0))) [ inl fits ↦ rw fits tt | inr other ↦ rw other tt ]
 
-bytes_name : (n : ℕ) (bytes : List ℕ) → NamesSnapshot (bytes_at n bytes)
-unfolding bytes_at
-bytes_name n bytes = elim (cases_Bool (begins_with_bytes n bytes)) [ inl there ↦ rw there tt | inr other ↦ rw other tt ]
-
-bits_in_names : (version : Version) (one : List ℕ × List ℕ) → NamesSnapshot (bits_in version one)
-bits_in_names version one = elim (cases_Bool (are_bits version (slice_index one.0 0))) [ inl fits ↦ rw fits tt | inr other ↦ rw other tt ]
-
-bits_name : (version : Version) (bytes : List ℕ) → NamesSnapshot (bits_at version bytes)
+bits_named : (version : Version) (bytes : List ℕ) → IfErr (bits_at version bytes) IsNamed
 unfolding bits_at
-bits_name version bytes = then_names (bytes_at 1 bytes) (bits_in version) (bytes_name 1 bytes) (bits_in_names version)
+bits_named version bytes = then_told IsNamed (bytes_at Short 1 bytes) (bits_in version) (bytes_told IsNamed Short tt 1 bytes) (bits_in_named version)
 
 -- neither the magic nor the bits are
-abbrev IsLater : {A : Type 0} → Result A SnapFault → Type 0
-IsLater (Err NotSnapshot) = ⊥
-IsLater (Err BadBits) = ⊥
-IsLater r = Unit {0}
+abbrev IsLater : SnapFault → Type 0
+IsLater NotSnapshot = ⊥
+IsLater BadBits = ⊥
+IsLater e = Unit {0}
 
-then_later : {A B : Type 0} (r : Result A SnapFault) (f : A → Result B SnapFault) → IsLater r → ((x : A) → IsLater (f x)) → IsLater (r >>= f)
-then_later (Ok x) f first next = next x
-then_later (Err NotSnapshot) f first next = first
-then_later (Err BadBits) f first next = first
-then_later (Err e) f first next = tt
-
-bytes_later : (n : ℕ) (bytes : List ℕ) → IsLater (bytes_at n bytes)
-unfolding bytes_at
-bytes_later n bytes = elim (cases_Bool (begins_with_bytes n bytes)) [ inl there ↦ rw there tt | inr other ↦ rw other tt ]
-
-number_later : (bytes : List ℕ) → IsLater (number_at bytes)
-unfolding number_at
-number_later bytes = then_later (bytes_at 8 bytes) number_in (bytes_later 8 bytes) (λ eight. tt)
+number_later : (bytes : List ℕ) → IfErr (number_at Short bytes) IsLater
+number_later bytes = number_told IsLater Short tt bytes
 
 pub header_stops_at_bits : (a b c : Option (List ℕ)) (version : Version) (e : SnapFault) → TakesAtMost a b magic_bytes → TakesAtMost b c 1 → Reads b c (bits_at version) (λ (n : ℕ). n) (Err e) → TakesAtMost a c (header_taken (Some e))
 header_stops_at_bits None b c version e s t h = takes_of_unknown c (header_taken (Some e))
 header_stops_at_bits (Some x) None c version e s t h = absurd s.consumed
-header_stops_at_bits (Some x) (Some y) c version NotSnapshot s t h = absurd (subst NamesSnapshot h (bits_name version y))
+header_stops_at_bits (Some x) (Some y) c version NotSnapshot s t h = absurd (subst (λ r. IfErr r IsNamed) h (bits_named version y))
 header_stops_at_bits (Some x) (Some y) c version e s t h = takes_both (Some x) (Some y) c magic_bytes 1 (header_taken (Some e)) s t (omega arith)
 
 pub header_taken_whole : (a b c d : Option (List ℕ)) → TakesAtMost a b magic_bytes → TakesAtMost b c 1 → TakesAtMost c d 8 → TakesAtMost a d header_bytes
 header_taken_whole a b c d s t u = takes_then a c d (magic_bytes + 1) 8 (takes_then a b c magic_bytes 1 s t) u
 
-pub header_stops_at_count : (a b c d : Option (List ℕ)) (e : SnapFault) → TakesAtMost a b magic_bytes → TakesAtMost b c 1 → TakesAtMost c d 8 → Reads c d number_at (λ (n : ℕ). n) (Err e) → TakesAtMost a d (header_taken (Some e))
+pub header_stops_at_count : (a b c d : Option (List ℕ)) (e : SnapFault) → TakesAtMost a b magic_bytes → TakesAtMost b c 1 → TakesAtMost c d 8 → Reads c d (number_at Short) (λ (n : ℕ). n) (Err e) → TakesAtMost a d (header_taken (Some e))
 header_stops_at_count None b c d e s t u h = takes_of_unknown d (header_taken (Some e))
 header_stops_at_count (Some x) None c d e s t u h = absurd s.consumed
 header_stops_at_count (Some x) (Some y) None d e s t u h = absurd t.consumed
-header_stops_at_count (Some x) (Some y) (Some z) d NotSnapshot s t u h = absurd (subst IsLater h (number_later z))
-header_stops_at_count (Some x) (Some y) (Some z) d BadBits s t u h = absurd (subst IsLater h (number_later z))
+header_stops_at_count (Some x) (Some y) (Some z) d NotSnapshot s t u h = absurd (subst (λ r. IfErr r IsLater) h (number_later z))
+header_stops_at_count (Some x) (Some y) (Some z) d BadBits s t u h = absurd (subst (λ r. IfErr r IsLater) h (number_later z))
 header_stops_at_count (Some x) (Some y) (Some z) d e s t u h = header_taken_whole (Some x) (Some y) (Some z) d s t u
 
 -- ---- what comes after it
 
-numbers_later : (n : ℕ) (bytes : List ℕ) → IsLater (numbers_at n bytes)
+numbers_later : (n : ℕ) (bytes : List ℕ) → IfErr (numbers_at n bytes) IsLater
 unfolding numbers_at
 numbers_later zero bytes = tt
 numbers_later (suc n) bytes =
-    then_later (number_at bytes) (λ first. numbers_at n first.1 >>= (λ others. Ok (first.0 ∷ others.0, others.1))) (number_later bytes)
-    (λ first. then_later (numbers_at n first.1) (λ others. Ok (first.0 ∷ others.0, others.1)) (numbers_later n first.1) (λ others. tt))
+    then_told IsLater (number_at Short bytes) (λ first. numbers_at n first.1 >>= (λ others. Ok (first.0 ∷ others.0, others.1))) (number_later bytes)
+    (λ first. then_told IsLater (numbers_at n first.1) (λ others. Ok (first.0 ∷ others.0, others.1)) (numbers_later n first.1) (λ others. tt))
 
--- where the bytes end
-abbrev Ends : {A : Type 0} → Result A SnapFault → Type 0
-Ends (Ok x) = Unit {0}
-Ends (Err Long) = Unit {0}
-Ends (Err e) = ⊥
+-- the bytes do not end
+abbrev IsLong : SnapFault → Type 0
+IsLong Long = Unit {0}
+IsLong e = ⊥
 
-end_ends : (bytes : List ℕ) → Ends (end_at bytes)
-unfolding end_at
-end_ends [] = tt
-end_ends (b ∷ bytes) = tt
-
-numbers_fit : (n : ℕ) (e : SnapFault) (r : Result (List ℕ × List ℕ) SnapFault) → IsLater r → Fails e r → header_bytes + numbers_taken n (Some e) ≤ file_bytes n (Some e)
+numbers_fit : (n : ℕ) (e : SnapFault) (r : Result (List ℕ × List ℕ) SnapFault) → IfErr r IsLater → Fails e r → header_bytes + numbers_taken n (Some e) ≤ file_bytes n (Some e)
 numbers_fit n faults.Read r later fails = omega arith
 numbers_fit n faults.Memory r later fails = omega arith
-numbers_fit n NotSnapshot r later fails = absurd (subst IsLater fails later)
+numbers_fit n NotSnapshot r later fails = absurd (subst (λ r. IfErr r IsLater) fails later)
 numbers_fit n Short r later fails = omega arith
-numbers_fit n BadBits r later fails = absurd (subst IsLater fails later)
+numbers_fit n BadBits r later fails = absurd (subst (λ r. IfErr r IsLater) fails later)
 numbers_fit n Damaged r later fails = omega arith
 numbers_fit n NotALayout r later fails = omega arith
 numbers_fit n Long r later fails = omega arith
 
-seal_fits : (X : Type 0) (n : ℕ) (e : SnapFault) (r : Result (List ℕ × List ℕ) SnapFault) → (IsErrOf {T = X} (Err e) faults.Memory → ⊥) → IsLater r → Fails e r → sealed_bytes n ≤ file_bytes n (Some e)
+seal_fits : (X : Type 0) (n : ℕ) (e : SnapFault) (r : Result (List ℕ × List ℕ) SnapFault) → (IsErrOf {T = X} (Err e) faults.Memory → ⊥) → IfErr r IsLater → Fails e r → sealed_bytes n ≤ file_bytes n (Some e)
 seal_fits X n faults.Read r other later fails = omega arith
 seal_fits X n faults.Memory r other later fails = absurd (other refl)
-seal_fits X n NotSnapshot r other later fails = absurd (subst IsLater fails later)
+seal_fits X n NotSnapshot r other later fails = absurd (subst (λ r. IfErr r IsLater) fails later)
 seal_fits X n Short r other later fails = omega arith
-seal_fits X n BadBits r other later fails = absurd (subst IsLater fails later)
+seal_fits X n BadBits r other later fails = absurd (subst (λ r. IfErr r IsLater) fails later)
 seal_fits X n Damaged r other later fails = omega arith
 seal_fits X n NotALayout r other later fails = omega arith
 seal_fits X n Long r other later fails = omega arith
 
-end_fits : (X : Type 0) (n : ℕ) (e : SnapFault) (r : Result (List ℕ × List ℕ) SnapFault) → (IsErrOf {T = X} (Err e) faults.Memory → ⊥) → Ends r → Fails e r → whole_bytes n ≤ file_bytes n (Some e)
+end_fits : (X : Type 0) (n : ℕ) (e : SnapFault) (r : Result (List ℕ × List ℕ) SnapFault) → (IsErrOf {T = X} (Err e) faults.Memory → ⊥) → IfErr r IsLong → Fails e r → whole_bytes n ≤ file_bytes n (Some e)
 end_fits X n faults.Read r other ends fails = omega arith
 end_fits X n faults.Memory r other ends fails = absurd (other refl)
-end_fits X n NotSnapshot r other ends fails = absurd (subst Ends fails ends)
+end_fits X n NotSnapshot r other ends fails = absurd (subst (λ r. IfErr r IsLong) fails ends)
 end_fits X n Short r other ends fails = omega arith
-end_fits X n BadBits r other ends fails = absurd (subst Ends fails ends)
-end_fits X n Damaged r other ends fails = absurd (subst Ends fails ends)
-end_fits X n NotALayout r other ends fails = absurd (subst Ends fails ends)
+end_fits X n BadBits r other ends fails = absurd (subst (λ r. IfErr r IsLong) fails ends)
+end_fits X n Damaged r other ends fails = absurd (subst (λ r. IfErr r IsLong) fails ends)
+end_fits X n NotALayout r other ends fails = absurd (subst (λ r. IfErr r IsLong) fails ends)
 end_fits X n Long r other ends fails = omega arith
 
 -- ---- a whole file
@@ -150,19 +125,19 @@ file_stops_in_numbers v (Some x) (Some y) c header e h s t fails =
 pub takes_sealed : (a b c d : Option (List ℕ)) (n : ℕ) → TakesAtMost a b header_bytes → TakesAtMost b c (8 * n) → TakesAtMost c d seal_bytes → TakesAtMost a d (sealed_bytes n)
 takes_sealed a b c d n s t u = takes_then a c d (header_bytes + 8 * n) seal_bytes (takes_then a b c header_bytes (8 * n) s t) u
 
-pub file_stops_in_seal : {S : Type 0} (v : S → List ℕ) (a b c d : Option (List ℕ)) (header : Header) (e : SnapFault) → HeaderRead a b (Ok header) → (IsErrOf {T = S} (Err e) faults.Memory → ⊥) → TakesAtMost a c (header_bytes + 8 * 2 ^ header.bits) → TakesAtMost c d seal_bytes → Reads c d (bytes_at 32) v (Err e) → TakesOfFile a d (Some e)
+pub file_stops_in_seal : {S : Type 0} (v : S → List ℕ) (a b c d : Option (List ℕ)) (header : Header) (e : SnapFault) → HeaderRead a b (Ok header) → (IsErrOf {T = S} (Err e) faults.Memory → ⊥) → TakesAtMost a c (header_bytes + 8 * 2 ^ header.bits) → TakesAtMost c d seal_bytes → Reads c d (bytes_at Short 32) v (Err e) → TakesOfFile a d (Some e)
 file_stops_in_seal v None b c d header e h other s t fails = takes_of_unknown d (file_bytes 0 (Some e))
 file_stops_in_seal v (Some x) b None d header e h other s t fails = absurd s.consumed
 file_stops_in_seal {S = S} v (Some x) b (Some z) d header e h other s t fails =
     takes_within (Some x) b d header (sealed_bytes (2 ^ header.bits)) (Some e) h (takes_then (Some x) (Some z) d (header_bytes + 8 * 2 ^ header.bits) seal_bytes s t)
-    (seal_fits S (2 ^ header.bits) e (bytes_at 32 z) other (bytes_later 32 z) fails)
+    (seal_fits S (2 ^ header.bits) e (bytes_at Short 32 z) other (bytes_told IsLater Short tt 32 z) fails)
 
-pub file_stops_at_end : {X : Type 0} (v : X → List ℕ) (a b c d : Option (List ℕ)) (header : Header) (e : SnapFault) → HeaderRead a b (Ok header) → (IsErrOf {T = X} (Err e) faults.Memory → ⊥) → TakesAtMost a c (sealed_bytes (2 ^ header.bits)) → TakesAtMost c d 1 → Reads c d end_at v (Err e) → TakesOfFile a d (Some e)
+pub file_stops_at_end : {X : Type 0} (v : X → List ℕ) (a b c d : Option (List ℕ)) (header : Header) (e : SnapFault) → HeaderRead a b (Ok header) → (IsErrOf {T = X} (Err e) faults.Memory → ⊥) → TakesAtMost a c (sealed_bytes (2 ^ header.bits)) → TakesAtMost c d 1 → Reads c d (end_at Long) v (Err e) → TakesOfFile a d (Some e)
 file_stops_at_end v None b c d header e h other s t fails = takes_of_unknown d (file_bytes 0 (Some e))
 file_stops_at_end v (Some x) b None d header e h other s t fails = absurd s.consumed
 file_stops_at_end {X = X} v (Some x) b (Some z) d header e h other s t fails =
     takes_within (Some x) b d header (whole_bytes (2 ^ header.bits)) (Some e) h (takes_then (Some x) (Some z) d (sealed_bytes (2 ^ header.bits)) 1 s t)
-    (end_fits X (2 ^ header.bits) e (end_at z) other (end_ends z) fails)
+    (end_fits X (2 ^ header.bits) e (end_at Long z) other (end_told IsLong Long tt z) fails)
 
 -- ---- any file
 

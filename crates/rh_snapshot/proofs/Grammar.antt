@@ -1,12 +1,9 @@
 -- What is spelled as a snapshot is read to its table, and what is read is spelled so.
-use Rattle.std.proofs.Common.{◌≡◌, ℕ, zero, suc, ◌<◌, ◌≤◌, ◌^◌, true, List, [], ◌∷◌, ◌++◌, length, get_or, take, drop, Option, Some, None, Result, Ok, Err, inl, inr, refl, sym, ap, ◌∙◌, subst, arith, append_assoc, append-nil, length-take-le, take-append-drop, leb}
+use Rattle.std.proofs.Common.{◌≡◌, ℕ, zero, suc, ◌<◌, ◌≤◌, ◌^◌, true, List, [], ◌∷◌, ◌++◌, length, get_or, Ok, Err, inl, inr, refl, sym, ap, ◌∙◌, subst, arith, append_assoc, append-nil, leb}
 use Rattle.std.proofs.lemmas.Bool.{cases_Bool, and_parts, and_from, leb-true, le-leb, eq-eqb, lt-ltb}
-use Rattle.std.proofs.lemmas.List.{take_at, drop_at, get_or_default, length-map}
-use Rattle.std.proofs.lemmas.Nat.{be_bytes_8, from_be_bytes-to_be_bytes_8}
+use Rattle.std.proofs.lemmas.List.{get_or_default, length-map}
 use Rattle.std.proofs.lemmas.Slice.Eq.{bytes_eq-Decides}
-use Rattle.std.specs.List.{list_all}
 use Rattle.std.specs.Prelude.{All}
-use Rattle.std.specs.Int.{w64, from_be_bytes}
 use Rattle.std.specs.Str.{bytes_eq}
 use Rattle.std.proofs.lemmas.List.Elements.{All-head, All-tail}
 use Rattle.std.proofs.Math.Nat.{pow-le-pow_right}
@@ -18,64 +15,21 @@ use Rattle.rh_layout.specs.Layout.{IsLayout, keys_of}
 use Rattle.rh_layout.proofs.CountLemmas.{count_of_layout}
 use Rattle.rh_layout.proofs.TestLemmas.{layout_decided}
 use Rattle.rh_key_files.specs.KeyFile.{eight_bytes}
-use Rattle.rh_key_files.specs.Reading.{is_byte, begins_with_bytes}
-use Rattle.rh_key_files.proofs.Spelled.{begins, bytes_below, spelled_bytes}
+use Rattle.rh_key_files.specs.Input.{is_byte}
 use Rattle.rh_snapshot.specs.declared.version.Version.{Version}
 use Rattle.rh_snapshot.specs.declared.version.Version.TheVariants.{First, Second}
 use Rattle.rh_snapshot.specs.declared.header.Header.{Header}
-use Rattle.rh_snapshot.specs.declared.fault.SnapFault.{SnapFault}
-use Rattle.rh_snapshot.specs.declared.fault.SnapFault.TheVariants.{NotSnapshot, Short, BadBits, Damaged, NotALayout}
+use Rattle.rh_snapshot.specs.declared.fault.SnapFault.TheVariants.{NotSnapshot, Short, BadBits, Damaged, NotALayout, Long}
 use Rattle.rh_snapshot.specs.Snapshot.{magic, most_bits, cells_as, header_of, spelled_header, spelled_numbers, text_of, spelling, SnapshotFile, Table, table_with, table_of, SnapshotOf, IsSnapshot}
-use Rattle.rh_snapshot.specs.Reading.{◌>>=◌, bytes_at, named, version_at, are_bits, bits_in, bits_at, number_in, number_at, with_count, after_bits, after_version, header_at, numbers_at, is_sealed, is_table, table_in, end_at, ended, after_numbers, after_header, file_table, Reads, IsReadFrom}
+use Rattle.rh_key_files.specs.Input.{◌>>=◌, bytes_at, number_at, end_at}
+use Rattle.rh_snapshot.specs.Reading.{named, version_at, are_bits, bits_in, bits_at, with_count, after_bits, after_version, header_at, numbers_at, is_sealed, is_table, table_in, ended, after_numbers, after_header, file_table}
 use Rattle.rh_snapshot.proofs.Seal.{seal_bytes}
 use Rattle.rh_snapshot.proofs.Numbers.{with_head}
 use Rattle.rh_snapshot.proofs.Whole.{is_good}
 use Rattle.rh_snapshot.proofs.Keys.{numbers_fit, same_keys, tested}
+use Rattle.rh_key_files.proofs.Parsed.{then_ok, same, same_value, same_rest, ok, bytes_read, number_read, end_read, bytes_given, number_given}
 
 -- ---- what is read is spelled so
-
-then_ok : {A B : Type 0} (r : Result A SnapFault) (f : A → Result B SnapFault) (y : B) → (r >>= f) ≡ Ok y → (x : A) × (r ≡ Ok x) × (f x ≡ Ok y)
-then_ok (Ok x) f y h = (x, refl, h)
-then_ok (Err e) f y h = absurd cc
-
-abbrev ok : {A : Type 0} → A → Result A SnapFault
-ok x = Ok x
-
--- what stands in a result, where two are the same
-abbrev in_ok : {A : Type 0} → A → Result A SnapFault → A
-in_ok d (Ok x) = x
-in_ok d (Err e) = d
-
-same : {A : Type 0} (x y : A) → ok x ≡ Ok y → x ≡ y
-same x y h = ap (in_ok x) h
-
-same_value : {A : Type 0} (p q : A × List ℕ) → ok p ≡ Ok q → p.0 ≡ q.0
-same_value p q h = ap (λ r. r.0) (same p q h)
-
-same_rest : {A : Type 0} (p q : A × List ℕ) → ok p ≡ Ok q → p.1 ≡ q.1
-same_rest p q h = ap (λ r. r.1) (same p q h)
-
-record Given (n : ℕ) (bytes : List ℕ) (p : List ℕ × List ℕ) : Type 0 where
-  whole : bytes ≡ p.0 ++ p.1
-  many : length p.0 ≡ n
-  all : list_all is_byte p.0 ≡ true
-
-bytes_read : (n : ℕ) (bytes : List ℕ) (p : List ℕ × List ℕ) → bytes_at n bytes ≡ Ok p → Given n bytes p
-unfolding bytes_at
-bytes_read n bytes p h =
-    elim (cases_Bool (begins_with_bytes n bytes)) [
-      | inl there ↦
-          let parts = and_parts (leb n (length bytes)) (list_all is_byte (take n bytes)) there in
-          let got : ok (take n bytes, drop n bytes) ≡ Ok p = rw there at h in
-          let front : take n bytes ≡ p.0 = same_value (take n bytes, drop n bytes) p got in
-          let back : drop n bytes ≡ p.1 = same_rest (take n bytes, drop n bytes) p got in
-          record {
-            whole = sym (take-append-drop n bytes) ∙ ap (λ l. l ++ drop n bytes) front ∙ ap (λ l. p.0 ++ l) back;
-            many = ap length (sym front) ∙ length-take-le n bytes (leb-true n (length bytes) parts.0);
-            all = ap (list_all is_byte) (sym front) ∙ parts.1;
-          }
-      | inr other ↦ let got : Err Short ≡ Ok p = rw other at h in absurd cc
-    ]
 
 named_magic : (four : List ℕ × List ℕ) (p : Version × List ℕ) → named four ≡ Ok p → four.0 ++ four.1 ≡ magic p.0 ++ p.1
 named_magic four p h =
@@ -97,8 +51,8 @@ named_magic four p h =
 version_read : (bytes : List ℕ) (p : Version × List ℕ) → version_at bytes ≡ Ok p → bytes ≡ magic p.0 ++ p.1
 unfolding version_at
 version_read bytes p h =
-    let s = then_ok (bytes_at 4 bytes) named p h in
-    (bytes_read 4 bytes s.0 s.1).whole ∙ named_magic s.0 p s.2
+    let s = then_ok (bytes_at Short 4 bytes) named p h in
+    (bytes_read Short 4 bytes s.0 s.1).whole ∙ named_magic s.0 p s.2
 
 abbrev pub InRange : Version → ℕ → Type 0
 InRange version bits = (MIN_BITS ≤ bits) × (bits ≤ most_bits version)
@@ -111,8 +65,8 @@ one_byte (x ∷ y ∷ xs) is = absurd (omega (arith, is))
 bits_read : (version : Version) (bytes : List ℕ) (p : ℕ × List ℕ) → bits_at version bytes ≡ Ok p → (bytes ≡ p.0 ∷ p.1) × InRange version p.0
 unfolding bits_at
 bits_read version bytes p h =
-    let s = then_ok (bytes_at 1 bytes) (bits_in version) p h in
-    let g = bytes_read 1 bytes s.0 s.1 in
+    let s = then_ok (bytes_at Short 1 bytes) (bits_in version) p h in
+    let g = bytes_read Short 1 bytes s.0 s.1 in
     let bits = get_or s.0.0 0 0 in
     elim (cases_Bool (are_bits version bits)) [
       | inl fits ↦
@@ -123,15 +77,6 @@ bits_read version bytes p h =
       | inr other ↦ let got : Err BadBits ≡ Ok p = rw other at s.2 in absurd cc
     ]
 
-number_read : (bytes : List ℕ) (p : ℕ × List ℕ) → number_at bytes ≡ Ok p → bytes ≡ eight_bytes p.0 ++ p.1
-unfolding number_at
-number_read bytes p h =
-    let s = then_ok (bytes_at 8 bytes) number_in p h in
-    let g = bytes_read 8 bytes s.0 s.1 in
-    let n : p.0 ≡ from_be_bytes w64 s.0.0 = sym (same_value (from_be_bytes w64 s.0.0, s.0.1) p s.2) in
-    let spelled : eight_bytes p.0 ≡ s.0.0 = be_bytes_8 s.0.0 p.0 g.many (bytes_below s.0.0 g.all) n in
-    g.whole ∙ ap (λ l. l ++ s.0.1) (sym spelled) ∙ ap (λ l. eight_bytes p.0 ++ l) (same_rest (from_be_bytes w64 s.0.0, s.0.1) p s.2)
-
 header_spelled : (version : Version) (bits count : ℕ) (rest : List ℕ) → magic version ++ (bits ∷ (eight_bytes count ++ rest)) ≡ (magic version ++ (bits ∷ eight_bytes count)) ++ rest
 header_spelled version bits count rest = sym (append_assoc (magic version) (bits ∷ eight_bytes count) rest)
 
@@ -140,12 +85,12 @@ unfolding header_at
 header_read bytes p h =
     let s = then_ok (version_at bytes) after_version p h in
     let t = then_ok (bits_at s.0.0 s.0.1) (after_bits s.0.0) p s.2 in
-    let u = then_ok (number_at t.0.1) (with_count s.0.0 t.0.0) p t.2 in
+    let u = then_ok (number_at Short t.0.1) (with_count s.0.0 t.0.0) p t.2 in
     let bits = bits_read s.0.0 s.0.1 t.0 t.1 in
     let header : Header = record { version = s.0.0; bits = t.0.0; count = u.0.0 } in
     let is : header ≡ p.0 = same_value (header, u.0.1) p u.2 in
     let rest : u.0.1 ≡ p.1 = same_rest (header, u.0.1) p u.2 in (
-      version_read bytes s.0 s.1 ∙ ap (λ l. magic s.0.0 ++ l) (bits.0 ∙ ap (λ l. t.0.0 ∷ l) (number_read t.0.1 u.0 u.1))
+      version_read bytes s.0 s.1 ∙ ap (λ l. magic s.0.0 ++ l) (bits.0 ∙ ap (λ l. t.0.0 ∷ l) (number_read Short t.0.1 u.0 u.1))
           ∙ header_spelled s.0.0 t.0.0 u.0.0 u.0.1 ∙ ap (λ (w : Header). spelled_header w ++ u.0.1) is ∙ ap (λ l. spelled_header p.0 ++ l) rest,
       subst (λ (w : Header). InRange w.version w.bits) is bits.1,
     )
@@ -154,10 +99,10 @@ numbers_read : (n : ℕ) (bytes : List ℕ) (p : List ℕ × List ℕ) → numbe
 unfolding numbers_at
 numbers_read zero bytes p h = same_rest ([], bytes) p h ∙ ap (λ ns. spelled_numbers ns ++ p.1) (same_value ([], bytes) p h)
 numbers_read (suc n) bytes p h =
-    let s = then_ok (number_at bytes) (λ first. numbers_at n first.1 >>= with_head first.0) p h in
+    let s = then_ok (number_at Short bytes) (λ first. numbers_at n first.1 >>= with_head first.0) p h in
     let t = then_ok (numbers_at n s.0.1) (with_head s.0.0) p s.2 in
     let all : s.0.0 ∷ t.0.0 ≡ p.0 = same_value (s.0.0 ∷ t.0.0, t.0.1) p t.2 in
-    number_read bytes s.0 s.1 ∙ ap (λ l. eight_bytes s.0.0 ++ l) (numbers_read n s.0.1 t.0 t.1) ∙ sym (append_assoc (eight_bytes s.0.0) (spelled_numbers t.0.0) t.0.1)
+    number_read Short bytes s.0 s.1 ∙ ap (λ l. eight_bytes s.0.0 ++ l) (numbers_read n s.0.1 t.0 t.1) ∙ sym (append_assoc (eight_bytes s.0.0) (spelled_numbers t.0.0) t.0.1)
     ∙ ap (λ ns. spelled_numbers ns ++ t.0.1) all ∙ ap (λ l. spelled_numbers p.0 ++ l) (same_rest (s.0.0 ∷ t.0.0, t.0.1) p t.2)
 
 record Passed (header : Header) (numbers seal : List ℕ) (table : Table) : Type 0 where
@@ -182,11 +127,6 @@ table_passed header numbers seal table h =
           ]
       | inr other ↦ let got : Err Damaged ≡ Ok table = rw other at h in absurd cc
     ]
-
-end_read : (bytes : List ℕ) (p : List ℕ × List ℕ) → end_at bytes ≡ Ok p → (bytes ≡ []) × (p.1 ≡ [])
-unfolding end_at
-end_read [] p h = (refl, sym (same_rest ([], []) p h))
-end_read (b ∷ bytes) p h = absurd cc
 
 with_seal : (header : Header) (numbers seal : List ℕ) → spelled_header header ++ (spelled_numbers numbers ++ seal) ≡ text_of header numbers ++ seal
 with_seal header numbers seal = sym (append_assoc (spelled_header header) (spelled_numbers numbers) seal)
@@ -215,28 +155,24 @@ file_read bytes p h =
     let s = then_ok (header_at bytes) after_header p h in
     let header = s.0.0 in
     let t = then_ok (numbers_at (2 ^ header.bits) s.0.1) (after_numbers header) p s.2 in
-    let u = then_ok (bytes_at 32 t.0.1) (λ seal. table_in header t.0.0 seal.0 >>= ended seal.1) p t.2 in
+    let u = then_ok (bytes_at Short 32 t.0.1) (λ seal. table_in header t.0.0 seal.0 >>= ended seal.1) p t.2 in
     let v = then_ok (table_in header t.0.0 u.0.0) (ended u.0.1) p u.2 in
-    let w = then_ok (end_at u.0.1) (λ end. Ok (v.0, end.1)) p v.2 in
+    let w = then_ok (end_at Long u.0.1) (λ end. Ok (v.0, end.1)) p v.2 in
     let head = header_read bytes s.0 s.1 in
-    let end = end_read u.0.1 w.0 w.1 in
+    let end = end_read Long u.0.1 w.0 w.1 in
     let is : v.0 ≡ p.0 = same_value (v.0, w.0.1) p w.2 in
     let rest : p.1 ≡ [] = sym (same_rest (v.0, w.0.1) p w.2) ∙ end.1 in
     let body : s.0.1 ≡ spelled_numbers t.0.0 ++ u.0.0 =
-    numbers_read (2 ^ header.bits) s.0.1 t.0 t.1 ∙ ap (λ l. spelled_numbers t.0.0 ++ l) ((bytes_read 32 t.0.1 u.0 u.1).whole ∙ ap (λ l. u.0.0 ++ l) end.0 ∙ append-nil u.0.0) in
+    numbers_read (2 ^ header.bits) s.0.1 t.0 t.1 ∙ ap (λ l. spelled_numbers t.0.0 ++ l) ((bytes_read Short 32 t.0.1 u.0 u.1).whole ∙ ap (λ l. u.0.0 ++ l) end.0 ∙ append-nil u.0.0) in
     let whole : bytes ≡ text_of header t.0.0 ++ u.0.0 = head.0 ∙ ap (λ l. spelled_header header ++ l) body ∙ with_seal header t.0.0 u.0.0 in
     (subst (IsSnapshot bytes) is (snapshot_read bytes header t.0.0 u.0.0 v.0 whole head.1 (table_passed header t.0.0 u.0.0 v.0 v.1)), rest)
 
 -- ---- what is spelled is read
 
-bytes_given : (front rest : List ℕ) (n : ℕ) → length front ≡ n → list_all is_byte front ≡ true → bytes_at n (front ++ rest) ≡ Ok (front, rest)
-unfolding bytes_at
-bytes_given front rest n is all = rw (sym is, begins front rest all, take_at front rest (length front) refl, drop_at front rest (length front) refl) refl
-
 version_given : (version : Version) (rest : List ℕ) → version_at (magic version ++ rest) ≡ Ok (version, rest)
 unfolding version_at
-version_given First rest = rw (bytes_given (magic First) rest 4 refl refl) refl
-version_given Second rest = rw (bytes_given (magic Second) rest 4 refl refl) refl
+version_given First rest = rw (bytes_given Short (magic First) rest 4 refl refl) refl
+version_given Second rest = rw (bytes_given Short (magic Second) rest 4 refl refl) refl
 
 few_bits : (version : Version) (bits : ℕ) → bits ≤ most_bits version → bits ≤ MAX_BITS
 few_bits First bits le = omega (arith, le)
@@ -247,11 +183,7 @@ unfolding bits_at
 bits_given version bits rest fits =
     let byte : is_byte bits ≡ true = lt-ltb bits 256 (omega (arith, few_bits version bits fits.1)) in
     let test : are_bits version bits ≡ true = and_from (leb MIN_BITS bits) (leb bits (most_bits version)) (le-leb _ _ fits.0) (le-leb _ _ fits.1) in
-    ap (λ r. r >>= bits_in version) (bytes_given (bits ∷ []) rest 1 refl (and_from (is_byte bits) true byte refl)) ∙ rw test refl
-
-number_given : (n : ℕ) (rest : List ℕ) → n < 2 ^ 64 → number_at (eight_bytes n ++ rest) ≡ Ok (n, rest)
-unfolding number_at
-number_given n rest fits = ap (λ r. r >>= number_in) (bytes_given (eight_bytes n) rest 8 refl (spelled_bytes n)) ∙ ap (λ m. Ok (m, rest)) (from_be_bytes-to_be_bytes_8 n fits)
+    ap (λ r. r >>= bits_in version) (bytes_given Short (bits ∷ []) rest 1 refl (and_from (is_byte bits) true byte refl)) ∙ rw test refl
 
 header_given : (header : Header) (rest : List ℕ) → InRange header.version header.bits → header.count < 2 ^ 64 → header_at (spelled_header header ++ rest) ≡ Ok (header, rest)
 unfolding header_at
@@ -260,7 +192,7 @@ header_given header rest fits small =
     let bits = header.bits in
     ap header_at (sym (header_spelled version bits header.count rest)) ∙ ap (λ r. r >>= after_version) (version_given version (bits ∷ (eight_bytes header.count ++ rest)))
     ∙ ap (λ r. r >>= after_bits version) (bits_given version bits (eight_bytes header.count ++ rest) fits)
-    ∙ ap (λ r. r >>= with_count version bits) (number_given header.count rest small)
+    ∙ ap (λ r. r >>= with_count version bits) (number_given Short header.count rest small)
 
 abbrev Fits : ℕ → Type 0
 Fits n = n < 2 ^ 64
@@ -269,7 +201,7 @@ numbers_given : (numbers rest : List ℕ) → All Fits numbers → numbers_at (l
 unfolding numbers_at
 numbers_given [] rest fit = refl
 numbers_given (n ∷ numbers) rest fit =
-    let first = number_given n (spelled_numbers numbers ++ rest) (All-head Fits n numbers fit) in
+    let first = number_given Short n (spelled_numbers numbers ++ rest) (All-head Fits n numbers fit) in
     let others = numbers_given numbers rest (All-tail Fits n numbers fit) in
     let apart : spelled_numbers (n ∷ numbers) ++ rest ≡ eight_bytes n ++ (spelled_numbers numbers ++ rest) = append_assoc (eight_bytes n) (spelled_numbers numbers) rest in
     ap (numbers_at (suc (length numbers))) apart ∙ ap (λ r. r >>= (λ first. numbers_at (length numbers) first.1 >>= with_head first.0)) first ∙ ap (λ r. r >>= with_head n) others
@@ -282,7 +214,7 @@ seal_given : (header : Header) (numbers : List ℕ) → is_table header numbers 
 seal_given header numbers test =
     let seal = sha256 (text_of header numbers) in
     let good : is_sealed header numbers seal ≡ true = (bytes_eq-Decides seal seal).1 refl in
-    let read : bytes_at 32 seal ≡ Ok (seal, []) = ap (bytes_at 32) (sym (append-nil seal)) ∙ bytes_given seal [] 32 (length-sha256 (text_of header numbers)) (seal_bytes (text_of header numbers)) in
+    let read : bytes_at Short 32 seal ≡ Ok (seal, []) = ap (bytes_at Short 32) (sym (append-nil seal)) ∙ bytes_given Short seal [] 32 (length-sha256 (text_of header numbers)) (seal_bytes (text_of header numbers)) in
     ap (λ r. r >>= (λ s. table_in header numbers s.0 >>= ended s.1)) read ∙ ap (λ r. r >>= ended []) (is_good header numbers seal good test) ∙ end_given (table_with header numbers seal)
 
 many_cells : (version : Version) (numbers : List ℕ) → length (cells_as version numbers) ≡ length numbers
@@ -318,9 +250,3 @@ second_file bits cells layout free = record {
   layout = layout;
   free = subst (λ n. n < 2 ^ bits) (sym (count_of_layout cells bits (keys_of cells) layout)) free;
 }
-
--- what a reader's known bytes were read to
-pub read_from : {X : Type 0} (a b : Option (List ℕ)) (view : X → Table) (x : X) → Reads a b file_table view (Ok x) → IsReadFrom a b (view x)
-read_from None b view x h = tt
-read_from (Some bytes) None view x h = absurd h
-read_from (Some bytes) (Some rest) view x h = file_read bytes (view x, rest) h

@@ -1,21 +1,17 @@
--- A snapshot is read by steps, as a key file is in rh_key_files; its numbers are hashed as they come, and then the seal is
--- tested.
--- Reader: reading from a reader, one step after another.
+-- A snapshot is read by steps, as a key file is, and what is so of the steps of both is shown in rh_key_files. Its numbers are
+-- hashed as they come, and then the seal is tested.
 -- Steps: the steps of the header.
 -- Numbers: numbers one after the other, and their hash.
 -- Keys: numbers of a file, and the cells and keys that they stand for.
 -- Seal: a seal is 32 bytes.
--- Ends: the end of the input.
 -- Whole: a whole snapshot, read by its header, its numbers, its seal and its end.
 -- Bounds: which faults come where in a snapshot, and how many bytes are taken before they are told.
 -- Grammar: what is spelled as a snapshot is read to its table, and what is read is spelled so.
 -- Sealing: a text that was appended, and then its seal.
 
 pub mod Seal
-pub mod Reader
 pub mod Steps
 pub mod Numbers
-pub mod Ends
 pub mod Whole
 pub mod Keys
 pub mod Sealing

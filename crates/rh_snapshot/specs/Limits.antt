@@ -17,11 +17,6 @@ header_bytes = magic_bytes + 1 + 8
 abbrev pub seal_bytes : ℕ
 seal_bytes = 32
 
--- the fault that a call tells
-abbrev pub fault_of : {X : Type 0} → Result X SnapFault → Option SnapFault
-fault_of (Ok x) = None
-fault_of (Err e) = Some e
-
 -- of a header, by its fault
 abbrev pub header_taken : Option SnapFault → ℕ
 header_taken (Some NotSnapshot) = magic_bytes

@@ -1,12 +1,12 @@
 -- Reading a snapshot from left to right, up to the first fault. A step gives a value and the bytes after it.
-use Rattle.std.specs.Prelude.{◌≡◌, ℕ, zero, suc, ◌^◌, Bool, ◌&&◌, ◌==◌, nat_lt, nat_le, if◌then◌else◌, List, [], ◌∷◌, take, drop, slice_index, count_by, Option, Some, None, Result, Ok, Err}
-use Rattle.std.specs.Int.{w64, from_be_bytes}
+use Rattle.std.specs.Prelude.{ℕ, zero, suc, ◌^◌, Bool, true, false, ◌&&◌, ◌==◌, nat_lt, nat_le, if◌then◌else◌, List, [], ◌∷◌, slice_index, count_by, Option, Result, Ok, Err}
 use Rattle.std.specs.Str.{bytes_eq}
 use Rattle.sha2.specs.Sha256.{sha256}
 use Rattle.rh_layout.specs.declared.limits.TheConstants.{MIN_BITS}
 use Rattle.rh_layout.specs.Key.{is_full}
 use Rattle.rh_layout.specs.Test.{layout_test}
-use Rattle.rh_key_files.specs.Reading.{begins_with_bytes}
+use Rattle.rh_key_files.specs.Input as input
+use Rattle.rh_key_files.specs.Input.{◌>>=◌, bytes_at, number_at, end_at, AreAll, BeginsWith}
 use Rattle.rh_snapshot.specs.declared.version.Version.{Version}
 use Rattle.rh_snapshot.specs.declared.version.Version.TheVariants.{First, Second}
 use Rattle.rh_snapshot.specs.declared.header.Header.{Header}
@@ -16,15 +16,6 @@ use Rattle.rh_snapshot.specs.declared.fault.SnapFault.TheVariants as faults
 use Rattle.rh_snapshot.specs.declared.fault.SnapFault.TheVariants.{NotSnapshot, Short, BadBits, Damaged, NotALayout, Long}
 use Rattle.rh_snapshot.specs.Snapshot.{magic, most_bits, cells_as, text_of, Table, table_with, IsSnapshot}
 
--- one step, and then the next
-infixl 10 ◌>>=◌
-abbrev pub ◌>>=◌ : {A B : Type 0} → Result A SnapFault → (A → Result B SnapFault) → Result B SnapFault
-(Ok x) >>= f = f x
-(Err e) >>= f = Err e
-
-unfoldable pub bytes_at : ℕ → List ℕ → Result (List ℕ × List ℕ) SnapFault
-bytes_at n bytes = if begins_with_bytes n bytes then Ok (take n bytes, drop n bytes) else Err Short
-
 -- the version whose magic the four bytes are
 abbrev pub named : List ℕ × List ℕ → Result (Version × List ℕ) SnapFault
 named four =
@@ -33,7 +24,7 @@ named four =
     else Err NotSnapshot
 
 unfoldable pub version_at : List ℕ → Result (Version × List ℕ) SnapFault
-version_at bytes = bytes_at 4 bytes >>= named
+version_at bytes = bytes_at Short 4 bytes >>= named
 
 abbrev pub are_bits : Version → ℕ → Bool
 are_bits version bits = nat_le MIN_BITS bits && nat_le bits (most_bits version)
@@ -42,19 +33,13 @@ abbrev pub bits_in : Version → List ℕ × List ℕ → Result (ℕ × List �
 bits_in version one = if are_bits version (slice_index one.0 0) then Ok (slice_index one.0 0, one.1) else Err BadBits
 
 unfoldable pub bits_at : Version → List ℕ → Result (ℕ × List ℕ) SnapFault
-bits_at version bytes = bytes_at 1 bytes >>= bits_in version
-
-abbrev pub number_in : List ℕ × List ℕ → Result (ℕ × List ℕ) SnapFault
-number_in eight = Ok (from_be_bytes w64 eight.0, eight.1)
-
-unfoldable pub number_at : List ℕ → Result (ℕ × List ℕ) SnapFault
-number_at bytes = bytes_at 8 bytes >>= number_in
+bits_at version bytes = bytes_at Short 1 bytes >>= bits_in version
 
 abbrev pub with_count : Version → (bits : ℕ) → ℕ × List ℕ → Result (Header × List ℕ) SnapFault
 with_count version bits count = Ok (record { version = version; bits = bits; count = count.0 }, count.1)
 
 abbrev pub after_bits : Version → ℕ × List ℕ → Result (Header × List ℕ) SnapFault
-after_bits version bits = number_at bits.1 >>= with_count version bits.0
+after_bits version bits = number_at Short bits.1 >>= with_count version bits.0
 
 abbrev pub after_version : Version × List ℕ → Result (Header × List ℕ) SnapFault
 after_version version = bits_at version.0 version.1 >>= after_bits version.0
@@ -67,7 +52,7 @@ header_at bytes = version_at bytes >>= after_version
 unfoldable pub numbers_at : ℕ → List ℕ → Result (List ℕ × List ℕ) SnapFault
 numbers_at zero bytes = Ok ([], bytes)
 numbers_at (suc n) bytes =
-    number_at bytes >>= (λ first. numbers_at n first.1 >>= (λ others. Ok (first.0 ∷ others.0, others.1)))
+    number_at Short bytes >>= (λ first. numbers_at n first.1 >>= (λ others. Ok (first.0 ∷ others.0, others.1)))
 
 abbrev pub is_sealed : Header → (numbers seal : List ℕ) → Bool
 is_sealed header numbers seal = bytes_eq (sha256 (text_of header numbers)) seal
@@ -84,17 +69,12 @@ table_in header numbers seal =
     if is_sealed header numbers seal then (if is_table header numbers then Ok (table_with header numbers seal) else Err NotALayout)
     else Err Damaged
 
--- nothing comes after the seal
-unfoldable pub end_at : List ℕ → Result (List ℕ × List ℕ) SnapFault
-end_at [] = Ok ([], [])
-end_at (b ∷ bytes) = Err Long
-
 abbrev pub ended : List ℕ → Table → Result (Table × List ℕ) SnapFault
-ended bytes table = end_at bytes >>= (λ end. Ok (table, end.1))
+ended bytes table = end_at Long bytes >>= (λ end. Ok (table, end.1))
 
 abbrev pub after_numbers : Header → List ℕ × List ℕ → Result (Table × List ℕ) SnapFault
 after_numbers header numbers =
-    bytes_at 32 numbers.1 >>= (λ seal. table_in header numbers.0 seal.0 >>= ended seal.1)
+    bytes_at Short 32 numbers.1 >>= (λ seal. table_in header numbers.0 seal.0 >>= ended seal.1)
 
 abbrev pub after_header : Header × List ℕ → Result (Table × List ℕ) SnapFault
 after_header header = numbers_at (2 ^ header.0.bits) header.1 >>= after_numbers header.0
@@ -106,38 +86,24 @@ file_table bytes = header_at bytes >>= after_header
 -- ---- what is said of a reader's bytes
 
 -- A failed read and want of memory say nothing of the bytes.
+abbrev pub is_silent : SnapFault → Bool
+is_silent faults.Read = true
+is_silent faults.Memory = true
+is_silent e = false
+
 abbrev pub Fails : {X : Type 0} → SnapFault → Result X SnapFault → Type 0
-Fails faults.Read said = Unit {0}
-Fails faults.Memory said = Unit {0}
-Fails NotSnapshot said = said ≡ Err NotSnapshot
-Fails Short said = said ≡ Err Short
-Fails BadBits said = said ≡ Err BadBits
-Fails Damaged said = said ≡ Err Damaged
-Fails NotALayout said = said ≡ Err NotALayout
-Fails Long said = said ≡ Err Long
+Fails e said = input.Fails is_silent e said
 
--- a view of a call that hands its value out behind a reference
-abbrev pub always : {X Y : Type 0} → Y → X → Y
-always y x = y
-
--- Where the bytes are known, the answer, seen by view, and the bytes that are left are what this
--- reading of them gives.
 abbrev pub Reads : {X Y : Type 0} → Option (List ℕ) → Option (List ℕ) → (List ℕ → Result (Y × List ℕ) SnapFault) → (X → Y) → Result X SnapFault → Type 0
-Reads None new reading view r = Unit {0}
-Reads (Some bytes) new reading view (Err e) = Fails e (reading bytes)
-Reads (Some bytes) None reading view (Ok x) = ⊥
-Reads (Some bytes) (Some rest) reading view (Ok x) = reading bytes ≡ Ok (view x, rest)
+Reads old new reading view r = input.Reads is_silent old new reading view r
 
 -- known bytes begin with a header that can be read
 abbrev pub BeginsWithHeader : Option (List ℕ) → Type 0
-BeginsWithHeader None = Unit {0}
-BeginsWithHeader (Some bytes) = (header : Header × List ℕ) × (header_at bytes ≡ Ok header)
+BeginsWithHeader old = BeginsWith header_at old
 
 abbrev pub table_as : Snapshot → Table
 table_as s = record { bits = s.bits; count = s.count; cells = s.cells.items; seal = s.seal }
 
 -- Known bytes are a snapshot of this table, and none is left.
 abbrev pub IsReadFrom : Option (List ℕ) → Option (List ℕ) → Table → Type 0
-IsReadFrom None new table = Unit {0}
-IsReadFrom (Some bytes) None table = ⊥
-IsReadFrom (Some bytes) (Some rest) table = IsSnapshot bytes table × (rest ≡ [])
+IsReadFrom old new table = AreAll IsSnapshot old new table

@@ -1,5 +1,10 @@
 //! What can be wrong with a snapshot.
 
+ghost use Rattle.std.specs.Prelude.{refl};
+ghost use Rattle.rh_snapshot.specs.Reading.{is_silent};
+ghost use Rattle.rh_snapshot.specs.declared.fault.SnapFault.TheVariants.{Long, Memory, Read, Short};
+
+use rh_key_files::InputFault;
 use thiserror::Error;
 
 /// Why a snapshot could not be read.
@@ -24,4 +29,36 @@ pub enum SnapFault {
     Read,
     #[error("out of memory")]
     Memory,
+}
+
+impl InputFault for SnapFault {
+    ghost is_silent = { is_silent };
+
+    ghost short_fault = { Short };
+
+    ghost long_fault = { Long };
+
+    ghost read_fault = { Read };
+
+    ghost memory_fault = { Memory };
+
+    ghost are_faults = { record {
+      short_says = refl;
+      long_says = refl;
+      read_silent = refl;
+      memory_silent = refl;
+      apart = λ same. cc;
+    } };
+
+    fn short() -> SnapFault {
+        SnapFault::Short
+    }
+
+    fn long() -> SnapFault {
+        SnapFault::Long
+    }
+
+    fn read() -> SnapFault {
+        SnapFault::Read
+    }
 }

@@ -1,44 +1,22 @@
-//! The parts of a snapshot, read one after the other.
+//! The parts of a snapshot before its end, read one after the other.
 
-ghost use Rattle.std.specs.Prelude.{◌≡◌, ◌≢◌, ◌*◌, ◌^◌, [], length, Err, IfOk, IsErrOf};
+ghost use Rattle.std.specs.Prelude.{◌≡◌, ◌≢◌, ◌*◌, ◌^◌, length, Err, IfOk, IsErrOf};
 ghost use Rattle.sha2.specs.Sha256.{sha256};
 ghost use Rattle.rh_layout.specs.Key.{IsBits};
 ghost use Rattle.rh_key_files.specs.Counting.{Rose, failures_of, inner_of};
 ghost use Rattle.rh_key_files.specs.Taking.{TakesAtMost};
-ghost use Rattle.rh_snapshot.specs.Limits.{fault_of, header_taken, magic_bytes, numbers_taken};
-ghost use Rattle.rh_snapshot.specs.Limits.{seal_bytes};
+ghost use Rattle.rh_key_files.specs.Input.{always, bytes_at, fault_of};
+ghost use Rattle.rh_snapshot.specs.Limits.{header_taken, magic_bytes, numbers_taken, seal_bytes};
 ghost use Rattle.rh_snapshot.specs.Snapshot.{text_of};
-ghost use Rattle.rh_snapshot.specs.Reading.{Reads, always, bytes_at, version_at, bits_at};
-ghost use Rattle.rh_snapshot.specs.Reading.{number_at, header_at, numbers_at, end_at};
+ghost use Rattle.rh_snapshot.specs.Reading.{Reads, version_at, bits_at, header_at, numbers_at};
 
 use crate::fault::SnapFault;
 use crate::header::Header;
 use crate::version::Version;
-use byteorder::{BigEndian, ByteOrder};
-use rh_key_files::{Counted, fill};
+use rh_key_files::{Counted, read_bytes, read_number};
 use sha2::{Digest, Sha256};
 use std::alloc::Global;
 use std::io::Read;
-
-/// Fills the buffer.
-fn read_bytes<R: Read>(reader: &mut Counted<R>, buf: &mut [u8]) -> Result<(), SnapFault>
-    ensures known { Reads (R.remaining (inner_of reader.old)) (R.remaining (inner_of reader.new))
-        (bytes_at (length buf.new)) (always buf.new) result }
-    ensures takes { TakesAtMost (R.remaining (inner_of reader.old))
-        (R.remaining (inner_of reader.new)) (length buf.new) }
-    ensures read { IsErrOf result SnapFault.Read →
-        Rose (failures_of reader.old) (failures_of reader.new) }
-    ensures no_memory { IsErrOf result SnapFault.Memory → ⊥ }
-    ensures fine { result ≢ Err SnapFault.Read → failures_of reader.new ≡ failures_of reader.old }
-{
-    let Some(n) = fill(reader, buf) else {
-        return Err(SnapFault::Read);
-    };
-    if n < buf.len() {
-        return Err(SnapFault::Short);
-    }
-    Ok(())
-}
 
 fn read_version<R: Read>(reader: &mut Counted<R>) -> Result<Version, SnapFault>
     ensures known { Reads (R.remaining (inner_of reader.old)) (R.remaining (inner_of reader.new))
@@ -51,7 +29,7 @@ fn read_version<R: Read>(reader: &mut Counted<R>) -> Result<Version, SnapFault>
     ensures fine { result ≢ Err SnapFault.Read → failures_of reader.new ≡ failures_of reader.old }
 {
     let mut four = [0u8; 4];
-    read_bytes(reader, &mut four)?;
+    read_bytes::<_, SnapFault>(reader, &mut four)?;
     if four == Version::First.magic() {
         return Ok(Version::First);
     }
@@ -73,27 +51,12 @@ fn read_bits<R: Read>(reader: &mut Counted<R>, version: Version) -> Result<u32, 
     ensures fine { result ≢ Err SnapFault.Read → failures_of reader.new ≡ failures_of reader.old }
 {
     let mut one = [0u8; 1];
-    read_bytes(reader, &mut one)?;
+    read_bytes::<_, SnapFault>(reader, &mut one)?;
     let bits = u32::from(one[0]);
     if !version.allows(bits) {
         return Err(SnapFault::BadBits);
     }
     Ok(bits)
-}
-
-fn read_number<R: Read>(reader: &mut Counted<R>) -> Result<u64, SnapFault>
-    ensures known { Reads (R.remaining (inner_of reader.old)) (R.remaining (inner_of reader.new))
-        number_at (λ n. n) result }
-    ensures takes { TakesAtMost (R.remaining (inner_of reader.old))
-        (R.remaining (inner_of reader.new)) 8 }
-    ensures read { IsErrOf result SnapFault.Read →
-        Rose (failures_of reader.old) (failures_of reader.new) }
-    ensures no_memory { IsErrOf result SnapFault.Memory → ⊥ }
-    ensures fine { result ≢ Err SnapFault.Read → failures_of reader.new ≡ failures_of reader.old }
-{
-    let mut eight = [0u8; 8];
-    read_bytes(reader, &mut eight)?;
-    Ok(BigEndian::read_u64(&eight))
 }
 
 pub(crate) fn read_header<R: Read>(reader: &mut Counted<R>) -> Result<Header, SnapFault>
@@ -109,7 +72,7 @@ pub(crate) fn read_header<R: Read>(reader: &mut Counted<R>) -> Result<Header, Sn
 {
     let version = read_version(reader)?;
     let bits = read_bits(reader, version)?;
-    let count = read_number(reader)?;
+    let count = read_number::<_, SnapFault>(reader)?;
     Ok(Header {
         version,
         bits,
@@ -137,7 +100,7 @@ fn fill_numbers<R: Read>(
 {
     let mut hasher = header.hasher();
     for slot in numbers.iter_mut() {
-        let number = read_number(reader)?;
+        let number = read_number::<_, SnapFault>(reader)?;
         hasher.update(number.to_be_bytes());
         *slot = number;
     }
@@ -169,7 +132,7 @@ pub(crate) fn read_numbers<R: Read>(
 
 pub(crate) fn read_seal<R: Read>(reader: &mut Counted<R>) -> Result<[u8; 32], SnapFault>
     ensures known { Reads (R.remaining (inner_of reader.old)) (R.remaining (inner_of reader.new))
-        (bytes_at 32) (λ s. s) result }
+        (bytes_at SnapFault.Short 32) (λ s. s) result }
     ensures takes { TakesAtMost (R.remaining (inner_of reader.old))
         (R.remaining (inner_of reader.new)) seal_bytes }
     ensures read { IsErrOf result SnapFault.Read →
@@ -178,26 +141,6 @@ pub(crate) fn read_seal<R: Read>(reader: &mut Counted<R>) -> Result<[u8; 32], Sn
     ensures fine { result ≢ Err SnapFault.Read → failures_of reader.new ≡ failures_of reader.old }
 {
     let mut seal = [0u8; 32];
-    read_bytes(reader, &mut seal)?;
+    read_bytes::<_, SnapFault>(reader, &mut seal)?;
     Ok(seal)
-}
-
-pub(crate) fn read_end<R: Read>(reader: &mut Counted<R>) -> Result<(), SnapFault>
-    ensures known { Reads (R.remaining (inner_of reader.old)) (R.remaining (inner_of reader.new))
-        end_at (λ _. []) result }
-    ensures takes { TakesAtMost (R.remaining (inner_of reader.old))
-        (R.remaining (inner_of reader.new)) 1 }
-    ensures read { IsErrOf result SnapFault.Read →
-        Rose (failures_of reader.old) (failures_of reader.new) }
-    ensures no_memory { IsErrOf result SnapFault.Memory → ⊥ }
-    ensures fine { result ≢ Err SnapFault.Read → failures_of reader.new ≡ failures_of reader.old }
-{
-    let mut more = [0u8; 1];
-    let Some(n) = fill(reader, &mut more) else {
-        return Err(SnapFault::Read);
-    };
-    if n > 0 {
-        return Err(SnapFault::Long);
-    }
-    Ok(())
 }

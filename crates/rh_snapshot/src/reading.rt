@@ -5,15 +5,16 @@ ghost use Rattle.std.specs.FinSet as set;
 ghost use Rattle.rh_layout.specs.Layout.{IsLayout, keys_of};
 ghost use Rattle.rh_key_files.specs.Counting.{Rose, failures_of, inner_of};
 ghost use Rattle.rh_key_files.specs.Taking.{TakesAtMost};
-ghost use Rattle.rh_snapshot.specs.Limits.{TakesOfFile, fault_of, most_bytes};
+ghost use Rattle.rh_key_files.specs.Input.{fault_of};
+ghost use Rattle.rh_snapshot.specs.Limits.{TakesOfFile, most_bytes};
 ghost use Rattle.rh_snapshot.specs.Reading.{BeginsWithHeader, IsReadFrom, Reads, file_table};
 ghost use Rattle.rh_snapshot.specs.Reading.{table_as};
 
 use crate::cells::table_in;
 use crate::fault::SnapFault;
-use crate::parts::{read_end, read_header, read_numbers, read_seal};
+use crate::parts::{read_header, read_numbers, read_seal};
 use crate::snapshot::Snapshot;
-use rh_key_files::Counted;
+use rh_key_files::{Counted, read_end};
 use std::alloc::Global;
 use std::io::Read;
 
@@ -48,6 +49,6 @@ pub fn read_snapshot<R: Read>(alloc: Global, reader: &mut Counted<R>) -> Result<
     let Some(snapshot) = table_in(header, numbers, seal) else {
         return Err(SnapFault::NotALayout);
     };
-    read_end(reader)?;
+    read_end::<_, SnapFault>(reader)?;
     Ok(snapshot)
 }

@@ -1,7 +1,8 @@
 use Rattle.std.proofs.Common.{◌≡◌, ◌≤◌, ◌-◌, ◌*◌, length, take, Ok}
 use Rattle.std.specs.Prelude.{All}
 use Rattle.rh_layout.specs.Key.{IsKey}
-use Rattle.rh_key_files.specs.Reading.{Reads, always, keys_at}
+use Rattle.rh_key_files.specs.Input.{always}
+use Rattle.rh_key_files.specs.Reading.{Reads, keys_at}
 use Rattle.rh_key_files.specs.Taking.{TakesAtMost}
 use Rattle.rh_key_files.proofs.batch.read_keys.Given as goal
 

@@ -2,9 +2,12 @@ use Rattle.std.specs.Vec.{with_items}
 use Rattle.std.proofs.lemmas.List.{with_items_is}
 use Rattle.std.proofs.lemmas.Result.{err_from_is_err_and}
 use Rattle.std.proofs.Common.{◌≡◌, length, Some, None, rules}
-use Rattle.rh_key_files.specs.Limits.{fault_of}
+use Rattle.rh_key_files.specs.Input.{fault_of}
 use Rattle.rh_key_files.proofs.Whole.{as_many, whole_ok, header_faults, keys_fault, end_faults, Reads-moved}
-use Rattle.rh_key_files.proofs.Grammar.{read_from}
+use Rattle.rh_key_files.proofs.Grammar.{file_read}
+use Rattle.rh_key_files.proofs.Reading.{read_from}
+use Rattle.rh_key_files.specs.KeyFile.{IsKeyFile}
+use Rattle.rh_key_files.specs.Reading.{file_keys, is_silent}
 use Rattle.rh_key_files.proofs.Bounds.{HeaderRead, file_stops_in_keys, file_stops_at_end, file_taken, of_file_moved, takes_of_any_file}
 use Rattle.rh_key_files.proofs.keys.read_keys.Goals as goal
 
@@ -35,7 +38,7 @@ returns-clause-known g c =
     Reads-moved _ _ _ _ _ _ (search rules) (whole_ok (λ v. v.items) s.version s.count _ _ _ _ c.read_all.new.keys (with_items c.in-Ok.keys c.read_all.new.keys) items c.in_ok-stream.ensures.header (as_many _ _ _ _ _ _ _ many c.in_ok-read_all.ensures.known) c.in_ok-read_end.ensures.known)
 
 pub returns-clause-spelled : goal.returns-clause-spelled
-returns-clause-spelled g c = read_from _ _ (λ v. v.items) _ (returns-clause-known g c)
+returns-clause-spelled g c = read_from is_silent IsKeyFile _ _ file_keys (λ v. v.items) _ file_read (returns-clause-known g c)
 
 -- ---- the bytes that were taken
 

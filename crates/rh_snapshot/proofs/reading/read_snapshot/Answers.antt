@@ -1,12 +1,15 @@
 use Rattle.std.proofs.Common.{◌≡◌, ◌*◌, ◌^◌, true, false, Some, None, le_refl, rules}
 use Rattle.std.proofs.lemmas.Result.{err_from_is_err_and}
-use Rattle.rh_snapshot.specs.Reading.{is_sealed, table_as}
+use Rattle.rh_snapshot.specs.Reading.{file_table, is_sealed, is_silent, table_as}
+use Rattle.rh_snapshot.specs.Snapshot.{IsSnapshot}
 use Rattle.rh_snapshot.proofs.Whole.{header_faults, numbers_fault, seal_faults, refused, end_faults, whole_ok, damaged, no_layout, is_good}
 use Rattle.rh_snapshot.proofs.Keys.{good}
-use Rattle.rh_snapshot.proofs.Grammar.{read_from}
+use Rattle.rh_snapshot.proofs.Grammar.{file_read}
+use Rattle.rh_key_files.proofs.Reading.{read_from}
 use Rattle.rh_key_files.proofs.Taking.{takes_then}
 use Rattle.rh_snapshot.specs.declared.fault.SnapFault.TheVariants.{Damaged, NotALayout}
-use Rattle.rh_snapshot.specs.Limits.{fault_of, sealed_bytes, whole_bytes, header_bytes}
+use Rattle.rh_key_files.specs.Input.{fault_of}
+use Rattle.rh_snapshot.specs.Limits.{sealed_bytes, whole_bytes, header_bytes}
 use Rattle.rh_snapshot.proofs.Bounds.{takes_within, takes_sealed, file_stops_in_numbers, file_stops_in_seal, file_stops_at_end, takes_of_any_file}
 use Rattle.rh_snapshot.proofs.reading.read_snapshot.Goals as goal
 
@@ -59,7 +62,7 @@ returns-clause-known g c =
     (is_good header numbers c.in_ok-seal.seal good (search rules)) c.in_ok-read_end.ensures.known
 
 pub returns-clause-spelled : goal.returns-clause-spelled
-returns-clause-spelled g c = read_from _ _ table_as c.in-Some.snapshot (returns-clause-known g c)
+returns-clause-spelled g c = read_from is_silent IsSnapshot _ _ file_table table_as c.in-Some.snapshot file_read (returns-clause-known g c)
 
 pub returns-clause-layout : goal.returns-clause-layout
 returns-clause-layout g c = (good c.in_ok-header.header c.in_ok-numbers.numbers.items c.in_ok-seal.seal (table_as c.in-Some.snapshot) c.in-Some.ensures.table (search rules)).layout

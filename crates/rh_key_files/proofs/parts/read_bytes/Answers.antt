@@ -1,9 +1,0 @@
-use Rattle.rh_key_files.proofs.Reading.{Reads-full, Reads-short}
-use Rattle.rh_key_files.specs.Reading.{always}
-use Rattle.rh_key_files.proofs.parts.read_bytes.Goals as goal
-
-pub returns-then-n-buf-clause-known : goal.returns-then-n-buf-clause-known
-returns-then-n-buf-clause-known g c = Reads-short _ _ c.fill.new.buf c.in-Some.n (always c.fill.new.buf) c.if-n-buf.true c.in-Some.ensures.bytes (c.in-Some.ensures.end c.if-n-buf.true)
-
-pub returns-clause-known : goal.returns-clause-known
-returns-clause-known g c = Reads-full _ _ c.fill.new.buf c.in-Some.n c.if-n-buf.false (λ i. (c.type_inv.buf i).fits) c.in-Some.ensures.bytes
