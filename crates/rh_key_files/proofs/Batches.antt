@@ -3,26 +3,16 @@ use Rattle.std.proofs.Common.{◌≡◌, ℕ, zero, suc, ◌+◌, ◌-◌, ◌�
 use borrow.Rule.Slice.PartMut.{put_mid, post_of}
 use Rattle.rh_key_files.specs.declared.version.Version.{Version}
 use Rattle.rh_key_files.specs.declared.fault.KeyFault.{KeyFault}
-use Rattle.rh_key_files.specs.Input.{◌>>=◌, always}
+use Rattle.rh_key_files.specs.Input.{◌>>=◌, always, with_head}
 use Rattle.rh_key_files.specs.Reading.{Reads, key_at, keys_at, is_silent}
-use Rattle.rh_key_files.proofs.Reading.{Fails-then, Reads-ok}
+use Rattle.rh_key_files.proofs.Reading.{Fails-then, Reads-ok, with_front, nothing_before}
 
 abbrev Read : Type 0
 Read = Result (List ℕ × List ℕ) KeyFault
 
-abbrev pub with_front : List ℕ → List ℕ × List ℕ → Read
-with_front front q = Ok (front ++ q.0, q.1)
-
-abbrev pub with_head : ℕ → List ℕ × List ℕ → Read
-with_head x q = Ok (x ∷ q.0, q.1)
-
 -- the keys of a batch, and then those of the next
 abbrev pub and_next : Version → ℕ → ℕ → List ℕ × List ℕ → Read
 and_next version index n p = keys_at version index n p.1 >>= with_front p.0
-
-nothing_before : (r : Read) → (r >>= with_front []) ≡ r
-nothing_before (Ok x) = refl
-nothing_before (Err e) = refl
 
 head_last : (x : ℕ) (front : List ℕ) (r : Read) → ((r >>= with_front front) >>= with_head x) ≡ (r >>= with_front (x ∷ front))
 head_last x front (Ok y) = refl

@@ -1,5 +1,5 @@
 -- Which faults come where, and how many bytes are taken before they are told.
-use Rattle.std.proofs.Common.{◌≡◌, ◌∙◌, refl, sym, ap, subst, ℕ, zero, suc, ◌+◌, ◌*◌, ◌≤◌, le_refl, List, ◌∷◌, Option, Some, None, Result, Ok, Err, inl, inr, arith}
+use Rattle.std.proofs.Common.{◌≡◌, ◌∙◌, refl, sym, ap, subst, ℕ, zero, suc, ◌+◌, ◌*◌, ◌≤◌, le_refl, List, Option, Some, None, Result, Ok, Err, inl, inr, arith}
 use Rattle.std.specs.Prelude.{nat_lt, IfErr, IsErrOf}
 use Rattle.std.proofs.lemmas.Bool.{cases_Bool}
 use Rattle.rh_key_files.specs.declared.version.Version.{Version}
@@ -8,14 +8,14 @@ use Rattle.rh_key_files.specs.declared.parts.TheConstants.{MAX_KEYS}
 use Rattle.rh_key_files.specs.declared.fault.KeyFault.{KeyFault}
 use Rattle.rh_key_files.specs.declared.fault.KeyFault.TheVariants as faults
 use Rattle.rh_key_files.specs.declared.fault.KeyFault.TheVariants.{NotKeys, Short, TooMany, BadKey, Long}
-use Rattle.rh_key_files.specs.Input.{◌>>=◌, number_at, end_at}
+use Rattle.rh_key_files.specs.declared.header.Header.{Header}
+use Rattle.rh_key_files.specs.Input.{◌>>=◌, number_at, end_at, with_head}
 use Rattle.rh_key_files.specs.Reading.{Fails, Reads, few, count_at, is_key_in, in_range, key_at, keys_at, header_at}
 use Rattle.rh_key_files.specs.Taking.{TakesAtMost}
 use Rattle.rh_key_files.specs.Limits.{magic_bytes, header_bytes, header_taken, keys_taken, whole_bytes, most_bytes, file_bytes, count_in, count_said, TakesOfFile}
 use Rattle.rh_key_files.proofs.Taking.{takes_of_unknown, takes_fewer, takes_then, takes_both}
 use Rattle.rh_key_files.proofs.Told.{end_told, number_told, then_told}
 use Rattle.rh_key_files.proofs.Grammar.{header_read}
-use Rattle.rh_key_files.specs.declared.header.Header.{Header}
 
 -- ---- the header
 
@@ -67,8 +67,8 @@ keys_come : (version : Version) (index n : ℕ) (bytes : List ℕ) → ComesFrom
 unfolding keys_at
 keys_come version index zero bytes = tt
 keys_come version index (suc n) bytes =
-    then_told (IsFrom index) (key_at version index bytes) (λ first. keys_at version (index + 1) n first.1 >>= (λ others. Ok (first.0 ∷ others.0, others.1))) (key_comes version index bytes)
-    (λ first. then_told (IsFrom index) (keys_at version (index + 1) n first.1) (λ others. Ok (first.0 ∷ others.0, others.1)) (comes_before index (keys_at version (index + 1) n first.1) (keys_come version (index + 1) n first.1)) (λ others. tt))
+    then_told (IsFrom index) (key_at version index bytes) (λ first. keys_at version (index + 1) n first.1 >>= with_head first.0) (key_comes version index bytes)
+    (λ first. then_told (IsFrom index) (keys_at version (index + 1) n first.1) (with_head first.0) (comes_before index (keys_at version (index + 1) n first.1) (keys_come version (index + 1) n first.1)) (λ others. tt))
 
 -- a part in which there is a fault is the last that is taken
 part_within : (index done many all : ℕ) (e : KeyFault) (r : Result (List ℕ × List ℕ) KeyFault) → many ≤ PART_KEYS → done + many ≤ all → ComesFrom (index + done) r → Fails e r → 8 * done + 8 * many ≤ 8 * keys_taken index all (Some e)

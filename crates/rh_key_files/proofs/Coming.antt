@@ -8,16 +8,16 @@ use Rattle.rh_key_files.specs.declared.fault.KeyFault.TheVariants as faults
 use Rattle.rh_key_files.specs.declared.fault.KeyFault.TheVariants.{NotKeys, Short, TooMany, BadKey, Long}
 use Rattle.rh_key_files.specs.declared.stream.State.{State}
 use Rattle.rh_key_files.specs.declared.stream.State.TheVariants.{Open, Ended, Failed}
+use Rattle.rh_key_files.specs.declared.header.Header.{Header}
 use Rattle.rh_key_files.specs.Input.{◌>>=◌, end_at}
 use Rattle.rh_key_files.specs.Reading.{Fails, Reads, front_of, header_at, keys_at, batch_at, after_header, ended, file_keys, is_silent}
 use Rattle.rh_key_files.specs.Source.{Gives, ComesFrom, FaultComes, HasCount, keys_in, keys_of_file, keys_then}
 use Rattle.rh_key_files.specs.Stream.{answer_again, coming_in, keys_to_end, state_after}
-use Rattle.rh_key_files.proofs.Reading.{Fails-then}
+use Rattle.rh_key_files.proofs.Reading.{Fails-then, with_front}
 use Rattle.rh_key_files.proofs.Next.{none_left, some_left}
-use Rattle.rh_key_files.proofs.Batches.{keys_at-add, and_next, with_front}
+use Rattle.rh_key_files.proofs.Batches.{keys_at-add, and_next}
 use Rattle.rh_key_files.proofs.Parsed.{then_ok, same_value}
 use Rattle.rh_key_files.proofs.Grammar.{keys_read}
-use Rattle.rh_key_files.specs.declared.header.Header.{Header}
 
 abbrev Read : Type 0
 Read = Result (List ℕ × List ℕ) KeyFault

@@ -1,13 +1,12 @@
 -- The next batch, or the end.
-use Rattle.std.proofs.Common.{◌≡◌, ℕ, ◌<◌, min, List, [], ◌++◌, length, Option, Some, None, Ok, Err, refl, sym, ap, ◌∙◌, eq-eqb}
+use Rattle.std.proofs.Common.{◌≡◌, ℕ, ◌<◌, min, List, [], ◌++◌, length, Option, Some, None, Ok, Err, refl, sym, ap, ◌∙◌, eq-eqb, arith}
 use Rattle.std.proofs.lemmas.Bool.{ne_eqb}
-use Rattle.std.proofs.Common.{arith}
 use Rattle.std.proofs.lemmas.List.{take_at}
 use Rattle.rh_key_files.specs.declared.version.Version.{Version}
 use Rattle.rh_key_files.specs.declared.fault.KeyFault.{KeyFault}
+use Rattle.rh_key_files.specs.declared.fault.KeyFault.TheVariants.{Long}
 use Rattle.rh_key_files.specs.Input.{always, end_at}
 use Rattle.rh_key_files.specs.Reading.{CutShort, Reads, front_of, keys_at, batch_at}
-use Rattle.rh_key_files.specs.declared.fault.KeyFault.TheVariants.{Long}
 
 pub none_left : (version : Version) (index left room : ℕ) (bytes : List ℕ) → left ≡ 0 → batch_at version index left room bytes ≡ end_at Long bytes
 unfolding batch_at

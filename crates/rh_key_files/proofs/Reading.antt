@@ -7,6 +7,17 @@ use Rattle.std.specs.Io.KnownBytes.{Consumes, IsAtEnd}
 use Rattle.rh_key_files.specs.Input.{◌>>=◌, AreAll, Fails, Reads, always, bytes_at, end_at, number_at, number_in}
 use Rattle.rh_key_files.proofs.Spelled.{are_bytes, begins, begins_not}
 
+-- ---- lists of numbers
+
+abbrev pub with_front : {E : Type 0} → List ℕ → List ℕ × List ℕ → Result (List ℕ × List ℕ) E
+with_front front others = Ok (front ++ others.0, others.1)
+
+pub nothing_before : {E : Type 0} (r : Result (List ℕ × List ℕ) E) → (r >>= with_front []) ≡ r
+nothing_before (Ok p) = refl
+nothing_before (Err e) = refl
+
+-- ---- steps
+
 module _ {E : Type 0} (silent : E → Bool) where
   -- a fault of the first step is one of the whole
   pub Fails-then : {A B : Type 0} (e : E) (r : Result A E) (f : A → Result B E) → Fails silent e r → Fails silent e (r >>= f)

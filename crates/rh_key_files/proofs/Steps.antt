@@ -1,8 +1,7 @@
 -- The steps of the header.
-use Rattle.std.proofs.Common.{◌≡◌, ℕ, true, false, ◌<◌, ◌≤◌, List, Option, Ok, Err, refl}
+use Rattle.std.proofs.Common.{◌≡◌, ℕ, true, false, ◌<◌, ◌≤◌, List, Option, Ok, Err, refl, length}
 use Rattle.std.specs.Str.{bytes_eq}
 use Rattle.std.proofs.lemmas.Bool.{le-ltb, lt-ltb}
-use Rattle.std.proofs.Common.{length}
 use Rattle.rh_key_files.specs.declared.version.Version.{Version}
 use Rattle.rh_key_files.specs.declared.version.Version.TheVariants.{First, Second}
 use Rattle.rh_key_files.specs.declared.parts.TheConstants.{MAX_KEYS}

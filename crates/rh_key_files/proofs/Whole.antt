@@ -3,13 +3,13 @@ use Rattle.std.proofs.Common.{◌≡◌, ℕ, ◌<◌, ◌≤◌, min, List, [],
 use Rattle.std.proofs.lemmas.List.{take_all}
 use Rattle.rh_key_files.specs.declared.version.Version.{Version}
 use Rattle.rh_key_files.specs.declared.fault.KeyFault.{KeyFault}
+use Rattle.rh_key_files.specs.declared.fault.KeyFault.TheVariants.{Long}
+use Rattle.rh_key_files.specs.declared.header.Header.{Header}
 use Rattle.rh_key_files.specs.Input.{always, end_at}
 use Rattle.rh_key_files.specs.Reading.{Reads, front_of, header_at, keys_at, batch_at, after_header, ended, file_keys, is_silent}
 use Rattle.rh_key_files.proofs.Reading.{Fails-then}
 use Rattle.rh_key_files.proofs.Next.{none_left, some_left}
 use Rattle.rh_key_files.proofs.Batches.{no_keys}
-use Rattle.rh_key_files.specs.declared.fault.KeyFault.TheVariants.{Long}
-use Rattle.rh_key_files.specs.declared.header.Header.{Header}
 
 -- the batch of all keys
 pub all_keys : (version : Version) (n left room k : ℕ) (a b : Option (List ℕ)) (keys : List ℕ) → 0 < n → left ≡ n → room ≡ n → length keys ≡ n → k ≡ min room left → Reads a b (batch_at version 0 left room) (front_of keys) (Ok k) → Reads a b (keys_at version 0 n) (always {X = Unit {0}} keys) (Ok tt)

@@ -1,16 +1,15 @@
 -- Texts written one after another.
-use Rattle.std.proofs.Common.{◌≡◌, ℕ, zero, suc, ◌+◌, ◌-◌, ◌<◌, ◌≤◌, min, List, [], ◌∷◌, ◌++◌, length, take, drop, Option, Result, Ok, Err, refl, sym, ap, ◌∙◌, subst, arith, append_assoc, append-nil}
+use Rattle.std.proofs.Common.{◌≡◌, ℕ, zero, suc, ◌+◌, ◌-◌, ◌<◌, ◌≤◌, min, List, [], ◌∷◌, ◌++◌, length, take, drop, Option, Result, Ok, Err, refl, sym, ap, ◌∙◌, subst, arith, append_assoc, append-nil, inl, inr, get_or, eq-eqb, count_by, codes, flat_map}
 use Rattle.std.proofs.lemmas.List.{drop_all, take-append-le, take_all}
 use Rattle.std.specs.Io.KnownBytes.{Appends}
 use Rattle.std.proofs.KnownBytes.{Appends-trans, Appends-nil}
-use Rattle.rh_key_files.specs.Counting.{AppendsFront, Writes, joined}
 use Rattle.std.proofs.Math.Seq.{take-append-add, take-append_seam}
 use Rattle.std.proofs.lemmas.Bool.{cases_lt, ne_eqb}
-use Rattle.std.proofs.Common.{inl, inr, get_or, eq-eqb, count_by, codes, flat_map}
 use Rattle.std.specs.Borrow.{Bor}
 use Rattle.byteorder.specs.Endian.{big_bytes}
 use Rattle.rh_layout.specs.Key.{is_full, cell_of}
 use Rattle.rh_key_files.specs.declared.version.Version.TheVariants.{Second}
+use Rattle.rh_key_files.specs.Counting.{AppendsFront, Writes, joined}
 use Rattle.rh_key_files.specs.KeyFile.{eight_bytes, header, magic, spelled_keys, spelling}
 use Rattle.rh_key_files.specs.Dump.{cell_text, line_of, lines_from, head_of, dump_text}
 

@@ -26,6 +26,10 @@ number_in eight = Ok (from_be_bytes w64 eight.0, eight.1)
 unfoldable pub number_at : {E : Type 0} → (short : E) → List ℕ → Result (ℕ × List ℕ) E
 number_at short bytes = bytes_at short 8 bytes >>= number_in
 
+-- a list of numbers, with this one before it
+abbrev pub with_head : {E : Type 0} → ℕ → List ℕ × List ℕ → Result (List ℕ × List ℕ) E
+with_head n others = Ok (n ∷ others.0, others.1)
+
 -- nothing comes any more
 unfoldable pub end_at : {E : Type 0} → (long : E) → List ℕ → Result (List ℕ × List ℕ) E
 end_at long [] = Ok ([], [])

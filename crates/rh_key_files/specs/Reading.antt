@@ -1,5 +1,5 @@
 -- Reading a key file from left to right, up to the first fault. A step gives a value and the bytes after it.
-use Rattle.std.specs.Prelude.{◌≡◌, ℕ, zero, suc, ◌+◌, min, Bool, true, false, not, ◌&&◌, ◌==◌, nat_lt, nat_le, if◌then◌else◌, List, [], ◌∷◌, ◌++◌, take, Option, Some, None, Result, Ok, Err}
+use Rattle.std.specs.Prelude.{◌≡◌, ℕ, zero, suc, ◌+◌, min, Bool, true, false, not, ◌&&◌, ◌==◌, nat_lt, nat_le, if◌then◌else◌, List, [], ◌++◌, take, Option, Some, None, Result, Ok, Err}
 use Rattle.std.specs.Str.{bytes_eq}
 use Rattle.rh_layout.specs.declared.limits.TheConstants.{MAX_KEY}
 use Rattle.rh_key_files.specs.declared.version.Version.{Version}
@@ -10,7 +10,7 @@ use Rattle.rh_key_files.specs.declared.fault.KeyFault.{KeyFault}
 use Rattle.rh_key_files.specs.declared.fault.KeyFault.TheVariants as faults
 use Rattle.rh_key_files.specs.declared.fault.KeyFault.TheVariants.{NotKeys, Short, TooMany, BadKey, Long}
 use Rattle.rh_key_files.specs.Input as input
-use Rattle.rh_key_files.specs.Input.{◌>>=◌, bytes_at, number_at, end_at, AreAll, BeginsWith}
+use Rattle.rh_key_files.specs.Input.{◌>>=◌, bytes_at, number_at, with_head, end_at, AreAll, BeginsWith}
 use Rattle.rh_key_files.specs.KeyFile.{magic, least_key, IsKeyFile}
 
 -- the version whose magic the four bytes are
@@ -56,7 +56,7 @@ key_at version index bytes = number_at Short bytes >>= in_range version index
 unfoldable pub keys_at : Version → ℕ → ℕ → List ℕ → Result (List ℕ × List ℕ) KeyFault
 keys_at version index zero bytes = Ok ([], bytes)
 keys_at version index (suc n) bytes =
-    key_at version index bytes >>= (λ first. keys_at version (index + 1) n first.1 >>= (λ others. Ok (first.0 ∷ others.0, others.1)))
+    key_at version index bytes >>= (λ first. keys_at version (index + 1) n first.1 >>= with_head first.0)
 
 -- what a call with room for some keys gives, where so many are left
 unfoldable pub batch_at : Version → ℕ → ℕ → ℕ → List ℕ → Result (List ℕ × List ℕ) KeyFault
@@ -73,7 +73,7 @@ after_header header = keys_at header.0.version 0 header.0.count header.1 >>= end
 unfoldable pub file_keys : List ℕ → Result (List ℕ × List ℕ) KeyFault
 file_keys bytes = header_at bytes >>= after_header
 
--- ---- what is said of a reader's bytes
+-- ---- what is said of a reader's bytes, as of those of any file
 
 -- A failed read and want of memory say nothing of the bytes.
 abbrev pub is_silent : KeyFault → Bool
@@ -84,12 +84,12 @@ is_silent e = false
 abbrev pub Fails : {X : Type 0} → KeyFault → Result X KeyFault → Type 0
 Fails e said = input.Fails is_silent e said
 
+abbrev pub Reads : {X Y : Type 0} → Option (List ℕ) → Option (List ℕ) → (List ℕ → Result (Y × List ℕ) KeyFault) → (X → Y) → Result X KeyFault → Type 0
+Reads old new reading view r = input.Reads is_silent old new reading view r
+
 -- the keys that were put at the front of a slice
 abbrev pub front_of : List ℕ → ℕ → List ℕ
 front_of xs n = take n xs
-
-abbrev pub Reads : {X Y : Type 0} → Option (List ℕ) → Option (List ℕ) → (List ℕ → Result (Y × List ℕ) KeyFault) → (X → Y) → Result X KeyFault → Type 0
-Reads old new reading view r = input.Reads is_silent old new reading view r
 
 -- Where the bytes are known, those that were taken hold no fault: they only end early.
 abbrev pub CutShort : {Y : Type 0} → Option (List ℕ) → Option (List ℕ) → (List ℕ → Result (Y × List ℕ) KeyFault) → Type 0

@@ -2,16 +2,16 @@
 use Rattle.std.specs.Prelude.{ℕ, ◌-◌, List, [], Option, Some, None, Result, Ok, Err, ◌==◌, if◌then◌else◌, option_map}
 use Rattle.std.specs.Borrow.{GName}
 use Rattle.rh_key_files.specs.declared.counted.Counted.{Counted}
-use Rattle.rh_key_files.specs.Counting.{inner_of}
-use Rattle.rh_key_files.specs.Input.{◌>>=◌}
-use Rattle.rh_key_files.specs.Reading.{Reads, ended, header_at, keys_at}
-use Rattle.rh_key_files.specs.Source.{Coming, keys_in}
 use Rattle.rh_key_files.specs.declared.fault.KeyFault.{KeyFault}
 use Rattle.rh_key_files.specs.declared.version.Version.{Version}
 use Rattle.rh_key_files.specs.declared.header.Header.{Header}
 use Rattle.rh_key_files.specs.declared.stream.KeyStream.{KeyStream}
 use Rattle.rh_key_files.specs.declared.stream.State.{State}
 use Rattle.rh_key_files.specs.declared.stream.State.TheVariants.{Open, Ended, Failed}
+use Rattle.rh_key_files.specs.Counting.{inner_of}
+use Rattle.rh_key_files.specs.Input.{◌>>=◌}
+use Rattle.rh_key_files.specs.Reading.{Reads, ended, header_at, keys_at}
+use Rattle.rh_key_files.specs.Source.{Coming, keys_in}
 
 -- the reader that the stream took on loan
 abbrev pub reader_of : {R : Type 0} → KeyStream R → Counted R

@@ -1,6 +1,6 @@
 //! What can be wrong.
 
-ghost use Rattle.std.specs.Prelude.{refl};
+ghost use Rattle.std.proofs.Common.{rules};
 ghost use Rattle.rh_key_files.specs.Reading.{is_silent};
 ghost use Rattle.rh_key_files.specs.declared.fault.KeyFault.TheVariants.{Long, Memory, Read, Short};
 
@@ -39,13 +39,7 @@ impl InputFault for KeyFault {
 
     ghost memory_fault = { Memory };
 
-    ghost are_faults = { record {
-      short_says = refl;
-      long_says = refl;
-      read_silent = refl;
-      memory_silent = refl;
-      apart = λ same. cc;
-    } };
+    ghost are_faults = { Prim.search rules };
 
     fn short() -> KeyFault {
         KeyFault::Short

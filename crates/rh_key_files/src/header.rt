@@ -3,7 +3,6 @@
 use crate::version::Version;
 
 /// The header of a key file: its version and the number of its keys.
-#[derive(Clone, Copy)]
 pub(crate) struct Header {
     pub version: Version,
     pub count: u64,

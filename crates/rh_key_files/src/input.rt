@@ -1,4 +1,5 @@
-//! Bytes, numbers and the end of a binary file, read one after the other, with the faults of that file.
+//! Bytes, numbers and the end of a binary file, read one after the other. What is wrong is told as a
+//! fault of that file, which the caller names: `read_bytes::<_, KeyFault>(reader, &mut four)?`.
 
 ghost use Rattle.std.specs.Prelude.{◌≡◌, ◌≢◌, ℕ, Bool, [], length, Err, IsErrOf};
 ghost use Rattle.rh_key_files.specs.Counting.{Rose, failures_of, inner_of};
@@ -12,7 +13,7 @@ use std::io::Read;
 
 /// Why a file of some kind could not be read.
 pub trait InputFault: Copy {
-    /// Whether it says nothing of the bytes.
+    /// Whether the fault says nothing of the bytes.
     ghost is_silent: { Self → Bool };
 
     ghost short_fault: { Self };
@@ -21,6 +22,7 @@ pub trait InputFault: Copy {
 
     ghost read_fault: { Self };
 
+    /// Memory was refused, which is told of no part of a file here.
     ghost memory_fault: { Self };
 
     /// The file ends early.

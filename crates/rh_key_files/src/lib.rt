@@ -25,6 +25,8 @@
 //! - `write_keys`: a key file, which `one_spelling` takes back to its list. `write_header`: what
 //!   stands before its keys.
 //! - `write_dump`: the text of the dump, or a front of it where the writer failed.
+//! - `read_bytes`, `read_number`, `read_end`: what the bytes say, or the fault in them. `rh_snapshot`
+//!   reads by them too, so the faults are those of the file that is read.
 //! - `fill`: a buffer is filled up to the end of the input, or a read failed, and then no byte
 //!   beside those was taken.
 //! - `Counted` counts errors, and writes that took no byte. `HeldKeys`: keys in memory, which never

@@ -13,6 +13,7 @@ ghost use Rattle.rh_key_files.specs.Stream.{coming_of, count_of};
 
 use crate::counted::Counted;
 use crate::fault::KeyFault;
+use crate::header::Header;
 use crate::parts::read_header;
 use crate::stream::{KeyStream, State};
 use std::io::Read;
@@ -41,11 +42,11 @@ pub fn open_keys<R: Read>(reader: &mut Counted<R>) -> Result<KeyStream<'_, R>, K
         × TakesAtMost (R.remaining (inner_of reader.old)) (R.remaining (inner_of new))
         (header_taken (fault_of result)))) }
 {
-    let header = read_header(reader)?;
+    let Header { version, count } = read_header(reader)?;
     Ok(KeyStream {
         reader,
-        version: header.version,
-        count: header.count,
+        version,
+        count,
         taken: 0,
         state: State::Open,
     })

@@ -1,7 +1,7 @@
 -- A list that is read again: its keys, or why it is refused.
 use Rattle.std.proofs.Common.{◌≡◌, ◌∙◌, ap, sym, subst, refl, ℕ, ◌+◌, inl, inr, List, length, Option, Some, None, Result, Ok, Err, IsOk, is_ok}
 use Rattle.std.proofs.lemmas.Bool.{eq-eqb}
-use Rattle.rh_key_files.specs.declared.version.Version.{Version}
+use Rattle.rh_key_files.specs.declared.header.Header.{Header}
 use Rattle.rh_key_files.specs.declared.fault.KeyFault.{KeyFault}
 use Rattle.rh_key_files.specs.declared.fault.KeyFault.TheVariants as faults
 use Rattle.rh_key_files.specs.Counting.{Rose}
@@ -53,10 +53,10 @@ known_stands (Some files) list keys stands = (files, refl, stands)
 
 -- ---- what a list that stands gives again
 
-header_of_keys : (bytes keys : List ℕ) (read : Result ((Version × ℕ) × List ℕ) KeyFault) → header_at bytes ≡ read → keys_of_file bytes ≡ Ok keys → count_or_cause read ≡ Ok (length keys)
+header_of_keys : (bytes keys : List ℕ) (read : Result (Header × List ℕ) KeyFault) → header_at bytes ≡ read → keys_of_file bytes ≡ Ok keys → count_or_cause read ≡ Ok (length keys)
 unfolding file_keys
 header_of_keys bytes keys (Ok header) is all =
-    ap (λ (n : ℕ). Ok n) (sym (counts header.0.0 header.0.1 (Some bytes) (Some header.1) is keys all))
+    ap (λ (n : ℕ). Ok n) (sym (counts header.0 (Some bytes) (Some header.1) is keys all))
 header_of_keys bytes keys (Err fault) is all = let none : Err fault ≡ Ok keys = rw is at all in absurd cc
 
 the_keys : (said : Result (List ℕ) KeyFault) (keys : List ℕ) → keys_or_cause said ≡ Ok keys → said ≡ Ok keys

@@ -2,7 +2,7 @@
 use Rattle.std.specs.Prelude.{ℕ, ◌==◌, if◌then◌else◌, List, Option, Some, None, Result, Ok, Err}
 use Rattle.rh_layout.specs.Layout.{keys_of}
 use Rattle.rh_edit.specs.Held.{Held}
-use Rattle.rh_key_files.specs.declared.version.Version.{Version}
+use Rattle.rh_key_files.specs.declared.header.Header.{Header}
 use Rattle.rh_key_files.specs.declared.fault.KeyFault.{KeyFault}
 use Rattle.rh_key_files.specs.Reading.{header_at}
 use Rattle.rh_key_files.specs.Source.{keys_of_file}
@@ -33,8 +33,8 @@ table_found (Some bytes) = table_or_cause (file_table bytes)
 
 -- ---- a list whose number of keys was noted
 
-abbrev pub count_or_cause : Result ((Version × ℕ) × List ℕ) KeyFault → Result ℕ Cause
-count_or_cause (Ok header) = Ok header.0.1
+abbrev pub count_or_cause : Result (Header × List ℕ) KeyFault → Result ℕ Cause
+count_or_cause (Ok header) = Ok header.0.count
 count_or_cause (Err fault) = Err (Keys fault)
 
 -- the number of keys that the header says

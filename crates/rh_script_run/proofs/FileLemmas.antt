@@ -10,8 +10,9 @@ use Rattle.std.proofs.lemmas.Slice.Eq.{bytes_eq-Decides}
 use Rattle.rh_layout.specs.Layout.{Keys, keys_of}
 use Rattle.rh_layout.proofs.LayoutLemmas.{layout_keys, layout_own}
 use Rattle.rh_edit.specs.Held.{Held}
-use Rattle.rh_key_files.specs.declared.fault.KeyFault.TheVariants.{NotKeys}
-use Rattle.rh_key_files.specs.Reading.{◌>>=◌, after_header, after_version, bytes_at, file_keys, header_at, is_byte, named, version_at}
+use Rattle.rh_key_files.specs.declared.fault.KeyFault.TheVariants.{NotKeys, Short}
+use Rattle.rh_key_files.specs.Input.{◌>>=◌, bytes_at, is_byte}
+use Rattle.rh_key_files.specs.Reading.{after_header, after_version, file_keys, header_at, named, version_at}
 use Rattle.rh_key_files.specs.Source as source
 use Rattle.rh_key_files.specs.Source.{keys_of_file}
 use Rattle.rh_snapshot.specs.declared.version.Version.TheVariants.{Second}
@@ -38,7 +39,7 @@ given_file (Some bytes) = refl
 
 -- ---- a file that was found
 
-four_read : (a b c d : ℕ) (rest : List ℕ) → list_all is_byte (a ∷ b ∷ c ∷ d ∷ []) ≡ true → bytes_at 4 (a ∷ b ∷ c ∷ d ∷ rest) ≡ Ok (a ∷ b ∷ c ∷ d ∷ [], rest)
+four_read : (a b c d : ℕ) (rest : List ℕ) → list_all is_byte (a ∷ b ∷ c ∷ d ∷ []) ≡ true → bytes_at Short 4 (a ∷ b ∷ c ∷ d ∷ rest) ≡ Ok (a ∷ b ∷ c ∷ d ∷ [], rest)
 unfolding bytes_at
 four_read a b c d rest bytes =
     let long : nat_le 4 (length (a ∷ b ∷ c ∷ d ∷ rest)) ≡ true = le-leb _ _ (omega arith) in

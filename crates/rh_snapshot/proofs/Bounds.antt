@@ -1,23 +1,23 @@
 -- Which faults come where in a snapshot, and how many bytes are taken before they are told.
-use Rattle.std.proofs.Common.{◌≡◌, refl, sym, ap, subst, ℕ, zero, suc, ◌+◌, ◌*◌, ◌≤◌, ◌^◌, List, ◌∷◌, Option, Some, None, Result, Ok, Err, inl, inr, arith}
+use Rattle.std.proofs.Common.{◌≡◌, refl, sym, ap, subst, ℕ, zero, suc, ◌+◌, ◌*◌, ◌≤◌, ◌^◌, List, Option, Some, None, Result, Ok, Err, inl, inr, arith}
 use Rattle.std.specs.Prelude.{IsErrOf, slice_index, IfErr}
 use Rattle.std.proofs.Math.Pow.{pow_mono}
 use Rattle.std.proofs.lemmas.Bool.{cases_Bool}
 use Rattle.rh_layout.specs.declared.limits.TheConstants.{MAX_BITS}
 use Rattle.rh_key_files.specs.Taking.{TakesAtMost}
+use Rattle.rh_key_files.specs.Input.{◌>>=◌, bytes_at, number_at, end_at, with_head}
 use Rattle.rh_key_files.proofs.Taking.{takes_of_unknown, takes_fewer, takes_then, takes_both}
+use Rattle.rh_key_files.proofs.Told.{then_told, bytes_told, number_told, end_told}
 use Rattle.rh_snapshot.specs.declared.version.Version.{Version}
 use Rattle.rh_snapshot.specs.declared.version.Version.TheVariants.{First, Second}
 use Rattle.rh_snapshot.specs.declared.header.Header.{Header}
 use Rattle.rh_snapshot.specs.declared.fault.SnapFault.{SnapFault}
 use Rattle.rh_snapshot.specs.declared.fault.SnapFault.TheVariants as faults
 use Rattle.rh_snapshot.specs.declared.fault.SnapFault.TheVariants.{NotSnapshot, Short, BadBits, Damaged, NotALayout, Long}
-use Rattle.rh_key_files.specs.Input.{◌>>=◌, bytes_at, number_at, end_at}
 use Rattle.rh_snapshot.specs.Reading.{Fails, Reads, are_bits, bits_in, bits_at, header_at, numbers_at}
 use Rattle.rh_snapshot.specs.Limits.{magic_bytes, header_bytes, seal_bytes, header_taken, numbers_taken, sealed_bytes, whole_bytes, file_bytes, most_bytes, cells_in, cells_said, TakesOfFile}
 use Rattle.rh_snapshot.proofs.Whole.{HeaderRead}
 use Rattle.rh_snapshot.proofs.Grammar.{InRange, header_read}
-use Rattle.rh_key_files.proofs.Told.{then_told, bytes_told, number_told, end_told}
 
 -- ---- the header
 
@@ -65,8 +65,8 @@ numbers_later : (n : ℕ) (bytes : List ℕ) → IfErr (numbers_at n bytes) IsLa
 unfolding numbers_at
 numbers_later zero bytes = tt
 numbers_later (suc n) bytes =
-    then_told IsLater (number_at Short bytes) (λ first. numbers_at n first.1 >>= (λ others. Ok (first.0 ∷ others.0, others.1))) (number_later bytes)
-    (λ first. then_told IsLater (numbers_at n first.1) (λ others. Ok (first.0 ∷ others.0, others.1)) (numbers_later n first.1) (λ others. tt))
+    then_told IsLater (number_at Short bytes) (λ first. numbers_at n first.1 >>= with_head first.0) (number_later bytes)
+    (λ first. then_told IsLater (numbers_at n first.1) (with_head first.0) (numbers_later n first.1) (λ others. tt))
 
 -- the bytes do not end
 abbrev IsLong : SnapFault → Type 0

@@ -15,19 +15,17 @@ use Rattle.rh_layout.specs.Layout.{IsLayout, keys_of}
 use Rattle.rh_layout.proofs.CountLemmas.{count_of_layout}
 use Rattle.rh_layout.proofs.TestLemmas.{layout_decided}
 use Rattle.rh_key_files.specs.KeyFile.{eight_bytes}
-use Rattle.rh_key_files.specs.Input.{is_byte}
+use Rattle.rh_key_files.specs.Input.{is_byte, ◌>>=◌, bytes_at, number_at, end_at, with_head}
+use Rattle.rh_key_files.proofs.Parsed.{then_ok, same, same_value, same_rest, ok, bytes_read, number_read, end_read, bytes_given, number_given}
 use Rattle.rh_snapshot.specs.declared.version.Version.{Version}
 use Rattle.rh_snapshot.specs.declared.version.Version.TheVariants.{First, Second}
 use Rattle.rh_snapshot.specs.declared.header.Header.{Header}
 use Rattle.rh_snapshot.specs.declared.fault.SnapFault.TheVariants.{NotSnapshot, Short, BadBits, Damaged, NotALayout, Long}
 use Rattle.rh_snapshot.specs.Snapshot.{magic, most_bits, cells_as, header_of, spelled_header, spelled_numbers, text_of, spelling, SnapshotFile, Table, table_with, table_of, SnapshotOf, IsSnapshot}
-use Rattle.rh_key_files.specs.Input.{◌>>=◌, bytes_at, number_at, end_at}
 use Rattle.rh_snapshot.specs.Reading.{named, version_at, are_bits, bits_in, bits_at, with_count, after_bits, after_version, header_at, numbers_at, is_sealed, is_table, table_in, ended, after_numbers, after_header, file_table}
 use Rattle.rh_snapshot.proofs.Seal.{seal_bytes}
-use Rattle.rh_snapshot.proofs.Numbers.{with_head}
 use Rattle.rh_snapshot.proofs.Whole.{is_good}
 use Rattle.rh_snapshot.proofs.Keys.{numbers_fit, same_keys, tested}
-use Rattle.rh_key_files.proofs.Parsed.{then_ok, same, same_value, same_rest, ok, bytes_read, number_read, end_read, bytes_given, number_given}
 
 -- ---- what is read is spelled so
 

@@ -1,22 +1,16 @@
 -- Numbers one after the other, and their hash.
 use Rattle.std.proofs.Common.{◌≡◌, ℕ, suc, ◌+◌, ◌-◌, ◌<◌, List, [], ◌∷◌, ◌++◌, Option, Some, None, Result, Ok, Err, refl, sym, ap, ◌∙◌, subst, arith, append_assoc, append-nil}
 use Rattle.rh_key_files.specs.KeyFile.{eight_bytes}
+use Rattle.rh_key_files.specs.Input.{◌>>=◌, always, number_at, with_head}
+use Rattle.rh_key_files.proofs.Reading.{Fails-then, with_front, nothing_before}
 use Rattle.rh_snapshot.specs.declared.header.Header.{Header}
 use Rattle.rh_snapshot.specs.declared.fault.SnapFault.{SnapFault}
-use Rattle.rh_snapshot.specs.Snapshot.{spelled_header, spelled_numbers, text_of}
-use Rattle.rh_key_files.specs.Input.{◌>>=◌, always, number_at}
-use Rattle.rh_snapshot.specs.Reading.{Fails, Reads, numbers_at, is_silent}
-use Rattle.rh_key_files.proofs.Reading.{Fails-then}
 use Rattle.rh_snapshot.specs.declared.fault.SnapFault.TheVariants.{Short}
+use Rattle.rh_snapshot.specs.Snapshot.{spelled_header, spelled_numbers, text_of}
+use Rattle.rh_snapshot.specs.Reading.{Fails, Reads, numbers_at, is_silent}
 
 abbrev Read : Type 0
 Read = Result (List ℕ × List ℕ) SnapFault
-
-abbrev pub with_front : List ℕ → List ℕ × List ℕ → Read
-with_front front p = Ok (front ++ p.0, p.1)
-
-abbrev pub with_head : ℕ → List ℕ × List ℕ → Read
-with_head n p = Ok (n ∷ p.0, p.1)
 
 -- These numbers were read, and others may follow.
 abbrev pub ReadsOn : Option (List ℕ) → Option (List ℕ) → ℕ → List ℕ → Type 0
@@ -24,15 +18,11 @@ ReadsOn None b i front = Unit {0}
 ReadsOn (Some x) None i front = ⊥
 ReadsOn (Some x) (Some y) i front = (m : ℕ) → numbers_at (i + m) x ≡ (numbers_at m y >>= with_front front)
 
-nothing_before : (r : Read) → r ≡ (r >>= with_front [])
-nothing_before (Ok p) = refl
-nothing_before (Err e) = refl
-
 pub none_read : (a : Option (List ℕ)) → ReadsOn a a 0 []
 none_read None = tt
 none_read (Some x) = λ m.
     let k : 0 + m ≡ m = omega arith in
-    ap (λ j. numbers_at j x) k ∙ nothing_before (numbers_at m x)
+    ap (λ j. numbers_at j x) k ∙ sym (nothing_before (numbers_at m x))
 
 one_more : (front : List ℕ) (n : ℕ) (r : Read) → ((r >>= with_head n) >>= with_front front) ≡ (r >>= with_front (front ++ n ∷ []))
 one_more front n (Ok p) = ap (λ l. Ok (l, p.1)) (sym (append_assoc front (n ∷ []) p.0))

@@ -1,15 +1,15 @@
 -- The steps of the header.
 use Rattle.std.proofs.Common.{◌≡◌, ℕ, true, false, List, length, get_or, Option, Ok, Err, refl}
 use Rattle.std.specs.Str.{bytes_eq}
+use Rattle.rh_key_files.specs.Input.{always, bytes_at, number_at}
+use Rattle.rh_key_files.proofs.Reading.{Reads-fails, Reads-then, Reads-ok, Reads-err, Buffer, so_many}
 use Rattle.rh_snapshot.specs.declared.version.Version.{Version}
 use Rattle.rh_snapshot.specs.declared.version.Version.TheVariants.{First, Second}
 use Rattle.rh_snapshot.specs.declared.header.Header.{Header}
 use Rattle.rh_snapshot.specs.declared.fault.SnapFault.{SnapFault}
 use Rattle.rh_snapshot.specs.declared.fault.SnapFault.TheVariants.{NotSnapshot, BadBits, Short}
 use Rattle.rh_snapshot.specs.Snapshot.{magic}
-use Rattle.rh_key_files.specs.Input.{always, bytes_at, number_at}
 use Rattle.rh_snapshot.specs.Reading.{Reads, named, version_at, are_bits, bits_in, bits_at, after_version, after_bits, with_count, header_at, is_silent}
-use Rattle.rh_key_files.proofs.Reading.{Reads-fails, Reads-then, Reads-ok, Reads-err, Buffer, so_many}
 
 pub version_fails : (a b : Option (List ℕ)) (buf : List ℕ) (e : SnapFault) → length buf ≡ 4 → Buffer is_silent Short a b buf (Err e) → Reads a b version_at (λ (v : Version). v) (Err e)
 unfolding version_at

@@ -1,12 +1,12 @@
 -- A whole snapshot, read by its header, its numbers, its seal and its end.
 use Rattle.std.proofs.Common.{◌≡◌, ℕ, ◌^◌, true, false, List, Option, Some, None, Result, Ok, Err, refl}
+use Rattle.rh_key_files.specs.Input.{◌>>=◌, bytes_at, end_at}
+use Rattle.rh_key_files.proofs.Reading.{Fails-then}
 use Rattle.rh_snapshot.specs.declared.header.Header.{Header}
 use Rattle.rh_snapshot.specs.declared.fault.SnapFault.{SnapFault}
 use Rattle.rh_snapshot.specs.declared.fault.SnapFault.TheVariants.{Damaged, NotALayout, Long, Short}
 use Rattle.rh_snapshot.specs.Snapshot.{Table, table_with}
-use Rattle.rh_key_files.specs.Input.{◌>>=◌, bytes_at, end_at}
 use Rattle.rh_snapshot.specs.Reading.{Fails, Reads, BeginsWithHeader, header_at, numbers_at, is_sealed, is_table, table_in, after_header, after_numbers, ended, file_table, is_silent}
-use Rattle.rh_key_files.proofs.Reading.{Fails-then}
 
 abbrev pub HeaderRead : (a b : Option (List ℕ)) → Result Header SnapFault → Type 0
 HeaderRead a b r = Reads a b header_at (λ (h : Header). h) r

@@ -1,12 +1,12 @@
 -- Reading a snapshot from left to right, up to the first fault. A step gives a value and the bytes after it.
-use Rattle.std.specs.Prelude.{ℕ, zero, suc, ◌^◌, Bool, true, false, ◌&&◌, ◌==◌, nat_lt, nat_le, if◌then◌else◌, List, [], ◌∷◌, slice_index, count_by, Option, Result, Ok, Err}
+use Rattle.std.specs.Prelude.{ℕ, zero, suc, ◌^◌, Bool, true, false, ◌&&◌, ◌==◌, nat_lt, nat_le, if◌then◌else◌, List, [], slice_index, count_by, Option, Result, Ok, Err}
 use Rattle.std.specs.Str.{bytes_eq}
 use Rattle.sha2.specs.Sha256.{sha256}
 use Rattle.rh_layout.specs.declared.limits.TheConstants.{MIN_BITS}
 use Rattle.rh_layout.specs.Key.{is_full}
 use Rattle.rh_layout.specs.Test.{layout_test}
 use Rattle.rh_key_files.specs.Input as input
-use Rattle.rh_key_files.specs.Input.{◌>>=◌, bytes_at, number_at, end_at, AreAll, BeginsWith}
+use Rattle.rh_key_files.specs.Input.{◌>>=◌, bytes_at, number_at, with_head, end_at, AreAll, BeginsWith}
 use Rattle.rh_snapshot.specs.declared.version.Version.{Version}
 use Rattle.rh_snapshot.specs.declared.version.Version.TheVariants.{First, Second}
 use Rattle.rh_snapshot.specs.declared.header.Header.{Header}
@@ -52,7 +52,7 @@ header_at bytes = version_at bytes >>= after_version
 unfoldable pub numbers_at : ℕ → List ℕ → Result (List ℕ × List ℕ) SnapFault
 numbers_at zero bytes = Ok ([], bytes)
 numbers_at (suc n) bytes =
-    number_at Short bytes >>= (λ first. numbers_at n first.1 >>= (λ others. Ok (first.0 ∷ others.0, others.1)))
+    number_at Short bytes >>= (λ first. numbers_at n first.1 >>= with_head first.0)
 
 abbrev pub is_sealed : Header → (numbers seal : List ℕ) → Bool
 is_sealed header numbers seal = bytes_eq (sha256 (text_of header numbers)) seal
@@ -83,7 +83,7 @@ after_header header = numbers_at (2 ^ header.0.bits) header.1 >>= after_numbers 
 unfoldable pub file_table : List ℕ → Result (Table × List ℕ) SnapFault
 file_table bytes = header_at bytes >>= after_header
 
--- ---- what is said of a reader's bytes
+-- ---- what is said of a reader's bytes, as of those of any file
 
 -- A failed read and want of memory say nothing of the bytes.
 abbrev pub is_silent : SnapFault → Bool

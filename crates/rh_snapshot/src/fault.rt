@@ -1,6 +1,6 @@
 //! What can be wrong with a snapshot.
 
-ghost use Rattle.std.specs.Prelude.{refl};
+ghost use Rattle.std.proofs.Common.{rules};
 ghost use Rattle.rh_snapshot.specs.Reading.{is_silent};
 ghost use Rattle.rh_snapshot.specs.declared.fault.SnapFault.TheVariants.{Long, Memory, Read, Short};
 
@@ -42,13 +42,7 @@ impl InputFault for SnapFault {
 
     ghost memory_fault = { Memory };
 
-    ghost are_faults = { record {
-      short_says = refl;
-      long_says = refl;
-      read_silent = refl;
-      memory_silent = refl;
-      apart = λ same. cc;
-    } };
+    ghost are_faults = { Prim.search rules };
 
     fn short() -> SnapFault {
         SnapFault::Short

@@ -1,15 +1,15 @@
 use Rattle.std.proofs.Common.{◌≡◌, ◌*◌, ◌^◌, true, false, Some, None, le_refl, rules}
 use Rattle.std.proofs.lemmas.Result.{err_from_is_err_and}
-use Rattle.rh_snapshot.specs.Reading.{file_table, is_sealed, is_silent, table_as}
-use Rattle.rh_snapshot.specs.Snapshot.{IsSnapshot}
-use Rattle.rh_snapshot.proofs.Whole.{header_faults, numbers_fault, seal_faults, refused, end_faults, whole_ok, damaged, no_layout, is_good}
-use Rattle.rh_snapshot.proofs.Keys.{good}
-use Rattle.rh_snapshot.proofs.Grammar.{file_read}
+use Rattle.rh_key_files.specs.Input.{fault_of}
 use Rattle.rh_key_files.proofs.Reading.{read_from}
 use Rattle.rh_key_files.proofs.Taking.{takes_then}
 use Rattle.rh_snapshot.specs.declared.fault.SnapFault.TheVariants.{Damaged, NotALayout}
-use Rattle.rh_key_files.specs.Input.{fault_of}
+use Rattle.rh_snapshot.specs.Reading.{file_table, is_sealed, is_silent, table_as}
+use Rattle.rh_snapshot.specs.Snapshot.{IsSnapshot}
 use Rattle.rh_snapshot.specs.Limits.{sealed_bytes, whole_bytes, header_bytes}
+use Rattle.rh_snapshot.proofs.Whole.{header_faults, numbers_fault, seal_faults, refused, end_faults, whole_ok, damaged, no_layout, is_good}
+use Rattle.rh_snapshot.proofs.Keys.{good}
+use Rattle.rh_snapshot.proofs.Grammar.{file_read}
 use Rattle.rh_snapshot.proofs.Bounds.{takes_within, takes_sealed, file_stops_in_numbers, file_stops_in_seal, file_stops_at_end, takes_of_any_file}
 use Rattle.rh_snapshot.proofs.reading.read_snapshot.Goals as goal
 
