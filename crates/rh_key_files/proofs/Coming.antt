@@ -10,7 +10,7 @@ use Rattle.rh_key_files.specs.declared.stream.State.{State}
 use Rattle.rh_key_files.specs.declared.stream.State.TheVariants.{Open, Ended, Failed}
 use Rattle.rh_key_files.specs.declared.header.Header.{Header}
 use Rattle.rh_key_files.specs.Input.{◌>>=◌, end_at}
-use Rattle.rh_key_files.specs.Reading.{Fails, Reads, front_of, header_at, keys_at, batch_at, after_header, ended, file_keys, is_silent}
+use Rattle.rh_key_files.specs.Reading.{Fails, Reads, count_in_header, front_of, header_at, keys_at, batch_at, after_header, ended, file_keys, is_silent}
 use Rattle.rh_key_files.specs.Source.{Gives, ComesFrom, FaultComes, HasCount, keys_in, keys_of_file, keys_then}
 use Rattle.rh_key_files.specs.Stream.{answer_again, coming_in, keys_to_end, state_after}
 use Rattle.rh_key_files.proofs.Reading.{Fails-then, with_front}
@@ -148,3 +148,12 @@ counts header (Some x) (Some y) h = λ keys is.
     let u = then_ok (end_at Long t.0.1) (λ end. Ok (t.0.0, end.1)) p.0 t.2 in
     let same : t.0.0 ≡ keys = same_value (t.0.0, u.0.1) p.0 u.2 ∙ p.2 in
     ap length (sym same) ∙ (keys_read header.version 0 header.count y t.0 t.1).many
+
+said : (bytes keys : List ℕ) (read : Result (Header × List ℕ) KeyFault) → header_at bytes ≡ read → keys_of_file bytes ≡ Ok keys → (read >>= (λ header. Ok header.0.count)) ≡ Ok (length keys)
+unfolding file_keys
+said bytes keys (Ok header) is all = ap (λ (n : ℕ). Ok n) (sym (counts header.0 (Some bytes) (Some header.1) is keys all))
+said bytes keys (Err fault) is all = let none : Err fault ≡ Ok keys = rw is at all in absurd cc
+
+-- of a key file, the header says how many keys there are
+pub count_said : (bytes keys : List ℕ) → keys_of_file bytes ≡ Ok keys → count_in_header bytes ≡ Ok (length keys)
+count_said bytes keys all = said bytes keys (header_at bytes) refl all

@@ -39,6 +39,10 @@ after_version version = count_at version.1 >>= with_count version.0
 unfoldable pub header_at : List ℕ → Result (Header × List ℕ) KeyFault
 header_at bytes = version_at bytes >>= after_version
 
+-- the number of keys that the header says
+abbrev pub count_in_header : List ℕ → Result ℕ KeyFault
+count_in_header bytes = header_at bytes >>= (λ header. Ok header.0.count)
+
 abbrev pub is_key_in : Version → ℕ → Bool
 is_key_in version k = nat_le (least_key version) k && nat_le k MAX_KEY
 

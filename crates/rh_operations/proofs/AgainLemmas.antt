@@ -1,13 +1,12 @@
 -- A list that is read again: its keys, or why it is refused.
 use Rattle.std.proofs.Common.{◌≡◌, ◌∙◌, ap, sym, subst, refl, ℕ, ◌+◌, inl, inr, List, length, Option, Some, None, Result, Ok, Err, IsOk, is_ok}
 use Rattle.std.proofs.lemmas.Bool.{eq-eqb}
-use Rattle.rh_key_files.specs.declared.header.Header.{Header}
 use Rattle.rh_key_files.specs.declared.fault.KeyFault.{KeyFault}
 use Rattle.rh_key_files.specs.declared.fault.KeyFault.TheVariants as faults
 use Rattle.rh_key_files.specs.Counting.{Rose}
-use Rattle.rh_key_files.specs.Reading.{Fails, file_keys, header_at}
+use Rattle.rh_key_files.specs.Reading.{Fails}
 use Rattle.rh_key_files.specs.Source.{AllCome, Coming, ComesFrom, FaultComes, keys_of_file}
-use Rattle.rh_key_files.proofs.Coming.{counts}
+use Rattle.rh_key_files.proofs.Coming.{count_said}
 use Rattle.rh_runner.specs.declared.runner.PhaseFault.TheVariants as phase_faults
 use Rattle.rh_runner.specs.declared.fault.ListFault.{ListFault}
 use Rattle.rh_runner.specs.declared.fault.ListFault.TheVariants as list_faults
@@ -53,12 +52,6 @@ known_stands (Some files) list keys stands = (files, refl, stands)
 
 -- ---- what a list that stands gives again
 
-header_of_keys : (bytes keys : List ℕ) (read : Result (Header × List ℕ) KeyFault) → header_at bytes ≡ read → keys_of_file bytes ≡ Ok keys → count_or_cause read ≡ Ok (length keys)
-unfolding file_keys
-header_of_keys bytes keys (Ok header) is all =
-    ap (λ (n : ℕ). Ok n) (sym (counts header.0 (Some bytes) (Some header.1) is keys all))
-header_of_keys bytes keys (Err fault) is all = let none : Err fault ≡ Ok keys = rw is at all in absurd cc
-
 the_keys : (said : Result (List ℕ) KeyFault) (keys : List ℕ) → keys_or_cause said ≡ Ok keys → said ≡ Ok keys
 the_keys (Ok k) keys h = ap (λ (r : Result (List ℕ) Cause). elim r [ Ok x ↦ Ok x | Err e ↦ Ok k ]) h
 the_keys (Err e) keys h = absurd cc
@@ -69,7 +62,7 @@ still_noted noted count is = rw (eq-eqb count noted is) refl
 pub count_stands : (found : Option (List ℕ)) (keys : List ℕ) (noted : ℕ) → keys_found found ≡ Ok keys → length keys ≡ noted → count_again noted found ≡ Ok (length keys)
 count_stands None keys noted is many = absurd cc
 count_stands (Some bytes) keys noted is many =
-    ap (λ r. r >>= still noted) (header_of_keys bytes keys (header_at bytes) refl (the_keys (keys_of_file bytes) keys is))
+    ap (λ r. r >>= still noted) (ap count_or_cause (count_said bytes keys (the_keys (keys_of_file bytes) keys is)))
     ∙ still_noted noted (length keys) many
 
 pub stands_again : (files : Files) (list : KeyList) (keys : List ℕ) → Stands (Some files) list keys → keys_again list.count (source_bytes files list.source) ≡ Ok keys

@@ -2,9 +2,8 @@
 use Rattle.std.specs.Prelude.{ℕ, ◌==◌, if◌then◌else◌, List, Option, Some, None, Result, Ok, Err}
 use Rattle.rh_layout.specs.Layout.{keys_of}
 use Rattle.rh_edit.specs.Held.{Held}
-use Rattle.rh_key_files.specs.declared.header.Header.{Header}
 use Rattle.rh_key_files.specs.declared.fault.KeyFault.{KeyFault}
-use Rattle.rh_key_files.specs.Reading.{header_at}
+use Rattle.rh_key_files.specs.Reading.{count_in_header}
 use Rattle.rh_key_files.specs.Source.{keys_of_file}
 use Rattle.rh_snapshot.specs.declared.fault.SnapFault.{SnapFault}
 use Rattle.rh_snapshot.specs.Snapshot.{Table}
@@ -33,14 +32,14 @@ table_found (Some bytes) = table_or_cause (file_table bytes)
 
 -- ---- a list whose number of keys was noted
 
-abbrev pub count_or_cause : Result (Header × List ℕ) KeyFault → Result ℕ Cause
-count_or_cause (Ok header) = Ok header.0.count
+abbrev pub count_or_cause : Result ℕ KeyFault → Result ℕ Cause
+count_or_cause (Ok count) = Ok count
 count_or_cause (Err fault) = Err (Keys fault)
 
 -- the number of keys that the header says
 abbrev pub header_count : Option (List ℕ) → Result ℕ Cause
 header_count None = Err Missing
-header_count (Some bytes) = count_or_cause (header_at bytes)
+header_count (Some bytes) = count_or_cause (count_in_header bytes)
 
 abbrev pub still : (noted count : ℕ) → Result ℕ Cause
 still noted count = if count == noted then Ok count else Err Changed
