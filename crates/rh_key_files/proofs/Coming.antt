@@ -149,11 +149,11 @@ counts header (Some x) (Some y) h = λ keys is.
     let same : t.0.0 ≡ keys = same_value (t.0.0, u.0.1) p.0 u.2 ∙ p.2 in
     ap length (sym same) ∙ (keys_read header.version 0 header.count y t.0 t.1).many
 
-said : (bytes keys : List ℕ) (read : Result (Header × List ℕ) KeyFault) → header_at bytes ≡ read → keys_of_file bytes ≡ Ok keys → (read >>= (λ header. Ok header.0.count)) ≡ Ok (length keys)
+header_counts : (bytes keys : List ℕ) (read : Result (Header × List ℕ) KeyFault) → header_at bytes ≡ read → keys_of_file bytes ≡ Ok keys → (read >>= (λ header. Ok header.0.count)) ≡ Ok (length keys)
 unfolding file_keys
-said bytes keys (Ok header) is all = ap (λ (n : ℕ). Ok n) (sym (counts header.0 (Some bytes) (Some header.1) is keys all))
-said bytes keys (Err fault) is all = let none : Err fault ≡ Ok keys = rw is at all in absurd cc
+header_counts bytes keys (Ok header) is all = ap (λ (n : ℕ). Ok n) (sym (counts header.0 (Some bytes) (Some header.1) is keys all))
+header_counts bytes keys (Err fault) is all = let none : Err fault ≡ Ok keys = rw is at all in absurd cc
 
 -- of a key file, the header says how many keys there are
-pub count_said : (bytes keys : List ℕ) → keys_of_file bytes ≡ Ok keys → count_in_header bytes ≡ Ok (length keys)
-count_said bytes keys all = said bytes keys (header_at bytes) refl all
+pub counts_its_keys : (bytes keys : List ℕ) → keys_of_file bytes ≡ Ok keys → count_in_header bytes ≡ Ok (length keys)
+counts_its_keys bytes keys all = header_counts bytes keys (header_at bytes) refl all

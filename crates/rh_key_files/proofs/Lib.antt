@@ -8,6 +8,7 @@
 -- Decoded: numbers that are made of the bytes that spell them.
 -- Steps: the steps of the header.
 -- Filled: a part of a key file: the keys that its bytes spell, and their test.
+-- Interrupted: keys of which a failed read cut the rest off.
 -- Batches: keys one after the other, and batches of keys one after the other.
 -- Next: the next batch, or the end.
 -- Coming: what is still to come of a stream of keys.

@@ -6,7 +6,7 @@ use Rattle.rh_key_files.specs.declared.fault.KeyFault.TheVariants as faults
 use Rattle.rh_key_files.specs.Counting.{Rose}
 use Rattle.rh_key_files.specs.Reading.{Fails}
 use Rattle.rh_key_files.specs.Source.{AllCome, Coming, ComesFrom, FaultComes, keys_of_file}
-use Rattle.rh_key_files.proofs.Coming.{count_said}
+use Rattle.rh_key_files.proofs.Coming.{counts_its_keys}
 use Rattle.rh_runner.specs.declared.runner.PhaseFault.TheVariants as phase_faults
 use Rattle.rh_runner.specs.declared.fault.ListFault.{ListFault}
 use Rattle.rh_runner.specs.declared.fault.ListFault.TheVariants as list_faults
@@ -62,7 +62,7 @@ still_noted noted count is = rw (eq-eqb count noted is) refl
 pub count_stands : (found : Option (List ℕ)) (keys : List ℕ) (noted : ℕ) → keys_found found ≡ Ok keys → length keys ≡ noted → count_again noted found ≡ Ok (length keys)
 count_stands None keys noted is many = absurd cc
 count_stands (Some bytes) keys noted is many =
-    ap (λ r. r >>= still noted) (ap count_or_cause (count_said bytes keys (the_keys (keys_of_file bytes) keys is)))
+    ap (λ r. r >>= still noted) (ap count_or_cause (counts_its_keys bytes keys (the_keys (keys_of_file bytes) keys is)))
     ∙ still_noted noted (length keys) many
 
 pub stands_again : (files : Files) (list : KeyList) (keys : List ℕ) → Stands (Some files) list keys → keys_again list.count (source_bytes files list.source) ≡ Ok keys
