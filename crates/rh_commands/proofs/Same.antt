@@ -44,7 +44,7 @@ key_file : (file keys : List ℕ) → file ≡ spelling Second keys → (text : 
 key_file file keys is text t = (Second, record { spelled = is; few = t.few; in_range = in_second keys t.in_range })
 
 -- what is read, where the bytes are known
-from_text : (text keys : List ℕ) (left : Option (List ℕ)) → numbers.IsReadFrom (Some text) left keys → IsKeyText text keys
+from_text : (text keys : List ℕ) (left : Option (List ℕ)) → numbers.IsTextReadFrom (Some text) left keys → IsKeyText text keys
 from_text text keys None h = absurd h
 from_text text keys (Some rest) h = h.0
 

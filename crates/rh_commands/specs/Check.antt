@@ -5,7 +5,7 @@ use Rattle.hex.specs.Hex.{encode_lower}
 use Rattle.rh_key_files.specs.Counting.{AppendsFront}
 use Rattle.rh_snapshot.specs.declared.fault.SnapFault.{SnapFault}
 use Rattle.rh_snapshot.specs.Snapshot.{Table}
-use Rattle.rh_snapshot.specs.Reading.{Fails, IsReadFrom, file_table}
+use Rattle.rh_snapshot.specs.Reading.{SnapFails, IsSnapReadFrom, file_table}
 use Rattle.rh_commands.specs.declared.check.CheckFault.{CheckFault}
 use Rattle.rh_commands.specs.declared.check.CheckFault.TheVariants.{Snap, Write}
 
@@ -16,20 +16,20 @@ check_text table =
 
 -- the text is the line of the table of the snapshot that was read
 abbrev pub IsLineRead : (bytes left : Option (List ℕ)) (text : List ℕ) → Type 0
-IsLineRead bytes left text = (table : Table) × IsReadFrom bytes left table × (text ≡ check_text table)
+IsLineRead bytes left text = (table : Table) × IsSnapReadFrom bytes left table × (text ≡ check_text table)
 
 -- Known bytes are no snapshot, and this is the first fault in them.
-abbrev pub IsFirstFault : Option (List ℕ) → SnapFault → Type 0
-IsFirstFault None fault = Unit {0}
-IsFirstFault (Some bytes) fault = Fails fault (file_table bytes)
+abbrev pub IsFirstSnapFault : Option (List ℕ) → SnapFault → Type 0
+IsFirstSnapFault None fault = Unit {0}
+IsFirstSnapFault (Some bytes) fault = SnapFails fault (file_table bytes)
 
 -- the fault that was found in the snapshot, if one was
-abbrev pub fault_in : {X : Type 0} → Result X CheckFault → Option SnapFault
-fault_in (Err (Snap fault)) = Some fault
-fault_in r = None
+abbrev pub snap_fault_in : {X : Type 0} → Result X CheckFault → Option SnapFault
+snap_fault_in (Err (Snap fault)) = Some fault
+snap_fault_in r = None
 
 -- The bytes were a snapshot and the line of its table, or a front of it, was written; or they were none.
 abbrev pub Checks : {X : Type 0} → (bytes left old new : Option (List ℕ)) → Result X CheckFault → Type 0
 Checks bytes left old new (Ok x) = (text : List ℕ) × IsLineRead bytes left text × Appends old new text
 Checks bytes left old new (Err Write) = (text : List ℕ) × IsLineRead bytes left text × AppendsFront old new text
-Checks bytes left old new (Err (Snap fault)) = IsFirstFault bytes fault
+Checks bytes left old new (Err (Snap fault)) = IsFirstSnapFault bytes fault

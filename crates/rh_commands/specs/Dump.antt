@@ -10,7 +10,7 @@ use Rattle.rh_key_files.specs.declared.fault.KeyFault.TheVariants as faults
 use Rattle.rh_key_files.specs.Counting.{AppendsFront}
 use Rattle.rh_key_files.specs.Limits.{header_bytes}
 use Rattle.rh_key_files.specs.Taking.{TakesAtMost}
-use Rattle.rh_key_files.specs.Reading.{BeginsWithHeader, Fails, IsReadFrom, file_keys}
+use Rattle.rh_key_files.specs.Reading.{BeginsWithHeader, KeysFail, IsReadFrom, file_keys}
 use Rattle.rh_key_files.specs.Dump.{dump_text}
 use Rattle.rh_commands.specs.declared.dump.DumpFault.{DumpFault}
 use Rattle.rh_commands.specs.declared.dump.DumpFault.TheVariants.{Keys, TooLarge, Memory, Write}
@@ -28,9 +28,9 @@ abbrev pub IsDumpRead : (bytes left : Option (List ℕ)) (text : List ℕ) → T
 IsDumpRead bytes left text = (keys : List ℕ) × IsReadFrom bytes left keys × IsDumpOf keys text
 
 -- Known bytes are no key file, and this is the first fault in them.
-abbrev pub IsFirstFault : Option (List ℕ) → KeyFault → Type 0
-IsFirstFault None fault = Unit {0}
-IsFirstFault (Some bytes) fault = Fails {X = List ℕ × List ℕ} fault (file_keys bytes)
+abbrev pub IsFirstKeyFault : Option (List ℕ) → KeyFault → Type 0
+IsFirstKeyFault None fault = Unit {0}
+IsFirstKeyFault (Some bytes) fault = KeysFail {X = List ℕ × List ℕ} fault (file_keys bytes)
 
 -- want of memory is one fault, wherever it comes
 abbrev pub from_keys : KeyFault → DumpFault
@@ -38,9 +38,9 @@ from_keys faults.Memory = Memory
 from_keys fault = Keys fault
 
 -- the fault that was found in the key file, if one was
-abbrev pub fault_in : {X : Type 0} → Result X DumpFault → Option KeyFault
-fault_in (Err (Keys fault)) = Some fault
-fault_in r = None
+abbrev pub dump_fault_in : {X : Type 0} → Result X DumpFault → Option KeyFault
+dump_fault_in (Err (Keys fault)) = Some fault
+dump_fault_in r = None
 
 -- Memory was refused for the keys, of which only the header was read; or for a table that the keys of the whole file fit.
 abbrev pub WantsMemory : (bytes left : Option (List ℕ)) → Type 0
@@ -52,6 +52,6 @@ WantsMemory bytes left =
 abbrev pub Dumps : {X : Type 0} → (bytes left old new : Option (List ℕ)) → Result X DumpFault → Type 0
 Dumps bytes left old new (Ok x) = (text : List ℕ) × IsDumpRead bytes left text × Appends old new text
 Dumps bytes left old new (Err Write) = (text : List ℕ) × IsDumpRead bytes left text × AppendsFront old new text
-Dumps bytes left old new (Err (Keys fault)) = IsFirstFault bytes fault × (fault ≢ faults.Memory)
+Dumps bytes left old new (Err (Keys fault)) = IsFirstKeyFault bytes fault × (fault ≢ faults.Memory)
 Dumps bytes left old new (Err TooLarge) = (keys : List ℕ) × IsReadFrom bytes left keys × (Fits MAX_BITS (length keys) → ⊥)
 Dumps bytes left old new (Err Memory) = WantsMemory bytes left

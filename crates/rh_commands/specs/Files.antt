@@ -19,7 +19,8 @@ use Rattle.rh_commands.specs.declared.listing.ListFault.{ListFault}
 use Rattle.rh_commands.specs.declared.listing.ListFault.TheVariants as list
 use Rattle.rh_commands.specs.declared.snapshot.HeldFault.{HeldFault}
 use Rattle.rh_commands.specs.declared.snapshot.HeldFault.TheVariants as held
-use Rattle.rh_commands.specs.List.{IsFirstFault, IsFirstFaultHeld}
+use Rattle.rh_commands.specs.Check.{IsFirstSnapFault}
+use Rattle.rh_commands.specs.Dump.{IsFirstKeyFault}
 
 -- the fault of a key file, and of a snapshot, as one of a file
 abbrev pub of_list : ListFault → FileFault
@@ -33,7 +34,7 @@ of_held held.Write = Write
 -- The bytes are a file of this form, and these its keys: a key file's in their order, a snapshot's in rising order.
 abbrev pub AreKeysIn : Form → (bytes left : Option (List ℕ)) → List ℕ → Type 0
 AreKeysIn forms.Keys bytes left ks = keys.IsReadFrom bytes left ks
-AreKeysIn forms.Snapshot bytes left ks = (table : Table) × snapshots.IsReadFrom bytes left table × (ks ≡ rising_keys (keys_of table.cells))
+AreKeysIn forms.Snapshot bytes left ks = (table : Table) × snapshots.IsSnapReadFrom bytes left table × (ks ≡ rising_keys (keys_of table.cells))
 
 -- the file at the path has these keys
 abbrev pub Has : Option Files → Form → (path : List ℕ) → List ℕ → Type 0
@@ -49,8 +50,8 @@ HaveEach files form paths lists = ⊥
 abbrev pub ListsFile : {X : Type 0} → Option Files → (path : List ℕ) → Form → (old new : Option (List ℕ)) → Result X FileFault → Type 0
 ListsFile files path form old new (Ok x) = (ks : List ℕ) × Has files form path ks × Appends old new (text_of ks)
 ListsFile files path form old new (Err Write) = (ks : List ℕ) × Has files form path ks × AppendsFront old new (text_of ks)
-ListsFile files path form old new (Err (Keys fault)) = (form ≡ forms.Keys) × (bytes : Option (List ℕ)) × Finds files path bytes × IsFirstFault bytes fault
-ListsFile files path form old new (Err (Snap fault)) = (form ≡ forms.Snapshot) × (bytes : Option (List ℕ)) × Finds files path bytes × IsFirstFaultHeld bytes fault
+ListsFile files path form old new (Err (Keys fault)) = (form ≡ forms.Keys) × (bytes : Option (List ℕ)) × Finds files path bytes × IsFirstKeyFault bytes fault
+ListsFile files path form old new (Err (Snap fault)) = (form ≡ forms.Snapshot) × (bytes : Option (List ℕ)) × Finds files path bytes × IsFirstSnapFault bytes fault
 ListsFile files path form old new (Err (Shelf fault)) = Unit {0}
 
 -- the texts of the files' keys were written, one after the other

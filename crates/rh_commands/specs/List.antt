@@ -11,31 +11,23 @@ use Rattle.rh_snapshot.specs.declared.fault.SnapFault.TheVariants as snap_faults
 use Rattle.rh_snapshot.specs.Snapshot.{Table}
 use Rattle.rh_snapshot.specs.Reading as snapshots
 use Rattle.rh_numbers.specs.Writing.{text_of}
+use Rattle.rh_commands.specs.Check.{IsFirstSnapFault}
+use Rattle.rh_commands.specs.Dump.{IsFirstKeyFault}
 use Rattle.rh_commands.specs.declared.listing.ListFault.{ListFault}
 use Rattle.rh_commands.specs.declared.listing.ListFault.TheVariants as list
 use Rattle.rh_commands.specs.declared.snapshot.HeldFault.{HeldFault}
 use Rattle.rh_commands.specs.declared.snapshot.HeldFault.TheVariants as held
 
--- Known bytes are no key file, and this is the first fault in them.
-abbrev pub IsFirstFault : Option (List ℕ) → KeyFault → Type 0
-IsFirstFault None fault = Unit {0}
-IsFirstFault (Some bytes) fault = files.Fails {X = List ℕ × List ℕ} fault (files.file_keys bytes)
-
 -- the fault that was found in the key file, if one was
-abbrev pub fault_in : {X : Type 0} → Result X ListFault → Option KeyFault
-fault_in (Err (list.Keys fault)) = Some fault
-fault_in r = None
+abbrev pub list_fault_in : {X : Type 0} → Result X ListFault → Option KeyFault
+list_fault_in (Err (list.Keys fault)) = Some fault
+list_fault_in r = None
 
 -- The bytes were a key file, and the text of its keys, or a front of it, was written; or they were none.
 abbrev pub Lists : {X : Type 0} → (bytes left old new : Option (List ℕ)) → Result X ListFault → Type 0
 Lists bytes left old new (Ok x) = (keys : List ℕ) × files.IsReadFrom bytes left keys × Appends old new (text_of keys)
 Lists bytes left old new (Err list.Write) = (keys : List ℕ) × files.IsReadFrom bytes left keys × AppendsFront old new (text_of keys)
-Lists bytes left old new (Err (list.Keys fault)) = IsFirstFault bytes fault
-
--- Known bytes are no snapshot, and this is the first fault in them.
-abbrev pub IsFirstFaultHeld : Option (List ℕ) → SnapFault → Type 0
-IsFirstFaultHeld None fault = Unit {0}
-IsFirstFaultHeld (Some bytes) fault = snapshots.Fails {X = Table × List ℕ} fault (snapshots.file_table bytes)
+Lists bytes left old new (Err (list.Keys fault)) = IsFirstKeyFault bytes fault
 
 -- The fault that was found in the snapshot, if one was. Want of memory may come after it was read.
 abbrev pub fault_held : {X : Type 0} → Result X HeldFault → Option SnapFault
@@ -49,9 +41,9 @@ held_text table = text_of (rising_keys (keys_of table.cells))
 
 -- The bytes were a snapshot, and the text of its keys, or a front of it, was written; or they were none.
 abbrev pub ListsHeld : {X : Type 0} → (bytes left old new : Option (List ℕ)) → Result X HeldFault → Type 0
-ListsHeld bytes left old new (Ok x) = (table : Table) × snapshots.IsReadFrom bytes left table × Appends old new (held_text table)
-ListsHeld bytes left old new (Err held.Write) = (table : Table) × snapshots.IsReadFrom bytes left table × AppendsFront old new (held_text table)
-ListsHeld bytes left old new (Err (held.Snap fault)) = IsFirstFaultHeld bytes fault
+ListsHeld bytes left old new (Ok x) = (table : Table) × snapshots.IsSnapReadFrom bytes left table × Appends old new (held_text table)
+ListsHeld bytes left old new (Err held.Write) = (table : Table) × snapshots.IsSnapReadFrom bytes left table × AppendsFront old new (held_text table)
+ListsHeld bytes left old new (Err (held.Snap fault)) = IsFirstSnapFault bytes fault
 
 -- the answer where all went well
 abbrev pub listed : Result (Unit {0}) ListFault

@@ -3,10 +3,10 @@
 ghost use Rattle.std.specs.Prelude.{◌≡◌, ◌≢◌, IfErr, IsErrOf, OnErr, OnOk};
 ghost use Rattle.hex.specs.Hex.{encode_lower};
 ghost use Rattle.rh_key_files.specs.Counting.{Rose, Writes, failures_of, inner_of};
-ghost use Rattle.rh_snapshot.specs.Reading.{BeginsWithHeader, table_as};
+ghost use Rattle.rh_snapshot.specs.Reading.{BeginsWithSnapHeader, table_as};
 ghost use Rattle.rh_key_files.specs.Taking.{TakesAtMost};
-ghost use Rattle.rh_snapshot.specs.Limits.{TakesOfFile, most_bytes};
-ghost use Rattle.rh_commands.specs.Check.{Checks, check_text, fault_in};
+ghost use Rattle.rh_snapshot.specs.Limits.{TakesOfSnap, most_snap_bytes};
+ghost use Rattle.rh_commands.specs.Check.{Checks, check_text, snap_fault_in};
 
 use itoa::Buffer;
 use rh_key_files::{Counted, WriteFault, write_texts};
@@ -61,14 +61,14 @@ pub fn check_snapshot<R: Read, W: Write>(
         (W.contents (inner_of writer.old)) (W.contents (inner_of writer.new)) result }
     ensures untouched { IfErr result (λ fault. fault ≢ CheckFault.Write →
         writer.new ≡ writer.old) }
-    ensures takes { TakesOfFile (R.remaining (inner_of reader.old))
-        (R.remaining (inner_of reader.new)) (fault_in result) }
+    ensures takes { TakesOfSnap (R.remaining (inner_of reader.old))
+        (R.remaining (inner_of reader.new)) (snap_fault_in result) }
     ensures bounded { TakesAtMost (R.remaining (inner_of reader.old))
-        (R.remaining (inner_of reader.new)) most_bytes }
+        (R.remaining (inner_of reader.new)) most_snap_bytes }
     ensures read { IsErrOf result (CheckFault.Snap SnapFault.Read) →
         Rose (failures_of reader.old) (failures_of reader.new) }
     ensures memory { IsErrOf result (CheckFault.Snap SnapFault.Memory) →
-        BeginsWithHeader (R.remaining (inner_of reader.old)) }
+        BeginsWithSnapHeader (R.remaining (inner_of reader.old)) }
     ensures write { IsErrOf result CheckFault.Write →
         Rose (failures_of writer.old) (failures_of writer.new) }
     ensures written { OnOk result (failures_of writer.new ≡ failures_of writer.old) }

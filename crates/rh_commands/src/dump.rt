@@ -4,7 +4,7 @@ ghost use Rattle.std.specs.Prelude.{◌≡◌, ◌≢◌, IfErr, IsErrOf, OnOk};
 ghost use Rattle.rh_key_files.specs.Counting.{Rose, failures_of, inner_of};
 ghost use Rattle.rh_key_files.specs.Taking.{TakesAtMost};
 ghost use Rattle.rh_key_files.specs.Limits.{NoReadFailed, TakesOfFile, most_bytes};
-ghost use Rattle.rh_commands.specs.Dump.{Dumps, fault_in};
+ghost use Rattle.rh_commands.specs.Dump.{Dumps, dump_fault_in};
 
 use rh_edit::SeqSet;
 use rh_grow::bits_for;
@@ -78,7 +78,7 @@ pub fn dump_keys<R: Read, W: Write>(
         (W.contents (inner_of writer.old)) (W.contents (inner_of writer.new)) result }
     ensures untouched { IfErr result (λ fault. fault ≢ DumpFault.Write → writer.new ≡ writer.old) }
     ensures takes { TakesOfFile (R.remaining (inner_of reader.old))
-        (R.remaining (inner_of reader.new)) (fault_in result) }
+        (R.remaining (inner_of reader.new)) (dump_fault_in result) }
     ensures bounded { TakesAtMost (R.remaining (inner_of reader.old))
         (R.remaining (inner_of reader.new)) most_bytes }
     ensures read { IsErrOf result (DumpFault.Keys KeyFault.Read) →
@@ -86,7 +86,7 @@ pub fn dump_keys<R: Read, W: Write>(
     ensures write { IsErrOf result DumpFault.Write →
         Rose (failures_of writer.old) (failures_of writer.new) }
     ensures written { OnOk result (failures_of writer.new ≡ failures_of writer.old) }
-    ensures fine { NoReadFailed (fault_in result) → failures_of reader.new ≡ failures_of reader.old }
+    ensures fine { NoReadFailed (dump_fault_in result) → failures_of reader.new ≡ failures_of reader.old }
 {
     let keys = read_keys(alloc, reader)?;
     let Some(bits) = bits_for(MIN_BITS, 0, keys.len() as u64) else {

@@ -5,7 +5,7 @@ ghost use Rattle.rh_key_files.specs.Counting.{Rose, failures_of, inner_of};
 ghost use Rattle.rh_key_files.specs.Reading.{BeginsWithHeader};
 ghost use Rattle.rh_key_files.specs.Taking.{TakesAtMost};
 ghost use Rattle.rh_key_files.specs.Limits.{NoReadFailed, TakesOfFile, most_bytes};
-ghost use Rattle.rh_commands.specs.List.{Lists, fault_in};
+ghost use Rattle.rh_commands.specs.List.{Lists, list_fault_in};
 
 use rh_key_files::{Counted, KeyFault, WriteFault, read_keys};
 use rh_numbers::write_numbers;
@@ -59,7 +59,7 @@ pub fn list_keys<R: Read, W: Write>(
         (W.contents (inner_of writer.old)) (W.contents (inner_of writer.new)) result }
     ensures untouched { IfErr result (λ fault. fault ≢ ListFault.Write → writer.new ≡ writer.old) }
     ensures takes { TakesOfFile (R.remaining (inner_of reader.old))
-        (R.remaining (inner_of reader.new)) (fault_in result) }
+        (R.remaining (inner_of reader.new)) (list_fault_in result) }
     ensures bounded { TakesAtMost (R.remaining (inner_of reader.old))
         (R.remaining (inner_of reader.new)) most_bytes }
     ensures read { IsErrOf result (ListFault.Keys KeyFault.Read) →
@@ -69,7 +69,7 @@ pub fn list_keys<R: Read, W: Write>(
     ensures write { IsErrOf result ListFault.Write →
         Rose (failures_of writer.old) (failures_of writer.new) }
     ensures written { OnOk result (failures_of writer.new ≡ failures_of writer.old) }
-    ensures fine { NoReadFailed (fault_in result) → failures_of reader.new ≡ failures_of reader.old }
+    ensures fine { NoReadFailed (list_fault_in result) → failures_of reader.new ≡ failures_of reader.old }
 {
     let keys = read_keys(alloc, reader)?;
     write_numbers(&keys, writer)?;

@@ -2,9 +2,9 @@
 
 ghost use Rattle.std.specs.Prelude.{◌≡◌, ◌≢◌, Err, IfErr, IsErrOf, OnOk};
 ghost use Rattle.rh_key_files.specs.Counting.{Rose, failures_of, inner_of};
-ghost use Rattle.rh_snapshot.specs.Reading.{BeginsWithHeader};
+ghost use Rattle.rh_snapshot.specs.Reading.{BeginsWithSnapHeader};
 ghost use Rattle.rh_key_files.specs.Taking.{TakesAtMost};
-ghost use Rattle.rh_snapshot.specs.Limits.{TakesOfFile, most_bytes};
+ghost use Rattle.rh_snapshot.specs.Limits.{TakesOfSnap, most_snap_bytes};
 ghost use Rattle.rh_commands.specs.List.{ListsHeld, fault_held};
 
 use rh_edit::SeqSet;
@@ -74,14 +74,14 @@ pub fn list_snapshot<R: Read, W: Write>(
         (R.remaining (inner_of reader.new))
         (W.contents (inner_of writer.old)) (W.contents (inner_of writer.new)) result }
     ensures untouched { IfErr result (λ fault. fault ≢ HeldFault.Write → writer.new ≡ writer.old) }
-    ensures takes { TakesOfFile (R.remaining (inner_of reader.old))
+    ensures takes { TakesOfSnap (R.remaining (inner_of reader.old))
         (R.remaining (inner_of reader.new)) (fault_held result) }
     ensures bounded { TakesAtMost (R.remaining (inner_of reader.old))
-        (R.remaining (inner_of reader.new)) most_bytes }
+        (R.remaining (inner_of reader.new)) most_snap_bytes }
     ensures read { IsErrOf result (HeldFault.Snap SnapFault.Read) →
         Rose (failures_of reader.old) (failures_of reader.new) }
     ensures memory { IsErrOf result (HeldFault.Snap SnapFault.Memory) →
-        BeginsWithHeader (R.remaining (inner_of reader.old)) }
+        BeginsWithSnapHeader (R.remaining (inner_of reader.old)) }
     ensures write { IsErrOf result HeldFault.Write →
         Rose (failures_of writer.old) (failures_of writer.new) }
     ensures written { OnOk result (failures_of writer.new ≡ failures_of writer.old) }

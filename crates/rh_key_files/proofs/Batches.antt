@@ -4,7 +4,7 @@ use borrow.Rule.Slice.PartMut.{put_mid, post_of}
 use Rattle.rh_key_files.specs.declared.version.Version.{Version}
 use Rattle.rh_key_files.specs.declared.fault.KeyFault.{KeyFault}
 use Rattle.rh_key_files.specs.Input.{◌>>=◌, always, with_head}
-use Rattle.rh_key_files.specs.Reading.{Reads, key_at, keys_at, is_silent}
+use Rattle.rh_key_files.specs.Reading.{ReadsKeys, key_at, keys_at, is_silent}
 use Rattle.rh_key_files.proofs.Reading.{Fails-then, Reads-ok, with_front, nothing_before}
 
 abbrev Read : Type 0
@@ -41,41 +41,41 @@ keys_at-add version index (suc m) n bytes =
     ap (λ j. keys_at version index j bytes) k ∙ after_key version index m n (keys_at-add version (index + 1) m n) (key_at version index bytes)
 
 -- a batch after a batch, from a reader
-pub batch_then : (version : Version) (index m n : ℕ) (a b c : Option (List ℕ)) (front back : List ℕ) → Reads a b (keys_at version index m) (always {X = Unit {0}} front) (Ok tt) → Reads b c (keys_at version (index + m) n) (always {X = Unit {0}} back) (Ok tt)
-    → Reads a c (keys_at version index (m + n)) (always {X = Unit {0}} (front ++ back)) (Ok tt)
+pub batch_then : (version : Version) (index m n : ℕ) (a b c : Option (List ℕ)) (front back : List ℕ) → ReadsKeys a b (keys_at version index m) (always {X = Unit {0}} front) (Ok tt) → ReadsKeys b c (keys_at version (index + m) n) (always {X = Unit {0}} back) (Ok tt)
+    → ReadsKeys a c (keys_at version index (m + n)) (always {X = Unit {0}} (front ++ back)) (Ok tt)
 batch_then version index m n None b c front back p q = tt
 batch_then version index m n (Some x) None c front back p q = absurd p
 batch_then version index m n (Some x) (Some y) None front back p q = absurd q
 batch_then version index m n (Some x) (Some y) (Some z) front back p q = rw (keys_at-add version index m n x, p, q) refl
 
 -- a batch that fails after a batch
-pub batch_fails : {X Y : Type 0} (version : Version) (index m n : ℕ) (a b c : Option (List ℕ)) (front : List ℕ) (v : X → List ℕ) (w : Y → List ℕ) (e : KeyFault) → Reads a b (keys_at version index m) (always {X = Unit {0}} front) (Ok tt) → Reads b c (keys_at version (index + m) n) v (Err e)
-    → Reads a c (keys_at version index (m + n)) w (Err e)
+pub batch_fails : {X Y : Type 0} (version : Version) (index m n : ℕ) (a b c : Option (List ℕ)) (front : List ℕ) (v : X → List ℕ) (w : Y → List ℕ) (e : KeyFault) → ReadsKeys a b (keys_at version index m) (always {X = Unit {0}} front) (Ok tt) → ReadsKeys b c (keys_at version (index + m) n) v (Err e)
+    → ReadsKeys a c (keys_at version index (m + n)) w (Err e)
 batch_fails version index m n None b c front v w e p q = tt
 batch_fails version index m n (Some x) None c front v w e p q = absurd p
 batch_fails version index m n (Some x) (Some y) c front v w e p q = rw (keys_at-add version index m n x, p) (Fails-then is_silent e (keys_at version (index + m) n y) (with_front front) q)
 
 -- a fault in some keys is one of these and others
-pub fails_with_more : {X Y : Type 0} (version : Version) (index m n : ℕ) (a b : Option (List ℕ)) (v : X → List ℕ) (w : Y → List ℕ) (e : KeyFault) → Reads a b (keys_at version index m) v (Err e) → Reads a b (keys_at version index (m + n)) w (Err e)
+pub fails_with_more : {X Y : Type 0} (version : Version) (index m n : ℕ) (a b : Option (List ℕ)) (v : X → List ℕ) (w : Y → List ℕ) (e : KeyFault) → ReadsKeys a b (keys_at version index m) v (Err e) → ReadsKeys a b (keys_at version index (m + n)) w (Err e)
 fails_with_more version index m n None b v w e h = tt
 fails_with_more version index m n (Some x) b v w e h = rw (keys_at-add version index m n x) (Fails-then is_silent e (keys_at version index m x) (and_next version (index + m) n) h)
 
 -- ---- as a loop goes on
 
-pub part_goes_on : (version : Version) (index done at many now : ℕ) (a b c : Option (List ℕ)) (front back both : List ℕ) → at ≡ index + done → now ≡ done + many → both ≡ front ++ back → Reads a b (keys_at version index done) (always {X = Unit {0}} front) (Ok tt) → Reads b c (keys_at version at many) (always {X = Unit {0}} back) (Ok tt)
-    → Reads a c (keys_at version index now) (always {X = Unit {0}} both) (Ok tt)
+pub part_goes_on : (version : Version) (index done at many now : ℕ) (a b c : Option (List ℕ)) (front back both : List ℕ) → at ≡ index + done → now ≡ done + many → both ≡ front ++ back → ReadsKeys a b (keys_at version index done) (always {X = Unit {0}} front) (Ok tt) → ReadsKeys b c (keys_at version at many) (always {X = Unit {0}} back) (Ok tt)
+    → ReadsKeys a c (keys_at version index now) (always {X = Unit {0}} both) (Ok tt)
 part_goes_on version index done at many now a b c front back both place later joined p q =
-    let h = subst (λ j. Reads b c (keys_at version j many) (always {X = Unit {0}} back) (Ok tt)) place q in
+    let h = subst (λ j. ReadsKeys b c (keys_at version j many) (always {X = Unit {0}} back) (Ok tt)) place q in
     rw (later, joined) (batch_then version index done many a b c front back p h)
 
-pub part_stops : (version : Version) (index done at many all : ℕ) (a b c : Option (List ℕ)) (front : List ℕ) (v w : Unit {0} → List ℕ) (e : KeyFault) → at ≡ index + done → done + many ≤ all → Reads a b (keys_at version index done) (always {X = Unit {0}} front) (Ok tt) → Reads b c (keys_at version at many) v (Err e)
-    → Reads a c (keys_at version index all) w (Err e)
+pub part_stops : (version : Version) (index done at many all : ℕ) (a b c : Option (List ℕ)) (front : List ℕ) (v w : Unit {0} → List ℕ) (e : KeyFault) → at ≡ index + done → done + many ≤ all → ReadsKeys a b (keys_at version index done) (always {X = Unit {0}} front) (Ok tt) → ReadsKeys b c (keys_at version at many) v (Err e)
+    → ReadsKeys a c (keys_at version index all) w (Err e)
 part_stops version index done at many all a b c front v w e place within p q =
-    let h = subst (λ j. Reads b c (keys_at version j many) v (Err e)) place q in
+    let h = subst (λ j. ReadsKeys b c (keys_at version j many) v (Err e)) place q in
     let whole : done + many + (all - (done + many)) ≡ all = omega arith in
-    subst (λ n. Reads a c (keys_at version index n) w (Err e)) whole (fails_with_more version index (done + many) (all - (done + many)) a c w w e (batch_fails version index done many a b c front v w e p h))
+    subst (λ n. ReadsKeys a c (keys_at version index n) w (Err e)) whole (fails_with_more version index (done + many) (all - (done + many)) a c w w e (batch_fails version index done many a b c front v w e p h))
 
-pub no_keys : (version : Version) (index : ℕ) (a : Option (List ℕ)) → Reads a a (keys_at version index 0) (always {X = Unit {0}} []) (Ok tt)
+pub no_keys : (version : Version) (index : ℕ) (a : Option (List ℕ)) → ReadsKeys a a (keys_at version index 0) (always {X = Unit {0}} []) (Ok tt)
 unfolding keys_at
 no_keys version index a = Reads-ok is_silent a (λ bytes. Ok ([], bytes)) (always {X = Unit {0}} []) tt (λ bytes. refl)
 

@@ -10,7 +10,7 @@ use Rattle.rh_key_files.specs.declared.fault.KeyFault.TheVariants as faults
 use Rattle.rh_key_files.specs.declared.fault.KeyFault.TheVariants.{NotKeys, Short, TooMany, BadKey, Long}
 use Rattle.rh_key_files.specs.declared.header.Header.{Header}
 use Rattle.rh_key_files.specs.Input.{◌>>=◌, number_at, end_at, with_head}
-use Rattle.rh_key_files.specs.Reading.{Fails, Reads, few, count_at, is_key_in, in_range, key_at, keys_at, header_at}
+use Rattle.rh_key_files.specs.Reading.{KeysFail, ReadsKeys, few, count_at, is_key_in, in_range, key_at, keys_at, header_at}
 use Rattle.rh_key_files.specs.Taking.{TakesAtMost}
 use Rattle.rh_key_files.specs.Limits.{magic_bytes, header_bytes, header_taken, keys_taken, whole_bytes, most_bytes, file_bytes, count_in, count_said, TakesOfFile}
 use Rattle.rh_key_files.proofs.Taking.{takes_of_unknown, takes_fewer, takes_then, takes_both}
@@ -31,7 +31,7 @@ count_later : (bytes : List ℕ) → IfErr (count_at bytes) IsLater
 unfolding count_at
 count_later bytes = then_told IsLater (number_at Short bytes) few (number_told IsLater Short tt bytes) few_later
 
-pub header_stops : (a b c : Option (List ℕ)) (e : KeyFault) → TakesAtMost a b magic_bytes → TakesAtMost b c 8 → Reads b c count_at (λ (n : ℕ). n) (Err e) → TakesAtMost a c (header_taken (Some e))
+pub header_stops : (a b c : Option (List ℕ)) (e : KeyFault) → TakesAtMost a b magic_bytes → TakesAtMost b c 8 → ReadsKeys b c count_at (λ (n : ℕ). n) (Err e) → TakesAtMost a c (header_taken (Some e))
 header_stops None b c e s t h = takes_of_unknown c (header_taken (Some e))
 header_stops (Some x) None c e s t h = absurd s.consumed
 header_stops (Some x) (Some y) c NotKeys s t h = absurd (subst (λ r. IfErr r IsLater) h (count_later y))
@@ -71,13 +71,13 @@ keys_come version index (suc n) bytes =
     (λ first. then_told (IsFrom index) (keys_at version (index + 1) n first.1) (with_head first.0) (comes_before index (keys_at version (index + 1) n first.1) (keys_come version (index + 1) n first.1)) (λ others. tt))
 
 -- a part in which there is a fault is the last that is taken
-part_within : (index done many all : ℕ) (e : KeyFault) (r : Result (List ℕ × List ℕ) KeyFault) → many ≤ PART_KEYS → done + many ≤ all → ComesFrom (index + done) r → Fails e r → 8 * done + 8 * many ≤ 8 * keys_taken index all (Some e)
+part_within : (index done many all : ℕ) (e : KeyFault) (r : Result (List ℕ × List ℕ) KeyFault) → many ≤ PART_KEYS → done + many ≤ all → ComesFrom (index + done) r → KeysFail e r → 8 * done + 8 * many ≤ 8 * keys_taken index all (Some e)
 part_within index done many all (BadKey bad) r fits within comes fails =
     let from : index + done ≤ bad = subst (ComesFrom (index + done)) fails comes in
     omega arith
 part_within index done many all e r fits within comes fails = omega (arith, within)
 
-pub keys_stop : {X : Type 0} (v : X → List ℕ) (version : Version) (index done at many all : ℕ) (a b c : Option (List ℕ)) (e : KeyFault) → at ≡ index + done → many ≤ PART_KEYS → done + many ≤ all → TakesAtMost a b (8 * done) → TakesAtMost b c (8 * many) → Reads b c (keys_at version at many) v (Err e) → TakesAtMost a c (8 * keys_taken index all (Some e))
+pub keys_stop : {X : Type 0} (v : X → List ℕ) (version : Version) (index done at many all : ℕ) (a b c : Option (List ℕ)) (e : KeyFault) → at ≡ index + done → many ≤ PART_KEYS → done + many ≤ all → TakesAtMost a b (8 * done) → TakesAtMost b c (8 * many) → ReadsKeys b c (keys_at version at many) v (Err e) → TakesAtMost a c (8 * keys_taken index all (Some e))
 keys_stop v version index done at many all None b c e place fits within s t h = takes_of_unknown c (8 * keys_taken index all (Some e))
 keys_stop v version index done at many all (Some x) None c e place fits within s t h = absurd s.consumed
 keys_stop v version index done at many all (Some x) (Some y) c e place fits within s t h =
@@ -91,7 +91,7 @@ abbrev IsLong : KeyFault → Type 0
 IsLong Long = Unit {0}
 IsLong e = ⊥
 
-keys_fit : (X : Type 0) (count : ℕ) (e : KeyFault) (r : Result (List ℕ × List ℕ) KeyFault) → (IsErrOf {T = X} (Err e) faults.Memory → ⊥) → ComesFrom 0 r → Fails e r → header_bytes + 8 * keys_taken 0 count (Some e) ≤ file_bytes count (Some e)
+keys_fit : (X : Type 0) (count : ℕ) (e : KeyFault) (r : Result (List ℕ × List ℕ) KeyFault) → (IsErrOf {T = X} (Err e) faults.Memory → ⊥) → ComesFrom 0 r → KeysFail e r → header_bytes + 8 * keys_taken 0 count (Some e) ≤ file_bytes count (Some e)
 keys_fit X count faults.Read r other comes fails = omega arith
 keys_fit X count faults.Memory r other comes fails = absurd (other refl)
 keys_fit X count NotKeys r other comes fails = absurd (subst (ComesFrom 0) fails comes)
@@ -100,7 +100,7 @@ keys_fit X count TooMany r other comes fails = absurd (subst (ComesFrom 0) fails
 keys_fit X count (BadKey index) r other comes fails = omega arith
 keys_fit X count Long r other comes fails = omega arith
 
-end_fits : (X : Type 0) (count : ℕ) (e : KeyFault) (r : Result (List ℕ × List ℕ) KeyFault) → (IsErrOf {T = X} (Err e) faults.Memory → ⊥) → IfErr r IsLong → Fails e r → whole_bytes count ≤ file_bytes count (Some e)
+end_fits : (X : Type 0) (count : ℕ) (e : KeyFault) (r : Result (List ℕ × List ℕ) KeyFault) → (IsErrOf {T = X} (Err e) faults.Memory → ⊥) → IfErr r IsLong → KeysFail e r → whole_bytes count ≤ file_bytes count (Some e)
 end_fits X count faults.Read r other ends fails = omega arith
 end_fits X count faults.Memory r other ends fails = absurd (other refl)
 end_fits X count NotKeys r other ends fails = absurd (subst (λ r. IfErr r IsLong) fails ends)
@@ -112,7 +112,7 @@ end_fits X count Long r other ends fails = omega arith
 -- the header that was read, of a file of so many keys
 pub record HeaderRead (a b : Option (List ℕ)) (version : Version) (count : ℕ) : Type 0 where
   pub said : ℕ
-  pub read : Reads a b header_at (λ (h : Header). h) (Ok (record { version = version; count = said }))
+  pub read : ReadsKeys a b header_at (λ (h : Header). h) (Ok (record { version = version; count = said }))
   pub same : count ≡ said
   pub taken : TakesAtMost a b header_bytes
 
@@ -120,14 +120,14 @@ count_is : (bytes : List ℕ) (b : Option (List ℕ)) (version : Version) (count
 count_is bytes None version count h = absurd h.read
 count_is bytes (Some rest) version count h = ap count_in h.read ∙ sym h.same
 
-pub file_stops_in_keys : {X : Type 0} (a b c : Option (List ℕ)) (version : Version) (count : ℕ) (v : X → List ℕ) (e : KeyFault) → HeaderRead a b version count → (IsErrOf {T = X} (Err e) faults.Memory → ⊥) → TakesAtMost b c (8 * keys_taken 0 count (Some e)) → Reads b c (keys_at version 0 count) v (Err e) → TakesOfFile a c (Some e)
+pub file_stops_in_keys : {X : Type 0} (a b c : Option (List ℕ)) (version : Version) (count : ℕ) (v : X → List ℕ) (e : KeyFault) → HeaderRead a b version count → (IsErrOf {T = X} (Err e) faults.Memory → ⊥) → TakesAtMost b c (8 * keys_taken 0 count (Some e)) → ReadsKeys b c (keys_at version 0 count) v (Err e) → TakesOfFile a c (Some e)
 file_stops_in_keys None b c version count v e h other t fails = takes_of_unknown c (file_bytes 0 (Some e))
 file_stops_in_keys (Some x) None c version count v e h other t fails = absurd h.read
 file_stops_in_keys {X = X} (Some x) (Some y) c version count v e h other t fails =
     subst (λ n. TakesAtMost (Some x) c (file_bytes n (Some e))) (sym (count_is x (Some y) version count h)) (takes_both (Some x) (Some y) c header_bytes (8 * keys_taken 0 count (Some e)) (file_bytes count (Some e)) h.taken t
     (keys_fit X count e (keys_at version 0 count y) other (keys_come version 0 count y) fails))
 
-pub file_stops_at_end : {X : Type 0} (a b c d : Option (List ℕ)) (version : Version) (count : ℕ) (v : X → List ℕ) (e : KeyFault) → HeaderRead a b version count → (IsErrOf {T = X} (Err e) faults.Memory → ⊥) → TakesAtMost b c (8 * count) → TakesAtMost c d 1 → Reads c d (end_at Long) v (Err e) → TakesOfFile a d (Some e)
+pub file_stops_at_end : {X : Type 0} (a b c d : Option (List ℕ)) (version : Version) (count : ℕ) (v : X → List ℕ) (e : KeyFault) → HeaderRead a b version count → (IsErrOf {T = X} (Err e) faults.Memory → ⊥) → TakesAtMost b c (8 * count) → TakesAtMost c d 1 → ReadsKeys c d (end_at Long) v (Err e) → TakesOfFile a d (Some e)
 file_stops_at_end None b c d version count v e h other s t fails = takes_of_unknown d (file_bytes 0 (Some e))
 file_stops_at_end (Some x) None c d version count v e h other s t fails = absurd h.read
 file_stops_at_end (Some x) (Some y) None d version count v e h other s t fails = absurd s.consumed

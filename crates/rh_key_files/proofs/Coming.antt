@@ -10,7 +10,7 @@ use Rattle.rh_key_files.specs.declared.stream.State.{State}
 use Rattle.rh_key_files.specs.declared.stream.State.TheVariants.{Open, Ended, Failed}
 use Rattle.rh_key_files.specs.declared.header.Header.{Header}
 use Rattle.rh_key_files.specs.Input.{◌>>=◌, end_at}
-use Rattle.rh_key_files.specs.Reading.{Fails, Reads, count_in_header, front_of, header_at, keys_at, batch_at, after_header, ended, file_keys, is_silent}
+use Rattle.rh_key_files.specs.Reading.{KeysFail, ReadsKeys, count_in_header, front_of, header_at, keys_at, batch_at, after_header, keys_ended, file_keys, is_silent}
 use Rattle.rh_key_files.specs.Source.{Gives, ComesFrom, FaultComes, HasCount, keys_in, keys_of_file, keys_then}
 use Rattle.rh_key_files.specs.Stream.{answer_again, coming_in, keys_to_end, state_after}
 use Rattle.rh_key_files.proofs.Reading.{Fails-then, with_front}
@@ -24,7 +24,7 @@ Read = Result (List ℕ × List ℕ) KeyFault
 
 -- ---- faults
 
-fails_itself : (e : KeyFault) → Fails {X = List ℕ} e (Err e)
+fails_itself : (e : KeyFault) → KeysFail {X = List ℕ} e (Err e)
 fails_itself faults.Read = tt
 fails_itself faults.Memory = tt
 fails_itself NotKeys = refl
@@ -33,7 +33,7 @@ fails_itself TooMany = refl
 fails_itself (BadKey index) = refl
 fails_itself Long = refl
 
-keys_fail : (e : KeyFault) (r : Read) → Fails e r → Fails e (keys_in r)
+keys_fail : (e : KeyFault) (r : Read) → KeysFail e r → KeysFail e (keys_in r)
 keys_fail faults.Read r h = tt
 keys_fail faults.Memory r h = tt
 keys_fail NotKeys r h = rw h refl
@@ -52,22 +52,22 @@ end_last : (front keys : List ℕ) (r : Read) → keys_in (r >>= (λ end. Ok (fr
 end_last front keys (Ok p) = refl
 end_last front keys (Err e) = refl
 
-front_first : (front : List ℕ) (r : Read) → keys_in ((r >>= with_front front) >>= ended) ≡ keys_then front (keys_in (r >>= ended))
+front_first : (front : List ℕ) (r : Read) → keys_in ((r >>= with_front front) >>= keys_ended) ≡ keys_then front (keys_in (r >>= keys_ended))
 front_first front (Ok p) = end_last front p.0 (end_at Long p.1)
 front_first front (Err e) = refl
 
-batch_fault : (version : Version) (index left room : ℕ) (bytes : List ℕ) (e : KeyFault) → Fails e (batch_at version index left room bytes) → Fails e (keys_to_end version index left bytes)
+batch_fault : (version : Version) (index left room : ℕ) (bytes : List ℕ) (e : KeyFault) → KeysFail e (batch_at version index left room bytes) → KeysFail e (keys_to_end version index left bytes)
 unfolding keys_at
 batch_fault version index zero room bytes e h =
-    keys_fail e (end_at Long bytes >>= (λ end. Ok ([], end.1))) (Fails-then is_silent e (end_at Long bytes) (λ end. Ok ([], end.1)) (subst (Fails e) (none_left version index 0 room bytes refl) h))
+    keys_fail e (end_at Long bytes >>= (λ end. Ok ([], end.1))) (Fails-then is_silent e (end_at Long bytes) (λ end. Ok ([], end.1)) (subst (KeysFail e) (none_left version index 0 room bytes refl) h))
 batch_fault version index (suc left) room bytes e h =
     let many : ℕ = min room (suc left) in
     let first : Read = keys_at version index many bytes in
     let both : List ℕ × List ℕ → Read = and_next version (index + many) (suc left - many) in
-    let fails : Fails e first = subst (Fails e) (some_left version index (suc left) room many bytes (omega arith) refl) h in
+    let fails : KeysFail e first = subst (KeysFail e) (some_left version index (suc left) room many bytes (omega arith) refl) h in
     let whole : many + (suc left - many) ≡ suc left = omega arith in
-    subst (λ r. Fails e (keys_in (r >>= ended))) (sym (in_two version index (suc left) many bytes whole))
-    (keys_fail e ((first >>= both) >>= ended) (Fails-then is_silent e (first >>= both) ended (Fails-then is_silent e first both fails)))
+    subst (λ r. KeysFail e (keys_in (r >>= keys_ended))) (sym (in_two version index (suc left) many bytes whole))
+    (keys_fail e ((first >>= both) >>= keys_ended) (Fails-then is_silent e (first >>= both) keys_ended (Fails-then is_silent e first both fails)))
 
 no_batch : (version : Version) (index left room : ℕ) (bytes keys rest : List ℕ) → left ≡ 0 → batch_at version index left room bytes ≡ Ok (keys, rest) → keys_to_end version index left bytes ≡ Ok []
 unfolding keys_at
@@ -79,7 +79,7 @@ one_batch : (version : Version) (index left room many : ℕ) (bytes keys rest : 
 one_batch version index left room many bytes keys rest some is h =
     let first : keys_at version index many bytes ≡ Ok (keys, rest) = sym (some_left version index left room many bytes some is) ∙ h in
     let whole : many + (left - many) ≡ left = omega (arith, is) in
-    ap (λ (r : Read). keys_in (r >>= ended)) (in_two version index left many bytes whole ∙ ap (λ (r : Read). r >>= and_next version (index + many) (left - many)) first)
+    ap (λ (r : Read). keys_in (r >>= keys_ended)) (in_two version index left many bytes whole ∙ ap (λ (r : Read). r >>= and_next version (index + many) (left - many)) first)
     ∙ front_first keys (keys_at version (index + many) (left - many) rest)
 
 -- ---- a stream
@@ -89,7 +89,7 @@ still_open left n some = rw (ne_eqb left 0 (λ z. omega (arith, z, some))) refl
 
 pub gives : (before now : State) (version : Version) (index left room : ℕ) (a b : Option (List ℕ)) (later : List ℕ → Result (List ℕ) KeyFault) (batch : List ℕ) (r : Result ℕ KeyFault)
     → 0 < room
-    → (before ≡ Open → Reads a b (batch_at version index left room) (front_of batch) r)
+    → (before ≡ Open → ReadsKeys a b (batch_at version index left room) (front_of batch) r)
     → (before ≡ Open → IfOk r (λ n. n ≡ min room left))
     → (before ≡ Open → now ≡ state_after left r)
     → (before ≢ Open → r ≡ answer_again before)
@@ -122,13 +122,13 @@ moved_on header later taken now r same taken_too n is =
 
 -- ---- at the beginning
 
-pub comes : (header : Header) (a b : Option (List ℕ)) → Reads a b header_at (λ (h : Header). h) (Ok header) → ComesFrom a (option_map (keys_to_end header.version 0 header.count) b)
+pub comes : (header : Header) (a b : Option (List ℕ)) → ReadsKeys a b header_at (λ (h : Header). h) (Ok header) → ComesFrom a (option_map (keys_to_end header.version 0 header.count) b)
 unfolding file_keys
 comes header None b h = tt
 comes header (Some x) None h = absurd h
 comes header (Some x) (Some y) h = rw h refl
 
-pub does_not_come : (a : Option (List ℕ)) (e : KeyFault) → Reads a None header_at (λ (h : Header). h) (Err e) → FaultComes (option_map keys_of_file a) e
+pub does_not_come : (a : Option (List ℕ)) (e : KeyFault) → ReadsKeys a None header_at (λ (h : Header). h) (Err e) → FaultComes (option_map keys_of_file a) e
 unfolding file_keys
 does_not_come None e h = tt
 does_not_come (Some x) e h = keys_fail e (header_at x >>= after_header) (Fails-then is_silent e (header_at x) after_header h)
@@ -137,14 +137,14 @@ keys_told : (r : Read) (keys : List ℕ) → keys_in r ≡ Ok keys → (p : List
 keys_told (Ok p) keys h = (p, refl, ap (λ (r : Result (List ℕ) KeyFault). elim r [ Ok k ↦ k | Err e ↦ p.0 ]) h)
 keys_told (Err e) keys h = absurd cc
 
-pub counts : (header : Header) (a b : Option (List ℕ)) → Reads a b header_at (λ (h : Header). h) (Ok header) → HasCount a header.count
+pub counts : (header : Header) (a b : Option (List ℕ)) → ReadsKeys a b header_at (λ (h : Header). h) (Ok header) → HasCount a header.count
 unfolding file_keys
 counts header None b h = tt
 counts header (Some x) None h = absurd h
 counts header (Some x) (Some y) h = λ keys is.
-    let here : keys_in (keys_at header.version 0 header.count y >>= ended) ≡ Ok keys = rw h at is in
-    let p = keys_told (keys_at header.version 0 header.count y >>= ended) keys here in
-    let t = then_ok (keys_at header.version 0 header.count y) ended p.0 p.1 in
+    let here : keys_in (keys_at header.version 0 header.count y >>= keys_ended) ≡ Ok keys = rw h at is in
+    let p = keys_told (keys_at header.version 0 header.count y >>= keys_ended) keys here in
+    let t = then_ok (keys_at header.version 0 header.count y) keys_ended p.0 p.1 in
     let u = then_ok (end_at Long t.0.1) (λ end. Ok (t.0.0, end.1)) p.0 t.2 in
     let same : t.0.0 ≡ keys = same_value (t.0.0, u.0.1) p.0 u.2 ∙ p.2 in
     ap length (sym same) ∙ (keys_read header.version 0 header.count y t.0 t.1).many

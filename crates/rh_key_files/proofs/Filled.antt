@@ -14,7 +14,7 @@ use Rattle.rh_key_files.specs.declared.fault.KeyFault.{KeyFault}
 use Rattle.rh_key_files.specs.declared.fault.KeyFault.TheVariants.{Short, BadKey}
 use Rattle.rh_key_files.specs.KeyFile.{least_key, eight_bytes, spelled_keys}
 use Rattle.rh_key_files.specs.Input.{◌>>=◌, always, bytes_at, number_at, with_head}
-use Rattle.rh_key_files.specs.Reading.{Reads, is_key_in, is_refused, key_at, keys_at}
+use Rattle.rh_key_files.specs.Reading.{ReadsKeys, is_key_in, is_refused, key_at, keys_at}
 use Rattle.rh_key_files.proofs.Spelled.{begins_not}
 use Rattle.rh_key_files.proofs.Reading.{with_front}
 use Rattle.rh_key_files.proofs.Batches.{and_next, keys_at-add}
@@ -99,7 +99,7 @@ filled_keys version index part keys n front bytes rest f is =
     ap (λ m. keys_at version index m bytes) (sym all) ∙ keys_at-add version index (length front) (length keys - length front) bytes
     ∙ ap (λ (r : Result (List ℕ × List ℕ) KeyFault). r >>= and_next version (index + length front) (length keys - length front)) (ap (keys_at version index (length front)) apart ∙ keys_spelled version index front (half_key part n ++ rest) small)
 
-pub part_refused : {X : Type 0} (version : Version) (index : ℕ) (a b : Option (List ℕ)) (part keys : List ℕ) (n : ℕ) (front : List ℕ) (bad : ℕ) (v : X → List ℕ) → IsFilled part keys n front → Some bad ≡ position_from (is_refused version) index front → Consumes a b (take n part) → Reads a b (keys_at version index (length keys)) v (Err (BadKey bad))
+pub part_refused : {X : Type 0} (version : Version) (index : ℕ) (a b : Option (List ℕ)) (part keys : List ℕ) (n : ℕ) (front : List ℕ) (bad : ℕ) (v : X → List ℕ) → IsFilled part keys n front → Some bad ≡ position_from (is_refused version) index front → Consumes a b (take n part) → ReadsKeys a b (keys_at version index (length keys)) v (Err (BadKey bad))
 part_refused version index None b part keys n front bad v f refused h = tt
 part_refused version index (Some x) None part keys n front bad v f refused h = absurd h
 part_refused version index (Some x) (Some y) part keys n front bad v f refused h = rw (filled_keys version index part keys n front x y f h, sym refused) refl
@@ -110,7 +110,7 @@ unfolding keys_at key_at number_at bytes_at
 no_key version index zero bytes some few = absurd (omega (arith, some))
 no_key version index (suc n) bytes some few = rw (begins_not 8 bytes few) refl
 
-pub part_short : {X : Type 0} (version : Version) (index : ℕ) (a b : Option (List ℕ)) (part keys : List ℕ) (n : ℕ) (front : List ℕ) (v : X → List ℕ) → IsFilled part keys n front → None ≡ position_from (is_refused version) index front → n < length part → Consumes a b (take n part) → IsAtEnd b → Reads a b (keys_at version index (length keys)) v (Err Short)
+pub part_short : {X : Type 0} (version : Version) (index : ℕ) (a b : Option (List ℕ)) (part keys : List ℕ) (n : ℕ) (front : List ℕ) (v : X → List ℕ) → IsFilled part keys n front → None ≡ position_from (is_refused version) index front → n < length part → Consumes a b (take n part) → IsAtEnd b → ReadsKeys a b (keys_at version index (length keys)) v (Err Short)
 part_short version index None b part keys n front v f fine lt h end = tt
 part_short version index (Some x) None part keys n front v f fine lt h end = absurd h
 part_short version index (Some x) (Some y) part keys n front v f fine lt h end =
@@ -119,7 +119,7 @@ part_short version index (Some x) (Some y) part keys n front v f fine lt h end =
     let left : 0 < length keys - length front = omega (arith, ap length f.first, length-take (n / 8) keys, f.many) in
     rw (filled_keys version index part keys n front x y f h, sym fine) (ap (λ (r : Result (List ℕ × List ℕ) KeyFault). r >>= with_front front) (no_key version (index + length front) (length keys - length front) tail left few))
 
-pub part_full : (version : Version) (index : ℕ) (a b : Option (List ℕ)) (part keys : List ℕ) (n : ℕ) (front : List ℕ) → IsFilled part keys n front → None ≡ position_from (is_refused version) index front → length part ≤ n → Consumes a b (take n part) → Reads a b (keys_at version index (length keys)) (always {X = Unit {0}} keys) (Ok tt)
+pub part_full : (version : Version) (index : ℕ) (a b : Option (List ℕ)) (part keys : List ℕ) (n : ℕ) (front : List ℕ) → IsFilled part keys n front → None ≡ position_from (is_refused version) index front → length part ≤ n → Consumes a b (take n part) → ReadsKeys a b (keys_at version index (length keys)) (always {X = Unit {0}} keys) (Ok tt)
 part_full version index None b part keys n front f fine all h = tt
 part_full version index (Some x) None part keys n front f fine all h = absurd h
 part_full version index (Some x) (Some y) part keys n front f fine all h =

@@ -13,7 +13,7 @@ use Rattle.rh_key_files.specs.declared.fault.KeyFault.TheVariants.{NotKeys, Shor
 use Rattle.rh_key_files.specs.declared.header.Header.{Header}
 use Rattle.rh_key_files.specs.KeyFile.{magic, least_key, IsKeyIn, eight_bytes, spelled_keys, KeyFile, IsKeyFile}
 use Rattle.rh_key_files.specs.Input.{◌>>=◌, bytes_at, number_at, end_at, with_head}
-use Rattle.rh_key_files.specs.Reading.{named, version_at, few, count_at, with_count, after_version, header_at, is_key_in, in_range, key_at, keys_at, ended, after_header, file_keys}
+use Rattle.rh_key_files.specs.Reading.{named, version_at, few, count_at, with_count, after_version, header_at, is_key_in, in_range, key_at, keys_at, keys_ended, after_header, file_keys}
 use Rattle.rh_key_files.proofs.Parsed.{then_ok, same_value, same_rest, ok, bytes_read, number_read, end_read, bytes_given, number_given}
 
 -- ---- what is read is spelled so
@@ -107,7 +107,7 @@ pub file_read : (bytes : List ℕ) (p : List ℕ × List ℕ) → file_keys byte
 unfolding file_keys
 file_read bytes p h =
     let s = then_ok (header_at bytes) after_header p h in
-    let t = then_ok (keys_at s.0.0.version 0 s.0.0.count s.0.1) ended p s.2 in
+    let t = then_ok (keys_at s.0.0.version 0 s.0.0.count s.0.1) keys_ended p s.2 in
     let u = then_ok (end_at Long t.0.1) (λ end. Ok (t.0.0, end.1)) p t.2 in
     let header = header_read bytes s.0 s.1 in
     let keys = keys_read s.0.0.version 0 s.0.0.count s.0.1 t.0 t.1 in
@@ -156,7 +156,7 @@ keys_given version index (k ∷ keys) rest fit =
     let apart : spelled_keys (k ∷ keys) ++ rest ≡ eight_bytes k ++ (spelled_keys keys ++ rest) = append_assoc (eight_bytes k) (spelled_keys keys) rest in
     ap (keys_at version index (suc (length keys))) apart ∙ ap (λ r. r >>= (λ first. keys_at version (index + 1) (length keys) first.1 >>= with_head first.0)) first ∙ ap (λ r. r >>= with_head k) others
 
-no_more : (keys : List ℕ) → ended (keys, []) ≡ Ok (keys, [])
+no_more : (keys : List ℕ) → keys_ended (keys, []) ≡ Ok (keys, [])
 unfolding end_at
 no_more keys = refl
 
@@ -164,4 +164,4 @@ pub file_given : (version : Version) (bytes keys : List ℕ) → KeyFile version
 unfolding file_keys
 file_given version bytes keys f =
     let body : spelled_keys keys ++ [] ≡ spelled_keys keys = append-nil (spelled_keys keys) in
-    ap file_keys f.spelled ∙ ap (λ r. r >>= after_header) (header_given version (length keys) (spelled_keys keys) f.few) ∙ ap (λ l. keys_at version 0 (length keys) l >>= ended) (sym body) ∙ ap (λ r. r >>= ended) (keys_given version 0 keys [] f.in_range) ∙ no_more keys
+    ap file_keys f.spelled ∙ ap (λ r. r >>= after_header) (header_given version (length keys) (spelled_keys keys) f.few) ∙ ap (λ l. keys_at version 0 (length keys) l >>= keys_ended) (sym body) ∙ ap (λ r. r >>= keys_ended) (keys_given version 0 keys [] f.in_range) ∙ no_more keys

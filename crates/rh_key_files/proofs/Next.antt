@@ -6,7 +6,7 @@ use Rattle.rh_key_files.specs.declared.version.Version.{Version}
 use Rattle.rh_key_files.specs.declared.fault.KeyFault.{KeyFault}
 use Rattle.rh_key_files.specs.declared.fault.KeyFault.TheVariants.{Long}
 use Rattle.rh_key_files.specs.Input.{always, end_at}
-use Rattle.rh_key_files.specs.Reading.{CutShort, Reads, front_of, keys_at, batch_at}
+use Rattle.rh_key_files.specs.Reading.{CutShort, ReadsKeys, front_of, keys_at, batch_at}
 
 pub none_left : (version : Version) (index left room : ℕ) (bytes : List ℕ) → left ≡ 0 → batch_at version index left room bytes ≡ end_at Long bytes
 unfolding batch_at
@@ -16,20 +16,20 @@ pub some_left : (version : Version) (index left room many : ℕ) (bytes : List �
 unfolding batch_at
 some_left version index left room many bytes lt e = rw (ne_eqb left 0 (λ z. omega (arith, z, lt)), e) refl
 
-pub end_fails : (version : Version) (index left room : ℕ) (a b : Option (List ℕ)) (v : ℕ → List ℕ) (w : Unit {0} → List ℕ) (e : KeyFault) → left ≡ 0 → Reads a b (end_at Long) w (Err e) → Reads a b (batch_at version index left room) v (Err e)
+pub end_fails : (version : Version) (index left room : ℕ) (a b : Option (List ℕ)) (v : ℕ → List ℕ) (w : Unit {0} → List ℕ) (e : KeyFault) → left ≡ 0 → ReadsKeys a b (end_at Long) w (Err e) → ReadsKeys a b (batch_at version index left room) v (Err e)
 end_fails version index left room None b v w e z h = tt
 end_fails version index left room (Some x) b v w e z h = rw (none_left version index left room x z) h
 
-pub end_comes : (version : Version) (index left room : ℕ) (a b : Option (List ℕ)) (xs : List ℕ) → left ≡ 0 → Reads a b (end_at Long) (λ (u : Unit {0}). []) (Ok tt) → Reads a b (batch_at version index left room) (front_of xs) (Ok 0)
+pub end_comes : (version : Version) (index left room : ℕ) (a b : Option (List ℕ)) (xs : List ℕ) → left ≡ 0 → ReadsKeys a b (end_at Long) (λ (u : Unit {0}). []) (Ok tt) → ReadsKeys a b (batch_at version index left room) (front_of xs) (Ok 0)
 end_comes version index left room None b xs z h = tt
 end_comes version index left room (Some x) None xs z h = absurd h
 end_comes version index left room (Some x) (Some y) xs z h = none_left version index left room x z ∙ h
 
-pub keys_fail : (version : Version) (index left room many : ℕ) (a b : Option (List ℕ)) (v : ℕ → List ℕ) (w : Unit {0} → List ℕ) (e : KeyFault) → 0 < left → many ≡ min room left → Reads a b (keys_at version index many) w (Err e) → Reads a b (batch_at version index left room) v (Err e)
+pub keys_fail : (version : Version) (index left room many : ℕ) (a b : Option (List ℕ)) (v : ℕ → List ℕ) (w : Unit {0} → List ℕ) (e : KeyFault) → 0 < left → many ≡ min room left → ReadsKeys a b (keys_at version index many) w (Err e) → ReadsKeys a b (batch_at version index left room) v (Err e)
 keys_fail version index left room many None b v w e lt m h = tt
 keys_fail version index left room many (Some x) b v w e lt m h = rw (some_left version index left room many x lt m) h
 
-pub keys_come : (version : Version) (index left room many : ℕ) (a b : Option (List ℕ)) (ks rest : List ℕ) → 0 < left → many ≡ min room left → length ks ≡ many → Reads a b (keys_at version index (length ks)) (always {X = Unit {0}} ks) (Ok tt) → Reads a b (batch_at version index left room) (front_of (ks ++ rest)) (Ok many)
+pub keys_come : (version : Version) (index left room many : ℕ) (a b : Option (List ℕ)) (ks rest : List ℕ) → 0 < left → many ≡ min room left → length ks ≡ many → ReadsKeys a b (keys_at version index (length ks)) (always {X = Unit {0}} ks) (Ok tt) → ReadsKeys a b (batch_at version index left room) (front_of (ks ++ rest)) (Ok many)
 keys_come version index left room many None b ks rest lt m len h = tt
 keys_come version index left room many (Some x) None ks rest lt m len h = absurd h
 keys_come version index left room many (Some x) (Some y) ks rest lt m len h = some_left version index left room many x lt m ∙ ap (λ n. keys_at version index n x) (sym len) ∙ h ∙ ap (λ l. Ok (l, y)) (sym (take_at ks rest many len))

@@ -67,11 +67,11 @@ unfoldable pub batch_at : Version → ℕ → ℕ → ℕ → List ℕ → Resul
 batch_at version index left room bytes =
     if left == 0 then end_at Long bytes else keys_at version index (min room left) bytes
 
-abbrev pub ended : List ℕ × List ℕ → Result (List ℕ × List ℕ) KeyFault
-ended keys = end_at Long keys.1 >>= (λ end. Ok (keys.0, end.1))
+abbrev pub keys_ended : List ℕ × List ℕ → Result (List ℕ × List ℕ) KeyFault
+keys_ended keys = end_at Long keys.1 >>= (λ end. Ok (keys.0, end.1))
 
 abbrev pub after_header : Header × List ℕ → Result (List ℕ × List ℕ) KeyFault
-after_header header = keys_at header.0.version 0 header.0.count header.1 >>= ended
+after_header header = keys_at header.0.version 0 header.0.count header.1 >>= keys_ended
 
 -- a whole file: the keys, and nothing after them
 unfoldable pub file_keys : List ℕ → Result (List ℕ × List ℕ) KeyFault
@@ -85,11 +85,11 @@ is_silent faults.Read = true
 is_silent faults.Memory = true
 is_silent e = false
 
-abbrev pub Fails : {X : Type 0} → KeyFault → Result X KeyFault → Type 0
-Fails e said = input.Fails is_silent e said
+abbrev pub KeysFail : {X : Type 0} → KeyFault → Result X KeyFault → Type 0
+KeysFail e said = input.Fails is_silent e said
 
-abbrev pub Reads : {X Y : Type 0} → Option (List ℕ) → Option (List ℕ) → (List ℕ → Result (Y × List ℕ) KeyFault) → (X → Y) → Result X KeyFault → Type 0
-Reads old new reading view r = input.Reads is_silent old new reading view r
+abbrev pub ReadsKeys : {X Y : Type 0} → Option (List ℕ) → Option (List ℕ) → (List ℕ → Result (Y × List ℕ) KeyFault) → (X → Y) → Result X KeyFault → Type 0
+ReadsKeys old new reading view r = input.Reads is_silent old new reading view r
 
 -- the keys that were put at the front of a slice
 abbrev pub front_of : List ℕ → ℕ → List ℕ

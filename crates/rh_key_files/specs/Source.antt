@@ -1,7 +1,7 @@
 -- Keys that come in batches: what is still to come of them.
 use Rattle.std.specs.Prelude.{◌≡◌, ℕ, zero, suc, List, [], ◌++◌, length, take, Option, Some, None, Result, Ok, Err}
 use Rattle.rh_key_files.specs.declared.fault.KeyFault.{KeyFault}
-use Rattle.rh_key_files.specs.Reading.{Fails, file_keys}
+use Rattle.rh_key_files.specs.Reading.{KeysFail, file_keys}
 
 -- the keys still to come, or the fault that comes before their end, where that is known
 abbrev pub Coming : Type 0
@@ -25,7 +25,7 @@ keys_then front (Err e) = Err e
 -- Where no key was put there, none was to come; a fault is the one that was to come.
 abbrev pub Gives : Coming → Coming → List ℕ → Result ℕ KeyFault → Type 0
 Gives None new batch r = Unit {0}
-Gives (Some said) new batch (Err e) = Fails e said
+Gives (Some said) new batch (Err e) = KeysFail e said
 Gives (Some said) new batch (Ok zero) = said ≡ Ok []
 Gives (Some said) None batch (Ok (suc n)) = ⊥
 Gives (Some said) (Some rest) batch (Ok (suc n)) = said ≡ keys_then (take (suc n) batch) rest
@@ -38,7 +38,7 @@ AllCome (Some said) keys = said ≡ Ok keys
 -- this fault was to come, as far as that is known
 abbrev pub FaultComes : Coming → KeyFault → Type 0
 FaultComes None e = Unit {0}
-FaultComes (Some said) e = Fails e said
+FaultComes (Some said) e = KeysFail e said
 
 -- what is to come is the keys of a file of these bytes, where they are known
 abbrev pub ComesFrom : Option (List ℕ) → Coming → Type 0

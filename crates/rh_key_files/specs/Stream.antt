@@ -10,7 +10,7 @@ use Rattle.rh_key_files.specs.declared.stream.State.{State}
 use Rattle.rh_key_files.specs.declared.stream.State.TheVariants.{Open, Ended, Failed}
 use Rattle.rh_key_files.specs.Counting.{inner_of}
 use Rattle.rh_key_files.specs.Input.{◌>>=◌}
-use Rattle.rh_key_files.specs.Reading.{Reads, ended, header_at, keys_at}
+use Rattle.rh_key_files.specs.Reading.{ReadsKeys, keys_ended, header_at, keys_at}
 use Rattle.rh_key_files.specs.Source.{Coming, keys_in}
 
 -- the reader that the stream took on loan
@@ -61,12 +61,12 @@ as_err e = Err e
 
 -- The header was read as the reader's bytes say, where they are known.
 abbrev pub ReadsHeader : {R : Type 0} → (R → Option (List ℕ)) → R → Result (KeyStream R) KeyFault → Type 0
-ReadsHeader remaining old (Ok s) = Reads (remaining old) (remaining (inner_of (reader_of s))) header_at (λ h. h) (as_ok (header_of s))
-ReadsHeader remaining old (Err e) = Reads (remaining old) None header_at (λ h. h) (as_err e)
+ReadsHeader remaining old (Ok s) = ReadsKeys (remaining old) (remaining (inner_of (reader_of s))) header_at (λ h. h) (as_ok (header_of s))
+ReadsHeader remaining old (Err e) = ReadsKeys (remaining old) None header_at (λ h. h) (as_err e)
 
 -- n keys, of which the first has this index, and then the end
 abbrev pub keys_to_end : Version → ℕ → ℕ → List ℕ → Result (List ℕ) KeyFault
-keys_to_end version index n bytes = keys_in (keys_at version index n bytes >>= ended)
+keys_to_end version index n bytes = keys_in (keys_at version index n bytes >>= keys_ended)
 
 -- what is to come, of which an open stream would read this
 abbrev pub coming_in : State → Coming → Coming

@@ -6,7 +6,7 @@ ghost use Rattle.std.specs.List.{position_from};
 ghost use Rattle.rh_layout.specs.Key.{IsKey};
 ghost use Rattle.rh_key_files.specs.Counting.{Rose};
 ghost use Rattle.rh_key_files.specs.Taking.{TakesAtMost};
-ghost use Rattle.rh_key_files.specs.Reading.{CutShort, Reads, front_of};
+ghost use Rattle.rh_key_files.specs.Reading.{CutShort, ReadsKeys, front_of};
 ghost use Rattle.rh_key_files.specs.Reading.{batch_at, keys_at, is_refused};
 ghost use Rattle.rh_key_files.specs.Limits.{NoReadFailed, batch_bytes, keys_taken};
 ghost use Rattle.rh_key_files.specs.Input.{always, fault_of};
@@ -51,7 +51,7 @@ fn read_part<R: Read>(
 ) -> Result<(), KeyFault>
     requires room { length part.old ≡ 8 * length keys.old }
     requires small { index + length keys.old < 2 ^ 64 }
-    ensures known { Reads (R.remaining reader.old.inner) (R.remaining reader.new.inner)
+    ensures known { ReadsKeys (R.remaining reader.old.inner) (R.remaining reader.new.inner)
         (keys_at version index (length keys.new)) (always keys.new) result }
     ensures tested { IsErrOf result KeyFault.Read → CutShort (R.remaining reader.old.inner)
         (R.remaining reader.new.inner) (keys_at version index (length keys.new)) }
@@ -84,7 +84,7 @@ fn read_keys<R: Read>(
     batch: &mut [u64],
 ) -> Result<(), KeyFault>
     requires { index + length batch.old < 2 ^ 64 }
-    ensures known { Reads (R.remaining reader.old.inner) (R.remaining reader.new.inner)
+    ensures known { ReadsKeys (R.remaining reader.old.inner) (R.remaining reader.new.inner)
         (keys_at version index (length batch.new)) (always batch.new) result }
     ensures tested { IsErrOf result KeyFault.Read → CutShort (R.remaining reader.old.inner)
         (R.remaining reader.new.inner) (keys_at version index (length batch.new)) }
@@ -116,7 +116,7 @@ pub(crate) fn read_batch<R: Read>(
     batch: &mut [u64],
 ) -> Result<usize, KeyFault>
     requires { index + left < 2 ^ 64 }
-    ensures known { Reads (R.remaining reader.old.inner) (R.remaining reader.new.inner)
+    ensures known { ReadsKeys (R.remaining reader.old.inner) (R.remaining reader.new.inner)
         (batch_at version index left (length batch.new)) (front_of batch.new) result }
     ensures tested { IsErrOf result KeyFault.Read → 0 < left →
         CutShort (R.remaining reader.old.inner) (R.remaining reader.new.inner)

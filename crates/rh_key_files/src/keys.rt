@@ -6,7 +6,7 @@ ghost use Rattle.rh_key_files.specs.Counting.{Rose, failures_of, inner_of};
 ghost use Rattle.rh_key_files.specs.Taking.{TakesAtMost};
 ghost use Rattle.rh_key_files.specs.Limits.{NoReadFailed, TakesOfFile, keys_taken, most_bytes};
 ghost use Rattle.rh_key_files.specs.Input.{always, end_at, fault_of};
-ghost use Rattle.rh_key_files.specs.Reading.{BeginsWithHeader, Reads, IsReadFrom, file_keys, keys_at};
+ghost use Rattle.rh_key_files.specs.Reading.{BeginsWithHeader, ReadsKeys, IsReadFrom, file_keys, keys_at};
 ghost use Rattle.rh_key_files.specs.Stream.{reader_of, lender_of, version_of, count_of, taken_of};
 ghost use Rattle.rh_key_files.specs.Stream.{left_of, state_of};
 
@@ -23,7 +23,7 @@ fn read_all<R: Read>(stream: &mut KeyStream<'_, R>, keys: &mut [u64]) -> Result<
     requires none_taken { taken_of stream.old ≡ 0 }
     requires room { length keys.old ≡ count_of stream.old }
     ensures same_reference { lender_of stream.new ≡ lender_of stream.old }
-    ensures known { Reads (R.remaining (inner_of (reader_of stream.old)))
+    ensures known { ReadsKeys (R.remaining (inner_of (reader_of stream.old)))
         (R.remaining (inner_of (reader_of stream.new)))
         (keys_at (version_of stream.old) 0 (length keys.new)) (always keys.new) result }
     ensures in_range { OnOk result (All IsKey keys.new) }
@@ -49,7 +49,7 @@ fn read_end<R: Read>(stream: &mut KeyStream<'_, R>) -> Result<(), KeyFault>
     requires open { state_of stream.old ≡ State.Open }
     requires none_left { left_of stream.old ≡ 0 }
     ensures same_reference { lender_of stream.new ≡ lender_of stream.old }
-    ensures known { Reads (R.remaining (inner_of (reader_of stream.old)))
+    ensures known { ReadsKeys (R.remaining (inner_of (reader_of stream.old)))
         (R.remaining (inner_of (reader_of stream.new))) (end_at KeyFault.Long) (always []) result }
     ensures takes { TakesAtMost (R.remaining (inner_of (reader_of stream.old)))
         (R.remaining (inner_of (reader_of stream.new))) 1 }
@@ -68,7 +68,7 @@ fn read_end<R: Read>(stream: &mut KeyStream<'_, R>) -> Result<(), KeyFault>
 /// The keys of a key file, in its order. The memory for them is taken at once, after the header and
 /// before a key is read, and `Memory` comes only where that growth was refused.
 pub fn read_keys<R: Read>(alloc: Global, reader: &mut Counted<R>) -> Result<Vec<u64>, KeyFault>
-    ensures known { Reads (R.remaining (inner_of reader.old)) (R.remaining (inner_of reader.new))
+    ensures known { ReadsKeys (R.remaining (inner_of reader.old)) (R.remaining (inner_of reader.new))
         file_keys (λ v. v.items) result }
     ensures spelled { IfOk result (λ v. IsReadFrom
         (R.remaining (inner_of reader.old)) (R.remaining (inner_of reader.new)) v.items) }

@@ -5,7 +5,7 @@ ghost use Rattle.rh_key_files.specs.Counting.{Rose};
 ghost use Rattle.rh_key_files.specs.Taking.{TakesAtMost};
 ghost use Rattle.rh_key_files.specs.Input.{fault_of};
 ghost use Rattle.rh_key_files.specs.Limits.{header_taken, magic_bytes};
-ghost use Rattle.rh_key_files.specs.Reading.{Reads, version_at, count_at, header_at};
+ghost use Rattle.rh_key_files.specs.Reading.{ReadsKeys, version_at, count_at, header_at};
 
 use crate::counted::Counted;
 use crate::fault::KeyFault;
@@ -18,7 +18,7 @@ use std::io::Read;
 pub const MAX_KEYS: u64 = 1_000_000;
 
 fn read_version<R: Read>(reader: &mut Counted<R>) -> Result<Version, KeyFault>
-    ensures known { Reads (R.remaining reader.old.inner) (R.remaining reader.new.inner) version_at
+    ensures known { ReadsKeys (R.remaining reader.old.inner) (R.remaining reader.new.inner) version_at
         (λ v. v) result }
     ensures takes { TakesAtMost (R.remaining reader.old.inner) (R.remaining reader.new.inner)
         magic_bytes }
@@ -38,7 +38,7 @@ fn read_version<R: Read>(reader: &mut Counted<R>) -> Result<Version, KeyFault>
 }
 
 fn read_count<R: Read>(reader: &mut Counted<R>) -> Result<u64, KeyFault>
-    ensures known { Reads (R.remaining reader.old.inner) (R.remaining reader.new.inner) count_at
+    ensures known { ReadsKeys (R.remaining reader.old.inner) (R.remaining reader.new.inner) count_at
         (λ n. n) result }
     ensures few { IfOk result (λ n. n ≤ MAX_KEYS) }
     ensures takes { TakesAtMost (R.remaining reader.old.inner) (R.remaining reader.new.inner)
@@ -55,7 +55,7 @@ fn read_count<R: Read>(reader: &mut Counted<R>) -> Result<u64, KeyFault>
 }
 
 pub(crate) fn read_header<R: Read>(reader: &mut Counted<R>) -> Result<Header, KeyFault>
-    ensures known { Reads (R.remaining reader.old.inner) (R.remaining reader.new.inner) header_at
+    ensures known { ReadsKeys (R.remaining reader.old.inner) (R.remaining reader.new.inner) header_at
         (λ h. h) result }
     ensures few { IfOk result (λ h. h.count ≤ MAX_KEYS) }
     ensures takes { TakesAtMost (R.remaining reader.old.inner) (R.remaining reader.new.inner)

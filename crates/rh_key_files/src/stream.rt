@@ -42,7 +42,7 @@ impl<R: Read> KeyStream<'_, R> {
     ghost use Rattle.rh_key_files.specs.Taking.{TakesAtMost};
     ghost use Rattle.rh_key_files.specs.Limits.{NoReadFailed, batch_bytes};
     ghost use Rattle.rh_key_files.specs.Input.{fault_of};
-    ghost use Rattle.rh_key_files.specs.Reading.{CutShort, Reads, front_of, batch_at};
+    ghost use Rattle.rh_key_files.specs.Reading.{CutShort, ReadsKeys, front_of, batch_at};
     ghost use Rattle.rh_key_files.specs.Stream.{reader_of, lender_of, header_of, version_of, count_of};
     ghost use Rattle.rh_key_files.specs.Stream.{taken_of, left_of, state_of, state_after, answer_again};
 
@@ -64,7 +64,7 @@ impl<R: Read> KeyStream<'_, R> {
 
         // While the stream is open.
         ensures known { state_of self.old ≡ State.Open →
-            Reads (R.remaining (inner_of (reader_of self.old)))
+            ReadsKeys (R.remaining (inner_of (reader_of self.old)))
             (R.remaining (inner_of (reader_of self.new)))
             (batch_at (version_of self.old) (taken_of self.old) (left_of self.old)
             (length batch.new))

@@ -12,7 +12,7 @@ use Rattle.rh_numbers.specs.declared.fault.TextFault.TheVariants.{NotAKey, OutOf
 use Rattle.rh_numbers.specs.declared.line_so_far.LineSoFar.{LineSoFar}
 use Rattle.rh_numbers.specs.declared.line_so_far.LineSoFar.TheVariants.{Start, Blank, Comment, Number, After, Return, Other}
 use Rattle.rh_numbers.specs.Grammar.{AreLines, IsKeyText, IsOneLine, IsReturn, IsText, Says, blank, comment, last, more, number}
-use Rattle.rh_numbers.specs.Reading.{◌>>=◌, IsReadFrom, Reads, Said, if_no_fault, limited, next, said_from, text_keys, text_said, with_key, with_line}
+use Rattle.rh_numbers.specs.Reading.{◌>>=◌, IsTextReadFrom, ReadsText, Said, if_no_fault, limited, next, said_from, text_keys, text_said, with_key, with_line}
 use Rattle.rh_numbers.proofs.SoFar.{Means, Numeral, capped, means_next, no_spaces}
 
 -- what a line or a text gave: these keys, after those before
@@ -138,7 +138,7 @@ text_read text keys h =
     record { lines = t.lines; few = w.1; in_range = t.in_range }
 
 -- what a reader's known bytes were read to
-pub read_from : {X : Type 0} (a b : Option (List ℕ)) (view : X → List ℕ) (r : Result X TextFault) → Reads a b view r → IfOk r (λ x. IsReadFrom a b (view x))
+pub read_from : {X : Type 0} (a b : Option (List ℕ)) (view : X → List ℕ) (r : Result X TextFault) → ReadsText a b view r → IfOk r (λ x. IsTextReadFrom a b (view x))
 read_from None b view (Ok x) h = tt
 read_from None b view (Err e) h = tt
 read_from (Some bytes) b view (Err e) h = tt

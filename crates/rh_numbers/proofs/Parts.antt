@@ -10,7 +10,7 @@ use Rattle.rh_numbers.specs.declared.limits.TheConstants.{MAX_BYTES, PART_BYTES}
 use Rattle.rh_numbers.specs.declared.line_so_far.LineSoFar.{LineSoFar}
 use Rattle.rh_numbers.specs.declared.reading.Reading.{Reading}
 use Rattle.rh_numbers.specs.Parts.{PartGives, keys_read, said_by}
-use Rattle.rh_numbers.specs.Reading.{Fails, Reads, Said, Stops, said_from, text_said, with_line}
+use Rattle.rh_numbers.specs.Reading.{TextFails, ReadsText, Said, Stops, said_from, text_said, with_line}
 use Rattle.rh_numbers.proofs.Fronts.{all_said, the_fault, too_many_said}
 
 -- the byte at a position, with what stands before and after it
@@ -71,7 +71,7 @@ last_part part left old new false is gives = gives
 
 -- ---- a text of at most a million keys
 
-stops : (e : TextFault) (bytes keys : List ℕ) (said : Said) → text_said bytes ≡ said → length keys ≤ MAX_KEYS → Stops e keys said → Fails e bytes
+stops : (e : TextFault) (bytes keys : List ℕ) (said : Said) → text_said bytes ≡ said → length keys ≤ MAX_KEYS → Stops e keys said → TextFails e bytes
 stops faults.Memory bytes keys said is few h = tt
 stops faults.Read bytes keys said is few h = absurd h
 stops TooLong bytes keys said is few h = absurd h
@@ -80,13 +80,13 @@ stops (OutOfRange line) bytes keys said is few h = the_fault (text_said bytes) k
 stops TooMany bytes keys said is few (full, key, more, h) =
     too_many_said (text_said bytes) (keys ++ (key ∷ more)) ([], ap (λ s. s.0) is ∙ h ∙ sym (append-nil (keys ++ (key ∷ more)))) (omega (arith, full, length-append keys (key ∷ more)))
 
-unread : {X : Type 0} (a c : Option (List ℕ)) (view : X → List ℕ) → Reads a c view (Err faults.Read)
+unread : {X : Type 0} (a c : Option (List ℕ)) (view : X → List ℕ) → ReadsText a c view (Err faults.Read)
 unread None c view = tt
 unread (Some bytes) c view = tt
 
 -- the fault of a part, which is no failed read
 found : {X : Type 0} (a b c : Option (List ℕ)) (n : ℕ) (part keys after : List ℕ) (line : ℕ) (so_far : LineSoFar) (view : X → List ℕ) (e : TextFault) → GoesOn a b n keys line so_far → Consumes b c part
-    → length after ≤ MAX_KEYS → MatchOption c (Unit {0}) (λ rest. Stops e after (said_from keys line so_far (part ++ rest))) → Reads a c view (Err e)
+    → length after ≤ MAX_KEYS → MatchOption c (Unit {0}) (λ rest. Stops e after (said_from keys line so_far (part ++ rest))) → ReadsText a c view (Err e)
 found None b c n part keys after line so_far view e h read few stop = tt
 found (Some bytes) None c n part keys after line so_far view e h read few stop = absurd h
 found (Some bytes) (Some rest) None n part keys after line so_far view e h read few stop = absurd read
@@ -94,7 +94,7 @@ found (Some bytes) (Some rest) (Some more) n part keys after line so_far view e 
     stops e bytes after (said_from keys line so_far (part ++ more)) (h.0 ∙ ap (said_from keys line so_far) read) few stop
 
 pub refused : {X : Type 0} (a b c : Option (List ℕ)) (n : ℕ) (part keys after : List ℕ) (line : ℕ) (so_far : LineSoFar) (view : X → List ℕ) (e : TextFault) → GoesOn a b n keys line so_far → Consumes b c part
-    → length after ≤ MAX_KEYS → (e ≢ faults.Read → MatchOption c (Unit {0}) (λ rest. Stops e after (said_from keys line so_far (part ++ rest)))) → Reads a c view (Err e)
+    → length after ≤ MAX_KEYS → (e ≢ faults.Read → MatchOption c (Unit {0}) (λ rest. Stops e after (said_from keys line so_far (part ++ rest)))) → ReadsText a c view (Err e)
 refused a b c n part keys after line so_far view faults.Read h read few stop = unread a c view
 refused a b c n part keys after line so_far view faults.Memory h read few stop = found a b c n part keys after line so_far view faults.Memory h read few (stop (λ is. absurd cc))
 refused a b c n part keys after line so_far view TooLong h read few stop = found a b c n part keys after line so_far view TooLong h read few (stop (λ is. absurd cc))
@@ -103,7 +103,7 @@ refused a b c n part keys after line so_far view (NotAKey bad) h read few stop =
 refused a b c n part keys after line so_far view (OutOfRange bad) h read few stop = found a b c n part keys after line so_far view (OutOfRange bad) h read few (stop (λ is. absurd cc))
 
 pub finished : {X : Type 0} (a b c : Option (List ℕ)) (n : ℕ) (part keys : List ℕ) (line : ℕ) (so_far : LineSoFar) (view : X → List ℕ) (x : X) → GoesOn a b n keys line so_far → Consumes b c part → IsAtEnd c
-    → length (view x) ≤ MAX_KEYS → said_from keys line so_far part ≡ (view x, None) → Reads a c view (Ok x)
+    → length (view x) ≤ MAX_KEYS → said_from keys line so_far part ≡ (view x, None) → ReadsText a c view (Ok x)
 finished None b c n part keys line so_far view x h read end few is = tt
 finished (Some bytes) None c n part keys line so_far view x h read end few is = absurd h
 finished (Some bytes) (Some rest) None n part keys line so_far view x h read end few is = absurd read
@@ -111,7 +111,7 @@ finished (Some bytes) (Some rest) (Some more) n part keys line so_far view x h r
     let whole : rest ≡ part = read ∙ ap (λ l. part ++ l) end ∙ append-nil part in
     (all_said (text_said bytes) (view x) (h.0 ∙ ap (said_from keys line so_far) whole ∙ is) few, end)
 
-pub too_long : {X : Type 0} (a b : Option (List ℕ)) (n : ℕ) (keys : List ℕ) (line : ℕ) (so_far : LineSoFar) (view : X → List ℕ) → GoesOn a b n keys line so_far → MAX_BYTES ≤ n → Reads a b view (Err TooLong)
+pub too_long : {X : Type 0} (a b : Option (List ℕ)) (n : ℕ) (keys : List ℕ) (line : ℕ) (so_far : LineSoFar) (view : X → List ℕ) → GoesOn a b n keys line so_far → MAX_BYTES ≤ n → ReadsText a b view (Err TooLong)
 too_long None b n keys line so_far view h long = tt
 too_long (Some bytes) None n keys line so_far view h long = absurd h
 too_long (Some bytes) (Some rest) n keys line so_far view h long = omega (arith, h.1, long)

@@ -97,26 +97,26 @@ Stops TooMany keys said = (MAX_KEYS ≤ length keys) × (key : ℕ) × (more : L
 -- ---- what is said of a reader's bytes
 
 -- A failed read and want of memory say nothing of the bytes, and a text that is too long may have faults too.
-abbrev pub Fails : TextFault → List ℕ → Type 0
-Fails faults.Read bytes = Unit {0}
-Fails faults.Memory bytes = Unit {0}
-Fails TooLong bytes = MAX_BYTES ≤ length bytes
-Fails (NotAKey line) bytes = text_keys bytes ≡ Err (NotAKey line)
-Fails (OutOfRange line) bytes = text_keys bytes ≡ Err (OutOfRange line)
-Fails TooMany bytes = text_keys bytes ≡ Err TooMany
+abbrev pub TextFails : TextFault → List ℕ → Type 0
+TextFails faults.Read bytes = Unit {0}
+TextFails faults.Memory bytes = Unit {0}
+TextFails TooLong bytes = MAX_BYTES ≤ length bytes
+TextFails (NotAKey line) bytes = text_keys bytes ≡ Err (NotAKey line)
+TextFails (OutOfRange line) bytes = text_keys bytes ≡ Err (OutOfRange line)
+TextFails TooMany bytes = text_keys bytes ≡ Err TooMany
 
 -- Where the bytes are known, they were read to their end, and what view sees are the keys of the text; or this is the fault.
-abbrev pub Reads : {X : Type 0} → Option (List ℕ) → Option (List ℕ) → (X → List ℕ) → Result X TextFault → Type 0
-Reads None new view r = Unit {0}
-Reads (Some bytes) new view (Err e) = Fails e bytes
-Reads (Some bytes) None view (Ok x) = ⊥
-Reads (Some bytes) (Some rest) view (Ok x) = (text_keys bytes ≡ Ok (view x)) × (rest ≡ [])
+abbrev pub ReadsText : {X : Type 0} → Option (List ℕ) → Option (List ℕ) → (X → List ℕ) → Result X TextFault → Type 0
+ReadsText None new view r = Unit {0}
+ReadsText (Some bytes) new view (Err e) = TextFails e bytes
+ReadsText (Some bytes) None view (Ok x) = ⊥
+ReadsText (Some bytes) (Some rest) view (Ok x) = (text_keys bytes ≡ Ok (view x)) × (rest ≡ [])
 
 -- Known bytes are a text of these keys, and none is left.
-abbrev pub IsReadFrom : Option (List ℕ) → Option (List ℕ) → List ℕ → Type 0
-IsReadFrom None new keys = Unit {0}
-IsReadFrom (Some bytes) None keys = ⊥
-IsReadFrom (Some bytes) (Some rest) keys = IsKeyText bytes keys × (rest ≡ [])
+abbrev pub IsTextReadFrom : Option (List ℕ) → Option (List ℕ) → List ℕ → Type 0
+IsTextReadFrom None new keys = Unit {0}
+IsTextReadFrom (Some bytes) None keys = ⊥
+IsTextReadFrom (Some bytes) (Some rest) keys = IsKeyText bytes keys × (rest ≡ [])
 
 -- These bytes say these keys, and reading goes on after them, whatever comes: they hold no fault.
 abbrev pub SayOnly : (bytes keys : List ℕ) → Type 0

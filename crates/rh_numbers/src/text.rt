@@ -4,7 +4,7 @@ ghost use Rattle.std.specs.Prelude.{◌≡◌, ◌≢◌, ◌≤◌, length, All
 ghost use Rattle.rh_layout.specs.Key.{IsKey};
 ghost use Rattle.rh_key_files.specs.declared.parts.TheConstants.{MAX_KEYS};
 ghost use Rattle.rh_key_files.specs.Counting.{Rose, failures_of, inner_of};
-ghost use Rattle.rh_numbers.specs.Reading.{IsReadFrom, Reads, TakesToFault};
+ghost use Rattle.rh_numbers.specs.Reading.{IsTextReadFrom, ReadsText, TakesToFault};
 
 use crate::fault::TextFault;
 use crate::limits::MAX_READS;
@@ -16,9 +16,9 @@ use std::io::Read;
 /// The keys of a text, in its order. No line is kept in memory: only the keys take some, and
 /// `Memory` comes only where a growth was refused.
 pub fn read_numbers<R: Read>(alloc: Global, reader: &mut Counted<R>) -> Result<Vec<u64>, TextFault>
-    ensures known { Reads (R.remaining (inner_of reader.old)) (R.remaining (inner_of reader.new))
+    ensures known { ReadsText (R.remaining (inner_of reader.old)) (R.remaining (inner_of reader.new))
         (λ v. v.items) result }
-    ensures spelled { IfOk result (λ v. IsReadFrom
+    ensures spelled { IfOk result (λ v. IsTextReadFrom
         (R.remaining (inner_of reader.old)) (R.remaining (inner_of reader.new)) v.items) }
     ensures in_range { IfOk result (λ v. All IsKey v.items) }
     ensures few { IfOk result (λ v. length v.items ≤ MAX_KEYS) }

@@ -4,7 +4,7 @@ use Rattle.std.proofs.lemmas.Bool.{eq-eqb}
 use Rattle.rh_key_files.specs.declared.fault.KeyFault.{KeyFault}
 use Rattle.rh_key_files.specs.declared.fault.KeyFault.TheVariants as faults
 use Rattle.rh_key_files.specs.Counting.{Rose}
-use Rattle.rh_key_files.specs.Reading.{Fails}
+use Rattle.rh_key_files.specs.Reading.{KeysFail}
 use Rattle.rh_key_files.specs.Source.{AllCome, Coming, ComesFrom, FaultComes, keys_of_file}
 use Rattle.rh_key_files.proofs.Coming.{counts_its_keys}
 use Rattle.rh_runner.specs.declared.runner.PhaseFault.TheVariants as phase_faults
@@ -27,7 +27,7 @@ use Rattle.rh_operations.specs.Found.{count_again, count_or_cause, header_count,
 use Rattle.rh_operations.specs.KeyLists.{Gave, Opens, Stands, source_bytes}
 use Rattle.rh_operations.specs.Operations.{flipped_most, size_to_add, size_to_flip, size_to_keep}
 use Rattle.rh_operations.specs.Found.{keys_or_cause}
-use Rattle.rh_operations.specs.Sequence.{◌>>=◌}
+use Rattle.rh_key_files.specs.Input.{◌>>=◌}
 use Rattle.rh_operations.specs.Size.{size_for}
 use Rattle.rh_operations.specs.Refusals.{ListFails, MemoryFails, PhaseFails, WantedAfter}
 
@@ -133,7 +133,7 @@ module _ {A B : Type 0} (first : Result A Cause) (then : A → Result B Cause) (
   later_refused failed refused x is (inl said) = inl (ap (λ r. r >>= then) is ∙ said)
   later_refused failed refused x is (inr out) = inr out
 
-keys_fault : (bytes : List ℕ) (fault : KeyFault) (failed refused : Type 0) → Fails fault (keys_of_file bytes) → RefusedBy (keys_found (Some bytes)) (PhaseFails failed refused) (of_keys fault)
+keys_fault : (bytes : List ℕ) (fault : KeyFault) (failed refused : Type 0) → KeysFail fault (keys_of_file bytes) → RefusedBy (keys_found (Some bytes)) (PhaseFails failed refused) (of_keys fault)
 keys_fault bytes faults.Read failed refused h = inr tt
 keys_fault bytes faults.Memory failed refused h = inr tt
 keys_fault bytes faults.NotKeys failed refused h = inl (ap keys_or_cause h)

@@ -1,5 +1,4 @@
 pub mod Causes
-pub mod Sequence
 pub mod Size
 pub mod Found
 pub mod Refusals

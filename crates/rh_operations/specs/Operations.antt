@@ -10,16 +10,16 @@ use Rattle.rh_ledger.specs.Phase.{set_after, tally_of}
 use Rattle.rh_runner.specs.declared.choice.Chosen.TheVariants.{Absent, Present}
 use Rattle.rh_runner.specs.Lists.{chosen}
 use Rattle.rh_snapshot.specs.declared.version.Version.TheVariants.{Second}
-use Rattle.rh_snapshot.specs.Snapshot.{spelling}
+use Rattle.rh_snapshot.specs.Snapshot.{snap_spelling}
 use Rattle.rh_operations.specs.declared.cause.Cause.{Cause}
 use Rattle.rh_operations.specs.declared.operations.Flips.{Flips}
 use Rattle.rh_operations.specs.Found.{count_again, keys_again, keys_found}
-use Rattle.rh_operations.specs.Sequence.{◌>>=◌}
+use Rattle.rh_key_files.specs.Input.{◌>>=◌}
 use Rattle.rh_operations.specs.Size.{size_for}
 
 -- the bytes are the snapshot of a table: they spell a layout of its keys that has a free cell
 abbrev pub IsSnapshotOf : Held → List ℕ → Type 0
-IsSnapshotOf table bytes = (cells : List ℕ) × Layout cells table.bits table.keys × (set.len table.keys < 2 ^ table.bits) × (bytes ≡ spelling Second table.bits cells)
+IsSnapshotOf table bytes = (cells : List ℕ) × Layout cells table.bits table.keys × (set.len table.keys < 2 ^ table.bits) × (bytes ≡ snap_spelling Second table.bits cells)
 
 -- the keys were added
 pub record Added (keys : List ℕ) (old new : Held) (told : Tally) : Type 0 where

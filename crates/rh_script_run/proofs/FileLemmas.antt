@@ -16,7 +16,7 @@ use Rattle.rh_key_files.specs.Reading.{after_header, after_version, file_keys, h
 use Rattle.rh_key_files.specs.Source as source
 use Rattle.rh_key_files.specs.Source.{keys_of_file}
 use Rattle.rh_snapshot.specs.declared.version.Version.TheVariants.{Second}
-use Rattle.rh_snapshot.specs.Snapshot.{spelling}
+use Rattle.rh_snapshot.specs.Snapshot.{snap_spelling}
 use Rattle.rh_snapshot.proofs.Grammar.{file_given, second_file}
 use Rattle.rh_script.specs.Names.{is_given}
 use Rattle.rh_shelf.specs.Shelf.{Files, Puts, with_file}
@@ -46,7 +46,7 @@ four_read a b c d rest bytes =
     rw (long, bytes) refl
 
 -- a snapshot is no key file
-not_keys : (bits : ℕ) (cells : List ℕ) → keys_of_file (spelling Second bits cells) ≡ Err NotKeys
+not_keys : (bits : ℕ) (cells : List ℕ) → keys_of_file (snap_spelling Second bits cells) ≡ Err NotKeys
 unfolding file_keys header_at version_at
 not_keys bits cells =
     ap (λ four. source.keys_in (((four >>= named) >>= after_version) >>= after_header)) (four_read 82 72 83 50 _ refl)
@@ -63,7 +63,7 @@ found_table (Some (Sealed table)) found is =
     let same = layout_keys is.0 table.bits table.keys is.1 in
     let free : finset.len (keys_of is.0) < 2 ^ table.bits = subst (λ (S : Keys). finset.len S < 2 ^ table.bits) same is.2 in
     let file = second_file table.bits is.0 (layout_own is.0 table.bits table.keys is.1) free in
-    ap table_found is.3 ∙ ap table_or_cause (file_given Second (spelling Second table.bits is.0) table.bits is.0 file)
+    ap table_found is.3 ∙ ap table_or_cause (file_given Second (snap_spelling Second table.bits is.0) table.bits is.0 file)
     ∙ (λ i. Ok (record { bits = table.bits; keys = sym same i }))
 
 -- ---- files that are known

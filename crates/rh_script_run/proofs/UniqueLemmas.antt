@@ -6,7 +6,7 @@ use Rattle.rh_layout.proofs.CountLemmas.{free_from_len}
 use Rattle.rh_layout.proofs.OneLayout.{one_layout_of}
 use Rattle.rh_key_files.specs.Dump.{dump_text}
 use Rattle.rh_snapshot.specs.declared.version.Version.TheVariants.{Second}
-use Rattle.rh_snapshot.specs.Snapshot.{spelling}
+use Rattle.rh_snapshot.specs.Snapshot.{snap_spelling}
 use Rattle.rh_shelf.specs.Shelf.{Files}
 use Rattle.rh_report.specs.Account.{Account, Says}
 use Rattle.rh_report.specs.Account as accounts
@@ -41,7 +41,7 @@ pub one_found : (file : Option File) (found found' : Option (List ℕ)) → IsFi
 one_found None found found' p q = p ∙ sym q
 one_found (Some (Bytes bytes)) found found' p q = p ∙ sym q
 one_found (Some (Sealed table)) found found' p q =
-    p.3 ∙ ap (λ (cells : List ℕ). Some (spelling Second table.bits cells)) (one_cells p.0 q.0 table.bits table.keys p.1 q.1 p.2) ∙ sym q.3
+    p.3 ∙ ap (λ (cells : List ℕ). Some (snap_spelling Second table.bits cells)) (one_cells p.0 q.0 table.bits table.keys p.1 q.1 p.2) ∙ sym q.3
 
 pub same_files : (files : FileMap) (now now' : Option Files) → HasFiles files now → HasFiles files now' → now ≡ now'
 same_files files None now' has has' = absurd has

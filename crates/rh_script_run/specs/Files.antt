@@ -7,7 +7,7 @@ use Rattle.rh_layout.specs.Layout.{Layout}
 use Rattle.rh_edit.specs.Held.{Held}
 use Rattle.rh_shelf.specs.Shelf.{Files}
 use Rattle.rh_snapshot.specs.declared.version.Version.TheVariants.{Second}
-use Rattle.rh_snapshot.specs.Snapshot.{spelling}
+use Rattle.rh_snapshot.specs.Snapshot.{snap_spelling}
 
 -- What stands at a path: some bytes, or the snapshot of a table that the script put there.
 pub data File : Type 0 where
@@ -30,7 +30,7 @@ with_snapshot files path table = update bytes_eq files path (Some (Sealed table)
 abbrev pub IsFile : Option File → (found : Option (List ℕ)) → Type 0
 IsFile None found = found ≡ None
 IsFile (Some (Bytes bytes)) found = found ≡ Some bytes
-IsFile (Some (Sealed table)) found = (cells : List ℕ) × Layout cells table.bits table.keys × (set.len table.keys < 2 ^ table.bits) × (found ≡ Some (spelling Second table.bits cells))
+IsFile (Some (Sealed table)) found = (cells : List ℕ) × Layout cells table.bits table.keys × (set.len table.keys < 2 ^ table.bits) × (found ≡ Some (snap_spelling Second table.bits cells))
 
 -- these are the files of a shelf that are known
 abbrev pub HasFiles : FileMap → Option Files → Type 0

@@ -14,8 +14,8 @@ use Rattle.rh_snapshot.specs.declared.header.Header.{Header}
 use Rattle.rh_snapshot.specs.declared.fault.SnapFault.{SnapFault}
 use Rattle.rh_snapshot.specs.declared.fault.SnapFault.TheVariants as faults
 use Rattle.rh_snapshot.specs.declared.fault.SnapFault.TheVariants.{NotSnapshot, Short, BadBits, Damaged, NotALayout, Long}
-use Rattle.rh_snapshot.specs.Reading.{Fails, Reads, are_bits, bits_in, bits_at, header_at, numbers_at}
-use Rattle.rh_snapshot.specs.Limits.{magic_bytes, header_bytes, seal_bytes, header_taken, numbers_taken, sealed_bytes, whole_bytes, file_bytes, most_bytes, cells_in, cells_said, TakesOfFile}
+use Rattle.rh_snapshot.specs.Reading.{SnapFails, ReadsSnap, are_bits, bits_in, bits_at, snap_header_at, numbers_at}
+use Rattle.rh_snapshot.specs.Limits.{snap_magic_bytes, snap_header_bytes, seal_bytes, snap_header_taken, numbers_taken, sealed_bytes, whole_snap_bytes, snap_bytes, most_snap_bytes, cells_in, cells_said, TakesOfSnap}
 use Rattle.rh_snapshot.proofs.Whole.{HeaderRead}
 use Rattle.rh_snapshot.proofs.Grammar.{InRange, header_read}
 
@@ -42,17 +42,17 @@ IsLater e = Unit {0}
 number_later : (bytes : List ℕ) → IfErr (number_at Short bytes) IsLater
 number_later bytes = number_told IsLater Short tt bytes
 
-pub header_stops_at_bits : (a b c : Option (List ℕ)) (version : Version) (e : SnapFault) → TakesAtMost a b magic_bytes → TakesAtMost b c 1 → Reads b c (bits_at version) (λ (n : ℕ). n) (Err e) → TakesAtMost a c (header_taken (Some e))
-header_stops_at_bits None b c version e s t h = takes_of_unknown c (header_taken (Some e))
+pub header_stops_at_bits : (a b c : Option (List ℕ)) (version : Version) (e : SnapFault) → TakesAtMost a b snap_magic_bytes → TakesAtMost b c 1 → ReadsSnap b c (bits_at version) (λ (n : ℕ). n) (Err e) → TakesAtMost a c (snap_header_taken (Some e))
+header_stops_at_bits None b c version e s t h = takes_of_unknown c (snap_header_taken (Some e))
 header_stops_at_bits (Some x) None c version e s t h = absurd s.consumed
 header_stops_at_bits (Some x) (Some y) c version NotSnapshot s t h = absurd (subst (λ r. IfErr r IsNamed) h (bits_named version y))
-header_stops_at_bits (Some x) (Some y) c version e s t h = takes_both (Some x) (Some y) c magic_bytes 1 (header_taken (Some e)) s t (omega arith)
+header_stops_at_bits (Some x) (Some y) c version e s t h = takes_both (Some x) (Some y) c snap_magic_bytes 1 (snap_header_taken (Some e)) s t (omega arith)
 
-pub header_taken_whole : (a b c d : Option (List ℕ)) → TakesAtMost a b magic_bytes → TakesAtMost b c 1 → TakesAtMost c d 8 → TakesAtMost a d header_bytes
-header_taken_whole a b c d s t u = takes_then a c d (magic_bytes + 1) 8 (takes_then a b c magic_bytes 1 s t) u
+pub header_taken_whole : (a b c d : Option (List ℕ)) → TakesAtMost a b snap_magic_bytes → TakesAtMost b c 1 → TakesAtMost c d 8 → TakesAtMost a d snap_header_bytes
+header_taken_whole a b c d s t u = takes_then a c d (snap_magic_bytes + 1) 8 (takes_then a b c snap_magic_bytes 1 s t) u
 
-pub header_stops_at_count : (a b c d : Option (List ℕ)) (e : SnapFault) → TakesAtMost a b magic_bytes → TakesAtMost b c 1 → TakesAtMost c d 8 → Reads c d (number_at Short) (λ (n : ℕ). n) (Err e) → TakesAtMost a d (header_taken (Some e))
-header_stops_at_count None b c d e s t u h = takes_of_unknown d (header_taken (Some e))
+pub header_stops_at_count : (a b c d : Option (List ℕ)) (e : SnapFault) → TakesAtMost a b snap_magic_bytes → TakesAtMost b c 1 → TakesAtMost c d 8 → ReadsSnap c d (number_at Short) (λ (n : ℕ). n) (Err e) → TakesAtMost a d (snap_header_taken (Some e))
+header_stops_at_count None b c d e s t u h = takes_of_unknown d (snap_header_taken (Some e))
 header_stops_at_count (Some x) None c d e s t u h = absurd s.consumed
 header_stops_at_count (Some x) (Some y) None d e s t u h = absurd t.consumed
 header_stops_at_count (Some x) (Some y) (Some z) d NotSnapshot s t u h = absurd (subst (λ r. IfErr r IsLater) h (number_later z))
@@ -73,7 +73,7 @@ abbrev IsLong : SnapFault → Type 0
 IsLong Long = Unit {0}
 IsLong e = ⊥
 
-numbers_fit : (n : ℕ) (e : SnapFault) (r : Result (List ℕ × List ℕ) SnapFault) → IfErr r IsLater → Fails e r → header_bytes + numbers_taken n (Some e) ≤ file_bytes n (Some e)
+numbers_fit : (n : ℕ) (e : SnapFault) (r : Result (List ℕ × List ℕ) SnapFault) → IfErr r IsLater → SnapFails e r → snap_header_bytes + numbers_taken n (Some e) ≤ snap_bytes n (Some e)
 numbers_fit n faults.Read r later fails = omega arith
 numbers_fit n faults.Memory r later fails = omega arith
 numbers_fit n NotSnapshot r later fails = absurd (subst (λ r. IfErr r IsLater) fails later)
@@ -83,7 +83,7 @@ numbers_fit n Damaged r later fails = omega arith
 numbers_fit n NotALayout r later fails = omega arith
 numbers_fit n Long r later fails = omega arith
 
-seal_fits : (X : Type 0) (n : ℕ) (e : SnapFault) (r : Result (List ℕ × List ℕ) SnapFault) → (IsErrOf {T = X} (Err e) faults.Memory → ⊥) → IfErr r IsLater → Fails e r → sealed_bytes n ≤ file_bytes n (Some e)
+seal_fits : (X : Type 0) (n : ℕ) (e : SnapFault) (r : Result (List ℕ × List ℕ) SnapFault) → (IsErrOf {T = X} (Err e) faults.Memory → ⊥) → IfErr r IsLater → SnapFails e r → sealed_bytes n ≤ snap_bytes n (Some e)
 seal_fits X n faults.Read r other later fails = omega arith
 seal_fits X n faults.Memory r other later fails = absurd (other refl)
 seal_fits X n NotSnapshot r other later fails = absurd (subst (λ r. IfErr r IsLater) fails later)
@@ -93,7 +93,7 @@ seal_fits X n Damaged r other later fails = omega arith
 seal_fits X n NotALayout r other later fails = omega arith
 seal_fits X n Long r other later fails = omega arith
 
-end_fits : (X : Type 0) (n : ℕ) (e : SnapFault) (r : Result (List ℕ × List ℕ) SnapFault) → (IsErrOf {T = X} (Err e) faults.Memory → ⊥) → IfErr r IsLong → Fails e r → whole_bytes n ≤ file_bytes n (Some e)
+end_fits : (X : Type 0) (n : ℕ) (e : SnapFault) (r : Result (List ℕ × List ℕ) SnapFault) → (IsErrOf {T = X} (Err e) faults.Memory → ⊥) → IfErr r IsLong → SnapFails e r → whole_snap_bytes n ≤ snap_bytes n (Some e)
 end_fits X n faults.Read r other ends fails = omega arith
 end_fits X n faults.Memory r other ends fails = absurd (other refl)
 end_fits X n NotSnapshot r other ends fails = absurd (subst (λ r. IfErr r IsLong) fails ends)
@@ -110,33 +110,33 @@ cells_are bytes None header h = absurd h
 cells_are bytes (Some rest) header h = ap cells_in h
 
 -- so many bytes were taken, which are no more than those of this fault
-pub takes_within : (a b d : Option (List ℕ)) (header : Header) (n : ℕ) (fault : Option SnapFault) → HeaderRead a b (Ok header) → TakesAtMost a d n → n ≤ file_bytes (2 ^ header.bits) fault → TakesOfFile a d fault
-takes_within None b d header n fault h t fits = takes_of_unknown d (file_bytes 0 fault)
+pub takes_within : (a b d : Option (List ℕ)) (header : Header) (n : ℕ) (fault : Option SnapFault) → HeaderRead a b (Ok header) → TakesAtMost a d n → n ≤ snap_bytes (2 ^ header.bits) fault → TakesOfSnap a d fault
+takes_within None b d header n fault h t fits = takes_of_unknown d (snap_bytes 0 fault)
 takes_within (Some x) b d header n fault h t fits =
-    subst (λ cells. TakesAtMost (Some x) d (file_bytes cells fault)) (sym (cells_are x b header h)) (takes_fewer (Some x) d n (file_bytes (2 ^ header.bits) fault) t fits)
+    subst (λ cells. TakesAtMost (Some x) d (snap_bytes cells fault)) (sym (cells_are x b header h)) (takes_fewer (Some x) d n (snap_bytes (2 ^ header.bits) fault) t fits)
 
-pub file_stops_in_numbers : {N : Type 0} (v : N → List ℕ) (a b c : Option (List ℕ)) (header : Header) (e : SnapFault) → HeaderRead a b (Ok header) → TakesAtMost a b header_bytes → TakesAtMost b c (numbers_taken (2 ^ header.bits) (Some e)) → Reads b c (numbers_at (2 ^ header.bits)) v (Err e) → TakesOfFile a c (Some e)
-file_stops_in_numbers v None b c header e h s t fails = takes_of_unknown c (file_bytes 0 (Some e))
+pub file_stops_in_numbers : {N : Type 0} (v : N → List ℕ) (a b c : Option (List ℕ)) (header : Header) (e : SnapFault) → HeaderRead a b (Ok header) → TakesAtMost a b snap_header_bytes → TakesAtMost b c (numbers_taken (2 ^ header.bits) (Some e)) → ReadsSnap b c (numbers_at (2 ^ header.bits)) v (Err e) → TakesOfSnap a c (Some e)
+file_stops_in_numbers v None b c header e h s t fails = takes_of_unknown c (snap_bytes 0 (Some e))
 file_stops_in_numbers v (Some x) None c header e h s t fails = absurd h
 file_stops_in_numbers v (Some x) (Some y) c header e h s t fails =
-    takes_within (Some x) (Some y) c header (header_bytes + numbers_taken (2 ^ header.bits) (Some e)) (Some e) h (takes_then (Some x) (Some y) c header_bytes (numbers_taken (2 ^ header.bits) (Some e)) s t)
+    takes_within (Some x) (Some y) c header (snap_header_bytes + numbers_taken (2 ^ header.bits) (Some e)) (Some e) h (takes_then (Some x) (Some y) c snap_header_bytes (numbers_taken (2 ^ header.bits) (Some e)) s t)
     (numbers_fit (2 ^ header.bits) e (numbers_at (2 ^ header.bits) y) (numbers_later (2 ^ header.bits) y) fails)
 
-pub takes_sealed : (a b c d : Option (List ℕ)) (n : ℕ) → TakesAtMost a b header_bytes → TakesAtMost b c (8 * n) → TakesAtMost c d seal_bytes → TakesAtMost a d (sealed_bytes n)
-takes_sealed a b c d n s t u = takes_then a c d (header_bytes + 8 * n) seal_bytes (takes_then a b c header_bytes (8 * n) s t) u
+pub takes_sealed : (a b c d : Option (List ℕ)) (n : ℕ) → TakesAtMost a b snap_header_bytes → TakesAtMost b c (8 * n) → TakesAtMost c d seal_bytes → TakesAtMost a d (sealed_bytes n)
+takes_sealed a b c d n s t u = takes_then a c d (snap_header_bytes + 8 * n) seal_bytes (takes_then a b c snap_header_bytes (8 * n) s t) u
 
-pub file_stops_in_seal : {S : Type 0} (v : S → List ℕ) (a b c d : Option (List ℕ)) (header : Header) (e : SnapFault) → HeaderRead a b (Ok header) → (IsErrOf {T = S} (Err e) faults.Memory → ⊥) → TakesAtMost a c (header_bytes + 8 * 2 ^ header.bits) → TakesAtMost c d seal_bytes → Reads c d (bytes_at Short 32) v (Err e) → TakesOfFile a d (Some e)
-file_stops_in_seal v None b c d header e h other s t fails = takes_of_unknown d (file_bytes 0 (Some e))
+pub file_stops_in_seal : {S : Type 0} (v : S → List ℕ) (a b c d : Option (List ℕ)) (header : Header) (e : SnapFault) → HeaderRead a b (Ok header) → (IsErrOf {T = S} (Err e) faults.Memory → ⊥) → TakesAtMost a c (snap_header_bytes + 8 * 2 ^ header.bits) → TakesAtMost c d seal_bytes → ReadsSnap c d (bytes_at Short 32) v (Err e) → TakesOfSnap a d (Some e)
+file_stops_in_seal v None b c d header e h other s t fails = takes_of_unknown d (snap_bytes 0 (Some e))
 file_stops_in_seal v (Some x) b None d header e h other s t fails = absurd s.consumed
 file_stops_in_seal {S = S} v (Some x) b (Some z) d header e h other s t fails =
-    takes_within (Some x) b d header (sealed_bytes (2 ^ header.bits)) (Some e) h (takes_then (Some x) (Some z) d (header_bytes + 8 * 2 ^ header.bits) seal_bytes s t)
+    takes_within (Some x) b d header (sealed_bytes (2 ^ header.bits)) (Some e) h (takes_then (Some x) (Some z) d (snap_header_bytes + 8 * 2 ^ header.bits) seal_bytes s t)
     (seal_fits S (2 ^ header.bits) e (bytes_at Short 32 z) other (bytes_told IsLater Short tt 32 z) fails)
 
-pub file_stops_at_end : {X : Type 0} (v : X → List ℕ) (a b c d : Option (List ℕ)) (header : Header) (e : SnapFault) → HeaderRead a b (Ok header) → (IsErrOf {T = X} (Err e) faults.Memory → ⊥) → TakesAtMost a c (sealed_bytes (2 ^ header.bits)) → TakesAtMost c d 1 → Reads c d (end_at Long) v (Err e) → TakesOfFile a d (Some e)
-file_stops_at_end v None b c d header e h other s t fails = takes_of_unknown d (file_bytes 0 (Some e))
+pub file_stops_at_end : {X : Type 0} (v : X → List ℕ) (a b c d : Option (List ℕ)) (header : Header) (e : SnapFault) → HeaderRead a b (Ok header) → (IsErrOf {T = X} (Err e) faults.Memory → ⊥) → TakesAtMost a c (sealed_bytes (2 ^ header.bits)) → TakesAtMost c d 1 → ReadsSnap c d (end_at Long) v (Err e) → TakesOfSnap a d (Some e)
+file_stops_at_end v None b c d header e h other s t fails = takes_of_unknown d (snap_bytes 0 (Some e))
 file_stops_at_end v (Some x) b None d header e h other s t fails = absurd s.consumed
 file_stops_at_end {X = X} v (Some x) b (Some z) d header e h other s t fails =
-    takes_within (Some x) b d header (whole_bytes (2 ^ header.bits)) (Some e) h (takes_then (Some x) (Some z) d (sealed_bytes (2 ^ header.bits)) 1 s t)
+    takes_within (Some x) b d header (whole_snap_bytes (2 ^ header.bits)) (Some e) h (takes_then (Some x) (Some z) d (sealed_bytes (2 ^ header.bits)) 1 s t)
     (end_fits X (2 ^ header.bits) e (end_at Long z) other (end_told IsLong Long tt z) fails)
 
 -- ---- any file
@@ -145,15 +145,15 @@ at_most_bits : (version : Version) (bits : ℕ) → InRange version bits → bit
 at_most_bits First bits h = omega (arith, h.1)
 at_most_bits Second bits h = h.1
 
-few_cells : (r : Result (Header × List ℕ) SnapFault) (bytes : List ℕ) → header_at bytes ≡ r → cells_in r ≤ 2 ^ MAX_BITS
+few_cells : (r : Result (Header × List ℕ) SnapFault) (bytes : List ℕ) → snap_header_at bytes ≡ r → cells_in r ≤ 2 ^ MAX_BITS
 few_cells (Ok p) bytes h = pow_mono (at_most_bits p.0.version p.0.bits (header_read bytes p h).1)
 few_cells (Err e) bytes h = omega arith
 
 cells_few : (a : Option (List ℕ)) → cells_said a ≤ 2 ^ MAX_BITS
 cells_few None = omega arith
-cells_few (Some bytes) = few_cells (header_at bytes) bytes refl
+cells_few (Some bytes) = few_cells (snap_header_at bytes) bytes refl
 
-file_fits : (cells : ℕ) (fault : Option SnapFault) → cells ≤ 2 ^ MAX_BITS → file_bytes cells fault ≤ most_bytes
+file_fits : (cells : ℕ) (fault : Option SnapFault) → cells ≤ 2 ^ MAX_BITS → snap_bytes cells fault ≤ most_snap_bytes
 file_fits cells None few = omega (arith, few)
 file_fits cells (Some faults.Read) few = omega (arith, few)
 file_fits cells (Some faults.Memory) few = omega (arith, few)
@@ -164,5 +164,5 @@ file_fits cells (Some Damaged) few = omega (arith, few)
 file_fits cells (Some NotALayout) few = omega (arith, few)
 file_fits cells (Some Long) few = omega (arith, few)
 
-pub takes_of_any_file : (a b : Option (List ℕ)) (fault : Option SnapFault) → TakesOfFile a b fault → TakesAtMost a b most_bytes
-takes_of_any_file a b fault t = takes_fewer a b (file_bytes (cells_said a) fault) most_bytes t (file_fits (cells_said a) fault (cells_few a))
+pub takes_of_any_file : (a b : Option (List ℕ)) (fault : Option SnapFault) → TakesOfSnap a b fault → TakesAtMost a b most_snap_bytes
+takes_of_any_file a b fault t = takes_fewer a b (snap_bytes (cells_said a) fault) most_snap_bytes t (file_fits (cells_said a) fault (cells_few a))

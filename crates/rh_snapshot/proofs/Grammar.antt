@@ -21,35 +21,35 @@ use Rattle.rh_snapshot.specs.declared.version.Version.{Version}
 use Rattle.rh_snapshot.specs.declared.version.Version.TheVariants.{First, Second}
 use Rattle.rh_snapshot.specs.declared.header.Header.{Header}
 use Rattle.rh_snapshot.specs.declared.fault.SnapFault.TheVariants.{NotSnapshot, Short, BadBits, Damaged, NotALayout, Long}
-use Rattle.rh_snapshot.specs.Snapshot.{magic, most_bits, cells_as, header_of, spelled_header, spelled_numbers, text_of, spelling, SnapshotFile, Table, table_with, table_of, SnapshotOf, IsSnapshot}
-use Rattle.rh_snapshot.specs.Reading.{named, version_at, are_bits, bits_in, bits_at, with_count, after_bits, after_version, header_at, numbers_at, is_sealed, is_table, table_in, ended, after_numbers, after_header, file_table}
+use Rattle.rh_snapshot.specs.Snapshot.{snap_magic, most_bits, cells_as, snap_header_of, spelled_header, spelled_numbers, text_of, snap_spelling, SnapshotFile, Table, table_with, table_of, SnapshotOf, IsSnapshot}
+use Rattle.rh_snapshot.specs.Reading.{snap_named, snap_version_at, are_bits, bits_in, bits_at, with_snap_count, after_bits, after_snap_version, snap_header_at, numbers_at, is_sealed, is_table, table_in, snap_ended, after_numbers, after_snap_header, file_table}
 use Rattle.rh_snapshot.proofs.Seal.{seal_bytes}
 use Rattle.rh_snapshot.proofs.Whole.{is_good}
 use Rattle.rh_snapshot.proofs.Keys.{numbers_fit, same_keys, tested}
 
 -- ---- what is read is spelled so
 
-named_magic : (four : List ℕ × List ℕ) (p : Version × List ℕ) → named four ≡ Ok p → four.0 ++ four.1 ≡ magic p.0 ++ p.1
+named_magic : (four : List ℕ × List ℕ) (p : Version × List ℕ) → snap_named four ≡ Ok p → four.0 ++ four.1 ≡ snap_magic p.0 ++ p.1
 named_magic four p h =
-    elim (cases_Bool (bytes_eq four.0 (magic First))) [
+    elim (cases_Bool (bytes_eq four.0 (snap_magic First))) [
       | inl first ↦
           let got : ok (First, four.1) ≡ Ok p = rw first at h in
           let v : First ≡ p.0 = same_value (First, four.1) p got in
-          rw (← v, (bytes_eq-Decides four.0 (magic First)).0 first, same_rest (First, four.1) p got) refl
+          rw (← v, (bytes_eq-Decides four.0 (snap_magic First)).0 first, same_rest (First, four.1) p got) refl
       | inr other ↦
-          elim (cases_Bool (bytes_eq four.0 (magic Second))) [
+          elim (cases_Bool (bytes_eq four.0 (snap_magic Second))) [
             | inl second ↦
                 let got : ok (Second, four.1) ≡ Ok p = rw (other, second) at h in
                 let v : Second ≡ p.0 = same_value (Second, four.1) p got in
-                rw (← v, (bytes_eq-Decides four.0 (magic Second)).0 second, same_rest (Second, four.1) p got) refl
+                rw (← v, (bytes_eq-Decides four.0 (snap_magic Second)).0 second, same_rest (Second, four.1) p got) refl
             | inr neither ↦ let got : Err NotSnapshot ≡ Ok p = rw (other, neither) at h in absurd cc
           ]
     ]
 
-version_read : (bytes : List ℕ) (p : Version × List ℕ) → version_at bytes ≡ Ok p → bytes ≡ magic p.0 ++ p.1
-unfolding version_at
+version_read : (bytes : List ℕ) (p : Version × List ℕ) → snap_version_at bytes ≡ Ok p → bytes ≡ snap_magic p.0 ++ p.1
+unfolding snap_version_at
 version_read bytes p h =
-    let s = then_ok (bytes_at Short 4 bytes) named p h in
+    let s = then_ok (bytes_at Short 4 bytes) snap_named p h in
     (bytes_read Short 4 bytes s.0 s.1).whole ∙ named_magic s.0 p s.2
 
 abbrev pub InRange : Version → ℕ → Type 0
@@ -75,20 +75,20 @@ bits_read version bytes p h =
       | inr other ↦ let got : Err BadBits ≡ Ok p = rw other at s.2 in absurd cc
     ]
 
-header_spelled : (version : Version) (bits count : ℕ) (rest : List ℕ) → magic version ++ (bits ∷ (eight_bytes count ++ rest)) ≡ (magic version ++ (bits ∷ eight_bytes count)) ++ rest
-header_spelled version bits count rest = sym (append_assoc (magic version) (bits ∷ eight_bytes count) rest)
+header_spelled : (version : Version) (bits count : ℕ) (rest : List ℕ) → snap_magic version ++ (bits ∷ (eight_bytes count ++ rest)) ≡ (snap_magic version ++ (bits ∷ eight_bytes count)) ++ rest
+header_spelled version bits count rest = sym (append_assoc (snap_magic version) (bits ∷ eight_bytes count) rest)
 
-pub header_read : (bytes : List ℕ) (p : Header × List ℕ) → header_at bytes ≡ Ok p → (bytes ≡ spelled_header p.0 ++ p.1) × InRange p.0.version p.0.bits
-unfolding header_at
+pub header_read : (bytes : List ℕ) (p : Header × List ℕ) → snap_header_at bytes ≡ Ok p → (bytes ≡ spelled_header p.0 ++ p.1) × InRange p.0.version p.0.bits
+unfolding snap_header_at
 header_read bytes p h =
-    let s = then_ok (version_at bytes) after_version p h in
+    let s = then_ok (snap_version_at bytes) after_snap_version p h in
     let t = then_ok (bits_at s.0.0 s.0.1) (after_bits s.0.0) p s.2 in
-    let u = then_ok (number_at Short t.0.1) (with_count s.0.0 t.0.0) p t.2 in
+    let u = then_ok (number_at Short t.0.1) (with_snap_count s.0.0 t.0.0) p t.2 in
     let bits = bits_read s.0.0 s.0.1 t.0 t.1 in
     let header : Header = record { version = s.0.0; bits = t.0.0; count = u.0.0 } in
     let is : header ≡ p.0 = same_value (header, u.0.1) p u.2 in
     let rest : u.0.1 ≡ p.1 = same_rest (header, u.0.1) p u.2 in (
-      version_read bytes s.0 s.1 ∙ ap (λ l. magic s.0.0 ++ l) (bits.0 ∙ ap (λ l. t.0.0 ∷ l) (number_read Short t.0.1 u.0 u.1))
+      version_read bytes s.0 s.1 ∙ ap (λ l. snap_magic s.0.0 ++ l) (bits.0 ∙ ap (λ l. t.0.0 ∷ l) (number_read Short t.0.1 u.0 u.1))
           ∙ header_spelled s.0.0 t.0.0 u.0.0 u.0.1 ∙ ap (λ (w : Header). spelled_header w ++ u.0.1) is ∙ ap (λ l. spelled_header p.0 ++ l) rest,
       subst (λ (w : Header). InRange w.version w.bits) is bits.1,
     )
@@ -133,7 +133,7 @@ with_seal header numbers seal = sym (append_assoc (spelled_header header) (spell
 snapshot_read : (bytes : List ℕ) (header : Header) (numbers seal : List ℕ) (table : Table) → bytes ≡ text_of header numbers ++ seal → InRange header.version header.bits → Passed header numbers seal table → IsSnapshot bytes table
 snapshot_read bytes header numbers seal table whole in_range passed =
     let t = tested header numbers passed.test in
-    let own : Header = header_of header.version header.bits numbers in
+    let own : Header = snap_header_of header.version header.bits numbers in
     let counted : header ≡ own = ap (λ n. record { version = header.version; bits = header.bits; count = n }) (sym t.count) in
     let text : text_of header numbers ≡ text_of own numbers = ap (λ (w : Header). text_of w numbers) counted in
     let file : SnapshotFile header.version bytes header.bits numbers = record {
@@ -150,11 +150,11 @@ snapshot_read bytes header numbers seal table whole in_range passed =
 pub file_read : (bytes : List ℕ) (p : Table × List ℕ) → file_table bytes ≡ Ok p → IsSnapshot bytes p.0 × (p.1 ≡ [])
 unfolding file_table
 file_read bytes p h =
-    let s = then_ok (header_at bytes) after_header p h in
+    let s = then_ok (snap_header_at bytes) after_snap_header p h in
     let header = s.0.0 in
     let t = then_ok (numbers_at (2 ^ header.bits) s.0.1) (after_numbers header) p s.2 in
-    let u = then_ok (bytes_at Short 32 t.0.1) (λ seal. table_in header t.0.0 seal.0 >>= ended seal.1) p t.2 in
-    let v = then_ok (table_in header t.0.0 u.0.0) (ended u.0.1) p u.2 in
+    let u = then_ok (bytes_at Short 32 t.0.1) (λ seal. table_in header t.0.0 seal.0 >>= snap_ended seal.1) p t.2 in
+    let v = then_ok (table_in header t.0.0 u.0.0) (snap_ended u.0.1) p u.2 in
     let w = then_ok (end_at Long u.0.1) (λ end. Ok (v.0, end.1)) p v.2 in
     let head = header_read bytes s.0 s.1 in
     let end = end_read Long u.0.1 w.0 w.1 in
@@ -167,10 +167,10 @@ file_read bytes p h =
 
 -- ---- what is spelled is read
 
-version_given : (version : Version) (rest : List ℕ) → version_at (magic version ++ rest) ≡ Ok (version, rest)
-unfolding version_at
-version_given First rest = rw (bytes_given Short (magic First) rest 4 refl refl) refl
-version_given Second rest = rw (bytes_given Short (magic Second) rest 4 refl refl) refl
+version_given : (version : Version) (rest : List ℕ) → snap_version_at (snap_magic version ++ rest) ≡ Ok (version, rest)
+unfolding snap_version_at
+version_given First rest = rw (bytes_given Short (snap_magic First) rest 4 refl refl) refl
+version_given Second rest = rw (bytes_given Short (snap_magic Second) rest 4 refl refl) refl
 
 few_bits : (version : Version) (bits : ℕ) → bits ≤ most_bits version → bits ≤ MAX_BITS
 few_bits First bits le = omega (arith, le)
@@ -183,14 +183,14 @@ bits_given version bits rest fits =
     let test : are_bits version bits ≡ true = and_from (leb MIN_BITS bits) (leb bits (most_bits version)) (le-leb _ _ fits.0) (le-leb _ _ fits.1) in
     ap (λ r. r >>= bits_in version) (bytes_given Short (bits ∷ []) rest 1 refl (and_from (is_byte bits) true byte refl)) ∙ rw test refl
 
-header_given : (header : Header) (rest : List ℕ) → InRange header.version header.bits → header.count < 2 ^ 64 → header_at (spelled_header header ++ rest) ≡ Ok (header, rest)
-unfolding header_at
+header_given : (header : Header) (rest : List ℕ) → InRange header.version header.bits → header.count < 2 ^ 64 → snap_header_at (spelled_header header ++ rest) ≡ Ok (header, rest)
+unfolding snap_header_at
 header_given header rest fits small =
     let version = header.version in
     let bits = header.bits in
-    ap header_at (sym (header_spelled version bits header.count rest)) ∙ ap (λ r. r >>= after_version) (version_given version (bits ∷ (eight_bytes header.count ++ rest)))
+    ap snap_header_at (sym (header_spelled version bits header.count rest)) ∙ ap (λ r. r >>= after_snap_version) (version_given version (bits ∷ (eight_bytes header.count ++ rest)))
     ∙ ap (λ r. r >>= after_bits version) (bits_given version bits (eight_bytes header.count ++ rest) fits)
-    ∙ ap (λ r. r >>= with_count version bits) (number_given Short header.count rest small)
+    ∙ ap (λ r. r >>= with_snap_count version bits) (number_given Short header.count rest small)
 
 abbrev Fits : ℕ → Type 0
 Fits n = n < 2 ^ 64
@@ -204,7 +204,7 @@ numbers_given (n ∷ numbers) rest fit =
     let apart : spelled_numbers (n ∷ numbers) ++ rest ≡ eight_bytes n ++ (spelled_numbers numbers ++ rest) = append_assoc (eight_bytes n) (spelled_numbers numbers) rest in
     ap (numbers_at (suc (length numbers))) apart ∙ ap (λ r. r >>= (λ first. numbers_at (length numbers) first.1 >>= with_head first.0)) first ∙ ap (λ r. r >>= with_head n) others
 
-end_given : (table : Table) → ended [] table ≡ Ok (table, [])
+end_given : (table : Table) → snap_ended [] table ≡ Ok (table, [])
 unfolding end_at
 end_given table = refl
 
@@ -213,7 +213,7 @@ seal_given header numbers test =
     let seal = sha256 (text_of header numbers) in
     let good : is_sealed header numbers seal ≡ true = (bytes_eq-Decides seal seal).1 refl in
     let read : bytes_at Short 32 seal ≡ Ok (seal, []) = ap (bytes_at Short 32) (sym (append-nil seal)) ∙ bytes_given Short seal [] 32 (length-sha256 (text_of header numbers)) (seal_bytes (text_of header numbers)) in
-    ap (λ r. r >>= (λ s. table_in header numbers s.0 >>= ended s.1)) read ∙ ap (λ r. r >>= ended []) (is_good header numbers seal good test) ∙ end_given (table_with header numbers seal)
+    ap (λ r. r >>= (λ s. table_in header numbers s.0 >>= snap_ended s.1)) read ∙ ap (λ r. r >>= snap_ended []) (is_good header numbers seal good test) ∙ end_given (table_with header numbers seal)
 
 many_cells : (version : Version) (numbers : List ℕ) → length (cells_as version numbers) ≡ length numbers
 many_cells First numbers = length-map numbers _
@@ -230,18 +230,18 @@ all_fit version bits numbers layout = λ c d inside.
 pub file_given : (version : Version) (bytes : List ℕ) (bits : ℕ) (numbers : List ℕ) → SnapshotFile version bytes bits numbers → file_table bytes ≡ Ok (table_of version bits numbers, [])
 unfolding file_table
 file_given version bytes bits numbers f =
-    let header = header_of version bits numbers in
+    let header = snap_header_of version bits numbers in
     let seal = sha256 (text_of header numbers) in
     let size : 2 ^ bits ≡ length numbers = sym f.layout.size ∙ many_cells version numbers in
     let small : header.count < 2 ^ 64 = omega (arith, f.free, small_power bits (few_bits version bits f.in_range.1)) in
     let test : is_table header numbers ≡ true = and_from _ _ (and_from _ _ (eq-eqb _ _ refl) (lt-ltb _ _ f.free)) ((layout_decided bits (cells_as version numbers)).1 f.layout) in
-    ap file_table (f.spelled ∙ sym (with_seal header numbers seal)) ∙ ap (λ r. r >>= after_header) (header_given header (spelled_numbers numbers ++ seal) f.in_range small)
+    ap file_table (f.spelled ∙ sym (with_seal header numbers seal)) ∙ ap (λ r. r >>= after_snap_header) (header_given header (spelled_numbers numbers ++ seal) f.in_range small)
     ∙ ap (λ n. numbers_at n (spelled_numbers numbers ++ seal) >>= after_numbers header) size
     ∙ ap (λ r. r >>= after_numbers header) (numbers_given numbers seal (all_fit version bits numbers f.layout))
     ∙ seal_given header numbers test
 
 -- cells as they are written
-pub second_file : (bits : ℕ) (cells : List ℕ) → IsLayout bits cells → set.len (keys_of cells) < 2 ^ bits → SnapshotFile Second (spelling Second bits cells) bits cells
+pub second_file : (bits : ℕ) (cells : List ℕ) → IsLayout bits cells → set.len (keys_of cells) < 2 ^ bits → SnapshotFile Second (snap_spelling Second bits cells) bits cells
 second_file bits cells layout free = record {
   spelled = refl;
   in_range = layout.bits;

@@ -7,7 +7,7 @@ use Rattle.rh_snapshot.specs.declared.header.Header.{Header}
 use Rattle.rh_snapshot.specs.declared.fault.SnapFault.{SnapFault}
 use Rattle.rh_snapshot.specs.declared.fault.SnapFault.TheVariants.{Short}
 use Rattle.rh_snapshot.specs.Snapshot.{spelled_header, spelled_numbers, text_of}
-use Rattle.rh_snapshot.specs.Reading.{Fails, Reads, numbers_at, is_silent}
+use Rattle.rh_snapshot.specs.Reading.{SnapFails, ReadsSnap, numbers_at, is_snap_silent}
 
 abbrev Read : Type 0
 Read = Result (List ℕ × List ℕ) SnapFault
@@ -28,7 +28,7 @@ one_more : (front : List ℕ) (n : ℕ) (r : Read) → ((r >>= with_head n) >>= 
 one_more front n (Ok p) = ap (λ l. Ok (l, p.1)) (sym (append_assoc front (n ∷ []) p.0))
 one_more front n (Err e) = refl
 
-pub reads_on : (a b c : Option (List ℕ)) (i n : ℕ) (front next : List ℕ) → next ≡ front ++ n ∷ [] → ReadsOn a b i front → Reads b c (number_at Short) (λ (n : ℕ). n) (Ok n) → ReadsOn a c (i + 1) next
+pub reads_on : (a b c : Option (List ℕ)) (i n : ℕ) (front next : List ℕ) → next ≡ front ++ n ∷ [] → ReadsOn a b i front → ReadsSnap b c (number_at Short) (λ (n : ℕ). n) (Ok n) → ReadsOn a c (i + 1) next
 unfolding numbers_at
 reads_on None b c i n front next is p q = tt
 reads_on (Some x) None c i n front next is p q = absurd p
@@ -39,7 +39,7 @@ reads_on (Some x) (Some y) (Some z) i n front next is p q = λ m.
     ∙ ap (λ (r : Result (ℕ × List ℕ) SnapFault). (r >>= (λ first. numbers_at m first.1 >>= with_head first.0)) >>= with_front front) q
     ∙ one_more front n (numbers_at m z) ∙ ap (λ l. numbers_at m z >>= with_front l) (sym is)
 
-pub stops : {X : Type 0} (a b c : Option (List ℕ)) (i n : ℕ) (front : List ℕ) (w : X → List ℕ) (e : SnapFault) → i < n → ReadsOn a b i front → Reads b c (number_at Short) (λ (n : ℕ). n) (Err e) → Reads a c (numbers_at n) w (Err e)
+pub stops : {X : Type 0} (a b c : Option (List ℕ)) (i n : ℕ) (front : List ℕ) (w : X → List ℕ) (e : SnapFault) → i < n → ReadsOn a b i front → ReadsSnap b c (number_at Short) (λ (n : ℕ). n) (Err e) → ReadsSnap a c (numbers_at n) w (Err e)
 unfolding numbers_at
 stops None b c i n front w e lt p q = tt
 stops (Some x) None c i n front w e lt p q = absurd p
@@ -47,10 +47,10 @@ stops (Some x) (Some y) c i n front w e lt p q =
     let rest : ℕ = n - (i + 1) in
     let k : i + suc rest ≡ n = omega arith in
     let later = λ (first : ℕ × List ℕ). numbers_at rest first.1 >>= with_head first.0 in
-    subst (λ j. Fails e (numbers_at j x)) k
-    (subst (Fails e) (sym (p (suc rest))) (Fails-then is_silent e (number_at Short y >>= later) (with_front front) (Fails-then is_silent e (number_at Short y) later q)))
+    subst (λ j. SnapFails e (numbers_at j x)) k
+    (subst (SnapFails e) (sym (p (suc rest))) (Fails-then is_snap_silent e (number_at Short y >>= later) (with_front front) (Fails-then is_snap_silent e (number_at Short y) later q)))
 
-pub all_read : {X : Type 0} (a b : Option (List ℕ)) (n : ℕ) (numbers : List ℕ) (x : X) → ReadsOn a b n numbers → Reads a b (numbers_at n) (always numbers) (Ok x)
+pub all_read : {X : Type 0} (a b : Option (List ℕ)) (n : ℕ) (numbers : List ℕ) (x : X) → ReadsOn a b n numbers → ReadsSnap a b (numbers_at n) (always numbers) (Ok x)
 unfolding numbers_at
 all_read None b n numbers x p = tt
 all_read (Some bytes) None n numbers x p = absurd p

@@ -13,9 +13,9 @@ use Rattle.rh_snapshot.specs.declared.version.TheConstants.{FIRST_MAX_BITS}
 use Rattle.rh_snapshot.specs.declared.header.Header.{Header}
 
 -- the first four bytes
-abbrev pub magic : Version → List ℕ
-magic First = codes "RHS1"
-magic Second = codes "RHS2"
+abbrev pub snap_magic : Version → List ℕ
+snap_magic First = codes "RHS1"
+snap_magic Second = codes "RHS2"
 
 -- the greatest size of a table, in bits
 abbrev pub most_bits : Version → ℕ
@@ -38,11 +38,11 @@ keys_written First numbers = set.from_list (filter is_full numbers)
 keys_written Second numbers = keys_of numbers
 
 -- the header of these numbers, which counts the full cells
-abbrev pub header_of : Version → (bits : ℕ) → List ℕ → Header
-header_of version bits numbers = record { version = version; bits = bits; count = count_by is_full numbers }
+abbrev pub snap_header_of : Version → (bits : ℕ) → List ℕ → Header
+snap_header_of version bits numbers = record { version = version; bits = bits; count = count_by is_full numbers }
 
 abbrev pub spelled_header : Header → List ℕ
-spelled_header header = magic header.version ++ (header.bits ∷ eight_bytes header.count)
+spelled_header header = snap_magic header.version ++ (header.bits ∷ eight_bytes header.count)
 
 -- the numbers one after the other
 abbrev pub spelled_numbers : List ℕ → List ℕ
@@ -56,13 +56,13 @@ text_of header numbers = spelled_header header ++ spelled_numbers numbers
 abbrev pub sealed : List ℕ → List ℕ
 sealed text = text ++ sha256 text
 
--- the one spelling of these numbers in this version
-abbrev pub spelling : Version → (bits : ℕ) → List ℕ → List ℕ
-spelling version bits numbers = sealed (text_of (header_of version bits numbers) numbers)
+-- the one snap_spelling of these numbers in this version
+abbrev pub snap_spelling : Version → (bits : ℕ) → List ℕ → List ℕ
+snap_spelling version bits numbers = sealed (text_of (snap_header_of version bits numbers) numbers)
 
 -- the bytes are a snapshot of this version, of these numbers
 pub record SnapshotFile (version : Version) (bytes : List ℕ) (bits : ℕ) (numbers : List ℕ) : Type 0 where
-  pub spelled : bytes ≡ spelling version bits numbers
+  pub spelled : bytes ≡ snap_spelling version bits numbers
   pub in_range : (MIN_BITS ≤ bits) × (bits ≤ most_bits version)
   pub layout : IsLayout bits (cells_as version numbers)
   pub free : count_by is_full numbers < 2 ^ bits
@@ -81,7 +81,7 @@ table_with header numbers seal =
 -- the table of a snapshot of this version, of these numbers
 abbrev pub table_of : Version → (bits : ℕ) → List ℕ → Table
 table_of version bits numbers =
-    table_with (header_of version bits numbers) numbers (sha256 (text_of (header_of version bits numbers) numbers))
+    table_with (snap_header_of version bits numbers) numbers (sha256 (text_of (snap_header_of version bits numbers) numbers))
 
 -- The bytes are a snapshot of this version, of these numbers, and the table is theirs. It holds the keys that were written.
 pub record SnapshotOf (version : Version) (bytes numbers : List ℕ) (table : Table) : Type 0 where

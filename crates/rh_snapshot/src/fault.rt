@@ -1,7 +1,7 @@
 //! What can be wrong with a snapshot.
 
 ghost use Rattle.std.proofs.Common.{rules};
-ghost use Rattle.rh_snapshot.specs.Reading.{is_silent};
+ghost use Rattle.rh_snapshot.specs.Reading.{is_snap_silent};
 ghost use Rattle.rh_snapshot.specs.declared.fault.SnapFault.TheVariants.{Long, Memory, Read, Short};
 
 use rh_key_files::InputFault;
@@ -32,7 +32,7 @@ pub enum SnapFault {
 }
 
 impl InputFault for SnapFault {
-    ghost is_silent = { is_silent };
+    ghost is_silent = { is_snap_silent };
 
     ghost short_fault = { Short };
 

@@ -6,9 +6,9 @@ ghost use Rattle.rh_layout.specs.Key.{IsBits};
 ghost use Rattle.rh_key_files.specs.Counting.{Rose, failures_of, inner_of};
 ghost use Rattle.rh_key_files.specs.Taking.{TakesAtMost};
 ghost use Rattle.rh_key_files.specs.Input.{always, bytes_at, fault_of};
-ghost use Rattle.rh_snapshot.specs.Limits.{header_taken, magic_bytes, numbers_taken, seal_bytes};
+ghost use Rattle.rh_snapshot.specs.Limits.{snap_header_taken, snap_magic_bytes, numbers_taken, seal_bytes};
 ghost use Rattle.rh_snapshot.specs.Snapshot.{text_of};
-ghost use Rattle.rh_snapshot.specs.Reading.{Reads, version_at, bits_at, header_at, numbers_at};
+ghost use Rattle.rh_snapshot.specs.Reading.{ReadsSnap, snap_version_at, bits_at, snap_header_at, numbers_at};
 
 use crate::fault::SnapFault;
 use crate::header::Header;
@@ -19,10 +19,10 @@ use std::alloc::Global;
 use std::io::Read;
 
 fn read_version<R: Read>(reader: &mut Counted<R>) -> Result<Version, SnapFault>
-    ensures known { Reads (R.remaining (inner_of reader.old)) (R.remaining (inner_of reader.new))
-        version_at (λ v. v) result }
+    ensures known { ReadsSnap (R.remaining (inner_of reader.old)) (R.remaining (inner_of reader.new))
+        snap_version_at (λ v. v) result }
     ensures takes { TakesAtMost (R.remaining (inner_of reader.old))
-        (R.remaining (inner_of reader.new)) magic_bytes }
+        (R.remaining (inner_of reader.new)) snap_magic_bytes }
     ensures read { IsErrOf result SnapFault.Read →
         Rose (failures_of reader.old) (failures_of reader.new) }
     ensures no_memory { IsErrOf result SnapFault.Memory → ⊥ }
@@ -40,7 +40,7 @@ fn read_version<R: Read>(reader: &mut Counted<R>) -> Result<Version, SnapFault>
 }
 
 fn read_bits<R: Read>(reader: &mut Counted<R>, version: Version) -> Result<u32, SnapFault>
-    ensures known { Reads (R.remaining (inner_of reader.old)) (R.remaining (inner_of reader.new))
+    ensures known { ReadsSnap (R.remaining (inner_of reader.old)) (R.remaining (inner_of reader.new))
         (bits_at version) (λ b. b) result }
     ensures in_range { IfOk result IsBits }
     ensures takes { TakesAtMost (R.remaining (inner_of reader.old))
@@ -60,11 +60,11 @@ fn read_bits<R: Read>(reader: &mut Counted<R>, version: Version) -> Result<u32, 
 }
 
 pub(crate) fn read_header<R: Read>(reader: &mut Counted<R>) -> Result<Header, SnapFault>
-    ensures known { Reads (R.remaining (inner_of reader.old)) (R.remaining (inner_of reader.new))
-        header_at (λ h. h) result }
+    ensures known { ReadsSnap (R.remaining (inner_of reader.old)) (R.remaining (inner_of reader.new))
+        snap_header_at (λ h. h) result }
     ensures in_range { IfOk result (λ h. IsBits h.bits) }
     ensures takes { TakesAtMost (R.remaining (inner_of reader.old))
-        (R.remaining (inner_of reader.new)) (header_taken (fault_of result)) }
+        (R.remaining (inner_of reader.new)) (snap_header_taken (fault_of result)) }
     ensures read { IsErrOf result SnapFault.Read →
         Rose (failures_of reader.old) (failures_of reader.new) }
     ensures no_memory { IsErrOf result SnapFault.Memory → ⊥ }
@@ -88,7 +88,7 @@ fn fill_numbers<R: Read>(
     numbers: &mut [u64],
 ) -> Result<[u8; 32], SnapFault>
     requires { IsBits header.bits }
-    ensures known { Reads (R.remaining (inner_of reader.old)) (R.remaining (inner_of reader.new))
+    ensures known { ReadsSnap (R.remaining (inner_of reader.old)) (R.remaining (inner_of reader.new))
         (numbers_at (length numbers.new)) (always numbers.new) result }
     ensures digest { IfOk result (λ d. d ≡ sha256 (text_of header numbers.new)) }
     ensures takes { TakesAtMost (R.remaining (inner_of reader.old))
@@ -114,7 +114,7 @@ pub(crate) fn read_numbers<R: Read>(
     header: Header,
 ) -> Result<(Vec<u64>, [u8; 32]), SnapFault>
     requires { IsBits header.bits }
-    ensures known { Reads (R.remaining (inner_of reader.old)) (R.remaining (inner_of reader.new))
+    ensures known { ReadsSnap (R.remaining (inner_of reader.old)) (R.remaining (inner_of reader.new))
         (numbers_at (2 ^ header.bits)) (λ n. n.0.items) result }
     ensures digest { IfOk result (λ n. n.1 ≡ sha256 (text_of header n.0.items)) }
     ensures takes { TakesAtMost (R.remaining (inner_of reader.old))
@@ -131,7 +131,7 @@ pub(crate) fn read_numbers<R: Read>(
 }
 
 pub(crate) fn read_seal<R: Read>(reader: &mut Counted<R>) -> Result<[u8; 32], SnapFault>
-    ensures known { Reads (R.remaining (inner_of reader.old)) (R.remaining (inner_of reader.new))
+    ensures known { ReadsSnap (R.remaining (inner_of reader.old)) (R.remaining (inner_of reader.new))
         (bytes_at SnapFault.Short 32) (λ s. s) result }
     ensures takes { TakesAtMost (R.remaining (inner_of reader.old))
         (R.remaining (inner_of reader.new)) seal_bytes }

@@ -6,8 +6,8 @@ ghost use Rattle.rh_layout.specs.Layout.{IsLayout, keys_of};
 ghost use Rattle.rh_key_files.specs.Counting.{Rose, failures_of, inner_of};
 ghost use Rattle.rh_key_files.specs.Taking.{TakesAtMost};
 ghost use Rattle.rh_key_files.specs.Input.{fault_of};
-ghost use Rattle.rh_snapshot.specs.Limits.{TakesOfFile, most_bytes};
-ghost use Rattle.rh_snapshot.specs.Reading.{BeginsWithHeader, IsReadFrom, Reads, file_table};
+ghost use Rattle.rh_snapshot.specs.Limits.{TakesOfSnap, most_snap_bytes};
+ghost use Rattle.rh_snapshot.specs.Reading.{BeginsWithSnapHeader, IsSnapReadFrom, ReadsSnap, file_table};
 ghost use Rattle.rh_snapshot.specs.Reading.{table_as};
 
 use crate::cells::table_in;
@@ -23,22 +23,22 @@ use std::io::Read;
 /// bytes are tested as they come; the seal, then the cells and then the end are tested once the
 /// seal was read.
 pub fn read_snapshot<R: Read>(alloc: Global, reader: &mut Counted<R>) -> Result<Snapshot, SnapFault>
-    ensures known { Reads (R.remaining (inner_of reader.old)) (R.remaining (inner_of reader.new))
+    ensures known { ReadsSnap (R.remaining (inner_of reader.old)) (R.remaining (inner_of reader.new))
         file_table table_as result }
-    ensures spelled { IfOk result (λ s. IsReadFrom
+    ensures spelled { IfOk result (λ s. IsSnapReadFrom
         (R.remaining (inner_of reader.old)) (R.remaining (inner_of reader.new)) (table_as s)) }
     ensures layout { IfOk result (λ s. IsLayout s.bits s.cells.items) }
     ensures count { IfOk result (λ s. s.count ≡ set.len (keys_of s.cells.items)) }
     ensures free { IfOk result (λ s. set.len (keys_of s.cells.items) < 2 ^ s.bits) }
-    ensures takes { TakesOfFile (R.remaining (inner_of reader.old))
+    ensures takes { TakesOfSnap (R.remaining (inner_of reader.old))
         (R.remaining (inner_of reader.new)) (fault_of result) }
     ensures bounded { TakesAtMost (R.remaining (inner_of reader.old))
-        (R.remaining (inner_of reader.new)) most_bytes }
+        (R.remaining (inner_of reader.new)) most_snap_bytes }
     ensures read { IsErrOf result SnapFault.Read →
         Rose (failures_of reader.old) (failures_of reader.new) }
     ensures fine { result ≢ Err SnapFault.Read → failures_of reader.new ≡ failures_of reader.old }
     ensures memory { IsErrOf result SnapFault.Memory →
-        BeginsWithHeader (R.remaining (inner_of reader.old)) }
+        BeginsWithSnapHeader (R.remaining (inner_of reader.old)) }
 {
     let header = read_header(reader)?;
     let (numbers, digest) = read_numbers(alloc, reader, header)?;

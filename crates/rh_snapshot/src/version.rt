@@ -1,7 +1,7 @@
 //! The versions of the snapshot.
 
 ghost use Rattle.std.specs.Prelude.{◌≡◌};
-ghost use Rattle.rh_snapshot.specs.Snapshot.{magic, most_bits};
+ghost use Rattle.rh_snapshot.specs.Snapshot.{snap_magic, most_bits};
 ghost use Rattle.rh_snapshot.specs.Reading.{are_bits};
 
 use rh_layout::{MAX_BITS, MIN_BITS};
@@ -20,7 +20,7 @@ pub enum Version {
 impl Version {
     /// The first four bytes.
     pub(crate) fn magic(self) -> [u8; 4]
-        ensures { result ≡ magic self }
+        ensures { result ≡ snap_magic self }
     {
         match self {
             Version::First => *b"RHS1",

@@ -4,7 +4,7 @@ ghost use Rattle.std.specs.Prelude.{◌≡◌, ◌++◌, ◌<◌, ◌^◌, ℕ, 
 ghost use Rattle.std.specs.FinSet as set;
 ghost use Rattle.rh_layout.specs.Key.{IsBits};
 ghost use Rattle.rh_layout.specs.Layout.{IsLayout, keys_of};
-ghost use Rattle.rh_snapshot.specs.Snapshot.{header_of, spelled_header, spelled_numbers, spelling};
+ghost use Rattle.rh_snapshot.specs.Snapshot.{snap_header_of, spelled_header, spelled_numbers, snap_spelling};
 ghost use Rattle.rh_snapshot.specs.Snapshot.{table_of};
 ghost use Rattle.rh_snapshot.specs.Reading.{file_table};
 ghost use Rattle.rh_snapshot.specs.declared.version.Version.TheVariants.{Second};
@@ -25,9 +25,9 @@ pub fn write_snapshot(
 ) -> Result<(), AllocError>
     requires layout { IsLayout bits cells.now }
     requires free { set.len (keys_of cells.now) < 2 ^ bits }
-    ensures appended { OnOk result (out.new.items ≡ out.old.items ++ spelling Second bits cells.now) }
+    ensures appended { OnOk result (out.new.items ≡ out.old.items ++ snap_spelling Second bits cells.now) }
     ensures refused { OnErr result (out.new.items ≡ out.old.items) }
-    ensures read_back { file_table (spelling Second bits cells.now)
+    ensures read_back { file_table (snap_spelling Second bits cells.now)
         ≡ Ok (table_of Second bits cells.now, []) }
 {
     let before = out.len();
@@ -41,7 +41,7 @@ pub fn write_snapshot(
 /// Appends the text and its seal.
 fn put_snapshot(bits: u32, cells: &[u64], out: &mut Vec<u8>) -> Result<(), AllocError>
     requires { IsBits bits }
-    ensures appended { OnOk result (out.new.items ≡ out.old.items ++ spelling Second bits cells.now) }
+    ensures appended { OnOk result (out.new.items ≡ out.old.items ++ snap_spelling Second bits cells.now) }
     ensures longer { (part : List ℕ) × (out.new.items ≡ out.old.items ++ part) }
 {
     let before = out.len();
@@ -54,7 +54,7 @@ fn put_snapshot(bits: u32, cells: &[u64], out: &mut Vec<u8>) -> Result<(), Alloc
 fn put_header(bits: u32, cells: &[u64], out: &mut Vec<u8>) -> Result<(), AllocError>
     requires { IsBits bits }
     ensures appended { OnOk result (out.new.items
-        ≡ out.old.items ++ spelled_header (header_of Second bits cells.now)) }
+        ≡ out.old.items ++ spelled_header (snap_header_of Second bits cells.now)) }
     ensures longer { (part : List ℕ) × (out.new.items ≡ out.old.items ++ part) }
 {
     let mut count = [0; 8];

@@ -83,7 +83,7 @@ pub record TakesText (old new : Option (List ℕ)) : Type 0 where
 -- Known bytes are no key file, and this is the first fault in them.
 abbrev pub IsFirstFault : Option (List ℕ) → KeyFault → Type 0
 IsFirstFault None fault = Unit {0}
-IsFirstFault (Some bytes) fault = files.Fails {X = List ℕ × List ℕ} fault (files.file_keys bytes)
+IsFirstFault (Some bytes) fault = files.KeysFail {X = List ℕ × List ℕ} fault (files.file_keys bytes)
 
 -- The bytes were a key file, and its keys were given to their parts; or they were none, and no part was given any.
 abbrev pub SplitsFile : {W X : Type 0} (bytes left : Option (List ℕ)) (contents : W → Option (List ℕ)) (old new : List (Part W)) → Result X SplitFault → Type 0

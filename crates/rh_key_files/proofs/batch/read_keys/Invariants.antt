@@ -2,14 +2,14 @@ use Rattle.std.proofs.Common.{◌≡◌, ◌≤◌, ◌-◌, ◌*◌, length, ta
 use Rattle.std.specs.Prelude.{All}
 use Rattle.rh_layout.specs.Key.{IsKey}
 use Rattle.rh_key_files.specs.Input.{always}
-use Rattle.rh_key_files.specs.Reading.{Reads, keys_at}
+use Rattle.rh_key_files.specs.Reading.{ReadsKeys, keys_at}
 use Rattle.rh_key_files.specs.Taking.{TakesAtMost}
 use Rattle.rh_key_files.proofs.batch.read_keys.Given as goal
 
 abbrev pub invariant-loop-done : goal.invariant-loop-done
 invariant-loop-done g l = record {
   within : l.done ≤ length l.batch;
-  read : Reads (g.R.Read.remaining l.fn.reader.inner) (g.R.Read.remaining l.reader.inner) (keys_at l.version l.index l.done) (always {X = Unit {0}} (take l.done l.batch)) (Ok tt);
+  read : ReadsKeys (g.R.Read.remaining l.fn.reader.inner) (g.R.Read.remaining l.reader.inner) (keys_at l.version l.index l.done) (always {X = Unit {0}} (take l.done l.batch)) (Ok tt);
   in_range : All IsKey (take l.done l.batch);
   takes : TakesAtMost (g.R.Read.remaining l.fn.reader.inner) (g.R.Read.remaining l.reader.inner) (8 * l.done);
   fine : l.reader.failures ≡ l.fn.reader.failures;

@@ -6,7 +6,7 @@ use Rattle.rh_operations.specs.KeyLists.{source_bytes}
 use Rattle.rh_operations.proofs.AgainLemmas.{gave, is_again, later_refused, not_again, not_opened, rest_refused}
 use Rattle.std.specs.FinSet as set
 use Rattle.rh_layout.specs.Layout.{keys_of}
-use Rattle.rh_operations.specs.Sequence.{◌>>=◌}
+use Rattle.rh_key_files.specs.Input.{◌>>=◌}
 use Rattle.rh_operations.specs.Size.{size_for}
 use Rattle.rh_operations.specs.Refusals.{MemoryFails, PhaseFails}
 use Rattle.rh_operations.proofs.AgainLemmas.{first_refused, memory_fails}

@@ -4,9 +4,9 @@ use Rattle.rh_key_files.specs.Input.{fault_of}
 use Rattle.rh_key_files.proofs.Reading.{read_from}
 use Rattle.rh_key_files.proofs.Taking.{takes_then}
 use Rattle.rh_snapshot.specs.declared.fault.SnapFault.TheVariants.{Damaged, NotALayout}
-use Rattle.rh_snapshot.specs.Reading.{file_table, is_sealed, is_silent, table_as}
+use Rattle.rh_snapshot.specs.Reading.{file_table, is_sealed, is_snap_silent, table_as}
 use Rattle.rh_snapshot.specs.Snapshot.{IsSnapshot}
-use Rattle.rh_snapshot.specs.Limits.{sealed_bytes, whole_bytes, header_bytes}
+use Rattle.rh_snapshot.specs.Limits.{sealed_bytes, whole_snap_bytes, snap_header_bytes}
 use Rattle.rh_snapshot.proofs.Whole.{header_faults, numbers_fault, seal_faults, refused, end_faults, whole_ok, damaged, no_layout, is_good}
 use Rattle.rh_snapshot.proofs.Keys.{good}
 use Rattle.rh_snapshot.proofs.Grammar.{file_read}
@@ -62,7 +62,7 @@ returns-clause-known g c =
     (is_good header numbers c.in_ok-seal.seal good (search rules)) c.in_ok-read_end.ensures.known
 
 pub returns-clause-spelled : goal.returns-clause-spelled
-returns-clause-spelled g c = read_from is_silent IsSnapshot _ _ file_table table_as c.in-Some.snapshot file_read (returns-clause-known g c)
+returns-clause-spelled g c = read_from is_snap_silent IsSnapshot _ _ file_table table_as c.in-Some.snapshot file_read (returns-clause-known g c)
 
 pub returns-clause-layout : goal.returns-clause-layout
 returns-clause-layout g c = (good c.in_ok-header.header c.in_ok-numbers.numbers.items c.in_ok-seal.seal (table_as c.in-Some.snapshot) c.in-Some.ensures.table (search rules)).layout
@@ -84,7 +84,7 @@ pub returns-in_err-seal-clause-takes : goal.returns-in_err-seal-clause-takes
 returns-in_err-seal-clause-takes g c =
     let p = err_from_is_err_and c.from_residual-in_err-seal.result c.from_residual-in_err-seal.ensures.1 in
     let cells = 2 ^ c.in_ok-header.header.bits in
-    rw (p.1, p.2) (file_stops_in_seal _ _ _ _ _ c.in_ok-header.header _ c.in_ok-header.ensures.known c.in_err-seal.ensures.no_memory (takes_then _ _ _ header_bytes (8 * cells) c.in_ok-header.ensures.takes c.in_ok-numbers.ensures.takes) c.in_err-seal.ensures.takes c.in_err-seal.ensures.known)
+    rw (p.1, p.2) (file_stops_in_seal _ _ _ _ _ c.in_ok-header.header _ c.in_ok-header.ensures.known c.in_err-seal.ensures.no_memory (takes_then _ _ _ snap_header_bytes (8 * cells) c.in_ok-header.ensures.takes c.in_ok-numbers.ensures.takes) c.in_err-seal.ensures.takes c.in_err-seal.ensures.known)
 
 pub returns-then-ne-clause-takes : goal.returns-then-ne-clause-takes
 returns-then-ne-clause-takes g c =
@@ -105,7 +105,7 @@ returns-in_err-read_end-clause-takes g c =
 pub returns-clause-takes : goal.returns-clause-takes
 returns-clause-takes g c =
     let cells = 2 ^ c.in_ok-header.header.bits in
-    takes_within _ _ _ c.in_ok-header.header (whole_bytes cells) None c.in_ok-header.ensures.known (takes_then _ _ _ (sealed_bytes cells) 1 (takes_sealed _ _ _ _ cells c.in_ok-header.ensures.takes c.in_ok-numbers.ensures.takes c.in_ok-seal.ensures.takes) c.in_ok-read_end.ensures.takes) (le_refl (whole_bytes cells))
+    takes_within _ _ _ c.in_ok-header.header (whole_snap_bytes cells) None c.in_ok-header.ensures.known (takes_then _ _ _ (sealed_bytes cells) 1 (takes_sealed _ _ _ _ cells c.in_ok-header.ensures.takes c.in_ok-numbers.ensures.takes c.in_ok-seal.ensures.takes) c.in_ok-read_end.ensures.takes) (le_refl (whole_snap_bytes cells))
 
 pub returns-in_err-numbers-clause-bounded : goal.returns-in_err-numbers-clause-bounded
 returns-in_err-numbers-clause-bounded g c = takes_of_any_file _ _ (fault_of c.from_residual-in_err-numbers.result) (returns-in_err-numbers-clause-takes g c)

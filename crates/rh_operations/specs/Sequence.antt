@@ -1,8 +1,0 @@
--- Results in sequence.
-use Rattle.std.specs.Prelude.{Result, Ok, Err}
-
--- one step, and then the next
-infixl 10 ◌>>=◌
-abbrev pub ◌>>=◌ : {A B E : Type 0} → Result A E → (A → Result B E) → Result B E
-(Ok x) >>= f = f x
-(Err e) >>= f = Err e
