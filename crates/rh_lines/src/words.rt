@@ -1,6 +1,6 @@
 //! The words of a line.
 
-ghost use Rattle.std.specs.Prelude.{◌≡◌, [], ◌∷◌, MatchOption, IsTrue, not};
+ghost use Rattle.std.specs.Prelude.{◌≡◌, ◌≢◌, [], ◌∷◌, MatchOption, IsTrue, not};
 ghost use Rattle.std.specs.List.{list_all};
 ghost use Rattle.rh_lines.specs.Lines.{is_printable, words_of};
 
@@ -25,4 +25,14 @@ pub fn next_word(line: &str) -> Option<(&str, &str)>
         return None;
     }
     Some(line.split_once(' ').unwrap_or((line, "")))
+}
+
+/// Something exactly where no word is left, so that a word too many is refused as a missing one is.
+pub fn end_of_words(line: &str) -> Option<()>
+    ensures { MatchOption result (words_of line.now ≢ []) (λ _. words_of line.now ≡ []) }
+{
+    match next_word(line) {
+        Some(_) => None,
+        None => Some(()),
+    }
 }

@@ -2,8 +2,6 @@
 -- line.
 -- Numerals: the number of a word, and those of the words of a line.
 -- Entering: a line more of a draft.
--- OneLine: a line more of a text.
 
 pub mod Numerals
 pub mod Entering
-pub mod OneLine

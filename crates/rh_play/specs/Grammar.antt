@@ -1,5 +1,5 @@
 -- The grammar of the texts of plays: what the lines of a text say, or its first fault.
-use Rattle.std.specs.Prelude.{ℕ, ◌+◌, ◌-◌, ◌^◌, Bool, true, ◌&&◌, IsTrue, nat_le, nat_lt, if◌then◌else◌, List, [], ◌∷◌, ◌++◌, length, take, codes, Option, Some, None, Result, Ok, Err, is_ok}
+use Rattle.std.specs.Prelude.{ℕ, ◌+◌, ◌^◌, Bool, true, ◌&&◌, nat_le, nat_lt, if◌then◌else◌, List, [], ◌∷◌, ◌++◌, length, codes, Option, Some, None, ok_or, Result, Ok, Err}
 use Rattle.std.specs.Char.{is_ascii_digit}
 use Rattle.std.specs.Str.{bytes_eq}
 use Rattle.std.specs.Str.Parse.{digits_value}
@@ -12,18 +12,13 @@ use Rattle.rh_play.specs.declared.fault.PlayTextFault.{PlayTextFault}
 use Rattle.rh_play.specs.declared.fault.PlayTextKind.{PlayTextKind}
 use Rattle.rh_play.specs.declared.fault.PlayTextKind.TheVariants.{BadLine, TooLong}
 use Rattle.rh_play.specs.declared.limits.TheConstants.{MAX_TEXT_BYTES, MIN_BITS, MAX_BITS, MAX_ROOM, MAX_TURNS, MAX_DIGITS}
-use Rattle.rh_play.specs.declared.schedule.Order.{Order}
 use Rattle.rh_play.specs.declared.schedule.Order.TheVariants.{Turn, Until, Rest, Round, Show}
 use Rattle.rh_play.specs.declared.verb.Verb.{Verb}
 use Rattle.rh_play.specs.declared.verb.Verb.TheVariants as verbs
 use Rattle.rh_play.specs.Saying.{Saying, Play, Bits, Held, Rooms, Work, Share, Schedule, Stage, AtStart, AfterPlay, AfterBits, AfterHeld, AfterRooms, AmongWork, AmongSchedule}
-use Rattle.rh_lines.specs.Lines.{is_printable, is_skipped, lines_of, without_return, words_of}
-
--- one step, and then the next
-infixl 10 ◌>>=◌
-abbrev pub ◌>>=◌ : {A B E : Type 0} → Result A E → (A → Result B E) → Result B E
-(Ok x) >>= f = f x
-(Err e) >>= f = Err e
+use Rattle.rh_lines.specs.Lines.{lines_of, without_return}
+use Rattle.rh_lines.specs.Grammar.{◌>>=◌, Grammar, at_line, no_word, read_by}
+use Rattle.rh_lines.specs.Grammar as texts
 
 -- ---- words
 
@@ -68,11 +63,6 @@ verb_of word =
     else if bytes_eq word (codes "show") then Some verbs.Show
     else None
 
--- a word that is none of these is a fault
-abbrev pub known : {A : Type 0} → Option A → Result A PlayTextKind
-known (Some x) = Ok x
-known None = Err BadLine
-
 -- ---- the words after the first
 
 unfoldable pub one_number : List (List ℕ) → Result ℕ PlayTextKind
@@ -89,21 +79,17 @@ numbers_after before [] = Ok before
 numbers_after before (word ∷ words) = number_of word >>= (λ n. numbers_after (before ++ n ∷ []) words)
 
 unfoldable pub one_kind : List (List ℕ) → Result Kind PlayTextKind
-one_kind (word ∷ []) = known (kind_of word)
+one_kind (word ∷ []) = ok_or (kind_of word) BadLine
 one_kind _ = Err BadLine
 
 unfoldable pub number_and_step : List (List ℕ) → Result (ℕ × StepKind) PlayTextKind
-number_and_step (word ∷ step ∷ []) = number_of word >>= (λ n. known (step_of step) >>= (λ s. Ok (n, s)))
+number_and_step (word ∷ step ∷ []) = number_of word >>= (λ n. ok_or (step_of step) BadLine >>= (λ s. Ok (n, s)))
 number_and_step _ = Err BadLine
 
 -- the first is the number of workers
 unfoldable pub shared : List (List ℕ) → Result Saying PlayTextKind
 shared [] = Err BadLine
 shared (word ∷ words) = number_of word >>= (λ workers. numbers_after [] words >>= (λ keys. Ok (Share workers keys)))
-
-unfoldable pub no_word : Order → List (List ℕ) → Result Saying PlayTextKind
-no_word order [] = Ok (Schedule order)
-no_word order _ = Err BadLine
 
 -- ---- a line
 
@@ -116,20 +102,17 @@ saying_of verbs.Work words = numbers_after [] words >>= (λ keys. Ok (Work keys)
 saying_of verbs.Share words = shared words
 saying_of verbs.Turn words = two_numbers words >>= (λ turn. Ok (Schedule (Turn turn.0 turn.1)))
 saying_of verbs.Until words = number_and_step words >>= (λ until. Ok (Schedule (Until until.0 until.1)))
-saying_of verbs.Rest words = no_word Rest words
-saying_of verbs.Round words = no_word Round words
-saying_of verbs.Show words = no_word Show words
+saying_of verbs.Rest words = no_word BadLine (Schedule Rest) words
+saying_of verbs.Round words = no_word BadLine (Schedule Round) words
+saying_of verbs.Show words = no_word BadLine (Schedule Show) words
 
 unfoldable pub saying_in : List (List ℕ) → Result Saying PlayTextKind
 saying_in [] = Err BadLine
-saying_in (word ∷ words) = known (verb_of word) >>= (λ verb. saying_of verb words)
+saying_in (word ∷ words) = ok_or (verb_of word) BadLine >>= (λ verb. saying_of verb words)
 
 -- what a line says, if anything
-unfoldable pub said_in : List ℕ → Result (Option Saying) PlayTextKind
-said_in line =
-    if is_skipped line then Ok None
-    else if list_all is_printable line then saying_in (words_of line) >>= (λ said. Ok (Some said))
-    else Err BadLine
+abbrev pub said_in : List ℕ → Result (Option Saying) PlayTextKind
+said_in = texts.said_in BadLine saying_in
 
 -- ---- the order of the lines
 
@@ -165,7 +148,7 @@ Way = Stage × List Saying
 
 unfoldable pub entered : Way → Saying → Result Way PlayTextKind
 entered way said =
-    if fits said then known (follow way.0 said) >>= (λ stage. Ok (stage, way.1 ++ said ∷ []))
+    if fits said then ok_or (follow way.0 said) BadLine >>= (λ stage. Ok (stage, way.1 ++ said ∷ []))
     else Err BadLine
 
 abbrev pub entered_if_any : Way → Option Saying → Result Way PlayTextKind
@@ -177,19 +160,16 @@ after_line way line = said_in (without_return line) >>= entered_if_any way
 
 -- ---- a text
 
-abbrev pub at_line : {A : Type 0} → ℕ → Result A PlayTextKind → Result A PlayTextFault
-at_line number (Ok x) = Ok x
-at_line number (Err kind) = Err (record { line = number; kind = kind })
-
--- the way so far, and that of these lines, of which the first has this number
-unfoldable pub after_lines : ℕ → Way → List (List ℕ) → Result Way PlayTextFault
-after_lines number way [] = Ok way
-after_lines number way (line ∷ lines) =
-    at_line number (after_line way line) >>= (λ next. after_lines (number + 1) next lines)
+abbrev pub play_grammar : Grammar Way PlayTextKind PlayTextFault
+play_grammar = record {
+  start = (AtStart, []);
+  after_line = λ _. after_line;
+  fault_at = λ number kind. record { line = number; kind = kind };
+}
 
 -- the lines of a text before that of this number have no fault
 abbrev pub HasNoFaultBefore : ℕ → List ℕ → Type 0
-HasNoFaultBefore number text = IsTrue (is_ok (after_lines 1 (AtStart, []) (take (number - 1) (lines_of text))))
+HasNoFaultBefore = texts.HasNoFaultBefore play_grammar
 
 -- a text may end among the lines of work and after them
 unfoldable pub ended : Way → Result (List Saying) PlayTextKind
@@ -201,5 +181,5 @@ ended _ = Err BadLine
 unfoldable pub sayings_of : List ℕ → Result (List Saying) PlayTextFault
 sayings_of text =
     if nat_le (length text) MAX_TEXT_BYTES
-    then after_lines 1 (AtStart, []) (lines_of text) >>= (λ way. at_line (length (lines_of text) + 1) (ended way))
+    then read_by play_grammar text >>= (λ way. at_line play_grammar (length (lines_of text) + 1) (ended way))
     else Err (record { line = 0; kind = TooLong })

@@ -1,5 +1,6 @@
 -- What the code's lines, drafts and plays stand for.
-use Rattle.std.specs.Prelude.{◌≡◌, ◌≢◌, List, [], ◌∷◌, ◌++◌, map, Option, Some, None, Result, Ok, Err, MatchResult}
+use Rattle.std.specs.Prelude.{List, [], ◌∷◌, ◌++◌, map, Option, Some, None, Result}
+use Rattle.rh_lines.specs.Grammar as texts
 use Rattle.rh_play.specs.declared.draft.Draft.{Draft}
 use Rattle.rh_play.specs.declared.draft.Draft.TheVariants.{Empty, Named, Sized, Filled, Roomed, Working, Scheduled}
 use Rattle.rh_play.specs.declared.draft.Table.{Table}
@@ -19,7 +20,7 @@ use Rattle.rh_play.specs.Grammar.{Way}
 
 -- What a call answers, seen by view, is what the grammar says; want of memory says nothing of it.
 abbrev pub Answers : {X Y : Type 0} → Result Y PlayTextKind → (X → Y) → Result X PlayTextKind → Type 0
-Answers said view r = MatchResult r (λ x. said ≡ Ok (view x)) (λ kind. kind ≢ Memory → said ≡ Err kind)
+Answers = texts.Answers Memory
 
 abbrev pub saying_as : Line → Saying
 saying_as (lines.Play kind) = Play kind

@@ -29,7 +29,6 @@ mod play;
 mod reading;
 mod schedule;
 mod verb;
-mod words;
 
 pub use appending::push_texts;
 pub use endings::{Last, Rest, kind_word};

@@ -2,19 +2,20 @@
 
 ghost use Rattle.std.specs.Prelude.{◌≡◌, option_map};
 ghost use Rattle.rh_lines.specs.Lines.{words_of};
-ghost use Rattle.rh_play.specs.Grammar.{fits, is_within, no_word, number_and_step, one_kind};
+ghost use Rattle.rh_lines.specs.Grammar.{no_word};
+ghost use Rattle.rh_play.specs.Grammar.{fits, is_within, number_and_step, one_kind};
 ghost use Rattle.rh_play.specs.Grammar.{said_in, saying_in, saying_of, shared};
 ghost use Rattle.rh_play.specs.Play.{Answers, saying_as};
+ghost use Rattle.rh_play.specs.Saying.{Schedule};
 
 use crate::fault::PlayTextKind;
 use crate::limits::{MAX_BITS, MAX_ROOM, MAX_TURNS, MIN_BITS};
 use crate::numbers::{number, numbers, one_number, two_numbers};
 use crate::schedule::Order;
 use crate::verb::{Verb, kind_from_word, step_from_word};
-use crate::words::end_of_words;
 use rh_descriptor::StepKind;
 use rh_ledger::Kind;
-use rh_lines::{is_skipped, next_word, printable};
+use rh_lines::{end_of_words, is_skipped, next_word, printable};
 use std::alloc::Global;
 
 /// A line that is not skipped.
@@ -51,7 +52,7 @@ fn is_room(room: u64) -> bool
 }
 
 /// What a line says, if it is not skipped.
-#[tactic(auto, unfolding(crate::specs::Grammar::said_in))]
+#[tactic(auto, unfolding(rh_lines::specs::Grammar::said_in))]
 pub(crate) fn read_said(alloc: Global, line: &[u8]) -> Result<Option<Line>, PlayTextKind>
     ensures { Answers (said_in line.now) (option_map saying_as) result }
 {
@@ -106,7 +107,7 @@ fn one_kind(rest: &str) -> Result<Kind, PlayTextKind>
     ensures { result ≡ one_kind (words_of rest.now) }
 {
     let (word, rest) = next_word(rest).ok_or(PlayTextKind::BadLine)?;
-    end_of_words(rest)?;
+    end_of_words(rest).ok_or(PlayTextKind::BadLine)?;
     kind_from_word(word).ok_or(PlayTextKind::BadLine)
 }
 
@@ -117,7 +118,7 @@ fn number_and_step(rest: &str) -> Result<(u64, StepKind), PlayTextKind>
 {
     let (worker, rest) = next_word(rest).ok_or(PlayTextKind::BadLine)?;
     let (step, rest) = next_word(rest).ok_or(PlayTextKind::BadLine)?;
-    end_of_words(rest)?;
+    end_of_words(rest).ok_or(PlayTextKind::BadLine)?;
     let worker = number(worker)?;
     let step = step_from_word(step).ok_or(PlayTextKind::BadLine)?;
     Ok((worker, step))
@@ -135,10 +136,10 @@ fn shared(alloc: Global, rest: &str) -> Result<Line, PlayTextKind>
 }
 
 /// An order of one word.
-#[tactic(auto, unfolding(crate::specs::Grammar::no_word))]
+#[tactic(auto, unfolding(rh_lines::specs::Grammar::no_word))]
 fn alone(order: Order, rest: &str) -> Result<Line, PlayTextKind>
-    ensures { Answers (no_word order (words_of rest.now)) saying_as result }
+    ensures { Answers (no_word PlayTextKind.BadLine (Schedule order) (words_of rest.now)) saying_as result }
 {
-    end_of_words(rest)?;
+    end_of_words(rest).ok_or(PlayTextKind::BadLine)?;
     Ok(Line::Schedule(order))
 }

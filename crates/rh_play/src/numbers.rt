@@ -7,8 +7,7 @@ ghost use Rattle.rh_play.specs.Play.{Answers};
 
 use crate::fault::PlayTextKind;
 use crate::limits::MAX_DIGITS;
-use crate::words::end_of_words;
-use rh_lines::next_word;
+use rh_lines::{end_of_words, next_word};
 use std::alloc::Global;
 
 /// The number of a word of decimal digits.
@@ -32,7 +31,7 @@ pub(crate) fn one_number(rest: &str) -> Result<u64, PlayTextKind>
     ensures { result ≡ one_number (words_of rest.now) }
 {
     let (word, rest) = next_word(rest).ok_or(PlayTextKind::BadLine)?;
-    end_of_words(rest)?;
+    end_of_words(rest).ok_or(PlayTextKind::BadLine)?;
     number(word)
 }
 
@@ -43,7 +42,7 @@ pub(crate) fn two_numbers(rest: &str) -> Result<(u64, u64), PlayTextKind>
 {
     let (first, rest) = next_word(rest).ok_or(PlayTextKind::BadLine)?;
     let (second, rest) = next_word(rest).ok_or(PlayTextKind::BadLine)?;
-    end_of_words(rest)?;
+    end_of_words(rest).ok_or(PlayTextKind::BadLine)?;
     let first = number(first)?;
     let second = number(second)?;
     Ok((first, second))

@@ -2,8 +2,9 @@
 
 ghost use Rattle.std.specs.Prelude.{◌≡◌, ◌≢◌, ◌≤◌, IfOk, IfErr, Ok, Err, length};
 ghost use Rattle.rh_play.specs.declared.limits.TheConstants.{MAX_TEXT_BYTES};
-ghost use Rattle.rh_play.specs.Grammar.{HasNoFaultBefore, after_line, after_lines, sayings_of};
+ghost use Rattle.rh_lines.specs.Grammar.{read_by};
 ghost use Rattle.rh_lines.specs.Lines.{lines_of};
+ghost use Rattle.rh_play.specs.Grammar.{HasNoFaultBefore, after_line, play_grammar, sayings_of};
 ghost use Rattle.rh_play.specs.Play.{Answers, said_of, way_of};
 
 use crate::draft::Draft;
@@ -48,10 +49,9 @@ fn read_lines(alloc: Global, text: &[u8]) -> Result<(u64, Draft), PlayTextFault>
     requires { length text.now ≤ MAX_TEXT_BYTES }
     ensures counted { IfOk result (λ read. read.0 ≡ length (lines_of text.now)) }
     ensures few { IfOk result (λ read. read.0 ≤ MAX_TEXT_BYTES) }
-    ensures read { IfOk result (λ read.
-        after_lines 1 (way_of Draft.Empty) (lines_of text.now) ≡ Ok (way_of read.1)) }
+    ensures read { IfOk result (λ read. read_by play_grammar text.now ≡ Ok (way_of read.1)) }
     ensures refused { IfErr result (λ fault. fault.kind ≢ PlayTextKind.Memory →
-        after_lines 1 (way_of Draft.Empty) (lines_of text.now) ≡ Err fault) }
+        read_by play_grammar text.now ≡ Err fault) }
     ensures within { IfErr result (λ fault.
         (1 ≤ fault.line) × (fault.line ≤ length (lines_of text.now))) }
     ensures before { IfErr result (λ fault. HasNoFaultBefore fault.line text.now) }

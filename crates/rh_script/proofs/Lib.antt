@@ -1,15 +1,11 @@
 -- The words of a line are read as a command. The plan of a script grows by one line at a time, and the proofs say what each
 -- line adds.
 -- Naming: what the steps so far give.
--- Commands: the words of a command.
--- OneLine: a line more of a script.
 -- Order: what the grammar reads is in order.
 -- Positions: the positions of the names that are given.
 -- Numbering: a step more of a plan.
 
 pub mod Naming
-pub mod Commands
-pub mod OneLine
 pub mod Order
 pub mod Positions
 pub mod Numbering

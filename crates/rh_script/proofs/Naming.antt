@@ -1,20 +1,21 @@
 -- What the steps so far give.
-use Rattle.std.proofs.Common.{◌≡◌, ◌∙◌, ◌⊎◌, inl, inr, ap, sym, subst, ℕ, Bool, true, false, cond, ◌||◌, List, [], ◌∷◌, ◌++◌, Result, Ok, is_ok, String, string_bytes, refl, arith}
+use Rattle.std.proofs.Common.{◌≡◌, ◌∙◌, ◌⊎◌, inl, inr, ap, sym, subst, ℕ, Bool, true, false, cond, ◌||◌, List, [], ◌∷◌, ◌++◌, Result, Ok, is_ok, map, String, string_bytes, refl, arith}
 use Rattle.std.specs.Global.{Global}
 use Rattle.std.specs.Str.{bytes_eq}
 use Rattle.std.specs.BTreeSet.{BTreeSet, IsEmpty, contains_text}
 use Rattle.std.proofs.lemmas.Grind.{flat_map-append}
 use Rattle.std.proofs.Math.Bool.{or-false}
-use Rattle.std.proofs.lemmas.List.{append-nil}
+use Rattle.std.proofs.lemmas.List.{append-nil, map-append}
 use Rattle.std.proofs.lemmas.List.Folds.{list_any-append}
 use Rattle.std.specs.List.{flat_map}
 use Rattle.rh_script.specs.declared.fault.ScriptFaultKind.{ScriptFaultKind}
 use Rattle.rh_script.specs.declared.given.Given.{Given}
 use Rattle.rh_script.specs.declared.script.Command.{Command}
 use Rattle.rh_script.specs.declared.script.Command.TheVariants as commands
+use Rattle.rh_script.specs.declared.script.Step.{Step}
 use Rattle.rh_script.specs.Instruction.{Instruction, Numbered}
 use Rattle.rh_script.specs.Names.{admitted, file_of, files_in, given_by, is_given, known, names_in, once, snapshot_of, snapshots_in}
-use Rattle.rh_script.specs.Steps.{instruction_as}
+use Rattle.rh_script.specs.Steps.{instruction_as, step_as}
 use Rattle.rh_script.specs.Script.{Answers, GivenBy, HasJust}
 
 pub one_more : (new old here : Bool) → new ≡ cond here true old → new ≡ (old || here)
@@ -150,3 +151,10 @@ snapshot_answered before given command path text again r has is text_is again_is
     ∙ ap (λ b. once (b || is_given (string_bytes path) (snapshots_in before))) (sym none)
     ∙ sym (ap (λ c. admitted before (instruction_as c)) is) in
     subst (λ said. Answers said (λ _. tt) r) same
+
+-- ---- a line more of a script
+
+pub known_more : (old new : Given) (before after : List Step) (step : Step) → GivenBy (map step_as before) old → ((steps : List Numbered) (line : ℕ) → GivenBy steps old → GivenBy (steps ++ record { line = line; instruction = instruction_as step.command } ∷ []) new) → after ≡ before ++ step ∷ [] → GivenBy (map step_as after) new
+known_more old new before after step has kept is =
+    let more : map step_as before ++ step_as step ∷ [] ≡ map step_as after = sym (ap (map step_as) is ∙ map-append step_as before (step ∷ [])) in
+    subst (λ steps. GivenBy steps new) more (kept (map step_as before) step.line has)

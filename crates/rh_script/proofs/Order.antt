@@ -5,7 +5,9 @@ use Rattle.rh_script.specs.declared.fault.ScriptFaultKind.{ScriptFaultKind}
 use Rattle.rh_script.specs.Instruction.{Instruction, Numbered}
 use Rattle.rh_lines.specs.Lines.{lines_of, without_return}
 use Rattle.rh_script.specs.Names.{InOrder, SnapshotsAreNew, admitted, files_in, is_given, snapshots_in}
-use Rattle.rh_script.specs.Grammar.{◌>>=◌, after_line, after_lines, at_line, entered, said_in, script_of, within_limits}
+use Rattle.rh_script.specs.Grammar.{after_line, entered, said_in, script_grammar, script_of, within_limits}
+use Rattle.rh_lines.specs.Grammar.{after_lines, at_line}
+use Rattle.rh_lines.proofs.Reading.{both}
 use Rattle.rh_script.proofs.Naming.{may_stand_once}
 
 -- ---- a step more
@@ -46,12 +48,7 @@ one_more_in_order steps last ordered ok before after step is =
       | inr e ↦ ordered before e.0 step e.1
     ]
 
--- if two steps succeed, each does
-pub both : {A B E : Type 0} (r : Result A E) (f : A → Result B E) (b : B) → (r >>= f) ≡ Ok b → (a : A) × (r ≡ Ok a) × (f a ≡ Ok b)
-both (Ok a) f b h = (a, refl, h)
-both (Err e) f b h = absurd cc
-
-at_line_ok : {A : Type 0} (number : ℕ) (r : Result A ScriptFaultKind) (x : A) → at_line number r ≡ Ok x → r ≡ Ok x
+at_line_ok : {A : Type 0} (number : ℕ) (r : Result A ScriptFaultKind) (x : A) → at_line script_grammar number r ≡ Ok x → r ≡ Ok x
 at_line_ok number (Ok y) x h = cc
 at_line_ok number (Err kind) x h = absurd cc
 
@@ -71,12 +68,12 @@ line_in_order number before more line ordered h =
     let says = both (said_in (without_return fits.0)) (entered number before) more fits.2 in
     entered_in_order number before more says.0 ordered says.2
 
-lines_in_order : (number : ℕ) (before steps : List Numbered) (lines : List (List ℕ)) → InOrder before → after_lines number before lines ≡ Ok steps → InOrder steps
+lines_in_order : (number : ℕ) (before steps : List Numbered) (lines : List (List ℕ)) → InOrder before → after_lines script_grammar number before lines ≡ Ok steps → InOrder steps
 unfolding after_lines
 lines_in_order number before steps [] ordered h =
     let same : before ≡ steps = cc in subst InOrder same ordered
 lines_in_order number before steps (line ∷ lines) ordered h =
-    let first = both (at_line number (after_line number before line)) _ steps h in
+    let first = both (at_line script_grammar number (after_line number before line)) _ steps h in
     lines_in_order (number + 1) first.0 steps lines (line_in_order number before first.0 line ordered (at_line_ok number _ first.0 first.1)) first.2
 
 pub read_in_order : (text : List ℕ) (steps : List Numbered) → script_of text ≡ Ok steps → InOrder steps

@@ -1,5 +1,5 @@
 -- The grammar of scripts: the instructions of a text, or its first fault.
-use Rattle.std.specs.Prelude.{ℕ, ◌+◌, ◌-◌, Bool, false, ◌&&◌, ◌||◌, IsTrue, nat_le, if◌then◌else◌, List, [], ◌∷◌, ◌++◌, length, take, codes, Option, Some, None, Result, Ok, Err, is_ok}
+use Rattle.std.specs.Prelude.{ℕ, Bool, false, ◌&&◌, ◌||◌, nat_le, if◌then◌else◌, List, [], ◌∷◌, ◌++◌, length, codes, Option, Some, None, ok_or, Result, Ok, Err}
 use Rattle.std.specs.Char.{is_ascii_digit, is_ascii_lowercase}
 use Rattle.std.specs.Str.{bytes_eq}
 use Rattle.std.specs.List.{list_all}
@@ -10,14 +10,10 @@ use Rattle.rh_script.specs.declared.verb.Verb.{Verb}
 use Rattle.rh_script.specs.declared.verb.Verb.TheVariants as verbs
 use Rattle.rh_script.specs.declared.limits.TheConstants.{MAX_LINES, MAX_LINE_BYTES, MAX_NAME_BYTES}
 use Rattle.rh_script.specs.Instruction.{Instruction, Use, Add, Drop, Ask, Keep, Flip, Save, Clear, Dump, Snapshot, Restore, Numbered}
-use Rattle.rh_lines.specs.Lines.{is_printable, is_skipped, lines_of, without_return, words_of}
+use Rattle.rh_lines.specs.Lines.{without_return}
+use Rattle.rh_lines.specs.Grammar.{◌>>=◌, Grammar, no_word, read_by}
+use Rattle.rh_lines.specs.Grammar as texts
 use Rattle.rh_script.specs.Names.{admitted}
-
--- one step, and then the next
-infixl 10 ◌>>=◌
-abbrev pub ◌>>=◌ : {A B E : Type 0} → Result A E → (A → Result B E) → Result B E
-(Ok x) >>= f = f x
-(Err e) >>= f = Err e
 
 -- ---- the command of a line
 
@@ -46,9 +42,6 @@ verb_of word =
     else if bytes_eq word (codes "restore") then Some verbs.Restore
     else None
 
-abbrev pub verb_in : List ℕ → Result Verb ScriptFaultKind
-verb_in word = elim (verb_of word) [ Some verb ↦ Ok verb | None ↦ Err BadCommand ]
-
 -- the words are a name
 unfoldable pub one_name : List (List ℕ) → Result (List ℕ) ScriptFaultKind
 one_name (name ∷ []) = if is_name name then Ok name else Err BadName
@@ -63,11 +56,6 @@ name_and_path _ = Err BadCommand
 unfoldable pub one_path : List (List ℕ) → Result (List ℕ) ScriptFaultKind
 one_path (path ∷ []) = Ok path
 one_path _ = Err BadCommand
-
--- there is no word
-unfoldable pub no_word : Instruction → List (List ℕ) → Result Instruction ScriptFaultKind
-no_word instruction [] = Ok instruction
-no_word instruction _ = Err BadCommand
 
 abbrev pub on_name : (List ℕ → Instruction) → List (List ℕ) → Result Instruction ScriptFaultKind
 on_name instruction words = one_name words >>= (λ name. Ok (instruction name))
@@ -84,21 +72,18 @@ instruction_of verbs.Ask words = on_name Ask words
 instruction_of verbs.Keep words = on_name Keep words
 instruction_of verbs.Flip words = on_name Flip words
 instruction_of verbs.Save words = on_name Save words
-instruction_of verbs.Clear words = no_word Clear words
-instruction_of verbs.Dump words = no_word Dump words
+instruction_of verbs.Clear words = no_word BadCommand Clear words
+instruction_of verbs.Dump words = no_word BadCommand Dump words
 instruction_of verbs.Snapshot words = on_path Snapshot words
 instruction_of verbs.Restore words = on_path Restore words
 
 unfoldable pub instruction_in : List (List ℕ) → Result Instruction ScriptFaultKind
 instruction_in [] = Err BadCommand
-instruction_in (verb ∷ words) = verb_in verb >>= (λ v. instruction_of v words)
+instruction_in (word ∷ words) = ok_or (verb_of word) BadCommand >>= (λ verb. instruction_of verb words)
 
 -- what a line says, if anything
-unfoldable pub said_in : List ℕ → Result (Option Instruction) ScriptFaultKind
-said_in line =
-    if is_skipped line then Ok None
-    else if list_all is_printable line then instruction_in (words_of line) >>= (λ said. Ok (Some said))
-    else Err BadCommand
+abbrev pub said_in : List ℕ → Result (Option Instruction) ScriptFaultKind
+said_in = texts.said_in BadCommand instruction_in
 
 -- ---- the lines of a script
 
@@ -116,19 +101,16 @@ unfoldable pub after_line : ℕ → List Numbered → List ℕ → Result (List 
 after_line number before line =
     within_limits number line >>= (λ l. said_in (without_return l) >>= entered number before)
 
-abbrev pub at_line : {A : Type 0} → ℕ → Result A ScriptFaultKind → Result A ScriptFault
-at_line number (Ok x) = Ok x
-at_line number (Err kind) = Err (record { line = number; kind = kind })
-
--- the steps so far, with those of these lines, of which the first has this number
-unfoldable pub after_lines : ℕ → List Numbered → List (List ℕ) → Result (List Numbered) ScriptFault
-after_lines number before [] = Ok before
-after_lines number before (line ∷ lines) =
-    at_line number (after_line number before line) >>= (λ steps. after_lines (number + 1) steps lines)
+abbrev pub script_grammar : Grammar (List Numbered) ScriptFaultKind ScriptFault
+script_grammar = record {
+  start = [];
+  after_line = after_line;
+  fault_at = λ number kind. record { line = number; kind = kind };
+}
 
 unfoldable pub script_of : List ℕ → Result (List Numbered) ScriptFault
-script_of text = after_lines 1 [] (lines_of text)
+script_of text = read_by script_grammar text
 
 -- the lines of a text before that of this number have no fault
 abbrev pub HasNoFaultBefore : ℕ → List ℕ → Type 0
-HasNoFaultBefore number text = IsTrue (is_ok (after_lines 1 [] (take (number - 1) (lines_of text))))
+HasNoFaultBefore = texts.HasNoFaultBefore script_grammar

@@ -1,7 +1,8 @@
 -- What the code's scripts, answers and kept texts stand for.
-use Rattle.std.specs.Prelude.{◌≡◌, ◌≢◌, ℕ, List, map, String, Result, Ok, Err, MatchResult}
+use Rattle.std.specs.Prelude.{◌≡◌, ℕ, List, map, String, Result}
 use Rattle.std.specs.Global.{Global}
 use Rattle.std.specs.BTreeSet.{BTreeSet, contains_text}
+use Rattle.rh_lines.specs.Grammar as texts
 use Rattle.rh_script.specs.declared.fault.ScriptFaultKind.{ScriptFaultKind}
 use Rattle.rh_script.specs.declared.fault.ScriptFaultKind.TheVariants.{Memory}
 use Rattle.rh_script.specs.declared.script.Script.{Script}
@@ -16,7 +17,7 @@ steps_of script = map step_as script.steps.items
 
 -- What a call answers, seen by view, is what the grammar says; want of memory says nothing of it.
 abbrev pub Answers : {X Y : Type 0} → Result Y ScriptFaultKind → (X → Y) → Result X ScriptFaultKind → Type 0
-Answers said view r = MatchResult r (λ x. said ≡ Ok (view x)) (λ kind. kind ≢ Memory → said ≡ Err kind)
+Answers = texts.Answers Memory
 
 -- the set has just the texts that are given
 abbrev pub HasJust : BTreeSet (String Global) → List (List ℕ) → Type 0

@@ -1,9 +1,8 @@
 //! The command of a line.
 
 ghost use Rattle.std.specs.Prelude.{◌≡◌, option_map, string_bytes};
-ghost use Rattle.rh_script.specs.Instruction.{Instruction};
 ghost use Rattle.rh_lines.specs.Lines.{words_of};
-ghost use Rattle.rh_script.specs.Grammar.{name_and_path, no_word, one_name, one_path};
+ghost use Rattle.rh_script.specs.Grammar.{name_and_path, one_name, one_path};
 ghost use Rattle.rh_script.specs.Grammar.{instruction_in, instruction_of, said_in};
 ghost use Rattle.rh_script.specs.Steps.{instruction_as};
 ghost use Rattle.rh_script.specs.Script.{Answers};
@@ -12,11 +11,11 @@ use crate::fault::ScriptFaultKind;
 use crate::name::is_name;
 use crate::script::Command;
 use crate::verb::Verb;
-use rh_lines::{is_skipped, next_word, printable};
+use rh_lines::{end_of_words, is_skipped, next_word, printable};
 use std::alloc::Global;
 
 /// What a line says, if it is not skipped.
-#[tactic(auto, unfolding(crate::specs::Grammar::said_in))]
+#[tactic(auto, unfolding(rh_lines::specs::Grammar::said_in))]
 pub(crate) fn read_command(alloc: Global, line: &[u8]) -> Result<Option<Command>, ScriptFaultKind>
     ensures { Answers (said_in line.now) (option_map instruction_as) result }
 {
@@ -37,7 +36,7 @@ fn command_in(alloc: Global, text: &str) -> Result<Command, ScriptFaultKind>
     command_of(alloc, verb, rest)
 }
 
-#[tactic(auto, unfolding(crate::specs::Grammar::instruction_of))]
+#[tactic(auto, unfolding(crate::specs::Grammar::instruction_of, rh_lines::specs::Grammar::no_word))]
 fn command_of(alloc: Global, verb: Verb, rest: &str) -> Result<Command, ScriptFaultKind>
     ensures { Answers (instruction_of verb (words_of rest.now)) instruction_as result }
 {
@@ -65,11 +64,11 @@ fn command_of(alloc: Global, verb: Verb, rest: &str) -> Result<Command, ScriptFa
             name: read_name(alloc, rest)?,
         },
         Verb::Clear => {
-            end_of_words(rest)?;
+            end_of_words(rest).ok_or(ScriptFaultKind::BadCommand)?;
             Command::Clear
         }
         Verb::Dump => {
-            end_of_words(rest)?;
+            end_of_words(rest).ok_or(ScriptFaultKind::BadCommand)?;
             Command::Dump
         }
         Verb::Snapshot => Command::Snapshot {
@@ -89,7 +88,7 @@ fn read_name_and_path(alloc: Global, rest: &str) -> Result<(String, String), Scr
 {
     let (name, rest) = next_word(rest).ok_or(ScriptFaultKind::BadCommand)?;
     let (path, rest) = next_word(rest).ok_or(ScriptFaultKind::BadCommand)?;
-    end_of_words(rest)?;
+    end_of_words(rest).ok_or(ScriptFaultKind::BadCommand)?;
     if !is_name(name) {
         return Err(ScriptFaultKind::BadName);
     }
@@ -104,7 +103,7 @@ fn read_name(alloc: Global, rest: &str) -> Result<String, ScriptFaultKind>
     ensures { Answers (one_name (words_of rest.now)) string_bytes result }
 {
     let (name, rest) = next_word(rest).ok_or(ScriptFaultKind::BadCommand)?;
-    end_of_words(rest)?;
+    end_of_words(rest).ok_or(ScriptFaultKind::BadCommand)?;
     if !is_name(name) {
         return Err(ScriptFaultKind::BadName);
     }
@@ -118,17 +117,7 @@ fn read_path(alloc: Global, rest: &str) -> Result<String, ScriptFaultKind>
     ensures { Answers (one_path (words_of rest.now)) string_bytes result }
 {
     let (word, rest) = next_word(rest).ok_or(ScriptFaultKind::BadCommand)?;
-    end_of_words(rest)?;
+    end_of_words(rest).ok_or(ScriptFaultKind::BadCommand)?;
     let path = String::from_str(alloc, word)?;
     Ok(path)
-}
-
-#[tactic(auto, unfolding(crate::specs::Grammar::no_word))]
-fn end_of_words(rest: &str) -> Result<(), ScriptFaultKind>
-    ensures { (said : Instruction) → Answers (no_word said (words_of rest.now)) (λ _. said) result }
-{
-    match next_word(rest) {
-        Some(_) => Err(ScriptFaultKind::BadCommand),
-        None => Ok(()),
-    }
 }

@@ -1,51 +1,43 @@
 use Rattle.std.proofs.lemmas.Result.{err_from_is_err_and}
-use Rattle.std.proofs.Common.{◌∙◌, arith, refl}
-use Rattle.rh_play.specs.declared.draft.Draft.TheVariants.{Empty}
-use Rattle.rh_lines.specs.Lines.{lines_of}
-use Rattle.rh_play.specs.Play.{way_of}
-use Rattle.rh_lines.proofs.Walking.{all_counted, counted_more, fewer_left, left_more}
-use Rattle.rh_play.proofs.OneLine.{all_read, ended_there, read_more, read_so_far, step_read, step_refused}
+use Rattle.std.proofs.Common.{◌∙◌, ap, arith, refl, sym, Err}
+use Rattle.rh_lines.proofs.Reading.{Cut, all_done, begun, gone_on, none_before, refused, within}
+use Rattle.rh_lines.proofs.Walking.{fewer_left}
+use Rattle.rh_play.specs.Grammar.{play_grammar}
 use Rattle.rh_play.proofs.reading.read_lines.Goals as goal
 
 pub loop-rest-init : goal.loop-rest-init
-loop-rest-init c = record {
-  few = omega arith;
-  counted = omega arith;
-  left = refl;
-  read = all_read 1 (way_of Empty);
-  so_far = refl;
-}
+loop-rest-init c = record { few = omega arith; stands = begun play_grammar c.args.text.now }
 
 pub returns-in_err-draft-clause-refused : goal.returns-in_err-draft-clause-refused
 returns-in_err-draft-clause-refused c =
     let fault = err_from_is_err_and c.from_residual.result c.from_residual.ensures.1 in
+    let cut : Cut c.loop-rest.rest.now c.next_line.result.0.now c.next_line.result.1.now = record { some = grind arith; line_is = c.next_line.ensures.line; rest_is = c.next_line.ensures.rest } in
+    let kind = c.in_err-draft.field-0.0.kind in
     rw (fault.1, fault.2) (λ known.
-    c.loop-rest.invariant.so_far
-    ∙ step_refused c.loop-rest.number (way_of c.loop-rest.draft) c.in_err-draft.field-0.0 c.loop-rest.rest.now c.next_line.result.0.now c.next_line.result.1.now (grind arith) c.next_line.ensures.line c.next_line.ensures.rest c.in_err-draft.ensures.at (c.in_err-draft.ensures.refused known))
+    refused play_grammar c.args.text.now c.loop-rest.number _ _ kind _ _ _ c.loop-rest.invariant.stands cut refl (c.in_err-draft.ensures.refused known)
+    ∙ ap (λ line. Err (record { line = line; kind = kind })) (sym c.in_err-draft.ensures.at))
 
 pub returns-in_err-draft-clause-within : goal.returns-in_err-draft-clause-within
 returns-in_err-draft-clause-within c =
     let fault = err_from_is_err_and c.from_residual.result c.from_residual.ensures.1 in
-    let more = counted_more c.loop-rest.number _ c.loop-rest.rest.now c.next_line.result.1.now (grind arith) c.next_line.ensures.rest c.loop-rest.invariant.counted in
-    rw (fault.1, fault.2, c.in_err-draft.ensures.at) (omega arith, omega arith)
+    let cut : Cut c.loop-rest.rest.now c.next_line.result.0.now c.next_line.result.1.now = record { some = grind arith; line_is = c.next_line.ensures.line; rest_is = c.next_line.ensures.rest } in
+    rw (fault.1, fault.2) (within play_grammar c.args.text.now c.loop-rest.number _ _ _ _ _ c.loop-rest.invariant.stands cut c.in_err-draft.ensures.at)
 
 pub returns-in_err-draft-clause-before : goal.returns-in_err-draft-clause-before
 returns-in_err-draft-clause-before c =
     let fault = err_from_is_err_and c.from_residual.result c.from_residual.ensures.1 in
-    rw (fault.1, fault.2) (read_so_far c.loop-rest.number _ (way_of c.loop-rest.draft) c.args.text.now c.in_err-draft.ensures.at c.loop-rest.invariant.read)
+    rw (fault.1, fault.2) (none_before play_grammar c.args.text.now c.loop-rest.number _ _ _ c.loop-rest.invariant.stands c.in_err-draft.ensures.at)
 
 pub loop-rest-preserved : goal.loop-rest-preserved
-loop-rest-preserved c = record {
-  few = fewer_left c.loop-rest.number _ c.loop-rest.rest.now c.next_line.result.1.now (grind arith) c.next_line.ensures.rest c.loop-rest.invariant.few;
-  counted = counted_more c.loop-rest.number _ c.loop-rest.rest.now c.next_line.result.1.now (grind arith) c.next_line.ensures.rest c.loop-rest.invariant.counted;
-  left = left_more c.loop-rest.number (lines_of c.args.text.now) c.loop-rest.rest.now c.next_line.result.0.now c.next_line.result.1.now (grind arith) c.next_line.ensures.line c.next_line.ensures.rest c.loop-rest.invariant.counted c.loop-rest.invariant.left;
-  read = read_more c.loop-rest.number (way_of Empty) (way_of c.loop-rest.draft) (way_of c.in_ok-draft.draft) (lines_of c.args.text.now) c.loop-rest.rest.now c.next_line.result.0.now c.next_line.result.1.now (grind arith) c.next_line.ensures.line c.next_line.ensures.rest c.loop-rest.invariant.counted c.loop-rest.invariant.left c.loop-rest.invariant.read c.in_ok-draft.ensures.read;
-  so_far = c.loop-rest.invariant.so_far
-      ∙ step_read c.loop-rest.number (way_of c.loop-rest.draft) (way_of c.in_ok-draft.draft) c.loop-rest.rest.now c.next_line.result.0.now c.next_line.result.1.now (grind arith) c.next_line.ensures.line c.next_line.ensures.rest c.in_ok-draft.ensures.read;
-}
+loop-rest-preserved c =
+    let cut : Cut c.loop-rest.rest.now c.next_line.result.0.now c.next_line.result.1.now = record { some = grind arith; line_is = c.next_line.ensures.line; rest_is = c.next_line.ensures.rest } in
+    record {
+      few = fewer_left c.loop-rest.number _ c.loop-rest.rest.now c.next_line.result.1.now cut.some cut.rest_is c.loop-rest.invariant.few;
+      stands = gone_on play_grammar c.args.text.now c.loop-rest.number _ _ _ _ _ _ c.loop-rest.invariant.stands cut refl c.in_ok-draft.ensures.read;
+    }
 
 pub returns-clause-counted : goal.returns-clause-counted
-returns-clause-counted c = all_counted _ _ c.loop-rest.rest.now (grind arith) c.loop-rest.invariant.counted
+returns-clause-counted c = (all_done play_grammar c.args.text.now _ _ _ c.loop-rest.invariant.stands (grind arith)).0
 
 pub returns-clause-read : goal.returns-clause-read
-returns-clause-read c = c.loop-rest.invariant.so_far ∙ ended_there _ _ c.loop-rest.rest.now (grind arith)
+returns-clause-read c = (all_done play_grammar c.args.text.now _ _ _ c.loop-rest.invariant.stands (grind arith)).1

@@ -1,4 +1,4 @@
-use Rattle.rh_script.proofs.OneLine.{known_more}
+use Rattle.rh_script.proofs.Naming.{known_more}
 use Rattle.rh_script.proofs.reading.Reading.enter.Goals as goal
 
 pub returns-in_ok-push-clause-known : goal.returns-in_ok-push-clause-known
