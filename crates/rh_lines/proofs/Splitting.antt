@@ -1,6 +1,5 @@
 -- The first line of a text, and the first word of a line.
 use Rattle.std.proofs.Common.{Bor, ◌≡◌, ◌∙◌, ℕ, zero, suc, ◌+◌, ◌-◌, ◌<◌, ◌≤◌, ◌==◌, Bool, true, false, cond, List, [], ◌∷◌, ◌++◌, length, take, drop, length-drop, Option, Some, None, MatchOption, IfSome, inl, inr, refl, ap, sym, arith}
-use Rattle.std.proofs.Math.ListN.{drop_of_length-le}
 use Rattle.std.proofs.lemmas.Bool.{cases_Bool, eqb-true, ltb-false, ltb-true}
 use Rattle.std.proofs.lemmas.List.{take_all}
 use Rattle.std.proofs.lemmas.List.Splits.{slice_split_first, length-slice_split}
@@ -32,7 +31,7 @@ lines_cut text at =
     ap ended (slice_split_first is_line_feed text 0 at)
     ∙ ended_more (before_first is_line_feed text) (slice_split is_line_feed (after_first is_line_feed text)) (omega (arith, length-slice_split is_line_feed (after_first is_line_feed text)))
 
-pub no_line : lines_of [] ≡ []
+no_line : lines_of [] ≡ []
 unfolding lines_of
 no_line = refl
 
@@ -41,21 +40,26 @@ unfolding lines_of
 one_line [] some h = absurd (omega arith)
 one_line (b ∷ bs) some h = ap ended (split_whole is_line_feed (b ∷ bs) h)
 
-before_all : (p : ℕ → Bool) (xs : List ℕ) → length xs ≤ position_or_len p xs → before_first p xs ≡ xs
-before_all p xs h = take_all (position_or_len p xs) xs h
+pub no_line_left : (text : List ℕ) → length text ≡ 0 → lines_of text ≡ []
+no_line_left [] none = no_line
+no_line_left (b ∷ bs) none = absurd (omega arith)
 
-after_all : (p : ℕ → Bool) (xs : List ℕ) → length xs ≤ position_or_len p xs → after_first p xs ≡ []
-after_all p xs h = drop_of_length-le xs (omega arith)
-
--- the first line, and the lines after it
-pub lines_step : (text : List ℕ) → 0 < length text → lines_of text ≡ before_first is_line_feed text ∷ lines_of (after_first is_line_feed text)
-lines_step text some =
+lines_within : (n : ℕ) (text : List ℕ) → length text ≤ n → length (lines_of text) ≤ length text
+lines_within n [] h = rw no_line (omega arith)
+lines_within zero (b ∷ bs) h = absurd (omega arith)
+lines_within (suc n) (b ∷ bs) h =
+    let text = b ∷ bs in
     elim (cases_Bool (nat_lt (position_or_len is_line_feed text) (length text))) [
-      | inl at ↦ lines_cut text (ltb-true _ _ at)
-      | inr none ↦
-          let all = ltb-false _ _ none in
-          one_line text some all ∙ rw (before_all is_line_feed text all, after_all is_line_feed text all, no_line) refl
+      | inl at ↦
+          let less = length-drop (position_or_len is_line_feed text + 1) text in
+          let more = lines_within n (after_first is_line_feed text) (omega (arith, less)) in
+          rw (lines_cut text (ltb-true _ _ at)) (omega (arith, less, more))
+      | inr none ↦ rw (one_line text (omega arith) (ltb-false _ _ none)) (omega arith)
     ]
+
+-- a text has no more lines than bytes
+pub lines_few : (text : List ℕ) → length (lines_of text) ≤ length text
+lines_few text = lines_within (length text) text (omega arith)
 
 no_more_words : words_of [] ≡ []
 unfolding words_of
@@ -121,32 +125,30 @@ words_step line rest none (Some x) trim some empty found =
 
 -- ---- what a search for the first line feed answers
 
-abbrev pub Answer : (p : ℕ → Bool) (xs : List ℕ) (r : Option ℕ) → Type 0
-Answer p xs r = r ≡ cond (nat_lt (position_or_len p xs) (length xs)) (Some (position_or_len p xs)) None
+abbrev pub Answer : (text : List ℕ) (r : Option ℕ) → Type 0
+Answer text r =
+    r ≡ cond (nat_lt (position_or_len is_line_feed text) (length text)) (Some (position_or_len is_line_feed text)) None
 
-found_at : (p : ℕ → Bool) (xs : List ℕ) (r : Option ℕ) (n : ℕ) → Answer p xs r → r ≡ Some n → n ≡ position_or_len p xs
-found_at p xs r n h is =
-    elim (cases_Bool (nat_lt (position_or_len p xs) (length xs))) [
-      | inl at ↦ let e : r ≡ Some (position_or_len p xs) = rw at at h in cc
+found_at : (text : List ℕ) (r : Option ℕ) (n : ℕ) → Answer text r → r ≡ Some n → (n ≡ position_or_len is_line_feed text) × (position_or_len is_line_feed text < length text)
+found_at text r n h is =
+    elim (cases_Bool (nat_lt (position_or_len is_line_feed text) (length text))) [
+      | inl at ↦ let e : r ≡ Some (position_or_len is_line_feed text) = rw at at h in (cc, ltb-true _ _ at)
       | inr none ↦ let e : r ≡ None = rw none at h in absurd cc
     ]
 
-found_none : (p : ℕ → Bool) (xs : List ℕ) (r : Option ℕ) → Answer p xs r → r ≡ None → length xs ≤ position_or_len p xs
-found_none p xs r h is =
-    elim (cases_Bool (nat_lt (position_or_len p xs) (length xs))) [
-      | inl at ↦ let e : r ≡ Some (position_or_len p xs) = rw at at h in absurd cc
+found_none : (text : List ℕ) (r : Option ℕ) → Answer text r → r ≡ None → length text ≤ position_or_len is_line_feed text
+found_none text r h is =
+    elim (cases_Bool (nat_lt (position_or_len is_line_feed text) (length text))) [
+      | inl at ↦ let e : r ≡ Some (position_or_len is_line_feed text) = rw at at h in absurd cc
       | inr none ↦ ltb-false _ _ none
     ]
 
-pub before_at : (p : ℕ → Bool) (xs : List ℕ) (r : Option ℕ) (n : ℕ) → Answer p xs r → r ≡ Some n → take n xs ≡ before_first p xs
-before_at p xs r n h is = ap (λ k. take k xs) (found_at p xs r n h is)
+pub line_found : (text : List ℕ) (r : Option ℕ) (n : ℕ) → Answer text r → r ≡ Some n → lines_of text ≡ take n text ∷ lines_of (take (length text - (n + 1)) (drop (n + 1) text))
+line_found text r n h is =
+    let found = found_at text r n h is in
+    let rest = take_all (length text - (n + 1)) (drop (n + 1) text) (omega (arith, length-drop (n + 1) text)) in
+    lines_cut text found.1 ∙ ap (λ k. take k text ∷ lines_of (drop (k + 1) text)) (sym found.0) ∙ ap (λ l. take n text ∷ lines_of l) (sym rest)
 
-pub after_at : (p : ℕ → Bool) (xs : List ℕ) (r : Option ℕ) (n : ℕ) → Answer p xs r → r ≡ Some n → take (length xs - (n + 1)) (drop (n + 1) xs) ≡ after_first p xs
-after_at p xs r n h is =
-    take_all (length xs - (n + 1)) (drop (n + 1) xs) (omega (arith, length-drop (n + 1) xs)) ∙ ap (λ k. drop (k + 1) xs) (found_at p xs r n h is)
-
-pub before_none : (p : ℕ → Bool) (xs : List ℕ) (r : Option ℕ) → Answer p xs r → r ≡ None → xs ≡ before_first p xs
-before_none p xs r h is = sym (before_all p xs (found_none p xs r h is))
-
-pub after_none : (p : ℕ → Bool) (xs : List ℕ) (r : Option ℕ) → Answer p xs r → r ≡ None → [] ≡ after_first p xs
-after_none p xs r h is = sym (after_all p xs (found_none p xs r h is))
+pub last_line : (text : List ℕ) (r : Option ℕ) → Answer text r → r ≡ None → 0 < length text → lines_of text ≡ text ∷ lines_of []
+last_line text r h is some =
+    one_line text some (found_none text r h is) ∙ ap (λ l. text ∷ l) (sym no_line)

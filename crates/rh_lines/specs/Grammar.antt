@@ -1,5 +1,5 @@
--- What the grammars of texts of lines share: a line says what its words say, and a text what its lines say, up to its first
--- fault.
+-- What the grammars of texts of lines share: a line says what its words say, and a text what its lines say, one after the
+-- other, or its first fault.
 use Rattle.std.specs.Prelude.{◌≡◌, ◌≢◌, ℕ, ◌+◌, ◌-◌, IsTrue, if◌then◌else◌, List, [], ◌∷◌, take, Option, Some, None, Result, Ok, Err, MatchResult, is_ok}
 use Rattle.std.specs.List.{list_all}
 use Rattle.rh_lines.specs.Lines.{is_printable, is_skipped, lines_of, words_of}
@@ -16,7 +16,7 @@ Answers memory said view r = MatchResult r (λ x. said ≡ Ok (view x)) (λ faul
 
 -- ---- a line
 
--- there is no word
+-- this is said, if there is no word
 unfoldable pub no_word : {A E : Type 0} → (bad : E) → A → List (List ℕ) → Result A E
 no_word bad said [] = Ok said
 no_word bad said _ = Err bad
@@ -31,8 +31,8 @@ said_in bad says line =
 
 -- ---- a text
 
--- what there is before the first line; what a line makes of it, by its number and its bytes; and the fault of a text whose
--- line of this number has a fault
+-- How a text is read: what there is before its first line; what a line makes of it, by its number and its bytes; and the
+-- fault of a text whose line of this number has a fault.
 pub record Grammar (S E F : Type 0) : Type 0 where
   pub start : S
   pub after_line : ℕ → S → List ℕ → Result S E
@@ -49,6 +49,7 @@ after_lines grammar number so_far (line ∷ lines) =
     at_line grammar number (grammar.after_line number so_far line) >>= (λ next. after_lines grammar (number + 1) next lines)
 
 -- what there is after all lines of a text
+-- where the second line has the fault `e`, and the first none, this is `Err (fault_at 2 e)`, whatever the third says
 abbrev pub read_by : {S E F : Type 0} → Grammar S E F → List ℕ → Result S F
 read_by grammar text = after_lines grammar 1 grammar.start (lines_of text)
 

@@ -6,8 +6,8 @@
 //!
 //! Proved:
 //!
-//! - `next_line`: the first line of a text, without its line feed, and all that stands after that.
-//!   A text without a line feed is one line.
+//! - `next_line`: the first line of a text, without its line feed, and what stands after that; none
+//!   exactly where the text has no line.
 //! - `without_return`: the line without the carriage return that it ends with, and every other line
 //!   as it is.
 //! - `is_skipped`: true exactly of the lines that begin with `#` or have no word.

@@ -1,17 +1,17 @@
 //! The lines of a text.
 
-ghost use Rattle.std.specs.Prelude.{◌≡◌};
-ghost use Rattle.std.specs.List.{before_first, after_first};
-ghost use Rattle.rh_lines.specs.Lines.{is_line_feed, is_skipped, without_return};
+ghost use Rattle.std.specs.Prelude.{◌≡◌, [], ◌∷◌, MatchOption};
+ghost use Rattle.rh_lines.specs.Lines.{is_skipped, lines_of, without_return};
 
-/// The first line, without its line feed, and what stands after that.
-pub fn next_line(text: &[u8]) -> (&[u8], &[u8])
-    ensures line { result.0.now ≡ before_first is_line_feed text.now }
-    ensures rest { result.1.now ≡ after_first is_line_feed text.now }
+/// The first line, without its line feed, if there is one, and what stands after that.
+pub fn next_line(text: &[u8]) -> Option<(&[u8], &[u8])>
+    ensures { MatchOption result (lines_of text.now ≡ [])
+        (λ found. lines_of text.now ≡ found.0.now ∷ lines_of found.1.now) }
 {
     match text.iter().position(|b| *b == b'\n') {
-        Some(end) => (&text[..end], &text[end + 1..]),
-        None => (text, &[]),
+        Some(end) => Some((&text[..end], &text[end + 1..])),
+        None if text.is_empty() => None,
+        None => Some((text, &[])),
     }
 }
 

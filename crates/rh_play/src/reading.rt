@@ -59,8 +59,7 @@ fn read_lines(alloc: Global, text: &[u8]) -> Result<(u64, Draft), PlayTextFault>
     let mut number = 0;
     let mut draft = Draft::Empty;
     let mut rest = text;
-    while !rest.is_empty() {
-        let (line, after) = next_line(rest);
+    while let Some((line, after)) = next_line(rest) {
         number += 1;
         draft = read_line(alloc, number, draft, line)?;
         rest = after;

@@ -77,7 +77,6 @@ lines_in_order number before steps (line ∷ lines) ordered h =
     lines_in_order (number + 1) first.0 steps lines (line_in_order number before first.0 line ordered (at_line_ok number _ first.0 first.1)) first.2
 
 pub read_in_order : (text : List ℕ) (steps : List Numbered) → script_of text ≡ Ok steps → InOrder steps
-unfolding script_of
 read_in_order text steps h = lines_in_order 1 [] steps (lines_of text) no_step h
 
 -- ---- what the order says of snapshots

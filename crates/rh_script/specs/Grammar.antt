@@ -108,8 +108,8 @@ script_grammar = record {
   fault_at = λ number kind. record { line = number; kind = kind };
 }
 
-unfoldable pub script_of : List ℕ → Result (List Numbered) ScriptFault
-script_of text = read_by script_grammar text
+abbrev pub script_of : List ℕ → Result (List Numbered) ScriptFault
+script_of = read_by script_grammar
 
 -- the lines of a text before that of this number have no fault
 abbrev pub HasNoFaultBefore : ℕ → List ℕ → Type 0

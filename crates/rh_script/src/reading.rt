@@ -92,8 +92,7 @@ pub fn parse(alloc: Global, text: &[u8]) -> Result<Script, ScriptFault>
         steps: Vec::new(alloc),
     };
     let mut rest = text;
-    while !rest.is_empty() {
-        let (line, after) = next_line(rest);
+    while let Some((line, after)) = next_line(rest) {
         reading.read_line(line)?;
         rest = after;
     }
