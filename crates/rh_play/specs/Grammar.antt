@@ -172,14 +172,14 @@ abbrev pub HasNoFaultBefore : ℕ → List ℕ → Type 0
 HasNoFaultBefore = texts.HasNoFaultBefore play_grammar
 
 -- a text may end among the lines of work and after them
-unfoldable pub ended : Way → Result (List Saying) PlayTextKind
-ended (AmongWork, said) = Ok said
-ended (AmongSchedule, said) = Ok said
-ended _ = Err BadLine
+unfoldable pub saying_ended : Way → Result (List Saying) PlayTextKind
+saying_ended (AmongWork, said) = Ok said
+saying_ended (AmongSchedule, said) = Ok said
+saying_ended _ = Err BadLine
 
 -- what the lines of a text say, in order
 unfoldable pub sayings_of : List ℕ → Result (List Saying) PlayTextFault
 sayings_of text =
     if nat_le (length text) MAX_TEXT_BYTES
-    then read_by play_grammar text >>= (λ way. at_line play_grammar (length (lines_of text) + 1) (ended way))
+    then read_by play_grammar text >>= (λ way. at_line play_grammar (length (lines_of text) + 1) (saying_ended way))
     else Err (record { line = 0; kind = TooLong })

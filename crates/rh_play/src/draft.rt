@@ -1,7 +1,7 @@
 //! A play on the way: what the lines so far gave.
 
 ghost use Rattle.std.specs.Prelude.{◌≡◌, IsTrue, Ok, Err, MatchOption};
-ghost use Rattle.rh_play.specs.Grammar.{ended, entered, fits};
+ghost use Rattle.rh_play.specs.Grammar.{saying_ended, entered, fits};
 ghost use Rattle.rh_play.specs.Play.{Answers, said_of, saying_as, way_of, with_work};
 
 use crate::fault::PlayTextKind;
@@ -69,10 +69,10 @@ impl Draft {
     }
 
     /// The play, if the text may end here.
-    #[tactic(auto, unfolding(crate::specs::Grammar::ended))]
+    #[tactic(auto, unfolding(crate::specs::Grammar::saying_ended))]
     pub(crate) fn finish(self, alloc: Global) -> Option<Play>
-        ensures { MatchOption result (ended (way_of self) ≡ Err PlayTextKind.BadLine)
-            (λ play. ended (way_of self) ≡ Ok (said_of play)) }
+        ensures { MatchOption result (saying_ended (way_of self) ≡ Err PlayTextKind.BadLine)
+            (λ play. saying_ended (way_of self) ≡ Ok (said_of play)) }
     {
         match self {
             Draft::Working(table, pieces) => {

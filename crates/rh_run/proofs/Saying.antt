@@ -10,7 +10,7 @@ use Rattle.rh_world.specs.Rows.{ByDebt, ByPlacer}
 use Rattle.rh_world.specs.Rule.{Rule}
 use Rattle.rh_world.specs.Sides.{Side}
 use Rattle.rh_world.specs.Acts.{cells_after, is_success}
-use Rattle.rh_world.specs.Logical.{EntryStandsFor, WordStandsFor as StandsInWorld, entry_value}
+use Rattle.rh_world.specs.Logical.{EntryStandsFor, StandsFor as StandsInWorld, entry_value}
 use Rattle.rh_world.proofs.ActsKept.{one_entry}
 use Rattle.rh_world.proofs.OwnList.{success_yes}
 use Rattle.rh_world.proofs.Updated.{same_nat}
