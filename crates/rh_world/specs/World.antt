@@ -1,7 +1,7 @@
 -- What there is between the workers: cells, descriptors, marks, acts and the shared counter. It has no word and no
 -- place of a word. Descriptors and the swaps of several cells that they ask for are those of Harris, Fraser and Pratt
 -- 2002 (CASN), and so are marks, which their restricted swap leaves in a cell (RDCSS). Acts and the counter are this
--- project's own. Descriptors and marks are never used again here: that a descriptor is stale is a matter of words.
+-- project's own. Descriptors and marks are never used again here; of a stale one a world says no more than the fact `stale`.
 use Rattle.std.specs.Prelude.{◌≡◌, ◌≢◌, ℕ, ◌<◌, ◌⊎◌, ◌==◌, ◌&&◌, Bool, cond, List, [], ◌∷◌}
 
 -- a descriptor or a mark: its worker, and its number among that worker's
