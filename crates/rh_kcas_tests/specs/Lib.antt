@@ -1,5 +1,5 @@
-pub mod StaleDescriptors
 pub mod Halfway
 pub mod Marks
 pub mod ReadsBack
 pub mod Rooms
+pub mod Stale

@@ -4,7 +4,7 @@ ghost use Rattle.std.specs.Prelude.{IsTrue};
 ghost use Rattle.rh_descriptor.specs.Steps.{IsKnown};
 ghost use Rattle.rh_descriptor.specs.Words.{ref_of};
 ghost use Rattle.rh_kcas.specs.Rests.{SeatRests};
-ghost use Rattle.rh_kcas_tests.specs.StaleDescriptors.{HasMet};
+ghost use Rattle.rh_kcas_tests.specs.Stale.{HasMet};
 ghost use Rattle.rh_rdcss.specs.Calls.{IsHere, view_of};
 ghost use Rattle.rh_steps.specs.Relies.{Knows};
 

@@ -44,12 +44,6 @@ fn three_keys(alloc: Global) -> Result<SeqSet, Fail> {
     Ok(SeqSet::from_keys(alloc, 3, &[1, 9, 17])?)
 }
 
-fn scratch_of(set: SeqSet) -> Scratch {
-    let bits = set.bits();
-    let cells = set.into_cells();
-    Scratch { bits, cells }
-}
-
 // What a change of the table of these keys told, and the cells after it.
 type Changed = (Result<Tally, ListFault>, Vec<u64>);
 
@@ -63,7 +57,8 @@ fn change(
     let set = table_of(rt, held)?;
     assert!(rt; set.bits() == BITS && set.len() < 10 && list.left() <= 200_000);
     assert!(rt; kind != Kind::Ask);
-    let mut scratch = scratch_of(set);
+    let cells = set.into_cells();
+    let mut scratch = Scratch { bits: BITS, cells };
     let told = change_all(rt, rt.alloc(), runner, kind, &mut scratch, list);
     Ok((told, scratch.cells))
 }
@@ -101,7 +96,8 @@ fn insert(
 ) -> Result<Changed, Fail> {
     let set = table_of(rt, held)?;
     assert!(rt; set.bits() == BITS && set.len() < 10 && many <= 200_000);
-    let mut scratch = scratch_of(set);
+    let cells = set.into_cells();
+    let mut scratch = Scratch { bits: BITS, cells };
     let three = three_keys(rt.alloc())?;
     let set = &three;
     let choice = Choice { chosen, set, many };
@@ -118,7 +114,8 @@ fn remove(
 ) -> Result<(Result<Removed, ListFault>, Vec<u64>), Fail> {
     let old = table_of(rt, old)?;
     let set = table_of(rt, held)?;
-    let mut scratch = scratch_of(set);
+    let cells = set.into_cells();
+    let mut scratch = Scratch { bits: BITS, cells };
     let told = remove_and_count_absent(rt, rt.alloc(), &mut Single, &old, &mut scratch, list);
     Ok((told, scratch.cells))
 }

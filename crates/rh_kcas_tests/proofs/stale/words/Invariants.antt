@@ -1,6 +1,6 @@
 use Rattle.rh_rdcss.specs.Calls.{IsHere, view_of}
 use Rattle.rh_steps.specs.Relies.{Knows}
-use Rattle.rh_kcas_tests.proofs.stale_descriptors.words.Given as goal
+use Rattle.rh_kcas_tests.proofs.stale.words.Given as goal
 
 abbrev pub invariant-loop-cell : goal.invariant-loop-cell
 invariant-loop-cell g l = record {

@@ -1,6 +1,6 @@
 use Rattle.std.proofs.Common.{◌∙◌}
 use Rattle.rh_kcas.proofs.Peeking.{peek_rested}
-use Rattle.rh_kcas_tests.proofs.stale_descriptors.found.Goals as goal
+use Rattle.rh_kcas_tests.proofs.stale.found.Goals as goal
 
 pub returns-clause-rests : goal.returns-clause-rests
 returns-clause-rests g c =

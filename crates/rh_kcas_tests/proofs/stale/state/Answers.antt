@@ -4,7 +4,7 @@ use Rattle.rh_descriptor.specs.Words.{ref_of}
 use Rattle.rh_kcas.proofs.Helped.{notes_saw}
 use Rattle.rh_kcas.proofs.Peeking.{status_rested, status_saw}
 use Rattle.rh_kcas_tests.proofs.Meeting.{may_on}
-use Rattle.rh_kcas_tests.proofs.stale_descriptors.state.Goals as goal
+use Rattle.rh_kcas_tests.proofs.stale.state.Goals as goal
 
 pub returns : goal.returns
 returns c =

@@ -3,7 +3,7 @@ use Rattle.rh_tagword.specs.declared.control.State.{State}
 use Rattle.rh_descriptor.specs.Words.{ref_of}
 use Rattle.rh_kcas.proofs.Peeking.{status_rested}
 use Rattle.rh_rdcss.specs.Calls.{SeenAs, view_of}
-use Rattle.rh_kcas_tests.proofs.stale_descriptors.is_undecided.Goals as goal
+use Rattle.rh_kcas_tests.proofs.stale.is_undecided.Goals as goal
 
 pub status-requires-clause-desc : goal.status-requires-clause-desc
 status-requires-clause-desc c = c.requires.rests.knows.sound.descs (ref_of c.args.desc) c.requires.known

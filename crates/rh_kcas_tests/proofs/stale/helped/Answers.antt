@@ -1,5 +1,5 @@
 use Rattle.rh_kcas_tests.proofs.Meeting.{may_on}
-use Rattle.rh_kcas_tests.proofs.stale_descriptors.helped.Goals as goal
+use Rattle.rh_kcas_tests.proofs.stale.helped.Goals as goal
 
 pub returns : goal.returns
 returns g c =
