@@ -114,6 +114,7 @@ fn remove(
 ) -> Result<(Result<Removed, ListFault>, Vec<u64>), Fail> {
     let old = table_of(rt, old)?;
     let set = table_of(rt, held)?;
+    assert!(rt; set.bits() == BITS);
     let cells = set.into_cells();
     let mut scratch = Scratch { bits: BITS, cells };
     let told = remove_and_count_absent(rt, rt.alloc(), &mut Single, &old, &mut scratch, list);
