@@ -16,7 +16,10 @@
 //!   want of memory.
 //! - `write_out`: the buffer is empty, and of a writer that tells its bytes all is written; or a
 //!   write failed, and none is lost or comes twice.
-//! - `between`: a command between its two streams ends well only where its work did.
+//! - `Streams::new`: streams of which nothing is read or written yet, or want of memory.
+//! - `between`: the work was done once between such streams, and ended well where the command did. A
+//!   command is refused for want of memory before the work, by what the work came to, or for a
+//!   failed write after it.
 #![tactic(auto)]
 
 mod fault;

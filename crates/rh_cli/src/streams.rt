@@ -1,10 +1,10 @@
 //! The buffers of a program's streams.
 
-ghost use Rattle.std.specs.Prelude.{◌≡◌, [], IfOk, IfErr, Ok, OnOk};
+ghost use Rattle.std.specs.Prelude.{◌≡◌, ◌⊎◌, [], IfOk, IfErr, Ok, Err, OnOk};
 ghost use Rattle.std.specs.Io.Buffered.{reader_buffer, reader_capacity, reader_inner};
 ghost use Rattle.std.specs.Io.Buffered.{writer_buffer, writer_capacity, writer_contents, writer_inner};
-ghost use Rattle.std.specs.Fn.{FnOnceReturnsAtMut};
 ghost use Rattle.std.specs.Io.KnownBytes.{Keeps};
+ghost use Rattle.rh_cli.specs.Streams.{AreFresh, Works};
 
 use crate::status::{ProgramFault, Status};
 use rh_key_files::Counted;
@@ -63,6 +63,19 @@ pub struct Streams<R: Read + Drop, W: Write + Drop> {
     pub writer: Counted<BufWriter<W>>,
 }
 
+impl<R: Read + Drop, W: Write + Drop> Streams<R, W> {
+    /// The streams, of which nothing is read or written yet.
+    fn new(alloc: Global, reader: R, writer: W) -> Result<Streams<R, W>, ProgramFault>
+        ensures fresh { IfOk result (AreFresh reader writer) }
+        ensures fault { IfErr result (λ fault. fault ≡ ProgramFault.Memory) }
+    {
+        Ok(Streams {
+            reader: Counted::new(buffered_reader(alloc, reader)?),
+            writer: Counted::new(buffered_writer(alloc, writer)?),
+        })
+    }
+}
+
 /// Does the work of a command between its streams, and then writes out what stands in the buffer.
 pub fn between<R: Read + Drop, W: Write + Drop, E: From<ProgramFault>, F>(
     alloc: Global,
@@ -74,13 +87,13 @@ where
     F: FnOnce(&mut Streams<R, W>) -> Result<(), E>,
     requires { F.IsAlwaysCallable work }
     ensures done { IfOk result (λ status. status ≡ Status.Done) }
-    ensures worked { OnOk result ((old : Streams R W) × (new : Streams R W)
-        × FnOnceReturnsAtMut F.FnOnce work old (Ok tt) new) }
+    ensures worked { OnOk result (Works F.FnOnce work reader writer (Ok tt)) }
+    ensures refused { IfErr result (λ error.
+        E.from_gives ProgramFault.Memory error
+        ⊎ Works F.FnOnce work reader writer (Err error)
+        ⊎ (E.from_gives ProgramFault.Write error × Works F.FnOnce work reader writer (Ok tt))) }
 {
-    let mut streams = Streams {
-        reader: Counted::new(buffered_reader(alloc, reader)?),
-        writer: Counted::new(buffered_writer(alloc, writer)?),
-    };
+    let mut streams = Streams::new(alloc, reader, writer)?;
     work(&mut streams)?;
     write_out(&mut streams.writer.into_inner())?;
     Ok(Status::Done)
