@@ -1,4 +1,4 @@
-//! Which keys of a list are chosen, and the table that a command works on.
+//! Which keys of a list are chosen.
 
 ghost use Rattle.std.specs.Prelude.{◌≡◌};
 ghost use Rattle.rh_runner.specs.Lists.{is_chosen};
@@ -31,11 +31,4 @@ pub struct Choice<'a> {
     pub chosen: Chosen,
     pub set: &'a SeqSet,
     pub many: u64,
-}
-
-/// A table that is worked on, while the set that it is made of stays as it is.
-#[derive(Drop)]
-pub struct Scratch {
-    pub bits: u32,
-    pub cells: Vec<u64>,
 }

@@ -12,10 +12,11 @@ ghost use Rattle.rh_runner.specs.Lists.{Took, Ran, Refused, RefusedBatch, Refuse
 ghost use Rattle.rh_runner.specs.Lists.{TellsKeyFault, is_chosen, chosen};
 ghost use Rattle.rh_runner.specs.declared.choice.Chosen.TheVariants.{Absent};
 
-use crate::choice::{Choice, Chosen, Scratch};
+use crate::choice::{Choice, Chosen};
 use crate::fault::ListFault;
 use crate::lists::phase_room;
 use crate::runner::{PhaseFault, Runner};
+use crate::scratch::Scratch;
 use rh_edit::SeqSet;
 use rh_key_files::KeySource;
 use rh_ledger::{Kind, NONE_YET, Tally, joined};

@@ -22,11 +22,13 @@ mod chosen;
 mod fault;
 mod lists;
 mod runner;
+mod scratch;
 mod single;
 
-pub use choice::{Choice, Chosen, Scratch};
+pub use choice::{Choice, Chosen};
 pub use chosen::{Removed, count_chosen, insert_chosen, remove_and_count_absent};
 pub use fault::ListFault;
 pub use lists::{BATCH, LOOK_UPS, PHASE, ask_all, change_all, read_through};
 pub use runner::{PhaseFault, Runner};
+pub use scratch::Scratch;
 pub use single::Single;

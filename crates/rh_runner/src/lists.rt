@@ -7,9 +7,9 @@ ghost use Rattle.rh_key_files.specs.Source.{FaultComes};
 ghost use Rattle.rh_ledger.specs.Phase.{looked_up};
 ghost use Rattle.rh_runner.specs.Lists.{Took, Ran, Refused, TellsKeyFault, may_add};
 
-use crate::choice::Scratch;
 use crate::fault::ListFault;
 use crate::runner::{PhaseFault, Runner};
+use crate::scratch::Scratch;
 use rh_grow::{LOAD_DENOMINATOR, LOAD_NUMERATOR};
 use rh_key_files::{KeyFault, KeySource, MAX_KEYS};
 use rh_layout::MAX_BITS;
