@@ -28,6 +28,7 @@ class Refusal:
         self.is_of_code = match[4] is None
         goal = GOAL.search(match[0]) if self.is_of_code else None
         self.name, self.said = goal[1] if goal else match[3] or "", match[4] or ""
+        self.is_unchecked = bool(UNCHECKED.search(self.text))
         self.is_stale = bool(STALE.match(self.text))
         self.has_no_goal = bool(GOAL_IS_GONE.match(self.said))
         self.is_not_found = bool(NOT_FOUND.match(self.said))
@@ -36,7 +37,7 @@ class Refusal:
 
 def refusals(said):
     """The lines that tell of a goal or a declaration that is not proved."""
-    return [Refusal(it) for it in map(LINE.match, said) if it and not UNCHECKED.search(it[0])]
+    return [Refusal(it) for it in map(LINE.match, said) if it]
 
 
 def declarations(text):
