@@ -17,7 +17,7 @@ use Rattle.rh_play.specs.declared.play.Play.{Play}
 use Rattle.rh_play_run.specs.Beginning.{BeginsPlay, bits_of, held_of, work_keys}
 use Rattle.rh_play_run.specs.declared.fault.PlayRunFault.{PlayRunFault}
 use Rattle.rh_play_run.specs.declared.fault.PlayRunFault.TheVariants.{Read, Text, Start, Memory, Write}
-use Rattle.rh_play_run.specs.Run.{ClosesWith, IsAllFinished, tally_so_far, IsPlayRead, IsPlayed, IsUnplayed, Runs, SaysGoodPlay, closing}
+use Rattle.rh_play_run.specs.Run.{ClosesWith, IsAllFinished, tally_so_far, IsPlayRead, IsPlayed, IsUnplayed, RunsPlay, SaysGoodPlay, closing}
 use Rattle.rh_play_run.specs.declared.log.Telling.{Telling}
 use Rattle.rh_play_run.specs.Pieces.{Piece, told}
 use Rattle.rh_play_run.specs.Schedule.{CarriesOutAll}
@@ -102,7 +102,7 @@ closed_finished g empty first text tally whole finished counts tells none one tw
 
 -- ---- what comes of a run
 
-pub unplayed : (X : Type 0) (telling : Telling) (bytes old new : Option (List ℕ)) (play : Play) (fault : PlayRunFault) → IsPlayRead bytes play → IsUnplayed play fault → Runs {X = X} telling bytes old new (Err fault)
+pub unplayed : (X : Type 0) (telling : Telling) (bytes old new : Option (List ℕ)) (play : Play) (fault : PlayRunFault) → IsPlayRead bytes play → IsUnplayed play fault → RunsPlay {X = X} telling bytes old new (Err fault)
 unplayed X telling bytes old new play Read read why = absurd why
 unplayed X telling bytes old new play (Text fault) read why = absurd why
 unplayed X telling bytes old new play (Start fault) read why = (play, read, why)
@@ -119,11 +119,11 @@ same_parts : (bits : ℕ) (body body' cells cells' close close' : List ℕ) → 
 same_parts bits body body' cells cells' close close' p q r = rw (p, q, r) refl
 
 pub stopped : (X : Type 0) (telling : Telling) (bytes old new : Option (List ℕ)) (play : Play) (bits : ℕ) (body body' cells cells' close close' : List ℕ) → body' ≡ body → cells' ≡ cells → close' ≡ close
-    → IsPlayRead bytes play → IsPlayed telling play (body ++ (dump_text bits cells ++ close)) → AppendsFront old new (body' ++ (dump_text bits cells' ++ close')) → Runs {X = X} telling bytes old new (Err Write)
+    → IsPlayRead bytes play → IsPlayed telling play (body ++ (dump_text bits cells ++ close)) → AppendsFront old new (body' ++ (dump_text bits cells' ++ close')) → RunsPlay {X = X} telling bytes old new (Err Write)
 stopped X telling bytes old new play bits body body' cells cells' close close' p q r read is front =
     (body ++ (dump_text bits cells ++ close), (play, read, is), subst (λ (t : List ℕ). AppendsFront old new t) (same_parts bits body body' cells cells' close close' p q r) front)
 
 pub done : {X : Type 0} (telling : Telling) (bytes old new : Option (List ℕ)) (play : Play) (bits : ℕ) (body body' cells cells' close close' : List ℕ) (x : X) → body' ≡ body → cells' ≡ cells → close' ≡ close
-    → IsPlayRead bytes play → IsPlayed telling play (body ++ (dump_text bits cells ++ close)) → Appends old new (body' ++ (dump_text bits cells' ++ close')) → Runs {X = X} telling bytes old new (Ok x)
+    → IsPlayRead bytes play → IsPlayed telling play (body ++ (dump_text bits cells ++ close)) → Appends old new (body' ++ (dump_text bits cells' ++ close')) → RunsPlay {X = X} telling bytes old new (Ok x)
 done telling bytes old new play bits body body' cells cells' close close' x p q r read is written =
     (body ++ (dump_text bits cells ++ close), (play, read, is), subst (λ (t : List ℕ). Appends old new t) (same_parts bits body body' cells cells' close close' p q r) written)

@@ -125,10 +125,10 @@ IsUnplayed play Write = ⊥
 
 -- The bytes said a play, and its text or a front of it was written; or they said none; or it does not begin. Of a failed
 -- read and of want of memory other clauses speak.
-abbrev pub Runs : {X : Type 0} → Telling → (bytes old new : Option (List ℕ)) → Result X PlayRunFault → Type 0
-Runs telling bytes old new (Ok x) = (text : List ℕ) × IsRunOf telling bytes text × Appends old new text
-Runs telling bytes old new (Err Write) = (text : List ℕ) × IsRunOf telling bytes text × AppendsFront old new text
-Runs telling bytes old new (Err (Text fault)) = IsTextFault bytes fault
-Runs telling bytes old new (Err (Start fault)) = IsRefused bytes fault
-Runs telling bytes old new (Err Memory) = Unit {0}
-Runs telling bytes old new (Err Read) = Unit {0}
+abbrev pub RunsPlay : {X : Type 0} → Telling → (bytes old new : Option (List ℕ)) → Result X PlayRunFault → Type 0
+RunsPlay telling bytes old new (Ok x) = (text : List ℕ) × IsRunOf telling bytes text × Appends old new text
+RunsPlay telling bytes old new (Err Write) = (text : List ℕ) × IsRunOf telling bytes text × AppendsFront old new text
+RunsPlay telling bytes old new (Err (Text fault)) = IsTextFault bytes fault
+RunsPlay telling bytes old new (Err (Start fault)) = IsRefused bytes fault
+RunsPlay telling bytes old new (Err Memory) = Unit {0}
+RunsPlay telling bytes old new (Err Read) = Unit {0}

@@ -6,7 +6,7 @@ ghost use Rattle.rh_key_files.specs.Counting.{failures_of, inner_of};
 ghost use Rattle.rh_key_files.specs.Dump.{dump_text};
 ghost use Rattle.rh_play_run.specs.Beginning.{IsBlank, workers_in};
 ghost use Rattle.rh_play_run.specs.Devices.{ReadsPlay, WritesLast};
-ghost use Rattle.rh_play_run.specs.Run.{IsPlayed, IsUnplayed, Runs, SaysGoodPlay};
+ghost use Rattle.rh_play_run.specs.Run.{IsPlayed, IsUnplayed, RunsPlay, SaysGoodPlay};
 ghost use Rattle.rh_play_run.specs.declared.log.Telling.TheVariants.{Orders};
 
 use crate::beginning::{begin, blank_cells, cells_in};
@@ -42,7 +42,7 @@ pub fn run_play<R: Read, W: Write>(
     reader: &mut Counted<R>,
     writer: &mut Counted<W>,
 ) -> Result<(), PlayRunFault>
-    ensures runs { Runs Orders (R.remaining (inner_of reader.old)) (W.contents (inner_of writer.old))
+    ensures runs { RunsPlay Orders (R.remaining (inner_of reader.old)) (W.contents (inner_of writer.old))
         (W.contents (inner_of writer.new)) result }
     ensures memory { IsErrOf result PlayRunFault.Memory →
         (reader.new ≡ reader.old) ⊎ SaysGoodPlay (R.remaining (inner_of reader.old)) }
@@ -61,7 +61,7 @@ pub fn tell_play<R: Read, W: Write>(
     reader: &mut Counted<R>,
     writer: &mut Counted<W>,
 ) -> Result<(), PlayRunFault>
-    ensures runs { Runs telling (R.remaining (inner_of reader.old)) (W.contents (inner_of writer.old))
+    ensures runs { RunsPlay telling (R.remaining (inner_of reader.old)) (W.contents (inner_of writer.old))
         (W.contents (inner_of writer.new)) result }
     ensures memory { IsErrOf result PlayRunFault.Memory →
         (reader.new ≡ reader.old) ⊎ SaysGoodPlay (R.remaining (inner_of reader.old)) }

@@ -129,6 +129,6 @@ SettlesMine z c (Some own) v None next = ⊥
 SettlesMine z c (Some own) v (Some word) next = SettlesOwn z c own v word next
 
 -- So of a mark of another worker, which may be left; the own one is settled whatever became of the rows.
-pub record Settles (z : Shape) (c : ℕ) (x : Reference) (kept : Option OwnMark) (v : View) (r : Option ℕ) (next : View) : Type 0 where
+pub record SettlesMark (z : Shape) (c : ℕ) (x : Reference) (kept : Option OwnMark) (v : View) (r : Option ℕ) (next : View) : Type 0 where
   pub foreign : (x.worker ≡ v.worker → ⊥) → SettlesMet z x c v r next
   pub own : x.worker ≡ v.worker → SettlesMine z c kept v r next

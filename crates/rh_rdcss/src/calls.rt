@@ -10,7 +10,7 @@ ghost use Rattle.rh_descriptor.specs.Words.{cell_in, ref_of};
 ghost use Rattle.rh_steps.specs.Relies.{Knows};
 ghost use Rattle.rh_rdcss.specs.Calls.{HasStatus, IsHere, IsSame, Learned, Meets, SeenAs, view_of};
 ghost use Rattle.rh_rdcss.specs.Placing.{IsMine, MayPlace, Places};
-ghost use Rattle.rh_rdcss.specs.Settling.{IsOwnUnsettled, Recalls, Settles};
+ghost use Rattle.rh_rdcss.specs.Settling.{IsOwnUnsettled, Recalls, SettlesMark};
 ghost use Rattle.rh_rdcss.specs.declared.calls.Placed.TheVariants.{Mine};
 
 use crate::making::make;
@@ -108,7 +108,7 @@ pub fn settle(table: &Table, seat: &mut Seat, cell: usize, mark: Ref) -> Option<
     requires own { mark.worker ≡ (view_of seat.old).worker → Recalls (view_of seat.old) mark seat.old.placed }
     ensures same { IsSame seat.old seat.new }
     ensures knows { Knows table.now.shape (view_of seat.new) }
-    ensures settles { Settles table.now.shape cell mark seat.old.placed (view_of seat.old) result (view_of seat.new) }
+    ensures settles { SettlesMark table.now.shape cell mark seat.old.placed (view_of seat.old) result (view_of seat.new) }
     ensures settled { IsOwnUnsettled (view_of seat.old) mark → (view_of seat.new).side.unsettled ≡ None }
 {
     if mark.worker == seat.side.worker {

@@ -8,16 +8,16 @@ use Rattle.rh_acts.specs.Act.{apply_acts}
 use Rattle.rh_acts.specs.Workers.{LeavesRoom, acts_of}
 use Rattle.rh_run.specs.History.{history}
 use Rattle.rh_run.specs.Laws.{started}
-use Rattle.rh_run.specs.Moves.{AreNext, MayCome, KeepsKeys, Move, NoKeyIsLost, after, after_all}
+use Rattle.rh_run.specs.Moves.{AreNext, MayCome, KeepsKeys, RunMove, NoKeyIsLost, after, after_all}
 use Rattle.rh_run.specs.Run.{Run, RunInvariant}
 use Rattle.rh_run.proofs.Standing.{run_moment}
 use Rattle.rh_run.proofs.Stepping.{run_claims, run_steps}
 use Rattle.rh_run.proofs.Turning.{run_rounds, run_starts}
 
-goes_on : (r : Run) (m : Move) → IsShape r.shape → 0 < r.shape.workers → MayCome r m → RunInvariant r → RunInvariant (after r m)
-goes_on r (Move.steps who k s word then next answer) shape some it run = run_steps r who s word then next k answer shape it.within it.allowed it.made it.own_key it.advances run
-goes_on r (Move.claims who word then next) shape some it run = run_claims r who word then next shape it.within it.allowed it.made run
-goes_on r (Move.round then cells) shape some it run = run_rounds r then cells shape some it.rest it.cells_are it.wiped run
+goes_on : (r : Run) (m : RunMove) → IsShape r.shape → 0 < r.shape.workers → MayCome r m → RunInvariant r → RunInvariant (after r m)
+goes_on r (RunMove.steps who k s word then next answer) shape some it run = run_steps r who s word then next k answer shape it.within it.allowed it.made it.own_key it.advances run
+goes_on r (RunMove.claims who word then next) shape some it run = run_claims r who word then next shape it.within it.allowed it.made run
+goes_on r (RunMove.round then cells) shape some it run = run_rounds r then cells shape some it.rest it.cells_are it.wiped run
 
 -- what the cells stand for reflects what is done, now and after any moves
 module _ (S : Keys) (all : List ℕ) where
@@ -33,15 +33,15 @@ module _ (S : Keys) (all : List ℕ) where
         reflects = moment.reflects;
       }
 
-  keeps_on : (r : Run) (moves : List Move) → IsShape r.shape → 0 < r.shape.workers → Layout r.opening r.shape.bits S → ((v k : ℕ) → v < r.shape.workers → Contains (r.keys v) k → Contains all k)
+  keeps_on : (r : Run) (moves : List RunMove) → IsShape r.shape → 0 < r.shape.workers → Layout r.opening r.shape.bits S → ((v k : ℕ) → v < r.shape.workers → Contains (r.keys v) k → Contains all k)
       → LeavesRoom r.kind r.shape.bits S all → AreNext r moves → RunInvariant r → KeepsKeys (after_all r moves)
   keeps_on r [] shape some layout asked room next run = keeps r shape layout asked room run
-  keeps_on r (Move.steps who k s word then view answer ∷ moves) shape some layout asked room next run =
-      let m = Move.steps who k s word then view answer in keeps_on (after r m) moves shape some layout asked room next.1 (goes_on r m shape some next.0 run)
-  keeps_on r (Move.claims who word then view ∷ moves) shape some layout asked room next run =
-      let m = Move.claims who word then view in keeps_on (after r m) moves shape some layout asked room next.1 (goes_on r m shape some next.0 run)
-  keeps_on r (Move.round then cells ∷ moves) shape some layout asked room next run =
-      let m = Move.round then cells in keeps_on (after r m) moves shape some layout asked room next.1 (goes_on r m shape some next.0 run)
+  keeps_on r (RunMove.steps who k s word then view answer ∷ moves) shape some layout asked room next run =
+      let m = RunMove.steps who k s word then view answer in keeps_on (after r m) moves shape some layout asked room next.1 (goes_on r m shape some next.0 run)
+  keeps_on r (RunMove.claims who word then view ∷ moves) shape some layout asked room next run =
+      let m = RunMove.claims who word then view in keeps_on (after r m) moves shape some layout asked room next.1 (goes_on r m shape some next.0 run)
+  keeps_on r (RunMove.round then cells ∷ moves) shape some layout asked room next run =
+      let m = RunMove.round then cells in keeps_on (after r m) moves shape some layout asked room next.1 (goes_on r m shape some next.0 run)
 
 pub no_key_is_lost : NoKeyIsLost
 no_key_is_lost kind z cells S keys all moves shape some layout asked room next =

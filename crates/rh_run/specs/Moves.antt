@@ -15,19 +15,19 @@ use Rattle.rh_run.specs.Run.{Run}
 use Rattle.rh_run.specs.Words.{AreNow, IsWiped}
 
 -- What is next in a run, and the words that it leaves.
-pub data Move : Type 0 where
+pub data RunMove : Type 0 where
   -- a step of a worker that is at key k, after which the key may be done: what it found, and what is kept of the worker
-  steps : (who k : ℕ) → Step → (word : ℕ) → (then : List ℕ) → (next : View) → (answer : Option Bool) → Move
+  steps : (who k : ℕ) → Step → (word : ℕ) → (then : List ℕ) → (next : View) → (answer : Option Bool) → RunMove
   -- a Claim of a worker
-  claims : (who word : ℕ) → (then : List ℕ) → (next : View) → Move
+  claims : (who word : ℕ) → (then : List ℕ) → (next : View) → RunMove
   -- a further round, which begins with these cells
-  round : (then cells : List ℕ) → Move
+  round : (then cells : List ℕ) → RunMove
 
 -- the run after it
-abbrev pub after : Run → Move → Run
-after r (Move.steps who k s word then next answer) = also_done_by (stepped r then who next) who k answer
-after r (Move.claims who word then next) = stepped r then who next
-after r (Move.round then cells) = record r { words = then; keep = λ v. round_view cells (r.keep v) }
+abbrev pub after : Run → RunMove → Run
+after r (RunMove.steps who k s word then next answer) = also_done_by (stepped r then who next) who k answer
+after r (RunMove.claims who word then next) = stepped r then who next
+after r (RunMove.round then cells) = record r { words = then; keep = λ v. round_view cells (r.keep v) }
 
 -- A worker of the table makes a step that is allowed to it, for its own descriptor or for another's, at one of its keys.
 pub record IsRunStep (r : Run) (who k : ℕ) (s : Step) (word : ℕ) (then : List ℕ) (next : View) (answer : Option Bool) : Type 0 where
@@ -50,18 +50,18 @@ pub record IsRound (r : Run) (then cells : List ℕ) : Type 0 where
   pub wiped : IsWiped r.shape r.words then
 
 -- it may come next
-abbrev pub MayCome : Run → Move → Type 0
-MayCome r (Move.steps who k s word then next answer) = IsRunStep r who k s word then next answer
-MayCome r (Move.claims who word then next) = IsClaim r who word then next
-MayCome r (Move.round then cells) = IsRound r then cells
+abbrev pub MayCome : Run → RunMove → Type 0
+MayCome r (RunMove.steps who k s word then next answer) = IsRunStep r who k s word then next answer
+MayCome r (RunMove.claims who word then next) = IsClaim r who word then next
+MayCome r (RunMove.round then cells) = IsRound r then cells
 
 -- the run after all of them
-abbrev pub after_all : Run → List Move → Run
+abbrev pub after_all : Run → List RunMove → Run
 after_all r [] = r
 after_all r (m ∷ moves) = after_all (after r m) moves
 
 -- each may come next where it comes
-abbrev pub AreNext : Run → List Move → Type 0
+abbrev pub AreNext : Run → List RunMove → Type 0
 AreNext r [] = Unit {0}
 AreNext r (m ∷ moves) = MayCome r m × AreNext (after r m) moves
 
@@ -77,7 +77,7 @@ pub record KeepsKeys (r : Run) : Type 0 where
 
 -- Whatever moves come after the start of a phase that has room for its keys, no key that is done is lost.
 abbrev pub NoKeyIsLost : Type 0
-NoKeyIsLost = (kind : Kind) (z : Shape) (cells : List ℕ) (S : Keys) (keys : ℕ → List ℕ) (all : List ℕ) (moves : List Move)
+NoKeyIsLost = (kind : Kind) (z : Shape) (cells : List ℕ) (S : Keys) (keys : ℕ → List ℕ) (all : List ℕ) (moves : List RunMove)
     → IsShape z → 0 < z.workers → Layout cells z.bits S
     → ((v k : ℕ) → v < z.workers → Contains (keys v) k → Contains all k) → LeavesRoom kind z.bits S all
     → AreNext (started kind z cells keys) moves → KeepsKeys (after_all (started kind z cells keys) moves)
