@@ -17,9 +17,9 @@
 //! - `write_out`: the buffer is empty, and of a writer that tells its bytes all is written; or a
 //!   write failed, and none is lost or comes twice.
 //! - `Streams::new`: streams of which nothing is read or written yet, or want of memory.
-//! - `between`: the work was done once between such streams, and ended well where the command did. A
-//!   command is refused for want of memory before the work, by what the work came to, or for a
-//!   failed write after it.
+//! - `between`: a command that ended well did its work between such streams, and the work ended well.
+//!   A command is refused by want of memory, by what the work came to, or by a failed write after a
+//!   work that ended well. That memory was wanted, and that the buffer was written out, is not said.
 #![tactic(auto)]
 
 mod fault;

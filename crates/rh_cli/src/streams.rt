@@ -1,4 +1,4 @@
-//! The buffers of a program's streams.
+//! The streams of a program, each behind a buffer, and the work of a command between them.
 
 ghost use Rattle.std.specs.Prelude.{◌≡◌, ◌⊎◌, [], IfOk, IfErr, Ok, Err, OnOk};
 ghost use Rattle.std.specs.Io.Buffered.{reader_buffer, reader_capacity, reader_inner};
