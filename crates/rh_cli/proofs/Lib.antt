@@ -10,6 +10,7 @@
 -- DrawLemmas: what clap found for `draw` is what a line needs.
 -- RunLemmas: what clap found for `run` is what a line needs.
 -- SplitLemmas: what clap found for `split` is what a line needs.
+-- StreamLemmas: what a writer behind a buffer holds.
 
 pub mod BuilderLemmas
 pub mod CommandLemmas
@@ -23,4 +24,5 @@ pub mod RowLemmas
 pub mod RunLemmas
 pub mod SetLemmas
 pub mod SplitLemmas
+pub mod StreamLemmas
 pub mod ValueLemmas

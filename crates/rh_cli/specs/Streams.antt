@@ -1,7 +1,8 @@
 -- The streams between which a command works, and what its work came to.
-use Rattle.std.specs.Prelude.{◌≡◌, ⊤, [], Result}
+use Rattle.std.specs.Prelude.{◌≡◌, ⊤, [], List, ℕ, Option, Result, Ok}
 use Rattle.std.specs.Fn.{FnOnceReturnsAtMut, Once}
-use Rattle.std.specs.Io.Buffered.{reader_buffer, reader_inner, writer_buffer, writer_inner}
+use Rattle.std.specs.Io.Buffered.{reader_buffer, reader_inner, writer_buffer, writer_contents, writer_inner}
+use Rattle.std.specs.Io.KnownBytes.{Keeps}
 use denote.Ref.{MutBor}
 use Rattle.rh_key_files.specs.Counting.{failures_of, inner_of}
 use Rattle.rh_cli.specs.declared.streams.Streams.{Streams}
@@ -21,3 +22,9 @@ pub record Works {R W F E : Type 0} (calls : Once F (MutBor (Streams R W) × ⊤
   pub left : Streams R W
   pub fresh : AreFresh reader writer given
   pub worked : FnOnceReturnsAtMut calls work given r left
+
+-- the work ended well, and what it had written then stood in the writer itself, nothing of it in a buffer
+pub record Ends {R W F E : Type 0} (contents : W → Option (List ℕ)) (calls : Once F (MutBor (Streams R W) × ⊤) (Result ⊤ E × (MutBor (Streams R W) × ⊤))) (work : F) (reader : R) (writer : W) : Type 0 where
+  pub works : Works calls work reader writer (Ok tt)
+  pub last : W
+  pub all : Keeps (writer_contents contents (inner_of works.left.writer)) (contents last)

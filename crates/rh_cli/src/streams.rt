@@ -4,7 +4,7 @@ ghost use Rattle.std.specs.Prelude.{◌≡◌, ◌⊎◌, [], IfOk, IfErr, Ok, E
 ghost use Rattle.std.specs.Io.Buffered.{reader_buffer, reader_capacity, reader_inner};
 ghost use Rattle.std.specs.Io.Buffered.{writer_buffer, writer_capacity, writer_contents, writer_inner};
 ghost use Rattle.std.specs.Io.KnownBytes.{Keeps};
-ghost use Rattle.rh_cli.specs.Streams.{AreFresh, Works};
+ghost use Rattle.rh_cli.specs.Streams.{AreFresh, Ends, Works};
 
 use crate::status::{ProgramFault, Status};
 use rh_key_files::Counted;
@@ -76,7 +76,7 @@ impl<R: Read + Drop, W: Write + Drop> Streams<R, W> {
     }
 }
 
-/// Does the work of a command between its streams, and then writes out what stands in the buffer.
+/// Does the work of a command between its streams, and then writes out what it left in the buffer.
 pub fn between<R: Read + Drop, W: Write + Drop, E: From<ProgramFault>, F>(
     alloc: Global,
     reader: R,
@@ -87,7 +87,7 @@ where
     F: FnOnce(&mut Streams<R, W>) -> Result<(), E>,
     requires { F.IsAlwaysCallable work }
     ensures done { IfOk result (λ status. status ≡ Status.Done) }
-    ensures worked { OnOk result (Works F.FnOnce work reader writer (Ok tt)) }
+    ensures ended { OnOk result (Ends W.contents F.FnOnce work reader writer) }
     ensures refused { IfErr result (λ error.
         E.from_gives ProgramFault.Memory error
         ⊎ Works F.FnOnce work reader writer (Err error)
