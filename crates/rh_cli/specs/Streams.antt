@@ -24,7 +24,7 @@ pub record Works {R W F E : Type 0} (calls : Once F (MutBor (Streams R W) × ⊤
   pub worked : FnOnceReturnsAtMut calls work given r left
 
 -- the work ended well, and what it had written then stood in the writer itself, nothing of it in a buffer
-pub record Ends {R W F E : Type 0} (contents : W → Option (List ℕ)) (calls : Once F (MutBor (Streams R W) × ⊤) (Result ⊤ E × (MutBor (Streams R W) × ⊤))) (work : F) (reader : R) (writer : W) : Type 0 where
+pub record Delivers {R W F E : Type 0} (contents : W → Option (List ℕ)) (calls : Once F (MutBor (Streams R W) × ⊤) (Result ⊤ E × (MutBor (Streams R W) × ⊤))) (work : F) (reader : R) (writer : W) : Type 0 where
   pub works : Works calls work reader writer (Ok tt)
   pub last : W
   pub all : Keeps (writer_contents contents (inner_of works.left.writer)) (contents last)

@@ -4,7 +4,7 @@ ghost use Rattle.std.specs.Prelude.{◌≡◌, ◌⊎◌, [], IfOk, IfErr, Ok, E
 ghost use Rattle.std.specs.Io.Buffered.{reader_buffer, reader_capacity, reader_inner};
 ghost use Rattle.std.specs.Io.Buffered.{writer_buffer, writer_capacity, writer_contents, writer_inner};
 ghost use Rattle.std.specs.Io.KnownBytes.{Keeps};
-ghost use Rattle.rh_cli.specs.Streams.{AreFresh, Ends, Works};
+ghost use Rattle.rh_cli.specs.Streams.{AreFresh, Delivers, Works};
 
 use crate::status::{ProgramFault, Status};
 use rh_key_files::Counted;
@@ -87,7 +87,7 @@ where
     F: FnOnce(&mut Streams<R, W>) -> Result<(), E>,
     requires { F.IsAlwaysCallable work }
     ensures done { IfOk result (λ status. status ≡ Status.Done) }
-    ensures ended { OnOk result (Ends W.contents F.FnOnce work reader writer) }
+    ensures ended { OnOk result (Delivers W.contents F.FnOnce work reader writer) }
     ensures refused { IfErr result (λ error.
         E.from_gives ProgramFault.Memory error
         ⊎ Works F.FnOnce work reader writer (Err error)
