@@ -1,4 +1,4 @@
--- What the two command lines say alike of a program, of its words, and of what is found in them.
+-- What a command line says of a program, of its words, and of what is found in them.
 use Rattle.std.specs.Prelude.{◌≡◌, ◌≤◌, ℕ, true, List, [], unwrap_or, Option, Some, None, is_some, map, option_map, string_bytes, String}
 use Rattle.std.specs.Global.{Global}
 use Rattle.std.specs.Str.Parse.{digits_value, without_leading_plus}

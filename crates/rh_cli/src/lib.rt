@@ -1,13 +1,13 @@
-//! The command lines of the two programs, their streams, and how a program ends.
+//! What the two programs have alike: the reading of their words, their streams, and how they end.
 //!
-//! `rhset` and `rhkeys` stand on it.
+//! `rh_commands` and `rh_key_commands` read their command lines by it, and both programs stand on it.
 //!
 //! Proved:
 //!
-//! - `line` of `set_line`: the command is the one that the words name, by the rules of `clap`, with
-//!   what they give. It is refused exactly by the kinds of fault that those rules give.
-//! - `line` of `keys_line`: as for `rhset`. A flag is given exactly where the text that `clap`
-//!   found for it is `true`.
+//! - `parsing`: `program_command`, `described`, `with_subcommand` and `text_arg` give `clap` the program,
+//!   the command and the argument of `specs/Words.antt`. `parsed`: what is found is what the words name
+//!   by the rules of `clap`. They are refused exactly by the kinds of fault that those rules give.
+//!   `text`, `texts`, `number`: what was found for an argument.
 //! - `ProgramFault::status`, `status_of_keys`, `status_of_snapshot`, `answer`: the exit status of the
 //!   faults that several commands may meet, and of what `clap` answers, by the table
 //!   `specs/Endings.antt`. A failed write is told only of a text that was asked for.
@@ -24,16 +24,12 @@
 #![tactic(auto)]
 
 mod fault;
-pub mod keys_line;
-mod limits;
-mod parsing;
+pub mod parsing;
 mod program;
-pub mod set_line;
 mod status;
 mod streams;
 
 pub use fault::LineFault;
-pub use limits::{MAX_PARTS, MAX_WORKERS};
 pub use program::{answer, words};
 pub use status::{ProgramFault, Status, status_of_keys, status_of_snapshot};
 pub use streams::{Streams, between, buffered_reader, buffered_writer, write_out};

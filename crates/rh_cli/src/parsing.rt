@@ -1,4 +1,4 @@
-//! What the two command lines have alike: the program before its commands, and reading the words.
+//! Command lines: the program before its commands, its arguments, and what `clap` finds in the words.
 
 ghost use Rattle.std.specs.Prelude.{◌≡◌, [], map, IfOk, IfErr, IsOkAnd, false, true};
 ghost use Rattle.clap.specs.Simple.{new_app};

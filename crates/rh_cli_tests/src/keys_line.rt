@@ -1,5 +1,5 @@
 use rh_cli::LineFault;
-use rh_cli::keys_line::{Line, line};
+use rh_key_commands::line::{Line, line};
 use std::alloc::Global;
 use std::test::Fail;
 

@@ -1,6 +1,6 @@
 use clap::Error;
 use rh_cli::LineFault;
-use rh_cli::set_line::{Line, line};
+use rh_commands::line::{Line, line};
 use std::alloc::Global;
 use std::test::Fail;
 

@@ -5,7 +5,7 @@ use Rattle.hex.specs.Hex.{encode_lower}
 use Rattle.rh_key_files.specs.Counting.{AppendsFront}
 use Rattle.rh_snapshot.specs.declared.fault.SnapFault.{SnapFault}
 use Rattle.rh_snapshot.specs.Snapshot.{Table}
-use Rattle.rh_snapshot.specs.Reading.{SnapFails, IsSnapReadFrom, file_table}
+use Rattle.rh_snapshot.specs.Reading.{IsFirstSnapFault, IsSnapReadFrom}
 use Rattle.rh_commands.specs.declared.check.CheckFault.{CheckFault}
 use Rattle.rh_commands.specs.declared.check.CheckFault.TheVariants.{Snap, Write}
 
@@ -17,11 +17,6 @@ check_text table =
 -- the text is the line of the table of the snapshot that was read
 abbrev pub IsLineRead : (bytes left : Option (List ℕ)) (text : List ℕ) → Type 0
 IsLineRead bytes left text = (table : Table) × IsSnapReadFrom bytes left table × (text ≡ check_text table)
-
--- Known bytes are no snapshot, and this is the first fault in them.
-abbrev pub IsFirstSnapFault : Option (List ℕ) → SnapFault → Type 0
-IsFirstSnapFault None fault = Unit {0}
-IsFirstSnapFault (Some bytes) fault = SnapFails fault (file_table bytes)
 
 -- the fault that was found in the snapshot, if one was
 abbrev pub snap_fault_in : {X : Type 0} → Result X CheckFault → Option SnapFault

@@ -10,7 +10,7 @@ use Rattle.rh_key_files.specs.declared.fault.KeyFault.TheVariants as faults
 use Rattle.rh_key_files.specs.Counting.{AppendsFront}
 use Rattle.rh_key_files.specs.Limits.{header_bytes}
 use Rattle.rh_key_files.specs.Taking.{TakesAtMost}
-use Rattle.rh_key_files.specs.Reading.{BeginsWithHeader, KeysFail, IsReadFrom, file_keys}
+use Rattle.rh_key_files.specs.Reading.{BeginsWithHeader, IsFirstKeyFault, IsReadFrom}
 use Rattle.rh_key_files.specs.Dump.{dump_text}
 use Rattle.rh_commands.specs.declared.dump.DumpFault.{DumpFault}
 use Rattle.rh_commands.specs.declared.dump.DumpFault.TheVariants.{Keys, TooLarge, Memory, Write}
@@ -26,11 +26,6 @@ pub record IsDumpOf (keys text : List ℕ) : Type 0 where
 -- the text is the dump of the keys of the key file that was read
 abbrev pub IsDumpRead : (bytes left : Option (List ℕ)) (text : List ℕ) → Type 0
 IsDumpRead bytes left text = (keys : List ℕ) × IsReadFrom bytes left keys × IsDumpOf keys text
-
--- Known bytes are no key file, and this is the first fault in them.
-abbrev pub IsFirstKeyFault : Option (List ℕ) → KeyFault → Type 0
-IsFirstKeyFault None fault = Unit {0}
-IsFirstKeyFault (Some bytes) fault = KeysFail {X = List ℕ × List ℕ} fault (file_keys bytes)
 
 -- want of memory is one fault, wherever it comes
 abbrev pub from_keys : KeyFault → DumpFault

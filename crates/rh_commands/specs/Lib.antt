@@ -1,5 +1,3 @@
 pub mod Check
 pub mod Dump
-pub mod Pack
-pub mod List
-pub mod Files
+pub mod Line

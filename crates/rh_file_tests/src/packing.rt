@@ -1,5 +1,5 @@
-use rh_commands::*;
 use rh_faulty::{FaultyReader, FaultyWriter, Refusal};
+use rh_key_commands::*;
 use rh_key_files::{Counted, KeyFault};
 use rh_numbers::TextFault;
 use rh_snapshot::SnapFault;

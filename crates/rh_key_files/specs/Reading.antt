@@ -101,6 +101,11 @@ CutShort None new reading = Unit {0}
 CutShort (Some bytes) None reading = ⊥
 CutShort (Some bytes) (Some rest) reading = (taken : List ℕ) × (bytes ≡ taken ++ rest) × (reading taken ≡ Err Short)
 
+-- Known bytes are no key file, and this is the first fault in them.
+abbrev pub IsFirstKeyFault : Option (List ℕ) → KeyFault → Type 0
+IsFirstKeyFault None fault = Unit {0}
+IsFirstKeyFault (Some bytes) fault = KeysFail {X = List ℕ × List ℕ} fault (file_keys bytes)
+
 -- known bytes begin with a header that can be read
 abbrev pub BeginsWithHeader : Option (List ℕ) → Type 0
 BeginsWithHeader old = BeginsWith header_at old

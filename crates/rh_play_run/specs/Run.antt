@@ -44,7 +44,7 @@ abbrev pub ClosesWith : Game → (text : List ℕ) → Type 0
 ClosesWith g text = (finished : Bool) × IsAllFinished g finished × (text ≡ closing (tally_so_far g) finished) × TallySpec g (tally_so_far g)
 
 -- The cells that are dumped stand for what the workers have made.
-pub record Ends (bits : ℕ) (g : Game) (text : List ℕ) : Type 0 where
+pub record EndsSoFar (bits : ℕ) (g : Game) (text : List ℕ) : Type 0 where
   pub cells : List ℕ
   pub so_far : IsMadeSoFar g cells
   pub close : List ℕ
@@ -67,7 +67,7 @@ pub record IsPlayed (telling : Telling) (play : Play) (text : List ℕ) : Type 0
   pub pieces : List Piece
   pub follows : CarriesOutAll play.schedule.items first pieces last
   pub ending : List ℕ
-  pub ends : Ends (bits_of play) last ending
+  pub ends : EndsSoFar (bits_of play) last ending
   pub as_one : AllFinished last → EndsAsOne play ending
   pub text_is : text ≡ told telling 0 pieces ++ ending
 

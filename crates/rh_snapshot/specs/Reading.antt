@@ -1,5 +1,5 @@
 -- Reading a snapshot from left to right, up to the first fault. A step gives a value and the bytes after it.
-use Rattle.std.specs.Prelude.{ℕ, zero, suc, ◌^◌, Bool, true, false, ◌&&◌, ◌==◌, nat_lt, nat_le, if◌then◌else◌, List, [], slice_index, count_by, Option, Result, Ok, Err}
+use Rattle.std.specs.Prelude.{ℕ, zero, suc, ◌^◌, Bool, true, false, ◌&&◌, ◌==◌, nat_lt, nat_le, if◌then◌else◌, List, [], slice_index, count_by, Option, Some, None, Result, Ok, Err}
 use Rattle.std.specs.Str.{bytes_eq}
 use Rattle.sha2.specs.Sha256.{sha256}
 use Rattle.rh_layout.specs.declared.limits.TheConstants.{MIN_BITS}
@@ -96,6 +96,11 @@ SnapFails e said = input.Fails is_snap_silent e said
 
 abbrev pub ReadsSnap : {X Y : Type 0} → Option (List ℕ) → Option (List ℕ) → (List ℕ → Result (Y × List ℕ) SnapFault) → (X → Y) → Result X SnapFault → Type 0
 ReadsSnap old new reading view r = input.Reads is_snap_silent old new reading view r
+
+-- Known bytes are no snapshot, and this is the first fault in them.
+abbrev pub IsFirstSnapFault : Option (List ℕ) → SnapFault → Type 0
+IsFirstSnapFault None fault = Unit {0}
+IsFirstSnapFault (Some bytes) fault = SnapFails fault (file_table bytes)
 
 -- known bytes begin with a header that can be read
 abbrev pub BeginsWithSnapHeader : Option (List ℕ) → Type 0

@@ -8,9 +8,9 @@ ghost use Rattle.rhkeys.specs.Endings.{ending_by};
 
 mod status;
 
-use rh_cli::keys_line::{Line, line};
 use rh_cli::{LineFault, ProgramFault, Status, answer, between, buffered_writer, words, write_out};
-use rh_commands::{FaultAt, FileFault, Form, list_files, list_keys, list_snapshot, pack};
+use rh_key_commands::line::{Line, line};
+use rh_key_commands::{FaultAt, FileFault, Form, list_files, list_keys, list_snapshot, pack};
 use rh_key_files::{Counted, KeyFault};
 use rh_shelf::{FileShelf, ShelfFault};
 use rh_snapshot::SnapFault;

@@ -10,8 +10,8 @@ mod script;
 mod status;
 
 use input::open;
-use rh_cli::set_line::{Line, line};
 use rh_cli::{LineFault, ProgramFault, Status, answer, between, words};
+use rh_commands::line::{Line, line};
 use rh_commands::{check_snapshot, dump_keys};
 use rh_play_run::{Telling, draw_play, tell_play};
 use script::run_script;

@@ -1,0 +1,18 @@
+-- Words that clap takes name a command of rhkeys.
+use Rattle.std.proofs.Common.{◌≡◌, List, [], codes, inl, inr, refl}
+use Rattle.clap.specs.Faults.{fault_of}
+use Rattle.clap.specs.Walk.{Text}
+use Rattle.clap.specs.Simple.{built, subcommand_of}
+use Rattle.rh_key_commands.specs.Line.{IsKeysCommand, rhkeys_app}
+use Rattle.rh_cli.specs.Words.{Finds}
+use Rattle.rh_cli.proofs.CommandLemmas.{EachMeets, help_alone, words_find}
+use Rattle.rh_key_commands.proofs.SplitLemmas.{split_arguments}
+
+each_command : (word : Text) (rest : List Text) → (word ≡ codes "help" → ⊥) → EachMeets IsKeysCommand word rest (built rhkeys_app).subs
+each_command word rest other = (
+  λ is below. inl refl,
+  (λ is below. inr (inl refl), (λ is below. inr (inr (refl, split_arguments rest below)), (λ is below. absurd (help_alone word other is), tt))),
+)
+
+pub words_name_a_command : (words : List Text) → fault_of rhkeys_app words ≡ [] → Finds IsKeysCommand (subcommand_of rhkeys_app words)
+words_name_a_command words passes = words_find IsKeysCommand rhkeys_app words refl refl each_command passes

@@ -1,0 +1,4 @@
+pub mod Files
+pub mod Line
+pub mod List
+pub mod Pack

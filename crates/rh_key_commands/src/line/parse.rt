@@ -1,0 +1,168 @@
+//! Reading the words of the command line.
+
+ghost use Rattle.std.specs.Prelude.{◌≡◌, ◌↔◌, [], IfOk, IfErr, IsTrue, codes, false};
+ghost use Rattle.clap.specs.Words.{app_of, fault_of, found_of, rows_of, rule_of};
+ghost use Rattle.clap.specs.Words.{subcommand_of, subcommand_rows_of};
+ghost use Rattle.rh_cli.specs.Faults.{IsOneOf};
+ghost use Rattle.rh_key_commands.specs.Line.{AsksKeys, HasSplitArguments, IsKeysCommand, IsGiven, SaysKeys, flag_rule};
+ghost use Rattle.rh_key_commands.specs.Line.{files_rule, list_app, pack_app, parts_rule, rhkeys_app, split_app};
+ghost use Rattle.rh_cli.specs.Words.{Finds, texts_of};
+
+use super::asked::Line;
+use super::help;
+use crate::limits::MAX_PARTS;
+use clap::{Arg, ArgAction, ArgMatches, Command, value_parser};
+use rh_cli::LineFault;
+use rh_cli::parsing::{
+    described, number, parsed, program_command, text, text_arg, texts, with_subcommand,
+};
+use std::alloc::{AllocError, Global};
+
+const NAME: &str = "rhkeys";
+
+/// What `words` ask for, of which the first is the program's name.
+///
+/// `LineFault::Memory` comes only where a growth was refused.
+pub fn line(alloc: Global, words: &[String]) -> Result<Line, LineFault>
+    ensures asked { IfOk result (λ l. AsksKeys (subcommand_of rhkeys_app (texts_of words.now)) l) }
+    ensures taken { IfOk result (λ l. fault_of rhkeys_app (texts_of words.now) ≡ []) }
+    ensures refused { IfErr result (λ f. IsOneOf (fault_of rhkeys_app (texts_of words.now)) f) }
+{
+    let matches = parsed(command(alloc)?, words)?;
+    let line = asked(alloc, &matches)?;
+    Ok(line)
+}
+
+fn asked(alloc: Global, matches: &ArgMatches<'_>) -> Result<Line, AllocError>
+    requires { Finds IsKeysCommand (subcommand_rows_of matches.now) }
+    ensures { IfOk result (λ l. AsksKeys (subcommand_rows_of matches.now) l) }
+{
+    match matches.subcommand() {
+        Some(("pack", _)) => Ok(Line::Pack),
+        Some(("list", given)) => list_asked(alloc, given),
+        Some(("split", given)) => split_asked(alloc, given),
+        _ => unreachable!(),
+    }
+}
+
+fn list_asked(alloc: Global, given: &ArgMatches<'_>) -> Result<Line, AllocError>
+    ensures { IfOk result (λ l. SaysKeys (codes "list") (rows_of (found_of given.now)) l) }
+{
+    let snapshot = is_given(given, "snapshot");
+    let files = texts(alloc, given, "file")?;
+    Ok(Line::List { snapshot, files })
+}
+
+fn split_asked(alloc: Global, given: &ArgMatches<'_>) -> Result<Line, AllocError>
+    requires { HasSplitArguments (rows_of (found_of given.now)) }
+    ensures { IfOk result (λ l. SaysKeys (codes "split") (rows_of (found_of given.now)) l) }
+{
+    let parts = number(given, "parts", 2, MAX_PARTS);
+    let key_file = is_given(given, "key-file");
+    let plan = is_given(given, "plan");
+    let name = text(alloc, given, "name")?;
+    Ok(Line::Split {
+        parts,
+        key_file,
+        plan,
+        name,
+    })
+}
+
+fn is_given(given: &ArgMatches<'_>, flag: &str) -> bool
+    ensures { IsTrue result ↔ IsGiven flag.now (rows_of (found_of given.now)) }
+{
+    // The text says it exactly, where `get_flag` promises nothing of other texts.
+    given.get_str(flag) == Some("true")
+}
+
+fn command<'a>(alloc: Global) -> Result<Command<'a>, AllocError>
+    ensures { IfOk result (λ c. app_of c ≡ rhkeys_app) }
+{
+    let program = program_command(
+        alloc,
+        NAME,
+        help::PROGRAM,
+        help::PROGRAM_AT_LENGTH,
+        help::STATUSES,
+    );
+    let with_pack = with_subcommand(program, Ok(pack_command(alloc)));
+    let with_list = with_subcommand(with_pack, list_command(alloc));
+    with_subcommand(with_list, split_command(alloc))
+}
+
+fn pack_command<'a>(alloc: Global) -> Command<'a>
+    ensures { app_of result ≡ pack_app }
+{
+    described(
+        alloc,
+        "pack",
+        help::PACK,
+        help::PACK_AT_LENGTH,
+        help::PACK_FORMATS,
+    )
+}
+
+fn list_command<'a>(alloc: Global) -> Result<Command<'a>, AllocError>
+    ensures { IfOk result (λ c. app_of c ≡ list_app) }
+{
+    described(
+        alloc,
+        "list",
+        help::LIST,
+        help::LIST_AT_LENGTH,
+        help::LIST_FORMATS,
+    )
+    .arg(flag_arg(alloc, "snapshot", help::SNAPSHOT))?
+    .arg(files_arg(alloc))
+}
+
+fn split_command<'a>(alloc: Global) -> Result<Command<'a>, AllocError>
+    ensures { IfOk result (λ c. app_of c ≡ split_app) }
+{
+    described(
+        alloc,
+        "split",
+        help::SPLIT,
+        help::SPLIT_AT_LENGTH,
+        help::SPLIT_FORMATS,
+    )
+    .arg(parts_arg(alloc))?
+    .arg(flag_arg(alloc, "key-file", help::KEY_FILE))?
+    .arg(flag_arg(alloc, "plan", help::PLAN))?
+    .arg(text_arg(alloc, "name", "NAME", help::NAME))
+}
+
+fn parts_arg<'a>(alloc: Global) -> Arg<'a>
+    ensures rule { rule_of result ≡ parts_rule }
+    ensures local { result.global ≡ false }
+{
+    Arg::new(alloc, "parts")
+        .long("parts")
+        .value_name("N")
+        .required(true)
+        .action(ArgAction::Set)
+        .value_parser(value_parser!(usize).range(2..=MAX_PARTS as i64))
+        .help(help::PARTS)
+}
+
+fn files_arg<'a>(alloc: Global) -> Arg<'a>
+    ensures rule { rule_of result ≡ files_rule }
+    ensures local { result.global ≡ false }
+{
+    Arg::new(alloc, "file")
+        .value_name("FILE")
+        .action(ArgAction::Append)
+        .help(help::FILES)
+}
+
+// A flag, whose long name is its id.
+fn flag_arg<'a>(alloc: Global, id: &'a str, help: &'a str) -> Arg<'a>
+    ensures rule { rule_of result ≡ flag_rule id.now }
+    ensures local { result.global ≡ false }
+{
+    Arg::new(alloc, id)
+        .long(id)
+        .action(ArgAction::SetTrue)
+        .help(help)
+}
