@@ -4,10 +4,10 @@
 //!
 //! Proved:
 //!
-//! - `parsing`: `program_command`, `described`, `with_subcommand` and `text_arg` give `clap` the program,
-//!   the command and the argument of `specs/Words.antt`. `parsed`: what is found is what the words name
-//!   by the rules of `clap`. They are refused exactly by the kinds of fault that those rules give.
-//!   `text`, `texts`, `number`: what was found for an argument.
+//! - `parsing`: `program_command` and `text_arg` build the program and the argument of
+//!   `specs/Words.antt`, `described` and `with_subcommand` the command that `clap` says. `parsed`: what
+//!   is found is what the words name by the rules of `clap`. They are refused exactly by the kinds of
+//!   fault that those rules give. `text`, `texts`, `number`: what was found for an argument.
 //! - `ProgramFault::status`, `status_of_keys`, `status_of_snapshot`, `answer`: the exit status of the
 //!   faults that several commands may meet, and of what `clap` answers, by the table
 //!   `specs/Endings.antt`. A failed write is told only of a text that was asked for.
