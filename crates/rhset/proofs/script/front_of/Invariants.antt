@@ -1,4 +1,4 @@
-use Rattle.std.proofs.Common.{◌≡◌, ◌-◌, ◌≤◌, length}
+use Rattle.std.proofs.Common.{◌-◌, ◌≤◌, length}
 use Rattle.std.specs.Io.KnownBytes.{Consumes}
 use Rattle.rhset.specs.declared.script.TheConstants.{MAX_BYTES}
 use Rattle.rhset.proofs.script.front_of.Given as goal
