@@ -5,8 +5,8 @@
 //!
 //! Proved, of the command line:
 //!
-//! - `line::line`: the command is the one that the words name, by the rules of `clap`, with what they give.
-//!   It is refused exactly by the kinds of fault that those rules give.
+//! - `line::line`: the command is the one that the words name, by the rules of `clap`, with what they
+//!   give. It is refused exactly by the kinds of fault that those rules give.
 //!
 //! Proved, for every reader and writer whose bytes are known:
 //!
