@@ -1,15 +1,15 @@
 -- Seats whose workers rest, one by one and joined.
 use Rattle.std.proofs.Common.{◌≡◌, List, [], ◌∷◌, ◌++◌, refl, sym, ap, subst, ⊎_elim}
-use Rattle.rh_descriptor.specs.declared.known.Known.{Known}
-use Rattle.rh_descriptor.specs.View.{View}
+use Rattle.rh_words.specs.declared.known.Known.{Known}
+use Rattle.rh_words.specs.View.{View}
 use Rattle.rh_rule.specs.Seats.{InView, known}
 use Rattle.rh_rule.proofs.SeatsKept.{at_append}
-use Rattle.rh_rdcss.specs.declared.seat.Seat.{Seat}
-use Rattle.rh_rdcss.specs.declared.table.Table.{Table}
-use Rattle.rh_rdcss.specs.Calls.{view_of}
-use Rattle.rh_kcas.specs.Crews.{SitsAt, IsFresh, IsQuiet, head_of, views_of}
-use Rattle.rh_kcas.specs.Rests.{SeatRests}
-use Rattle.rh_kcas.proofs.Crews.{fresh_rests}
+use Rattle.rh_shared.specs.declared.seat.Seat.{Seat}
+use Rattle.rh_shared.specs.declared.table.Table.{Table}
+use Rattle.rh_shared.specs.Seats.{view_of}
+use Rattle.rh_shared.specs.Crews.{SitsAt, IsFresh, IsQuiet, head_of, views_of}
+use Rattle.rh_shared.specs.Rests.{SeatRests}
+use Rattle.rh_shared.proofs.Crews.{fresh_rests}
 
 -- what the seat of one worker keeps of it
 alone_views : (s : Seat) → s.count ≡ 1 → views_of s ≡ known (view_of s) ∷ []

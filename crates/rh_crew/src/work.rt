@@ -3,9 +3,9 @@
 ghost use Rattle.std.specs.Prelude.{◌<◌};
 ghost use Rattle.std.specs.Thread.{IsSync};
 ghost use Rattle.rh_crew.specs.Worked.{HaveWorked};
-ghost use Rattle.rh_kcas.specs.Crews.{HasAll, SitsAt, IsFresh, views_of};
-ghost use Rattle.rh_kcas.specs.Rests.{SeatRests};
-ghost use Rattle.rh_rdcss.specs.Calls.{IsSame};
+ghost use Rattle.rh_shared.specs.Crews.{HasAll, SitsAt, IsFresh, views_of};
+ghost use Rattle.rh_shared.specs.Rests.{SeatRests};
+ghost use Rattle.rh_shared.specs.Seats.{IsSame};
 ghost use Rattle.rh_rule.specs.Seats.{InView};
 
 use rh_kcas::{Seat, Table, join, split, wipe};

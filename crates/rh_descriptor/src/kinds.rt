@@ -1,16 +1,13 @@
 //! The kinds of step by their names, each made on a slice of words by one worker.
 
 ghost use Rattle.std.specs.Prelude.{◌≡◌, length, option_map};
-ghost use Rattle.rh_descriptor.specs.Parts.{IsShape, word_count};
-ghost use Rattle.rh_descriptor.specs.Steps.{Allowed, Makes, StepsTo};
-ghost use Rattle.rh_descriptor.specs.Steps.Step.{claims, decides, opens, places, reads, releases, settles, writes};
-ghost use Rattle.rh_descriptor.specs.Words.{control_of, ref_of};
+ghost use Rattle.rh_words.specs.Parts.{IsShape, word_count};
+ghost use Rattle.rh_words.specs.Steps.{Allowed, Makes, StepsTo};
+ghost use Rattle.rh_words.specs.Steps.Step.{claims, decides, opens, places, reads, releases, settles, writes};
+ghost use Rattle.rh_words.specs.Words.{control_of, ref_of};
 
-use crate::reference::{Piece, Reading, Ref};
-use crate::shape::{Part, Shape};
-use crate::side::Side;
-use crate::steps::{Request, make_step};
 use rh_tagword::State;
+use rh_words::{Part, Piece, Reading, Ref, Request, Shape, Side, make_step};
 
 /// Writes a word of an own row.
 pub fn write_word(shape: &Shape, words: &mut [u64], side: &mut Side, part: Part, word: u64)

@@ -1,8 +1,8 @@
-//! Where descriptors and marks stand in a table that several workers share, and the steps of one
-//! worker on its words.
+//! The words of a table that several workers share, and each kind of step of one worker as a call on a
+//! slice of such words.
 //!
-//! A step is a value (`Request`): which word it touches, and what becomes of it. `rh_rule` says that
-//! each allowed one keeps the rule, and `rh_steps` who carries it out.
+//! A public crate: it hands on `rh_words`, on which the crates of the shared table stand, and adds the
+//! calls, which none of these needs.
 //!
 //! ```text
 //! let shape = Shape { bits: 3, workers: 2, keys: 0, rooms: Rooms::usual() };
@@ -15,40 +15,18 @@
 //!
 //! Proved:
 //!
-//! - `Shape::cells`, `words` and `index`: how many cells and words a table has, and in which word
-//!   each part stands, exactly. `one_part`: no two parts stand in one word.
-//! - `Request::index`, `Request::effect`, `Side::note`: of a step, on the condition of its kind, which word
-//!   it touches, what becomes of it, and what is kept of the worker after it, exactly.
-//! - `make_step`: one such step on a slice of words, and the word that it found. `write_word`,
-//!   `open_desc`, `read_word`, `place_mark`, `settle_mark`, `decide_desc`, `release_cell` and
-//!   `claim_key`: the same, of one kind each.
-//! - `Side::new`, `Side::begin_round`: what is kept of a worker when a table is made, and in a new
-//!   round.
-//! - `fixed_numbers`: the limits of a table and the words of a row, each by its value.
-//!
-//! What is kept of a worker exists for contracts alone. No clause by itself ties it to a run of the
-//! program; the rule does.
+//! - `write_word`, `open_desc`, `read_word`, `place_mark`, `settle_mark`, `decide_desc`,
+//!   `release_cell` and `claim_key`: on the condition of its kind, just this step, the word that it
+//!   found, and what is kept of the worker after it.
+//! - What is handed on: see the head of `rh_words`.
 #![tactic(auto)]
 
 mod kinds;
-mod known;
-mod laws;
-mod limits;
-mod reference;
-mod shape;
-mod side;
-mod steps;
-mod words;
 
 pub use kinds::{
     claim_key, decide_desc, open_desc, place_mark, read_word, release_cell, settle_mark, write_word,
 };
-pub use known::{First, Known};
-pub use laws::{fixed_numbers, one_part};
-pub use limits::{MAX_ROOM, MAX_WORKERS};
-pub use reference::{Piece, Reading, Ref};
-pub use rh_layout::Entry;
-pub use shape::{Part, Rooms, Shape};
-pub use side::Side;
-pub use steps::{Effect, Request, StepKind, make_step};
-pub use words::{decided_word, desc_word, mark_word};
+pub use rh_words::{
+    Effect, Entry, First, Known, MAX_ROOM, MAX_WORKERS, Part, Piece, Reading, Ref, Request, Rooms,
+    Shape, Side, StepKind, decided_word, desc_word, fixed_numbers, make_step, mark_word, one_part,
+};

@@ -4,7 +4,7 @@ use Rattle.std.proofs.lemmas.Grind.{common_steps, get_or-set_at}
 use Rattle.std.proofs.lemmas.Bool.Decides.{nat_tests}
 use Rattle.std.proofs.lemmas.List.{get_or-replicate, get_or-set_other, length-set}
 use Rattle.std.specs.List.{list_any}
-use Rattle.rh_descriptor.specs.declared.shape.Shape.{Shape}
+use Rattle.rh_words.specs.declared.shape.Shape.{Shape}
 use Rattle.rh_draw.specs.Changes.{changed_cells, set_all}
 use Rattle.rh_draw.specs.Columns.{flagged, flags_after}
 use Rattle.rh_draw.specs.Laws.{ColumnsAreChanges, changes_in}

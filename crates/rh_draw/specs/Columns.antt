@@ -1,6 +1,6 @@
 -- Which cells have a column, and where.
 use Rattle.std.specs.Prelude.{ℕ, ◌+◌, ◌==◌, if◌then◌else◌, List, [], ◌∷◌, sum_by}
-use Rattle.rh_descriptor.specs.declared.shape.Shape.{Shape}
+use Rattle.rh_words.specs.declared.shape.Shape.{Shape}
 use Rattle.rh_draw.specs.Changes.{changed_cells, set_all}
 use Rattle.rh_draw.specs.Records.{is_drawn}
 use Rattle.rh_draw.specs.Words.{words_after}

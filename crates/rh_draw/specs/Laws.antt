@@ -1,7 +1,7 @@
 -- Which marks and which columns a picture has.
 use Rattle.std.specs.Prelude.{◌≡◌, ℕ, ◌<◌, ◌==◌, if◌then◌else◌, List, [], ◌∷◌, ◌++◌, length, slice_index}
 use Rattle.std.specs.List.{flat_map, list_any}
-use Rattle.rh_descriptor.specs.declared.shape.Shape.{Shape}
+use Rattle.rh_words.specs.declared.shape.Shape.{Shape}
 use Rattle.rh_draw.specs.Changes.{changed_cells}
 use Rattle.rh_draw.specs.Frame.{fixed}
 use Rattle.rh_svg.specs.Markup.{Content, Nothing, Text, Element}

@@ -1,8 +1,8 @@
 -- The moments at which a picture says something: a descriptor is decided, or a mark is settled to one that is over.
 use Rattle.std.specs.Prelude.{ℕ, zero, suc, ◌+◌, ◌-◌, ◌/◌, ◌==◌, nat_lt, Bool, false, if◌then◌else◌, List, [], ◌++◌, Option, Some, None, codes, decimal, slice_index}
-use Rattle.rh_descriptor.specs.declared.shape.Part.{Part}
-use Rattle.rh_descriptor.specs.declared.shape.Part.TheVariants.{Cell, Control, Serial, Length, EntryCell, EntryOld, EntryNew, MarkSerial, MarkDesc, MarkEntry, Reason, Counter}
-use Rattle.rh_descriptor.specs.declared.shape.Shape.{Shape}
+use Rattle.rh_words.specs.declared.shape.Part.{Part}
+use Rattle.rh_words.specs.declared.shape.Part.TheVariants.{Cell, Control, Serial, Length, EntryCell, EntryOld, EntryNew, MarkSerial, MarkDesc, MarkEntry, Reason, Counter}
+use Rattle.rh_words.specs.declared.shape.Shape.{Shape}
 use Rattle.rh_draw.specs.Changes.{decided, entry_count, is_act, has_succeeded}
 use Rattle.rh_svg.specs.Markup.{Content, Nothing, beside, labelled, leaf}
 use Rattle.rh_draw.specs.Places.{column_x, moment_y}

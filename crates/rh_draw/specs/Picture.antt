@@ -1,6 +1,6 @@
 -- The picture of a play.
 use Rattle.std.specs.Prelude.{ℕ, ◌+◌, List, length, replicate}
-use Rattle.rh_descriptor.specs.declared.shape.Shape.{Shape}
+use Rattle.rh_words.specs.declared.shape.Shape.{Shape}
 use Rattle.rh_draw.specs.Columns.{column_count, flags_after, places_of}
 use Rattle.rh_draw.specs.Frame.{all_heads, frame, picture_height, picture_width}
 use Rattle.rh_draw.specs.History.{history, longest, notices}

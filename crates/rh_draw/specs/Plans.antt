@@ -1,6 +1,6 @@
 -- How a picture is laid out, and what stands where at a moment.
 use Rattle.std.specs.Prelude.{ℕ, List}
-use Rattle.rh_descriptor.specs.declared.shape.Shape.{Shape}
+use Rattle.rh_words.specs.declared.shape.Shape.{Shape}
 use Rattle.rh_draw.specs.Changes.{changed_cells, set_all, values_after}
 use Rattle.rh_draw.specs.Places.{moment_of}
 use Rattle.rh_draw.specs.Records.{is_drawn}

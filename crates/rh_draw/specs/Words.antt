@@ -1,9 +1,9 @@
 -- The words of a table, as the steps left them.
 use Rattle.std.specs.Prelude.{ℕ, ◌-◌, ◌++◌, replicate, nat_lt, Bool, true, false, if◌then◌else◌, List, slice_index, slice_set}
-use Rattle.rh_descriptor.specs.Parts.{cell_count, index_of, word_count}
-use Rattle.rh_descriptor.specs.declared.shape.Part.{Part}
-use Rattle.rh_descriptor.specs.declared.shape.Part.TheVariants.{Cell, Control, Serial, Length, EntryCell, EntryOld, EntryNew, MarkSerial, MarkDesc, MarkEntry, Reason, Counter}
-use Rattle.rh_descriptor.specs.declared.shape.Shape.{Shape}
+use Rattle.rh_words.specs.Parts.{cell_count, index_of, word_count}
+use Rattle.rh_words.specs.declared.shape.Part.{Part}
+use Rattle.rh_words.specs.declared.shape.Part.TheVariants.{Cell, Control, Serial, Length, EntryCell, EntryOld, EntryNew, MarkSerial, MarkDesc, MarkEntry, Reason, Counter}
+use Rattle.rh_words.specs.declared.shape.Shape.{Shape}
 use Rattle.rh_recorder.specs.declared.recorder.Touched.{Touched}
 
 abbrev pub both : Bool → Bool → Bool

@@ -6,10 +6,10 @@ ghost use Rattle.rh_trace.specs.Telling.{held_text, step_text};
 ghost use Rattle.rh_tagword.specs.Word.{word_in};
 
 use itoa::Buffer;
-use rh_descriptor::Part;
 use rh_play::push_texts;
 use rh_svg::{Tag, labelled};
 use rh_trace::{Traced, push_step_text, push_word};
+use rh_words::Part;
 use std::alloc::{AllocError, Global};
 
 #[derive(Drop)]

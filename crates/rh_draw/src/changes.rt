@@ -1,14 +1,14 @@
 //! What steps change: words, and by acts the values of cells.
 
 ghost use Rattle.std.specs.Prelude.{◌≡◌, ◌≤◌, ◌++◌, OnOk};
-ghost use Rattle.rh_descriptor.specs.Parts.{IsShape, cell_count};
+ghost use Rattle.rh_words.specs.Parts.{IsShape, cell_count};
 ghost use Rattle.rh_draw.specs.Changes.{changed_cells, decided, entry_cells, entry_count, is_act, outcome, set_all, settled, values_after};
 
 use crate::lists::put;
 use crate::words::word_at;
-use rh_descriptor::{Part, Shape};
 use rh_tagword::{State, unpack_control};
 use rh_trace::Touched;
+use rh_words::{Part, Shape};
 use std::alloc::AllocError;
 
 /// What a step decided a descriptor to, if it did.

@@ -1,14 +1,14 @@
 //! Which cells have a column, and where.
 
 ghost use Rattle.std.specs.Prelude.{◌≡◌, ◌≤◌, IfOk, OnOk, length};
-ghost use Rattle.rh_descriptor.specs.Parts.{IsShape};
+ghost use Rattle.rh_words.specs.Parts.{IsShape};
 ghost use Rattle.rh_draw.specs.Columns.{column_count, flags_after, flagged, places_of};
 
 use crate::changes::{list_changes, put_all};
 use crate::records::{Record, Window};
 use crate::words::follow_words;
-use rh_descriptor::Shape;
 use rh_trace::Traced;
+use rh_words::Shape;
 use std::alloc::{AllocError, Global};
 
 /// Flags the cells of which a step within the window changes the word or the value, by 1. The words

@@ -1,7 +1,7 @@
 //! A play, drawn.
 
 ghost use Rattle.std.specs.Prelude.{◌≡◌, ◌≤◌, IfOk, length};
-ghost use Rattle.rh_descriptor.specs.Parts.{IsShape, cell_count};
+ghost use Rattle.rh_words.specs.Parts.{IsShape, cell_count};
 ghost use Rattle.rh_svg.specs.Markup.{DrawsAfter, Element, IsWellFormed, Nothing, render};
 ghost use Rattle.rh_draw.specs.Picture.{beginning, inside, picture, plan, sized, whole};
 ghost use Rattle.rh_draw.specs.Plans.{plan_of};
@@ -15,8 +15,8 @@ use crate::records::{Record, Window, steps_drawn};
 use crate::rows::draw_rows;
 use crate::sight::View;
 use crate::words::all_words;
-use rh_descriptor::Shape;
 use rh_svg::{Tag, close, open};
+use rh_words::Shape;
 use std::alloc::{AllocError, Global};
 
 /// The picture of the steps of a window, as the text of an SVG. The cells are the words of a table's

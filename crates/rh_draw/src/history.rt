@@ -1,7 +1,7 @@
 //! What stands in the cells from step to step, and what is said at single moments.
 
 ghost use Rattle.std.specs.Prelude.{◌≡◌, IfOk, OnOk, length};
-ghost use Rattle.rh_descriptor.specs.Parts.{IsShape, cell_count};
+ghost use Rattle.rh_words.specs.Parts.{IsShape, cell_count};
 ghost use Rattle.rh_draw.specs.History.{change_of, following, history, length_of, longest, notice_of, notices};
 ghost use Rattle.rh_svg.specs.Markup.{DrawsAfter};
 ghost use Rattle.rh_draw.specs.Picture.{beginning};
@@ -14,8 +14,8 @@ use crate::notices::{draw_notice, push_notice};
 use crate::records::Record;
 use crate::sight::{Sight, View};
 use crate::words::all_words;
-use rh_descriptor::Shape;
 use rh_trace::Traced;
+use rh_words::Shape;
 use std::alloc::{AllocError, Global};
 
 /// What stands in the cells that change, from the first record on.

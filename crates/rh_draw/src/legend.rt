@@ -3,9 +3,9 @@
 ghost use Rattle.std.specs.Prelude.{◌≡◌};
 ghost use Rattle.rh_draw.specs.Legend.{says_text};
 
-use rh_descriptor::StepKind;
 use rh_play::kind_word;
 use rh_svg::{Look, Tag};
+use rh_words::StepKind;
 
 /// The style sheet. The colours of the kinds and of the first seven workers are those of Okabe and Ito,
 /// which most colour-blind readers can tell apart.

@@ -2,7 +2,7 @@
 //! that is over.
 
 ghost use Rattle.std.specs.Prelude.{◌≡◌, ◌++◌, IfOk, OnOk};
-ghost use Rattle.rh_descriptor.specs.Parts.{IsShape};
+ghost use Rattle.rh_words.specs.Parts.{IsShape};
 ghost use Rattle.rh_play.specs.Appending.{Prints};
 ghost use Rattle.rh_draw.specs.Changes.{decided, entry_count};
 ghost use Rattle.rh_draw.specs.Notices.{value_change_text, decision_look, decision_text, desc_named, entries_text, entry_notice, is_over, late, late_look, late_text, notice_at, notice_line, notice_look, notice_text, promoted, verdict_text};
@@ -19,11 +19,11 @@ use crate::places::{column_x, moment_y};
 use crate::sight::{Sight, View};
 use crate::words::word_at;
 use itoa::Buffer;
-use rh_descriptor::{Part, Shape};
 use rh_play::push_texts;
 use rh_svg::{Look, Tag, labelled, leaf};
 use rh_tagword::{Word, unpack, unpack_control};
 use rh_trace::{Touched, push_word};
+use rh_words::{Part, Shape};
 use std::alloc::AllocError;
 
 /// A line across all lanes and columns at such a moment, and at its end what it says.

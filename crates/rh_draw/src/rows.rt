@@ -11,10 +11,10 @@ use crate::limits::{HALF_LETTER, NUMBERS, ROUNDS, ROW};
 use crate::places::{column_x, lane_x, moment_y};
 use crate::records::Record;
 use crate::sight::View;
-use rh_descriptor::{Part, StepKind};
 use rh_svg::{Look, Tag, close, labelled, leaf, open};
 use rh_tagword::{Word, unpack};
 use rh_trace::{Touched, Traced};
+use rh_words::{Part, StepKind};
 use std::alloc::AllocError;
 
 fn desc_owner(word: u64) -> Option<u64>

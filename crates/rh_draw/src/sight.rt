@@ -1,15 +1,15 @@
 //! What stands where at a moment, and how a picture is laid out.
 
 ghost use Rattle.std.specs.Prelude.{◌≡◌};
-ghost use Rattle.rh_descriptor.specs.Parts.{IsShape};
+ghost use Rattle.rh_words.specs.Parts.{IsShape};
 ghost use Rattle.rh_draw.specs.Changes.{values_after};
 ghost use Rattle.rh_draw.specs.Words.{words_after};
 
 use crate::changes::follow_values;
 use crate::records::Window;
 use crate::words::follow_words;
-use rh_descriptor::Shape;
 use rh_trace::Touched;
+use rh_words::Shape;
 
 /// How a picture is laid out.
 #[derive(Drop)]

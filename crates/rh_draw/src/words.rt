@@ -1,12 +1,12 @@
 //! The words of a table, as the steps left them.
 
 ghost use Rattle.std.specs.Prelude.{◌≡◌, IfOk, IsTrue, length};
-ghost use Rattle.rh_descriptor.specs.Parts.{IsPart, IsShape, cell_count};
+ghost use Rattle.rh_words.specs.Parts.{IsPart, IsShape, cell_count};
 ghost use Rattle.rh_draw.specs.Words.{all_words, is_part, word_if_any, words_after};
 
 use crate::lists::{at, put};
-use rh_descriptor::{Part, Shape};
 use rh_trace::Touched;
+use rh_words::{Part, Shape};
 use std::alloc::{AllocError, Global};
 
 // Whether the table has this part.

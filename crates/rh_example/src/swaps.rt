@@ -1,14 +1,14 @@
 //! Two threads that move a value between two cells of one table, each time by one swap of both.
 
 ghost use Rattle.std.specs.Prelude.{◌≡◌, ◌<◌, ◌≤◌, ◌^◌, IfSome};
-ghost use Rattle.rh_kcas.specs.Rests.{SeatRests};
-ghost use Rattle.rh_rdcss.specs.Calls.{IsSame};
+ghost use Rattle.rh_shared.specs.Rests.{SeatRests};
+ghost use Rattle.rh_shared.specs.Seats.{IsSame};
 ghost use Rattle.rh_tagword.specs.Word.{IsValue};
 
-use rh_descriptor::{Rooms, Shape};
 use rh_kcas::{Outcome, Seat, Table, are_entries, change, close, join, kcas, make, read, split};
 use rh_layout::MAX_KEY;
 use rh_tagword::plain_value;
+use rh_words::{Rooms, Shape};
 use std::alloc::{AllocError, Global};
 use std::sync::Wait;
 use std::thread;

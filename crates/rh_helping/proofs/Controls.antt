@@ -11,12 +11,13 @@ use Rattle.rh_world.specs.Facts.Fact.{decided, known, may_demote, may_promote, m
 use Rattle.rh_world.specs.Sides.{Debt, Side, note_side}
 use Rattle.rh_world.specs.Moves.{control_noted, mark_noted}
 use Rattle.rh_world.proofs.Tests.{eqb_not, eqb_yes}
-use Rattle.rh_descriptor.specs.View.{OwnDesc, View}
-use Rattle.rh_descriptor.specs.Words.{control_of, control_word_of, read_control, serial_in, state_of, without_entry}
-use Rattle.rh_descriptor.specs.Steps.{IsKnown, control_read, decided_word, stale_noted, is_known, mark_control_read, tells_opened}
+use Rattle.rh_words.specs.View.{OwnDesc, View}
+use Rattle.rh_words.specs.Words.{control_of, control_word_of, read_control, serial_in, state_of, without_entry}
+use Rattle.rh_words.specs.Steps.{IsKnown, control_read, decided_word, stale_noted, is_known, mark_control_read, tells_opened}
 use Rattle.rh_rule.specs.Sound.{ControlTells, IsControlWord}
 use Rattle.rh_rule.proofs.Said.{control_said_is, serial_said_is}
-use Rattle.rh_helping.specs.Goal.{IsAfterFailures, IsMet, IsOther, KnowsOwn, StandsAt}
+use Rattle.rh_steps.specs.Own.{KnowsOwn}
+use Rattle.rh_helping.specs.Goal.{IsAfterFailures, IsMet, IsOther, StandsAt}
 use Rattle.rh_helping.specs.CellContent.{state_said}
 use Rattle.rh_helping.specs.Settling.{FailsNone, Keeps}
 use Rattle.rh_helping.specs.Work.{IsOver}

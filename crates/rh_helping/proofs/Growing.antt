@@ -6,14 +6,15 @@ use Rattle.rh_world.specs.World.{In, Ref}
 use Rattle.rh_world.specs.World.Control.{failed}
 use Rattle.rh_world.specs.Facts.{Fact}
 use Rattle.rh_world.specs.Facts.Fact.{decided, failed_at, installed, known, met, new_is, old_is, over, stale, size_is, target_is}
-use Rattle.rh_descriptor.specs.View.{OwnDesc, View, Written, own_ref}
-use Rattle.rh_descriptor.specs.Words.{control_of, ref_of}
+use Rattle.rh_words.specs.View.{OwnDesc, View, Written, own_ref}
+use Rattle.rh_words.specs.Words.{control_of, ref_of}
 use Rattle.rh_world.specs.Moves.{HasSeen}
-use Rattle.rh_descriptor.specs.Steps.{IsKnown, entry_of, row_word}
+use Rattle.rh_words.specs.Steps.{IsKnown, entry_of, row_word}
 use Rattle.rh_helping.specs.declared.goal.Task.{Task}
 use Rattle.rh_helping.specs.Next.{Goal}
 use Rattle.rh_helping.specs.declared.goal.Owed.{Owed}
-use Rattle.rh_helping.specs.Goal.{IsStale, HasReason, HasReleased, IsAllNoted, IsClear, IsForeign, IsMet, IsOpenOf, KnowsGoal, KnowsOwn, KnowsTask, OwesNothing, OwesOne, Owns, Releases, ReleasesOther, ReleasesOwn, StandsAt, open_number}
+use Rattle.rh_steps.specs.Own.{IsAllNoted, IsClear, IsOpenOf, KnowsOwn, OwesNothing, Owns, open_number}
+use Rattle.rh_helping.specs.Goal.{IsStale, HasReason, HasReleased, IsForeign, IsMet, KnowsGoal, KnowsTask, OwesOne, Releases, ReleasesOther, ReleasesOwn, StandsAt}
 use Rattle.rh_helping.specs.Settling.{FailsNone, Grows, Keeps}
 use Rattle.rh_helping.specs.Work.{IsAt, IsOver, Owes, OwesAs}
 

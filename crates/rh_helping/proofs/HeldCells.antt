@@ -4,15 +4,16 @@ use Rattle.rh_tagword.specs.declared.control.State.{State}
 use Rattle.rh_tagword.specs.declared.control.State.TheVariants.{Unused, Undecided, Succeeded, Withdrawn, Failed}
 use Rattle.rh_world.specs.World.{Ref, In}
 use Rattle.rh_world.specs.Facts.Fact.{desc_is, found, old_is, size_is, target_is}
-use Rattle.rh_descriptor.specs.declared.shape.Shape.{Shape}
-use Rattle.rh_descriptor.specs.View.{View, own_ref}
-use Rattle.rh_descriptor.specs.Words.{ref_of}
+use Rattle.rh_words.specs.declared.shape.Shape.{Shape}
+use Rattle.rh_words.specs.View.{View, own_ref}
+use Rattle.rh_words.specs.Words.{ref_of}
 use Rattle.rh_helping.specs.Next.{Goal, Looking, Placed, Work}
 use Rattle.rh_helping.specs.declared.goal.Owed.{Owed}
 use Rattle.rh_helping.specs.declared.goal.Task.{Task}
 use Rattle.rh_helping.specs.Next.{Looking as looking}
 use Rattle.rh_helping.specs.Next.{Work as work}
-use Rattle.rh_helping.specs.Goal.{KnowsGoal, KnowsTask, OwesNothing, OwesOne, StandsAt, owed_of}
+use Rattle.rh_steps.specs.Own.{OwesNothing}
+use Rattle.rh_helping.specs.Goal.{KnowsGoal, KnowsTask, OwesOne, StandsAt, owed_of}
 use Rattle.rh_helping.specs.Held.{IsHeld, KnowsOld, held_by, held_in}
 use Rattle.rh_helping.specs.Looking.{IsLooking}
 use Rattle.rh_helping.specs.Work.{IsMarkPlaced, IsSwapped, OwesAs, Stands}

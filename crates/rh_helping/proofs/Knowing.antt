@@ -1,11 +1,11 @@
 -- What a worker knows of a task lets it go on: the descriptor and its entries are of the table.
 use Rattle.std.proofs.Common.{ℕ, ◌<◌, ◌≤◌, arith}
 use Rattle.rh_world.specs.Moves.{MayWork}
-use Rattle.rh_descriptor.specs.declared.shape.Shape.{Shape}
-use Rattle.rh_descriptor.specs.Parts.{cell_count}
-use Rattle.rh_descriptor.specs.View.{View}
-use Rattle.rh_descriptor.specs.Words.{ref_of}
-use Rattle.rh_descriptor.specs.Steps.{Allowed, IsDesc, IsKnown, IsStep, Step}
+use Rattle.rh_words.specs.declared.shape.Shape.{Shape}
+use Rattle.rh_words.specs.Parts.{cell_count}
+use Rattle.rh_words.specs.View.{View}
+use Rattle.rh_words.specs.Words.{ref_of}
+use Rattle.rh_words.specs.Steps.{Allowed, IsDesc, IsKnown, IsStep, Step}
 use Rattle.rh_helping.specs.declared.goal.Task.{Task}
 use Rattle.rh_helping.specs.Next.{Goal}
 use Rattle.rh_helping.specs.Goal.{KnowsGoal, KnowsTask}

@@ -1,7 +1,7 @@
 -- What a step leads to, where the view after it is said by its definition.
 use Rattle.std.proofs.Common.{◌≡◌, Option, sym, subst}
-use Rattle.rh_descriptor.specs.declared.shape.Shape.{Shape}
-use Rattle.rh_descriptor.specs.View.{OwnDesc, View}
+use Rattle.rh_words.specs.declared.shape.Shape.{Shape}
+use Rattle.rh_words.specs.View.{OwnDesc, View}
 use Rattle.rh_helping.specs.Next.{Outcome}
 use Rattle.rh_helping.specs.Work.{Leads}
 

@@ -5,13 +5,13 @@ use Rattle.rh_world.specs.World.Cell.{desc, mark, plain}
 use Rattle.rh_world.specs.World.Control.{failed}
 use Rattle.rh_world.specs.Facts.Fact.{found, met}
 use Rattle.rh_world.specs.Moves.{cell_noted}
-use Rattle.rh_descriptor.specs.declared.shape.Shape.{Shape}
-use Rattle.rh_descriptor.specs.declared.reference.Reading.TheVariants as reading
-use Rattle.rh_descriptor.specs.declared.reference.Ref.{Ref as Reference}
-use Rattle.rh_descriptor.specs.View.{View}
-use Rattle.rh_descriptor.specs.Words.{cell_in, ref_of}
-use Rattle.rh_descriptor.specs.Parts.{cell_count}
-use Rattle.rh_descriptor.specs.Steps.{Allowed, Step, noted, with_side}
+use Rattle.rh_words.specs.declared.shape.Shape.{Shape}
+use Rattle.rh_words.specs.declared.reference.Reading.TheVariants as reading
+use Rattle.rh_words.specs.declared.reference.Ref.{Ref as Reference}
+use Rattle.rh_words.specs.View.{View}
+use Rattle.rh_words.specs.Words.{cell_in, ref_of}
+use Rattle.rh_words.specs.Parts.{cell_count}
+use Rattle.rh_words.specs.Steps.{Allowed, Step, noted, with_side}
 use Rattle.rh_rule.specs.Represents.{IsCell}
 use Rattle.rh_steps.specs.Relies.{Knows}
 use Rattle.rh_helping.specs.Next.{Looked}
@@ -19,7 +19,7 @@ use Rattle.rh_helping.specs.Next.Looked.{On, Sees}
 use Rattle.rh_helping.specs.Next.{Looking as looking}
 use Rattle.rh_helping.specs.Next.{Settles as settling}
 use Rattle.rh_helping.specs.Next.{Work as work}
-use Rattle.rh_helping.specs.Goal.{IsClear}
+use Rattle.rh_steps.specs.Own.{IsClear}
 use Rattle.rh_helping.specs.Looking.{LooksOn, reads_after}
 use Rattle.rh_helping.specs.Settling.{Grows}
 use Rattle.rh_helping.proofs.Growing.{clear_grows}

@@ -6,14 +6,14 @@ use Rattle.rh_tagword.specs.declared.control.State.{State}
 use Rattle.rh_tagword.specs.declared.control.State.TheVariants.{Undecided}
 use Rattle.rh_world.specs.World.{In, Ref}
 use Rattle.rh_world.specs.Facts.Fact.{stale}
-use Rattle.rh_descriptor.specs.declared.reference.Piece.{Piece}
-use Rattle.rh_descriptor.specs.declared.reference.Ref.{Ref as Reference}
-use Rattle.rh_descriptor.specs.View.{View}
-use Rattle.rh_descriptor.specs.Words.{control_of, ref_of}
-use Rattle.rh_descriptor.specs.Steps.{mark_control_read}
+use Rattle.rh_words.specs.declared.reference.Piece.{Piece}
+use Rattle.rh_words.specs.declared.reference.Ref.{Ref as Reference}
+use Rattle.rh_words.specs.View.{View}
+use Rattle.rh_words.specs.Words.{control_of, ref_of}
+use Rattle.rh_words.specs.Steps.{mark_control_read}
 use Rattle.rh_rule.specs.Sound.{ControlTells}
 use Rattle.rh_helping.specs.Next.Settles.{Old, Settle}
-use Rattle.rh_helping.specs.Goal.{OwesNothing}
+use Rattle.rh_steps.specs.Own.{OwesNothing}
 use Rattle.rh_helping.specs.CellContent.{state_said}
 use Rattle.rh_helping.specs.Settling.{FailsNone, Grows, IsFound, IsSettling}
 use Rattle.rh_helping.proofs.Controls.{MarkedAs, Saw, is_decided_over, marked_demotes, over_not, saw_mark_control, some_state, stands_undecided}

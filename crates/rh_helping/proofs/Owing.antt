@@ -7,12 +7,13 @@ use Rattle.rh_world.specs.Facts.Fact.{old_is, over, stale, size_is, target_is}
 use Rattle.rh_world.specs.Moves.{MayWork}
 use Rattle.rh_world.specs.Sides.{Debt}
 use Rattle.rh_world.proofs.Updated.{ref_path, same_nat, some_injective, some_not_none}
-use Rattle.rh_descriptor.specs.View.{OwnDesc, View, own_ref}
-use Rattle.rh_descriptor.specs.Words.{ref_of}
+use Rattle.rh_words.specs.View.{OwnDesc, View, own_ref}
+use Rattle.rh_words.specs.Words.{ref_of}
 use Rattle.rh_helping.specs.Next.{Goal}
 use Rattle.rh_helping.specs.declared.goal.Owed.{Owed}
 use Rattle.rh_helping.specs.declared.goal.Task.{Task}
-use Rattle.rh_helping.specs.Goal.{IsStale, HasReleased, IsAllNoted, IsForeign, IsNewestOwn, KnowsOwn, OwesNothing, OwesOne, Releases, ReleasesOther, ReleasesOwn, StandsAt, debt_of, open_number, owed_of}
+use Rattle.rh_steps.specs.Own.{IsAllNoted, IsNewestOwn, KnowsOwn, OwesNothing, open_number}
+use Rattle.rh_helping.specs.Goal.{IsStale, HasReleased, IsForeign, OwesOne, Releases, ReleasesOther, ReleasesOwn, StandsAt, debt_of, owed_of}
 use Rattle.rh_helping.specs.Settling.{Grows}
 use Rattle.rh_helping.specs.Work.{IsAt, IsGivenUp, IsOver, OwesAs}
 use Rattle.rh_helping.proofs.Growing.{known_sub, nothing_grows, stands_known}

@@ -4,14 +4,15 @@ use Rattle.rh_layout.specs.declared.entry.Entry.{Entry}
 use Rattle.rh_world.specs.World.{In, Ref}
 use Rattle.rh_world.specs.Facts.Fact.{new_is, old_is, size_is, target_is}
 use Rattle.rh_world.proofs.Updated.{ref_path}
-use Rattle.rh_descriptor.specs.declared.shape.Shape.{Shape}
-use Rattle.rh_descriptor.specs.View.{OwnDesc, View, own_ref}
-use Rattle.rh_descriptor.specs.Words.{ref_of}
-use Rattle.rh_descriptor.specs.Steps.{IsKnown, entry_of, row_word}
+use Rattle.rh_words.specs.declared.shape.Shape.{Shape}
+use Rattle.rh_words.specs.View.{OwnDesc, View, own_ref}
+use Rattle.rh_words.specs.Words.{ref_of}
+use Rattle.rh_words.specs.Steps.{IsKnown, entry_of, row_word}
 use Rattle.rh_rule.specs.Sound.{OwnRow}
-use Rattle.rh_descriptor.specs.Parts.{entry_row}
+use Rattle.rh_words.specs.Parts.{entry_row}
 use Rattle.rh_helping.specs.declared.goal.Task.{Task}
-use Rattle.rh_helping.specs.Goal.{IsAllNoted, KnowsGoal, KnowsOwn, KnowsTask}
+use Rattle.rh_steps.specs.Own.{IsAllNoted, KnowsOwn}
+use Rattle.rh_helping.specs.Goal.{KnowsGoal, KnowsTask}
 use Rattle.rh_steps.specs.Relies.{Knows}
 use Rattle.rh_helping.proofs.Knowing.{task_known}
 use Rattle.rh_helping.proofs.Owing.{open_all_noted}

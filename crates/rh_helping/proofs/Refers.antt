@@ -5,7 +5,7 @@ use Rattle.rh_tagword.specs.declared.word.Word.{Word}
 use Rattle.rh_tagword.specs.declared.word.Word.TheVariants.{Empty, Key, Mark, Desc}
 use Rattle.rh_world.specs.World.{Cell, Ref}
 use Rattle.rh_world.specs.World.Cell.{desc, mark, plain}
-use Rattle.rh_descriptor.specs.Words.{cell_in, cell_said, desc_in, ref_said}
+use Rattle.rh_words.specs.Words.{cell_in, cell_said, desc_in, ref_said}
 
 -- what stands in a cell, as a reference
 abbrev pub referred : Cell → Option Ref

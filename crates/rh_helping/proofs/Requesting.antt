@@ -1,12 +1,13 @@
 -- What a worker asks for is allowed, and it is of the kind of its work.
 use Rattle.std.proofs.Common.{◌≡◌, ℕ, Option, Some, None, refl, sym, subst}
-use Rattle.rh_descriptor.specs.declared.shape.Shape.{Shape}
-use Rattle.rh_descriptor.specs.declared.steps.StepKind.{StepKind}
-use Rattle.rh_descriptor.specs.View.{OwnDesc, View}
-use Rattle.rh_descriptor.specs.Steps.{Allowed, Step}
+use Rattle.rh_words.specs.declared.shape.Shape.{Shape}
+use Rattle.rh_words.specs.declared.steps.StepKind.{StepKind}
+use Rattle.rh_words.specs.View.{OwnDesc, View}
+use Rattle.rh_words.specs.Steps.{Allowed, Step}
 use Rattle.rh_steps.specs.Relies.{Knows, Went}
 use Rattle.rh_helping.specs.Requested.{requested, asked_of_mark}
-use Rattle.rh_helping.specs.Goal.{KnowsOwn, piece_of}
+use Rattle.rh_steps.specs.Own.{KnowsOwn}
+use Rattle.rh_helping.specs.Goal.{piece_of}
 use Rattle.rh_helping.specs.Made.{HasMadeStep, kind_of}
 use Rattle.rh_helping.specs.Next.{Settles, Work}
 use Rattle.rh_helping.specs.Next.{Settles as settles}

@@ -8,11 +8,11 @@ use Rattle.rh_world.specs.Facts.Fact.{new_is, old_is, over, stale, target_is}
 use Rattle.rh_world.specs.Sides.{Side, note_side}
 use Rattle.rh_world.specs.Moves.{note_all}
 use Rattle.rh_world.proofs.Tests.{by_cond, is_desc_not}
-use Rattle.rh_descriptor.specs.declared.shape.Shape.{Shape}
-use Rattle.rh_descriptor.specs.declared.reference.Reading.TheVariants as reading
-use Rattle.rh_descriptor.specs.View.{Raw, RawRow, RowWord, View}
-use Rattle.rh_descriptor.specs.Words.{ref_of}
-use Rattle.rh_descriptor.specs.Steps.{Allowed, Step, desc_row_said, stale_noted, rows_said, serial_read, with_side}
+use Rattle.rh_words.specs.declared.shape.Shape.{Shape}
+use Rattle.rh_words.specs.declared.reference.Reading.TheVariants as reading
+use Rattle.rh_words.specs.View.{Raw, RawRow, RowWord, View}
+use Rattle.rh_words.specs.Words.{ref_of}
+use Rattle.rh_words.specs.Steps.{Allowed, Step, desc_row_said, stale_noted, rows_said, serial_read, with_side}
 use Rattle.rh_helping.specs.Next.{Goal}
 use Rattle.rh_helping.specs.declared.goal.Task.{Task}
 use Rattle.rh_helping.specs.Goal.{HasReadRow, KnowsGoal}

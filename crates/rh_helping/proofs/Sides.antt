@@ -8,11 +8,11 @@ use Rattle.rh_world.specs.Facts.Fact.{decided, desc_is, failed_at, found, instal
 use Rattle.rh_world.specs.Sides.{Side, note_side}
 use Rattle.rh_world.specs.Moves.{control_noted, mark_noted, note_all, place_noted, placed_noted, settle_noted}
 use Rattle.rh_world.proofs.Tests.{by_cond}
-use Rattle.rh_descriptor.specs.View.{MarkWord, Raw, RawRow, RowWord}
-use Rattle.rh_descriptor.specs.View.MarkWord.{desc_word, entry_word}
-use Rattle.rh_descriptor.specs.View.RowWord.{cell_word, length_word, new_word, old_word}
-use Rattle.rh_descriptor.specs.Words.{desc_in}
-use Rattle.rh_descriptor.specs.Steps.{desc_row_said, desc_said, stale_noted, mark_said, row_said, rows_said}
+use Rattle.rh_words.specs.View.{MarkWord, Raw, RawRow, RowWord}
+use Rattle.rh_words.specs.View.MarkWord.{desc_word, entry_word}
+use Rattle.rh_words.specs.View.RowWord.{cell_word, length_word, new_word, old_word}
+use Rattle.rh_words.specs.Words.{desc_in}
+use Rattle.rh_words.specs.Steps.{desc_row_said, desc_said, stale_noted, mark_said, row_said, rows_said}
 
 pub record More (s t : Side) : Type 0 where
   pub current : t.current ≡ s.current

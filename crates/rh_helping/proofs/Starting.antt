@@ -4,14 +4,15 @@ use Rattle.rh_tagword.specs.declared.control.State.{State}
 use Rattle.rh_world.specs.World.{In, Ref}
 use Rattle.rh_world.specs.Facts.Fact.{size_is}
 use Rattle.rh_world.proofs.Updated.{some_not_none}
-use Rattle.rh_descriptor.specs.declared.shape.Shape.{Shape}
-use Rattle.rh_descriptor.specs.declared.reference.Ref.{Ref as Reference}
-use Rattle.rh_descriptor.specs.declared.reference.Reading.TheVariants as reading
-use Rattle.rh_descriptor.specs.View.{OwnDesc, View, Written}
-use Rattle.rh_descriptor.specs.Steps.{Allowed, IsKnown, Step, row_word}
-use Rattle.rh_descriptor.specs.Words.{ref_of}
+use Rattle.rh_words.specs.declared.shape.Shape.{Shape}
+use Rattle.rh_words.specs.declared.reference.Ref.{Ref as Reference}
+use Rattle.rh_words.specs.declared.reference.Reading.TheVariants as reading
+use Rattle.rh_words.specs.View.{OwnDesc, View, Written}
+use Rattle.rh_words.specs.Steps.{Allowed, IsKnown, Step, row_word}
+use Rattle.rh_words.specs.Words.{ref_of}
 use Rattle.rh_helping.specs.declared.goal.Task.{Task}
-use Rattle.rh_helping.specs.Goal.{HasReason, IsMet, IsOther, KnowsOwn, OwesNothing}
+use Rattle.rh_steps.specs.Own.{KnowsOwn, OwesNothing}
+use Rattle.rh_helping.specs.Goal.{HasReason, IsMet, IsOther}
 use Rattle.rh_steps.specs.Relies.{Knows}
 use Rattle.rh_helping.specs.Work.{Begins, IsNextTask, failed_by}
 use Rattle.rh_helping.proofs.Controls.{Saw}

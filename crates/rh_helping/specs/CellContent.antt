@@ -2,7 +2,7 @@
 use Rattle.std.specs.Prelude.{ℕ, ◌==◌, cond, Option, Some, None}
 use Rattle.rh_world.specs.World.{Cell, Control}
 use Rattle.rh_world.specs.World.Cell.{plain, mark, desc}
-use Rattle.rh_descriptor.specs.Words.{read_control, ref_of, serial_in}
+use Rattle.rh_words.specs.Words.{read_control, ref_of, serial_in}
 use Rattle.rh_helping.specs.declared.reading.CellContent.{CellContent}
 use Rattle.rh_helping.specs.declared.reading.CellContent.TheVariants as met
 

@@ -3,15 +3,15 @@ use Rattle.std.specs.Prelude.{◌≡◌, ℕ, ◌≤◌, ◌⊎◌, None, List, 
 use Rattle.rh_world.specs.World.{In}
 use Rattle.rh_world.specs.Facts.Fact.{stale}
 use Rattle.rh_world.specs.Sides.{KeptRead}
-use Rattle.rh_descriptor.specs.declared.shape.Shape.{Shape}
-use Rattle.rh_descriptor.specs.declared.steps.StepKind.{StepKind}
-use Rattle.rh_descriptor.specs.declared.steps.StepKind.TheVariants as kind
-use Rattle.rh_descriptor.specs.View.{View}
-use Rattle.rh_descriptor.specs.Words.{IsPlain, ref_of}
+use Rattle.rh_words.specs.declared.shape.Shape.{Shape}
+use Rattle.rh_words.specs.declared.steps.StepKind.{StepKind}
+use Rattle.rh_words.specs.declared.steps.StepKind.TheVariants as kind
+use Rattle.rh_words.specs.View.{View}
+use Rattle.rh_words.specs.Words.{IsPlain, ref_of}
 use Rattle.rh_helping.specs.Next.{Looked, Looking}
 use Rattle.rh_helping.specs.Next.{Looking as looking}
 use Rattle.rh_helping.specs.Next.Looked.{On, Sees, Spent}
-use Rattle.rh_helping.specs.Goal.{IsClear, KnowsOwn}
+use Rattle.rh_steps.specs.Own.{IsClear, KnowsOwn}
 use Rattle.rh_helping.specs.Settling.{EndsSettling, IsSettling, kind_of_settling}
 use Rattle.rh_helping.specs.Work.{ReleasesLast, Stands, desc_of, kind_of_work}
 

@@ -2,8 +2,8 @@
 -- leads to.
 use Rattle.std.specs.Prelude.{ℕ, Option, Bool}
 use Rattle.rh_tagword.specs.declared.control.State.{State}
-use Rattle.rh_descriptor.specs.declared.reference.Piece.{Piece}
-use Rattle.rh_descriptor.specs.declared.reference.Ref.{Ref as Reference}
+use Rattle.rh_words.specs.declared.reference.Piece.{Piece}
+use Rattle.rh_words.specs.declared.reference.Ref.{Ref as Reference}
 use Rattle.rh_helping.specs.declared.goal.Owed.{Owed}
 use Rattle.rh_helping.specs.declared.goal.Task.{Task}
 use Rattle.rh_helping.specs.declared.machine.Ended.{Ended}

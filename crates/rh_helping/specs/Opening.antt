@@ -1,16 +1,16 @@
 -- What is so while the row of an own descriptor is written, and what its Open leads to.
 use Rattle.std.specs.Prelude.{suc, ◌≡◌, ℕ, ◌<◌, Option, Some, None, List, ◌∷◌, length, cond, nat_lt}
 use Rattle.rh_layout.specs.declared.entry.Entry.{Entry}
-use Rattle.rh_descriptor.specs.declared.shape.Shape.{Shape}
-use Rattle.rh_descriptor.specs.declared.shape.Part.TheVariants as part
-use Rattle.rh_descriptor.specs.declared.steps.StepKind.{StepKind}
-use Rattle.rh_descriptor.specs.declared.steps.StepKind.TheVariants as kind
-use Rattle.rh_descriptor.specs.Parts.{entry_row}
-use Rattle.rh_descriptor.specs.View.{OwnDesc, View}
-use Rattle.rh_descriptor.specs.Steps.{AreEntries, HasRow, Step, entry_of, row_word}
+use Rattle.rh_words.specs.declared.shape.Shape.{Shape}
+use Rattle.rh_words.specs.declared.shape.Part.TheVariants as part
+use Rattle.rh_words.specs.declared.steps.StepKind.{StepKind}
+use Rattle.rh_words.specs.declared.steps.StepKind.TheVariants as kind
+use Rattle.rh_words.specs.Parts.{entry_row}
+use Rattle.rh_words.specs.View.{OwnDesc, View}
+use Rattle.rh_words.specs.Steps.{AreEntries, HasRow, Step, entry_of, row_word}
 use Rattle.rh_helping.specs.declared.opening.Opening.{Opening}
 use Rattle.rh_helping.specs.declared.opening.Opening.TheVariants as opening
-use Rattle.rh_helping.specs.Goal.{KnowsOwn, Owns, OwesNothing}
+use Rattle.rh_steps.specs.Own.{KnowsOwn, Owns, OwesNothing}
 
 abbrev pub kind_of_opening : Opening → StepKind
 kind_of_opening opening.Serial = kind.Write

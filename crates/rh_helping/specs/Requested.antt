@@ -3,16 +3,17 @@
 use Rattle.std.specs.Prelude.{◌≡◌, ℕ, Option, Some, None}
 use Rattle.rh_world.specs.World.{Control}
 use Rattle.rh_world.specs.World.Control.{failed, succeeded, withdrawn}
-use Rattle.rh_descriptor.specs.declared.shape.Shape.{Shape}
-use Rattle.rh_descriptor.specs.declared.shape.Part.TheVariants as part
-use Rattle.rh_descriptor.specs.declared.reference.Reading.TheVariants as reading
-use Rattle.rh_descriptor.specs.View.{OwnDesc, View}
-use Rattle.rh_descriptor.specs.Words.{control_of, desc_number, ref_of}
-use Rattle.rh_descriptor.specs.Steps.{Step, noted}
+use Rattle.rh_words.specs.declared.shape.Shape.{Shape}
+use Rattle.rh_words.specs.declared.shape.Part.TheVariants as part
+use Rattle.rh_words.specs.declared.reference.Reading.TheVariants as reading
+use Rattle.rh_words.specs.View.{OwnDesc, View}
+use Rattle.rh_words.specs.Words.{control_of, desc_number, ref_of}
+use Rattle.rh_words.specs.Steps.{Step, noted}
 use Rattle.rh_rule.specs.Sound.{Finds}
 use Rattle.rh_steps.specs.Relies.{Knows}
 use Rattle.rh_helping.specs.declared.goal.Task.{Task}
-use Rattle.rh_helping.specs.Goal.{KnowsOwn, KnowsTask, OwesNothing, released_value}
+use Rattle.rh_steps.specs.Own.{KnowsOwn, OwesNothing}
+use Rattle.rh_helping.specs.Goal.{KnowsTask, released_value}
 use Rattle.rh_helping.specs.Next.{Settles, Work}
 use Rattle.rh_helping.specs.Next.{Settles as settles}
 use Rattle.rh_helping.specs.Next.{Work as work}

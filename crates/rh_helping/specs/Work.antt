@@ -5,15 +5,15 @@ use Rattle.rh_tagword.specs.declared.control.State.TheVariants.{Unused, Undecide
 use Rattle.rh_world.specs.World.{Ref, In}
 use Rattle.rh_world.specs.World.Control.{failed, succeeded, withdrawn}
 use Rattle.rh_world.specs.Facts.Fact.{installed, mismatch, decided, failed_at, found, desc_is, which_is, may_promote, may_demote, stale}
-use Rattle.rh_descriptor.specs.declared.reference.Ref.{Ref as Reference}
-use Rattle.rh_descriptor.specs.declared.shape.Shape.{Shape}
-use Rattle.rh_descriptor.specs.declared.steps.StepKind.{StepKind}
-use Rattle.rh_descriptor.specs.declared.steps.StepKind.TheVariants as kind
-use Rattle.rh_descriptor.specs.Parts.{mark_row, reason_row}
-use Rattle.rh_descriptor.specs.View.{OwnDesc, View, own_ref}
-use Rattle.rh_descriptor.specs.View.RowWord.{cell_word, length_word, new_word, old_word}
-use Rattle.rh_descriptor.specs.Words.{desc_number, ref_of}
-use Rattle.rh_descriptor.specs.Steps.{HasSerial, IsKnown, row_word}
+use Rattle.rh_words.specs.declared.reference.Ref.{Ref as Reference}
+use Rattle.rh_words.specs.declared.shape.Shape.{Shape}
+use Rattle.rh_words.specs.declared.steps.StepKind.{StepKind}
+use Rattle.rh_words.specs.declared.steps.StepKind.TheVariants as kind
+use Rattle.rh_words.specs.Parts.{mark_row, reason_row}
+use Rattle.rh_words.specs.View.{OwnDesc, View, own_ref}
+use Rattle.rh_words.specs.View.RowWord.{cell_word, length_word, new_word, old_word}
+use Rattle.rh_words.specs.Words.{desc_number, ref_of}
+use Rattle.rh_words.specs.Steps.{HasSerial, IsKnown, row_word}
 use Rattle.rh_helping.specs.declared.goal.Task.{Task}
 use Rattle.rh_helping.specs.Next.{Goal, Outcome, Placed, Work}
 use Rattle.rh_helping.specs.declared.goal.Owed.{Owed}
@@ -21,7 +21,8 @@ use Rattle.rh_helping.specs.Next.{Work as work}
 use Rattle.rh_helping.specs.Next.Outcome.{On, Over, Closed, Spent}
 use Rattle.rh_helping.specs.declared.machine.Ended.{Ended}
 use Rattle.rh_helping.specs.declared.machine.Ended.TheVariants as ended
-use Rattle.rh_helping.specs.Goal.{GivesBack, IsStale, HasReadRow, HasReason, IsForeign, IsMet, IsNewestOwn, KnowsGoal, KnowsOwn, KnowsTask, OwesNothing, Releases, debt_of, owed_of}
+use Rattle.rh_steps.specs.Own.{IsNewestOwn, KnowsOwn, OwesNothing}
+use Rattle.rh_helping.specs.Goal.{GivesBack, IsStale, HasReadRow, HasReason, IsForeign, IsMet, KnowsGoal, KnowsTask, Releases, debt_of, owed_of}
 use Rattle.rh_helping.specs.Settling.{IsSettling, kind_of_settling}
 
 abbrev pub kind_of_work : Work → StepKind

@@ -3,7 +3,7 @@
 
 ghost use Rattle.rh_helping.specs.declared.machine.At.TheVariants as stage;
 ghost use Rattle.std.specs.Prelude.{◌≡◌};
-ghost use Rattle.rh_descriptor.specs.Words.{control_of, ref_of};
+ghost use Rattle.rh_words.specs.Words.{control_of, ref_of};
 ghost use Rattle.rh_helping.specs.Requested.{FollowsDecide};
 ghost use Rattle.rh_helping.specs.Goal.{opened_by};
 ghost use Rattle.rh_helping.specs.Machine.{led};
@@ -16,9 +16,9 @@ use crate::goal::{OpenDesc, Task};
 use crate::machine::{At, Machine, Progress};
 use crate::reading::state_told;
 use crate::stage::Stage;
-use rh_descriptor::{Part, Reading, Request, Shape, Side, decided_word};
 use rh_steps::Steps;
 use rh_tagword::State;
+use rh_words::{Part, Reading, Request, Shape, Side, decided_word};
 
 pub(crate) struct WriteReason;
 

@@ -2,9 +2,9 @@
 
 ghost use Rattle.std.specs.Prelude.{◌≡◌, ◌<◌, ◌+◌, None};
 
-use rh_descriptor::{Piece, Ref};
 use rh_layout::Entry;
 use rh_tagword::State;
+use rh_words::{Piece, Ref};
 
 /// The own descriptor that is open. What it is to change is the worker's own copy: on a table that
 /// workers share each look at a row is a load.

@@ -1,9 +1,10 @@
 //! Which step is next.
 
 ghost use Rattle.std.specs.Prelude.{◌≡◌, ◌⊎◌, Some, Decides, MatchOption};
-ghost use Rattle.rh_descriptor.specs.Words.{ref_of};
-ghost use Rattle.rh_descriptor.specs.declared.shape.Shape.{Shape};
-ghost use Rattle.rh_helping.specs.Goal.{HasReason, IsMet, KnowsGoal, KnowsOwn, OwesNothing, open_number, opened_by};
+ghost use Rattle.rh_words.specs.Words.{ref_of};
+ghost use Rattle.rh_words.specs.declared.shape.Shape.{Shape};
+ghost use Rattle.rh_steps.specs.Own.{KnowsOwn, OwesNothing, open_number};
+ghost use Rattle.rh_helping.specs.Goal.{HasReason, IsMet, KnowsGoal, opened_by};
 ghost use Rattle.rh_helping.specs.Machine.{goal_of, led};
 ghost use Rattle.rh_helping.specs.Next.{Work};
 ghost use Rattle.rh_helping.specs.Work.{Begins, HasFailedOwn, IsNextTask, Leads, MayEnd, Owes, ReleasesLast, desc_of, failed_by};
@@ -14,9 +15,9 @@ ghost use Rattle.rh_world.specs.Facts.Fact.{stale};
 use crate::goal::{OpenDesc, Task};
 use crate::machine::{At, Machine, Progress};
 use crate::own_rows::{own_entry, own_size};
-use rh_descriptor::{Ref, Shape, Side};
 use rh_steps::Steps;
 use rh_tagword::State;
+use rh_words::{Ref, Shape, Side};
 
 impl Machine {
     /// The next step on a descriptor that stands so by its control. What an own one is to change is known

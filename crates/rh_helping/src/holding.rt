@@ -8,8 +8,8 @@ use crate::machine::{At, Machine, Progress};
 use crate::reading::{CellContent, state_told, what_stands};
 use crate::settling::Settling;
 use crate::stage::Stage;
-use rh_descriptor::{Part, Reading, Ref, Request, Shape, Side, desc_word, mark_word};
 use rh_steps::Steps;
+use rh_words::{Part, Reading, Ref, Request, Shape, Side, desc_word, mark_word};
 
 /// Takes the mark row for the next mark, before all else that is written there.
 /// It comes before the cell is looked at: a worker without marks gives up even where every cell

@@ -2,8 +2,8 @@
 //! helped to its end.
 
 ghost use Rattle.std.specs.Prelude.{◌≡◌, ◌<◌, None};
-ghost use Rattle.rh_descriptor.specs.Parts.{cell_count};
-ghost use Rattle.rh_helping.specs.Goal.{IsClear, KnowsOwn};
+ghost use Rattle.rh_words.specs.Parts.{cell_count};
+ghost use Rattle.rh_steps.specs.Own.{IsClear, KnowsOwn};
 ghost use Rattle.rh_helping.specs.Held.{held_in};
 ghost use Rattle.rh_helping.specs.Looking.{IsLooking, LooksOn, MayLookOn, kind_of_looking, reads_after};
 ghost use Rattle.rh_helping.specs.Machine.{led, looked, looking_of, work_of};
@@ -16,8 +16,8 @@ use crate::goal::Owed;
 use crate::machine::{At, Machine, Progress};
 use crate::reading::{CellContent, what_stands};
 use crate::settling::Settling;
-use rh_descriptor::{Reading, Request, Shape, Side, StepKind};
 use rh_steps::Steps;
+use rh_words::{Reading, Request, Shape, Side, StepKind};
 
 /// Which step of a worker that looks at a cell is next. What it needs is in its machine.
 #[derive(Clone, Copy, Debug, PartialEq, Eq)]

@@ -9,9 +9,9 @@ ghost use Rattle.rh_helping.specs.Work.{kind_of_work};
 
 use crate::goal::{Owed, Task};
 use crate::settling::Settling;
-use rh_descriptor::{Piece, Ref, StepKind};
 use rh_layout::Entry;
 use rh_tagword::State;
+use rh_words::{Piece, Ref, StepKind};
 
 /// How an own descriptor ended.
 #[derive(Clone, Copy, Debug, PartialEq, Eq)]

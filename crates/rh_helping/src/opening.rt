@@ -2,15 +2,15 @@
 //! from that of the last descriptor.
 
 ghost use Rattle.std.specs.Prelude.{◌≡◌, ◌<◌, length};
-ghost use Rattle.rh_descriptor.specs.Requests.{step_asked};
-ghost use Rattle.rh_descriptor.specs.Parts.{IsShape};
+ghost use Rattle.rh_words.specs.Requests.{step_asked};
+ghost use Rattle.rh_words.specs.Parts.{IsShape};
 ghost use Rattle.rh_helping.specs.Made.{HasStepped};
 ghost use Rattle.rh_helping.specs.Opening.{IsOpening, MayOpen, OpensOn, after_opening, kind_of_opening, opened_after, opening_step};
 ghost use Rattle.rh_steps.specs.Relies.{Relies};
 
-use rh_descriptor::{Part, Request, Shape, Side, StepKind};
 use rh_layout::Entry;
 use rh_steps::Steps;
+use rh_words::{Part, Request, Shape, Side, StepKind};
 
 /// The next step with an own descriptor that is to be opened.
 /// A machine of its own, as the look at a cell is: workers of keys and swaps of cells both use it.

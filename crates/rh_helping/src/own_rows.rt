@@ -3,18 +3,19 @@
 //! in registers.
 
 ghost use Rattle.std.specs.Prelude.{◌≡◌, ◌<◌, ◌+◌, suc, Some, IfSome};
-ghost use Rattle.rh_descriptor.specs.Parts.{cell_count, entry_row};
-ghost use Rattle.rh_descriptor.specs.Words.{ref_of};
-ghost use Rattle.rh_helping.specs.Goal.{KnowsGoal, KnowsOwn, KnowsTask, opened_by};
+ghost use Rattle.rh_words.specs.Parts.{cell_count, entry_row};
+ghost use Rattle.rh_words.specs.Words.{ref_of};
+ghost use Rattle.rh_steps.specs.Own.{KnowsOwn};
+ghost use Rattle.rh_helping.specs.Goal.{KnowsGoal, KnowsTask, opened_by};
 ghost use Rattle.rh_steps.specs.Relies.{Trusts};
-ghost use Rattle.rh_descriptor.specs.Steps.{IsKnown, row_word};
+ghost use Rattle.rh_words.specs.Steps.{IsKnown, row_word};
 ghost use Rattle.rh_world.specs.World.{In};
 ghost use Rattle.rh_world.specs.Facts.Fact.{size_is};
 
 use crate::goal::{OpenDesc, Task};
-use rh_descriptor::{Part, Ref, Shape, Side};
 use rh_layout::Entry;
 use rh_steps::Steps;
+use rh_words::{Part, Ref, Shape, Side};
 
 /// The entries of the own descriptor of this number, where it is the open one.
 #[inline(always)]

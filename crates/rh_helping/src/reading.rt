@@ -1,12 +1,12 @@
 //! What words say.
 
 ghost use Rattle.std.specs.Prelude.{◌≡◌, option_map};
-ghost use Rattle.rh_descriptor.specs.Words.{cell_in, control_of, desc_in, ref_of};
+ghost use Rattle.rh_words.specs.Words.{cell_in, control_of, desc_in, ref_of};
 ghost use Rattle.rh_rule.specs.Sound.{IsControlWord};
 ghost use Rattle.rh_helping.specs.CellContent.{cell_met, state_said};
 
-use rh_descriptor::Ref;
 use rh_tagword::{State, Word, unpack, unpack_control};
+use rh_words::Ref;
 
 /// How a descriptor stands by this word, its worker's control; or none where it is stale.
 #[inline(always)]

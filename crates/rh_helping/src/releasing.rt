@@ -9,9 +9,9 @@ ghost use Rattle.rh_tagword.specs.declared.control.State.TheVariants.{Failed};
 use crate::goal::{OpenDesc, Owed, Task};
 use crate::machine::{Ended, Machine, Progress};
 use crate::stage::Stage;
-use rh_descriptor::{Request, Shape, Side};
 use rh_steps::Steps;
 use rh_tagword::State;
+use rh_words::{Request, Shape, Side};
 
 /// Releases an entry. With the last one the own descriptor is closed, if it is that one that was open.
 pub(crate) struct Release;

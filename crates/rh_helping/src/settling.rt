@@ -1,11 +1,11 @@
 //! Settling a mark that was met in a cell, as RDCSS is helped (Harris, Fraser and Pratt 2002).
 
 ghost use Rattle.std.specs.Prelude.{◌≡◌};
-ghost use Rattle.rh_descriptor.specs.Requests.{step_asked};
-ghost use Rattle.rh_descriptor.specs.View.{View};
-ghost use Rattle.rh_descriptor.specs.declared.shape.Shape.{Shape};
+ghost use Rattle.rh_words.specs.Requests.{step_asked};
+ghost use Rattle.rh_words.specs.View.{View};
+ghost use Rattle.rh_words.specs.declared.shape.Shape.{Shape};
 ghost use Rattle.rh_helping.specs.Requested.{FollowsSettling, SettledFrom, asked_of_mark};
-ghost use Rattle.rh_helping.specs.Goal.{OwesNothing};
+ghost use Rattle.rh_steps.specs.Own.{OwesNothing};
 ghost use Rattle.rh_helping.specs.Machine.{left_on, settling_of};
 ghost use Rattle.rh_helping.specs.Made.{HasMadeStep};
 ghost use Rattle.rh_helping.specs.Next.{Settles};
@@ -13,8 +13,8 @@ ghost use Rattle.rh_helping.specs.Settling.{Grows, IsSettling, LeadsOn, kind_of_
 ghost use Rattle.rh_steps.specs.Relies.{Relies};
 
 use crate::reading::{named_desc, state_told};
-use rh_descriptor::{Piece, Reading, Ref, Request, Shape, Side, StepKind};
 use rh_steps::Steps;
+use rh_words::{Piece, Reading, Ref, Request, Shape, Side, StepKind};
 
 /// Which step with the mark is next.
 #[derive(Clone, Copy, Debug, PartialEq, Eq)]

@@ -1,8 +1,8 @@
 //! The stages of a machine. Each is one step: which one, and what follows from the word that it found.
 
 ghost use Rattle.std.specs.Prelude.{◌≡◌};
-ghost use Rattle.rh_descriptor.specs.Requests.{step_asked};
-ghost use Rattle.rh_descriptor.specs.Parts.{IsShape};
+ghost use Rattle.rh_words.specs.Requests.{step_asked};
+ghost use Rattle.rh_words.specs.Parts.{IsShape};
 ghost use Rattle.rh_helping.specs.Requested.{Follows, requested};
 ghost use Rattle.rh_helping.specs.Goal.{opened_by};
 ghost use Rattle.rh_helping.specs.Machine.{led, work_at};
@@ -11,8 +11,8 @@ ghost use Rattle.rh_steps.specs.Relies.{Knows, Trusts};
 
 use crate::goal::OpenDesc;
 use crate::machine::{Machine, Progress};
-use rh_descriptor::{Request, Shape, Side};
 use rh_steps::Steps;
+use rh_words::{Request, Shape, Side};
 
 pub(crate) trait Stage<T: Steps> {
     ghost use Rattle.rh_helping.specs.declared.machine.At.{At};

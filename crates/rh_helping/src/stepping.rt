@@ -3,7 +3,8 @@
 ghost use Rattle.std.specs.Prelude.{◌≡◌, IfSome, None, Some};
 ghost use Rattle.rh_steps.specs.Relies.{Relies};
 ghost use Rattle.rh_helping.specs.Made.{HasMadeStep};
-ghost use Rattle.rh_helping.specs.Goal.{KnowsOwn, opened_by};
+ghost use Rattle.rh_steps.specs.Own.{KnowsOwn};
+ghost use Rattle.rh_helping.specs.Goal.{opened_by};
 ghost use Rattle.rh_helping.specs.Machine.{led, work_at, work_of};
 ghost use Rattle.rh_helping.specs.Work.{Stands, Leads, MayEnd, kind_of_work};
 
@@ -16,8 +17,8 @@ use crate::holding::{
 use crate::machine::{At, Machine, Progress};
 use crate::releasing::{GiveBack, Release};
 use crate::stage::Stage;
-use rh_descriptor::{Shape, Side};
 use rh_steps::Steps;
+use rh_words::{Shape, Side};
 
 impl Machine {
     /// Makes the next step where it is one of the fast path: who meets no other worker, finds each cell with

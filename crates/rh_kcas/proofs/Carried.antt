@@ -1,20 +1,16 @@
 -- The acts that a worker at rest has made, after it noted more.
-use Rattle.std.proofs.Common.{◌≡◌, ℕ, Bool, cond, List, ◌∷◌, filter, refl, sym, ap, ◌∙◌, subst, ⊎_elim}
+use Rattle.std.proofs.Common.{◌≡◌, ℕ, Bool, cond, List, ◌∷◌, filter, sym, ap, ◌∙◌, subst, ⊎_elim}
 use Rattle.rh_world.specs.World.{Control, In, Ref}
 use Rattle.rh_world.specs.Facts.{Fact}
 use Rattle.rh_world.specs.Facts.Fact.{decided}
 use Rattle.rh_world.specs.Acts.{is_success}
-use Rattle.rh_descriptor.specs.View.{OwnDesc, View, own_ref}
+use Rattle.rh_words.specs.View.{OwnDesc, View, own_ref}
 use Rattle.rh_rule.specs.Rest.{is_noted_success, made}
 use Rattle.rh_rule.proofs.Telling.{OneResult, noted_same, same_filtered, success_noted}
-use Rattle.rh_helping.specs.Goal.{IsClear}
-use Rattle.rh_descriptor.specs.declared.shape.Shape.{Shape}
-use Rattle.rh_descriptor.specs.Steps.{with_side}
-use Rattle.rh_world.specs.Sides.{claim_side}
-use Rattle.rh_helping.proofs.Growing.{clear_grows}
-use Rattle.rh_helping.proofs.Rows.{grows_by}
+use Rattle.rh_steps.specs.Own.{IsClear}
+use Rattle.rh_words.specs.declared.shape.Shape.{Shape}
 use Rattle.rh_steps.specs.Relies.{Knows}
-use Rattle.rh_kcas.specs.Rests.{IsRested}
+use Rattle.rh_shared.specs.Rests.{IsRested}
 use Rattle.rh_kcas.specs.Swaps.{HasNoted}
 
 module _ (v next : View) (worker : next.worker ≡ v.worker) (facts : (n : Fact) → In n v.side.facts → In n next.side.facts) (one : OneResult next.side.facts) (rest : IsRested v) where
@@ -57,10 +53,3 @@ rested_on z v next knows n rest clear = record { clear = clear; over = over_same
 
 pub acts_on : (z : Shape) (v next : View) → Knows z next → HasNoted v next → IsRested v → made next ≡ made v
 acts_on z v next knows n rest = made_same v next n.worker n.facts knows.sound.one_result rest n.opened
-
-pub claim_rested : (v next : View) (word : ℕ) → next ≡ with_side v (claim_side v.side word) → IsRested v → IsRested next
-claim_rested v next word is h = subst IsRested (sym is) record {
-  clear = clear_grows v (with_side v (claim_side v.side word))
-      (grows_by v (claim_side v.side word) v.control v.raw_rows v.raw refl refl refl refl (λ n i. i) (λ f i. i)) h.clear;
-  over = h.over;
-}

@@ -2,7 +2,7 @@
 use Rattle.std.proofs.Common.{ℕ, subst}
 use Rattle.rh_world.specs.World.{In}
 use Rattle.rh_world.specs.Facts.Fact.{failed_at}
-use Rattle.rh_descriptor.specs.View.{own_ref}
+use Rattle.rh_words.specs.View.{own_ref}
 use Rattle.rh_helping.specs.Opening.{next_own}
 use Rattle.rh_kcas.specs.Failures.{FailuresTell}
 

@@ -2,8 +2,8 @@
 use Rattle.std.proofs.Common.{◌≡◌, Option, Some, None}
 use Rattle.rh_tagword.specs.declared.control.State.{State}
 use Rattle.rh_world.specs.World.{Ref}
-use Rattle.rh_descriptor.specs.View.{View}
-use Rattle.rh_helping.specs.Goal.{IsClear}
+use Rattle.rh_words.specs.View.{View}
+use Rattle.rh_steps.specs.Own.{IsClear}
 use Rattle.rh_helping.proofs.Controls.{Saw}
 use Rattle.rh_helping.proofs.Owing.{nothing_saw}
 use Rattle.rh_helping.proofs.Starting.{own_saw}

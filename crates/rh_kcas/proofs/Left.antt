@@ -3,7 +3,7 @@ use Rattle.std.proofs.Common.{◌≡◌, ℕ, suc, ◌+◌, ◌*◌, ◌-◌, �
 use Rattle.std.specs.Prelude.{nat_lt}
 use Rattle.std.proofs.lemmas.Bool.Decides.{nat_tests}
 use Rattle.rh_layout.specs.declared.entry.Entry.{Entry}
-use Rattle.rh_descriptor.specs.View.{View}
+use Rattle.rh_words.specs.View.{View}
 use Rattle.rh_helping.specs.declared.opening.Opening.{Opening}
 use Rattle.rh_helping.specs.declared.opening.Opening.TheVariants as opening
 use Rattle.rh_helping.specs.Opening.{IsOpening, after_opening}

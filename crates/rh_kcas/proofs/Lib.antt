@@ -2,28 +2,18 @@
 -- for at its next step.
 -- Noting: what a worker has noted, from step to step.
 -- Looking: what a worker that looks at a cell has read there.
--- Fitting: entries of which each fits behind the one before are those of a descriptor.
 -- Left: how many steps of an opening are left, so that it ends.
--- Peeking: a look at a cell: the seat rests after it.
 -- Helped: the control of a descriptor that is helped is read again.
 -- Carried: the acts that a worker at rest has made, after it noted more.
 -- Swapped: what an own descriptor that was opened and carried out makes of a worker at rest.
 -- Failing: what a K-CAS that failed says of the acts of all workers.
 -- ReadsBack: what a read says of them.
--- Crews: seats of several workers are cut and joined, and a worker that is fresh rests.
--- Clearing: what the seat of all workers may do in a wipe, and what becomes of its views.
--- Made: a table that is made meets the rule, and at its close the cells are those that the acts made.
 
-mod Fitting
 pub mod Noting
 mod Looking
-pub mod Peeking
-mod Carried
+pub mod Carried
 pub mod Helped
 mod Left
 mod Swapped
 mod Failing
 mod ReadsBack
-pub mod Crews
-mod Clearing
-mod Made

@@ -1,11 +1,11 @@
 -- What a worker that looks at a cell has read there.
 use Rattle.std.proofs.Common.{ℕ, ◌≤◌, Option, Some, None, ◌∷◌, ◌∙◌}
 use Rattle.rh_world.specs.Sides.{KeptRead}
-use Rattle.rh_descriptor.specs.declared.shape.Shape.{Shape}
-use Rattle.rh_descriptor.specs.declared.steps.StepKind.{StepKind}
-use Rattle.rh_descriptor.specs.View.{View}
-use Rattle.rh_descriptor.specs.Steps.{Step}
-use Rattle.rh_descriptor.specs.Words.{IsPlain}
+use Rattle.rh_words.specs.declared.shape.Shape.{Shape}
+use Rattle.rh_words.specs.declared.steps.StepKind.{StepKind}
+use Rattle.rh_words.specs.View.{View}
+use Rattle.rh_words.specs.Steps.{Step}
+use Rattle.rh_words.specs.Words.{IsPlain}
 use Rattle.rh_helping.specs.Made.{HasStepped}
 use Rattle.rh_kcas.specs.Swaps.{HasNoted, HasReadCell, IsSeen}
 use Rattle.rh_kcas.proofs.Noting.{step_number, step_opening, step_worker}

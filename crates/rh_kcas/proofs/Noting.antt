@@ -3,11 +3,11 @@ use Rattle.std.proofs.Common.{◌≡◌, ℕ, suc, Option, Some, None, true, ref
 use Rattle.rh_tagword.specs.declared.control.State.{State}
 use Rattle.rh_tagword.specs.declared.control.State.TheVariants.{Unused, Undecided, Succeeded, Withdrawn, Failed}
 use Rattle.rh_world.specs.World.{Ref}
-use Rattle.rh_descriptor.specs.declared.shape.Shape.{Shape}
-use Rattle.rh_descriptor.specs.declared.steps.StepKind.{StepKind}
-use Rattle.rh_descriptor.specs.View.{OwnDesc, View}
-use Rattle.rh_descriptor.specs.Steps.{Step, noted}
-use Rattle.rh_descriptor.specs.Words.{control_of}
+use Rattle.rh_words.specs.declared.shape.Shape.{Shape}
+use Rattle.rh_words.specs.declared.steps.StepKind.{StepKind}
+use Rattle.rh_words.specs.View.{OwnDesc, View}
+use Rattle.rh_words.specs.Steps.{Step, noted}
+use Rattle.rh_words.specs.Words.{control_of}
 use Rattle.rh_rule.proofs.SeatsKept.{noted_opening, noted_worker}
 use Rattle.rh_helping.specs.Made.{HasMadeStep}
 use Rattle.rh_kcas.specs.Swaps.{HasNoted, IsNotedOver, IsTold, is_over}

@@ -9,12 +9,12 @@ use Rattle.rh_world.specs.World.Control.{failed, succeeded, withdrawn}
 use Rattle.rh_world.specs.Facts.{Fact}
 use Rattle.rh_world.specs.Facts.Fact.{decided}
 use Rattle.rh_world.specs.Acts.{is_success}
-use Rattle.rh_descriptor.specs.declared.shape.Shape.{Shape}
-use Rattle.rh_descriptor.specs.View.{View, own_ref}
+use Rattle.rh_words.specs.declared.shape.Shape.{Shape}
+use Rattle.rh_words.specs.View.{View, own_ref}
 use Rattle.rh_rule.specs.Rest.{made}
 use Rattle.rh_helping.specs.Opening.{next_own}
 use Rattle.rh_steps.specs.Relies.{Knows}
-use Rattle.rh_kcas.specs.Rests.{IsRested}
+use Rattle.rh_shared.specs.Rests.{IsRested}
 use Rattle.rh_kcas.specs.Swaps.{RestSpec, HasCarriedOut, HasOpened}
 use Rattle.rh_kcas.proofs.Carried.{made_more, over_more}
 

@@ -5,9 +5,9 @@ use Rattle.rh_world.specs.World.{World, In}
 use Rattle.rh_world.specs.Facts.{IsPrefix, Fact}
 use Rattle.rh_world.specs.Sides.{KeptRead, Side}
 use Rattle.rh_world.specs.Acts.{cells_after}
-use Rattle.rh_descriptor.specs.declared.shape.Shape.{Shape}
-use Rattle.rh_descriptor.specs.View.{View, own_ref}
-use Rattle.rh_descriptor.specs.Steps.{entry_of}
+use Rattle.rh_words.specs.declared.shape.Shape.{Shape}
+use Rattle.rh_words.specs.View.{View, own_ref}
+use Rattle.rh_words.specs.Steps.{entry_of}
 use Rattle.rh_rule.specs.Erased.{erased_read}
 use Rattle.rh_rule.specs.Rest.{Told}
 use Rattle.rh_helping.specs.Opening.{next_own}

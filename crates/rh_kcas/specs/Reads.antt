@@ -4,8 +4,8 @@ use Rattle.rh_world.specs.World.{World, In}
 use Rattle.rh_world.specs.Facts.{IsPrefix}
 use Rattle.rh_world.specs.Sides.{KeptRead, Side}
 use Rattle.rh_world.specs.Acts.{cells_after}
-use Rattle.rh_descriptor.specs.declared.shape.Shape.{Shape}
-use Rattle.rh_descriptor.specs.View.{View}
+use Rattle.rh_words.specs.declared.shape.Shape.{Shape}
+use Rattle.rh_words.specs.View.{View}
 use Rattle.rh_rule.specs.Erased.{erased_read}
 use Rattle.rh_rule.specs.Rest.{Told}
 use Rattle.rh_kcas.specs.Swaps.{HasReadCell}

@@ -6,14 +6,15 @@ use Rattle.rh_tagword.specs.declared.control.State.{State}
 use Rattle.rh_world.specs.World.{In, Ref, Control as Result}
 use Rattle.rh_world.specs.Facts.{Fact}
 use Rattle.rh_world.specs.Facts.Fact.{decided, over}
-use Rattle.rh_descriptor.specs.declared.shape.Shape.{Shape}
-use Rattle.rh_descriptor.specs.View.{OwnDesc, View, own_ref}
-use Rattle.rh_descriptor.specs.Steps.{Step, noted}
-use Rattle.rh_descriptor.specs.Words.{IsPlain}
+use Rattle.rh_words.specs.declared.shape.Shape.{Shape}
+use Rattle.rh_words.specs.View.{OwnDesc, View, own_ref}
+use Rattle.rh_words.specs.Steps.{Step, noted}
+use Rattle.rh_words.specs.Words.{IsPlain}
 use Rattle.rh_rule.specs.Rest.{made}
 use Rattle.rh_helping.specs.declared.machine.Ended.{Ended}
 use Rattle.rh_helping.specs.declared.machine.Ended.TheVariants as ended
-use Rattle.rh_helping.specs.Goal.{IsClear, KnowsOwn, OwesNothing, StandsAt}
+use Rattle.rh_steps.specs.Own.{IsClear, KnowsOwn, OwesNothing}
+use Rattle.rh_helping.specs.Goal.{StandsAt}
 use Rattle.rh_helping.specs.Opening.{next_own}
 use Rattle.rh_helping.specs.Work.{HasEnded, FailsWithin}
 use Rattle.rh_kcas.specs.declared.swapping.Outcome.{Outcome}
@@ -114,13 +115,3 @@ pub record HasReadCell (z : Shape) (c : ℕ) (v next : View) (seen : Option ℕ)
   pub opened : next.opened ≡ v.opened
   pub next_number : next.next_number ≡ v.next_number
   pub claims : next.side.claims ≡ v.side.claims
-
--- One Claim was made; it found a position of the list, or its end.
-abbrev pub IsClaimed : Shape → (position : ℕ) → Option ℕ → Type 0
-IsClaimed z n None = z.keys ≤ n
-IsClaimed z n (Some p) = (n < z.keys) × (p ≡ n)
-
-pub record ClaimsOne (z : Shape) (v next : View) (claimed : Option ℕ) : Type 0 where
-  pub position : ℕ
-  pub view_is : next ≡ noted z v Step.claims position
-  pub is : IsClaimed z position claimed

@@ -1,21 +1,21 @@
 //! Helping a descriptor to its end.
 
 ghost use Rattle.std.specs.Prelude.{◌≡◌};
-ghost use Rattle.rh_descriptor.specs.Steps.{IsKnown};
-ghost use Rattle.rh_descriptor.specs.Words.{ref_of};
-ghost use Rattle.rh_helping.specs.Goal.{IsClear};
-ghost use Rattle.rh_kcas.specs.Rests.{SeatRests};
+ghost use Rattle.rh_words.specs.Steps.{IsKnown};
+ghost use Rattle.rh_words.specs.Words.{ref_of};
+ghost use Rattle.rh_steps.specs.Own.{IsClear};
+ghost use Rattle.rh_shared.specs.Rests.{SeatRests};
 ghost use Rattle.rh_kcas.specs.Swaps.{HasHelped, HasNoted, IsTold, is_over};
-ghost use Rattle.rh_rdcss.specs.Calls.{IsSame, view_of};
-ghost use Rattle.rh_rdcss.specs.Sits.{Sits, Stays};
+ghost use Rattle.rh_shared.specs.Seats.{IsSame, view_of};
+ghost use Rattle.rh_shared.specs.Sits.{Sits, Stays};
 ghost use Rattle.rh_rule.specs.Rest.{made};
 ghost use Rattle.rh_steps.specs.Relies.{Trusts};
 
-use rh_descriptor::{Reading, Ref, Request, Shape, Side};
 use rh_helping::{Machine, Progress, state_told};
-use rh_rdcss::{OnTable, Seat, Table};
+use rh_shared::{OnTable, Seat, Table};
 use rh_steps::Steps;
 use rh_tagword::State;
+use rh_words::{Reading, Ref, Request, Shape, Side};
 use std::sync::Wait;
 
 /// Goes about a descriptor until it is decided, or no mark is left; a stale one was decided.

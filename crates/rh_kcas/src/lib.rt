@@ -1,5 +1,5 @@
-//! Compare-and-swap of several cells of a table that threads share (Harris, Fraser and Pratt 2002),
-//! and the tables themselves.
+//! Compare-and-swap of several cells of a table that threads share (Harris, Fraser and Pratt 2002).
+//! It hands on the tables themselves, which `rh_shared` has.
 //!
 //! `rh_crew` and `rh_phase` stand on it. A phase uses the tables, the seats, `claim`, `read` and
 //! `kcas`; so does whoever swaps cells by hand. What is promised holds whatever other threads do
@@ -30,41 +30,28 @@
 //! - `help`: the descriptor is noted as decided, or as over, or no mark is left.
 //! - `read`: a plain word that is kept as read of this cell, after all reads before, with the
 //!   number of the worker's next descriptor. None is answered only where no mark is left.
-//! - `claim`: the number that one Claim found, or that it found the end. After each call the worker
-//!   is at rest, and its own acts are the same but for a K-CAS that is done.
+//! - After each of these the worker is at rest, and its own acts are the same but for a K-CAS that is
+//!   done.
 //! - `failures_tell`, `reads_tell`: after some first acts of all workers the entry's cell did not
 //!   hold the old value, or the cell held the word that was read. Among these are all acts that the
 //!   worker had made before the call, and no later one of it; they never get fewer.
-//! - `open`, `carry_out`: the two parts of a K-CAS, for who does something between. `are_entries`:
-//!   exactly whether a descriptor may have these entries. `change`: the entry from one value to
-//!   another.
-//! - `make`: a table with these cells and the seat of all workers, who have done nothing; or the
-//!   refusal of a growth. `split`, `join`: what is kept of each worker goes with its seat.
-//! - `wipe`: all rows are unused again, and a round begins with the cells. `close`: the values of
-//!   the cells. In both the cells are those at the start of the round, changed by all acts since;
-//!   such values there are too where `discard` frees the table.
+//! - `open`, `carry_out`: the two parts of a K-CAS, for who does something between.
+//! - `make`, `split`, `join`, `claim`, `wipe`, `close`, `discard`, `are_entries`, `change`: see the head
+//!   of `rh_shared`.
 //!
 //! No contract says that a call which takes a `Wait` returns: `kcas`, `carry_out`, `help` and
 //! `read`.
 #![tactic(auto)]
 
-mod claiming;
-mod ends;
-mod entries;
 mod helping;
 mod laws;
 mod reading;
-mod seats;
 mod swapping;
-mod wiping;
 
-pub use claiming::claim;
-pub use ends::{close, discard, make};
-pub use entries::{are_entries, change};
 pub use helping::help;
 pub use laws::{failures_tell, reads_tell};
 pub use reading::read;
-pub use rh_rdcss::{Seat, Table};
-pub use seats::{join, split};
+pub use rh_shared::{
+    Seat, Table, are_entries, change, claim, close, discard, join, make, split, wipe,
+};
 pub use swapping::{Outcome, carry_out, kcas, open};
-pub use wiping::wipe;

@@ -1,20 +1,20 @@
 //! Reading a cell.
 
 ghost use Rattle.std.specs.Prelude.{◌≡◌, ◌<◌};
-ghost use Rattle.rh_descriptor.specs.Parts.{cell_count};
-ghost use Rattle.rh_helping.specs.Goal.{IsClear};
+ghost use Rattle.rh_words.specs.Parts.{cell_count};
+ghost use Rattle.rh_steps.specs.Own.{IsClear};
 ghost use Rattle.rh_helping.specs.Looking.{IsLooking};
 ghost use Rattle.rh_helping.specs.Machine.{looking_of};
-ghost use Rattle.rh_kcas.specs.Rests.{SeatRests};
+ghost use Rattle.rh_shared.specs.Rests.{SeatRests};
 ghost use Rattle.rh_kcas.specs.Swaps.{HasReadCell};
-ghost use Rattle.rh_rdcss.specs.Calls.{IsSame, view_of};
-ghost use Rattle.rh_rdcss.specs.Sits.{Sits, Stays};
+ghost use Rattle.rh_shared.specs.Seats.{IsSame, view_of};
+ghost use Rattle.rh_shared.specs.Sits.{Sits, Stays};
 ghost use Rattle.rh_rule.specs.Rest.{made};
 ghost use Rattle.rh_steps.specs.Relies.{Trusts};
 
-use rh_descriptor::{Ref, Shape, Side};
 use rh_helping::{Machine, Sight, Watch};
-use rh_rdcss::{OnTable, Seat, Table};
+use rh_shared::{OnTable, Seat, Table};
+use rh_words::{Ref, Shape, Side};
 use std::sync::Wait;
 
 /// The plain word that the cell holds, or none where no mark is left.

@@ -1,21 +1,22 @@
 //! An own K-CAS: its descriptor is opened, and carried out.
 
 ghost use Rattle.std.specs.Prelude.{◌≡◌, Some};
-ghost use Rattle.rh_descriptor.specs.Steps.{AreEntries};
-ghost use Rattle.rh_helping.specs.Goal.{KnowsOwn, OwesNothing, opened_by, own_of};
+ghost use Rattle.rh_words.specs.Steps.{AreEntries};
+ghost use Rattle.rh_steps.specs.Own.{KnowsOwn, OwesNothing};
+ghost use Rattle.rh_helping.specs.Goal.{opened_by, own_of};
 ghost use Rattle.rh_helping.specs.Machine.{work_of};
 ghost use Rattle.rh_helping.specs.Opening.{MayOpen, next_own};
 ghost use Rattle.rh_helping.specs.Work.{Stands};
-ghost use Rattle.rh_kcas.specs.Rests.{SeatRests};
+ghost use Rattle.rh_shared.specs.Rests.{SeatRests};
 ghost use Rattle.rh_kcas.specs.Swaps.{HasCarriedOut, HasOpened, Swaps};
-ghost use Rattle.rh_rdcss.specs.Calls.{IsSame, view_of};
-ghost use Rattle.rh_rdcss.specs.Sits.{Sits, Stays};
+ghost use Rattle.rh_shared.specs.Seats.{IsSame, view_of};
+ghost use Rattle.rh_shared.specs.Sits.{Sits, Stays};
 ghost use Rattle.rh_steps.specs.Relies.{Trusts};
 
-use rh_descriptor::{Ref, Shape, Side};
 use rh_helping::{Ended, Machine, OpenDesc, Opening, Progress};
 use rh_layout::Entry;
-use rh_rdcss::{OnTable, Seat, Table};
+use rh_shared::{OnTable, Seat, Table};
+use rh_words::{Ref, Shape, Side};
 use std::sync::Wait;
 
 /// What became of a K-CAS.

@@ -1,8 +1,8 @@
 //! What each thread does: swaps that raise each of its cells by one.
 
 ghost use Rattle.std.specs.Prelude.{◌≡◌, ◌<◌, ◌≤◌};
-ghost use Rattle.rh_kcas.specs.Rests.{SeatRests};
-ghost use Rattle.rh_rdcss.specs.Calls.{IsSame};
+ghost use Rattle.rh_shared.specs.Rests.{SeatRests};
+ghost use Rattle.rh_shared.specs.Seats.{IsSame};
 
 use rh_crew::Work;
 use rh_kcas::{Outcome, Seat, Table, are_entries, change, kcas, read};

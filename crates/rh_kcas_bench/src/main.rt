@@ -2,7 +2,7 @@
 #![tactic(auto)]
 
 ghost use Rattle.std.specs.Prelude.{◌≡◌, IfOk};
-ghost use Rattle.rh_kcas.specs.Crews.{HasAll, IsFresh, views_of};
+ghost use Rattle.rh_shared.specs.Crews.{HasAll, IsFresh, views_of};
 ghost use Rattle.rh_rule.specs.Seats.{InView};
 
 mod line;
@@ -11,8 +11,8 @@ mod load;
 use line::Line;
 use load::{BITS, Load, Told};
 use rh_crew::round_of;
-use rh_descriptor::{MAX_WORKERS, Rooms, Shape};
 use rh_kcas::{Seat, Table, make};
+use rh_words::{MAX_WORKERS, Rooms, Shape};
 use std::alloc::{AllocError, Global};
 use std::env;
 use std::env::Env;

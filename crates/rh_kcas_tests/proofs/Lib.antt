@@ -1,2 +1,3 @@
 mod Meeting
 mod OwnChanges
+mod Peeking

@@ -1,9 +1,9 @@
 -- What a worker that met a descriptor knows of it, it knows when it has noted more.
-use Rattle.rh_descriptor.specs.declared.reference.Ref.{Ref as Reference}
-use Rattle.rh_descriptor.specs.declared.shape.Shape.{Shape}
-use Rattle.rh_descriptor.specs.View.{View}
-use Rattle.rh_descriptor.specs.Words.{ref_of}
-use Rattle.rh_helping.specs.Goal.{IsClear}
+use Rattle.rh_words.specs.declared.reference.Ref.{Ref as Reference}
+use Rattle.rh_words.specs.declared.shape.Shape.{Shape}
+use Rattle.rh_words.specs.View.{View}
+use Rattle.rh_words.specs.Words.{ref_of}
+use Rattle.rh_steps.specs.Own.{IsClear}
 use Rattle.rh_helping.proofs.Growing.{seen_sub}
 use Rattle.rh_kcas.specs.Swaps.{HasNoted}
 use Rattle.rh_rdcss.specs.Placing.{MayPlace}

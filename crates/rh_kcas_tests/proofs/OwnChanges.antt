@@ -10,14 +10,14 @@ use Rattle.rh_world.specs.Logical.{changed_by}
 use Rattle.rh_world.proofs.ActsKept.{changed_at}
 use Rattle.rh_world.proofs.Tests.{by_cond}
 use Rattle.rh_world.proofs.Updated.{ref_path, same_nat}
-use Rattle.rh_descriptor.specs.declared.shape.Shape.{Shape}
-use Rattle.rh_descriptor.specs.View.{OwnDesc, View, own_ref}
-use Rattle.rh_descriptor.specs.Steps.{AreEntries, entry_of}
-use Rattle.rh_descriptor.specs.Words.{without_entry}
-use Rattle.rh_helping.specs.Goal.{IsAllNoted}
+use Rattle.rh_words.specs.declared.shape.Shape.{Shape}
+use Rattle.rh_words.specs.View.{OwnDesc, View, own_ref}
+use Rattle.rh_words.specs.Steps.{AreEntries, entry_of}
+use Rattle.rh_words.specs.Words.{without_entry}
+use Rattle.rh_steps.specs.Own.{IsAllNoted}
 use Rattle.rh_helping.specs.declared.machine.Ended.TheVariants.{Succeeded}
 use Rattle.rh_kcas.specs.Reads.{ReadsTell}
-use Rattle.rh_kcas.specs.Rests.{IsRested}
+use Rattle.rh_shared.specs.Rests.{IsRested}
 use Rattle.rh_kcas.specs.Swaps.{HasReadCell, RestSpec, Swaps}
 use Rattle.rh_kcas.specs.declared.swapping.Outcome.TheVariants.{Done}
 use Rattle.rh_kcas_tests.specs.ReadsBack.{ReadsBack}

@@ -2,12 +2,12 @@
 use Rattle.std.specs.Prelude.{◌≡◌, ℕ, None}
 use Rattle.rh_world.specs.World.{In}
 use Rattle.rh_world.specs.Facts.Fact.{found}
-use Rattle.rh_descriptor.specs.declared.reference.Ref.{Ref}
-use Rattle.rh_descriptor.specs.Words.{ref_of}
-use Rattle.rh_rdcss.specs.Calls.{IsHere, view_of}
+use Rattle.rh_words.specs.declared.reference.Ref.{Ref}
+use Rattle.rh_words.specs.Words.{ref_of}
+use Rattle.rh_shared.specs.Seats.{IsHere, view_of}
 use Rattle.rh_rdcss.specs.Placing.{IsMine, MayPlace}
-use Rattle.rh_rdcss.specs.declared.seat.Seat.{Seat}
-use Rattle.rh_rdcss.specs.declared.table.Table.{Table}
+use Rattle.rh_shared.specs.declared.seat.Seat.{Seat}
+use Rattle.rh_shared.specs.declared.table.Table.{Table}
 use Rattle.rh_steps.specs.Relies.{Knows}
 
 -- no own mark is unsettled

@@ -1,10 +1,10 @@
 -- A worker that has met another one's descriptor while that was undecided.
-use Rattle.rh_descriptor.specs.declared.reference.Ref.{Ref}
-use Rattle.rh_kcas.specs.Rests.{SeatRests}
-use Rattle.rh_rdcss.specs.Calls.{view_of}
+use Rattle.rh_words.specs.declared.reference.Ref.{Ref}
+use Rattle.rh_shared.specs.Rests.{SeatRests}
+use Rattle.rh_shared.specs.Seats.{view_of}
 use Rattle.rh_rdcss.specs.Placing.{MayPlace}
-use Rattle.rh_rdcss.specs.declared.seat.Seat.{Seat}
-use Rattle.rh_rdcss.specs.declared.table.Table.{Table}
+use Rattle.rh_shared.specs.declared.seat.Seat.{Seat}
+use Rattle.rh_shared.specs.declared.table.Table.{Table}
 
 -- it rests, and may place a mark for it
 pub record HasMet (t : Table) (s : Seat) (d : Ref) : Type 0 where

@@ -2,19 +2,21 @@
 //! decision is left.
 
 ghost use Rattle.std.specs.Prelude.{◌≡◌, ◌<◌, IsTrue, IfSome, Some};
-ghost use Rattle.rh_descriptor.specs.Steps.{AreEntries};
-ghost use Rattle.rh_helping.specs.Goal.{KnowsOwn, OwesNothing, opened_by};
+ghost use Rattle.rh_words.specs.Steps.{AreEntries};
+ghost use Rattle.rh_steps.specs.Own.{KnowsOwn, OwesNothing};
+ghost use Rattle.rh_helping.specs.Goal.{opened_by};
 ghost use Rattle.rh_kcas_tests.specs.Halfway.{IsIdle, IsHalfway};
-ghost use Rattle.rh_rdcss.specs.Calls.{view_of};
-ghost use Rattle.rh_rdcss.specs.Sits.{Sits, Stays};
+ghost use Rattle.rh_shared.specs.Seats.{view_of};
+ghost use Rattle.rh_shared.specs.Sits.{Sits, Stays};
 ghost use Rattle.rh_steps.specs.Relies.{Trusts};
 
-use rh_descriptor::{Ref, Shape, Side};
 use rh_helping::{At, Ended, Machine, OpenDesc, Progress};
 use rh_kcas::{Seat, Table, carry_out, open};
 use rh_layout::Entry;
-use rh_rdcss::{OnTable, status};
+use rh_rdcss::status;
+use rh_shared::OnTable;
 use rh_tagword::State;
+use rh_words::{Ref, Shape, Side};
 use std::sync::Wait;
 
 /// More steps than a worker makes alone until only the decision is left.

@@ -1,7 +1,7 @@
 //! A worker that stops before its decision is helped to it by another one, on a thread of its own.
 
 ghost use Rattle.std.specs.Prelude.{◌≡◌};
-ghost use Rattle.rh_kcas.specs.Rests.{SeatRests};
+ghost use Rattle.rh_shared.specs.Rests.{SeatRests};
 ghost use Rattle.rh_kcas_tests.specs.Halfway.{IsHalfway};
 
 use crate::halfway::{go_on, stop_halfway, watch};

@@ -1,18 +1,18 @@
 //! Marks that a worker places and settles by single calls, for a descriptor whose own worker has stopped.
 
 ghost use Rattle.std.specs.Prelude.{IfOk, IsTrue};
-ghost use Rattle.rh_kcas.specs.Rests.{SeatRests};
+ghost use Rattle.rh_shared.specs.Rests.{SeatRests};
 ghost use Rattle.rh_kcas_tests.specs.Halfway.{IsIdle, IsHalfway};
 ghost use Rattle.rh_kcas_tests.specs.Marks.{HasFound, HasPlaced, IsSettled, MayTry};
 
 use crate::halfway::{go_on, open_one};
 use crate::tables::*;
-use rh_descriptor::Ref;
 use rh_helping::{CellContent, Ended, named_desc, what_stands};
 use rh_kcas::{Seat, Table, are_entries, change, make, split};
 use rh_layout::Entry;
 use rh_rdcss::{Placed, peek_cell, place, settle, status};
 use rh_tagword::{State, plain_value};
+use rh_words::Ref;
 use std::alloc::{AllocError, Global};
 use std::process::Abort;
 use std::test::*;

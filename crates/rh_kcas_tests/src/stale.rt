@@ -1,20 +1,20 @@
 //! A descriptor that another worker meets, and whose own worker then goes on to its next one.
 
 ghost use Rattle.std.specs.Prelude.{IsTrue};
-ghost use Rattle.rh_descriptor.specs.Steps.{IsKnown};
-ghost use Rattle.rh_descriptor.specs.Words.{ref_of};
-ghost use Rattle.rh_kcas.specs.Rests.{SeatRests};
+ghost use Rattle.rh_words.specs.Steps.{IsKnown};
+ghost use Rattle.rh_words.specs.Words.{ref_of};
+ghost use Rattle.rh_shared.specs.Rests.{SeatRests};
 ghost use Rattle.rh_kcas_tests.specs.Stale.{HasMet};
-ghost use Rattle.rh_rdcss.specs.Calls.{IsHere, view_of};
+ghost use Rattle.rh_shared.specs.Seats.{IsHere, view_of};
 ghost use Rattle.rh_steps.specs.Relies.{Knows};
 
 use crate::halfway::{go_on, stop_halfway};
 use crate::tables::*;
-use rh_descriptor::Ref;
 use rh_helping::{Ended, named_desc};
 use rh_kcas::{Seat, Table, are_entries, change, help};
 use rh_rdcss::{Placed, peek_cell, place, status};
 use rh_tagword::{State, plain_value};
+use rh_words::Ref;
 use std::process::Abort;
 use std::sync::Wait;
 use std::test::*;

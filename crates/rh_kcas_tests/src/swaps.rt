@@ -1,8 +1,8 @@
 ghost use Rattle.std.specs.Prelude.{◌≡◌, ◌<◌, IfSome, length};
-ghost use Rattle.rh_descriptor.specs.Steps.{AreEntries};
-ghost use Rattle.rh_kcas.specs.Rests.{SeatRests};
+ghost use Rattle.rh_words.specs.Steps.{AreEntries};
+ghost use Rattle.rh_shared.specs.Rests.{SeatRests};
 ghost use Rattle.rh_kcas_tests.specs.ReadsBack.{ReadsBack};
-ghost use Rattle.rh_rdcss.specs.Calls.{view_of};
+ghost use Rattle.rh_shared.specs.Seats.{view_of};
 
 use crate::tables::*;
 use rh_kcas::{Outcome, Seat, Table, are_entries, change, kcas, read, reads_tell};

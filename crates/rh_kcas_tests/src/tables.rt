@@ -1,21 +1,21 @@
 //! Tables of 8 cells, and the calls on them as the tests make them.
 
 ghost use Rattle.std.specs.Prelude.{◌≡◌, ◌<◌, ◌≤◌, ℕ, [], IfOk, IfSome, IsTrue, length, slice_index};
-ghost use Rattle.rh_descriptor.specs.Parts.{IsShape, cell_count};
-ghost use Rattle.rh_kcas.specs.Rests.{SeatRests};
+ghost use Rattle.rh_words.specs.Parts.{IsShape, cell_count};
+ghost use Rattle.rh_shared.specs.Rests.{SeatRests};
 ghost use Rattle.rh_kcas_tests.specs.Rooms.{AreRooms};
-ghost use Rattle.rh_rdcss.specs.Calls.{IsHere, IsSame, view_of};
+ghost use Rattle.rh_shared.specs.Seats.{IsHere, IsSame, view_of};
 ghost use Rattle.rh_steps.specs.Relies.{Knows};
 ghost use Rattle.rh_tagword.specs.Word.{IsValue};
 ghost use Rattle.rh_world.specs.World.{In};
 
-use rh_descriptor::{Rooms, Shape};
 use rh_kcas::{
     Outcome, Seat, Table, are_entries, claim, close, join, kcas, make, read, split, wipe,
 };
 use rh_layout::{Entry, MAX_KEY};
 use rh_rdcss::peek_cell;
 use rh_tagword::plain_value;
+use rh_words::{Rooms, Shape};
 use std::alloc::{AllocError, Global};
 use std::process::Abort;
 use std::sync::Wait;

@@ -1,8 +1,8 @@
 //! One worker's many random swaps, and what it is told of them.
 
 ghost use Rattle.std.specs.Prelude.{◌≡◌, ◌<◌};
-ghost use Rattle.rh_kcas.specs.Rests.{SeatRests};
-ghost use Rattle.rh_rdcss.specs.Calls.{IsSame};
+ghost use Rattle.rh_shared.specs.Rests.{SeatRests};
+ghost use Rattle.rh_shared.specs.Seats.{IsSame};
 
 use crate::random::*;
 use crate::tables::*;

@@ -18,18 +18,18 @@ use Rattle.rh_tagword.specs.Word.{IsValue, plain_number}
 use Rattle.rh_acts.specs.Workers.{LeavesRoom}
 use Rattle.rh_acts.proofs.ActLemmas.{contains_none}
 use Rattle.rh_acts.proofs.FoldLemmas.{added_len, removed_len}
-use Rattle.rh_descriptor.specs.declared.known.Known.{Known}
-use Rattle.rh_descriptor.specs.Parts.{cell_count}
-use Rattle.rh_descriptor.specs.View.{new_view}
+use Rattle.rh_words.specs.declared.known.Known.{Known}
+use Rattle.rh_words.specs.Parts.{cell_count}
+use Rattle.rh_words.specs.View.{new_view}
 use Rattle.rh_rule.specs.Seats.{InView, first_view, known}
 use Rattle.rh_rule.proofs.SeatsKept.{new_at, there}
-use Rattle.rh_rdcss.specs.declared.table.Table.{Table}
+use Rattle.rh_shared.specs.declared.table.Table.{Table}
 use Rattle.rh_world.specs.World.{In}
 use Rattle.rh_rule.specs.Wipes.{row_total}
 use Rattle.rh_run.specs.Run.{ProgressInvariant, RunInvariant}
 use Rattle.rh_run.specs.Laws.{started}
 use Rattle.rh_run.proofs.Turning.{run_starts}
-use Rattle.rh_kcas.specs.Crews.{HasAll, IsFresh, views_of}
+use Rattle.rh_shared.specs.Crews.{HasAll, IsFresh, views_of}
 use Rattle.rh_phase.specs.Crew.{CanWork}
 use Rattle.rh_phase.specs.Hands.{HandStands, answer, left_over, progress_by}
 use Rattle.rh_phase.specs.Made.{AreNew, IsNew}

@@ -3,10 +3,10 @@ use Rattle.std.proofs.Common.{◌≡◌, ℕ, ◌<◌, ◌≤◌, ⊎_elim, List
 use Rattle.std.specs.Prelude.{slice_index}
 use Rattle.std.specs.List.{Contains}
 use Rattle.rh_world.specs.World.{In}
-use Rattle.rh_descriptor.specs.declared.shape.Shape.{Shape}
-use Rattle.rh_descriptor.specs.View.{View}
-use Rattle.rh_descriptor.specs.Steps.{Allowed, Step, noted}
-use Rattle.rh_helping.specs.Goal.{IsClear}
+use Rattle.rh_words.specs.declared.shape.Shape.{Shape}
+use Rattle.rh_words.specs.View.{View}
+use Rattle.rh_words.specs.Steps.{Allowed, Step, noted}
+use Rattle.rh_steps.specs.Own.{IsClear}
 use Rattle.rh_steps.specs.Relies.{Knows}
 use Rattle.rh_phase.specs.Hands.{HasClaimed}
 use Rattle.rh_phase.specs.declared.hand.Hand.{Hand}

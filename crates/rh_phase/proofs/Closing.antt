@@ -4,10 +4,10 @@ use Rattle.std.specs.FinSet as set
 use Rattle.rh_layout.specs.Layout.{IsLayout, Layout, keys_of}
 use Rattle.rh_ledger.specs.Phase.{most_added}
 use Rattle.rh_acts.specs.Workers.{LeavesRoom}
-use Rattle.rh_descriptor.specs.declared.shape.Shape.{Shape}
-use Rattle.rh_kcas.specs.Crews.{views_of}
-use Rattle.rh_kcas.specs.Ends.{Leaves}
-use Rattle.rh_rdcss.specs.declared.table.Table.{Table}
+use Rattle.rh_words.specs.declared.shape.Shape.{Shape}
+use Rattle.rh_shared.specs.Crews.{views_of}
+use Rattle.rh_shared.specs.Ends.{Leaves}
+use Rattle.rh_shared.specs.declared.table.Table.{Table}
 use Rattle.rh_phase.specs.Made.{HasWorkedOut, IsWorkedOut}
 use Rattle.rh_phase.specs.Rounds.{Comes, Phase, phase}
 use Rattle.rh_phase.specs.declared.crew.Crew.{Crew}

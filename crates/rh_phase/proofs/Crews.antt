@@ -7,14 +7,14 @@ use Rattle.std.proofs.lemmas.Bool.Decides.{nat_tests}
 use Rattle.std.proofs.lemmas.List.{length-drop}
 use mathlib.Core.Option.{some, some-injective}
 use lib.ListN.{get_elem?}
-use Rattle.rh_descriptor.specs.declared.known.Known.{Known}
-use Rattle.rh_descriptor.specs.View.{View}
+use Rattle.rh_words.specs.declared.known.Known.{Known}
+use Rattle.rh_words.specs.View.{View}
 use Rattle.rh_rule.specs.Seats.{InView, known}
 use Rattle.rh_rule.proofs.SeatsKept.{at_append, at_drop, at_take, one_at, there}
-use Rattle.rh_rdcss.specs.Calls.{view_of}
-use Rattle.rh_rdcss.specs.declared.seat.Seat.{Seat}
-use Rattle.rh_rdcss.specs.declared.table.Table.{Table}
-use Rattle.rh_kcas.specs.Crews.{SitsAt, IsCut, IsFresh, IsJoined, IsQuiet, views_of}
+use Rattle.rh_shared.specs.Seats.{view_of}
+use Rattle.rh_shared.specs.declared.seat.Seat.{Seat}
+use Rattle.rh_shared.specs.declared.table.Table.{Table}
+use Rattle.rh_shared.specs.Crews.{SitsAt, IsCut, IsFresh, IsJoined, IsQuiet, views_of}
 use Rattle.rh_phase.specs.Crew.{AllMayStart, AreHalves, CanWork, HaveWorked}
 use Rattle.rh_phase.specs.Hands.{AllStand, InPairs, IsHand, Past, HandStands}
 use Rattle.rh_phase.specs.declared.crew.Crew.{Crew}

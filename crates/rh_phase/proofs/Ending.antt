@@ -15,8 +15,8 @@ use Rattle.rh_tagword.specs.Word.{plain_number}
 use Rattle.rh_acts.specs.Shared.{IsSharedOut}
 use Rattle.rh_acts.specs.Workers.{LeavesRoom, how_many}
 use Rattle.rh_ledger.specs.Tally.{tally_by}
-use Rattle.rh_descriptor.specs.declared.known.Known.{Known}
-use Rattle.rh_descriptor.specs.Parts.{cell_count}
+use Rattle.rh_words.specs.declared.known.Known.{Known}
+use Rattle.rh_words.specs.Parts.{cell_count}
 use Rattle.rh_run.specs.History.{value_of}
 use Rattle.rh_rule.specs.Seats.{AreMade, Spans}
 use Rattle.rh_rule.proofs.SeatsKept.{item_at, there}
@@ -26,7 +26,7 @@ use Rattle.rh_run.specs.Run.{Run}
 use Rattle.rh_run.specs.Words.{cells_held}
 use Rattle.rh_run.proofs.Answering.{run_answers}
 use Rattle.rh_run.proofs.Sharing.{claims_at, claims_size, run_shared_ends, shared_out}
-use Rattle.rh_kcas.specs.Ends.{Leaves}
+use Rattle.rh_shared.specs.Ends.{Leaves}
 use Rattle.rh_phase.specs.Hands.{Answer, InPairs, IsFinished, IsHand, answer, keys_done, left_over, positions_of, told_of}
 use Rattle.rh_phase.specs.Made.{HasWorkedOut, first_set}
 use Rattle.rh_phase.specs.Rounds.{Comes, Phase, all_changed, is_marked, run_of}

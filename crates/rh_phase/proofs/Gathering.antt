@@ -5,9 +5,9 @@ use lib.ListN.{get_elem?}
 use Rattle.rh_ledger.specs.declared.tally.Kind.{Kind}
 use Rattle.rh_world.specs.World.{updated}
 use Rattle.rh_world.proofs.Updated.{same_nat, updated_else, updated_here}
-use Rattle.rh_descriptor.specs.declared.known.Known.{Known}
-use Rattle.rh_descriptor.specs.Parts.{IsShape}
-use Rattle.rh_descriptor.specs.View.{View, round_view}
+use Rattle.rh_words.specs.declared.known.Known.{Known}
+use Rattle.rh_words.specs.Parts.{IsShape}
+use Rattle.rh_words.specs.View.{View, round_view}
 use Rattle.rh_rule.specs.Seats.{AreMade, Spans, all_views, known}
 use Rattle.rh_rule.proofs.SeatsKept.{item_at, of_map, there}
 use Rattle.rh_run.specs.Run.{ProgressInvariant, RunInvariant}

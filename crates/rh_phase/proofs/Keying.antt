@@ -14,9 +14,9 @@ use Rattle.rh_world.proofs.Updated.{same_nat, some_not_none}
 use Rattle.rh_tagword.specs.Word.{IsValue}
 use Rattle.rh_acts.specs.Act.{Act}
 use Rattle.rh_acts.specs.Done.{Does, IsTold, Kept, kept}
-use Rattle.rh_descriptor.specs.declared.shape.Shape.{Shape}
-use Rattle.rh_descriptor.specs.Parts.{cell_count}
-use Rattle.rh_descriptor.specs.View.{OwnDesc, View, own_ref}
+use Rattle.rh_words.specs.declared.shape.Shape.{Shape}
+use Rattle.rh_words.specs.Parts.{cell_count}
+use Rattle.rh_words.specs.View.{OwnDesc, View, own_ref}
 use Rattle.rh_rule.specs.Rest.{is_noted_success, made}
 use Rattle.rh_rule.specs.Represents.{numbers_of}
 use Rattle.rh_helping.specs.Opening.{next_own}
@@ -28,12 +28,12 @@ use Rattle.rh_run.specs.Known.{KnowsHeld}
 use Rattle.rh_run.specs.Laws.{furthered}
 use Rattle.rh_run.specs.Run.{Progress, ProgressInvariant}
 use Rattle.rh_run.proofs.Stepping.{act_done, none_done, opened_more, opened_same, told_done}
-use Rattle.rh_kcas.specs.Rests.{IsRested}
+use Rattle.rh_shared.specs.Rests.{IsRested}
 use Rattle.rh_kcas.specs.Swaps.{HasGivenUp, IsSeen, RestSpec}
 use Rattle.rh_kcas.specs.Swaps.{HasReadCell as WasRead}
 use Rattle.rh_kcas.specs.Swaps.{HasNoRoom as HadNoRoom}
-use Rattle.rh_rdcss.specs.Calls.{IsSame}
-use Rattle.rh_rdcss.specs.declared.seat.Seat.{Seat}
+use Rattle.rh_shared.specs.Seats.{IsSame}
+use Rattle.rh_shared.specs.declared.seat.Seat.{Seat}
 use Rattle.rh_worker.specs.Deciding.{Decides}
 use Rattle.rh_worker.specs.declared.deciding.Decision.TheVariants.{Done}
 use Rattle.rh_worker.specs.Reading.{HasScanned, IsToldAnew, seen_back}

@@ -3,14 +3,14 @@ use Rattle.std.proofs.Common.{◌≡◌, ℕ, ◌<◌, List, sym, ◌∙◌, sub
 use mathlib.Core.Option.{some}
 use lib.ListN.{get_elem?}
 use Rattle.rh_ledger.specs.declared.tally.Kind.{Kind}
-use Rattle.rh_descriptor.specs.declared.known.Known.{Known}
-use Rattle.rh_descriptor.specs.View.{View, round_view}
+use Rattle.rh_words.specs.declared.known.Known.{Known}
+use Rattle.rh_words.specs.View.{View, round_view}
 use Rattle.rh_rule.specs.Seats.{InView, Spans, known}
 use Rattle.rh_rule.proofs.SeatsKept.{of_map}
-use Rattle.rh_rdcss.specs.declared.seat.Seat.{Seat}
-use Rattle.rh_rdcss.specs.declared.table.Table.{Table}
-use Rattle.rh_kcas.specs.Crews.{HasAll, SitsAt, IsFresh, views_of}
-use Rattle.rh_kcas.specs.Ends.{IsWiped}
+use Rattle.rh_shared.specs.declared.seat.Seat.{Seat}
+use Rattle.rh_shared.specs.declared.table.Table.{Table}
+use Rattle.rh_shared.specs.Crews.{HasAll, SitsAt, IsFresh, views_of}
+use Rattle.rh_shared.specs.Ends.{IsWiped}
 use Rattle.rh_phase.specs.Crew.{CanWork, HaveWorked}
 use Rattle.rh_phase.specs.Hands.{InPairs, IsHand}
 use Rattle.rh_phase.specs.Rounds.{Comes, past_of, phase}

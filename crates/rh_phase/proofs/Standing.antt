@@ -10,9 +10,9 @@ use Rattle.std.proofs.lemmas.List.Sums.{sum_by_push}
 use Rattle.rh_ledger.specs.declared.tally.Kind.{Kind}
 use Rattle.rh_world.proofs.Updated.{same_nat}
 use Rattle.rh_acts.proofs.ActLemmas.{contains_cases, contains_head, contains_none}
-use Rattle.rh_descriptor.specs.declared.shape.Shape.{Shape}
-use Rattle.rh_descriptor.specs.View.{View}
-use Rattle.rh_descriptor.specs.Steps.{Allowed, Step, noted}
+use Rattle.rh_words.specs.declared.shape.Shape.{Shape}
+use Rattle.rh_words.specs.View.{View}
+use Rattle.rh_words.specs.Steps.{Allowed, Step, noted}
 use Rattle.rh_rule.specs.Sound.{Sound}
 use Rattle.rh_run.specs.Claimed.{claimed}
 use Rattle.rh_run.specs.Laws.{furthered}

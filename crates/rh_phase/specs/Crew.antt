@@ -1,8 +1,8 @@
 -- Workers of a phase with their seat, who fork in halves and join again.
 use Rattle.std.specs.Prelude.{◌≡◌, ℕ, ◌+◌, ◌<◌, true, false, List, All, Bool, length, take, drop}
 use Rattle.rh_layout.specs.Key.{IsKey}
-use Rattle.rh_kcas.specs.Crews.{SitsAt, IsCut, IsFresh, IsQuiet, views_of}
-use Rattle.rh_rdcss.specs.declared.table.Table.{Table}
+use Rattle.rh_shared.specs.Crews.{SitsAt, IsCut, IsFresh, IsQuiet, views_of}
+use Rattle.rh_shared.specs.declared.table.Table.{Table}
 use Rattle.rh_rule.specs.Seats.{InView}
 use Rattle.rh_phase.specs.Hands.{AllStand, InPairs, IsHand, Past}
 use Rattle.rh_phase.specs.declared.crew.Crew.{Crew}

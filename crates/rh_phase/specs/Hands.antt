@@ -8,9 +8,9 @@ use Rattle.rh_world.specs.World.{In}
 use Rattle.rh_acts.specs.Act.{Act}
 use Rattle.rh_acts.specs.Done.{Kept}
 use Rattle.rh_acts.specs.Workers.{how_many}
-use Rattle.rh_descriptor.specs.declared.known.Known.{Known}
-use Rattle.rh_descriptor.specs.declared.shape.Shape.{Shape}
-use Rattle.rh_descriptor.specs.View.{View}
+use Rattle.rh_words.specs.declared.known.Known.{Known}
+use Rattle.rh_words.specs.declared.shape.Shape.{Shape}
+use Rattle.rh_words.specs.View.{View}
 use Rattle.rh_run.specs.Claimed.{FoundEnd, claimed}
 use Rattle.rh_run.specs.Run.{Progress, ProgressInvariant}
 use Rattle.rh_phase.specs.Buffer.{HasBufferRoom}

@@ -5,13 +5,13 @@ use Rattle.rh_layout.specs.declared.entry.Entry.{Entry}
 use Rattle.rh_ledger.specs.declared.tally.Kind.{Kind}
 use Rattle.rh_acts.specs.Act.{Act}
 use Rattle.rh_acts.specs.Done.{Does, IsTold, Kept}
-use Rattle.rh_descriptor.specs.declared.shape.Shape.{Shape}
-use Rattle.rh_descriptor.specs.View.{View}
+use Rattle.rh_words.specs.declared.shape.Shape.{Shape}
+use Rattle.rh_words.specs.View.{View}
 use Rattle.rh_run.specs.History.{kept_of, own_acts_of}
-use Rattle.rh_kcas.specs.Rests.{SeatRests}
-use Rattle.rh_rdcss.specs.Calls.{view_of}
-use Rattle.rh_rdcss.specs.declared.seat.Seat.{Seat}
-use Rattle.rh_rdcss.specs.declared.table.Table.{Table}
+use Rattle.rh_shared.specs.Rests.{SeatRests}
+use Rattle.rh_shared.specs.Seats.{view_of}
+use Rattle.rh_shared.specs.declared.seat.Seat.{Seat}
+use Rattle.rh_shared.specs.declared.table.Table.{Table}
 use Rattle.rh_run.specs.Laws.{furthered}
 use Rattle.rh_run.specs.Run.{Progress, ProgressInvariant}
 use Rattle.rh_worker.specs.Deciding.{IsPlan}

@@ -8,12 +8,12 @@ use Rattle.rh_ledger.specs.declared.tally.Kind.TheVariants.{Ask}
 use Rattle.rh_ledger.specs.Phase.{set_after, tally_of}
 use Rattle.rh_runner.specs.Cells.{AreTheCells}
 use Rattle.rh_ledger.specs.Tally.{tally_by}
-use Rattle.rh_descriptor.specs.declared.limits.TheConstants.{MAX_ROOM, MAX_WORKERS}
-use Rattle.rh_descriptor.specs.declared.shape.Rooms.{Rooms}
-use Rattle.rh_descriptor.specs.declared.shape.Shape.{Shape}
+use Rattle.rh_words.specs.declared.limits.TheConstants.{MAX_ROOM, MAX_WORKERS}
+use Rattle.rh_words.specs.declared.shape.Rooms.{Rooms}
+use Rattle.rh_words.specs.declared.shape.Shape.{Shape}
 use Rattle.rh_phase.specs.Buffer.{HasBufferRoom}
-use Rattle.rh_kcas.specs.Crews.{HasAll, IsQuiet, views_of}
-use Rattle.rh_rdcss.specs.declared.table.Table.{Table}
+use Rattle.rh_shared.specs.Crews.{HasAll, IsQuiet, views_of}
+use Rattle.rh_shared.specs.declared.table.Table.{Table}
 use Rattle.rh_rule.specs.Seats.{InView}
 use Rattle.rh_phase.specs.Crew.{IsCrew}
 use Rattle.rh_phase.specs.Hands.{IsFinished}

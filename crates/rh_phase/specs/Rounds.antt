@@ -2,11 +2,11 @@
 use Rattle.std.specs.Prelude.{ℕ, ◌+◌, ◌||◌, Bool, false, All, List, [], ◌∷◌, slice_index_or}
 use Rattle.rh_ledger.specs.declared.tally.Kind.{Kind}
 use Rattle.rh_acts.specs.Workers.{own}
-use Rattle.rh_descriptor.specs.declared.known.Known.{Known}
-use Rattle.rh_descriptor.specs.declared.shape.Shape.{Shape}
-use Rattle.rh_descriptor.specs.View.{View}
-use Rattle.rh_kcas.specs.Crews.{HasAll, IsQuiet, views_of}
-use Rattle.rh_rdcss.specs.declared.table.Table.{Table}
+use Rattle.rh_words.specs.declared.known.Known.{Known}
+use Rattle.rh_words.specs.declared.shape.Shape.{Shape}
+use Rattle.rh_words.specs.View.{View}
+use Rattle.rh_shared.specs.Crews.{HasAll, IsQuiet, views_of}
+use Rattle.rh_shared.specs.declared.table.Table.{Table}
 use Rattle.rh_rule.specs.Seats.{InView}
 use Rattle.rh_run.specs.Run.{Run, RunInvariant}
 use Rattle.rh_phase.specs.Crew.{IsCrew}

@@ -2,7 +2,7 @@
 
 ghost use Rattle.std.specs.Prelude.{◌≡◌, ◌+◌, ◌<◌, ◌++◌, IfErr, IfOk, OnErr, OnOk, length};
 ghost use Rattle.std.specs.Thread.{IsSync};
-ghost use Rattle.rh_kcas.specs.Crews.{SitsAt, IsJoined, IsQuiet, views_of};
+ghost use Rattle.rh_shared.specs.Crews.{SitsAt, IsJoined, IsQuiet, views_of};
 ghost use Rattle.rh_rule.specs.Seats.{InView};
 ghost use Rattle.rh_phase.specs.Crew.{AreHalves, CanWork, HaveWorked, OthersMayStart, RefusedBy};
 

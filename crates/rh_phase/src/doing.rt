@@ -3,12 +3,12 @@
 ghost use Rattle.std.specs.Prelude.{◌≡◌, ◌<◌, All, IfNone, IfSome, IsTrue, false, length, slice_index, true};
 ghost use Rattle.rh_layout.specs.Key.{IsKey};
 ghost use Rattle.rh_run.specs.History.{own_acts_of};
-ghost use Rattle.rh_kcas.specs.Rests.{SeatRests};
+ghost use Rattle.rh_shared.specs.Rests.{SeatRests};
 ghost use Rattle.rh_ledger.specs.declared.tally.Kind.{Kind};
 ghost use Rattle.rh_phase.specs.Buffer.{HasBufferRoom};
 ghost use Rattle.rh_phase.specs.Hands.{IsHand, Past, HandStands};
 ghost use Rattle.rh_phase.specs.Keys.{Furthers, IsTriedSo, KeySpec};
-ghost use Rattle.rh_rdcss.specs.Calls.{IsSame, view_of};
+ghost use Rattle.rh_shared.specs.Seats.{IsSame, view_of};
 ghost use Rattle.rh_worker.specs.Worker.{HasNoRoom};
 
 use crate::buffer::Buffer;

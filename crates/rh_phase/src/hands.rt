@@ -1,14 +1,14 @@
 //! The hands of all workers: as a phase begins, and what they say at its end.
 
 ghost use Rattle.std.specs.Prelude.{◌≡◌, ℕ, ◌-◌, ◌^◌, ◌<◌, ◌||◌, false, min, IfOk, length, slice_index_or};
-ghost use Rattle.rh_descriptor.specs.Parts.{IsShape};
+ghost use Rattle.rh_words.specs.Parts.{IsShape};
 ghost use Rattle.rh_phase.specs.Made.{AreNew, IsNew};
 ghost use Rattle.rh_phase.specs.Rounds.{all_changed, is_marked};
 
 use crate::buffer::Buffer;
 use crate::hand::Hand;
-use rh_descriptor::Shape;
 use rh_ledger::Kind;
+use rh_words::Shape;
 use std::alloc::{AllocError, Global};
 use std::collections::LinkedList;
 

@@ -1,7 +1,7 @@
 //! Rounds of work, until all keys of a list are done.
 
 ghost use Rattle.std.specs.Prelude.{◌<◌, ◌↔◌, All, IfErr, IfOk, IsTrue, OnErr, OnOk};
-ghost use Rattle.rh_kcas.specs.Crews.{HasAll};
+ghost use Rattle.rh_shared.specs.Crews.{HasAll};
 ghost use Rattle.rh_phase.specs.Crew.{AllMayStart, CanWork, RefusedBy};
 ghost use Rattle.rh_phase.specs.Hands.{IsFinished};
 ghost use Rattle.rh_phase.specs.Rounds.{HaveDone};

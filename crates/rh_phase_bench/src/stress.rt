@@ -5,12 +5,12 @@ ghost use Rattle.rh_layout.specs.Key.{IsBits};
 ghost use Rattle.rh_phase.specs.Made.{IsRooms, IsWorkers};
 
 use crate::random::Random;
-use rh_descriptor::Rooms;
 use rh_edit::SeqSet;
 use rh_layout::is_layout;
 use rh_ledger::Kind;
 use rh_phase::{AllStart, OpenGate, ask_with, change_with};
 use rh_runner::{Runner, Single};
+use rh_words::Rooms;
 use std::alloc::Global;
 use std::sync::Wait;
 use std::thread::Threads;

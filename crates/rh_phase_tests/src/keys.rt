@@ -1,14 +1,14 @@
 //! One key after the other at a table of one worker.
 
 ghost use Rattle.std.specs.Prelude.{◌≡◌, ◌<◌, ℕ, IsTrue, length, slice_index};
-ghost use Rattle.rh_kcas.specs.Rests.{SeatRests};
+ghost use Rattle.rh_shared.specs.Rests.{SeatRests};
 ghost use Rattle.rh_tagword.specs.Word.{IsValue};
 
-use rh_descriptor::{Rooms, Shape};
 use rh_kcas::{Seat, Table, make};
 use rh_layout::{Entry, MAX_KEY};
 use rh_ledger::Kind;
 use rh_phase::do_key;
+use rh_words::{Rooms, Shape};
 use std::sync::Wait;
 use std::test::Fail;
 

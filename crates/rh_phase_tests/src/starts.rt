@@ -1,10 +1,10 @@
 ghost use Rattle.std.specs.Prelude.{◌==◌, not};
 
-use rh_descriptor::Rooms;
 use rh_edit::SeqSet;
 use rh_layout::is_layout;
 use rh_ledger::{Kind, Tally};
 use rh_phase::{AllStart, OpenGate, PhaseFault, Starts, ask_with, change_with};
+use rh_words::Rooms;
 use std::test::Fail;
 
 // Room for one key of 3 bits, and no more.

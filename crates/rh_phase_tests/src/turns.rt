@@ -1,12 +1,12 @@
 //! When a gate is told: once of each key after it was claimed, before the first step for it, and with
 //! the number of keys that the worker has done.
 
-use rh_descriptor::Rooms;
 use rh_edit::SeqSet;
 use rh_kcas::{Seat, Table};
 use rh_layout::is_layout;
 use rh_ledger::Kind;
 use rh_phase::{AllStart, Gate, change, change_with};
+use rh_words::Rooms;
 use std::sync::atomic::{AtomicU64, Ordering};
 use std::test::Fail;
 

@@ -4,8 +4,8 @@ use Rattle.std.specs.Char.{is_ascii_digit}
 use Rattle.std.specs.Str.{bytes_eq}
 use Rattle.std.specs.Str.Parse.{digits_value}
 use Rattle.std.specs.List.{list_all}
-use Rattle.rh_descriptor.specs.declared.steps.StepKind.{StepKind}
-use Rattle.rh_descriptor.specs.declared.steps.StepKind.TheVariants as steps
+use Rattle.rh_words.specs.declared.steps.StepKind.{StepKind}
+use Rattle.rh_words.specs.declared.steps.StepKind.TheVariants as steps
 use Rattle.rh_ledger.specs.declared.tally.Kind.{Kind}
 use Rattle.rh_ledger.specs.declared.tally.Kind.TheVariants.{Insert, Remove, Ask}
 use Rattle.rh_play.specs.declared.fault.PlayTextFault.{PlayTextFault}

@@ -1,7 +1,7 @@
 -- The lines that a play prints. Numbers are decimal without leading zeros.
 use Rattle.std.specs.Prelude.{ℕ, Bool, true, false, List, [], ◌++◌, codes, decimal}
 use Rattle.rh_ledger.specs.declared.tally.Tally.{Tally}
-use Rattle.rh_descriptor.specs.declared.steps.StepKind.{StepKind}
+use Rattle.rh_words.specs.declared.steps.StepKind.{StepKind}
 use Rattle.rh_tagword.specs.declared.word.Word.{Word}
 use Rattle.rh_tagword.specs.declared.word.Word.TheVariants.{Empty, Key, Mark, Desc}
 use Rattle.rh_play.specs.declared.endings.Last.{Last}

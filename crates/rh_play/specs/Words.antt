@@ -1,7 +1,7 @@
 -- The words for what came of a turn, of a rest, and for the kinds of step.
 use Rattle.std.specs.Prelude.{ℕ, List, codes}
-use Rattle.rh_descriptor.specs.declared.steps.StepKind.{StepKind}
-use Rattle.rh_descriptor.specs.declared.steps.StepKind.TheVariants as kinds
+use Rattle.rh_words.specs.declared.steps.StepKind.{StepKind}
+use Rattle.rh_words.specs.declared.steps.StepKind.TheVariants as kinds
 use Rattle.rh_play.specs.declared.endings.Last.{Last}
 use Rattle.rh_play.specs.declared.endings.Last.TheVariants as lasts
 use Rattle.rh_play.specs.declared.endings.Rest.{Rest}

@@ -4,7 +4,7 @@ ghost use Rattle.std.specs.Prelude.{◌≡◌, Some};
 ghost use Rattle.rh_play.specs.Grammar.{step_of};
 ghost use Rattle.rh_play.specs.Words.{kind_word, last_word, rest_word};
 
-use rh_descriptor::StepKind;
+use rh_words::StepKind;
 
 /// What the last turn of a line came to.
 #[derive(Clone, Copy, Debug, PartialEq, Eq)]

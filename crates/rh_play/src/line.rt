@@ -13,9 +13,9 @@ use crate::limits::{MAX_BITS, MAX_ROOM, MAX_TURNS, MIN_BITS};
 use crate::numbers::{number, numbers, one_number, two_numbers};
 use crate::schedule::Order;
 use crate::verb::{Verb, kind_from_word, step_from_word};
-use rh_descriptor::StepKind;
 use rh_ledger::Kind;
 use rh_lines::{end_of_words, is_skipped, next_word, printable};
+use rh_words::StepKind;
 use std::alloc::Global;
 
 /// A line that is not skipped.

@@ -7,9 +7,9 @@ ghost use Rattle.rh_play.specs.Lines.{rest_line, round_line, tally_line, turn_li
 use crate::appending::push_texts;
 use crate::endings::{Last, Rest, kind_word};
 use itoa::Buffer;
-use rh_descriptor::StepKind;
 use rh_ledger::Tally;
 use rh_tagword::Word;
+use rh_words::StepKind;
 use std::alloc::AllocError;
 
 /// `turn W N LAST`: so many turns of this worker were asked for, and the last came to this.

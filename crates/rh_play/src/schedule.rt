@@ -1,6 +1,6 @@
 //! The schedule of a play.
 
-use rh_descriptor::StepKind;
+use rh_words::StepKind;
 
 /// A line of the schedule.
 #[derive(Clone, Copy, Debug, PartialEq, Eq)]

@@ -3,8 +3,8 @@
 ghost use Rattle.std.specs.Prelude.{◌≡◌};
 ghost use Rattle.rh_play.specs.Grammar.{kind_of, step_of, verb_of};
 
-use rh_descriptor::StepKind;
 use rh_ledger::Kind;
+use rh_words::StepKind;
 
 /// The lines without their words.
 #[derive(Clone, Copy)]

@@ -8,8 +8,8 @@ use Rattle.rh_layout.specs.declared.limits.TheConstants.{MAX_BITS}
 use Rattle.rh_layout.specs.Key.{IsBits}
 use Rattle.rh_layout.specs.Layout.{IsLayout, Layout, keys_of}
 use Rattle.rh_edit.proofs.SetLemmas.{keeps_empty, keys_of_empty}
-use Rattle.rh_descriptor.specs.declared.shape.Rooms.{Rooms}
-use Rattle.rh_descriptor.specs.declared.shape.Shape.{Shape}
+use Rattle.rh_words.specs.declared.shape.Rooms.{Rooms}
+use Rattle.rh_words.specs.declared.shape.Shape.{Shape}
 use Rattle.rh_turns.specs.Game.{Game}
 use Rattle.rh_stepper.specs.declared.fault.PlayFault.{PlayFault}
 use Rattle.rh_stepper.specs.declared.fault.PlayFault.TheVariants.{NoRoom}

@@ -1,6 +1,6 @@
 -- What is drawn of a play that was read and recorded.
 use Rattle.std.proofs.Common.{◌≡◌, ℕ, ◌<◌, List, Option, None, sym, ap, ◌∙◌, subst}
-use Rattle.rh_descriptor.specs.declared.shape.Shape.{Shape}
+use Rattle.rh_words.specs.declared.shape.Shape.{Shape}
 use Rattle.rh_svg.specs.Markup.{render}
 use Rattle.rh_draw.specs.Picture.{picture}
 use Rattle.rh_draw.specs.Records.{count_from}

@@ -1,7 +1,7 @@
 -- How a schedule goes on: each turn, pass and order before what is still to come.
 use Rattle.std.proofs.lemmas.List.{drop_all}
 use Rattle.std.proofs.Common.{suc, ◌≡◌, ℕ, ◌+◌, ◌||◌, Bool, true, false, List, [], ◌∷◌, ◌++◌, length, inl, inr, refl, sym, ap, ◌∙◌, subst, add-one, append_assoc, append-nil, Some, slice_index, get_or, drop, drop-cons, ◌<◌, ◌≤◌, ◌↔◌, IsTrue, IsFalse, Result, Ok, Err, OnOk, Vec, Global}
-use Rattle.rh_descriptor.specs.declared.steps.StepKind.{StepKind}
+use Rattle.rh_words.specs.declared.steps.StepKind.{StepKind}
 use Rattle.rh_tagword.specs.declared.word.Word.{Word}
 use Rattle.rh_tagword.specs.Word.{word_in}
 use Rattle.rh_turns.specs.declared.turning.Turn.{Turn}

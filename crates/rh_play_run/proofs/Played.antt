@@ -5,7 +5,7 @@ use Rattle.rh_layout.specs.Layout.{IsLayout, Keys, Layout, keys_of}
 use Rattle.rh_layout.proofs.LayoutLemmas.{layout_keys, layout_own}
 use Rattle.rh_ledger.specs.declared.tally.Kind.{Kind}
 use Rattle.rh_ledger.specs.Phase.{set_after, tally_of}
-use Rattle.rh_descriptor.specs.declared.shape.Shape.{Shape}
+use Rattle.rh_words.specs.declared.shape.Shape.{Shape}
 use Rattle.rh_turns.specs.Game.{AllFinished, Game}
 use Rattle.rh_stepper.specs.Made.{IsMadeSoFar, TallySpec, held_first}
 use Rattle.std.specs.Io.KnownBytes.{Appends}

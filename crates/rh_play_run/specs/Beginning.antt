@@ -3,8 +3,8 @@ use Rattle.std.specs.Prelude.{◌≡◌, ℕ, ◌^◌, ◌≤◌, not, nat_lt, i
 use Rattle.std.specs.FinSet as set
 use Rattle.rh_layout.specs.declared.limits.TheConstants.{MAX_BITS}
 use Rattle.rh_layout.specs.Layout.{Keys, Layout}
-use Rattle.rh_descriptor.specs.Parts.{usual_rooms}
-use Rattle.rh_descriptor.specs.declared.shape.Rooms.{Rooms}
+use Rattle.rh_words.specs.Parts.{usual_rooms}
+use Rattle.rh_words.specs.declared.shape.Rooms.{Rooms}
 use Rattle.rh_turns.specs.Game.{Game}
 use Rattle.rh_stepper.specs.declared.fault.PlayFault.{PlayFault}
 use Rattle.rh_stepper.specs.declared.fault.PlayFault.TheVariants.{BadKey, NoRoom}

@@ -1,8 +1,8 @@
 -- The picture that is drawn of a play.
 use Rattle.std.specs.Prelude.{◌≡◌, ℕ, ◌<◌, ◌≤◌, List, length, take, Option, Some, None, Result, Ok, Err}
 use Rattle.std.specs.Io.KnownBytes.{Appends}
-use Rattle.rh_descriptor.specs.declared.shape.Shape.{Shape}
-use Rattle.rh_descriptor.specs.Parts.{IsShape, cell_count}
+use Rattle.rh_words.specs.declared.shape.Shape.{Shape}
+use Rattle.rh_words.specs.Parts.{IsShape, cell_count}
 use Rattle.rh_turns.specs.Game.{Game}
 use Rattle.rh_svg.specs.Markup.{render}
 use Rattle.rh_draw.specs.Picture.{picture}

@@ -1,6 +1,6 @@
 -- What is told of a play, piece by piece.
 use Rattle.std.specs.Prelude.{◌≡◌, ℕ, ◌+◌, ◌-◌, ◌^◌, min, Bool, true, false, List, [], ◌∷◌, ◌++◌, Option, Some, None}
-use Rattle.rh_descriptor.specs.declared.steps.StepKind.{StepKind}
+use Rattle.rh_words.specs.declared.steps.StepKind.{StepKind}
 use Rattle.rh_recorder.specs.declared.recorder.Touched.{Touched}
 use Rattle.rh_turns.specs.declared.turning.Turn.{Turn}
 use Rattle.rh_turns.specs.declared.turning.Turn.TheVariants as turn

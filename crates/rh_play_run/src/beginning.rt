@@ -8,11 +8,11 @@ ghost use Rattle.rh_stepper.specs.Start.{IsRooms, MakesPlayer, are_keys};
 ghost use Rattle.rh_play_run.specs.Beginning.{BeginsPlay, IsRefusedStart, IsBlank, StartsOn};
 ghost use Rattle.rh_play_run.specs.Beginning.{held_fault, player_fault};
 
-use rh_descriptor::Rooms;
 use rh_edit::SeqSet;
 use rh_layout::MAX_BITS;
 use rh_play::{Play, Work};
 use rh_stepper::{PlayFault, Player, are_keys};
+use rh_words::Rooms;
 use std::alloc::{AllocError, Global};
 
 /// Empty cells for the table of any play. They are taken before the play is known, so that no fault of

@@ -19,10 +19,10 @@ use crate::orders::Size;
 use crate::reading::read_play;
 use crate::run::workers_of;
 use crate::schedule::follow;
-use rh_descriptor::Shape;
 use rh_draw::{MAX_STEPS, Record, Window, draw, steps_from};
 use rh_key_files::{Counted, write_texts};
 use rh_play::Play;
+use rh_words::Shape;
 use std::alloc::Global;
 use std::io::{Read, Write};
 

@@ -3,7 +3,7 @@
 ghost use Rattle.std.specs.Prelude.{◌≡◌, ◌++◌, IfOk, OnErr, OnOk, true};
 ghost use Rattle.rh_layout.specs.Layout.{IsLayout, Layout};
 ghost use Rattle.rh_ledger.specs.Phase.{set_after, tally_of};
-ghost use Rattle.rh_descriptor.specs.Parts.{cell_count};
+ghost use Rattle.rh_words.specs.Parts.{cell_count};
 ghost use Rattle.rh_turns.specs.Game.{AllFinished};
 ghost use Rattle.rh_stepper.specs.Made.{IsMadeSoFar, held_first};
 ghost use Rattle.rh_key_files.specs.Counting.{Rose, Writes, failures_of, inner_of};

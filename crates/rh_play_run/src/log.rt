@@ -4,11 +4,11 @@ ghost use Rattle.std.specs.Prelude.{◌≡◌, [], ◌∷◌, OnOk};
 ghost use Rattle.rh_play_run.specs.Pieces.{TellsPieces, round_pieces, turn_pieces};
 ghost use Rattle.rh_play_run.specs.Pieces.Piece.{step as step_piece};
 
-use rh_descriptor::StepKind;
 use rh_draw::Record;
 use rh_recorder::Touched;
 use rh_trace::{Traced, push_step};
 use rh_turns::Turn;
+use rh_words::StepKind;
 use std::alloc::{AllocError, Global};
 
 /// How much is told of a play.

@@ -1,7 +1,7 @@
 //! The orders of a schedule.
 
 ghost use Rattle.std.specs.Prelude.{◌≡◌, ◌++◌, List, OnOk};
-ghost use Rattle.rh_descriptor.specs.Parts.{cell_count};
+ghost use Rattle.rh_words.specs.Parts.{cell_count};
 ghost use Rattle.rh_play_run.specs.Pieces.{Piece, TellsPieces};
 ghost use Rattle.rh_play_run.specs.Schedule.{CarriesOut, HasSize, Rounds, shown};
 

@@ -5,10 +5,10 @@ ghost use Rattle.rh_play_run.specs.Pieces.{Piece, TellsPieces};
 ghost use Rattle.rh_play_run.specs.Schedule.{ATurn, Misses, Reaches, TurnsOf, TurnsUntil, last_of};
 
 use crate::log::Log;
-use rh_descriptor::StepKind;
 use rh_play::Last;
 use rh_stepper::Player;
 use rh_turns::Turn;
+use rh_words::StepKind;
 use std::alloc::AllocError;
 
 /// One turn of a worker, which is told.

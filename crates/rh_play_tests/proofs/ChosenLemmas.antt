@@ -2,10 +2,10 @@
 use Rattle.std.proofs.Common.{ℕ, inl, inr, [], ◌∷◌, refl}
 use Rattle.rh_world.specs.World.{Ref, Control, In}
 use Rattle.rh_world.specs.Facts.Fact.{decided, mismatch}
-use Rattle.rh_descriptor.specs.Steps.{MayGiveReason}
-use Rattle.rh_descriptor.specs.declared.shape.Part.TheVariants.{Reason}
-use Rattle.rh_descriptor.specs.declared.shape.Shape.{Shape}
-use Rattle.rh_descriptor.specs.declared.steps.Request.TheVariants.{Write}
+use Rattle.rh_words.specs.Steps.{MayGiveReason}
+use Rattle.rh_words.specs.declared.shape.Part.TheVariants.{Reason}
+use Rattle.rh_words.specs.declared.shape.Shape.{Shape}
+use Rattle.rh_words.specs.declared.steps.Request.TheVariants.{Write}
 use Rattle.rh_play_tests.specs.Chosen.{chosen}
 
 none_decided : (d r : Ref) (k : Control) → In (decided d k) (mismatch r 0 0 ∷ []) → ⊥

@@ -5,14 +5,14 @@ use Rattle.rh_world.specs.World.{Ref}
 use Rattle.rh_world.specs.Facts.{Fact}
 use Rattle.rh_world.specs.Facts.Fact.{known, size_is, target_is, old_is, desc_is, which_is, over, stale, found, may_promote, may_demote, mismatch}
 use Rattle.rh_world.specs.Sides.{new_side}
-use Rattle.rh_descriptor.specs.Parts.{mark_row}
-use Rattle.rh_descriptor.specs.View.{View, Written, new_view}
-use Rattle.rh_descriptor.specs.Words.{desc_number, ref_of}
-use Rattle.rh_descriptor.specs.declared.shape.Part.{Part}
-use Rattle.rh_descriptor.specs.declared.shape.Part.TheVariants as part
-use Rattle.rh_descriptor.specs.declared.shape.Shape.{Shape}
-use Rattle.rh_descriptor.specs.declared.steps.Request.{Request}
-use Rattle.rh_descriptor.specs.declared.steps.Request.TheVariants as request
+use Rattle.rh_words.specs.Parts.{mark_row}
+use Rattle.rh_words.specs.View.{View, Written, new_view}
+use Rattle.rh_words.specs.Words.{desc_number, ref_of}
+use Rattle.rh_words.specs.declared.shape.Part.{Part}
+use Rattle.rh_words.specs.declared.shape.Part.TheVariants as part
+use Rattle.rh_words.specs.declared.shape.Shape.{Shape}
+use Rattle.rh_words.specs.declared.steps.Request.{Request}
+use Rattle.rh_words.specs.declared.steps.Request.TheVariants as request
 
 -- an entry at which the first descriptor of a reason's owner failed
 abbrev pub write_facts : Part → List Fact

@@ -1,9 +1,9 @@
 ghost use Rattle.std.specs.Prelude.{◌≤◌};
 ghost use Rattle.rh_draw.specs.declared.limits.TheConstants.{MAX_STEPS};
 
-use rh_descriptor::{Part, Rooms, Shape, StepKind};
 use rh_draw::*;
 use rh_trace::{Touched, Traced};
+use rh_words::{Part, Rooms, Shape, StepKind};
 use std::alloc::{AllocError, Global};
 use std::test::*;
 

@@ -1,6 +1,6 @@
-use rh_descriptor::StepKind;
 use rh_ledger::Kind;
 use rh_play::*;
+use rh_words::StepKind;
 use std::alloc::{AllocFailed, Global};
 use std::test::*;
 

@@ -1,7 +1,7 @@
-use rh_descriptor::StepKind;
 use rh_ledger::Tally;
 use rh_play::*;
 use rh_tagword::Word;
+use rh_words::StepKind;
 use std::alloc::AllocError;
 use std::test::*;
 

@@ -1,8 +1,8 @@
-use rh_descriptor::{Rooms, StepKind};
 use rh_ledger::{Kind, Tally};
 use rh_stepper::*;
 use rh_tagword::Word;
 use rh_turns::Turn;
+use rh_words::{Rooms, StepKind};
 use std::test::*;
 
 const NO_KEYS: [u64; 8] = [0; 8];

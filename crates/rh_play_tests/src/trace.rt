@@ -1,5 +1,5 @@
-use rh_descriptor::{Part, StepKind};
 use rh_trace::*;
+use rh_words::{Part, StepKind};
 use std::test::*;
 
 fn touched(part: Part, found: u64, left: u64) -> Touched {

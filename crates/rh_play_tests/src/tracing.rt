@@ -3,21 +3,21 @@
 //! record. Where neither tells what a swap named that found something else, the word has to stay.
 
 ghost use Rattle.std.specs.Prelude.{◌≡◌, ◌<◌, IfSome, IsTrue, length};
-ghost use Rattle.rh_descriptor.specs.Parts.{IsPart, word_count};
-ghost use Rattle.rh_descriptor.specs.Steps.{IsFree};
-ghost use Rattle.rh_descriptor.specs.declared.steps.Request.TheVariants.{Write};
+ghost use Rattle.rh_words.specs.Parts.{IsPart, word_count};
+ghost use Rattle.rh_words.specs.Steps.{IsFree};
+ghost use Rattle.rh_words.specs.declared.steps.Request.TheVariants.{Write};
 ghost use Rattle.rh_play_tests.specs.Chosen.{chosen};
 ghost use Rattle.rh_play_tests.specs.declared.tracing.TheConstants.{SHAPE};
 
 use rh_descriptor::{
-    First, Known, Part, Piece, Reading, Ref, Request, Rooms, Shape, Side, StepKind, claim_key,
-    decide_desc, open_desc, place_mark, read_word, release_cell, settle_mark, write_word,
+    claim_key, decide_desc, open_desc, place_mark, read_word, release_cell, settle_mark, write_word,
 };
 use rh_ledger::Kind;
 use rh_recorder::Touched;
 use rh_stepper::*;
 use rh_tagword::{State, Word, pack, unpack, unpack_control};
 use rh_turns::Turn;
+use rh_words::{First, Known, Part, Piece, Reading, Ref, Request, Rooms, Shape, Side, StepKind};
 use std::test::*;
 
 const CELLS: usize = 8;

@@ -1,5 +1,5 @@
-use rh_descriptor::{Rooms, Shape};
 use rh_ledger::Kind;
+use rh_words::{Rooms, Shape};
 use rh_worker::*;
 use std::test::*;
 

@@ -12,9 +12,9 @@
 //! most one step of the protocol on words, and at each moment each key that is done shows in the set.
 #![tactic(auto)]
 
-pub use rh_descriptor::{Rooms, StepKind};
 pub use rh_ledger::{Kind, Tally};
 pub use rh_play::{Order, Play, PlayTextFault, PlayTextKind, parse_play};
 pub use rh_play_run::{DrawFault, PlayRunFault, Telling, draw_play, run_play, tell_play};
 pub use rh_stepper::{PlayFault, Player};
 pub use rh_turns::Turn;
+pub use rh_words::{Rooms, StepKind};

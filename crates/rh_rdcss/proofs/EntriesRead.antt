@@ -1,16 +1,16 @@
 -- The length of a descriptor and the words of an entry are read in its row, and then the entry is known.
 use Rattle.std.proofs.Common.{ℕ, ◌<◌, Some, refl, sym, subst, inl, inr, ap, ◌∙◌, arith}
 use Rattle.rh_world.specs.Facts.Fact.{size_is}
-use Rattle.rh_descriptor.specs.declared.shape.Shape.{Shape}
-use Rattle.rh_descriptor.specs.declared.reference.Piece.{Piece}
-use Rattle.rh_descriptor.specs.declared.reference.Ref.{Ref as Reference}
-use Rattle.rh_descriptor.specs.declared.reference.Reading.TheVariants as reading
-use Rattle.rh_descriptor.specs.Parts.{cell_count}
-use Rattle.rh_descriptor.specs.View.{View}
-use Rattle.rh_descriptor.specs.View.RowWord.{cell_word, length_word, old_word}
-use Rattle.rh_descriptor.specs.Words.{ref_of}
-use Rattle.rh_descriptor.specs.Steps.{Allowed, noted}
-use Rattle.rh_descriptor.specs.Steps.Step.{reads}
+use Rattle.rh_words.specs.declared.shape.Shape.{Shape}
+use Rattle.rh_words.specs.declared.reference.Piece.{Piece}
+use Rattle.rh_words.specs.declared.reference.Ref.{Ref as Reference}
+use Rattle.rh_words.specs.declared.reference.Reading.TheVariants as reading
+use Rattle.rh_words.specs.Parts.{cell_count}
+use Rattle.rh_words.specs.View.{View}
+use Rattle.rh_words.specs.View.RowWord.{cell_word, length_word, old_word}
+use Rattle.rh_words.specs.Words.{ref_of}
+use Rattle.rh_words.specs.Steps.{Allowed, noted}
+use Rattle.rh_words.specs.Steps.Step.{reads}
 use Rattle.rh_helping.specs.Goal.{HasReadRow}
 use Rattle.rh_helping.specs.Settling.{Grows}
 use Rattle.rh_helping.proofs.Growing.{seen_sub}

@@ -9,8 +9,8 @@ use Rattle.rh_world.specs.World.Control.{failed, succeeded, undecided, unused, w
 use Rattle.rh_world.specs.Sides.{Side}
 use Rattle.rh_world.specs.Moves.{HasSeen, cell_noted, control_noted}
 use Rattle.rh_world.proofs.Tests.{by_cond}
-use Rattle.rh_descriptor.specs.Steps.{control_read, stale_noted, is_known}
-use Rattle.rh_descriptor.specs.Words.{control_of, read_control, serial_in}
+use Rattle.rh_words.specs.Steps.{control_read, stale_noted, is_known}
+use Rattle.rh_words.specs.Words.{control_of, read_control, serial_in}
 use Rattle.rh_rdcss.specs.Calls.{Meets, SeenAs, status_said}
 
 pub meets : (s : Side) (c : ℕ) (k : Cell) (current : Option ℕ) (acts next : ℕ) → Meets c k (cell_noted s c k current acts next).facts

@@ -5,15 +5,15 @@ use Rattle.rh_world.specs.Facts.Fact.{desc_is, found, mismatch, which_is}
 use Rattle.rh_world.specs.Sides.{Side, note_side}
 use Rattle.rh_world.specs.Moves.{place_noted, placed_noted}
 use Rattle.rh_world.proofs.Updated.{ref_path}
-use Rattle.rh_descriptor.specs.declared.shape.Shape.{Shape}
-use Rattle.rh_descriptor.specs.declared.shape.Part.TheVariants as part
-use Rattle.rh_descriptor.specs.declared.reference.Piece.{Piece}
-use Rattle.rh_descriptor.specs.Parts.{mark_row}
-use Rattle.rh_descriptor.specs.View.{View}
-use Rattle.rh_descriptor.specs.Words.{IsPlain, cell_in, desc_number, ref_of}
-use Rattle.rh_descriptor.specs.Steps.{Allowed, noted, own_mark}
-use Rattle.rh_descriptor.specs.Steps.Step.{places, writes}
-use Rattle.rh_descriptor.specs.declared.reference.Ref.{Ref as Reference}
+use Rattle.rh_words.specs.declared.shape.Shape.{Shape}
+use Rattle.rh_words.specs.declared.shape.Part.TheVariants as part
+use Rattle.rh_words.specs.declared.reference.Piece.{Piece}
+use Rattle.rh_words.specs.Parts.{mark_row}
+use Rattle.rh_words.specs.View.{View}
+use Rattle.rh_words.specs.Words.{IsPlain, cell_in, desc_number, ref_of}
+use Rattle.rh_words.specs.Steps.{Allowed, noted, own_mark}
+use Rattle.rh_words.specs.Steps.Step.{places, writes}
+use Rattle.rh_words.specs.declared.reference.Ref.{Ref as Reference}
 use Rattle.rh_rule.proofs.Said.{plain_said}
 use Rattle.rh_helping.proofs.Knowing.{allowed}
 use Rattle.rh_helping.proofs.Marking.{newest_word, older_word, other_word}

@@ -11,16 +11,16 @@ use Rattle.rh_world.specs.Sides.{Side, is_number}
 use Rattle.rh_world.specs.Moves.{control_noted, mark_noted, settle_noted}
 use Rattle.rh_world.proofs.Tests.{by_cond}
 use Rattle.rh_world.proofs.Updated.{some_injective, some_not_none}
-use Rattle.rh_descriptor.specs.declared.shape.Shape.{Shape}
-use Rattle.rh_descriptor.specs.declared.reference.Piece.{Piece}
-use Rattle.rh_descriptor.specs.declared.reference.Ref.{Ref as Reference}
-use Rattle.rh_descriptor.specs.declared.reference.Reading.TheVariants as reading
-use Rattle.rh_descriptor.specs.View.{View}
-use Rattle.rh_descriptor.specs.View.MarkWord.{desc_word, entry_word}
-use Rattle.rh_descriptor.specs.View.RowWord.{old_word}
-use Rattle.rh_descriptor.specs.Words.{control_of, control_said, desc_in, mark_number, read_control, ref_of, serial_in}
-use Rattle.rh_descriptor.specs.Steps.{Allowed, is_none, mark_control_read, noted, settle_view}
-use Rattle.rh_descriptor.specs.Steps.Step.{reads, settles}
+use Rattle.rh_words.specs.declared.shape.Shape.{Shape}
+use Rattle.rh_words.specs.declared.reference.Piece.{Piece}
+use Rattle.rh_words.specs.declared.reference.Ref.{Ref as Reference}
+use Rattle.rh_words.specs.declared.reference.Reading.TheVariants as reading
+use Rattle.rh_words.specs.View.{View}
+use Rattle.rh_words.specs.View.MarkWord.{desc_word, entry_word}
+use Rattle.rh_words.specs.View.RowWord.{old_word}
+use Rattle.rh_words.specs.Words.{control_of, control_said, desc_in, mark_number, read_control, ref_of, serial_in}
+use Rattle.rh_words.specs.Steps.{Allowed, is_none, mark_control_read, noted, settle_view}
+use Rattle.rh_words.specs.Steps.Step.{reads, settles}
 use Rattle.rh_helping.specs.Goal.{HasReadRow}
 use Rattle.rh_helping.specs.CellContent.{state_said}
 use Rattle.rh_helping.specs.Settling.{HasReadMark, IsFound, Keeps}
@@ -28,7 +28,7 @@ use Rattle.rh_helping.proofs.Controls.{MarkedAs, saw_mark_control}
 use Rattle.rh_helping.proofs.Marks.{found_keeps, may_read_entry, may_read_old, may_read_row, may_read_serial, may_settle, serial_tells}
 use Rattle.rh_helping.proofs.Rows.{grows_read, serial_grows, serial_tells as row_tells_so}
 use Rattle.rh_steps.specs.Relies.{Knows}
-use Rattle.rh_rdcss.specs.declared.seat.OwnMark.{OwnMark}
+use Rattle.rh_shared.specs.declared.seat.OwnMark.{OwnMark}
 use Rattle.rh_rdcss.specs.Calls.{Learned}
 use Rattle.rh_rdcss.specs.Settling.{ByControl, ByOld, IsOwnUnsettled, Judged, Named, ReadsOld, ReadsRow, SettlesOwn, old_of, own_target}
 use Rattle.rh_rdcss.specs.declared.settling.Target.{Target}

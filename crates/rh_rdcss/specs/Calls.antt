@@ -8,34 +8,18 @@ use Rattle.rh_world.specs.World.Control.{unused}
 use Rattle.rh_world.specs.Facts.{Fact}
 use Rattle.rh_world.specs.Facts.Fact.{found, met}
 use Rattle.rh_world.specs.Moves.{HasSeen}
-use Rattle.rh_descriptor.specs.declared.shape.Shape.{Shape}
-use Rattle.rh_descriptor.specs.declared.reference.Reading.TheVariants as reading
-use Rattle.rh_descriptor.specs.declared.reference.Ref.{Ref as Reference}
-use Rattle.rh_descriptor.specs.View.{View}
-use Rattle.rh_descriptor.specs.Words.{control_of, serial_in}
-use Rattle.rh_descriptor.specs.Steps.{Step, noted}
-use Rattle.rh_descriptor.specs.Steps.Step.{reads}
+use Rattle.rh_words.specs.declared.shape.Shape.{Shape}
+use Rattle.rh_words.specs.declared.reference.Reading.TheVariants as reading
+use Rattle.rh_words.specs.declared.reference.Ref.{Ref as Reference}
+use Rattle.rh_words.specs.View.{View}
+use Rattle.rh_words.specs.Words.{control_of, serial_in}
+use Rattle.rh_words.specs.Steps.{Step, noted}
+use Rattle.rh_words.specs.Steps.Step.{reads}
 use Rattle.rh_rule.specs.Sound.{Finds}
 use Rattle.rh_steps.specs.Relies.{Knows}
 use Rattle.rh_helping.specs.CellContent.{state_said}
-use Rattle.rh_rdcss.specs.declared.seat.Seat.{Seat}
-use Rattle.rh_rdcss.specs.declared.table.Table.{Table}
-
--- what is kept of the seat's worker
-abbrev pub view_of : Seat → View
-view_of s = s.side.known.view
-
--- the seat is one worker's, at this table
-pub record IsHere (t : Table) (s : Seat) : Type 0 where
-  pub own : s.inner.table_id ≡ t.inner.shared.table_id
-  pub alone : s.count ≡ 1
-
--- it is the same seat at the same table, of the same workers
-pub record IsSame (s then : Seat) : Type 0 where
-  pub table : then.inner.table_id ≡ s.inner.table_id
-  pub id : then.inner.id ≡ s.inner.id
-  pub worker : then.side.worker ≡ s.side.worker
-  pub count : then.count ≡ s.count
+use Rattle.rh_shared.specs.declared.seat.Seat.{Seat}
+use Rattle.rh_shared.specs.declared.table.Table.{Table}
 
 -- the worker made just this step: it found this word, and noted it
 pub record Learned (z : Shape) (s : Step) (v : View) (word : ℕ) (next : View) : Type 0 where

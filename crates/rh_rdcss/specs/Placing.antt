@@ -4,20 +4,21 @@ use Rattle.std.specs.Prelude.{◌≡◌, ◌≢◌, ℕ, ◌<◌, ◌≤◌, ◌
 use Rattle.rh_world.specs.World.{In}
 use Rattle.rh_world.specs.Facts.Fact.{desc_is, found, old_is, target_is, which_is}
 use Rattle.rh_world.specs.Moves.{HasSeen, MayWork}
-use Rattle.rh_descriptor.specs.declared.shape.Shape.{Shape}
-use Rattle.rh_descriptor.specs.declared.shape.Part.TheVariants as part
-use Rattle.rh_descriptor.specs.declared.reference.Piece.{Piece}
-use Rattle.rh_descriptor.specs.declared.reference.Reading.TheVariants as reading
-use Rattle.rh_descriptor.specs.declared.reference.Ref.{Ref as Reference}
-use Rattle.rh_descriptor.specs.View.{View}
-use Rattle.rh_descriptor.specs.Words.{desc_number, ref_of}
-use Rattle.rh_descriptor.specs.Steps.{IsDesc, noted}
-use Rattle.rh_descriptor.specs.Steps.Step.{places, reads, writes}
+use Rattle.rh_words.specs.declared.shape.Shape.{Shape}
+use Rattle.rh_words.specs.declared.shape.Part.TheVariants as part
+use Rattle.rh_words.specs.declared.reference.Piece.{Piece}
+use Rattle.rh_words.specs.declared.reference.Reading.TheVariants as reading
+use Rattle.rh_words.specs.declared.reference.Ref.{Ref as Reference}
+use Rattle.rh_words.specs.View.{View}
+use Rattle.rh_words.specs.Words.{desc_number, ref_of}
+use Rattle.rh_words.specs.Steps.{IsDesc, noted}
+use Rattle.rh_words.specs.Steps.Step.{places, reads, writes}
 use Rattle.rh_rdcss.specs.declared.calls.Placed.{Placed}
 use Rattle.rh_rdcss.specs.declared.calls.Placed.TheVariants as placed
-use Rattle.rh_rdcss.specs.declared.seat.OwnMark.{OwnMark}
-use Rattle.rh_rdcss.specs.declared.seat.Seat.{Seat}
-use Rattle.rh_rdcss.specs.Calls.{Learned, view_of}
+use Rattle.rh_shared.specs.declared.seat.OwnMark.{OwnMark}
+use Rattle.rh_shared.specs.declared.seat.Seat.{Seat}
+use Rattle.rh_shared.specs.Seats.{view_of}
+use Rattle.rh_rdcss.specs.Calls.{Learned}
 
 -- the worker opened the descriptor or read its control as not unused, and no own mark is unsettled
 pub record MayPlace (z : Shape) (v : View) (d : Reference) : Type 0 where

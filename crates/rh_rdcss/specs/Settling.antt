@@ -3,15 +3,15 @@
 use Rattle.std.specs.Prelude.{◌≡◌, ◌≢◌, ℕ, ◌⊎◌, Option, None, Some}
 use Rattle.rh_world.specs.World.{Control}
 use Rattle.rh_world.specs.World.Control.{failed, succeeded, undecided, unused, withdrawn}
-use Rattle.rh_descriptor.specs.declared.shape.Shape.{Shape}
-use Rattle.rh_descriptor.specs.declared.reference.Piece.{Piece}
-use Rattle.rh_descriptor.specs.declared.reference.Reading.TheVariants as reading
-use Rattle.rh_descriptor.specs.declared.reference.Ref.{Ref as Reference}
-use Rattle.rh_descriptor.specs.View.{View}
-use Rattle.rh_descriptor.specs.Words.{desc_in, ref_of}
-use Rattle.rh_descriptor.specs.Steps.Step.{reads, settles}
+use Rattle.rh_words.specs.declared.shape.Shape.{Shape}
+use Rattle.rh_words.specs.declared.reference.Piece.{Piece}
+use Rattle.rh_words.specs.declared.reference.Reading.TheVariants as reading
+use Rattle.rh_words.specs.declared.reference.Ref.{Ref as Reference}
+use Rattle.rh_words.specs.View.{View}
+use Rattle.rh_words.specs.Words.{desc_in, ref_of}
+use Rattle.rh_words.specs.Steps.Step.{reads, settles}
 use Rattle.rh_helping.specs.CellContent.{state_said}
-use Rattle.rh_rdcss.specs.declared.seat.OwnMark.{OwnMark}
+use Rattle.rh_shared.specs.declared.seat.OwnMark.{OwnMark}
 use Rattle.rh_rdcss.specs.declared.settling.Target.{Target}
 use Rattle.rh_rdcss.specs.declared.settling.Target.TheVariants.{Descriptor, Old}
 use Rattle.rh_rdcss.specs.Calls.{Learned}

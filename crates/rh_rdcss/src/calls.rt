@@ -3,12 +3,13 @@
 ghost use Rattle.std.specs.Prelude.{◌≡◌, ◌<◌, None};
 ghost use Rattle.rh_world.specs.World.{In};
 ghost use Rattle.rh_world.specs.Facts.Fact.{found};
-ghost use Rattle.rh_descriptor.specs.Parts.{cell_count};
-ghost use Rattle.rh_descriptor.specs.Steps.{IsDesc};
-ghost use Rattle.rh_descriptor.specs.Steps.Step.{reads};
-ghost use Rattle.rh_descriptor.specs.Words.{cell_in, ref_of};
+ghost use Rattle.rh_words.specs.Parts.{cell_count};
+ghost use Rattle.rh_words.specs.Steps.{IsDesc};
+ghost use Rattle.rh_words.specs.Steps.Step.{reads};
+ghost use Rattle.rh_words.specs.Words.{cell_in, ref_of};
 ghost use Rattle.rh_steps.specs.Relies.{Knows};
-ghost use Rattle.rh_rdcss.specs.Calls.{HasStatus, IsHere, IsSame, Learned, Meets, SeenAs, view_of};
+ghost use Rattle.rh_shared.specs.Seats.{IsHere, IsSame, view_of};
+ghost use Rattle.rh_rdcss.specs.Calls.{HasStatus, Learned, Meets, SeenAs};
 ghost use Rattle.rh_rdcss.specs.Placing.{IsMine, MayPlace, Places};
 ghost use Rattle.rh_rdcss.specs.Settling.{IsOwnUnsettled, Recalls, SettlesMark};
 ghost use Rattle.rh_rdcss.specs.declared.calls.Placed.TheVariants.{Mine};
@@ -16,11 +17,10 @@ ghost use Rattle.rh_rdcss.specs.declared.calls.Placed.TheVariants.{Mine};
 use crate::making::make;
 use crate::placing::{place_there, read_entry, read_length};
 use crate::reading::status_told;
-use crate::seat::Seat;
 use crate::settling::{settle_met, settle_own};
-use crate::table::Table;
-use rh_descriptor::{Reading, Ref, Request};
+use rh_shared::{Seat, Table};
 use rh_tagword::State;
+use rh_words::{Reading, Ref, Request};
 
 /// What became of a mark that was to be placed.
 #[derive(Clone, Copy, Debug, PartialEq, Eq)]

@@ -1,8 +1,8 @@
 //! Restricted double-compare single-swap (Harris, Fraser, Pratt 2002) on a table that threads
-//! share. It has the table as a carrier of a worker's steps, and the calls by which one worker
-//! reads a cell or a control, places a mark, and settles one.
+//! share: the calls by which one worker reads a cell or a control, places a mark, and settles one.
 //!
-//! `rh_kcas` stands on it. What is promised holds whatever other threads do meanwhile.
+//! A public crate, beside `rh_kcas`, whose swaps take these steps by machines of their own. What is
+//! promised holds whatever other threads do meanwhile.
 //!
 //! ```text
 //! let Some(State::Undecided) = status(&table, &mut seat, desc) else { return Ok(()) };
@@ -16,9 +16,6 @@
 //!
 //! Proved:
 //!
-//! - `make` and `own_word` of a worker's seat at the table: just the step that is asked for, as one
-//!   atomic step, with what may be relied on then. The word of an own row is answered as it was
-//!   written.
 //! - `peek_cell`, `status`: one read of a cell, or of how far a descriptor is, and what the worker
 //!   knows by it. `status` answers no state just where the control was of a later descriptor of
 //!   that worker, and `Unused` where it was of an earlier one.
@@ -39,15 +36,9 @@
 
 mod calls;
 mod making;
-mod on_table;
 mod placing;
 mod reading;
-mod seat;
 mod settling;
-mod steps;
-mod table;
 
 pub use calls::{Placed, peek_cell, place, settle, status};
-pub use on_table::OnTable;
-pub use seat::{OwnMark, Seat, unused_side};
-pub use table::{Inner, Table};
+pub use rh_shared::{OwnMark, Seat, Table};

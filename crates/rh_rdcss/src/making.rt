@@ -1,15 +1,14 @@
 //! A step by the seat of one worker.
 
-ghost use Rattle.rh_descriptor.specs.Requests.{step_asked};
-ghost use Rattle.rh_descriptor.specs.Steps.{Allowed};
+ghost use Rattle.rh_words.specs.Requests.{step_asked};
+ghost use Rattle.rh_words.specs.Steps.{Allowed};
 ghost use Rattle.rh_steps.specs.Relies.{Knows};
-ghost use Rattle.rh_rdcss.specs.Calls.{IsHere, IsSame, Learned, view_of};
+ghost use Rattle.rh_shared.specs.Seats.{IsHere, IsSame, view_of};
+ghost use Rattle.rh_rdcss.specs.Calls.{Learned};
 
-use crate::on_table::OnTable;
-use crate::seat::Seat;
-use crate::table::Table;
-use rh_descriptor::Request;
+use rh_shared::{OnTable, Seat, Table};
 use rh_steps::Steps;
+use rh_words::Request;
 
 /// Makes the step, and answers the word that it found.
 #[inline(always)]

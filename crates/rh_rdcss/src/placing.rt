@@ -2,15 +2,14 @@
 
 ghost use Rattle.std.specs.Prelude.{◌≡◌, ◌<◌};
 ghost use Rattle.rh_steps.specs.Relies.{Knows};
-ghost use Rattle.rh_rdcss.specs.Calls.{IsHere, IsSame, view_of};
+ghost use Rattle.rh_shared.specs.Seats.{IsHere, IsSame, view_of};
 ghost use Rattle.rh_rdcss.specs.Placing.{EntrySays, HasEntry, IsMine, KnowsPiece, LengthSays, MayPlace, Tried, TriedSo};
 ghost use Rattle.rh_rdcss.specs.declared.calls.Placed.TheVariants.{Mine};
 
 use crate::calls::Placed;
 use crate::making::make;
-use crate::seat::{OwnMark, Seat};
-use crate::table::Table;
-use rh_descriptor::{Part, Piece, Reading, Ref, Request, desc_word};
+use rh_shared::{OwnMark, Seat, Table};
+use rh_words::{Part, Piece, Reading, Ref, Request, desc_word};
 
 /// Reads in the row of a descriptor how many entries it has, and then whether the row is still of it: if
 /// not, what was read says nothing of it.

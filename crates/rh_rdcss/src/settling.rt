@@ -3,9 +3,9 @@
 ghost use Rattle.std.specs.Prelude.{◌≡◌, None};
 ghost use Rattle.rh_world.specs.World.{In};
 ghost use Rattle.rh_world.specs.Facts.Fact.{found};
-ghost use Rattle.rh_descriptor.specs.Words.{ref_of};
+ghost use Rattle.rh_words.specs.Words.{ref_of};
 ghost use Rattle.rh_steps.specs.Relies.{Knows};
-ghost use Rattle.rh_rdcss.specs.Calls.{IsHere, IsSame, view_of};
+ghost use Rattle.rh_shared.specs.Seats.{IsHere, IsSame, view_of};
 ghost use Rattle.rh_rdcss.specs.Placing.{NotesMark};
 ghost use Rattle.rh_rdcss.specs.Settling.{IsOwnUnsettled, Judged, RowSays, SettlesMet, SettlesOwn, old_of, own_target};
 ghost use Rattle.rh_rule.specs.Sound.{IsControlWord};
@@ -13,11 +13,10 @@ ghost use Rattle.rh_helping.specs.CellContent.{state_said};
 ghost use Rattle.rh_helping.specs.Settling.{IsFound};
 
 use crate::making::make;
-use crate::seat::{OwnMark, Seat};
-use crate::table::Table;
-use rh_descriptor::{Piece, Reading, Ref, Request};
 use rh_helping::{named_desc, state_told};
+use rh_shared::{OwnMark, Seat, Table};
 use rh_tagword::State;
+use rh_words::{Piece, Reading, Ref, Request};
 
 /// What a mark is settled to.
 #[derive(Clone, Copy, Debug, PartialEq, Eq)]

@@ -1,9 +1,9 @@
 -- A step that is recorded.
 use Rattle.std.specs.Prelude.{◌≡◌, ℕ, Option, Some, List, slice_index}
-use Rattle.rh_descriptor.specs.declared.shape.Shape.{Shape}
-use Rattle.rh_descriptor.specs.Parts.{IsPart, index_of}
-use Rattle.rh_descriptor.specs.View.{View}
-use Rattle.rh_descriptor.specs.Steps.{Step, StepsTo, index}
+use Rattle.rh_words.specs.declared.shape.Shape.{Shape}
+use Rattle.rh_words.specs.Parts.{IsPart, index_of}
+use Rattle.rh_words.specs.View.{View}
+use Rattle.rh_words.specs.Steps.{Step, StepsTo, index}
 use Rattle.rh_recorder.specs.declared.recorder.Touched.{Touched}
 
 -- The step touched this part, which it found so, and left so.

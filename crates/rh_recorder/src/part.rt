@@ -1,10 +1,10 @@
 //! Which part of a table a word is.
 
 ghost use Rattle.std.specs.Prelude.{◌≡◌, ◌+◌, ◌<◌};
-ghost use Rattle.rh_descriptor.specs.Parts.{IsPart, IsShape, cell_count, entry_row, index_of};
-ghost use Rattle.rh_descriptor.specs.Parts.{mark_row, row_count, row_index, word_count};
+ghost use Rattle.rh_words.specs.Parts.{IsPart, IsShape, cell_count, entry_row, index_of};
+ghost use Rattle.rh_words.specs.Parts.{mark_row, row_count, row_index, word_count};
 
-use rh_descriptor::{Part, Shape};
+use rh_words::{Part, Shape};
 
 /// The part that stands at this word of the table.
 pub fn part_at(shape: &Shape, index: usize) -> Part

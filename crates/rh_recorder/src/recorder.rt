@@ -3,8 +3,8 @@
 ghost use Rattle.std.specs.Prelude.{◌≡◌};
 
 use crate::part::part_at;
-use rh_descriptor::{Part, Request, Shape, Side};
 use rh_steps::Steps;
+use rh_words::{Part, Request, Shape, Side};
 
 /// What a step touched: one word, which it found so and left so.
 #[derive(Clone, Copy)]

@@ -16,13 +16,13 @@ use Rattle.rh_world.proofs.StepLaws.{each_step_keeps}
 use Rattle.rh_world.proofs.StepsLater.{steps_later}
 use Rattle.rh_world.proofs.Tests.{by_cond, is_desc_yes, is_number_yes}
 use Rattle.rh_world.proofs.Updated.{ref_path, same_nat, some_injective, updated_at}
-use Rattle.rh_descriptor.specs.declared.shape.Shape.{Shape}
-use Rattle.rh_descriptor.specs.declared.shape.Part.{Part}
-use Rattle.rh_descriptor.specs.declared.shape.Part.TheVariants as part
-use Rattle.rh_descriptor.specs.Parts.{IsShape, cell_count}
-use Rattle.rh_descriptor.specs.View.{OwnDesc, View}
-use Rattle.rh_descriptor.specs.Words.{IsPlain, cell_in, desc_number, mark_number, without_entry}
-use Rattle.rh_descriptor.specs.Steps.{CanRelease, CanSettle, IsReleased, KnowsValue, MaySettle, Step, is_none, noted, release_view, settle_view, settled_word, size_in, swapped}
+use Rattle.rh_words.specs.declared.shape.Shape.{Shape}
+use Rattle.rh_words.specs.declared.shape.Part.{Part}
+use Rattle.rh_words.specs.declared.shape.Part.TheVariants as part
+use Rattle.rh_words.specs.Parts.{IsShape, cell_count}
+use Rattle.rh_words.specs.View.{OwnDesc, View}
+use Rattle.rh_words.specs.Words.{IsPlain, cell_in, desc_number, mark_number, without_entry}
+use Rattle.rh_words.specs.Steps.{CanRelease, CanSettle, IsReleased, KnowsValue, MaySettle, Step, is_none, noted, release_view, settle_view, settled_word, size_in, swapped}
 use Rattle.rh_rule.specs.Erased.{erased}
 use Rattle.rh_rule.specs.Represents.{Cells, IsCell, Kept, cell_number, numbers_of, Represents}
 use Rattle.rh_rule.specs.Core.{Core}

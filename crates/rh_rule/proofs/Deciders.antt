@@ -5,10 +5,10 @@ use Rattle.rh_world.specs.World.{Control, IsDecided}
 use Rattle.rh_world.specs.World.Control.{failed, succeeded, undecided, unused, withdrawn}
 use Rattle.rh_world.specs.Logical.{entry_value}
 use Rattle.rh_world.specs.Acts.{is_success}
-use Rattle.rh_descriptor.specs.declared.shape.Shape.{Shape}
-use Rattle.rh_descriptor.specs.View.{View}
-use Rattle.rh_descriptor.specs.Words.{control_word_of, state_of, with_entry, without_entry}
-use Rattle.rh_descriptor.specs.Steps.{IsResult}
+use Rattle.rh_words.specs.declared.shape.Shape.{Shape}
+use Rattle.rh_words.specs.View.{View}
+use Rattle.rh_words.specs.Words.{control_word_of, state_of, with_entry, without_entry}
+use Rattle.rh_words.specs.Steps.{IsResult}
 
 pub told_decided : (k : Control) → IsDecided k → IsDecided (without_entry k)
 told_decided unused h = h

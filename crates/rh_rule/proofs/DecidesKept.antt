@@ -11,14 +11,14 @@ use Rattle.rh_world.specs.Moves.{IsAllowed, MayDecide, control_noted, decided_wo
 use Rattle.rh_world.specs.Moves.Move.{decides}
 use Rattle.rh_world.proofs.Tests.{eqb_not, eqb_yes}
 use Rattle.rh_world.proofs.Updated.{ref_path, updated_ref_at, updated_ref_here}
-use Rattle.rh_descriptor.specs.declared.shape.Shape.{Shape}
-use Rattle.rh_descriptor.specs.declared.shape.Part.{Part}
-use Rattle.rh_descriptor.specs.declared.shape.Part.TheVariants as part
-use Rattle.rh_descriptor.specs.declared.reference.Reading.TheVariants as reading
-use Rattle.rh_descriptor.specs.Parts.{IsShape, reason_row, index_of}
-use Rattle.rh_descriptor.specs.View.{View}
-use Rattle.rh_descriptor.specs.Words.{control_word_of, read_control, serial_in, with_entry, without_entry}
-use Rattle.rh_descriptor.specs.Steps.{CanDecide, IsResult, control_read, control_seen, decided_so, row_word, swapped}
+use Rattle.rh_words.specs.declared.shape.Shape.{Shape}
+use Rattle.rh_words.specs.declared.shape.Part.{Part}
+use Rattle.rh_words.specs.declared.shape.Part.TheVariants as part
+use Rattle.rh_words.specs.declared.reference.Reading.TheVariants as reading
+use Rattle.rh_words.specs.Parts.{IsShape, reason_row, index_of}
+use Rattle.rh_words.specs.View.{View}
+use Rattle.rh_words.specs.Words.{control_word_of, read_control, serial_in, with_entry, without_entry}
+use Rattle.rh_words.specs.Steps.{CanDecide, IsResult, control_read, control_seen, decided_so, row_word, swapped}
 use Rattle.rh_rule.specs.Erased.{erased}
 use Rattle.rh_rule.specs.Represents.{Controls, Kept, Represents, word_at}
 use Rattle.rh_rule.specs.Core.{Core}
@@ -259,7 +259,7 @@ module _ (z : Shape) (shape : IsShape z) (words : List ℕ) (keep : ℕ → View
 
     decides_now : After num
     decides_now = subst (λ (b : Bool). Core (world_after w who (decides d set_to)) z then
-        (updated keep who (record k { side = cond b x (cond (Rattle.rh_descriptor.specs.Steps.is_known k.side.facts d) (Rattle.rh_descriptor.specs.Steps.stale_noted k.side d) k.side); control = control_seen k d num })))
+        (updated keep who (record k { side = cond b x (cond (Rattle.rh_words.specs.Steps.is_known k.side.facts d) (Rattle.rh_words.specs.Steps.stale_noted k.side d) k.side); control = control_seen k d num })))
         (sym (eq-eqb (serial_in num) d.number (serial_said_is d.number set_to has_state)))
         (subst (λ (y : World). Core y z then (updated keep who (record k { side = x; control = control_seen k d num }))) (sym same) record {
           side = updated side who s;

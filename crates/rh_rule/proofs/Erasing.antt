@@ -7,7 +7,7 @@ use Rattle.rh_world.specs.Facts.{Fact}
 use Rattle.rh_world.specs.Facts.Fact.{decided, desc_is, failed_at, found, installed, known, may_demote, may_promote, met, mismatch, new_is, old_is, over, stale, size_is, target_is, which_is}
 use Rattle.rh_world.specs.Sides.{KeptRead, Side, close_side, note_side, release_side, settle_side}
 use Rattle.rh_world.specs.Moves.{Entries, IsRowFact, cell_noted, control_noted, covers, mark_noted, note_all, note_entries, place_noted, placed_noted, release_noted, settle_noted}
-use Rattle.rh_descriptor.specs.Words.{without_entry}
+use Rattle.rh_words.specs.Words.{without_entry}
 use Rattle.rh_rule.specs.Erased.{erased, erased_fact, erased_read}
 
 -- a fact that has no number of acts and no entry of a failure

@@ -1,11 +1,11 @@
 -- A word that is set leaves the other parts of the table.
 use Rattle.std.proofs.Common.{◌≡◌, ◌≢◌, ℕ, ◌<◌, List, length, set, sym, subst, arith, get_or-set_same, get_or-set_other}
 use Rattle.std.proofs.lemmas.Nat.{mul-add-lt}
-use Rattle.rh_descriptor.specs.declared.shape.Shape.{Shape}
-use Rattle.rh_descriptor.specs.declared.shape.Part.{Part}
-use Rattle.rh_descriptor.specs.declared.shape.Part.TheVariants as part
-use Rattle.rh_descriptor.specs.Parts.{IsPart, cell_count, entry_row, mark_row, reason_row, index_of, row_count, row_index, word_count}
-use Rattle.rh_descriptor.proofs.IndexLemmas.{entry_inside, same_part}
+use Rattle.rh_words.specs.declared.shape.Shape.{Shape}
+use Rattle.rh_words.specs.declared.shape.Part.{Part}
+use Rattle.rh_words.specs.declared.shape.Part.TheVariants as part
+use Rattle.rh_words.specs.Parts.{IsPart, cell_count, entry_row, mark_row, reason_row, index_of, row_count, row_index, word_count}
+use Rattle.rh_words.proofs.IndexLemmas.{entry_inside, same_part}
 use Rattle.rh_rule.specs.Represents.{word_at}
 
 module _ (z : Shape) where

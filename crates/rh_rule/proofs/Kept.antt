@@ -8,15 +8,15 @@ use Rattle.rh_world.specs.Facts.Fact.{decided}
 use Rattle.rh_world.specs.Later.{Steady}
 use Rattle.rh_world.specs.Sides.{Side}
 use Rattle.rh_world.proofs.Updated.{updated_at, updated_else, updated_here}
-use Rattle.rh_descriptor.specs.declared.shape.Shape.{Shape}
-use Rattle.rh_descriptor.specs.declared.shape.Part.{Part}
-use Rattle.rh_descriptor.specs.declared.shape.Part.TheVariants as part
-use Rattle.rh_descriptor.specs.Parts.{cell_count, word_count}
-use Rattle.rh_descriptor.specs.View.{MarkWord, OwnDesc, Raw, RawRow, RowWord, View}
-use Rattle.rh_descriptor.specs.View.RowWord.{length_word, cell_word, old_word, new_word}
-use Rattle.rh_descriptor.specs.View.MarkWord.{desc_word, entry_word}
-use Rattle.rh_descriptor.specs.Words.{desc_number, control_word_of}
-use Rattle.rh_descriptor.specs.Steps.{IsDesc, IsMark}
+use Rattle.rh_words.specs.declared.shape.Shape.{Shape}
+use Rattle.rh_words.specs.declared.shape.Part.{Part}
+use Rattle.rh_words.specs.declared.shape.Part.TheVariants as part
+use Rattle.rh_words.specs.Parts.{cell_count, word_count}
+use Rattle.rh_words.specs.View.{MarkWord, OwnDesc, Raw, RawRow, RowWord, View}
+use Rattle.rh_words.specs.View.RowWord.{length_word, cell_word, old_word, new_word}
+use Rattle.rh_words.specs.View.MarkWord.{desc_word, entry_word}
+use Rattle.rh_words.specs.Words.{desc_number, control_word_of}
+use Rattle.rh_words.specs.Steps.{IsDesc, IsMark}
 use Rattle.rh_rule.specs.Erased.{erased}
 use Rattle.rh_rule.specs.Represents.{Cells, Controls, DescRow, HasEntries, HasItsRow, IsOwn, IsRaw, IsRawRow, IsRowSaid, IsSaid, Kept, MarkRow, RowWords, MarkStands, word_at, Represents}
 

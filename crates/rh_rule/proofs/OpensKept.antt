@@ -11,13 +11,13 @@ use Rattle.rh_world.specs.Moves.{Entries, IsAllowed, next_desc, note_entries, op
 use Rattle.rh_world.specs.Moves.Move.{opens}
 use Rattle.rh_world.proofs.Updated.{ref_path, some_injective, updated_at, updated_else, updated_here, updated_ref_at, updated_ref_else, updated_ref_here}
 use Rattle.rh_layout.specs.declared.entry.Entry.{Entry}
-use Rattle.rh_descriptor.specs.declared.shape.Shape.{Shape}
-use Rattle.rh_descriptor.specs.declared.shape.Part.{Part}
-use Rattle.rh_descriptor.specs.declared.shape.Part.TheVariants as part
-use Rattle.rh_descriptor.specs.Parts.{IsShape, cell_count, entry_row, index_of}
-use Rattle.rh_descriptor.specs.View.{OwnDesc, View, Written}
-use Rattle.rh_descriptor.specs.Words.{IsPlain, control_word_of, without_entry}
-use Rattle.rh_descriptor.specs.Steps.{AreEntries, CanOpenNext, IsDesc, Step, entries_at, entries_of, entry_of, next_entries, noted, open_noted, own_desc, row_of, row_word, swapped}
+use Rattle.rh_words.specs.declared.shape.Shape.{Shape}
+use Rattle.rh_words.specs.declared.shape.Part.{Part}
+use Rattle.rh_words.specs.declared.shape.Part.TheVariants as part
+use Rattle.rh_words.specs.Parts.{IsShape, cell_count, entry_row, index_of}
+use Rattle.rh_words.specs.View.{OwnDesc, View, Written}
+use Rattle.rh_words.specs.Words.{IsPlain, control_word_of, without_entry}
+use Rattle.rh_words.specs.Steps.{AreEntries, CanOpenNext, IsDesc, Step, entries_at, entries_of, entry_of, next_entries, noted, open_noted, own_desc, row_of, row_word, swapped}
 use Rattle.rh_rule.specs.Erased.{erased}
 use Rattle.rh_rule.specs.Represents.{Controls, DescRow, HasEntries, HasItsRow, IsOpenedSo, IsOwn, Kept, numbers_of, word_at, Represents}
 use Rattle.rh_rule.specs.Core.{Core}

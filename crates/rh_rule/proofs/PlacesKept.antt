@@ -10,13 +10,13 @@ use Rattle.rh_world.specs.Rule.{Rule}
 use Rattle.rh_world.specs.Moves.{IsAllowed, is_plain, next_mark, place_noted, place_world, placed_noted, side_after, world_after}
 use Rattle.rh_world.specs.Moves.Move.{places}
 use Rattle.rh_world.proofs.Updated.{ref_path, same_nat, updated_at, updated_else, updated_here, updated_ref_here}
-use Rattle.rh_descriptor.specs.declared.shape.Shape.{Shape}
-use Rattle.rh_descriptor.specs.declared.shape.Part.{Part}
-use Rattle.rh_descriptor.specs.declared.shape.Part.TheVariants as part
-use Rattle.rh_descriptor.specs.Parts.{IsShape}
-use Rattle.rh_descriptor.specs.View.{View}
-use Rattle.rh_descriptor.specs.Words.{IsPlain, cell_in, desc_number, mark_number}
-use Rattle.rh_descriptor.specs.Steps.{CanPlace, IsMark, Step, noted, own_mark, swapped}
+use Rattle.rh_words.specs.declared.shape.Shape.{Shape}
+use Rattle.rh_words.specs.declared.shape.Part.{Part}
+use Rattle.rh_words.specs.declared.shape.Part.TheVariants as part
+use Rattle.rh_words.specs.Parts.{IsShape}
+use Rattle.rh_words.specs.View.{View}
+use Rattle.rh_words.specs.Words.{IsPlain, cell_in, desc_number, mark_number}
+use Rattle.rh_words.specs.Steps.{CanPlace, IsMark, Step, noted, own_mark, swapped}
 use Rattle.rh_rule.specs.Erased.{erased}
 use Rattle.rh_rule.specs.Represents.{IsCell, Kept, MarkRow, MarkStands, Represents}
 use Rattle.rh_rule.specs.Core.{Core}

@@ -14,16 +14,16 @@ use Rattle.rh_world.proofs.Laters.{steady_same}
 use Rattle.rh_world.proofs.StepLaws.{each_step_keeps}
 use Rattle.rh_world.proofs.Tests.{eqb_not, eqb_yes, is_ref_yes}
 use Rattle.rh_world.proofs.Updated.{and_false, ref_path, same_nat, same_ref, updated_at}
-use Rattle.rh_descriptor.specs.declared.shape.Shape.{Shape}
-use Rattle.rh_descriptor.specs.declared.shape.Part.TheVariants as part
-use Rattle.rh_descriptor.specs.declared.reference.Reading.{Reading}
-use Rattle.rh_descriptor.specs.declared.reference.Reading.TheVariants as reading
-use Rattle.rh_descriptor.specs.Parts.{IsShape}
-use Rattle.rh_descriptor.specs.View.{MarkWord, Raw, RawRow, RowWord, View}
-use Rattle.rh_descriptor.specs.View.RowWord.{length_word, cell_word, old_word, new_word}
-use Rattle.rh_descriptor.specs.View.MarkWord.{desc_word, entry_word}
-use Rattle.rh_descriptor.specs.Words.{cell_in, desc_in, control_word_of, read_control, ref_of, serial_in, without_entry}
-use Rattle.rh_descriptor.specs.Steps.{IsKnown, IsNoted, IsRead, KnowsMark, WasOpened, control_seen, desc_row_said, desc_said, stale_noted, is_known, is_newest, mark_said, index_read, read_noted, read_view, row_said, rows_said, tells_opened}
+use Rattle.rh_words.specs.declared.shape.Shape.{Shape}
+use Rattle.rh_words.specs.declared.shape.Part.TheVariants as part
+use Rattle.rh_words.specs.declared.reference.Reading.{Reading}
+use Rattle.rh_words.specs.declared.reference.Reading.TheVariants as reading
+use Rattle.rh_words.specs.Parts.{IsShape}
+use Rattle.rh_words.specs.View.{MarkWord, Raw, RawRow, RowWord, View}
+use Rattle.rh_words.specs.View.RowWord.{length_word, cell_word, old_word, new_word}
+use Rattle.rh_words.specs.View.MarkWord.{desc_word, entry_word}
+use Rattle.rh_words.specs.Words.{cell_in, desc_in, control_word_of, read_control, ref_of, serial_in, without_entry}
+use Rattle.rh_words.specs.Steps.{IsKnown, IsNoted, IsRead, KnowsMark, WasOpened, control_seen, desc_row_said, desc_said, stale_noted, is_known, is_newest, mark_said, index_read, read_noted, read_view, row_said, rows_said, tells_opened}
 use Rattle.rh_rule.specs.Erased.{erased}
 use Rattle.rh_rule.specs.Represents.{HasItsRow, IsRaw, IsRawRow, IsRowSaid, IsSaid, Kept, MarkStands, word_at, Represents}
 use Rattle.rh_rule.specs.Core.{Core}

@@ -13,10 +13,10 @@ use Rattle.rh_world.specs.World.Cell.{desc, mark, plain}
 use Rattle.rh_world.specs.World.Control.{failed, succeeded, undecided, unused, withdrawn}
 use Rattle.rh_world.specs.Moves.{is_desc, is_mark, is_plain}
 use Rattle.rh_world.proofs.Updated.{is_ref_not, ref_path, same_ref, updated_ref_here}
-use Rattle.rh_descriptor.specs.declared.shape.Shape.{Shape}
-use Rattle.rh_descriptor.specs.Parts.{IsShape}
-use Rattle.rh_descriptor.specs.Words.{IsPlain, cell_in, cell_said, control_of, control_said, desc_in, desc_number, mark_number, control_word_of, read_control, ref_said, serial_in, state_of, without_entry}
-use Rattle.rh_descriptor.specs.Steps.{IsDesc, IsMark}
+use Rattle.rh_words.specs.declared.shape.Shape.{Shape}
+use Rattle.rh_words.specs.Parts.{IsShape}
+use Rattle.rh_words.specs.Words.{IsPlain, cell_in, cell_said, control_of, control_said, desc_in, desc_number, mark_number, control_word_of, read_control, ref_said, serial_in, state_of, without_entry}
+use Rattle.rh_words.specs.Steps.{IsDesc, IsMark}
 use Rattle.rh_rule.specs.Represents.{IsCell, cell_number}
 
 -- ---- cells

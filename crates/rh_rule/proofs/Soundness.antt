@@ -8,16 +8,16 @@ use Rattle.rh_world.specs.Facts.Fact.{decided, desc_is, failed_at, found, known,
 use Rattle.rh_world.specs.Sides.{KeptRead, Side}
 use Rattle.rh_world.specs.Rule.{Rule}
 use Rattle.rh_world.proofs.EndsKept.{claims_share_out}
-use Rattle.rh_descriptor.specs.declared.shape.Shape.{Shape}
-use Rattle.rh_descriptor.specs.declared.shape.Part.{Part}
-use Rattle.rh_descriptor.specs.declared.shape.Part.TheVariants as part
-use Rattle.rh_descriptor.specs.declared.reference.Reading.{Reading}
-use Rattle.rh_descriptor.specs.declared.reference.Reading.TheVariants as reading
-use Rattle.rh_descriptor.specs.Parts.{IsShape, cell_count}
-use Rattle.rh_descriptor.specs.View.{OwnDesc, View}
-use Rattle.rh_descriptor.specs.View.MarkWord.{desc_word}
-use Rattle.rh_descriptor.specs.Words.{cell_in, desc_in, read_control, ref_of, serial_in, without_entry}
-use Rattle.rh_descriptor.specs.Steps.{IsDesc, IsKnown, IsNoted, IsRead, IsStep, Step, index, index_read, row_of, row_word}
+use Rattle.rh_words.specs.declared.shape.Shape.{Shape}
+use Rattle.rh_words.specs.declared.shape.Part.{Part}
+use Rattle.rh_words.specs.declared.shape.Part.TheVariants as part
+use Rattle.rh_words.specs.declared.reference.Reading.{Reading}
+use Rattle.rh_words.specs.declared.reference.Reading.TheVariants as reading
+use Rattle.rh_words.specs.Parts.{IsShape, cell_count}
+use Rattle.rh_words.specs.View.{OwnDesc, View}
+use Rattle.rh_words.specs.View.MarkWord.{desc_word}
+use Rattle.rh_words.specs.Words.{cell_in, desc_in, read_control, ref_of, serial_in, without_entry}
+use Rattle.rh_words.specs.Steps.{IsDesc, IsKnown, IsNoted, IsRead, IsStep, Step, index, index_read, row_of, row_word}
 use Rattle.rh_rule.specs.Represents.{DescRow, HasItsRow, IsCell, IsOpenedSo, IsOwn, Kept, Represents, numbers_of, word_at}
 use Rattle.rh_rule.specs.Sound.{ControlTells, Finds, IsControlWord, OwnRow, Reads, Sound, StepsFind, ViewsAreSound}
 use Rattle.rh_rule.proofs.Deciders.{told_failed, told_undecided, told_unused, told_withdrawn}

@@ -2,10 +2,10 @@
 use Rattle.std.proofs.Common.{◌∙◌, ℕ, ◌<◌, List, get_or, refl, set, sym, subst}
 use Rattle.std.proofs.lemmas.List.{set-get_or}
 use Rattle.rh_world.specs.World.{World, updated}
-use Rattle.rh_descriptor.specs.declared.shape.Shape.{Shape}
-use Rattle.rh_descriptor.specs.Parts.{IsShape}
-use Rattle.rh_descriptor.specs.View.{View}
-use Rattle.rh_descriptor.specs.Steps.{IsStep, Step, noted, index, index_read, read_view, word_after}
+use Rattle.rh_words.specs.declared.shape.Shape.{Shape}
+use Rattle.rh_words.specs.Parts.{IsShape}
+use Rattle.rh_words.specs.View.{View}
+use Rattle.rh_words.specs.Steps.{IsStep, Step, noted, index, index_read, read_view, word_after}
 use Rattle.rh_rule.specs.Core.{Core, EachStepOnWordsKeeps, world_then}
 use Rattle.rh_rule.proofs.CellsKept.{keeps_release, keeps_settle}
 use Rattle.rh_rule.proofs.DecidesKept.{keeps_decide}

@@ -13,9 +13,9 @@ use Rattle.rh_world.proofs.EndsKept.{claims_share_out, one_order, prefixes_say, 
 use Rattle.rh_world.proofs.OwnList.{success_yes}
 use Rattle.rh_world.proofs.Tests.{both, is_ref_yes}
 use Rattle.rh_world.proofs.Updated.{updated_ref_here}
-use Rattle.rh_descriptor.specs.declared.shape.Shape.{Shape}
-use Rattle.rh_descriptor.specs.View.{OwnDesc, View}
-use Rattle.rh_descriptor.specs.Words.{without_entry}
+use Rattle.rh_words.specs.declared.shape.Shape.{Shape}
+use Rattle.rh_words.specs.View.{OwnDesc, View}
+use Rattle.rh_words.specs.Words.{without_entry}
 use Rattle.rh_rule.specs.Represents.{IsCell, IsOpenedSo, cell_number, numbers_of}
 use Rattle.rh_rule.specs.Core.{Core}
 use Rattle.rh_rule.specs.Rest.{HasMissed, TableRests, TableTells, Told, is_noted_success, says_success}

@@ -5,12 +5,12 @@ use Rattle.rh_world.specs.World.Cell.{mark}
 use Rattle.rh_world.specs.World.Control.{failed, unused}
 use Rattle.rh_world.specs.Later.{Steady}
 use Rattle.rh_world.specs.Sides.{Side}
-use Rattle.rh_descriptor.specs.declared.shape.Shape.{Shape}
-use Rattle.rh_descriptor.specs.declared.shape.Part.{Part}
-use Rattle.rh_descriptor.specs.declared.shape.Part.TheVariants as part
-use Rattle.rh_descriptor.specs.Parts.{IsPart, cell_count, index_of, word_count}
-use Rattle.rh_descriptor.specs.View.{Raw, RawRow, View}
-use Rattle.rh_descriptor.specs.Words.{control_word_of}
+use Rattle.rh_words.specs.declared.shape.Shape.{Shape}
+use Rattle.rh_words.specs.declared.shape.Part.{Part}
+use Rattle.rh_words.specs.declared.shape.Part.TheVariants as part
+use Rattle.rh_words.specs.Parts.{IsPart, cell_count, index_of, word_count}
+use Rattle.rh_words.specs.View.{Raw, RawRow, View}
+use Rattle.rh_words.specs.Words.{control_word_of}
 use Rattle.rh_rule.specs.Represents.{Cells, Controls, IsCell, IsOwn, IsRaw, IsRawRow, Kept, RowWords, MarkStands, cell_number, word_at, Represents}
 use Rattle.rh_rule.proofs.Frames.{word_same}
 use Rattle.rh_rule.proofs.Kept.{DescsStay, MarksStay, Meets, Over, Quiet, kept_stays, quiet, raw_row_stays, raw_stays, rows_stay}

@@ -10,14 +10,14 @@ use Rattle.rh_world.specs.Ends.{AllAtRest, opening_world}
 use Rattle.rh_world.proofs.ClaimsKept.{claims_stay}
 use Rattle.rh_world.proofs.EndsKept.{opening_meets, rest_is_settled}
 use Rattle.rh_world.proofs.Updated.{same_nat}
-use Rattle.rh_descriptor.specs.declared.shape.Shape.{Shape}
-use Rattle.rh_descriptor.specs.declared.shape.Part.{Part}
-use Rattle.rh_descriptor.specs.declared.shape.Part.TheVariants as part
-use Rattle.rh_descriptor.specs.Parts.{cell_count, index_of, row_count, word_count}
-use Rattle.rh_descriptor.specs.View.{View, Wiping, new_view, round_view}
-use Rattle.rh_descriptor.specs.Words.{IsPlain}
-use Rattle.rh_descriptor.specs.Steps.{row_of}
-use Rattle.rh_descriptor.proofs.IndexLemmas.{entry_inside}
+use Rattle.rh_words.specs.declared.shape.Shape.{Shape}
+use Rattle.rh_words.specs.declared.shape.Part.{Part}
+use Rattle.rh_words.specs.declared.shape.Part.TheVariants as part
+use Rattle.rh_words.specs.Parts.{cell_count, index_of, row_count, word_count}
+use Rattle.rh_words.specs.View.{View, Wiping, new_view, round_view}
+use Rattle.rh_words.specs.Words.{IsPlain}
+use Rattle.rh_words.specs.Steps.{row_of}
+use Rattle.rh_words.proofs.IndexLemmas.{entry_inside}
 use Rattle.rh_rule.specs.Represents.{IsCell, IsOwn, Kept, cell_number, word_at}
 use Rattle.rh_rule.specs.Core.{Core, Ruled}
 use Rattle.rh_rule.specs.Rest.{AllRest}

@@ -13,13 +13,13 @@ use Rattle.rh_world.proofs.EndsKept.{claims_share_out}
 use Rattle.rh_world.proofs.Laters.{steady_claim, steady_same}
 use Rattle.rh_world.proofs.StepLaws.{each_step_keeps}
 use Rattle.rh_world.proofs.Updated.{same_nat}
-use Rattle.rh_descriptor.specs.declared.shape.Shape.{Shape}
-use Rattle.rh_descriptor.specs.declared.shape.Part.{Part}
-use Rattle.rh_descriptor.specs.declared.shape.Part.TheVariants as part
-use Rattle.rh_descriptor.specs.Parts.{IsPart, IsShape, cell_count, index_of, row_index}
-use Rattle.rh_descriptor.specs.View.{View}
-use Rattle.rh_descriptor.specs.Steps.{CanClaim, IsFree, Step, noted, row_of, row_word, word_after}
-use Rattle.rh_descriptor.proofs.IndexLemmas.{same_part}
+use Rattle.rh_words.specs.declared.shape.Shape.{Shape}
+use Rattle.rh_words.specs.declared.shape.Part.{Part}
+use Rattle.rh_words.specs.declared.shape.Part.TheVariants as part
+use Rattle.rh_words.specs.Parts.{IsPart, IsShape, cell_count, index_of, row_index}
+use Rattle.rh_words.specs.View.{View}
+use Rattle.rh_words.specs.Steps.{CanClaim, IsFree, Step, noted, row_of, row_word, word_after}
+use Rattle.rh_words.proofs.IndexLemmas.{same_part}
 use Rattle.rh_rule.specs.Represents.{Controls, HasItsRow, IsOwn, Kept, MarkStands, word_at, Represents}
 use Rattle.rh_rule.specs.Core.{Core}
 use Rattle.rh_rule.proofs.Erasing.{in_mismatch}

@@ -4,12 +4,12 @@ use Rattle.std.specs.Prelude.{ℕ, ◌<◌, List}
 use Rattle.rh_world.specs.World.{World, updated}
 use Rattle.rh_world.specs.Sides.{Side}
 use Rattle.rh_world.specs.Rule.{Rule}
-use Rattle.rh_descriptor.specs.declared.shape.Shape.{Shape}
-use Rattle.rh_descriptor.specs.Parts.{IsShape}
-use Rattle.rh_descriptor.specs.View.{View}
+use Rattle.rh_words.specs.declared.shape.Shape.{Shape}
+use Rattle.rh_words.specs.Parts.{IsShape}
+use Rattle.rh_words.specs.View.{View}
 use Rattle.rh_world.specs.Moves.{world_after}
 use Rattle.rh_world.specs.Moves.Move.{opens, places, settles, decides, releases, claims}
-use Rattle.rh_descriptor.specs.Steps.{Step, Allowed, StepsTo, decided_so, entries_of, is_none, next_entries}
+use Rattle.rh_words.specs.Steps.{Step, Allowed, StepsTo, decided_so, entries_of, is_none, next_entries}
 use Rattle.rh_rule.specs.Represents.{Represents}
 
 -- the table is ruled by this world

@@ -4,7 +4,7 @@ use Rattle.std.specs.Prelude.{map}
 use Rattle.rh_world.specs.Facts.{Fact}
 use Rattle.rh_world.specs.Facts.Fact.{met, known, size_is, target_is, old_is, new_is, decided, over, stale, failed_at, desc_is, which_is, found, may_promote, may_demote, installed, mismatch}
 use Rattle.rh_world.specs.Sides.{KeptRead, Side}
-use Rattle.rh_descriptor.specs.Words.{without_entry}
+use Rattle.rh_words.specs.Words.{without_entry}
 
 -- So what a step notes is a function of the word that it found. That there are such numbers the rule says.
 abbrev pub erased_fact : Fact → Fact

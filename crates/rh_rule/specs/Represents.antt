@@ -5,15 +5,15 @@ use Rattle.rh_world.specs.World.Cell.{plain, mark, desc}
 use Rattle.rh_world.specs.World.Control.{failed, withdrawn}
 use Rattle.rh_world.specs.Facts.Fact.{decided}
 use Rattle.rh_world.specs.Sides.{Side, new_side}
-use Rattle.rh_descriptor.specs.declared.shape.Shape.{Shape}
-use Rattle.rh_descriptor.specs.declared.shape.Part.{Part}
-use Rattle.rh_descriptor.specs.declared.shape.Part.TheVariants as part
-use Rattle.rh_descriptor.specs.Parts.{cell_count, index_of, word_count}
-use Rattle.rh_descriptor.specs.View.{MarkWord, OwnDesc, Raw, RawRow, RowWord, View}
-use Rattle.rh_descriptor.specs.View.RowWord.{length_word, cell_word, old_word, new_word}
-use Rattle.rh_descriptor.specs.View.MarkWord.{desc_word, entry_word}
-use Rattle.rh_descriptor.specs.Words.{IsPlain, mark_number, desc_number, control_word_of}
-use Rattle.rh_descriptor.specs.Steps.{IsDesc, IsMark, row_of, row_word, entry_of}
+use Rattle.rh_words.specs.declared.shape.Shape.{Shape}
+use Rattle.rh_words.specs.declared.shape.Part.{Part}
+use Rattle.rh_words.specs.declared.shape.Part.TheVariants as part
+use Rattle.rh_words.specs.Parts.{cell_count, index_of, word_count}
+use Rattle.rh_words.specs.View.{MarkWord, OwnDesc, Raw, RawRow, RowWord, View}
+use Rattle.rh_words.specs.View.RowWord.{length_word, cell_word, old_word, new_word}
+use Rattle.rh_words.specs.View.MarkWord.{desc_word, entry_word}
+use Rattle.rh_words.specs.Words.{IsPlain, mark_number, desc_number, control_word_of}
+use Rattle.rh_words.specs.Steps.{IsDesc, IsMark, row_of, row_word, entry_of}
 use Rattle.rh_rule.specs.Erased.{erased}
 
 abbrev pub word_at : Shape → List ℕ → Part → ℕ

@@ -6,12 +6,12 @@ use lib.ListN.{get_elem?}
 use Rattle.atomic_table.specs.Table.{State, Me, Allows, Joins, Splits, opening}
 use Rattle.rh_world.specs.World.{World}
 use Rattle.rh_world.specs.Sides.{AtRest}
-use Rattle.rh_descriptor.specs.declared.known.Known.{Known}
-use Rattle.rh_descriptor.specs.declared.shape.Shape.{Shape}
-use Rattle.rh_descriptor.specs.Parts.{IsShape, cell_count}
-use Rattle.rh_descriptor.specs.View.{View, new_view, round_view}
-use Rattle.rh_descriptor.specs.Words.{IsPlain}
-use Rattle.rh_descriptor.specs.Steps.{Step, Allowed, noted, index, word_after}
+use Rattle.rh_words.specs.declared.known.Known.{Known}
+use Rattle.rh_words.specs.declared.shape.Shape.{Shape}
+use Rattle.rh_words.specs.Parts.{IsShape, cell_count}
+use Rattle.rh_words.specs.View.{View, new_view, round_view}
+use Rattle.rh_words.specs.Words.{IsPlain}
+use Rattle.rh_words.specs.Steps.{Step, Allowed, noted, index, word_after}
 use Rattle.rh_rule.specs.Core.{Core, Ruled}
 use Rattle.rh_rule.specs.Rest.{AllRest, Rested}
 use Rattle.rh_rule.specs.Sound.{Finds, Sound}

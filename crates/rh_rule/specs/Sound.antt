@@ -7,15 +7,15 @@ use Rattle.rh_world.specs.World.Control.{failed, undecided, withdrawn}
 use Rattle.rh_world.specs.Facts.Fact.{size_is, target_is, old_is, new_is, decided, failed_at, desc_is, which_is, found}
 use Rattle.rh_world.specs.Sides.{KeptRead}
 use Rattle.rh_world.specs.Moves.{MayWork}
-use Rattle.rh_descriptor.specs.declared.shape.Shape.{Shape}
-use Rattle.rh_descriptor.specs.declared.shape.Part.{Part}
-use Rattle.rh_descriptor.specs.declared.reference.Reading.{Reading}
-use Rattle.rh_descriptor.specs.declared.reference.Reading.TheVariants as reading
-use Rattle.rh_descriptor.specs.Parts.{IsShape, cell_count, entry_row, index_of}
-use Rattle.rh_descriptor.specs.View.{OwnDesc, View}
-use Rattle.rh_descriptor.specs.View.MarkWord.{desc_word}
-use Rattle.rh_descriptor.specs.Words.{IsPlain, cell_in, desc_in, control_word_of, read_control, ref_of, serial_in, state_of}
-use Rattle.rh_descriptor.specs.Steps.{Allowed, IsDesc, IsKnown, IsMark, KnowsMark, Step, entry_of, index, row_of, row_word}
+use Rattle.rh_words.specs.declared.shape.Shape.{Shape}
+use Rattle.rh_words.specs.declared.shape.Part.{Part}
+use Rattle.rh_words.specs.declared.reference.Reading.{Reading}
+use Rattle.rh_words.specs.declared.reference.Reading.TheVariants as reading
+use Rattle.rh_words.specs.Parts.{IsShape, cell_count, entry_row, index_of}
+use Rattle.rh_words.specs.View.{OwnDesc, View}
+use Rattle.rh_words.specs.View.MarkWord.{desc_word}
+use Rattle.rh_words.specs.Words.{IsPlain, cell_in, desc_in, control_word_of, read_control, ref_of, serial_in, state_of}
+use Rattle.rh_words.specs.Steps.{Allowed, IsDesc, IsKnown, IsMark, KnowsMark, Step, entry_of, index, row_of, row_word}
 use Rattle.rh_rule.specs.Represents.{IsCell, IsOwn}
 use Rattle.rh_rule.specs.Core.{Core}
 

@@ -5,11 +5,11 @@ use Rattle.rh_world.specs.World.{World}
 use Rattle.rh_world.specs.Sides.{new_side}
 use Rattle.rh_world.specs.Claims.{Claims}
 use Rattle.rh_world.specs.Ends.{opening_world}
-use Rattle.rh_descriptor.specs.declared.shape.Shape.{Shape}
-use Rattle.rh_descriptor.specs.declared.shape.Part.TheVariants as part
-use Rattle.rh_descriptor.specs.Parts.{IsShape, cell_count, row_count, word_count}
-use Rattle.rh_descriptor.specs.View.{View, new_view, round_view}
-use Rattle.rh_descriptor.specs.Words.{IsPlain}
+use Rattle.rh_words.specs.declared.shape.Shape.{Shape}
+use Rattle.rh_words.specs.declared.shape.Part.TheVariants as part
+use Rattle.rh_words.specs.Parts.{IsShape, cell_count, row_count, word_count}
+use Rattle.rh_words.specs.View.{View, new_view, round_view}
+use Rattle.rh_words.specs.Words.{IsPlain}
 use Rattle.rh_rule.specs.Represents.{word_at}
 use Rattle.rh_rule.specs.Core.{Core, Ruled}
 use Rattle.rh_rule.specs.Rest.{AllRest}

@@ -2,7 +2,7 @@
 //! its workers, represent a world of `rh_world` that meets the rule of worlds.
 //!
 //! `rh_run` reads the acts off it, `rh_steps` gives each worker what it relies on, and
-//! `rh_rdcss` makes it the rule of a table of `atomic_table`.
+//! `rh_shared` makes it the rule of a table of `atomic_table`.
 //!
 //! Proved:
 //!

@@ -1,7 +1,7 @@
 //! The rule of a table of words that several workers share.
 
 use atomic_table::TableRule;
-use rh_descriptor::{Known, Shape};
+use rh_words::{Known, Shape};
 use std::collections::LinkedList;
 use std::snapshot::Snapshot;
 

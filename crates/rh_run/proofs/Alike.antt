@@ -2,8 +2,8 @@
 use Rattle.std.proofs.Common.{◌≡◌, ℕ, ◌<◌, subst, Bool, List}
 use Rattle.rh_ledger.specs.declared.tally.Kind.{Kind}
 use Rattle.rh_world.specs.World.{World}
-use Rattle.rh_descriptor.specs.declared.shape.Shape.{Shape}
-use Rattle.rh_descriptor.specs.View.{View}
+use Rattle.rh_words.specs.declared.shape.Shape.{Shape}
+use Rattle.rh_words.specs.View.{View}
 use Rattle.rh_rule.specs.Core.{Core}
 use Rattle.rh_rule.specs.Represents.{Kept}
 use Rattle.rh_acts.specs.Act.{Act}

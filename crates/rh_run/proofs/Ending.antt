@@ -7,7 +7,7 @@ use Rattle.rh_ledger.specs.declared.tally.Kind.{Kind}
 use Rattle.rh_ledger.specs.declared.tally.Tally.{Tally}
 use Rattle.rh_ledger.specs.Tally.{sum_of}
 use Rattle.rh_ledger.specs.Phase.{set_after}
-use Rattle.rh_descriptor.specs.Parts.{IsShape, cell_count}
+use Rattle.rh_words.specs.Parts.{IsShape, cell_count}
 use Rattle.rh_rule.specs.Rest.{AllRest}
 use Rattle.rh_acts.specs.Act.{Act, apply_acts}
 use Rattle.rh_acts.specs.Done.{IsDone, Kept, WereTrue}

@@ -8,10 +8,10 @@ use Rattle.rh_world.specs.Sides.{Side, close_side, is_number, open_side, paid_si
 use Rattle.rh_world.specs.Moves.{covers, release_noted}
 use Rattle.rh_world.proofs.Tests.{is_number_yes}
 use Rattle.rh_world.proofs.Updated.{ref_path, some_injective, some_not_none}
-use Rattle.rh_descriptor.specs.declared.shape.Shape.{Shape}
-use Rattle.rh_descriptor.specs.View.{OwnDesc, Raw, RawRow, View, Written, own_ref}
-use Rattle.rh_descriptor.specs.Words.{control_word_of}
-use Rattle.rh_descriptor.specs.Steps.{CanOpenNext, KnowsValue, Step, entries_of, next_entries, noted, own_desc, size_in, with_side}
+use Rattle.rh_words.specs.declared.shape.Shape.{Shape}
+use Rattle.rh_words.specs.View.{OwnDesc, Raw, RawRow, View, Written, own_ref}
+use Rattle.rh_words.specs.Words.{control_word_of}
+use Rattle.rh_words.specs.Steps.{CanOpenNext, KnowsValue, Step, entries_of, next_entries, noted, own_desc, size_in, with_side}
 use Rattle.rh_rule.specs.Represents.{numbers_of}
 use Rattle.rh_rule.specs.Rest.{is_noted_success}
 use Rattle.rh_rule.proofs.OpensKept.{entries_current}

@@ -5,9 +5,9 @@ use Rattle.std.proofs.lemmas.List.{length-append, map-append}
 use Rattle.std.proofs.lemmas.List.Elements.{Contains-append_cases, filter-append}
 use Rattle.std.proofs.lemmas.List.FromFn.{fill_by_all}
 use Rattle.std.proofs.Math.Seq.{take-append-add}
-use Rattle.rh_descriptor.specs.Parts.{cell_count}
-use Rattle.rh_descriptor.specs.declared.shape.Shape.{Shape}
-use Rattle.rh_descriptor.specs.View.{View, new_view, round_view}
+use Rattle.rh_words.specs.Parts.{cell_count}
+use Rattle.rh_words.specs.declared.shape.Shape.{Shape}
+use Rattle.rh_words.specs.View.{View, new_view, round_view}
 use Rattle.rh_acts.specs.Act.{Act, AllMeet, WasWord, apply_act, apply_acts}
 use Rattle.rh_acts.specs.Done.{Kept, WereTrue}
 use Rattle.rh_acts.specs.Workers.{Made, acts_of}

@@ -8,10 +8,10 @@ use Rattle.rh_world.specs.Sides.{Debt, Side, close_side, is_number, note_side, o
 use Rattle.rh_world.specs.Moves.{Entries, covers, note_entries, place_noted, placed_noted, release_noted, settle_noted}
 use Rattle.rh_world.proofs.Tests.{is_number_yes}
 use Rattle.rh_world.proofs.Updated.{ref_path, some_injective, some_not_none}
-use Rattle.rh_descriptor.specs.declared.shape.Shape.{Shape}
-use Rattle.rh_descriptor.specs.View.{View}
-use Rattle.rh_descriptor.specs.Words.{cell_in, mark_number}
-use Rattle.rh_descriptor.specs.Steps.{Allowed, CanPlace, CanSettle, Step, decided_word, entries_of, is_none, next_entries, noted, own_desc, own_mark, size_in}
+use Rattle.rh_words.specs.declared.shape.Shape.{Shape}
+use Rattle.rh_words.specs.View.{View}
+use Rattle.rh_words.specs.Words.{cell_in, mark_number}
+use Rattle.rh_words.specs.Steps.{Allowed, CanPlace, CanSettle, Step, decided_word, entries_of, is_none, next_entries, noted, own_desc, own_mark, size_in}
 use Rattle.rh_rule.specs.Sound.{Sound}
 use Rattle.rh_run.proofs.Learning.{steps_learn}
 use Rattle.rh_run.proofs.Noting.{Follows, a_control_word, a_reading, either}

@@ -9,12 +9,12 @@ use Rattle.rh_world.specs.Facts.{Fact}
 use Rattle.rh_world.specs.Facts.Fact.{found, installed, met, mismatch}
 use Rattle.rh_world.specs.Sides.{KeptRead, Side, close_side, is_number, note_side, open_side, paid_side, read_side, release_side, settle_side}
 use Rattle.rh_world.specs.Moves.{Entries, cell_noted, covers, note_entries, place_noted, placed_noted, release_noted, settle_noted}
-use Rattle.rh_descriptor.specs.declared.reference.Reading.TheVariants as reading
-use Rattle.rh_descriptor.specs.declared.shape.Shape.{Shape}
-use Rattle.rh_descriptor.specs.Parts.{cell_count}
-use Rattle.rh_descriptor.specs.View.{View}
-use Rattle.rh_descriptor.specs.Words.{cell_in, mark_number}
-use Rattle.rh_descriptor.specs.Steps.{Step, decided_word, entries_of, is_none, next_entries, noted, own_desc, own_mark, read_noted, size_in}
+use Rattle.rh_words.specs.declared.reference.Reading.TheVariants as reading
+use Rattle.rh_words.specs.declared.shape.Shape.{Shape}
+use Rattle.rh_words.specs.Parts.{cell_count}
+use Rattle.rh_words.specs.View.{View}
+use Rattle.rh_words.specs.Words.{cell_in, mark_number}
+use Rattle.rh_words.specs.Steps.{Step, decided_word, entries_of, is_none, next_entries, noted, own_desc, own_mark, read_noted, size_in}
 use Rattle.rh_rule.proofs.OpensKept.{entries_notes}
 use Rattle.rh_rule.proofs.Said.{plain_said}
 use Rattle.rh_acts.specs.Done.{Kept, kept}

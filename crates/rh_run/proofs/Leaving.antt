@@ -7,12 +7,12 @@ use Rattle.rh_world.specs.Moves.{cell_world, decided_world, is_desc, is_mark, is
 use Rattle.rh_world.proofs.EndsKept.{cells_are}
 use Rattle.rh_world.proofs.Tests.{eqb_yes}
 use Rattle.std.specs.Prelude.{slice_index}
-use Rattle.rh_descriptor.specs.declared.shape.Shape.{Shape}
-use Rattle.rh_descriptor.specs.declared.shape.Part.TheVariants as part
-use Rattle.rh_descriptor.specs.Parts.{IsShape, reason_row}
-use Rattle.rh_descriptor.specs.View.{View}
-use Rattle.rh_descriptor.specs.Words.{control_word_of, with_entry}
-use Rattle.rh_descriptor.specs.Steps.{CanDecide, IsStep, Step, decided_so, is_none, index, row_word}
+use Rattle.rh_words.specs.declared.shape.Shape.{Shape}
+use Rattle.rh_words.specs.declared.shape.Part.TheVariants as part
+use Rattle.rh_words.specs.Parts.{IsShape, reason_row}
+use Rattle.rh_words.specs.View.{View}
+use Rattle.rh_words.specs.Words.{control_word_of, with_entry}
+use Rattle.rh_words.specs.Steps.{CanDecide, IsStep, Step, decided_so, is_none, index, row_word}
 use Rattle.rh_rule.specs.Core.{Core, world_then}
 use Rattle.rh_rule.specs.Represents.{word_at}
 use Rattle.rh_rule.proofs.DecidesKept.{closed, decided_before}

@@ -2,7 +2,7 @@
 use Rattle.std.proofs.Common.{ℕ, ◌<◌, List, [], ◌∷◌, ◌++◌}
 use Rattle.std.specs.List.{Contains}
 use Rattle.rh_layout.specs.Layout.{Keys, Layout}
-use Rattle.rh_descriptor.specs.Parts.{IsShape}
+use Rattle.rh_words.specs.Parts.{IsShape}
 use Rattle.rh_ledger.specs.Phase.{set_after}
 use Rattle.rh_acts.specs.Act.{apply_acts}
 use Rattle.rh_acts.specs.Workers.{LeavesRoom, acts_of}

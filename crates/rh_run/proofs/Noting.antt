@@ -7,11 +7,11 @@ use Rattle.rh_world.specs.Facts.{Fact}
 use Rattle.rh_world.specs.Facts.Fact.{decided, failed_at, found, known, may_demote, may_promote, met, over, stale}
 use Rattle.rh_world.specs.Sides.{Side, forget_side, note_side, read_side}
 use Rattle.rh_world.specs.Moves.{cell_noted, control_noted, mark_noted, note_all}
-use Rattle.rh_descriptor.specs.declared.reference.Reading.{Reading}
-use Rattle.rh_descriptor.specs.declared.reference.Reading.TheVariants as reading
-use Rattle.rh_descriptor.specs.View.{View}
-use Rattle.rh_descriptor.specs.Words.{cell_in, read_control, ref_of, serial_in}
-use Rattle.rh_descriptor.specs.Steps.{control_read, stale_noted, is_known, mark_control_read, read_noted, row_said, rows_said, serial_read}
+use Rattle.rh_words.specs.declared.reference.Reading.{Reading}
+use Rattle.rh_words.specs.declared.reference.Reading.TheVariants as reading
+use Rattle.rh_words.specs.View.{View}
+use Rattle.rh_words.specs.Words.{cell_in, read_control, ref_of, serial_in}
+use Rattle.rh_words.specs.Steps.{control_read, stale_noted, is_known, mark_control_read, read_noted, row_said, rows_said, serial_read}
 
 -- a relation of a Side to a later one that each of these keeps
 pub record Follows (R : Side → Side → Type 0) : Type 0 where

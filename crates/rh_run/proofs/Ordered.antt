@@ -3,7 +3,7 @@ use Rattle.std.proofs.Common.{◌≡◌, ℕ, ◌<◌, ◌≤◌, inl, inr, ⊎_
 use Rattle.rh_world.specs.World.{In, IsFalling, Ref}
 use Rattle.rh_world.specs.Facts.Fact.{decided}
 use Rattle.rh_world.specs.Sides.{Side}
-use Rattle.rh_descriptor.specs.View.{OwnDesc}
+use Rattle.rh_words.specs.View.{OwnDesc}
 use Rattle.rh_rule.specs.Represents.{numbers_of}
 use Rattle.rh_run.specs.OwnActs.{KeptIsOrderly}
 use Rattle.rh_run.proofs.Happening.{of_number}

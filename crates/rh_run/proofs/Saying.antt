@@ -14,11 +14,11 @@ use Rattle.rh_world.specs.Logical.{EntryStandsFor, StandsFor as StandsInWorld, e
 use Rattle.rh_world.proofs.ActsKept.{one_entry}
 use Rattle.rh_world.proofs.OwnList.{success_yes}
 use Rattle.rh_world.proofs.Updated.{same_nat}
-use Rattle.rh_descriptor.specs.declared.shape.Shape.{Shape}
-use Rattle.rh_descriptor.specs.declared.shape.Part.TheVariants as part
-use Rattle.rh_descriptor.specs.Parts.{IsShape, cell_count}
-use Rattle.rh_descriptor.specs.View.{OwnDesc, View, own_ref}
-use Rattle.rh_descriptor.specs.Words.{cell_in, control_word_of, read_control, serial_in, without_entry}
+use Rattle.rh_words.specs.declared.shape.Shape.{Shape}
+use Rattle.rh_words.specs.declared.shape.Part.TheVariants as part
+use Rattle.rh_words.specs.Parts.{IsShape, cell_count}
+use Rattle.rh_words.specs.View.{OwnDesc, View, own_ref}
+use Rattle.rh_words.specs.Words.{cell_in, control_word_of, read_control, serial_in, without_entry}
 use Rattle.rh_rule.specs.Represents.{DescRow, HasItsRow, IsCell, Represents, word_at}
 use Rattle.rh_rule.specs.Core.{Core}
 use Rattle.rh_rule.specs.Rest.{is_noted_success}

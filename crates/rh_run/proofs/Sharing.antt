@@ -16,8 +16,8 @@ use Rattle.rh_ledger.specs.declared.tally.Tally.{Tally}
 use Rattle.rh_ledger.specs.Phase.{set_after}
 use Rattle.rh_world.specs.World.{In, IsFalling, World}
 use Rattle.rh_world.specs.Sides.{Side}
-use Rattle.rh_descriptor.specs.declared.shape.Shape.{Shape}
-use Rattle.rh_descriptor.specs.View.{View}
+use Rattle.rh_words.specs.declared.shape.Shape.{Shape}
+use Rattle.rh_words.specs.View.{View}
 use Rattle.rh_rule.specs.Core.{Core}
 use Rattle.rh_rule.specs.Rest.{Told}
 use Rattle.rh_rule.proofs.Telling.{tells}

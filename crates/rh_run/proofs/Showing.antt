@@ -14,8 +14,8 @@ use Rattle.rh_ledger.specs.declared.tally.Kind.TheVariants.{Insert, Remove, Ask}
 use Rattle.rh_world.specs.World.{In, Ref, World}
 use Rattle.rh_world.specs.World.Control.{succeeded}
 use Rattle.rh_world.proofs.Tests.{both}
-use Rattle.rh_descriptor.specs.declared.shape.Shape.{Shape}
-use Rattle.rh_descriptor.specs.View.{OwnDesc, View, own_ref}
+use Rattle.rh_words.specs.declared.shape.Shape.{Shape}
+use Rattle.rh_words.specs.View.{OwnDesc, View, own_ref}
 use Rattle.rh_rule.specs.Core.{Core}
 use Rattle.rh_rule.specs.Rest.{is_noted_success}
 use Rattle.rh_rule.proofs.Deciders.{told_succeeded}

@@ -12,9 +12,9 @@ use Rattle.rh_ledger.specs.Phase.{set_after}
 use Rattle.rh_world.specs.Acts.{cells_after, is_success}
 use Rattle.rh_rule.specs.Rest.{is_noted_success}
 use Rattle.rh_rule.proofs.Telling.{same_filtered}
-use Rattle.rh_descriptor.specs.declared.shape.Shape.{Shape}
-use Rattle.rh_descriptor.specs.Parts.{IsShape, cell_count}
-use Rattle.rh_descriptor.specs.View.{OwnDesc, View, own_ref}
+use Rattle.rh_words.specs.declared.shape.Shape.{Shape}
+use Rattle.rh_words.specs.Parts.{IsShape, cell_count}
+use Rattle.rh_words.specs.View.{OwnDesc, View, own_ref}
 use Rattle.rh_acts.specs.Act.{Act, AllMeet, apply_acts, changes}
 use Rattle.rh_acts.specs.Done.{Does, IsDone, WereTrue}
 use Rattle.rh_acts.specs.Workers.{AreOf, LeavesRoom, Made, acts_of, own}

@@ -7,10 +7,10 @@ use Rattle.std.proofs.lemmas.List.Elements.{Contains-append_right}
 use Rattle.rh_ledger.specs.declared.tally.Kind.{Kind}
 use Rattle.rh_world.specs.World.{World, In, updated}
 use Rattle.rh_world.proofs.Updated.{some_not_none, updated_here}
-use Rattle.rh_descriptor.specs.declared.shape.Shape.{Shape}
-use Rattle.rh_descriptor.specs.Parts.{IsShape}
-use Rattle.rh_descriptor.specs.View.{OwnDesc, View}
-use Rattle.rh_descriptor.specs.Steps.{Allowed, Step, StepsTo, noted}
+use Rattle.rh_words.specs.declared.shape.Shape.{Shape}
+use Rattle.rh_words.specs.Parts.{IsShape}
+use Rattle.rh_words.specs.View.{OwnDesc, View}
+use Rattle.rh_words.specs.Steps.{Allowed, Step, StepsTo, noted}
 use Rattle.rh_rule.specs.Core.{Core, world_then}
 use Rattle.rh_rule.specs.Sound.{Sound}
 use Rattle.rh_rule.proofs.Soundness.{views_are_sound}

@@ -9,9 +9,9 @@ use Rattle.rh_world.specs.Facts.Fact.{decided}
 use Rattle.rh_world.specs.Acts.{is_success, own_acts}
 use Rattle.rh_world.proofs.OwnList.{success_yes}
 use Rattle.rh_world.proofs.Updated.{ref_path, some_injective, some_not_none}
-use Rattle.rh_descriptor.specs.declared.shape.Shape.{Shape}
-use Rattle.rh_descriptor.specs.View.{OwnDesc, View, own_ref}
-use Rattle.rh_descriptor.specs.Words.{without_entry}
+use Rattle.rh_words.specs.declared.shape.Shape.{Shape}
+use Rattle.rh_words.specs.View.{OwnDesc, View, own_ref}
+use Rattle.rh_words.specs.Words.{without_entry}
 use Rattle.rh_rule.specs.Core.{Core}
 use Rattle.rh_rule.specs.Represents.{numbers_of}
 use Rattle.rh_rule.specs.Rest.{Told, is_noted_success}

@@ -7,8 +7,8 @@ use Rattle.std.proofs.lemmas.List.FromFn.{length-map-range_with_len, get_or-map-
 use Rattle.rh_world.specs.World.{Ref, World}
 use Rattle.rh_world.specs.Logical.{changed_by}
 use Rattle.rh_world.specs.Acts.{cells_after}
-use Rattle.rh_descriptor.specs.declared.shape.Shape.{Shape}
-use Rattle.rh_descriptor.specs.Parts.{cell_count}
+use Rattle.rh_words.specs.declared.shape.Shape.{Shape}
+use Rattle.rh_words.specs.Parts.{cell_count}
 use Rattle.rh_layout.specs.declared.entry.Entry.{Entry}
 use Rattle.rh_acts.specs.Act.{Act, apply_act, apply_acts}
 use Rattle.rh_acts.specs.Workers.{Made, acts_of}

@@ -6,8 +6,8 @@ use Rattle.rh_world.specs.World.Control.{succeeded}
 use Rattle.rh_world.specs.Facts.Fact.{decided}
 use Rattle.rh_world.specs.Acts.{is_success}
 use Rattle.rh_acts.specs.Done.{Does, IsTold}
-use Rattle.rh_descriptor.specs.declared.shape.Shape.{Shape}
-use Rattle.rh_descriptor.specs.View.{OwnDesc, View, own_ref}
+use Rattle.rh_words.specs.declared.shape.Shape.{Shape}
+use Rattle.rh_words.specs.View.{OwnDesc, View, own_ref}
 use Rattle.rh_run.specs.History.{act_of, kept_of}
 use Rattle.rh_run.specs.OwnActs.{Closes}
 

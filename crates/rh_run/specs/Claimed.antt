@@ -2,8 +2,8 @@
 use Rattle.std.specs.Prelude.{ℕ, ◌≤◌, nat_lt, List, map, filter, reverse}
 use Rattle.std.specs.List.{range_with_len}
 use Rattle.rh_world.specs.World.{In}
-use Rattle.rh_descriptor.specs.declared.shape.Shape.{Shape}
-use Rattle.rh_descriptor.specs.View.{View}
+use Rattle.rh_words.specs.declared.shape.Shape.{Shape}
+use Rattle.rh_words.specs.View.{View}
 
 -- those of one worker, in the order in which it claimed them
 abbrev pub claimed : Shape → View → List ℕ

@@ -3,10 +3,10 @@ use Rattle.std.specs.Prelude.{ℕ, ◌≡◌, ◌<◌, ◌≤◌, None, List, []
 use Rattle.std.specs.List.{Contains}
 use Rattle.rh_tagword.specs.Word.{plain_number}
 use Rattle.rh_world.specs.World.{World, In}
-use Rattle.rh_descriptor.specs.declared.shape.Shape.{Shape}
-use Rattle.rh_descriptor.specs.Parts.{cell_count}
-use Rattle.rh_descriptor.specs.View.{OwnDesc, View}
-use Rattle.rh_descriptor.specs.Words.{IsPlain}
+use Rattle.rh_words.specs.declared.shape.Shape.{Shape}
+use Rattle.rh_words.specs.Parts.{cell_count}
+use Rattle.rh_words.specs.View.{OwnDesc, View}
+use Rattle.rh_words.specs.Words.{IsPlain}
 use Rattle.rh_rule.specs.Core.{Core}
 use Rattle.rh_rule.specs.Rest.{AllRest}
 use Rattle.rh_acts.specs.Act.{Act, AllMeet, apply_acts}

@@ -6,9 +6,9 @@ use Rattle.rh_tagword.specs.declared.limits.TheConstants.{TAG_BITS}
 use Rattle.rh_world.specs.World.{Ref, World}
 use Rattle.rh_world.specs.Acts.{cells_after, is_success}
 use Rattle.rh_layout.specs.declared.entry.Entry.{Entry}
-use Rattle.rh_descriptor.specs.declared.shape.Shape.{Shape}
-use Rattle.rh_descriptor.specs.Parts.{cell_count}
-use Rattle.rh_descriptor.specs.View.{OwnDesc, View, own_ref}
+use Rattle.rh_words.specs.declared.shape.Shape.{Shape}
+use Rattle.rh_words.specs.Parts.{cell_count}
+use Rattle.rh_words.specs.View.{OwnDesc, View, own_ref}
 use Rattle.rh_rule.specs.Rest.{is_noted_success}
 use Rattle.rh_acts.specs.Act.{Act, entry}
 use Rattle.rh_acts.specs.Done.{Kept, kept}

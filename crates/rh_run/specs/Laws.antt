@@ -10,11 +10,11 @@ use Rattle.rh_tagword.specs.Word.{plain_number}
 use Rattle.rh_world.specs.World.{World, updated}
 use Rattle.rh_world.specs.World.Control.{succeeded, undecided}
 use Rattle.rh_world.specs.Acts.{cells_after}
-use Rattle.rh_descriptor.specs.declared.shape.Shape.{Shape}
-use Rattle.rh_descriptor.specs.Parts.{IsShape, cell_count}
-use Rattle.rh_descriptor.specs.View.{View, new_view, round_view}
-use Rattle.rh_descriptor.specs.Words.{cell_in, control_word_of}
-use Rattle.rh_descriptor.specs.Steps.{Allowed, Step, StepsTo, noted}
+use Rattle.rh_words.specs.declared.shape.Shape.{Shape}
+use Rattle.rh_words.specs.Parts.{IsShape, cell_count}
+use Rattle.rh_words.specs.View.{View, new_view, round_view}
+use Rattle.rh_words.specs.Words.{cell_in, control_word_of}
+use Rattle.rh_words.specs.Steps.{Allowed, Step, StepsTo, noted}
 use Rattle.rh_rule.specs.Core.{Core}
 use Rattle.rh_rule.specs.Rest.{AllRest}
 use Rattle.rh_rule.specs.Sound.{Sound}

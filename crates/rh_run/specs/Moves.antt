@@ -3,10 +3,10 @@ use Rattle.std.specs.Prelude.{◌≡◌, ℕ, ◌<◌, Option, Bool, List, [], �
 use Rattle.std.specs.List.{Contains}
 use Rattle.rh_layout.specs.Layout.{Keys, Layout}
 use Rattle.rh_ledger.specs.declared.tally.Kind.{Kind}
-use Rattle.rh_descriptor.specs.declared.shape.Shape.{Shape}
-use Rattle.rh_descriptor.specs.Parts.{IsShape, cell_count}
-use Rattle.rh_descriptor.specs.View.{View, round_view}
-use Rattle.rh_descriptor.specs.Steps.{Allowed, Step, StepsTo}
+use Rattle.rh_words.specs.declared.shape.Shape.{Shape}
+use Rattle.rh_words.specs.Parts.{IsShape, cell_count}
+use Rattle.rh_words.specs.View.{View, round_view}
+use Rattle.rh_words.specs.Steps.{Allowed, Step, StepsTo}
 use Rattle.rh_rule.specs.Rest.{AllRest}
 use Rattle.rh_acts.specs.Workers.{LeavesRoom}
 use Rattle.rh_run.specs.Advance.{Advances}

@@ -7,13 +7,13 @@ use Rattle.rh_world.specs.World.Control.{succeeded}
 use Rattle.rh_world.specs.Facts.Fact.{decided}
 use Rattle.rh_world.specs.Sides.{KeptRead}
 use Rattle.rh_world.specs.Acts.{is_success}
-use Rattle.rh_descriptor.specs.declared.reference.Reading.TheVariants as reading
-use Rattle.rh_descriptor.specs.declared.shape.Shape.{Shape}
-use Rattle.rh_descriptor.specs.Parts.{cell_count}
-use Rattle.rh_descriptor.specs.View.{OwnDesc, View, own_ref}
-use Rattle.rh_descriptor.specs.Words.{IsPlain}
-use Rattle.rh_descriptor.specs.Steps.{Allowed, Step, noted}
-use Rattle.rh_descriptor.specs.Steps.Step.{reads}
+use Rattle.rh_words.specs.declared.reference.Reading.TheVariants as reading
+use Rattle.rh_words.specs.declared.shape.Shape.{Shape}
+use Rattle.rh_words.specs.Parts.{cell_count}
+use Rattle.rh_words.specs.View.{OwnDesc, View, own_ref}
+use Rattle.rh_words.specs.Words.{IsPlain}
+use Rattle.rh_words.specs.Steps.{Allowed, Step, noted}
+use Rattle.rh_words.specs.Steps.Step.{reads}
 use Rattle.rh_rule.specs.Represents.{numbers_of}
 use Rattle.rh_rule.specs.Core.{Core}
 use Rattle.rh_rule.specs.Sound.{Sound}

@@ -1,9 +1,9 @@
 -- Rounds of a table, one after the other.
 use Rattle.std.specs.Prelude.{ℕ, ◌≡◌, ◌<◌, List, [], ◌++◌, length, slice_index}
 use Rattle.rh_world.specs.World.{World}
-use Rattle.rh_descriptor.specs.declared.shape.Shape.{Shape}
-use Rattle.rh_descriptor.specs.Parts.{cell_count}
-use Rattle.rh_descriptor.specs.View.{View, new_view, round_view}
+use Rattle.rh_words.specs.declared.shape.Shape.{Shape}
+use Rattle.rh_words.specs.Parts.{cell_count}
+use Rattle.rh_words.specs.View.{View, new_view, round_view}
 use Rattle.rh_acts.specs.Act.{AllMeet, apply_acts}
 use Rattle.rh_acts.specs.Done.{Kept, WereTrue}
 use Rattle.rh_acts.specs.Workers.{Made, AreOf, acts_of, own}

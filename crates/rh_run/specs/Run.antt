@@ -4,8 +4,8 @@ use Rattle.std.specs.Prelude.{◌≡◌, ℕ, ◌<◌, Option, Some, None, Bool,
 use Rattle.std.specs.List.{Contains}
 use Rattle.rh_ledger.specs.declared.tally.Kind.{Kind}
 use Rattle.rh_world.specs.World.{World, In}
-use Rattle.rh_descriptor.specs.declared.shape.Shape.{Shape}
-use Rattle.rh_descriptor.specs.View.{OwnDesc, View}
+use Rattle.rh_words.specs.declared.shape.Shape.{Shape}
+use Rattle.rh_words.specs.View.{OwnDesc, View}
 use Rattle.rh_rule.specs.Core.{Core}
 use Rattle.rh_acts.specs.Act.{Act, AllMeet, apply_acts}
 use Rattle.rh_acts.specs.Done.{Does, IsDone, Kept, WereTrue}

@@ -6,12 +6,12 @@ use Rattle.rh_world.specs.World.Cell.{plain, mark, desc}
 use Rattle.rh_world.specs.World.Control.{succeeded}
 use Rattle.rh_world.specs.Facts.Fact.{desc_is, found}
 use Rattle.rh_world.specs.Sides.{Side}
-use Rattle.rh_descriptor.specs.declared.shape.Shape.{Shape}
-use Rattle.rh_descriptor.specs.declared.shape.Part.TheVariants as part
-use Rattle.rh_descriptor.specs.Parts.{cell_count}
-use Rattle.rh_descriptor.specs.View.{View, own_ref}
-use Rattle.rh_descriptor.specs.Words.{cell_in, control_word_of}
-use Rattle.rh_descriptor.specs.Steps.{IsDesc, IsMark}
+use Rattle.rh_words.specs.declared.shape.Shape.{Shape}
+use Rattle.rh_words.specs.declared.shape.Part.TheVariants as part
+use Rattle.rh_words.specs.Parts.{cell_count}
+use Rattle.rh_words.specs.View.{View, own_ref}
+use Rattle.rh_words.specs.Words.{cell_in, control_word_of}
+use Rattle.rh_words.specs.Steps.{IsDesc, IsMark}
 use Rattle.rh_rule.specs.Represents.{HasItsRow, word_at}
 use Rattle.rh_rule.specs.Rest.{is_noted_success}
 use Rattle.rh_rule.specs.Wipes.{row_total}

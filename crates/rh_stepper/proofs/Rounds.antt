@@ -3,8 +3,8 @@ use Rattle.std.proofs.Common.{◌≡◌, ℕ, ◌+◌, ◌-◌, ◌<◌, ◌≤�
 use Rattle.std.specs.Prelude.{slice_index}
 use Rattle.std.proofs.lemmas.Bool.{cases_eq}
 use Rattle.std.proofs.lemmas.List.{get_or_append_left, get_or-append_right, get_or-drop, get_or-set_other, get_or-set_same, get_or-take, length-append, length-drop, length-take, take_at}
-use Rattle.rh_descriptor.specs.declared.shape.Shape.{Shape}
-use Rattle.rh_descriptor.specs.Parts.{cell_count, word_count}
+use Rattle.rh_words.specs.declared.shape.Shape.{Shape}
+use Rattle.rh_words.specs.Parts.{cell_count, word_count}
 use Rattle.rh_rule.specs.Wipes.{row_total}
 use Rattle.rh_run.specs.Words.{IsWiped}
 use Rattle.rh_turns.specs.declared.hand.Hand.{Hand}

@@ -8,9 +8,9 @@ use Rattle.rh_layout.specs.Layout.{IsLayout, keys_of}
 use Rattle.rh_layout.specs.declared.limits.TheConstants.{MAX_KEY}
 use Rattle.rh_ledger.specs.declared.tally.Kind.{Kind}
 use Rattle.rh_tagword.specs.Word.{IsValue, plain_number}
-use Rattle.rh_descriptor.specs.declared.shape.Shape.{Shape}
-use Rattle.rh_descriptor.specs.Parts.{IsShape, cell_count, word_count}
-use Rattle.rh_descriptor.specs.View.{new_view}
+use Rattle.rh_words.specs.declared.shape.Shape.{Shape}
+use Rattle.rh_words.specs.Parts.{IsShape, cell_count, word_count}
+use Rattle.rh_words.specs.View.{new_view}
 use Rattle.rh_rule.specs.Wipes.{row_total}
 use Rattle.rh_acts.specs.Workers.{LeavesRoom}
 use Rattle.rh_turns.specs.declared.hand.Hand.{Hand}

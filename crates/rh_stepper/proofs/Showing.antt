@@ -6,8 +6,8 @@ use Rattle.std.proofs.lemmas.List.{get_or-set_other, get_or-set_same}
 use Rattle.rh_tagword.specs.declared.limits.TheConstants.{PLAIN, TAG_BITS}
 use Rattle.rh_tagword.specs.declared.word.Word.{Word}
 use Rattle.rh_tagword.specs.Word.{tag_of, word_in, word_with}
-use Rattle.rh_descriptor.specs.Parts.{cell_count}
-use Rattle.rh_descriptor.specs.Words.{cell_said}
+use Rattle.rh_words.specs.Parts.{cell_count}
+use Rattle.rh_words.specs.Words.{cell_said}
 use Rattle.rh_run.specs.History.{history, value_of}
 use Rattle.rh_run.specs.Words.{AreNow, IsLogicalWord, WordStandsFor}
 use Rattle.rh_run.proofs.Saying.{logical_words}

@@ -12,9 +12,9 @@ use Rattle.rh_layout.specs.Test.{layout_test}
 use Rattle.rh_layout.specs.declared.limits.TheConstants.{MAX_KEY}
 use Rattle.rh_ledger.specs.declared.tally.Kind.{Kind}
 use Rattle.rh_ledger.specs.Phase.{most_added}
-use Rattle.rh_descriptor.specs.declared.limits.TheConstants.{MAX_WORKERS}
-use Rattle.rh_descriptor.specs.declared.shape.Rooms.{Rooms}
-use Rattle.rh_descriptor.specs.Parts.{IsShape}
+use Rattle.rh_words.specs.declared.limits.TheConstants.{MAX_WORKERS}
+use Rattle.rh_words.specs.declared.shape.Rooms.{Rooms}
+use Rattle.rh_words.specs.Parts.{IsShape}
 use Rattle.rh_acts.specs.Workers.{LeavesRoom}
 use Rattle.rh_turns.specs.declared.hand.Hand.{Hand}
 use Rattle.rh_turns.specs.declared.hand.Share.{Share}

@@ -7,8 +7,8 @@ use Rattle.rh_ledger.specs.declared.tally.Kind.{Kind}
 use Rattle.rh_ledger.specs.declared.tally.Kind.TheVariants.{Insert, Remove, Ask}
 use Rattle.rh_ledger.specs.Phase.{tally_of}
 use Rattle.rh_ledger.specs.Tally.{none_yet, sum_of}
-use Rattle.rh_descriptor.specs.declared.shape.Shape.{Shape}
-use Rattle.rh_descriptor.specs.View.{View}
+use Rattle.rh_words.specs.declared.shape.Shape.{Shape}
+use Rattle.rh_words.specs.View.{View}
 use Rattle.rh_acts.specs.Workers.{how_many, joined, sum_of_all}
 use Rattle.rh_ledger.specs.Tally.{tally_by}
 use Rattle.rh_acts.proofs.Told.{told_is_changed}

@@ -2,8 +2,8 @@
 use Rattle.std.proofs.Common.{◌≡◌, ℕ, ◌<◌, ◌≤◌, sym, refl, ap, ◌∙◌, subst, arith, Option, Bool, List, [], length, set, get_or}
 use Rattle.std.proofs.lemmas.List.{get_or_default, set-get_or}
 use Rattle.rh_ledger.specs.declared.tally.Kind.{Kind}
-use Rattle.rh_descriptor.specs.declared.steps.StepKind.{StepKind}
-use Rattle.rh_descriptor.specs.View.{new_view}
+use Rattle.rh_words.specs.declared.steps.StepKind.{StepKind}
+use Rattle.rh_words.specs.View.{new_view}
 use Rattle.rh_steps.specs.Relies.{Relies, Serves, Shows}
 use Rattle.rh_worker.specs.Worker.{HasNoRoom}
 use Rattle.rh_turns.specs.declared.hand.Hand.{Hand}

@@ -7,9 +7,9 @@ use Rattle.rh_layout.specs.Test.{layout_test}
 use Rattle.rh_layout.specs.declared.limits.TheConstants.{MAX_KEY}
 use Rattle.rh_ledger.specs.declared.tally.Kind.{Kind}
 use Rattle.rh_ledger.specs.Phase.{most_added}
-use Rattle.rh_descriptor.specs.declared.limits.TheConstants.{MAX_ROOM, MAX_WORKERS}
-use Rattle.rh_descriptor.specs.declared.shape.Rooms.{Rooms}
-use Rattle.rh_descriptor.specs.declared.shape.Shape.{Shape}
+use Rattle.rh_words.specs.declared.limits.TheConstants.{MAX_ROOM, MAX_WORKERS}
+use Rattle.rh_words.specs.declared.shape.Rooms.{Rooms}
+use Rattle.rh_words.specs.declared.shape.Shape.{Shape}
 use Rattle.rh_turns.specs.Game.{Game, keys_at}
 use Rattle.rh_turns.specs.Laws.{GameStarts, WillClaim}
 use Rattle.rh_stepper.specs.declared.fault.PlayFault.{PlayFault}

@@ -1,9 +1,9 @@
 -- What a turn of a worker, and a further round, make of a game.
 use Rattle.std.specs.Prelude.{◌≡◌, ℕ, ◌<◌, ◌≤◌, ◌⊎◌, Option, None, List, length, take, slice_index_or}
-use Rattle.rh_descriptor.specs.declared.shape.Shape.{Shape}
-use Rattle.rh_descriptor.specs.declared.steps.StepKind.{StepKind}
-use Rattle.rh_descriptor.specs.Parts.{cell_count}
-use Rattle.rh_descriptor.specs.Steps.{StepsTo}
+use Rattle.rh_words.specs.declared.shape.Shape.{Shape}
+use Rattle.rh_words.specs.declared.steps.StepKind.{StepKind}
+use Rattle.rh_words.specs.Parts.{cell_count}
+use Rattle.rh_words.specs.Steps.{StepsTo}
 use Rattle.rh_run.specs.Words.{IsWiped}
 use Rattle.rh_worker.specs.Worker.{HasNoRoom}
 use Rattle.rh_turns.specs.declared.hand.Hand.{Hand}

@@ -4,7 +4,7 @@ ghost use Rattle.std.specs.Prelude.{◌≡◌, ◌<◌, None, Some, false, lengt
 ghost use Rattle.rh_layout.specs.Layout.{Layout};
 ghost use Rattle.rh_ledger.specs.Phase.{set_after, tally_of as tally_after};
 ghost use Rattle.rh_ledger.specs.declared.tally.Kind.TheVariants.{Ask};
-ghost use Rattle.rh_descriptor.specs.Parts.{IsShape, cell_count};
+ghost use Rattle.rh_words.specs.Parts.{IsShape, cell_count};
 ghost use Rattle.rh_tagword.specs.Word.{word_in};
 ghost use Rattle.rh_ledger.specs.Tally.{tally_by};
 ghost use Rattle.rh_turns.specs.Game.{AllFinished, IsDoneAt, done_at, keys_at};
@@ -12,10 +12,10 @@ ghost use Rattle.rh_stepper.specs.Made.{AnswersAll, IsAnswer, IsMadeSoFar, Tally
 ghost use Rattle.rh_stepper.specs.Made.{done_count, held_first, is_shared, told_at, told_of};
 
 use crate::player::Player;
-use rh_descriptor::Shape;
 use rh_ledger::{Kind, Tally, tally_by};
 use rh_tagword::{Word, unpack};
 use rh_turns::{Share, logical_value};
+use rh_words::Shape;
 
 impl Player {
     /// The size of the table, as a power of 2.

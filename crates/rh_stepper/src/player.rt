@@ -1,9 +1,9 @@
 //! What a player holds.
 
-use rh_descriptor::Shape;
 use rh_ledger::Kind;
 use rh_recorder::Recorder;
 use rh_turns::Hand;
+use rh_words::Shape;
 use std::marker::Model;
 
 /// Workers that do the keys of a phase on one table, a step a turn. Contracts see the table, the

@@ -3,18 +3,18 @@
 ghost use Rattle.std.specs.Prelude.{◌≡◌, ◌<◌, All, IfOk, length};
 ghost use Rattle.rh_layout.specs.Key.{IsKey};
 ghost use Rattle.rh_layout.specs.Layout.{IsLayout, keys_of};
-ghost use Rattle.rh_descriptor.specs.Parts.{IsShape};
+ghost use Rattle.rh_words.specs.Parts.{IsShape};
 ghost use Rattle.rh_acts.specs.Workers.{LeavesRoom};
 ghost use Rattle.rh_turns.specs.Game.{ArePieces, shares_of};
 ghost use Rattle.rh_stepper.specs.SetUp.{AreDealt, AreNew, AreShares, ClaimsAll};
 ghost use Rattle.rh_stepper.specs.Start.{StartsWith, keys_of_pieces};
 
 use crate::player::Player;
-use rh_descriptor::Shape;
 use rh_ledger::Kind;
 use rh_recorder::Recorder;
 use rh_tagword::plain_words;
 use rh_turns::{Hand, Share};
+use rh_words::Shape;
 use rh_worker::Worker;
 use std::alloc::{AllocError, Global};
 

@@ -6,14 +6,14 @@ ghost use Rattle.rh_ledger.specs.Phase.{most_added};
 ghost use Rattle.rh_stepper.specs.Made.{cut};
 ghost use Rattle.rh_stepper.specs.Start.{IsRooms, MakesPlayer, StartsPieces, StartsShared};
 ghost use Rattle.rh_stepper.specs.Start.{are_keys, keys_of_pieces, shape_for, start_fault, table_fault};
-ghost use Rattle.rh_descriptor.specs.Parts.{usual_rooms};
+ghost use Rattle.rh_words.specs.Parts.{usual_rooms};
 
 use crate::fault::PlayFault;
 use crate::player::Player;
 use crate::set_up::{deal, set_up, share_out};
-use rh_descriptor::{MAX_WORKERS, Rooms, Shape};
 use rh_layout::{MAX_KEY, is_layout, key_in};
 use rh_ledger::Kind;
+use rh_words::{MAX_WORKERS, Rooms, Shape};
 use std::alloc::Global;
 
 impl Player {

@@ -1,7 +1,7 @@
 //! Turns and rounds.
 
 ghost use Rattle.std.specs.Prelude.{◌≡◌, ◌↔◌, All, IsFalse, IsTrue, length};
-ghost use Rattle.rh_descriptor.specs.Parts.{IsShape, word_count};
+ghost use Rattle.rh_words.specs.Parts.{IsShape, word_count};
 ghost use Rattle.rh_run.specs.Words.{IsWiped};
 ghost use Rattle.rh_worker.specs.Worker.{IsWorker};
 ghost use Rattle.rh_turns.specs.Game.{AllFinished, AllStopped};
@@ -9,9 +9,9 @@ ghost use Rattle.rh_turns.specs.Hands.{IsDoneWithin};
 ghost use Rattle.rh_stepper.specs.Turned.{AllBegin, BeginsRound, IsStopped, Traced, Turned, touched_in};
 
 use crate::player::Player;
-use rh_descriptor::Shape;
 use rh_recorder::Touched;
 use rh_turns::{Hand, Turn, take_turn};
+use rh_words::Shape;
 
 impl Player {
     /// Makes the next step of a worker.

@@ -2,9 +2,9 @@
 use Rattle.std.proofs.Common.{ℕ, ◌<◌, List, sym, refl, subst}
 use Rattle.rh_world.specs.World.{World, updated}
 use Rattle.rh_world.proofs.Updated.{updated_here}
-use Rattle.rh_descriptor.specs.declared.shape.Shape.{Shape}
-use Rattle.rh_descriptor.specs.Parts.{IsShape}
-use Rattle.rh_descriptor.specs.View.{View}
+use Rattle.rh_words.specs.declared.shape.Shape.{Shape}
+use Rattle.rh_words.specs.Parts.{IsShape}
+use Rattle.rh_words.specs.View.{View}
 use Rattle.rh_rule.specs.Core.{Core, world_then}
 use Rattle.rh_rule.specs.Represents.{IsOwn, Kept}
 use Rattle.rh_rule.proofs.Soundness.{steps_find, views_are_sound}

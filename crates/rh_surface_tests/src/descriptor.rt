@@ -1,9 +1,9 @@
 //! The words of a shared table, and the steps of a worker on them.
 
-ghost use Rattle.rh_descriptor.specs.Parts.{IsPart, IsShape, word_count};
-ghost use Rattle.rh_descriptor.specs.Steps.{Allowed};
-ghost use Rattle.rh_descriptor.specs.Steps.Step.{claims, decides, opens, places, reads, releases, settles, writes};
-ghost use Rattle.rh_descriptor.specs.Words.{control_of, ref_of};
+ghost use Rattle.rh_words.specs.Parts.{IsPart, IsShape, word_count};
+ghost use Rattle.rh_words.specs.Steps.{Allowed};
+ghost use Rattle.rh_words.specs.Steps.Step.{claims, decides, opens, places, reads, releases, settles, writes};
+ghost use Rattle.rh_words.specs.Words.{control_of, ref_of};
 ghost use Rattle.std.specs.Prelude.{length, option_map, ◌≡◌};
 
 use rh_descriptor::{Entry, Part, Piece, Reading, Ref, Rooms, Shape, Side, StepKind};

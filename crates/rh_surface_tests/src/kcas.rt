@@ -1,11 +1,11 @@
 //! Swaps of several cells.
 
-ghost use Rattle.rh_descriptor.specs.Parts.{IsShape, cell_count};
-ghost use Rattle.rh_descriptor.specs.Steps.{AreEntries, IsKnown};
-ghost use Rattle.rh_descriptor.specs.Words.{ref_of};
-ghost use Rattle.rh_kcas.specs.Crews.{HasAll, SitsAt, IsFresh, IsQuiet, views_of};
-ghost use Rattle.rh_kcas.specs.Rests.{SeatRests};
-ghost use Rattle.rh_rdcss.specs.Calls.{view_of};
+ghost use Rattle.rh_words.specs.Parts.{IsShape, cell_count};
+ghost use Rattle.rh_words.specs.Steps.{AreEntries, IsKnown};
+ghost use Rattle.rh_words.specs.Words.{ref_of};
+ghost use Rattle.rh_shared.specs.Crews.{HasAll, SitsAt, IsFresh, IsQuiet, views_of};
+ghost use Rattle.rh_shared.specs.Rests.{SeatRests};
+ghost use Rattle.rh_shared.specs.Seats.{view_of};
 ghost use Rattle.rh_rule.specs.Seats.{InView};
 ghost use Rattle.rh_tagword.specs.Word.{IsValue};
 ghost use Rattle.rh_world.specs.World.{In};

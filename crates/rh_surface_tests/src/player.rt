@@ -1,6 +1,6 @@
 //! Players and plays.
 
-ghost use Rattle.rh_descriptor.specs.Parts.{cell_count};
+ghost use Rattle.rh_words.specs.Parts.{cell_count};
 ghost use Rattle.rh_stepper.specs.Start.{IsRooms};
 ghost use Rattle.std.specs.Prelude.{length, ◌<◌, ◌≡◌};
 

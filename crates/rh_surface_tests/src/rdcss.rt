@@ -1,9 +1,9 @@
 //! Restricted double-compare single-swaps.
 
-ghost use Rattle.rh_descriptor.specs.Parts.{cell_count};
-ghost use Rattle.rh_descriptor.specs.Steps.{IsDesc};
-ghost use Rattle.rh_descriptor.specs.Words.{ref_of};
-ghost use Rattle.rh_rdcss.specs.Calls.{IsHere, view_of};
+ghost use Rattle.rh_words.specs.Parts.{cell_count};
+ghost use Rattle.rh_words.specs.Steps.{IsDesc};
+ghost use Rattle.rh_words.specs.Words.{ref_of};
+ghost use Rattle.rh_shared.specs.Seats.{IsHere, view_of};
 ghost use Rattle.rh_rdcss.specs.Placing.{MayPlace};
 ghost use Rattle.rh_rdcss.specs.Settling.{Recalls};
 ghost use Rattle.rh_steps.specs.Relies.{Knows};

@@ -1,7 +1,7 @@
 -- The outline of each kind of step, round the point 0 0.
 use Rattle.std.specs.Prelude.{ℕ, List, codes}
-use Rattle.rh_descriptor.specs.declared.steps.StepKind.{StepKind}
-use Rattle.rh_descriptor.specs.declared.steps.StepKind.TheVariants.{Write, Open, Read, Place, Settle, Decide, Release, Claim}
+use Rattle.rh_words.specs.declared.steps.StepKind.{StepKind}
+use Rattle.rh_words.specs.declared.steps.StepKind.TheVariants.{Write, Open, Read, Place, Settle, Decide, Release, Claim}
 
 abbrev pub outline : StepKind → List ℕ
 outline Write = codes "M-5-5H5V5H-5Z"

@@ -3,7 +3,7 @@
 ghost use Rattle.std.specs.Prelude.{◌≡◌};
 ghost use Rattle.rh_svg.specs.Outlines.{outline, reference};
 
-use rh_descriptor::StepKind;
+use rh_words::StepKind;
 
 /// A square, a door, a ring, a triangle, a diamond, a star, a triangle on its tip, and a cross.
 pub(crate) fn outline(kind: StepKind) -> &'static str

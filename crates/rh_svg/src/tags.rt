@@ -8,8 +8,8 @@ ghost use Rattle.rh_svg.specs.declared.tags.Tag.TheVariants.{Box, Dot, Label, Li
 use crate::looks::Look;
 use crate::outlines::{outline, reference};
 use itoa::Buffer;
-use rh_descriptor::StepKind;
 use rh_play::{kind_word, push_texts};
+use rh_words::StepKind;
 use std::alloc::AllocError;
 
 /// The vocabulary of the elements.

@@ -2,7 +2,7 @@
 //! they mean.
 //!
 //! The two lowest bits of a word tell a value from the reference of a mark or a descriptor.
-//! `rh_descriptor` and all crates of the shared table stand on it.
+//! `rh_words` and all crates of the shared table stand on it.
 //!
 //! ```text
 //! pack(Word::Key(17))                              // 72: the cell holds 18, and the tag is 0

@@ -9,9 +9,9 @@ use crate::phrase::{Phrase, digits};
 use crate::traced::Traced;
 use crate::words::{part_phrase, word_phrase};
 use itoa::Buffer;
-use rh_descriptor::Part;
 use rh_play::{kind_word, push_texts};
 use rh_recorder::Touched;
+use rh_words::Part;
 use std::alloc::AllocError;
 
 /// `STEP WORKER KIND PART found WORD`, and ` now WORD` where the word changed.

@@ -1,7 +1,7 @@
 //! Records of steps.
 
-use rh_descriptor::StepKind;
 use rh_recorder::Touched;
+use rh_words::StepKind;
 
 /// A step of a play as it was made.
 #[derive(Clone, Copy)]

@@ -7,8 +7,8 @@ ghost use Rattle.rh_tagword.specs.Control.{control_in};
 ghost use Rattle.rh_tagword.specs.Word.{word_in};
 
 use crate::phrase::Phrase;
-use rh_descriptor::Part;
 use rh_tagword::{State, Word, unpack, unpack_control};
+use rh_words::Part;
 
 pub(crate) fn part_phrase(part: Part) -> Phrase
     ensures { phrase_text result ≡ part_text part }

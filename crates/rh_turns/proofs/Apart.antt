@@ -9,8 +9,8 @@ use Rattle.std.proofs.lemmas.List.FromFn.{get_or-range_with_len, length-range_wi
 use Rattle.rh_ledger.specs.declared.tally.Kind.{Kind}
 use Rattle.rh_world.specs.World.{In, IsFalling, World}
 use Rattle.rh_world.specs.Sides.{Side}
-use Rattle.rh_descriptor.specs.declared.shape.Shape.{Shape}
-use Rattle.rh_descriptor.specs.View.{View, new_view}
+use Rattle.rh_words.specs.declared.shape.Shape.{Shape}
+use Rattle.rh_words.specs.View.{View, new_view}
 use Rattle.rh_rule.specs.Core.{Core}
 use Rattle.rh_rule.specs.Rest.{Told}
 use Rattle.rh_rule.proofs.Telling.{tells}

@@ -5,9 +5,9 @@ use Rattle.rh_world.specs.Facts.Fact.{desc_is, found, old_is, target_is}
 use Rattle.rh_world.specs.Moves.{MayWork}
 use Rattle.rh_world.specs.Sides.{Debt}
 use Rattle.rh_world.proofs.Updated.{some_injective, some_not_none}
-use Rattle.rh_descriptor.specs.declared.shape.Shape.{Shape}
-use Rattle.rh_descriptor.specs.View.{View, new_view, own_ref}
-use Rattle.rh_descriptor.specs.Words.{ref_of}
+use Rattle.rh_words.specs.declared.shape.Shape.{Shape}
+use Rattle.rh_words.specs.View.{View, new_view, own_ref}
+use Rattle.rh_words.specs.Words.{ref_of}
 use Rattle.rh_helping.specs.Goal.{debt_of}
 use Rattle.rh_helping.specs.Held.{IsHeld, KnowsOld}
 use Rattle.rh_helping.specs.declared.goal.Owed.{Owed}

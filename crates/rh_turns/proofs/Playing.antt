@@ -13,17 +13,17 @@ use Rattle.rh_world.specs.World.Control.{unused, undecided, succeeded, withdrawn
 use Rattle.rh_world.specs.Acts.{cells_after}
 use Rattle.rh_world.specs.Logical.{StandsFor, entry_value}
 use Rattle.rh_world.specs.Sides.{AtRest, Side}
-use Rattle.rh_descriptor.specs.declared.shape.Shape.{Shape}
-use Rattle.rh_descriptor.specs.Parts.{cell_count, word_count}
-use Rattle.rh_descriptor.specs.View.{View, new_view}
-use Rattle.rh_descriptor.specs.Words.{IsPlain}
+use Rattle.rh_words.specs.declared.shape.Shape.{Shape}
+use Rattle.rh_words.specs.Parts.{cell_count, word_count}
+use Rattle.rh_words.specs.View.{View, new_view}
+use Rattle.rh_words.specs.Words.{IsPlain}
 use Rattle.rh_rule.specs.Core.{Core}
 use Rattle.rh_rule.specs.Represents.{IsCell}
 use Rattle.rh_rule.specs.Rest.{AllRest}
 use Rattle.rh_rule.proofs.Telling.{tells}
 use Rattle.rh_steps.specs.Relies.{Relies, Serves, Shows}
 use Rattle.rh_steps.proofs.Relying.{workers_may_rely}
-use Rattle.rh_helping.specs.Goal.{IsClear}
+use Rattle.rh_steps.specs.Own.{IsClear}
 use Rattle.rh_worker.specs.Worker.{IsWorker, Stays}
 use Rattle.rh_worker.specs.declared.stage.Stage.{Stage}
 use Rattle.rh_run.specs.Claimed.{claimed}

@@ -1,9 +1,9 @@
 -- What is so of words that record is so of the words alone.
 use Rattle.std.proofs.Common.{ℕ, Option, List, inl, inr, ⊎_elim}
-use Rattle.rh_descriptor.specs.declared.shape.Shape.{Shape}
-use Rattle.rh_descriptor.specs.declared.steps.StepKind.{StepKind}
-use Rattle.rh_descriptor.specs.View.{View}
-use Rattle.rh_descriptor.specs.Steps.{Step, StepsTo}
+use Rattle.rh_words.specs.declared.shape.Shape.{Shape}
+use Rattle.rh_words.specs.declared.steps.StepKind.{StepKind}
+use Rattle.rh_words.specs.View.{View}
+use Rattle.rh_words.specs.Steps.{Step, StepsTo}
 use Rattle.rh_recorder.specs.Records.{Records}
 use Rattle.rh_recorder.specs.declared.recorder.Recorder.{Recorder}
 use Rattle.rh_recorder.specs.declared.recorder.Touched.{Touched}

@@ -4,9 +4,9 @@ use Rattle.std.specs.Prelude.{nat_lt, slice_index, slice_index_or, All}
 use Rattle.std.proofs.lemmas.List.Elements.{All-from_get_or}
 use Rattle.rh_ledger.specs.declared.tally.Kind.{Kind}
 use Rattle.rh_world.specs.World.{In}
-use Rattle.rh_descriptor.specs.declared.shape.Shape.{Shape}
-use Rattle.rh_descriptor.specs.Parts.{cell_count}
-use Rattle.rh_descriptor.specs.View.{View, new_view, round_view}
+use Rattle.rh_words.specs.declared.shape.Shape.{Shape}
+use Rattle.rh_words.specs.Parts.{cell_count}
+use Rattle.rh_words.specs.View.{View, new_view, round_view}
 use Rattle.rh_worker.specs.Worker.{IsBusy}
 use Rattle.rh_worker.specs.declared.stage.Stage.{Stage}
 use Rattle.rh_worker.specs.declared.stage.Stage.TheVariants as stage

@@ -4,8 +4,8 @@ use Rattle.std.specs.Prelude.{slice_index, All}
 use Rattle.std.proofs.lemmas.List.{length-replicate}
 use Rattle.rh_tagword.specs.Word.{plain_number}
 use Rattle.rh_world.specs.World.{In}
-use Rattle.rh_descriptor.specs.declared.shape.Shape.{Shape}
-use Rattle.rh_descriptor.specs.View.{View, new_view}
+use Rattle.rh_words.specs.declared.shape.Shape.{Shape}
+use Rattle.rh_words.specs.View.{View, new_view}
 use Rattle.rh_run.specs.Claimed.{claimed}
 use Rattle.rh_run.specs.Laws.{AreAlike, started}
 use Rattle.rh_run.specs.Run.{Run, RunInvariant}

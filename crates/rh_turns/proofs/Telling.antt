@@ -8,7 +8,7 @@ use Rattle.std.proofs.lemmas.List.FromFn.{length-range_with_len}
 use Rattle.rh_layout.specs.Layout.{Keys, keys_of}
 use Rattle.rh_ledger.specs.declared.tally.Kind.TheVariants.{Ask}
 use Rattle.rh_ledger.specs.Phase.{looked_up}
-use Rattle.rh_descriptor.specs.declared.shape.Shape.{Shape}
+use Rattle.rh_words.specs.declared.shape.Shape.{Shape}
 use Rattle.rh_acts.proofs.Told.{as_many_told}
 use Rattle.rh_run.specs.Claimed.{claimed}
 use Rattle.rh_run.proofs.Answering.{run_answers}

@@ -11,10 +11,10 @@ use Rattle.std.proofs.lemmas.List.Sums.{sum_by_push}
 use Rattle.rh_ledger.specs.declared.tally.Kind.{Kind}
 use Rattle.rh_world.specs.World.{updated}
 use Rattle.rh_world.proofs.Updated.{updated_at, updated_else, updated_here}
-use Rattle.rh_descriptor.specs.declared.shape.Shape.{Shape}
-use Rattle.rh_descriptor.specs.declared.steps.StepKind.{StepKind}
-use Rattle.rh_descriptor.specs.View.{View, new_view}
-use Rattle.rh_descriptor.specs.Steps.{Allowed, Step, StepsTo}
+use Rattle.rh_words.specs.declared.shape.Shape.{Shape}
+use Rattle.rh_words.specs.declared.steps.StepKind.{StepKind}
+use Rattle.rh_words.specs.View.{View, new_view}
+use Rattle.rh_words.specs.Steps.{Allowed, Step, StepsTo}
 use Rattle.rh_run.specs.Advance.{Advances}
 use Rattle.rh_run.specs.Claimed.{claimed}
 use Rattle.rh_run.specs.Laws.{AreAlike, also_done_by, stepped}

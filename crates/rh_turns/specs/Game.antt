@@ -3,9 +3,9 @@ use Rattle.std.specs.Prelude.{zero, suc, ◌≡◌, ℕ, ◌<◌, ◌≤◌, ◌
 use Rattle.rh_layout.specs.Key.{IsKey}
 use Rattle.rh_layout.specs.Layout.{IsLayout, keys_of}
 use Rattle.rh_ledger.specs.declared.tally.Kind.{Kind}
-use Rattle.rh_descriptor.specs.declared.shape.Shape.{Shape}
-use Rattle.rh_descriptor.specs.Parts.{IsShape}
-use Rattle.rh_descriptor.specs.View.{View, new_view}
+use Rattle.rh_words.specs.declared.shape.Shape.{Shape}
+use Rattle.rh_words.specs.Parts.{IsShape}
+use Rattle.rh_words.specs.View.{View, new_view}
 use Rattle.rh_acts.specs.Workers.{LeavesRoom, how_many}
 use Rattle.rh_run.specs.Run.{Run, RunInvariant}
 use Rattle.rh_turns.specs.declared.hand.Hand.{Hand}

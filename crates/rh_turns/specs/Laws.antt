@@ -7,9 +7,9 @@ use Rattle.rh_layout.specs.Layout.{IsLayout, Layout, keys_of}
 use Rattle.rh_ledger.specs.declared.tally.Kind.TheVariants.{Ask}
 use Rattle.rh_ledger.specs.Phase.{looked_up, set_after, tally_of}
 use Rattle.rh_tagword.specs.Word.{plain_number}
-use Rattle.rh_descriptor.specs.declared.shape.Shape.{Shape}
-use Rattle.rh_descriptor.specs.Parts.{IsShape, cell_count}
-use Rattle.rh_descriptor.specs.View.{round_view}
+use Rattle.rh_words.specs.declared.shape.Shape.{Shape}
+use Rattle.rh_words.specs.Parts.{IsShape, cell_count}
+use Rattle.rh_words.specs.View.{round_view}
 use Rattle.rh_rule.specs.Rest.{AllRest}
 use Rattle.rh_rule.specs.Wipes.{row_total}
 use Rattle.rh_acts.specs.Workers.{LeavesRoom, how_many, sum_of_all}

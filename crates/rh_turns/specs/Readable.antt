@@ -1,9 +1,9 @@
 -- That what a cell stands for can be read off the words of a table, and off what its workers hold.
 use Rattle.std.specs.Prelude.{◌≡◌, ℕ, ◌<◌, List, [], length, slice_index, slice_index_or, All}
 use Rattle.rh_world.specs.World.{Ref}
-use Rattle.rh_descriptor.specs.declared.shape.Shape.{Shape}
-use Rattle.rh_descriptor.specs.View.{View, new_view}
-use Rattle.rh_descriptor.specs.Words.{IsPlain, cell_in}
+use Rattle.rh_words.specs.declared.shape.Shape.{Shape}
+use Rattle.rh_words.specs.View.{View, new_view}
+use Rattle.rh_words.specs.Words.{IsPlain, cell_in}
 use Rattle.rh_run.specs.History.{value_of}
 use Rattle.rh_run.specs.Known.{NotesOld}
 use Rattle.rh_run.specs.Words.{HoldsCell, IsLogicalWord, LeadsInside}

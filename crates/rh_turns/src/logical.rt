@@ -1,20 +1,20 @@
 //! What a cell stands for.
 
 ghost use Rattle.std.specs.Prelude.{◌≡◌, ◌<◌, ◌≤◌, ℕ, Some, length};
-ghost use Rattle.rh_descriptor.specs.Parts.{IsShape, cell_count, word_count};
-ghost use Rattle.rh_descriptor.specs.Words.{ref_of};
-ghost use Rattle.rh_descriptor.specs.Steps.{IsDesc};
+ghost use Rattle.rh_words.specs.Parts.{IsShape, cell_count, word_count};
+ghost use Rattle.rh_words.specs.Words.{ref_of};
+ghost use Rattle.rh_words.specs.Steps.{IsDesc};
 ghost use Rattle.rh_rule.specs.Represents.{word_at};
 ghost use Rattle.rh_run.specs.Words.{DescLeads, IsLogicalWord, MarkIsFor, MarkStandsFor, WordStandsFor, entry_for};
 ghost use Rattle.rh_turns.specs.Readable.{AreWorkers, HasHolder, HasNoted, IsReadable, IsValueOf, views_of};
-ghost use Rattle.rh_descriptor.specs.declared.shape.Part.TheVariants as part;
+ghost use Rattle.rh_words.specs.declared.shape.Part.TheVariants as part;
 ghost use Rattle.rh_world.specs.World.Cell.{desc as is_desc};
 ghost use Rattle.rh_world.specs.World.{Ref as Reference};
 
 use crate::hand::Hand;
-use rh_descriptor::{Part, Ref, Shape};
 use rh_helping::{CellContent, what_stands};
 use rh_tagword::{State, pack_control, plain_value};
+use rh_words::{Part, Ref, Shape};
 
 /// What the cell stands for, as a value: what it holds itself, the old value of a mark's entry, or the
 /// value of a descriptor's entry that counts (Harris, Fraser and Pratt 2002). Where the descriptor is

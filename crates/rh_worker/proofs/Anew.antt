@@ -12,9 +12,9 @@ use Rattle.rh_run.specs.Advance.{GoesOn}
 use Rattle.rh_layout.specs.Round.{cell_ahead}
 use Rattle.rh_layout.specs.Order.{home_of}
 use Rattle.rh_run.specs.History.{kept_of, value_of}
-use Rattle.rh_descriptor.specs.declared.shape.Shape.{Shape}
-use Rattle.rh_descriptor.specs.Parts.{cell_count}
-use Rattle.rh_descriptor.specs.View.{View}
+use Rattle.rh_words.specs.declared.shape.Shape.{Shape}
+use Rattle.rh_words.specs.Parts.{cell_count}
+use Rattle.rh_words.specs.View.{View}
 use Rattle.rh_worker.specs.Reading.{HasScanned, IsToldAnew, TellsAnew, seen_back}
 use Rattle.rh_worker.specs.Worker.{WereRead}
 

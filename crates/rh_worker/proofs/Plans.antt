@@ -16,7 +16,7 @@ use Rattle.rh_layout.specs.declared.entry.Entry.{Entry}
 use Rattle.rh_acts.specs.Act.{entry}
 use Rattle.rh_acts.specs.KeyActs.{IsFrontAct, PutsIn, ShowsAbsent, TakesOut}
 use Rattle.rh_acts.specs.Done.{Does}
-use Rattle.rh_descriptor.specs.Words.{IsPlain}
+use Rattle.rh_words.specs.Words.{IsPlain}
 use Rattle.rh_run.specs.History.{act_of, value_of}
 use Rattle.rh_worker.specs.declared.deciding.Decision.{Decision}
 use Rattle.rh_worker.specs.declared.deciding.Decision.TheVariants.{Acts}

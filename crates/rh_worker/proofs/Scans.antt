@@ -9,9 +9,9 @@ use Rattle.rh_world.proofs.Updated.{same_nat}
 use Rattle.rh_layout.specs.declared.entry.Entry.{Entry}
 use Rattle.rh_acts.specs.Done.{IsTold, Kept, kept}
 use Rattle.rh_run.specs.History.{kept_of}
-use Rattle.rh_descriptor.specs.declared.shape.Shape.{Shape}
-use Rattle.rh_descriptor.specs.Parts.{cell_count}
-use Rattle.rh_descriptor.specs.View.{View}
+use Rattle.rh_words.specs.declared.shape.Shape.{Shape}
+use Rattle.rh_words.specs.Parts.{cell_count}
+use Rattle.rh_words.specs.View.{View}
 use Rattle.rh_helping.specs.Next.{Looked, Looking}
 use Rattle.rh_helping.specs.Next.Looked.{On, Sees, Spent}
 use Rattle.rh_helping.specs.Next.{Looking as looking}

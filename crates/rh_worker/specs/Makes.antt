@@ -2,10 +2,10 @@
 use Rattle.std.specs.Prelude.{◌≡◌, ℕ}
 use Rattle.std.specs.List.{Contains}
 use Rattle.rh_acts.specs.Done.{Kept}
-use Rattle.rh_descriptor.specs.declared.shape.Shape.{Shape}
-use Rattle.rh_descriptor.specs.declared.steps.StepKind.{StepKind}
-use Rattle.rh_descriptor.specs.View.{View}
-use Rattle.rh_descriptor.specs.Steps.{Allowed, Step, noted}
+use Rattle.rh_words.specs.declared.shape.Shape.{Shape}
+use Rattle.rh_words.specs.declared.steps.StepKind.{StepKind}
+use Rattle.rh_words.specs.View.{View}
+use Rattle.rh_words.specs.Steps.{Allowed, Step, noted}
 use Rattle.rh_steps.specs.Relies.{Trusts}
 use Rattle.rh_helping.specs.Made.{kind_of}
 use Rattle.rh_run.specs.History.{kept_of}

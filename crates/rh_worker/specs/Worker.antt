@@ -10,12 +10,12 @@ use Rattle.rh_world.specs.World.Control.{withdrawn}
 use Rattle.rh_world.specs.Facts.Fact.{decided}
 use Rattle.rh_acts.specs.Done.{kept}
 use Rattle.rh_layout.specs.declared.entry.Entry.{Entry}
-use Rattle.rh_descriptor.specs.declared.shape.Shape.{Shape}
-use Rattle.rh_descriptor.specs.declared.steps.StepKind.{StepKind}
-use Rattle.rh_descriptor.specs.declared.steps.StepKind.TheVariants as kind
-use Rattle.rh_descriptor.specs.Parts.{cell_count}
-use Rattle.rh_descriptor.specs.View.{OwnDesc, View, own_ref}
-use Rattle.rh_helping.specs.Goal.{IsClear, KnowsOwn, Owns, OwesNothing}
+use Rattle.rh_words.specs.declared.shape.Shape.{Shape}
+use Rattle.rh_words.specs.declared.steps.StepKind.{StepKind}
+use Rattle.rh_words.specs.declared.steps.StepKind.TheVariants as kind
+use Rattle.rh_words.specs.Parts.{cell_count}
+use Rattle.rh_words.specs.View.{OwnDesc, View, own_ref}
+use Rattle.rh_steps.specs.Own.{IsClear, KnowsOwn, Owns, OwesNothing}
 use Rattle.rh_helping.specs.Looking.{IsLooking, kind_of_looking}
 use Rattle.rh_helping.specs.Opening.{IsOpening, kind_of_opening}
 use Rattle.rh_helping.specs.Work.{Stands, kind_of_work}

@@ -1,7 +1,7 @@
 //! Scanning the cells from a key's home on, one Read after the other.
 
 ghost use Rattle.std.specs.Prelude.{◌≡◌, ◌≤◌, IfSome, List, None, length, take};
-ghost use Rattle.rh_descriptor.specs.Parts.{IsShape};
+ghost use Rattle.rh_words.specs.Parts.{IsShape};
 ghost use Rattle.rh_run.specs.Advance.{Advances};
 ghost use Rattle.rh_worker.specs.Makes.{MakesStep};
 ghost use Rattle.rh_steps.specs.Relies.{Relies};
@@ -10,25 +10,25 @@ ghost use Rattle.rh_worker.specs.declared.stage.Stage.TheVariants as stage;
 ghost use Rattle.rh_acts.specs.Done.{IsTold, Kept};
 ghost use Rattle.rh_worker.specs.Reading.{HasScanned, IsToldAnew, ReadsAnew, TellsAnew, seen_at};
 ghost use Rattle.rh_run.specs.History.{kept_of};
-ghost use Rattle.rh_helping.specs.Goal.{IsClear};
+ghost use Rattle.rh_steps.specs.Own.{IsClear};
 ghost use Rattle.rh_helping.specs.Looking.{kind_of_looking};
 ghost use Rattle.rh_helping.specs.Machine.{looking_of};
 ghost use Rattle.rh_worker.specs.Deciding.{IsPlan};
 ghost use Rattle.rh_worker.specs.ScanBuffer.{HasRoom};
 ghost use Rattle.rh_worker.specs.Worker.{EndsAt, Stays, WereRead};
-ghost use Rattle.rh_descriptor.specs.Parts.{cell_count};
+ghost use Rattle.rh_words.specs.Parts.{cell_count};
 ghost use Rattle.rh_layout.specs.Key.{IsKey};
 ghost use Rattle.rh_rule.specs.Sound.{Sound};
 
 use crate::deciding::Decision;
 use crate::stage::{Plan, Stage};
 use crate::worker::Worker;
-use rh_descriptor::Shape;
 use rh_helping::{Opening, Sight, Watch};
 use rh_layout::home;
 use rh_probe::cell_after;
 use rh_steps::Steps;
 use rh_tagword::plain_value;
+use rh_words::Shape;
 
 /// Looks at the next cell, and goes by the value that it holds. Answers whether the key is done, and
 /// how.

@@ -5,8 +5,8 @@ ghost use Rattle.rh_helping.specs.declared.looking.Watch.TheVariants as watch;
 ghost use Rattle.rh_worker.specs.Worker.{kind_of_stage};
 ghost use Rattle.rh_worker.specs.declared.stage.Stage.TheVariants as stage;
 
-use rh_descriptor::StepKind;
 use rh_helping::{Machine, Opening, Watch};
+use rh_words::StepKind;
 
 /// An own descriptor that is to be opened, or is open. Its entries stand in the worker's `ScanBuffer`.
 #[derive(Clone, Copy)]

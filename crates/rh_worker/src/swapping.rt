@@ -14,9 +14,9 @@ ghost use Rattle.rh_helping.specs.Machine.{work_of};
 
 use crate::stage::{Plan, Stage};
 use crate::worker::Worker;
-use rh_descriptor::{Ref, Shape};
 use rh_helping::{Ended, OpenDesc, Opening, Progress};
 use rh_steps::Steps;
+use rh_words::{Ref, Shape};
 
 /// Opens the own descriptor step by step.
 #[inline(always)]

@@ -3,10 +3,10 @@
 ghost use Rattle.std.specs.Prelude.{◌≡◌, ◌↔◌, ◌<◌, ◌⊎◌, ℕ, IfOk, IsTrue, List, []};
 ghost use Rattle.rh_layout.specs.Key.{IsKey};
 ghost use Rattle.rh_world.specs.World.{In};
-ghost use Rattle.rh_descriptor.specs.Parts.{IsShape};
-ghost use Rattle.rh_descriptor.specs.declared.shape.Shape.{Shape};
-ghost use Rattle.rh_descriptor.specs.View.{new_view, round_view};
-ghost use Rattle.rh_descriptor.specs.Steps.Step.{claims};
+ghost use Rattle.rh_words.specs.Parts.{IsShape};
+ghost use Rattle.rh_words.specs.declared.shape.Shape.{Shape};
+ghost use Rattle.rh_words.specs.View.{new_view, round_view};
+ghost use Rattle.rh_words.specs.Steps.Step.{claims};
 ghost use Rattle.rh_run.specs.Advance.{Advances};
 ghost use Rattle.rh_worker.specs.Makes.{MakesStep};
 ghost use Rattle.rh_steps.specs.Relies.{Relies, Went};
@@ -20,10 +20,10 @@ ghost use Rattle.rh_worker.specs.declared.stage.Stage.TheVariants as stage;
 use crate::scan_buffer::ScanBuffer;
 use crate::stage::Stage;
 use crate::{scanning, swapping};
-use rh_descriptor::{Ref, Request, Shape, Side, StepKind};
 use rh_helping::{Machine, Owed};
 use rh_ledger::Kind;
 use rh_steps::Steps;
+use rh_words::{Ref, Request, Shape, Side, StepKind};
 use std::alloc::{AllocError, Global};
 
 /// A worker that does keys one after the other.

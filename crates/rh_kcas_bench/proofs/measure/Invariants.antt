@@ -1,5 +1,5 @@
 use Rattle.rh_rule.specs.Seats.{InView}
-use Rattle.rh_kcas.specs.Crews.{HasAll, IsFresh, views_of}
+use Rattle.rh_shared.specs.Crews.{HasAll, IsFresh, views_of}
 use Rattle.rh_kcas_bench.proofs.measure.Given as goal
 
 abbrev pub invariant-loop : goal.invariant-loop

@@ -1,7 +1,7 @@
 use Rattle.std.proofs.Common.{◌≡◌, ◌∙◌, sym, subst, arith}
 use Rattle.std.proofs.lemmas.Bool.Decides.{nat_tests}
 use Rattle.rh_rule.specs.Seats.{InView}
-use Rattle.rh_kcas.specs.Crews.{IsQuiet}
+use Rattle.rh_shared.specs.Crews.{IsQuiet}
 use Rattle.rh_crew.proofs.Seats.{alone_rests, both_quiet}
 use Rattle.rh_crew.proofs.work.+all_work+fn-all_work-join+arg2+fn-all_work-join+arg3.Goals as goal
 

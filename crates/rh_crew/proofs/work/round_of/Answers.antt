@@ -1,6 +1,6 @@
 use Rattle.std.proofs.Common.{subst, sym}
 use Rattle.rh_rule.specs.Seats.{InView}
-use Rattle.rh_kcas.specs.Crews.{IsQuiet}
+use Rattle.rh_shared.specs.Crews.{IsQuiet}
 use Rattle.rh_crew.proofs.Seats.{both_quiet, fresh_quiet}
 use Rattle.rh_crew.proofs.work.round_of.Goals as goal
 

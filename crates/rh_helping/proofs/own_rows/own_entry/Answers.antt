@@ -1,6 +1,6 @@
 use Rattle.std.proofs.Common.{◌∙◌, refl, sym, arith}
 use Rattle.std.proofs.Math.Pow.{pow_mono}
-use Rattle.rh_descriptor.specs.Words.{ref_of}
+use Rattle.rh_words.specs.Words.{ref_of}
 use Rattle.rh_helping.proofs.Knowing.{entry_here}
 use Rattle.rh_helping.proofs.OwnRows.{open_goal_known, open_inside, own_goal_known}
 use Rattle.rh_helping.proofs.own_rows.own_entry.Goals as goal

@@ -1,7 +1,7 @@
 use Rattle.std.proofs.Common.{ℕ, ◌∙◌, refl, sym, subst}
 use Rattle.rh_world.specs.World.{In}
 use Rattle.rh_world.specs.Facts.Fact.{size_is}
-use Rattle.rh_descriptor.specs.Words.{ref_of}
+use Rattle.rh_words.specs.Words.{ref_of}
 use Rattle.rh_helping.proofs.OwnRows.{open_size, own_size}
 use Rattle.rh_helping.proofs.own_rows.own_size.Goals as goal
 

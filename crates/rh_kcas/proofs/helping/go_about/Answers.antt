@@ -2,7 +2,7 @@ use Rattle.std.proofs.Common.{inl, inr, subst, sym, ◌∙◌}
 use Rattle.rh_helping.specs.Next.{Work}
 use Rattle.rh_helping.specs.Work.{Stands}
 use Rattle.rh_helping.proofs.Growing.{known_sub}
-use Rattle.rh_rdcss.proofs.Lending.{stays_first, stays_on}
+use Rattle.rh_shared.proofs.Lending.{stays_first, stays_on}
 use Rattle.rh_kcas.proofs.Noting.{told_over, made_notes, noted_first, noted_on}
 use Rattle.rh_kcas.proofs.helping.go_about.Goals as goal
 

@@ -1,6 +1,6 @@
 use Rattle.std.proofs.Common.{ap}
-use Rattle.rh_descriptor.specs.View.{View}
-use Rattle.rh_descriptor.specs.Words.{ref_of}
+use Rattle.rh_words.specs.View.{View}
+use Rattle.rh_words.specs.Words.{ref_of}
 use Rattle.rh_helping.proofs.Controls.{saw_control}
 use Rattle.rh_helping.proofs.Starting.{may_read_control}
 use Rattle.rh_kcas.proofs.Helped.{clear_saw, notes_saw, told_saw}

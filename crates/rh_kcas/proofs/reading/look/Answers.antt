@@ -1,6 +1,6 @@
 use Rattle.rh_kcas.proofs.Looking.{none_seen, plain_seen, seen_later}
 use Rattle.rh_kcas.proofs.Noting.{made_notes}
-use Rattle.rh_rdcss.proofs.Lending.{stays_on}
+use Rattle.rh_shared.proofs.Lending.{stays_on}
 use Rattle.rh_kcas.proofs.reading.look.Goals as goal
 
 pub returns-in-Sees-clause-reads : goal.returns-in-Sees-clause-reads

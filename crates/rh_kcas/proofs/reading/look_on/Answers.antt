@@ -1,4 +1,4 @@
-use Rattle.rh_rdcss.proofs.Lending.{stays_first, stays_on}
+use Rattle.rh_shared.proofs.Lending.{stays_first, stays_on}
 use Rattle.rh_kcas.proofs.Looking.{none_seen, plain_seen, seen_later}
 use Rattle.rh_kcas.proofs.Noting.{made_notes, noted_first, noted_on}
 use Rattle.rh_kcas.proofs.reading.look_on.Goals as goal

@@ -1,6 +1,6 @@
 use Rattle.rh_helping.specs.Looking.{IsLooking}
 use Rattle.rh_helping.specs.Machine.{looking_of}
-use Rattle.rh_rdcss.specs.Sits.{Sits, Stays}
+use Rattle.rh_shared.specs.Sits.{Sits, Stays}
 use Rattle.rh_steps.specs.Relies.{Trusts}
 use Rattle.rh_kcas.specs.Swaps.{HasNoted}
 use Rattle.rh_kcas.proofs.reading.look_on.Given as goal

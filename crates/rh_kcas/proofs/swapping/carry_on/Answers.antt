@@ -1,7 +1,7 @@
 use Rattle.std.proofs.Common.{length, subst}
-use Rattle.rh_descriptor.specs.View.{OwnDesc, own_ref}
+use Rattle.rh_words.specs.View.{OwnDesc, own_ref}
 use Rattle.rh_helping.specs.Work.{HasEnded, FailsWithin}
-use Rattle.rh_rdcss.proofs.Lending.{stays_first, stays_on}
+use Rattle.rh_shared.proofs.Lending.{stays_first, stays_on}
 use Rattle.rh_kcas.proofs.Noting.{closed_is, made_notes, noted_first, noted_on}
 use Rattle.rh_kcas.proofs.swapping.carry_on.Goals as goal
 

@@ -1,6 +1,6 @@
 use Rattle.std.proofs.Common.{Some, ℕ, inl, length, subst, sym}
-use Rattle.rh_descriptor.specs.declared.side.Side.{Side}
-use Rattle.rh_descriptor.specs.View.{OwnDesc, own_ref}
+use Rattle.rh_words.specs.declared.side.Side.{Side}
+use Rattle.rh_words.specs.View.{OwnDesc, own_ref}
 use Rattle.rh_world.specs.World.{In}
 use Rattle.rh_world.specs.Facts.Fact.{known}
 use Rattle.rh_helping.specs.Next.{Work}
@@ -9,7 +9,7 @@ use Rattle.rh_helping.specs.Goal.{opened_by}
 use Rattle.rh_helping.specs.Machine.{led}
 use Rattle.rh_helping.specs.Work.{HasEnded, FailsWithin, Leads, Stands}
 use Rattle.rh_helping.proofs.Owing.{open_all_noted}
-use Rattle.rh_rdcss.proofs.Lending.{stays_first, stays_on}
+use Rattle.rh_shared.proofs.Lending.{stays_first, stays_on}
 use Rattle.rh_kcas.specs.Swaps.{HasNoted}
 use Rattle.rh_kcas.proofs.Noting.{closed_is, made_notes, noted_first, noted_on}
 use Rattle.rh_kcas.proofs.swapping.carry_out.Goals as goal

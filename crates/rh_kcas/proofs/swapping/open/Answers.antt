@@ -1,6 +1,6 @@
 use Rattle.std.proofs.Common.{ℕ, suc, Some, ◌∷◌, ◌∙◌, ap, subst, sym}
-use Rattle.rh_helping.specs.Goal.{KnowsOwn}
-use Rattle.rh_rdcss.proofs.Lending.{stays_on}
+use Rattle.rh_steps.specs.Own.{KnowsOwn}
+use Rattle.rh_shared.proofs.Lending.{stays_on}
 use Rattle.rh_kcas.proofs.Left.{fewer_left}
 use Rattle.rh_kcas.proofs.Noting.{made_notes, noted_on, step_opening, step_worker}
 use Rattle.rh_kcas.proofs.swapping.open.Goals as goal

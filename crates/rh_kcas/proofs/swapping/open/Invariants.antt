@@ -1,6 +1,6 @@
 use Rattle.std.proofs.Common.{length}
 use Rattle.rh_helping.specs.Opening.{IsOpening, MayOpen}
-use Rattle.rh_rdcss.specs.Sits.{Sits, Stays}
+use Rattle.rh_shared.specs.Sits.{Sits, Stays}
 use Rattle.rh_steps.specs.Relies.{Trusts}
 use Rattle.rh_kcas.specs.Swaps.{HasNoted}
 use Rattle.rh_kcas.proofs.Left.{steps_left}

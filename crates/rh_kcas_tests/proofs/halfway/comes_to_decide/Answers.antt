@@ -4,7 +4,7 @@ use Rattle.rh_helping.specs.Work.{Stands}
 use Rattle.rh_world.specs.World.{In}
 use Rattle.rh_world.specs.Facts.Fact.{known}
 use Rattle.rh_helping.proofs.Owing.{open_all_noted}
-use Rattle.rh_rdcss.proofs.Lending.{stays_first}
+use Rattle.rh_shared.proofs.Lending.{stays_first}
 use Rattle.rh_kcas_tests.proofs.halfway.comes_to_decide.Goals as goal
 
 pub loop-made-init : goal.loop-made-init

@@ -1,11 +1,11 @@
 use Rattle.std.proofs.Common.{ℕ, Some, ◌∙◌, subst, inl}
 use Rattle.rh_world.specs.World.{In, Ref}
 use Rattle.rh_world.specs.Facts.Fact.{known}
-use Rattle.rh_descriptor.specs.Steps.{IsDesc, IsKnown}
-use Rattle.rh_descriptor.specs.View.{OwnDesc}
+use Rattle.rh_words.specs.Steps.{IsDesc, IsKnown}
+use Rattle.rh_words.specs.View.{OwnDesc}
 use Rattle.rh_helping.proofs.Owing.{nothing_saw, open_all_noted}
 use Rattle.rh_helping.proofs.Starting.{own_saw}
-use Rattle.rh_kcas.proofs.Peeking.{status_saw}
+use Rattle.rh_kcas_tests.proofs.Peeking.{status_saw}
 use Rattle.rh_kcas_tests.proofs.halfway.look.Goals as goal
 
 pub status-requires-clause-desc : goal.status-requires-clause-desc

@@ -1,5 +1,5 @@
 use Rattle.std.proofs.Common.{◌∙◌}
-use Rattle.rh_kcas.proofs.Peeking.{peek_rested}
+use Rattle.rh_kcas_tests.proofs.Peeking.{peek_rested}
 use Rattle.rh_kcas_tests.proofs.helping.help_at.Goals as goal
 
 pub help-requires-clause-rests : goal.help-requires-clause-rests

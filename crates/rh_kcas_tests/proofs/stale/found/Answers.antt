@@ -1,5 +1,5 @@
 use Rattle.std.proofs.Common.{◌∙◌}
-use Rattle.rh_kcas.proofs.Peeking.{peek_rested}
+use Rattle.rh_kcas_tests.proofs.Peeking.{peek_rested}
 use Rattle.rh_kcas_tests.proofs.stale.found.Goals as goal
 
 pub returns-clause-rests : goal.returns-clause-rests

@@ -1,8 +1,9 @@
 use Rattle.std.proofs.Common.{Some, ◌∙◌, subst}
 use Rattle.rh_tagword.specs.declared.control.State.{State}
-use Rattle.rh_descriptor.specs.Words.{ref_of}
-use Rattle.rh_kcas.proofs.Peeking.{status_rested}
-use Rattle.rh_rdcss.specs.Calls.{SeenAs, view_of}
+use Rattle.rh_words.specs.Words.{ref_of}
+use Rattle.rh_kcas_tests.proofs.Peeking.{status_rested}
+use Rattle.rh_shared.specs.Seats.{view_of}
+use Rattle.rh_rdcss.specs.Calls.{SeenAs}
 use Rattle.rh_kcas_tests.proofs.stale.is_undecided.Goals as goal
 
 pub status-requires-clause-desc : goal.status-requires-clause-desc

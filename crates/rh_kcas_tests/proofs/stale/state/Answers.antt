@@ -1,8 +1,8 @@
 use Rattle.std.proofs.Common.{◌∙◌, ap, inl}
-use Rattle.rh_descriptor.specs.View.{View}
-use Rattle.rh_descriptor.specs.Words.{ref_of}
+use Rattle.rh_words.specs.View.{View}
+use Rattle.rh_words.specs.Words.{ref_of}
 use Rattle.rh_kcas.proofs.Helped.{notes_saw}
-use Rattle.rh_kcas.proofs.Peeking.{status_rested, status_saw}
+use Rattle.rh_kcas_tests.proofs.Peeking.{status_rested, status_saw}
 use Rattle.rh_kcas_tests.proofs.Meeting.{may_on}
 use Rattle.rh_kcas_tests.proofs.stale.state.Goals as goal
 

@@ -1,4 +1,4 @@
-use Rattle.rh_rdcss.specs.Calls.{IsHere, view_of}
+use Rattle.rh_shared.specs.Seats.{IsHere, view_of}
 use Rattle.rh_steps.specs.Relies.{Knows}
 use Rattle.rh_kcas_tests.proofs.stale.words.Given as goal
 

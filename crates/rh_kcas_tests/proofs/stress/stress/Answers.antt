@@ -1,5 +1,5 @@
 use Rattle.std.proofs.Common.{ap}
-use Rattle.rh_descriptor.specs.View.{View}
+use Rattle.rh_words.specs.View.{View}
 use Rattle.rh_kcas_tests.proofs.stress.stress.Goals as goal
 
 pub close-requires-clause-rest : goal.close-requires-clause-rest

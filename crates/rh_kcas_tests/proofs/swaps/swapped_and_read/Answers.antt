@@ -1,10 +1,10 @@
 use Rattle.std.proofs.Common.{◌<◌, subst, sym}
 use Rattle.rh_layout.specs.declared.entry.Entry.{Entry}
-use Rattle.rh_descriptor.specs.Parts.{cell_count}
-use Rattle.rh_descriptor.specs.Steps.{no_entry}
+use Rattle.rh_words.specs.Parts.{cell_count}
+use Rattle.rh_words.specs.Steps.{no_entry}
 use Rattle.rh_helping.proofs.OwnRows.{entry_is}
 use Rattle.rh_kcas.specs.Swaps.{HasReadCell}
-use Rattle.rh_rdcss.specs.Calls.{view_of}
+use Rattle.rh_shared.specs.Seats.{view_of}
 use Rattle.rh_kcas_tests.proofs.OwnChanges.{read_back}
 use Rattle.rh_kcas_tests.proofs.swaps.swapped_and_read.Goals as goal
 

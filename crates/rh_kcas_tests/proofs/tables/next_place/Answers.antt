@@ -1,8 +1,8 @@
 use Rattle.std.proofs.Common.{ℕ, ◌<◌, Option, Some, None, IfSome, ⊎_elim, subst, arith}
 use Rattle.rh_world.specs.World.{In}
-use Rattle.rh_descriptor.specs.declared.shape.Shape.{Shape}
-use Rattle.rh_descriptor.specs.View.{View}
-use Rattle.rh_kcas.specs.Swaps.{ClaimsOne, IsClaimed}
+use Rattle.rh_words.specs.declared.shape.Shape.{Shape}
+use Rattle.rh_words.specs.View.{View}
+use Rattle.rh_shared.specs.Claims.{ClaimsOne, IsClaimed}
 use Rattle.rh_kcas_tests.proofs.tables.next_place.Goals as goal
 
 abbrev IsWithin : Shape → View → Type 0

@@ -1,5 +1,5 @@
 use Rattle.std.proofs.Common.{◌≡◌, ◌≤◌}
-use Rattle.rh_kcas.specs.Rests.{SeatRests}
+use Rattle.rh_shared.specs.Rests.{SeatRests}
 use Rattle.rh_kcas_tests.proofs.threads.move_often.Given as goal
 
 abbrev pub invariant-loop-tried : goal.invariant-loop-tried

@@ -1,6 +1,6 @@
 use Rattle.std.proofs.Common.{◌≤◌}
-use Rattle.rh_kcas.specs.Rests.{SeatRests}
-use Rattle.rh_rdcss.specs.Calls.{IsSame}
+use Rattle.rh_shared.specs.Rests.{SeatRests}
+use Rattle.rh_shared.specs.Seats.{IsSame}
 use Rattle.rh_kcas_tests.proofs.working.add.Given as goal
 
 abbrev pub invariant-loop-cell : goal.invariant-loop-cell

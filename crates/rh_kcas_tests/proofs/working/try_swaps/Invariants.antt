@@ -1,5 +1,5 @@
-use Rattle.rh_kcas.specs.Rests.{SeatRests}
-use Rattle.rh_rdcss.specs.Calls.{IsSame}
+use Rattle.rh_shared.specs.Rests.{SeatRests}
+use Rattle.rh_shared.specs.Seats.{IsSame}
 use Rattle.rh_kcas_tests.proofs.working.try_swaps.Given as goal
 
 abbrev pub invariant-loop-tried : goal.invariant-loop-tried

@@ -1,4 +1,4 @@
-use Rattle.rh_rdcss.specs.Calls.{view_of}
+use Rattle.rh_shared.specs.Seats.{view_of}
 use Rattle.rh_phase.proofs.Keying.{done_on, same_on, undone_on}
 use Rattle.rh_phase.proofs.doing.do_in_buffer.Goals as goal
 

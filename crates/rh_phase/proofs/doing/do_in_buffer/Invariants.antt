@@ -1,5 +1,5 @@
-use Rattle.rh_kcas.specs.Rests.{SeatRests}
-use Rattle.rh_rdcss.specs.Calls.{IsSame, view_of}
+use Rattle.rh_shared.specs.Rests.{SeatRests}
+use Rattle.rh_shared.specs.Seats.{IsSame, view_of}
 use Rattle.rh_phase.specs.Buffer.{HasBufferRoom}
 use Rattle.rh_phase.specs.Keys.{IsUndone}
 use Rattle.rh_phase.proofs.doing.do_in_buffer.Given as goal

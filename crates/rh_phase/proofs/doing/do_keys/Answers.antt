@@ -1,6 +1,6 @@
 use Rattle.std.proofs.Common.{◌≡◌, ◌∙◌, ap, refl, subst, sym, true, true≢false, Bool}
 use Rattle.std.specs.Prelude.{slice_index}
-use Rattle.rh_rdcss.specs.Calls.{view_of}
+use Rattle.rh_shared.specs.Seats.{view_of}
 use Rattle.rh_phase.specs.Buffer.{HasBufferRoom}
 use Rattle.rh_phase.specs.Hands.{left_over}
 use Rattle.rh_phase.proofs.Claiming.{among, claims_on}

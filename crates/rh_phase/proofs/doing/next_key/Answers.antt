@@ -1,5 +1,5 @@
 use Rattle.std.proofs.Common.{ℕ, Bool, refl, sym, ap, ◌∙◌, true≢false, [], ◌∷◌, arith}
-use Rattle.rh_rdcss.specs.Calls.{view_of}
+use Rattle.rh_shared.specs.Seats.{view_of}
 use Rattle.rh_phase.specs.Hands.{left_over}
 use Rattle.rh_phase.proofs.Claiming.{claims_below, may_claim}
 use Rattle.rh_phase.proofs.Standing.{stands_claimed, stands_ended}

@@ -1,5 +1,5 @@
 use Rattle.std.proofs.Common.{rules, ⊎_elim, subst}
-use Rattle.rh_rdcss.specs.Calls.{view_of}
+use Rattle.rh_shared.specs.Seats.{view_of}
 use Rattle.rh_phase.specs.Keys.{IsTriedSo}
 use Rattle.rh_phase.proofs.Keying.{done_on, same_on, undone_on}
 use Rattle.rh_phase.proofs.key.do_key.Goals as goal

@@ -1,6 +1,6 @@
 use Rattle.std.proofs.Common.{◌≡◌, length}
-use Rattle.rh_kcas.specs.Rests.{SeatRests}
-use Rattle.rh_rdcss.specs.Calls.{IsSame, view_of}
+use Rattle.rh_shared.specs.Rests.{SeatRests}
+use Rattle.rh_shared.specs.Seats.{IsSame, view_of}
 use Rattle.rh_phase.specs.Keys.{IsUndone}
 use Rattle.rh_phase.proofs.key.do_key.Given as goal
 

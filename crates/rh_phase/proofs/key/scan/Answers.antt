@@ -2,9 +2,9 @@ use Rattle.std.proofs.Common.{suc, ◌≡◌, ◌+◌, ◌≤◌, ◌<◌, ◌^�
 use Rattle.rh_layout.specs.Order.{home_of}
 use Rattle.rh_layout.specs.Round.{cell_ahead}
 use Rattle.rh_tagword.proofs.PlainWords.{value_said}
-use Rattle.rh_descriptor.specs.Parts.{cell_count}
+use Rattle.rh_words.specs.Parts.{cell_count}
 use Rattle.rh_run.specs.History.{kept_of}
-use Rattle.rh_rdcss.specs.Calls.{view_of}
+use Rattle.rh_shared.specs.Seats.{view_of}
 use Rattle.rh_worker.specs.Deciding.{Decides}
 use Rattle.rh_worker.specs.Reading.{HasScanned}
 use Rattle.rh_worker.specs.declared.deciding.Decision.TheVariants.{Done}

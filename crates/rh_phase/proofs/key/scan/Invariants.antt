@@ -2,8 +2,8 @@ use Rattle.std.proofs.Common.{◌≡◌, ◌<◌, ◌≤◌, ℕ, length}
 use Rattle.std.specs.Prelude.{slice_index}
 use Rattle.rh_tagword.specs.Word.{IsValue}
 use Rattle.rh_run.specs.History.{kept_of}
-use Rattle.rh_kcas.specs.Rests.{SeatRests}
-use Rattle.rh_rdcss.specs.Calls.{IsSame, view_of}
+use Rattle.rh_shared.specs.Rests.{SeatRests}
+use Rattle.rh_shared.specs.Seats.{IsSame, view_of}
 use Rattle.rh_worker.specs.Reading.{HasScanned}
 use Rattle.rh_phase.specs.Keys.{IsUndone}
 use Rattle.rh_phase.proofs.key.scan.Given as goal

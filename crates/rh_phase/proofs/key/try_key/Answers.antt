@@ -1,7 +1,7 @@
 use Rattle.std.proofs.Common.{length-take-le, take, arith}
 use Rattle.rh_helping.specs.declared.machine.Ended.TheVariants as ended
 use Rattle.rh_run.specs.History.{act_of}
-use Rattle.rh_rdcss.specs.Calls.{view_of}
+use Rattle.rh_shared.specs.Seats.{view_of}
 use Rattle.rh_worker.proofs.OpenStep.{are_entries, rising_of}
 use Rattle.rh_phase.proofs.Keying.{done_on, done_told, swap_done, swap_failed, swap_given_up, undone_on}
 use Rattle.rh_phase.proofs.key.try_key.Goals as goal

@@ -1,6 +1,6 @@
 use Rattle.std.proofs.Common.{ℕ, List}
 use Rattle.rh_ledger.specs.declared.tally.Kind.{Kind}
-use Rattle.rh_kcas.specs.Crews.{HasAll, views_of}
+use Rattle.rh_shared.specs.Crews.{HasAll, views_of}
 use Rattle.rh_phase.specs.Crew.{CanWork}
 use Rattle.rh_phase.specs.Rounds.{Comes, phase}
 use Rattle.rh_phase.proofs.rounds.rounds.Given as goal

@@ -1,9 +1,9 @@
 use Rattle.std.proofs.Common.{◌≡◌, ◌<◌, length, ap, subst, sym, arith}
 use Rattle.std.specs.Prelude.{IfSome, slice_index_or}
-use Rattle.rh_rdcss.specs.Calls.{view_of}
+use Rattle.rh_shared.specs.Seats.{view_of}
 use Rattle.rh_rule.specs.Seats.{known}
-use Rattle.rh_kcas.specs.Crews.{IsFresh, head_of}
-use Rattle.rh_kcas.proofs.Crews.{fresh_rests}
+use Rattle.rh_shared.specs.Crews.{IsFresh, head_of}
+use Rattle.rh_shared.proofs.Crews.{fresh_rests}
 use Rattle.rh_phase.proofs.Crews.{alone_at, alone_views, first_at, one_worked}
 use Rattle.rh_phase.proofs.seated.work.Goals as goal
 

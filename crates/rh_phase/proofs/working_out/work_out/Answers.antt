@@ -1,8 +1,8 @@
 use Rattle.std.proofs.Common.{◌≡◌, ◌∙◌, ℕ, ◌^◌, map, sym, ap, subst}
 use Rattle.rh_tagword.specs.Word.{plain_number}
-use Rattle.rh_descriptor.specs.declared.shape.Shape.{Shape}
+use Rattle.rh_words.specs.declared.shape.Shape.{Shape}
 use Rattle.rh_rule.specs.Seats.{first_view}
-use Rattle.rh_kcas.specs.Crews.{views_of}
+use Rattle.rh_shared.specs.Crews.{views_of}
 use Rattle.rh_phase.specs.Made.{AreNew}
 use Rattle.rh_phase.specs.declared.crew.Crew.{Crew}
 use Rattle.rh_phase.proofs.Beginning.{can_begin, comes_first, is_value}

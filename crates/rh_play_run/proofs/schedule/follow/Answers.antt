@@ -1,6 +1,6 @@
 use Rattle.std.proofs.Common.{List, [], ◌++◌, sym, ap, ◌∙◌, subst, append-nil, append_assoc}
-use Rattle.rh_descriptor.specs.declared.shape.Shape.{Shape}
-use Rattle.rh_descriptor.specs.Parts.{cell_count}
+use Rattle.rh_words.specs.declared.shape.Shape.{Shape}
+use Rattle.rh_words.specs.Parts.{cell_count}
 use Rattle.rh_play_run.specs.Pieces.{Piece}
 use Rattle.rh_play_run.specs.Schedule.{CarriesOutAll}
 use Rattle.rh_play_run.proofs.Following.{all_followed, nothing_told, orders_from, then_tells}

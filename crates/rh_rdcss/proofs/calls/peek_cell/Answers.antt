@@ -1,7 +1,8 @@
 use Rattle.std.proofs.Common.{subst, sym}
-use Rattle.rh_descriptor.specs.View.{View}
-use Rattle.rh_descriptor.specs.Words.{cell_in}
-use Rattle.rh_rdcss.specs.Calls.{Meets, view_of}
+use Rattle.rh_words.specs.View.{View}
+use Rattle.rh_words.specs.Words.{cell_in}
+use Rattle.rh_shared.specs.Seats.{view_of}
+use Rattle.rh_rdcss.specs.Calls.{Meets}
 use Rattle.rh_rdcss.proofs.Looked.{meets}
 use Rattle.rh_rdcss.proofs.calls.peek_cell.Goals as goal
 

@@ -1,7 +1,8 @@
 use Rattle.std.proofs.Common.{ap, subst, sym, ◌∙◌}
-use Rattle.rh_descriptor.specs.View.{View}
-use Rattle.rh_descriptor.specs.Words.{ref_of}
-use Rattle.rh_rdcss.specs.Calls.{SeenAs, view_of}
+use Rattle.rh_words.specs.View.{View}
+use Rattle.rh_words.specs.Words.{ref_of}
+use Rattle.rh_shared.specs.Seats.{view_of}
+use Rattle.rh_rdcss.specs.Calls.{SeenAs}
 use Rattle.rh_rdcss.proofs.Looked.{same_unsettled, seen_as}
 use Rattle.rh_rdcss.proofs.calls.status.Goals as goal
 

@@ -1,5 +1,5 @@
 use Rattle.std.proofs.Common.{ℕ, refl, subst, sym}
-use Rattle.rh_rdcss.specs.Calls.{view_of}
+use Rattle.rh_shared.specs.Seats.{view_of}
 use Rattle.rh_rdcss.specs.Placing.{Tried}
 use Rattle.rh_rdcss.proofs.MarkRows.{is_mark_for}
 use Rattle.rh_rdcss.proofs.placing.place_there.Goals as goal

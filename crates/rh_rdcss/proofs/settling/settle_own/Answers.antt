@@ -1,11 +1,12 @@
 use Rattle.std.proofs.Common.{ℕ, Option, ◌∙◌, ap, subst, sym}
-use Rattle.rh_descriptor.specs.declared.reference.Piece.{Piece}
-use Rattle.rh_descriptor.specs.Steps.{Allowed}
-use Rattle.rh_descriptor.specs.Steps.Step.{settles}
-use Rattle.rh_descriptor.specs.Words.{ref_of}
+use Rattle.rh_words.specs.declared.reference.Piece.{Piece}
+use Rattle.rh_words.specs.Steps.{Allowed}
+use Rattle.rh_words.specs.Steps.Step.{settles}
+use Rattle.rh_words.specs.Words.{ref_of}
 use Rattle.rh_helping.specs.Settling.{IsFound}
 use Rattle.rh_helping.proofs.Marks.{may_read_control}
-use Rattle.rh_rdcss.specs.Calls.{Learned, view_of}
+use Rattle.rh_shared.specs.Seats.{view_of}
+use Rattle.rh_rdcss.specs.Calls.{Learned}
 use Rattle.rh_rdcss.specs.Settling.{old_of}
 use Rattle.rh_rdcss.proofs.MarksMet.{own_settled, own_settles}
 use Rattle.rh_rdcss.proofs.settling.settle_own.Goals as goal

@@ -1,8 +1,8 @@
 use Rattle.std.proofs.Common.{◌≡◌, ℕ, ◌-◌, ◌<◌, refl, sym, ap, ◌∙◌, subst, arith, List, length, take, get_or}
 use Rattle.std.proofs.lemmas.List.{get_or_default, get_or-set_other, length-set}
 use Rattle.rh_rule.specs.Wipes.{row_total}
-use Rattle.rh_descriptor.specs.Parts.{cell_count}
-use Rattle.rh_descriptor.specs.View.{round_view}
+use Rattle.rh_words.specs.Parts.{cell_count}
+use Rattle.rh_words.specs.View.{round_view}
 use Rattle.rh_worker.specs.Worker.{IsWorker}
 use Rattle.rh_turns.specs.declared.hand.Hand.{Hand}
 use Rattle.rh_turns.specs.Hands.{view_of}

@@ -1,5 +1,5 @@
 use Rattle.std.proofs.Common.{◌≡◌, ℕ, ◌<◌, ◌≤◌, length, take, get_or}
-use Rattle.rh_descriptor.specs.Parts.{cell_count}
+use Rattle.rh_words.specs.Parts.{cell_count}
 use Rattle.rh_turns.specs.declared.hand.Hand.{Hand}
 use Rattle.rh_turns.specs.Laws.{HandBegins}
 use Rattle.rh_stepper.proofs.turns.begin_round.Given as goal

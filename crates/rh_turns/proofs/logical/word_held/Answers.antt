@@ -2,8 +2,8 @@ use Rattle.std.proofs.Common.{◌≡◌, ℕ, ◌+◌, ◌<◌, ap, sym, subst, 
 use Rattle.std.proofs.lemmas.Bool.{cases_eq}
 use Rattle.rh_world.specs.World.Cell.{desc}
 use Rattle.rh_world.proofs.Tests.{is_desc_not, is_ref_yes}
-use Rattle.rh_descriptor.specs.declared.shape.Shape.{Shape}
-use Rattle.rh_descriptor.specs.Words.{ref_of}
+use Rattle.rh_words.specs.declared.shape.Shape.{Shape}
+use Rattle.rh_words.specs.Words.{ref_of}
 use Rattle.rh_helping.specs.Held.{IsHeld}
 use Rattle.rh_run.specs.Words.{HoldsCell}
 use Rattle.rh_worker.specs.Worker.{IsWorker}

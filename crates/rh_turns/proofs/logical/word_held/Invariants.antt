@@ -1,5 +1,5 @@
 use Rattle.std.proofs.Common.{ℕ, ◌<◌}
-use Rattle.rh_descriptor.specs.Words.{ref_of}
+use Rattle.rh_words.specs.Words.{ref_of}
 use Rattle.rh_run.specs.Words.{HoldsCell}
 use Rattle.rh_turns.specs.Readable.{views_of}
 use Rattle.rh_turns.proofs.logical.word_held.Given as goal

@@ -1,5 +1,5 @@
 use Rattle.std.proofs.Common.{◌≡◌}
-use Rattle.rh_descriptor.specs.Words.{ref_of}
+use Rattle.rh_words.specs.Words.{ref_of}
 use Rattle.rh_run.specs.Words.{entry_for}
 use Rattle.rh_turns.proofs.logical.word_in_row.Given as goal
 

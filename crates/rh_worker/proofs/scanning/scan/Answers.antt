@@ -2,8 +2,8 @@ use Rattle.std.proofs.Common.{suc, ◌≡◌, ◌+◌, inl, rules, subst, sym, a
 use Rattle.rh_layout.specs.Order.{home_of}
 use Rattle.rh_tagword.proofs.PlainWords.{value_said, value_there}
 use Rattle.rh_layout.specs.Round.{cell_ahead}
-use Rattle.rh_descriptor.specs.Parts.{cell_count}
-use Rattle.rh_descriptor.specs.View.{View}
+use Rattle.rh_words.specs.Parts.{cell_count}
+use Rattle.rh_words.specs.View.{View}
 use Rattle.rh_run.specs.Advance.{GoesOn}
 use Rattle.rh_helping.specs.Next.Looked.{On, Sees}
 use Rattle.rh_helping.specs.Looking.{kind_of_looking}

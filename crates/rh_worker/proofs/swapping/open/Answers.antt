@@ -1,5 +1,5 @@
 use Rattle.std.proofs.Common.{ap, take, ◌∙◌}
-use Rattle.rh_descriptor.specs.View.{View}
+use Rattle.rh_words.specs.View.{View}
 use Rattle.rh_rule.proofs.SeatsKept.{noted_worker}
 use Rattle.rh_worker.proofs.OpenStep.{may_open, opened_stays}
 use Rattle.rh_worker.proofs.swapping.open.Goals as goal

@@ -2,8 +2,8 @@ use Rattle.std.proofs.Common.{ap, sym, subst, ◌∙◌}
 use Rattle.rh_tagword.specs.declared.control.State.{State}
 use Rattle.rh_tagword.specs.declared.control.State.TheVariants.{Failed}
 use Rattle.rh_tagword.specs.Control.{IsControl}
-use Rattle.rh_descriptor.specs.View.{View}
-use Rattle.rh_descriptor.specs.Words.{control_of}
+use Rattle.rh_words.specs.View.{View}
+use Rattle.rh_words.specs.Words.{control_of}
 use Rattle.rh_helping.specs.Requested.{FollowsDecide}
 use Rattle.rh_helping.specs.Goal.{opened_by}
 use Rattle.rh_helping.specs.Work.{IsOver}

@@ -1,7 +1,7 @@
 use Rattle.std.proofs.Common.{None, Some, ap, inl, refl, sym, ◌∙◌}
 use Rattle.rh_helping.specs.CellContent.{state_said}
 use Rattle.rh_tagword.specs.declared.control.State.TheVariants.{Withdrawn}
-use Rattle.rh_descriptor.specs.Words.{ref_of}
+use Rattle.rh_words.specs.Words.{ref_of}
 use Rattle.rh_helping.specs.Goal.{opened_by}
 use Rattle.rh_helping.proofs.Controls.{decided_other, saw_decided}
 use Rattle.rh_helping.proofs.Decisions.{own_open}

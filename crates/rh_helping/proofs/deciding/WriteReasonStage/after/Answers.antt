@@ -1,5 +1,5 @@
 use Rattle.std.proofs.Common.{arith, refl}
-use Rattle.rh_descriptor.specs.Parts.{reason_row}
+use Rattle.rh_words.specs.Parts.{reason_row}
 use Rattle.rh_helping.specs.Goal.{opened_by}
 use Rattle.rh_helping.specs.Next.Outcome.{On}
 use Rattle.rh_helping.specs.Next.{Work as work}

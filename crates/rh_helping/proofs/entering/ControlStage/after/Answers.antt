@@ -1,5 +1,5 @@
 use Rattle.std.proofs.Common.{None, Some, inr}
-use Rattle.rh_descriptor.specs.Words.{ref_of}
+use Rattle.rh_words.specs.Words.{ref_of}
 use Rattle.rh_helping.specs.Goal.{opened_by}
 use Rattle.rh_helping.proofs.Controls.{saw_control}
 use Rattle.rh_helping.proofs.Owing.{nothing_saw}

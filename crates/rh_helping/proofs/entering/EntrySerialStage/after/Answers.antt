@@ -1,11 +1,12 @@
 use Rattle.std.proofs.Common.{Option, inr, sym, subst}
 use Rattle.rh_world.specs.World.{In}
 use Rattle.rh_world.specs.Facts.Fact.{stale}
-use Rattle.rh_descriptor.specs.Words.{ref_of}
-use Rattle.rh_descriptor.specs.View.{View}
-use Rattle.rh_descriptor.specs.View.RowWord.{cell_word, new_word, old_word}
+use Rattle.rh_words.specs.Words.{ref_of}
+use Rattle.rh_words.specs.View.{View}
+use Rattle.rh_words.specs.View.RowWord.{cell_word, new_word, old_word}
 use Rattle.rh_helping.specs.declared.goal.Owed.{Owed}
-use Rattle.rh_helping.specs.Goal.{GivesBack, HasReason, KnowsGoal, KnowsOwn, OwesNothing, opened_by}
+use Rattle.rh_steps.specs.Own.{KnowsOwn, OwesNothing}
+use Rattle.rh_helping.specs.Goal.{GivesBack, HasReason, KnowsGoal, opened_by}
 use Rattle.rh_helping.specs.Machine.{goal_of}
 use Rattle.rh_helping.specs.Work.{IsGivenUp, Owes}
 use Rattle.rh_helping.proofs.Growing.{own_grows, owes_grows, reason_grows}

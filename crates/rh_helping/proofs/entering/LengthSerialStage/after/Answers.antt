@@ -1,10 +1,11 @@
 use Rattle.std.proofs.Common.{None, inr, sym, subst}
 use Rattle.rh_world.specs.World.{In}
 use Rattle.rh_world.specs.Facts.Fact.{stale}
-use Rattle.rh_descriptor.specs.Words.{ref_of}
-use Rattle.rh_descriptor.specs.View.{View}
-use Rattle.rh_descriptor.specs.View.RowWord.{length_word}
-use Rattle.rh_helping.specs.Goal.{KnowsOwn, OwesNothing, opened_by}
+use Rattle.rh_words.specs.Words.{ref_of}
+use Rattle.rh_words.specs.View.{View}
+use Rattle.rh_words.specs.View.RowWord.{length_word}
+use Rattle.rh_steps.specs.Own.{KnowsOwn, OwesNothing}
+use Rattle.rh_helping.specs.Goal.{opened_by}
 use Rattle.rh_helping.specs.Work.{Begins}
 use Rattle.rh_helping.proofs.Growing.{met_grows, nothing_grows, own_grows}
 use Rattle.rh_helping.proofs.Rows.{serial_stale, serial_grows, serial_tells}

@@ -1,6 +1,6 @@
 use Rattle.std.proofs.Common.{◌∷◌, inl, refl}
-use Rattle.rh_descriptor.specs.Words.{ref_of}
-use Rattle.rh_descriptor.specs.View.RowWord.{length_word}
+use Rattle.rh_words.specs.Words.{ref_of}
+use Rattle.rh_words.specs.View.RowWord.{length_word}
 use Rattle.rh_helping.specs.Next.Outcome.{On}
 use Rattle.rh_helping.specs.Next.{Work as work}
 use Rattle.rh_helping.proofs.Growing.{foreign_grows, met_grows, nothing_grows, own_grows}

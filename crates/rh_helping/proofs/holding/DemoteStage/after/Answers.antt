@@ -1,9 +1,10 @@
 use Rattle.std.proofs.Common.{None, Some, ap, sym, subst, ◌∙◌}
-use Rattle.rh_descriptor.specs.View.{View}
-use Rattle.rh_descriptor.specs.Words.{ref_of}
+use Rattle.rh_words.specs.View.{View}
+use Rattle.rh_words.specs.Words.{ref_of}
 use Rattle.rh_helping.specs.declared.goal.Owed.{Owed}
 use Rattle.rh_helping.specs.declared.goal.Task.{Task}
-use Rattle.rh_helping.specs.Goal.{KnowsOwn, opened_by}
+use Rattle.rh_steps.specs.Own.{KnowsOwn}
+use Rattle.rh_helping.specs.Goal.{opened_by}
 use Rattle.rh_helping.specs.Work.{Begins, IsDecidedOrStale}
 use Rattle.rh_helping.proofs.Marking.{demoted, demoted_stale, settled_own}
 use Rattle.rh_helping.proofs.holding.DemoteStage.after.Goals as goal

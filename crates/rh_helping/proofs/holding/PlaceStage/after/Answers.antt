@@ -1,13 +1,14 @@
 use Rattle.std.proofs.Common.{◌≡◌, ◌+◌, ◌-◌, ap, arith, inl, inr, refl, suc, sym, subst, ◌∙◌}
 use Rattle.rh_world.specs.Facts.Fact.{found, installed, met, mismatch}
-use Rattle.rh_descriptor.specs.declared.reference.Ref.{Ref as Reference}
-use Rattle.rh_descriptor.specs.View.{View}
-use Rattle.rh_descriptor.specs.Words.{ref_of}
+use Rattle.rh_words.specs.declared.reference.Ref.{Ref as Reference}
+use Rattle.rh_words.specs.View.{View}
+use Rattle.rh_words.specs.Words.{ref_of}
 use Rattle.rh_helping.specs.Next.Outcome.{On}
 use Rattle.rh_helping.specs.Next.{Work as work}
 use Rattle.rh_helping.specs.Next.{Settles as settles}
 use Rattle.rh_helping.specs.Next.{Settles}
-use Rattle.rh_helping.specs.Goal.{KnowsOwn, opened_by}
+use Rattle.rh_steps.specs.Own.{KnowsOwn}
+use Rattle.rh_helping.specs.Goal.{opened_by}
 use Rattle.rh_helping.specs.Machine.{goal_of}
 use Rattle.rh_helping.specs.Work.{IsNextTask, Leads}
 use Rattle.rh_helping.proofs.Growing.{at_grows, nothing_grows, own_grows}

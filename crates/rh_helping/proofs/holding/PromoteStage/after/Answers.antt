@@ -1,5 +1,5 @@
 use Rattle.std.proofs.Common.{ap, eqb, None, ℕ}
-use Rattle.rh_descriptor.specs.Words.{ref_of}
+use Rattle.rh_words.specs.Words.{ref_of}
 use Rattle.rh_helping.specs.Next.Outcome.{On}
 use Rattle.rh_helping.specs.Next.{Work as work}
 use Rattle.rh_helping.specs.Machine.{goal_of}

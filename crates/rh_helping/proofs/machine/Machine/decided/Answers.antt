@@ -2,7 +2,7 @@ use Rattle.std.proofs.Common.{None, Some, ap, inr, refl, sym, subst, ◌∙◌}
 use Rattle.rh_world.specs.World.{In}
 use Rattle.rh_world.specs.Facts.Fact.{stale}
 use Rattle.rh_helping.specs.CellContent.{state_said}
-use Rattle.rh_descriptor.specs.Words.{ref_of}
+use Rattle.rh_words.specs.Words.{ref_of}
 use Rattle.rh_helping.specs.Goal.{opened_by}
 use Rattle.rh_helping.specs.Work.{Begins}
 use Rattle.rh_helping.proofs.Controls.{saw_decided}

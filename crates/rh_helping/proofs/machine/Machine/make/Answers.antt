@@ -1,5 +1,5 @@
 use Rattle.std.proofs.Common.{sym, subst}
-use Rattle.rh_descriptor.specs.Steps.{Allowed, Step}
+use Rattle.rh_words.specs.Steps.{Allowed, Step}
 use Rattle.rh_helping.specs.Machine.{work_at}
 use Rattle.rh_helping.proofs.Requesting.{asked_made, may_request, of_work}
 use Rattle.rh_helping.proofs.machine.Machine.make.Goals as goal

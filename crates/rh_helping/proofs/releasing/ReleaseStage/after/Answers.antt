@@ -1,5 +1,5 @@
 use Rattle.std.proofs.Common.{ap, arith, inl, refl, subst, sym, true≢false, ◌+◌, ◌∙◌, Option}
-use Rattle.rh_descriptor.specs.View.{View}
+use Rattle.rh_words.specs.View.{View}
 use Rattle.rh_helping.specs.declared.goal.Owed.{Owed}
 use Rattle.rh_helping.specs.declared.machine.Ended.{Ended}
 use Rattle.rh_helping.specs.Next.Outcome.{Closed}

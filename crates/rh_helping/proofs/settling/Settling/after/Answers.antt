@@ -1,8 +1,8 @@
 use Rattle.std.proofs.Common.{◌≡◌, ◌∙◌, sym, subst, None, Some}
-use Rattle.rh_descriptor.specs.declared.reference.Piece.{Piece}
-use Rattle.rh_descriptor.specs.View.{View}
-use Rattle.rh_descriptor.specs.Words.{ref_of}
-use Rattle.rh_descriptor.specs.View.RowWord.{old_word}
+use Rattle.rh_words.specs.declared.reference.Piece.{Piece}
+use Rattle.rh_words.specs.View.{View}
+use Rattle.rh_words.specs.Words.{ref_of}
+use Rattle.rh_words.specs.View.RowWord.{old_word}
 use Rattle.rh_world.specs.Facts.Fact.{may_demote}
 use Rattle.rh_helping.specs.Requested.{SettledFrom}
 use Rattle.rh_helping.specs.Machine.{settling_at}

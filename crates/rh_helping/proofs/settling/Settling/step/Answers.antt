@@ -1,5 +1,5 @@
 use Rattle.std.proofs.Common.{refl, sym, subst}
-use Rattle.rh_descriptor.specs.Steps.{Allowed, Step}
+use Rattle.rh_words.specs.Steps.{Allowed, Step}
 use Rattle.rh_helping.specs.Machine.{settling_of}
 use Rattle.rh_helping.proofs.Requesting.{asked_made, may_ask_mark, of_mark}
 use Rattle.rh_helping.proofs.settling.Settling.step.Goals as goal

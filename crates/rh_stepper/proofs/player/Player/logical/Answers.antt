@@ -2,7 +2,7 @@ use Rattle.std.proofs.Common.{◌≡◌, ◌∙◌, ℕ, List, length, sym, ap, 
 use Rattle.std.proofs.lemmas.List.{length-set}
 use Rattle.rh_layout.specs.Layout.{Layout, keys_of}
 use Rattle.rh_ledger.specs.Phase.{set_after}
-use Rattle.rh_descriptor.specs.Parts.{cell_count}
+use Rattle.rh_words.specs.Parts.{cell_count}
 use Rattle.rh_run.proofs.Standing.{one_now}
 use Rattle.rh_turns.specs.Game.{Game, Plays, keep}
 use Rattle.rh_turns.specs.declared.hand.Hand.{Hand}

@@ -1,8 +1,8 @@
 use Rattle.std.proofs.Common.{◌≡◌, ◌∙◌, ◌<◌, ◌^◌, List, ℕ, length, sym, ap, subst, arith, rules}
 use Rattle.rh_layout.specs.Layout.{IsLayout, keys_of}
 use Rattle.rh_acts.specs.Workers.{LeavesRoom}
-use Rattle.rh_descriptor.specs.declared.shape.Shape.{Shape}
-use Rattle.rh_descriptor.specs.Parts.{IsShape}
+use Rattle.rh_words.specs.declared.shape.Shape.{Shape}
+use Rattle.rh_words.specs.Parts.{IsShape}
 use Rattle.rh_stepper.specs.Made.{cut}
 use Rattle.rh_stepper.specs.Start.{shape_for}
 use Rattle.rh_stepper.proofs.Setting.{will_claim}

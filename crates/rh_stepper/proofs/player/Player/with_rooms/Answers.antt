@@ -3,8 +3,8 @@ use Rattle.std.specs.Prelude.{All}
 use Rattle.rh_layout.specs.Key.{IsKey}
 use Rattle.rh_layout.specs.Layout.{IsLayout, keys_of}
 use Rattle.rh_acts.specs.Workers.{LeavesRoom}
-use Rattle.rh_descriptor.specs.declared.shape.Shape.{Shape}
-use Rattle.rh_descriptor.specs.Parts.{IsShape}
+use Rattle.rh_words.specs.declared.shape.Shape.{Shape}
+use Rattle.rh_words.specs.Parts.{IsShape}
 use Rattle.rh_stepper.specs.SetUp.{AreDealt}
 use Rattle.rh_stepper.specs.Start.{are_keys, keys_of_pieces}
 use Rattle.rh_stepper.proofs.Starting.{all_keys, has_room, is_shape, made_none, no_fault, pieces_are, refuses_key, refuses_memory}

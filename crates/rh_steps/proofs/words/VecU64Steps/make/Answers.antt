@@ -1,8 +1,8 @@
 use Rattle.std.proofs.Common.{List, ◌≡◌, ◌∙◌, ℕ, length, subst, sym}
 use Rattle.std.specs.Vec.{with_items}
 use Rattle.std.proofs.lemmas.List.{with_items_is}
-use Rattle.rh_descriptor.specs.Requests.{step_asked}
-use Rattle.rh_descriptor.specs.Steps.{StepsTo}
+use Rattle.rh_words.specs.Requests.{step_asked}
+use Rattle.rh_words.specs.Steps.{StepsTo}
 use Rattle.rh_rule.specs.Sound.{Finds}
 use Rattle.rh_steps.specs.Relies.{Shows}
 use Rattle.rh_steps.proofs.words.VecU64Steps.make.Goals as goal

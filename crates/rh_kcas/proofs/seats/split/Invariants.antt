@@ -1,4 +1,0 @@
-use Rattle.rh_kcas.proofs.seats.split.Given as goal
-
-abbrev pub ghosts-cut : goal.ghosts-cut
-ghosts-cut a = record { at = a._at }

@@ -1,6 +1,0 @@
-use Rattle.std.proofs.Common.{◌∙◌, sym}
-use Rattle.rh_rdcss.proofs.Lending.{unchanged}
-use Rattle.rh_rdcss.proofs.on_table.OnTableSteps.own_word.Goals as goal
-
-pub returns-clause-same : goal.returns-clause-same
-returns-clause-same c = unchanged _ _ c.load.ensures.stays (c.load.ensures.tells.view ∙ sym c.requires.trusts.rows.view)

@@ -1,0 +1,51 @@
+-- Seats of several workers.
+use Rattle.std.specs.Prelude.{◌≡◌, ℕ, ◌+◌, ◌≤◌, None, List, [], ◌∷◌, ◌++◌, take, drop}
+use Rattle.rh_world.specs.Sides.{AtRest}
+use Rattle.rh_words.specs.declared.known.Known.{Known}
+use Rattle.rh_words.specs.View.{View, new_view, round_view}
+use Rattle.rh_shared.specs.declared.seat.Seat.{Seat}
+use Rattle.rh_shared.specs.declared.table.Table.{Table}
+
+-- the seat is at the table, and its workers are of it
+pub record SitsAt (t : Table) (s : Seat) : Type 0 where
+  pub own : s.inner.table_id ≡ t.inner.shared.table_id
+  pub within : s.side.worker + s.count ≤ t.shape.workers
+
+-- it has all workers
+pub record HasAll (t : Table) (s : Seat) : Type 0 where
+  pub own : s.inner.table_id ≡ t.inner.shared.table_id
+  pub first : s.side.worker ≡ 0
+  pub count : s.count ≡ t.shape.workers
+
+-- what is kept of its workers
+abbrev pub views_of : Seat → List Known
+views_of s = s.inner.me.0
+
+-- what is kept of the first of them
+abbrev pub head_of : List Known → View
+head_of [] = new_view [] 0
+head_of (k ∷ ks) = k.view
+
+-- the worker did nothing since the table was made or wiped, but for Claims
+abbrev pub IsFresh : View → Type 0
+IsFresh v = v ≡ round_view v.opening v
+
+-- nothing of the worker is open or owed, and no wipe is under way
+pub record IsQuiet (v : View) : Type 0 where
+  pub still : v.wiping ≡ None
+  pub rest : AtRest v.side
+
+-- the workers from this one on have a seat of their own
+pub record IsCut (s left right : Seat) (at : ℕ) : Type 0 where
+  pub first : left.side.worker ≡ s.side.worker
+  pub middle : s.side.worker + left.count ≡ at
+  pub second : right.side.worker ≡ at
+  pub end : at + right.count ≡ s.side.worker + s.count
+  pub left_views : views_of left ≡ take left.count (views_of s)
+  pub right_views : views_of right ≡ drop left.count (views_of s)
+
+-- one seat has the workers of both
+pub record IsJoined (left right both : Seat) : Type 0 where
+  pub first : both.side.worker ≡ left.side.worker
+  pub count : both.count ≡ left.count + right.count
+  pub views : views_of both ≡ views_of left ++ views_of right

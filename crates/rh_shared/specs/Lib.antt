@@ -1,0 +1,7 @@
+pub mod Sits
+pub mod Seats
+pub mod Rests
+pub mod Claims
+pub mod Crews
+pub mod Ends
+pub mod Fits

@@ -1,0 +1,101 @@
+//! The single steps of one worker's seat: each is one load, swap, compare-and-swap or increment of one
+//! word of the table.
+
+ghost use Rattle.std.specs.Prelude.{◌+◌, ◌%◌, ◌^◌};
+ghost use Rattle.rh_words.specs.Steps.{swapped};
+ghost use Rattle.rh_rule.specs.Seats.{StepTells};
+ghost use Rattle.rh_shared.specs.Sits.{Ready, Stays};
+
+use crate::on_table::OnTable;
+use atomic_table::Play;
+use rh_words::{Known, Request, Side};
+use std::collections::LinkedList;
+use std::marker::{Brand, PhantomData};
+
+/// Which step a call makes, and of whom this is kept before it. Each call in the program picks it, by
+/// its arguments alone: so the functions below are given the side and the step too.
+pub(crate) trait Makes {
+    ghost use Rattle.rh_words.specs.declared.shape.Shape.{Shape};
+    ghost use Rattle.rh_words.specs.Steps.{Step};
+    ghost use Rattle.rh_words.specs.View.{View};
+
+    ghost shape: { Shape };
+
+    ghost view: { View };
+
+    ghost step: { Step };
+}
+
+impl Makes for Brand {
+    ghost use Rattle.std.specs.Prelude.{[]};
+    ghost use Rattle.rh_words.specs.Steps.Step.{claims};
+    ghost use Rattle.rh_words.specs.View.{new_view};
+
+    ghost shape = { record { bits = 3; workers = 0; keys = 0; rooms = record { descriptors = 0; marks = 0 } } };
+
+    ghost view = { new_view [] 0 };
+
+    ghost step = { claims };
+}
+
+struct Making<B> {
+    of: PhantomData<B>,
+}
+
+impl<B: Makes> Play<(), LinkedList<Known>> for Making<B> {
+    ghost then = { λ _ _ word me. StepTells B.shape B.view B.step word me };
+}
+
+#[inline(always)]
+pub(crate) fn load<B: Makes>(here: &mut OnTable<'_>, _side: &Side, _ask: Request, at: usize) -> u64
+    requires { Ready here.old B.shape B.view B.step at (λ n. n) }
+    ensures stays { Stays here.old here.new }
+    ensures tells { StepTells B.shape B.view B.step result here.new.seat.now.me }
+{
+    let shared = &here.table.inner.shared;
+    shared.load::<Making<B>>(&mut *here.seat, at)
+}
+
+/// A swap and no store, since only a swap tells what it found: so each step is told alike.
+#[inline(always)]
+pub(crate) fn exchange<B: Makes>(
+    here: &mut OnTable<'_>,
+    _side: &Side,
+    _ask: Request,
+    at: usize,
+    new: u64,
+) -> u64
+    requires { Ready here.old B.shape B.view B.step at (λ _. new) }
+    ensures stays { Stays here.old here.new }
+    ensures tells { StepTells B.shape B.view B.step result here.new.seat.now.me }
+{
+    let shared = &here.table.inner.shared;
+    shared.swap::<Making<B>>(&mut *here.seat, at, new)
+}
+
+#[inline(always)]
+pub(crate) fn swap<B: Makes>(
+    here: &mut OnTable<'_>,
+    _side: &Side,
+    _ask: Request,
+    at: usize,
+    old: u64,
+    new: u64,
+) -> u64
+    requires { Ready here.old B.shape B.view B.step at (swapped old new) }
+    ensures stays { Stays here.old here.new }
+    ensures tells { StepTells B.shape B.view B.step result here.new.seat.now.me }
+{
+    let shared = &here.table.inner.shared;
+    shared.compare_exchange::<Making<B>>(&mut *here.seat, at, old, new)
+}
+
+#[inline(always)]
+pub(crate) fn count<B: Makes>(here: &mut OnTable<'_>, _side: &Side, _ask: Request, at: usize) -> u64
+    requires { Ready here.old B.shape B.view B.step at (λ n. (n + 1) % 2 ^ 64) }
+    ensures stays { Stays here.old here.new }
+    ensures tells { StepTells B.shape B.view B.step result here.new.seat.now.me }
+{
+    let shared = &here.table.inner.shared;
+    shared.fetch_add::<Making<B>>(&mut *here.seat, at, 1)
+}
