@@ -8,7 +8,7 @@ ghost use Rattle.rh_shared.specs.Rests.{SeatRests};
 ghost use Rattle.rh_shared.specs.Seats.{IsSame};
 ghost use Rattle.rh_rule.specs.Seats.{InView};
 
-use rh_kcas::{Seat, Table, join, split, wipe};
+use rh_shared::{Seat, Table, join, split, wipe};
 use std::thread;
 use std::thread::Threads;
 

@@ -13,7 +13,7 @@ use Rattle.rh_rule.specs.Rest.{Told}
 use Rattle.rh_helping.specs.Opening.{next_own}
 use Rattle.rh_helping.specs.declared.machine.Ended.TheVariants as ended
 use Rattle.rh_steps.specs.Relies.{Knows}
-use Rattle.rh_kcas.specs.Swaps.{RestSpec}
+use Rattle.rh_swaps.specs.Swaps.{RestSpec}
 
 -- A worker of whom v was kept asked for a swap of these entries, which failed at entry e. After so many acts the entry's cell
 -- did not hold its old value. Among these are all acts that the worker had made, and no other one of it. They are not fewer

@@ -1,3 +1,4 @@
-pub mod Swaps
 pub mod Failures
+pub mod Fits
+pub mod Helps
 pub mod Reads

@@ -8,7 +8,7 @@ use Rattle.rh_words.specs.declared.shape.Shape.{Shape}
 use Rattle.rh_words.specs.View.{View}
 use Rattle.rh_rule.specs.Erased.{erased_read}
 use Rattle.rh_rule.specs.Rest.{Told}
-use Rattle.rh_kcas.specs.Swaps.{HasReadCell}
+use Rattle.rh_swaps.specs.Swaps.{HasReadCell}
 
 -- A worker of whom v was kept read this word in cell c. After so many acts the cell held the word. Among these are all acts that
 -- the worker had made, and no other one of it; and they are not fewer than those at anything that it had read before.

@@ -5,7 +5,7 @@ use Rattle.rh_words.specs.View.{View}
 use Rattle.rh_words.specs.Words.{ref_of}
 use Rattle.rh_steps.specs.Own.{IsClear}
 use Rattle.rh_helping.proofs.Growing.{seen_sub}
-use Rattle.rh_kcas.specs.Swaps.{HasNoted}
+use Rattle.rh_swaps.specs.Swaps.{HasNoted}
 use Rattle.rh_rdcss.specs.Placing.{MayPlace}
 
 pub may_on : (z : Shape) (v next : View) (d : Reference) → HasNoted v next → IsClear next → MayPlace z v d → MayPlace z next d

@@ -18,8 +18,8 @@ use Rattle.rh_steps.specs.Own.{IsAllNoted}
 use Rattle.rh_helping.specs.declared.machine.Ended.TheVariants.{Succeeded}
 use Rattle.rh_kcas.specs.Reads.{ReadsTell}
 use Rattle.rh_shared.specs.Rests.{IsRested}
-use Rattle.rh_kcas.specs.Swaps.{HasReadCell, RestSpec, Swaps}
-use Rattle.rh_kcas.specs.declared.swapping.Outcome.TheVariants.{Done}
+use Rattle.rh_swaps.specs.Swaps.{HasReadCell, RestSpec, Swaps}
+use Rattle.rh_swaps.specs.declared.swapping.Outcome.TheVariants.{Done}
 use Rattle.rh_kcas_tests.specs.ReadsBack.{ReadsBack}
 use Rattle.rh_rule.specs.Represents.{IsOpenedSo, numbers_of}
 use Rattle.rh_rule.specs.Rest.{Told}

@@ -15,7 +15,7 @@ use Rattle.rh_helping.proofs.Looks.{cell_grows}
 use Rattle.rh_rdcss.specs.Calls.{HasStatus, Learned}
 use Rattle.rh_rdcss.proofs.MarksMet.{control_told}
 use Rattle.rh_shared.specs.Rests.{IsRested}
-use Rattle.rh_kcas.proofs.Carried.{over_same}
+use Rattle.rh_swaps.proofs.Carried.{over_same}
 use Rattle.rh_kcas.proofs.Helped.{clear_saw}
 
 module _ (z : Shape) (v next : View) (c word : ℕ) (learned : Learned z (reads (reading.Cell c)) v word next) where

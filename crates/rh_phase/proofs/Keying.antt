@@ -29,9 +29,9 @@ use Rattle.rh_run.specs.Laws.{furthered}
 use Rattle.rh_run.specs.Run.{Progress, ProgressInvariant}
 use Rattle.rh_run.proofs.Stepping.{act_done, none_done, opened_more, opened_same, told_done}
 use Rattle.rh_shared.specs.Rests.{IsRested}
-use Rattle.rh_kcas.specs.Swaps.{HasGivenUp, IsSeen, RestSpec}
-use Rattle.rh_kcas.specs.Swaps.{HasReadCell as WasRead}
-use Rattle.rh_kcas.specs.Swaps.{HasNoRoom as HadNoRoom}
+use Rattle.rh_swaps.specs.Swaps.{HasGivenUp, IsSeen, RestSpec}
+use Rattle.rh_swaps.specs.Swaps.{HasReadCell as WasRead}
+use Rattle.rh_swaps.specs.Swaps.{HasNoRoom as HadNoRoom}
 use Rattle.rh_shared.specs.Seats.{IsSame}
 use Rattle.rh_shared.specs.declared.seat.Seat.{Seat}
 use Rattle.rh_worker.specs.Deciding.{Decides}

@@ -9,7 +9,7 @@ ghost use Rattle.rh_phase.specs.Crew.{AreHalves, CanWork, HaveWorked, OthersMayS
 use crate::gate::Gate;
 use crate::hand::Hand;
 use crate::seated::work;
-use rh_kcas::{Seat, Table, join, split};
+use rh_shared::{Seat, Table, join, split};
 use std::collections::LinkedList;
 use std::snapshot::Snapshot;
 use std::sync::Wait;

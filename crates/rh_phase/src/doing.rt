@@ -15,8 +15,8 @@ use crate::buffer::Buffer;
 use crate::gate::Gate;
 use crate::hand::Hand;
 use crate::key::{Tried, try_key};
-use rh_kcas::{Seat, Table, claim};
 use rh_ledger::Kind;
+use rh_shared::{Seat, Table, claim};
 use std::sync::Wait;
 
 /// Does the key that it left, and each that it claims, until none is left to claim, or the worker has

@@ -2,8 +2,8 @@
 
 ghost use Rattle.rh_phase.specs.Keys.{HasDone};
 
-use rh_kcas::{Seat, Table};
 use rh_ledger::Kind;
+use rh_shared::{Seat, Table};
 
 /// Is told of each key, by the worker that does it, in the thread in which that works.
 pub trait Gate {

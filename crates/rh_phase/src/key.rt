@@ -8,10 +8,11 @@ ghost use Rattle.rh_phase.specs.Keys.{Furthers, IsTriedSo, IsUndone, KeySpec, Sc
 ghost use Rattle.rh_shared.specs.Seats.{IsSame, view_of};
 ghost use Rattle.rh_worker.specs.Worker.{HasNoRoom};
 
-use rh_kcas::{Outcome, Seat, Table, kcas, read};
 use rh_layout::{Entry, beats, home, key_in};
 use rh_ledger::Kind;
 use rh_probe::{cell_after, is_movable};
+use rh_shared::{Seat, Table};
+use rh_swaps::{Outcome, kcas, read};
 use rh_tagword::plain_value;
 use rh_worker::{Decision, Plan, decide};
 use std::sync::Wait;

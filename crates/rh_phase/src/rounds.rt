@@ -9,7 +9,7 @@ ghost use Rattle.rh_phase.specs.Rounds.{HaveDone};
 use crate::crew::{Crew, Refused, Starts, run};
 use crate::gate::Gate;
 use crate::hand::Hand;
-use rh_kcas::{Table, wipe};
+use rh_shared::{Table, wipe};
 use std::collections::LinkedList;
 use std::sync::Wait;
 use std::thread::Threads;

@@ -6,7 +6,7 @@ ghost use Rattle.rh_phase.specs.Crew.{CanWork, HaveWorked};
 use crate::crew::Crew;
 use crate::doing::do_keys;
 use crate::gate::Gate;
-use rh_kcas::Table;
+use rh_shared::Table;
 use std::sync::Wait;
 
 /// Has the one worker of the crew do keys.

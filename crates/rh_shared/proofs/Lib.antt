@@ -2,7 +2,6 @@
 -- Allowing: what each of the four asks for follows from the rule of the table, for every step at once.
 -- Lending: a seat stays the same from step to step.
 -- Claimed: a worker at rest is so after a Claim.
--- Fitting: entries of which each fits behind the one before are those of a descriptor.
 -- Crews: seats of several workers are cut and joined, and a worker that is fresh rests.
 -- Clearing: what the seat of all workers may do in a wipe, and what becomes of its views.
 -- Made: a table that is made meets the rule, and at its close the cells are those that the acts made.
@@ -10,7 +9,6 @@
 mod Allowing
 pub mod Lending
 mod Claimed
-mod Fitting
 pub mod Crews
 mod Clearing
 mod Made

@@ -4,4 +4,3 @@ pub mod Rests
 pub mod Claims
 pub mod Crews
 pub mod Ends
-pub mod Fits

@@ -15,13 +15,10 @@
 //!   the cells. In both the cells are those at the start of the round, changed by all acts since;
 //!   such values there are too where `discard` frees the table.
 //! - `claim`: the number that one Claim found, or that it found the end. The worker is at rest after it.
-//! - `are_entries`: exactly whether a descriptor may have these entries. `change`: the entry from one
-//!   value to another.
 #![tactic(auto)]
 
 mod claiming;
 mod ends;
-mod entries;
 mod on_table;
 mod seat;
 mod seats;
@@ -31,7 +28,6 @@ mod wiping;
 
 pub use claiming::claim;
 pub use ends::{close, discard, make};
-pub use entries::{are_entries, change};
 pub use on_table::OnTable;
 pub use seat::{OwnMark, Seat, unused_side};
 pub use seats::{join, split};

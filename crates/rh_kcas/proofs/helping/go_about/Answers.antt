@@ -3,7 +3,8 @@ use Rattle.rh_helping.specs.Next.{Work}
 use Rattle.rh_helping.specs.Work.{Stands}
 use Rattle.rh_helping.proofs.Growing.{known_sub}
 use Rattle.rh_shared.proofs.Lending.{stays_first, stays_on}
-use Rattle.rh_kcas.proofs.Noting.{told_over, made_notes, noted_first, noted_on}
+use Rattle.rh_swaps.proofs.Noting.{made_notes, noted_first, noted_on}
+use Rattle.rh_kcas.proofs.Helped.{told_over}
 use Rattle.rh_kcas.proofs.helping.go_about.Goals as goal
 
 pub loop-init : goal.loop-init

@@ -6,7 +6,7 @@ use Rattle.rh_helping.specs.Work.{Stands}
 use Rattle.rh_helping.specs.Machine.{work_of}
 use Rattle.rh_shared.specs.Sits.{Sits, Stays}
 use Rattle.rh_steps.specs.Relies.{Trusts}
-use Rattle.rh_kcas.specs.Swaps.{HasNoted}
+use Rattle.rh_swaps.specs.Swaps.{HasNoted}
 use Rattle.rh_kcas.proofs.helping.go_about.Given as goal
 
 abbrev pub invariant-loop : goal.invariant-loop

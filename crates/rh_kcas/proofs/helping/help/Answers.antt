@@ -1,5 +1,5 @@
 use Rattle.std.proofs.Common.{◌∙◌}
-use Rattle.rh_kcas.proofs.Carried.{acts_on, rested_on}
+use Rattle.rh_swaps.proofs.Carried.{acts_on, rested_on}
 use Rattle.rh_kcas.proofs.helping.help.Goals as goal
 
 pub returns-clause-rests : goal.returns-clause-rests

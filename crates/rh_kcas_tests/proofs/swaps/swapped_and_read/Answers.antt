@@ -3,7 +3,7 @@ use Rattle.rh_layout.specs.declared.entry.Entry.{Entry}
 use Rattle.rh_words.specs.Parts.{cell_count}
 use Rattle.rh_words.specs.Steps.{no_entry}
 use Rattle.rh_helping.proofs.OwnRows.{entry_is}
-use Rattle.rh_kcas.specs.Swaps.{HasReadCell}
+use Rattle.rh_swaps.specs.Swaps.{HasReadCell}
 use Rattle.rh_shared.specs.Seats.{view_of}
 use Rattle.rh_kcas_tests.proofs.OwnChanges.{read_back}
 use Rattle.rh_kcas_tests.proofs.swaps.swapped_and_read.Goals as goal

@@ -1,0 +1,162 @@
+//! An own K-CAS: its descriptor is opened, and carried out.
+
+ghost use Rattle.std.specs.Prelude.{◌≡◌, Some};
+ghost use Rattle.rh_words.specs.Steps.{AreEntries};
+ghost use Rattle.rh_steps.specs.Own.{KnowsOwn, OwesNothing};
+ghost use Rattle.rh_helping.specs.Goal.{opened_by, own_of};
+ghost use Rattle.rh_helping.specs.Machine.{work_of};
+ghost use Rattle.rh_helping.specs.Opening.{MayOpen, next_own};
+ghost use Rattle.rh_helping.specs.Work.{Stands};
+ghost use Rattle.rh_shared.specs.Rests.{SeatRests};
+ghost use Rattle.rh_swaps.specs.Swaps.{HasCarriedOut, HasOpened, Swaps};
+ghost use Rattle.rh_shared.specs.Seats.{IsSame, view_of};
+ghost use Rattle.rh_shared.specs.Sits.{Sits, Stays};
+ghost use Rattle.rh_steps.specs.Relies.{Trusts};
+
+use rh_helping::{Ended, Machine, OpenDesc, Opening, Progress};
+use rh_layout::Entry;
+use rh_shared::{OnTable, Seat, Table};
+use rh_words::{Ref, Shape, Side};
+use std::sync::Wait;
+
+/// What became of a K-CAS.
+#[derive(Clone, Copy, Debug, PartialEq, Eq)]
+pub enum Outcome {
+    /// All its entries changed their cells, in one act.
+    Done,
+    /// No cell was changed: that of this entry held another value.
+    Failed { entry: usize },
+    /// No cell was changed: no number is left for a descriptor of the worker, or none for a mark.
+    Spent,
+}
+
+/// Changes the cells of the entries from their old words to their new ones, all in one act, or none.
+/// Where no number is left for a descriptor, or no mark, it makes no step: its descriptor would be
+/// withdrawn all the same. Later it is `Spent` only where the last mark was used up on the way.
+pub fn kcas<R: Wait>(rt: &R, table: &Table, seat: &mut Seat, entries: &[Entry]) -> Outcome
+    requires rests { SeatRests table.now seat.old }
+    requires entries { AreEntries table.now.shape entries.now }
+    ensures rests { SeatRests table.now seat.new }
+    ensures same { IsSame seat.old seat.new }
+    ensures swaps { Swaps table.now.shape entries.now (view_of seat.old) (view_of seat.new) result }
+{
+    let shape = table.shape;
+    if shape.rooms.descriptors <= seat.side.next_number
+        || shape.rooms.marks <= seat.side.marks_used
+    {
+        return Outcome::Spent;
+    }
+    let number = seat.side.next_number;
+    let mut here = OnTable {
+        table,
+        seat: &mut seat.inner,
+    };
+    open(&shape, &mut here, &mut seat.side, entries);
+    let own = OpenDesc { number, entries };
+    match carry_out(rt, &shape, &mut here, &mut seat.side, own) {
+        Ended::Succeeded => Outcome::Done,
+        Ended::Failed { entry } => Outcome::Failed {
+            entry: entry as usize,
+        },
+        Ended::Withdrawn => Outcome::Spent,
+    }
+}
+
+/// Opens a descriptor of the entries: the first part of a K-CAS, for who goes on with it later.
+#[inline(always)]
+pub fn open(shape: &Shape, here: &mut OnTable, side: &mut Side, entries: &[Entry])
+    requires trusts { Trusts Sits shape.now here.old side.old.known.view }
+    requires may { MayOpen shape.now side.old.known.view entries.now }
+    ensures trusts { Trusts Sits shape.now here.new side.new.known.view }
+    ensures stays { Stays here.old here.new }
+    ensures opens { HasOpened side.old.known.view (next_own side.old.known.view entries.now) side.new.known.view }
+{
+    let mut opening = Opening::Serial;
+    while let Some(next) = opening.step(shape, here, side, entries) {
+        opening = next;
+    }
+}
+
+/// Goes about the own open descriptor until it is decided and released, and answers how it ended: the
+/// second part of a K-CAS.
+#[inline(always)]
+pub fn carry_out<R: Wait>(
+    rt: &R,
+    shape: &Shape,
+    here: &mut OnTable,
+    side: &mut Side,
+    own: OpenDesc<'_>,
+) -> Ended
+    requires trusts { Trusts Sits shape.now here.old side.old.known.view }
+    requires own { KnowsOwn side.old.known.view (opened_by (Some own)) }
+    requires owes { OwesNothing side.old.known.view }
+    ensures trusts { Trusts Sits shape.now here.new side.new.known.view }
+    ensures stays { Stays here.old here.new }
+    ensures carries { HasCarriedOut side.old.known.view (own_of own.entry) side.new.known.view result }
+{
+    let mut machine = Machine::about(Ref {
+        worker: side.worker,
+        number: own.number,
+    });
+    for _ in rt.forever() {
+        match machine.step_fast(shape, here, side, own) {
+            Some(Progress::On) => {}
+            Some(Progress::Closed(ended)) => return ended,
+            // (an own descriptor is open)
+            Some(Progress::Over | Progress::Spent) => unreachable!(),
+            None => return carry_on_copy(rt, shape, here, side, own, &machine),
+        }
+    }
+    unreachable!()
+}
+
+/// Goes on with it where another worker was met, apart and on copies: so the machine of who meets none may
+/// be kept in registers, and the shape too.
+#[inline(always)]
+fn carry_on_copy<R: Wait>(
+    rt: &R,
+    shape: &Shape,
+    here: &mut OnTable,
+    side: &mut Side,
+    own: OpenDesc<'_>,
+    machine: &Machine,
+) -> Ended
+    requires trusts { Trusts Sits shape.now here.old side.old.known.view }
+    requires own { KnowsOwn side.old.known.view (opened_by (Some own)) }
+    requires stands { Stands shape.now side.old.known.view (work_of machine.now) }
+    ensures trusts { Trusts Sits shape.now here.new side.new.known.view }
+    ensures stays { Stays here.old here.new }
+    ensures carries { HasCarriedOut side.old.known.view (own_of own.entry) side.new.known.view result }
+{
+    let apart = *shape;
+    let mut machine = *machine;
+    carry_on(rt, &apart, here, side, own, &mut machine)
+}
+
+#[cold]
+#[inline(never)]
+fn carry_on<R: Wait>(
+    rt: &R,
+    shape: &Shape,
+    here: &mut OnTable,
+    side: &mut Side,
+    own: OpenDesc<'_>,
+    machine: &mut Machine,
+) -> Ended
+    requires trusts { Trusts Sits shape.now here.old side.old.known.view }
+    requires own { KnowsOwn side.old.known.view (opened_by (Some own)) }
+    requires stands { Stands shape.now side.old.known.view (work_of machine.old) }
+    ensures trusts { Trusts Sits shape.now here.new side.new.known.view }
+    ensures stays { Stays here.old here.new }
+    ensures carries { HasCarriedOut side.old.known.view (own_of own.entry) side.new.known.view result }
+{
+    for _ in rt.forever() {
+        match machine.step(shape, here, side, Some(own)) {
+            Progress::On => {}
+            Progress::Closed(ended) => return ended,
+            // (an own descriptor is open)
+            Progress::Over | Progress::Spent => unreachable!(),
+        }
+    }
+    unreachable!()
+}
