@@ -59,7 +59,9 @@ pub(crate) fn read_said(alloc: Global, line: &[u8]) -> Result<Option<Line>, Play
     if is_skipped(line) {
         return Ok(None);
     }
-    let text = printable(line).ok_or(PlayTextKind::BadLine)?;
+    let Some(text) = printable(line) else {
+        return Err(PlayTextKind::BadLine);
+    };
     let said = said(alloc, text)?;
     Ok(Some(said))
 }
@@ -68,8 +70,12 @@ pub(crate) fn read_said(alloc: Global, line: &[u8]) -> Result<Option<Line>, Play
 fn said(alloc: Global, text: &str) -> Result<Line, PlayTextKind>
     ensures { Answers (saying_in (words_of text.now)) saying_as result }
 {
-    let (word, rest) = next_word(text).ok_or(PlayTextKind::BadLine)?;
-    let verb = Verb::from_word(word).ok_or(PlayTextKind::BadLine)?;
+    let Some((word, rest)) = next_word(text) else {
+        return Err(PlayTextKind::BadLine);
+    };
+    let Some(verb) = Verb::from_word(word) else {
+        return Err(PlayTextKind::BadLine);
+    };
     said_after(alloc, verb, rest)
 }
 
@@ -106,8 +112,12 @@ fn said_after(alloc: Global, verb: Verb, rest: &str) -> Result<Line, PlayTextKin
 fn one_kind(rest: &str) -> Result<Kind, PlayTextKind>
     ensures { result ≡ one_kind (words_of rest.now) }
 {
-    let (word, rest) = next_word(rest).ok_or(PlayTextKind::BadLine)?;
-    end_of_words(rest).ok_or(PlayTextKind::BadLine)?;
+    let Some((word, rest)) = next_word(rest) else {
+        return Err(PlayTextKind::BadLine);
+    };
+    let Some(()) = end_of_words(rest) else {
+        return Err(PlayTextKind::BadLine);
+    };
     kind_from_word(word).ok_or(PlayTextKind::BadLine)
 }
 
@@ -116,11 +126,19 @@ fn one_kind(rest: &str) -> Result<Kind, PlayTextKind>
 fn number_and_step(rest: &str) -> Result<(u64, StepKind), PlayTextKind>
     ensures { result ≡ number_and_step (words_of rest.now) }
 {
-    let (worker, rest) = next_word(rest).ok_or(PlayTextKind::BadLine)?;
-    let (step, rest) = next_word(rest).ok_or(PlayTextKind::BadLine)?;
-    end_of_words(rest).ok_or(PlayTextKind::BadLine)?;
+    let Some((worker, rest)) = next_word(rest) else {
+        return Err(PlayTextKind::BadLine);
+    };
+    let Some((step, rest)) = next_word(rest) else {
+        return Err(PlayTextKind::BadLine);
+    };
+    let Some(()) = end_of_words(rest) else {
+        return Err(PlayTextKind::BadLine);
+    };
     let worker = number(worker)?;
-    let step = step_from_word(step).ok_or(PlayTextKind::BadLine)?;
+    let Some(step) = step_from_word(step) else {
+        return Err(PlayTextKind::BadLine);
+    };
     Ok((worker, step))
 }
 
@@ -129,7 +147,9 @@ fn number_and_step(rest: &str) -> Result<(u64, StepKind), PlayTextKind>
 fn shared(alloc: Global, rest: &str) -> Result<Line, PlayTextKind>
     ensures { Answers (shared (words_of rest.now)) saying_as result }
 {
-    let (word, rest) = next_word(rest).ok_or(PlayTextKind::BadLine)?;
+    let Some((word, rest)) = next_word(rest) else {
+        return Err(PlayTextKind::BadLine);
+    };
     let workers = number(word)?;
     let keys = numbers(alloc, rest)?;
     Ok(Line::Share { workers, keys })
@@ -140,6 +160,8 @@ fn shared(alloc: Global, rest: &str) -> Result<Line, PlayTextKind>
 fn alone(order: Order, rest: &str) -> Result<Line, PlayTextKind>
     ensures { Answers (no_word PlayTextKind.BadLine (Schedule order) (words_of rest.now)) saying_as result }
 {
-    end_of_words(rest).ok_or(PlayTextKind::BadLine)?;
+    let Some(()) = end_of_words(rest) else {
+        return Err(PlayTextKind::BadLine);
+    };
     Ok(Line::Schedule(order))
 }

@@ -30,8 +30,12 @@ pub(crate) fn number(word: &str) -> Result<u64, PlayTextKind>
 pub(crate) fn one_number(rest: &str) -> Result<u64, PlayTextKind>
     ensures { result ≡ one_number (words_of rest.now) }
 {
-    let (word, rest) = next_word(rest).ok_or(PlayTextKind::BadLine)?;
-    end_of_words(rest).ok_or(PlayTextKind::BadLine)?;
+    let Some((word, rest)) = next_word(rest) else {
+        return Err(PlayTextKind::BadLine);
+    };
+    let Some(()) = end_of_words(rest) else {
+        return Err(PlayTextKind::BadLine);
+    };
     number(word)
 }
 
@@ -40,9 +44,15 @@ pub(crate) fn one_number(rest: &str) -> Result<u64, PlayTextKind>
 pub(crate) fn two_numbers(rest: &str) -> Result<(u64, u64), PlayTextKind>
     ensures { result ≡ two_numbers (words_of rest.now) }
 {
-    let (first, rest) = next_word(rest).ok_or(PlayTextKind::BadLine)?;
-    let (second, rest) = next_word(rest).ok_or(PlayTextKind::BadLine)?;
-    end_of_words(rest).ok_or(PlayTextKind::BadLine)?;
+    let Some((first, rest)) = next_word(rest) else {
+        return Err(PlayTextKind::BadLine);
+    };
+    let Some((second, rest)) = next_word(rest) else {
+        return Err(PlayTextKind::BadLine);
+    };
+    let Some(()) = end_of_words(rest) else {
+        return Err(PlayTextKind::BadLine);
+    };
     let first = number(first)?;
     let second = number(second)?;
     Ok((first, second))
