@@ -28,6 +28,7 @@ ending_of _ = CommandLine
 -- how a run ends that a fault ended early which any command may meet
 abbrev pub ending_by_program : ProgramFault → Status
 ending_by_program fault.NotText = CommandLine
+ending_by_program fault.Open = Refused
 ending_by_program fault.Memory = Memory
 ending_by_program fault.Write = Write
 

@@ -1,6 +1,7 @@
-//! What the two programs have alike: the reading of their words, their streams, and how they end.
+//! What the programs have alike: the reading of their words, their streams, and how they end.
 //!
-//! `rh_commands` and `rh_key_commands` read their command lines by it, and both programs stand on it.
+//! `rh_commands`, `rh_key_commands` and `rh_play_commands` read their command lines by it, and the
+//! programs stand on it.
 //!
 //! Proved:
 //!
@@ -12,6 +13,7 @@
 //!   faults that several commands may meet, and of what `clap` answers, by the table
 //!   `specs/Endings.antt`. A failed write is told only of a text that was asked for.
 //! - `words`: its fault is a word that is no text, or want of memory, and never a failed write.
+//! - `open`: its fault is that the file cannot be opened, or want of memory.
 //! - `buffered_reader`, `buffered_writer`: the stream behind an empty buffer of 8,192 bytes, or
 //!   want of memory.
 //! - `write_out`: the buffer is empty, and of a writer that tells its bytes all is written; or a
@@ -24,12 +26,14 @@
 #![tactic(auto)]
 
 mod fault;
+mod file;
 pub mod parsing;
 mod program;
 mod status;
 mod streams;
 
 pub use fault::LineFault;
+pub use file::open;
 pub use program::{answer, words};
 pub use status::{ProgramFault, Status, status_of_keys, status_of_snapshot};
 pub use streams::{Streams, between, buffered_reader, buffered_writer, write_out};

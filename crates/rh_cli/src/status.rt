@@ -33,6 +33,9 @@ impl From<Status> for ExitCode {
 pub enum ProgramFault {
     #[error("a word of the command line is not UTF-8")]
     NotText,
+    /// A file that the command line names.
+    #[error("cannot open the file")]
+    Open,
     #[error("out of memory")]
     Memory,
     #[error("cannot write the output")]
@@ -46,6 +49,7 @@ impl ProgramFault {
     {
         match self {
             ProgramFault::NotText => Status::CommandLine,
+            ProgramFault::Open => Status::Refused,
             ProgramFault::Memory => Status::Memory,
             ProgramFault::Write => Status::Write,
         }

@@ -17,56 +17,7 @@ fn run_of(alloc: Global, words: &[&str]) -> Result<Option<(usize, String)>, Fail
     Ok(match line_of(alloc, words)? {
         Ok(line) => match line {
             Line::Run { workers, script } => Some((workers, script)),
-            Line::Dump
-            | Line::Play { .. }
-            | Line::Trace { .. }
-            | Line::Draw { .. }
-            | Line::Check { .. } => None,
-        },
-        Err(_fault) => None,
-    })
-}
-
-// The file, of words that are `play`.
-fn play_of(alloc: Global, words: &[&str]) -> Result<Option<String>, Fail> {
-    Ok(match line_of(alloc, words)? {
-        Ok(line) => match line {
-            Line::Play { file } => Some(file),
-            Line::Dump
-            | Line::Run { .. }
-            | Line::Trace { .. }
-            | Line::Draw { .. }
-            | Line::Check { .. } => None,
-        },
-        Err(_fault) => None,
-    })
-}
-
-// The file, of words that are `trace`.
-fn trace_of(alloc: Global, words: &[&str]) -> Result<Option<String>, Fail> {
-    Ok(match line_of(alloc, words)? {
-        Ok(line) => match line {
-            Line::Trace { file } => Some(file),
-            Line::Dump
-            | Line::Run { .. }
-            | Line::Play { .. }
-            | Line::Draw { .. }
-            | Line::Check { .. } => None,
-        },
-        Err(_fault) => None,
-    })
-}
-
-// The first step, the number of steps and the file, of words that are `draw`.
-fn draw_of(alloc: Global, words: &[&str]) -> Result<Option<(usize, usize, String)>, Fail> {
-    Ok(match line_of(alloc, words)? {
-        Ok(line) => match line {
-            Line::Draw { from, steps, file } => Some((from, steps, file)),
-            Line::Dump
-            | Line::Run { .. }
-            | Line::Play { .. }
-            | Line::Trace { .. }
-            | Line::Check { .. } => None,
+            Line::Dump | Line::Check { .. } => None,
         },
         Err(_fault) => None,
     })
@@ -77,11 +28,7 @@ fn check_of(alloc: Global, words: &[&str]) -> Result<Option<String>, Fail> {
     Ok(match line_of(alloc, words)? {
         Ok(line) => match line {
             Line::Check { snapshot } => Some(snapshot),
-            Line::Dump
-            | Line::Run { .. }
-            | Line::Play { .. }
-            | Line::Trace { .. }
-            | Line::Draw { .. } => None,
+            Line::Dump | Line::Run { .. } => None,
         },
         Err(_fault) => None,
     })
@@ -141,61 +88,6 @@ fn a_script_may_have_any_name(rt: HostRuntime) -> Result<(), Fail> {
     Ok(())
 }
 
-const PLAYS: &[(&[&str], &str)] = &[
-    (&["play", "f"], "f"),
-    (&["play", "--", "-f"], "-f"),
-    (&["play", "play"], "play"),
-    (&["play", ""], ""),
-];
-
-#[test]
-fn play_is_a_command(rt: HostRuntime) -> Result<(), Fail> {
-    for &(words, name) in PLAYS {
-        let file = play_of(rt.alloc(), words)?.ok_or("no play")?;
-        assert!(rt; file.as_str() == name, "{words:?}");
-    }
-    Ok(())
-}
-
-const TRACES: &[(&[&str], &str)] = &[
-    (&["trace", "f"], "f"),
-    (&["trace", "--", "-f"], "-f"),
-    (&["trace", "trace"], "trace"),
-];
-
-#[test]
-fn trace_is_a_command(rt: HostRuntime) -> Result<(), Fail> {
-    for &(words, name) in TRACES {
-        let file = trace_of(rt.alloc(), words)?.ok_or("no trace")?;
-        assert!(rt; file.as_str() == name, "{words:?}");
-    }
-    Ok(())
-}
-
-const DRAWS: &[(&[&str], usize, usize)] = &[
-    (&["draw", "f"], 1, 0),
-    (&["draw", "--from", "7", "f"], 7, 0),
-    (&["draw", "f", "--steps=2000", "--from=007"], 7, 2_000),
-];
-
-#[test]
-fn draw_is_a_command(rt: HostRuntime) -> Result<(), Fail> {
-    for &(words, first, count) in DRAWS {
-        let (from, steps, file) = draw_of(rt.alloc(), words)?.ok_or("no drawing")?;
-        assert!(rt;
-            from == first && steps == count && file.as_str() == "f",
-            "{words:?}"
-        );
-    }
-    for words in [
-        &["draw", "--from", "0", "f"],
-        &["draw", "--steps", "2001", "f"],
-    ] {
-        assert!(rt; draw_of(rt.alloc(), words)?.is_none(), "{words:?}");
-    }
-    Ok(())
-}
-
 const CHECKS: &[(&[&str], &str)] = &[
     (&["check", "s"], "s"),
     (&["check", "--", "-s"], "-s"),
@@ -226,9 +118,9 @@ const MISTAKES: &[&[&str]] = &[
     &["run", "--workers=", "s"],
     &["run", "--workers=1", "--workers=1", "s"],
     &["run", "a", "b"],
-    &["play"],
-    &["play", "a", "b"],
-    &["play", "--workers", "1", "a"],
+    &["play", "a"],
+    &["trace", "a"],
+    &["draw", "a"],
     &["check"],
     &["check", "a", "b"],
     &["check", "--workers", "1", "a"],
@@ -251,9 +143,6 @@ const HELP: &[&[&str]] = &[
     &["help", "run"],
     &["run", "--help"],
     &["run", "-h", "s"],
-    &["help", "play"],
-    &["play", "--help"],
-    &["play", "-h"],
     &["help", "check"],
     &["check", "--help"],
     &["check", "-h"],

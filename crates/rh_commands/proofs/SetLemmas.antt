@@ -6,8 +6,7 @@ use Rattle.clap.specs.Simple.{built, subcommand_of}
 use Rattle.rh_commands.specs.Line.{IsCommand, rhset_app}
 use Rattle.rh_cli.specs.Words.{Finds}
 use Rattle.rh_cli.proofs.CommandLemmas.{EachMeets, help_alone, words_find}
-use Rattle.rh_commands.proofs.PathLemmas.{check_arguments, play_arguments, trace_arguments}
-use Rattle.rh_commands.proofs.DrawLemmas.{draw_arguments}
+use Rattle.rh_commands.proofs.CheckLemmas.{check_arguments}
 use Rattle.rh_commands.proofs.RunLemmas.{run_arguments}
 
 each_command : (word : Text) (rest : List Text) → (word ≡ codes "help" → ⊥) → EachMeets IsCommand word rest (built rhset_app).subs
@@ -15,16 +14,7 @@ each_command word rest other = (
   λ is below. inl refl,
   (
     λ is below. inr (inl (refl, run_arguments rest below)),
-    (
-      λ is below. inr (inr (inl (refl, play_arguments rest below))),
-      (
-        λ is below. inr (inr (inr (inl (refl, trace_arguments rest below)))),
-        (
-          λ is below. inr (inr (inr (inr (inl (refl, draw_arguments rest below))))),
-          (λ is below. inr (inr (inr (inr (inr (refl, check_arguments rest below))))), (λ is below. absurd (help_alone word other is), tt)),
-        ),
-      ),
-    ),
+    (λ is below. inr (inr (refl, check_arguments rest below)), (λ is below. absurd (help_alone word other is), tt)),
   ),
 )
 

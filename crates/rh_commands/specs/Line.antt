@@ -5,8 +5,8 @@ use Rattle.clap.specs.Simple.{App, new_app, new_rule, with_rule, with_subcommand
 use Rattle.clap.specs.declared.builder.action.ArgAction.TheVariants.{Set}
 use Rattle.clap.specs.declared.builder.value_parser.ValueParser.TheVariants.{Unsigned}
 use Rattle.rh_commands.specs.declared.line.asked.Line.{Line}
-use Rattle.rh_commands.specs.declared.line.asked.Line.TheVariants.{Dump, Run, Play, Trace, Draw, Check}
-use Rattle.rh_commands.specs.declared.limits.TheConstants.{MAX_DRAWN, MAX_FROM, MAX_WORKERS}
+use Rattle.rh_commands.specs.declared.line.asked.Line.TheVariants.{Dump, Run, Check}
+use Rattle.rh_commands.specs.declared.limits.TheConstants.{MAX_WORKERS}
 use Rattle.rh_cli.specs.Words.{IsTextFor, GivesNumber, HasNumber, HasText, path_rule, program_app}
 
 -- ---- the commands
@@ -29,61 +29,22 @@ workers_rule = record (new_rule (codes "workers")) {
 abbrev pub run_app : App
 run_app = with_rule (with_rule (new_app (codes "run")) workers_rule) (path_rule (codes "script"))
 
--- the command `play` takes a file
-abbrev pub play_app : App
-play_app = with_rule (new_app (codes "play")) (path_rule (codes "file"))
-
--- and so does the command `trace`
-abbrev pub trace_app : App
-trace_app = with_rule (new_app (codes "trace")) (path_rule (codes "file"))
-
--- `--from STEP`: the number of a step, and 1 where it is left out
-abbrev pub from_rule : Rule
-from_rule = record (new_rule (codes "from")) {
-  long = Some (codes "from");
-  action = Some Set;
-  value_names = 1;
-  defaults = codes "1" ∷ [];
-  parser = Some (Unsigned 1 MAX_FROM);
-}
-
--- `--steps N`: a number up to MAX_DRAWN, and 0 where it is left out
-abbrev pub steps_rule : Rule
-steps_rule = record (new_rule (codes "steps")) {
-  long = Some (codes "steps");
-  action = Some Set;
-  value_names = 1;
-  defaults = codes "0" ∷ [];
-  parser = Some (Unsigned 0 MAX_DRAWN);
-}
-
--- the command `draw` takes a file, and which steps are drawn
-abbrev pub draw_app : App
-draw_app = with_rule (with_rule (with_rule (new_app (codes "draw")) from_rule) steps_rule) (path_rule (codes "file"))
-
 -- the command `check` takes a snapshot
 abbrev pub check_app : App
 check_app = with_rule (new_app (codes "check")) (path_rule (codes "snapshot"))
 
 abbrev pub rhset_app : App
-rhset_app =
-    with_subcommand (with_subcommand (with_subcommand (with_subcommand (with_subcommand (with_subcommand (program_app (codes "rhset")) dump_app.top) run_app.top) play_app.top) trace_app.top) draw_app.top) check_app.top
+rhset_app = with_subcommand (with_subcommand (with_subcommand (program_app (codes "rhset")) dump_app.top) run_app.top) check_app.top
 
 -- ---- what was found
 
 abbrev pub HasRunArguments : List Row → Type 0
 HasRunArguments rows = HasNumber (codes "workers") 1 MAX_WORKERS rows × HasText (codes "script") rows
 
-abbrev pub HasDrawArguments : List Row → Type 0
-HasDrawArguments rows = HasNumber (codes "from") 1 MAX_FROM rows × HasNumber (codes "steps") 0 MAX_DRAWN rows × HasText (codes "file") rows
-
 -- the name of a command, with what it needs
 abbrev pub IsCommand : Text → List Row → Type 0
 IsCommand name rows =
-    (name ≡ codes "dump") ⊎ (((name ≡ codes "run") × HasRunArguments rows)
-    ⊎ (((name ≡ codes "play") × HasText (codes "file") rows)
-    ⊎ (((name ≡ codes "trace") × HasText (codes "file") rows)
-    ⊎ (((name ≡ codes "draw") × HasDrawArguments rows) ⊎ ((name ≡ codes "check") × HasText (codes "snapshot") rows)))))
+    (name ≡ codes "dump") ⊎ (((name ≡ codes "run") × HasRunArguments rows) ⊎ ((name ≡ codes "check") × HasText (codes "snapshot") rows))
 
 -- ---- what a line says
 
@@ -93,10 +54,6 @@ abbrev pub Says : Text → List Row → Line → Type 0
 Says name rows Dump = name ≡ codes "dump"
 Says name rows (Run workers script) =
     (name ≡ codes "run") × GivesNumber (codes "workers") 1 MAX_WORKERS rows workers × IsTextFor (codes "script") rows script
-Says name rows (Play file) = (name ≡ codes "play") × IsTextFor (codes "file") rows file
-Says name rows (Trace file) = (name ≡ codes "trace") × IsTextFor (codes "file") rows file
-Says name rows (Draw from steps file) =
-    (name ≡ codes "draw") × GivesNumber (codes "from") 1 MAX_FROM rows from × GivesNumber (codes "steps") 0 MAX_DRAWN rows steps × IsTextFor (codes "file") rows file
 Says name rows (Check snapshot) = (name ≡ codes "check") × IsTextFor (codes "snapshot") rows snapshot
 
 -- a command was found, and the line is that

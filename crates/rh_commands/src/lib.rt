@@ -1,7 +1,7 @@
 //! The command line of `rhset`, and its commands that need no script: the dump of a key file and the
 //! check of a snapshot.
 //!
-//! `rhset` stands on it.
+//! `rhset` and `rh_set_program` stand on it.
 //!
 //! Proved, of the command line:
 //!

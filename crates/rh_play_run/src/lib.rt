@@ -1,6 +1,6 @@
 //! Plays: workers take turns as a text says, and what comes of it is written.
 //!
-//! `rhset` stands on it for `play`, `trace` and `draw`.
+//! `rhplay` stands on it.
 //!
 //! Proved:
 //!

@@ -1,7 +1,7 @@
 //! What a script means, and its run.
 //!
-//! `rhset` and `rh_planner` stand on it. It knows phases by `Runner` alone, and so needs no crate of
-//! the shared table.
+//! `rh_set_program` and `rh_planner` stand on it. It knows phases by `Runner` alone, and so needs no
+//! crate of the shared table.
 //!
 //! ```text
 //! let mut shelf = MemShelf::new(alloc);

@@ -5,13 +5,12 @@ ghost use Rattle.clap.specs.Words.{app_of, fault_of, found_of, rows_of, rule_of}
 ghost use Rattle.clap.specs.Words.{subcommand_of, subcommand_rows_of};
 ghost use Rattle.rh_cli.specs.Faults.{IsOneOf};
 ghost use Rattle.rh_commands.specs.Line.{Asks, HasRunArguments, IsCommand, Says, check_app, dump_app};
-ghost use Rattle.rh_commands.specs.Line.{HasDrawArguments, draw_app, from_rule, play_app, rhset_app};
-ghost use Rattle.rh_commands.specs.Line.{run_app, steps_rule, trace_app, workers_rule};
+ghost use Rattle.rh_commands.specs.Line.{rhset_app, run_app, workers_rule};
 ghost use Rattle.rh_cli.specs.Words.{Finds, HasText, texts_of};
 
 use super::asked::Line;
 use super::help;
-use crate::limits::{MAX_DRAWN, MAX_FROM, MAX_WORKERS};
+use crate::limits::MAX_WORKERS;
 use clap::{Arg, ArgAction, ArgMatches, Command, value_parser};
 use rh_cli::LineFault;
 use rh_cli::parsing::{
@@ -41,9 +40,6 @@ fn asked(alloc: Global, matches: &ArgMatches<'_>) -> Result<Line, AllocError>
     match matches.subcommand() {
         Some(("dump", _)) => Ok(Line::Dump),
         Some(("run", given)) => run_asked(alloc, given),
-        Some(("play", given)) => play_asked(alloc, given),
-        Some(("trace", given)) => trace_asked(alloc, given),
-        Some(("draw", given)) => draw_asked(alloc, given),
         Some(("check", given)) => check_asked(alloc, given),
         _ => unreachable!(),
     }
@@ -56,32 +52,6 @@ fn run_asked(alloc: Global, given: &ArgMatches<'_>) -> Result<Line, AllocError>
     let workers = number(given, "workers", 1, MAX_WORKERS);
     let script = text(alloc, given, "script")?;
     Ok(Line::Run { workers, script })
-}
-
-fn play_asked(alloc: Global, given: &ArgMatches<'_>) -> Result<Line, AllocError>
-    requires { HasText (codes "file") (rows_of (found_of given.now)) }
-    ensures { IfOk result (λ l. Says (codes "play") (rows_of (found_of given.now)) l) }
-{
-    let file = text(alloc, given, "file")?;
-    Ok(Line::Play { file })
-}
-
-fn trace_asked(alloc: Global, given: &ArgMatches<'_>) -> Result<Line, AllocError>
-    requires { HasText (codes "file") (rows_of (found_of given.now)) }
-    ensures { IfOk result (λ l. Says (codes "trace") (rows_of (found_of given.now)) l) }
-{
-    let file = text(alloc, given, "file")?;
-    Ok(Line::Trace { file })
-}
-
-fn draw_asked(alloc: Global, given: &ArgMatches<'_>) -> Result<Line, AllocError>
-    requires { HasDrawArguments (rows_of (found_of given.now)) }
-    ensures { IfOk result (λ l. Says (codes "draw") (rows_of (found_of given.now)) l) }
-{
-    let from = number(given, "from", 1, MAX_FROM);
-    let steps = number(given, "steps", 0, MAX_DRAWN);
-    let file = text(alloc, given, "file")?;
-    Ok(Line::Draw { from, steps, file })
 }
 
 fn check_asked(alloc: Global, given: &ArgMatches<'_>) -> Result<Line, AllocError>
@@ -104,10 +74,7 @@ fn command<'a>(alloc: Global) -> Result<Command<'a>, AllocError>
     );
     let with_dump = with_subcommand(program, Ok(dump_command(alloc)));
     let with_run = with_subcommand(with_dump, run_command(alloc));
-    let with_play = with_subcommand(with_run, play_command(alloc));
-    let with_trace = with_subcommand(with_play, trace_command(alloc));
-    let with_draw = with_subcommand(with_trace, draw_command(alloc));
-    with_subcommand(with_draw, check_command(alloc))
+    with_subcommand(with_run, check_command(alloc))
 }
 
 fn dump_command<'a>(alloc: Global) -> Command<'a>
@@ -130,42 +97,6 @@ fn run_command<'a>(alloc: Global) -> Result<Command<'a>, AllocError>
         .arg(text_arg(alloc, "script", "SCRIPT", help::SCRIPT))
 }
 
-fn play_command<'a>(alloc: Global) -> Result<Command<'a>, AllocError>
-    ensures { IfOk result (λ c. app_of c ≡ play_app) }
-{
-    let file = text_arg(alloc, "file", "FILE", help::FILE);
-    described(alloc, "play", help::PLAY, help::PLAY_AT_LENGTH, help::PLAYS).arg(file)
-}
-
-fn trace_command<'a>(alloc: Global) -> Result<Command<'a>, AllocError>
-    ensures { IfOk result (λ c. app_of c ≡ trace_app) }
-{
-    let file = text_arg(alloc, "file", "FILE", help::FILE);
-    described(
-        alloc,
-        "trace",
-        help::TRACE,
-        help::TRACE_AT_LENGTH,
-        help::TRACES,
-    )
-    .arg(file)
-}
-
-fn draw_command<'a>(alloc: Global) -> Result<Command<'a>, AllocError>
-    ensures { IfOk result (λ c. app_of c ≡ draw_app) }
-{
-    described(
-        alloc,
-        "draw",
-        help::DRAW,
-        help::DRAW_AT_LENGTH,
-        help::DRAWINGS,
-    )
-    .arg(from_arg(alloc))?
-    .arg(steps_arg(alloc))?
-    .arg(text_arg(alloc, "file", "FILE", help::FILE))
-}
-
 fn check_command<'a>(alloc: Global) -> Result<Command<'a>, AllocError>
     ensures { IfOk result (λ c. app_of c ≡ check_app) }
 {
@@ -178,32 +109,6 @@ fn check_command<'a>(alloc: Global) -> Result<Command<'a>, AllocError>
         help::CHECK_FORMATS,
     )
     .arg(snapshot)
-}
-
-fn from_arg<'a>(alloc: Global) -> Arg<'a>
-    ensures rule { rule_of result ≡ from_rule }
-    ensures local { result.global ≡ false }
-{
-    Arg::new(alloc, "from")
-        .long("from")
-        .value_name("STEP")
-        .action(ArgAction::Set)
-        .value_parser(value_parser!(usize).range(1..=MAX_FROM as i64))
-        .default_value("1")
-        .help(help::FROM)
-}
-
-fn steps_arg<'a>(alloc: Global) -> Arg<'a>
-    ensures rule { rule_of result ≡ steps_rule }
-    ensures local { result.global ≡ false }
-{
-    Arg::new(alloc, "steps")
-        .long("steps")
-        .value_name("N")
-        .action(ArgAction::Set)
-        .value_parser(value_parser!(usize).range(0..=MAX_DRAWN as i64))
-        .default_value("0")
-        .help(help::STEPS)
 }
 
 fn workers_arg<'a>(alloc: Global) -> Arg<'a>

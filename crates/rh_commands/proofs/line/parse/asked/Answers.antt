@@ -14,10 +14,7 @@ unreachable-requires c =
       | in_default-via-in-Some+in_default w ↦ elim named.2 [
         | inl dump ↦ grind (arith, named.1, dump, w.in_default.is)
         | inr (inl run) ↦ grind (arith, named.1, run.0, w.in_default.is)
-        | inr (inr (inl play)) ↦ grind (arith, named.1, play.0, w.in_default.is)
-        | inr (inr (inr (inl trace))) ↦ grind (arith, named.1, trace.0, w.in_default.is)
-        | inr (inr (inr (inr (inl draw)))) ↦ grind (arith, named.1, draw.0, w.in_default.is)
-        | inr (inr (inr (inr (inr check)))) ↦ grind (arith, named.1, check.0, w.in_default.is)
+        | inr (inr check) ↦ grind (arith, named.1, check.0, w.in_default.is)
       ]
       | in_default-via-in_default w ↦ grind (arith, named.1, w.in_default.is)
     ]

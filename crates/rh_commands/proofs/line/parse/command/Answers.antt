@@ -1,5 +1,5 @@
 use Rattle.std.proofs.Common.{refl, Ok}
-use Rattle.rh_commands.specs.Line.{check_app, draw_app, dump_app, play_app, run_app, trace_app}
+use Rattle.rh_commands.specs.Line.{check_app, dump_app, run_app}
 use Rattle.rh_cli.proofs.BuilderLemmas.{made_with_subcommand}
 use Rattle.rh_commands.proofs.line.parse.command.Goals as goal
 
@@ -7,7 +7,4 @@ pub returns : goal.returns
 returns c =
     let with_dump = made_with_subcommand _ (Ok c.dump_command.result) _ _ dump_app c.with_subcommand-with_dump.ensures c.program_command-program.ensures c.dump_command.ensures refl in
     let with_run = made_with_subcommand _ _ _ _ run_app c.with_subcommand-with_run.ensures with_dump c.run_command.ensures refl in
-    let with_play = made_with_subcommand _ _ _ _ play_app c.with_subcommand-with_play.ensures with_run c.play_command.ensures refl in
-    let with_trace = made_with_subcommand _ _ _ _ trace_app c.with_subcommand-with_trace.ensures with_play c.trace_command.ensures refl in
-    let with_draw = made_with_subcommand _ _ _ _ draw_app c.with_subcommand-with_draw.ensures with_trace c.draw_command.ensures refl in
-    made_with_subcommand _ _ _ _ check_app c.with_subcommand.ensures with_draw c.check_command.ensures refl
+    made_with_subcommand _ _ _ _ check_app c.with_subcommand.ensures with_run c.check_command.ensures refl

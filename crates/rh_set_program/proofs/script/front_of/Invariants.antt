@@ -1,7 +1,7 @@
 use Rattle.std.proofs.Common.{◌-◌, ◌≤◌, length}
 use Rattle.std.specs.Io.KnownBytes.{Consumes}
-use Rattle.rhset.specs.declared.script.TheConstants.{MAX_BYTES}
-use Rattle.rhset.proofs.script.front_of.Given as goal
+use Rattle.rh_set_program.specs.declared.script.TheConstants.{MAX_BYTES}
+use Rattle.rh_set_program.proofs.script.front_of.Given as goal
 
 abbrev pub invariant-loop-room : goal.invariant-loop-room
 invariant-loop-room g l = record {

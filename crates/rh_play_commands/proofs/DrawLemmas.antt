@@ -4,15 +4,15 @@ use Rattle.clap.specs.Walk.{Rule, Text, rows_after}
 use Rattle.clap.specs.Simple.{Shape, built_leaf, filled, inherited, with_index, with_leaf_noted}
 use Rattle.clap.specs.declared.builder.value_parser.ValueParser.TheVariants.{Unsigned}
 use Rattle.clap.proofs.ValueTestLemmas.{accepts-Accepts}
-use Rattle.rh_commands.specs.Line.{HasDrawArguments, draw_app, from_rule, rhset_app, steps_rule}
+use Rattle.rh_play_commands.specs.Line.{HasDrawArguments, draw_app, from_rule, rhplay_app, steps_rule}
 use Rattle.rh_cli.specs.Words.{path_rule}
-use Rattle.rh_commands.specs.declared.limits.TheConstants.{MAX_DRAWN, MAX_FROM}
+use Rattle.rh_play_commands.specs.declared.limits.TheConstants.{MAX_DRAWN, MAX_FROM}
 use Rattle.rh_cli.proofs.RowLemmas.{default_row, required_row}
 use Rattle.rh_cli.proofs.ValueLemmas.{Passes, rows_fit, value_of}
 
 -- the command and its arguments, as clap builds them
 abbrev pub draw_built : Shape
-draw_built = built_leaf (inherited (with_leaf_noted rhset_app.top) draw_app.top)
+draw_built = built_leaf (inherited (with_leaf_noted rhplay_app.top) draw_app.top)
 
 abbrev from_built : Rule
 from_built = with_index 1 (filled from_rule)

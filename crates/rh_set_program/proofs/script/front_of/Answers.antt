@@ -1,9 +1,9 @@
 use Rattle.std.proofs.Common.{IfSome, ◌≡◌, [], ◌++◌, sym, subst, length, take, length-append, arith, rules, length-take}
 use Rattle.std.specs.Io.KnownBytes.{Consumes}
 use Rattle.std.proofs.KnownBytes.{Consumes-nil, Consumes-trans}
-use Rattle.rhset.specs.declared.script.TheConstants.{MAX_BYTES}
-use Rattle.rhset.proofs.Front.{all_taken, most_taken}
-use Rattle.rhset.proofs.script.front_of.Goals as goal
+use Rattle.rh_set_program.specs.declared.script.TheConstants.{MAX_BYTES}
+use Rattle.rh_set_program.proofs.Front.{all_taken, most_taken}
+use Rattle.rh_set_program.proofs.script.front_of.Goals as goal
 
 pub loop-room-init : goal.loop-room-init
 loop-room-init g c =

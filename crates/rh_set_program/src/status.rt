@@ -1,15 +1,12 @@
 //! How the program ends.
 
 ghost use Rattle.std.specs.Prelude.{◌≡◌};
-ghost use Rattle.rhset.specs.Endings.{ending_by, ending_by_play};
+ghost use Rattle.rh_set_program.specs.Endings.{ending_by};
 
 use rh_cli::{ProgramFault, Status, status_of_snapshot};
 use rh_commands::{CheckFault, DumpFault};
-use rh_play::PlayTextKind;
-use rh_play_run::{DrawFault, PlayRunFault};
 use rh_script::{ScriptFault, ScriptFaultKind};
 use rh_script_run::{Cause, RunFault};
-use rh_stepper::PlayFault;
 use thiserror::Error;
 
 /// Why a run ends early, in the words that the user is told.
@@ -17,9 +14,7 @@ use thiserror::Error;
 pub enum Fault {
     #[error(transparent)]
     Program(#[from] ProgramFault),
-    /// The file of a script, a play or a snapshot.
-    #[error("cannot open the file")]
-    Open,
+    /// The file of the script.
     #[error("read failed")]
     Read,
     #[error(transparent)]
@@ -30,10 +25,6 @@ pub enum Fault {
     Script(#[from] ScriptFault),
     #[error(transparent)]
     Run(#[from] RunFault),
-    #[error(transparent)]
-    Play(#[from] PlayRunFault),
-    #[error(transparent)]
-    Draw(#[from] DrawFault),
 }
 
 impl Fault {
@@ -43,7 +34,7 @@ impl Fault {
     {
         match self {
             Fault::Program(fault) => fault.status(),
-            Fault::Open | Fault::Read => Status::Refused,
+            Fault::Read => Status::Refused,
             Fault::Dump(DumpFault::Keys(_) | DumpFault::TooLarge) => Status::Refused,
             Fault::Dump(DumpFault::Memory) => Status::Memory,
             Fault::Dump(DumpFault::Write) => Status::Write,
@@ -58,22 +49,14 @@ impl Fault {
                 Cause::Put | Cause::Write => Status::Write,
                 _ => Status::Refused,
             },
-            Fault::Play(fault) | Fault::Draw(DrawFault::Play(fault)) => status_of_play(fault),
-            Fault::Draw(DrawFault::TooMany) => Status::Refused,
         }
     }
 }
 
-fn status_of_play(fault: &PlayRunFault) -> Status
-    ensures { result ≡ ending_by_play fault.now }
+/// Tells the user as far as standard error takes it, and how the run ends.
+pub fn tell(rt: &impl Eprint, fault: &Fault) -> Status
+    ensures { result ≡ ending_by fault.now }
 {
-    match fault {
-        PlayRunFault::Memory | PlayRunFault::Start(PlayFault::Memory) => Status::Memory,
-        PlayRunFault::Read | PlayRunFault::Start(_) => Status::Refused,
-        PlayRunFault::Text(fault) => match fault.kind {
-            PlayTextKind::Memory => Status::Memory,
-            _ => Status::Refused,
-        },
-        PlayRunFault::Write => Status::Write,
-    }
+    let _ = eprintln!(rt; "rhset: {fault}");
+    fault.status()
 }

@@ -1,15 +1,12 @@
 //! The command `run`: a script over the files of the current folder.
 
 ghost use Rattle.std.specs.Prelude.{◌≡◌, ◌⊎◌, IfErr, IfOk, IfSome, take};
-ghost use Rattle.rh_phase.specs.Made.{IsWorkers};
-ghost use Rattle.rhset.specs.declared.script.TheConstants.{MAX_BYTES};
+ghost use Rattle.rh_set_program.specs.declared.script.TheConstants.{MAX_BYTES};
 
-use crate::input::open;
 use crate::status::Fault;
-use rh_cli::{ProgramFault, buffered_writer, write_out};
+use rh_cli::{ProgramFault, Status, buffered_writer, open, write_out};
 use rh_key_files::{Counted, fill};
-use rh_phase::Threads;
-use rh_runner::{Runner, Single};
+use rh_runner::Runner;
 use rh_script::{MAX_LINE_BYTES, MAX_LINES, parse};
 use rh_script_run::run;
 use rh_shelf::FileShelf;
@@ -17,7 +14,7 @@ use std::alloc::Global;
 use std::fs::Files;
 use std::io::{self, Read};
 use std::sync::Wait;
-use std::thread;
+use std::thread::Threads;
 
 // A script of more bytes has a faulty line within these: one too many, or one that is too long.
 const MAX_BYTES: usize = MAX_LINES as usize * (MAX_LINE_BYTES + 1) + 1;
@@ -25,26 +22,15 @@ const MAX_BYTES: usize = MAX_LINES as usize * (MAX_LINE_BYTES + 1) + 1;
 // How many bytes are read at once.
 const PART_BYTES: usize = 8_192;
 
-/// Carries out the script at the path by so many workers, and writes its report to standard output.
-pub fn run_script(
-    rt: &(impl Files + Print + AllocGlobal + thread::Threads + Wait + Sync),
-    workers: usize,
-    path: &str,
-) -> Result<(), Fault>
-    requires { IsWorkers workers }
-{
-    match workers {
-        1 => run_by(rt, &mut Single, path),
-        _ => run_by(rt, &mut Threads::new(workers), path),
-    }
-}
-
-// Its report goes through a buffer.
-fn run_by<N: Runner>(
-    rt: &(impl Files + Print + AllocGlobal + thread::Threads + Wait + Sync),
+/// Carries out the script at the path by this runner, and writes its report to standard output. The
+/// report goes through a buffer.
+pub fn run_by<N: Runner>(
+    rt: &(impl Files + Print + AllocGlobal + Threads + Wait + Sync),
     runner: &mut N,
     path: &str,
-) -> Result<(), Fault> {
+) -> Result<Status, Fault>
+    ensures { IfOk result (λ status. status ≡ Status.Done) }
+{
     let text = script_text(rt, path)?;
     let script = parse(rt.alloc(), &text)?;
     let output = buffered_writer(rt.alloc(), io::writer(rt))?;
@@ -54,11 +40,13 @@ fn run_by<N: Runner>(
     // What the commands before a fault told is written too.
     let written = write_out(&mut writer.into_inner());
     told?;
-    Ok(written?)
+    written?;
+    Ok(Status::Done)
 }
 
 fn script_text(rt: &(impl Files + AllocGlobal), path: &str) -> Result<Vec<u8>, Fault> {
-    front_of(rt.alloc(), open(rt, path)?)
+    let reader = open(rt, path)?;
+    front_of(rt.alloc(), reader)
 }
 
 // The bytes that a reader has, or the first `MAX_BYTES` of them. Any failure of the reader ends it, an

@@ -1,0 +1,21 @@
+//! The command line of `rhplay`.
+//!
+//! `rhplay` stands on it.
+//!
+//! Proved:
+//!
+//! - `line`: the command is the one that the words name, by the rules of `clap`, with what they give.
+//!   It is refused exactly by the kinds of fault that those rules give.
+//! - `name_called`: the name is the last component of the first word, taken as a path, or `rhplay`
+//!   where it has none.
+#![tactic(auto)]
+
+mod asked;
+mod help;
+mod limits;
+mod name;
+mod parse;
+
+pub use asked::Line;
+pub use name::{NAME, name_called};
+pub use parse::line;

@@ -1,0 +1,22 @@
+//! What `rhset` does between real streams, and how it ends.
+//!
+//! `rhset` stands on it, and adds the choice of threads alone: this crate stands on no crate of a
+//! shared table, so that it is proved beside them.
+//!
+//! Proved:
+//!
+//! - `Fault::status`, `tell`: the exit status of each fault, by the table `specs/Endings.antt`.
+//! - `dump_streams`, `check_file`, `run_by`: a command that ends well is done.
+//! - Of a script the bytes that its reader has are read, or as many of them as no script without a
+//!   faulty line can have; or memory was wanted, or a read failed (`front_of`).
+//!
+//! What real streams give and take no contract says.
+#![tactic(auto)]
+
+mod script;
+mod status;
+mod streams;
+
+pub use script::run_by;
+pub use status::{Fault, tell};
+pub use streams::{check_file, dump_streams};

@@ -1,0 +1,48 @@
+//! How the program ends.
+
+ghost use Rattle.std.specs.Prelude.{◌≡◌};
+ghost use Rattle.rhplay.specs.Endings.{ending_by, ending_by_play};
+
+use rh_cli::{ProgramFault, Status};
+use rh_play::PlayTextKind;
+use rh_play_run::{DrawFault, PlayRunFault};
+use rh_stepper::PlayFault;
+use thiserror::Error;
+
+/// Why a run ends early, in the words that the user is told.
+#[derive(Debug, Drop, Error)]
+pub enum Fault {
+    #[error(transparent)]
+    Program(#[from] ProgramFault),
+    #[error(transparent)]
+    Play(#[from] PlayRunFault),
+    #[error(transparent)]
+    Draw(#[from] DrawFault),
+}
+
+impl Fault {
+    /// How a run ends that this ended early.
+    pub fn status(&self) -> Status
+        ensures { result ≡ ending_by self.now }
+    {
+        match self {
+            Fault::Program(fault) => fault.status(),
+            Fault::Play(fault) | Fault::Draw(DrawFault::Play(fault)) => status_of_play(fault),
+            Fault::Draw(DrawFault::TooMany) => Status::Refused,
+        }
+    }
+}
+
+fn status_of_play(fault: &PlayRunFault) -> Status
+    ensures { result ≡ ending_by_play fault.now }
+{
+    match fault {
+        PlayRunFault::Memory | PlayRunFault::Start(PlayFault::Memory) => Status::Memory,
+        PlayRunFault::Read | PlayRunFault::Start(_) => Status::Refused,
+        PlayRunFault::Text(fault) => match fault.kind {
+            PlayTextKind::Memory => Status::Memory,
+            _ => Status::Refused,
+        },
+        PlayRunFault::Write => Status::Write,
+    }
+}
