@@ -20,7 +20,7 @@ use rh_steps::Steps;
 use rh_words::{Reading, Request, Shape, Side, StepKind};
 
 /// Which step of a worker that looks at a cell is next. What it needs is in its machine.
-#[derive(Clone, Copy, Debug, PartialEq, Eq)]
+#[derive(Clone, Copy)]
 pub enum Watch {
     /// Read of the cell.
     Read,

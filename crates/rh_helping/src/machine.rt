@@ -24,7 +24,7 @@ pub enum Ended {
 }
 
 /// Which step a machine makes next.
-#[derive(Clone, Copy, Debug, PartialEq, Eq)]
+#[derive(Clone, Copy)]
 pub enum At {
     /// Read of the descriptor's control.
     Control,

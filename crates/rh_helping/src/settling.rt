@@ -17,7 +17,7 @@ use rh_steps::Steps;
 use rh_words::{Piece, Reading, Ref, Request, Shape, Side, StepKind};
 
 /// Which step with the mark is next.
-#[derive(Clone, Copy, Debug, PartialEq, Eq)]
+#[derive(Clone, Copy)]
 pub enum SettlingAt {
     /// Read of its descriptor.
     Desc,

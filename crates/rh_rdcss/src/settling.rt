@@ -19,7 +19,7 @@ use rh_tagword::State;
 use rh_words::{Piece, Reading, Ref, Request};
 
 /// What a mark is settled to.
-#[derive(Clone, Copy, Debug, PartialEq, Eq)]
+#[derive(Clone, Copy)]
 pub(crate) enum Target {
     Descriptor,
     Old(u64),

@@ -7,7 +7,7 @@ use crate::table::Inner;
 use rh_words::{Piece, Ref, Side};
 
 /// A mark that a worker placed: for which entry it is, and the old value in whose place it stands.
-#[derive(Clone, Copy, Debug, PartialEq, Eq)]
+#[derive(Clone, Copy)]
 pub struct OwnMark {
     pub mark: Ref,
     pub piece: Piece,

@@ -3,7 +3,7 @@
 use rh_worker::Worker;
 
 /// Which keys of the list a worker does, by their positions.
-#[derive(Clone, Copy, Debug, PartialEq, Eq)]
+#[derive(Clone, Copy)]
 pub enum Share {
     /// Those from the first position up to the end.
     Piece { first: usize, end: usize },

@@ -14,7 +14,7 @@ pub struct Ref {
 }
 
 /// An entry of a descriptor, as a worker goes about it.
-#[derive(Clone, Copy, Debug, PartialEq, Eq)]
+#[derive(Clone, Copy)]
 pub struct Piece {
     pub desc: Ref,
     /// Counted from 0 in the descriptor.

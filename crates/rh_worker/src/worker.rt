@@ -44,7 +44,7 @@ pub struct Worker {
 }
 
 /// A step that was made.
-#[derive(Clone, Copy, Debug, PartialEq, Eq)]
+#[derive(Clone, Copy)]
 pub struct Stepped {
     pub kind: StepKind,
     /// Where the key was done with it, the answer: whether the key was added, removed or found.
