@@ -5,16 +5,14 @@ ghost use Rattle.std.specs.FinSet as set;
 ghost use Rattle.rh_layout.specs.Key.{IsBits, IsKey};
 ghost use Rattle.rh_layout.specs.Layout.{IsLayout, keys_of};
 ghost use Rattle.rh_ledger.specs.Phase.{looked_up, most_added, set_after, tally_of};
-ghost use Rattle.rh_phase.specs.Crew.{AllMayStart};
-ghost use Rattle.rh_phase.specs.Made.{IsRooms, IsWorkers};
+ghost use Rattle.rh_threads.specs.Crew.{AllMayStart};
+ghost use Rattle.rh_threads.specs.Made.{IsRooms, IsWorkers};
 ghost use Rattle.rh_runner.specs.Cells.{AreTheCells};
 
-use crate::crew::{AllStart, Starts};
-use crate::gate::Gate;
-use crate::working_out::{asked, changed};
 use rh_ledger::{Kind, Tally};
 use rh_runner::PhaseFault;
-use rh_words::{Rooms, Shape};
+use rh_threads::{AllStart, Gate, Starts, asked, changed, shape_of};
+use rh_words::Rooms;
 use std::alloc::Global;
 use std::sync::Wait;
 use std::thread::Threads;
@@ -132,19 +130,4 @@ pub fn ask_with<R: Threads + Wait + Sync, G: Gate + Sync, S: Starts + Sync>(
 {
     let shape = shape_of(bits, workers, rooms, keys);
     Ok(asked(rt, alloc, shape, cells, keys, gate, starts)?)
-}
-
-/// The shape of a table for so many workers that share this list.
-pub(crate) fn shape_of(bits: u32, workers: usize, rooms: Rooms, keys: &[u64]) -> Shape
-    ensures bits { result.bits ≡ bits }
-    ensures workers { result.workers ≡ workers }
-    ensures rooms { result.rooms ≡ rooms }
-    ensures keys { result.keys ≡ length keys.now }
-{
-    Shape {
-        bits,
-        workers,
-        keys: keys.len() as u64,
-        rooms,
-    }
 }

@@ -3,7 +3,7 @@
 ghost use Rattle.std.specs.Prelude.{◌≤◌};
 ghost use Rattle.std.specs.FinSet as set;
 ghost use Rattle.rh_layout.specs.Layout.{IsLayout, keys_of};
-ghost use Rattle.rh_phase.specs.Made.{IsWorkers};
+ghost use Rattle.rh_threads.specs.Made.{IsWorkers};
 
 use rh_edit::SeqSet;
 use rh_layout::is_layout;

@@ -2,7 +2,7 @@
 
 ghost use Rattle.std.specs.Prelude.{◌≡◌, ◌≢◌, ◌^◌, ◌<◌, IfSome};
 ghost use Rattle.rh_layout.specs.Key.{IsBits};
-ghost use Rattle.rh_phase.specs.Made.{IsRooms, IsWorkers};
+ghost use Rattle.rh_threads.specs.Made.{IsRooms, IsWorkers};
 
 use crate::random::Random;
 use rh_edit::SeqSet;

@@ -19,7 +19,6 @@
 
 pub use rh_faulty::{FaultyShelf, ShelfFailure};
 pub use rh_key_files::{Counted, KeyFault, WriteFault, write_keys};
-pub use rh_phase::Threads;
 pub use rh_runner::{PhaseFault, Runner, Single};
 pub use rh_script::{Command, Plan, Script, ScriptFault, ScriptFaultKind, parse, plan};
 pub use rh_script_run::{
@@ -28,3 +27,4 @@ pub use rh_script_run::{
 };
 pub use rh_shelf::{FileShelf, MemShelf, Shelf, ShelfFault};
 pub use rh_snapshot::SnapFault;
+pub use rh_threads::Threads;

@@ -4,7 +4,7 @@ ghost use Rattle.rh_shared.specs.Rests.{SeatRests};
 ghost use Rattle.rh_layout.specs.Key.{IsKey};
 ghost use Rattle.rh_layout.specs.Layout.{IsLayout, keys_of};
 ghost use Rattle.rh_ledger.specs.Phase.{most_added};
-ghost use Rattle.rh_phase.specs.Made.{IsRooms, IsWorkers};
+ghost use Rattle.rh_threads.specs.Made.{IsRooms, IsWorkers};
 ghost use Rattle.std.specs.FinSet as set;
 ghost use Rattle.std.specs.Prelude.{All, length, ◌+◌, ◌<◌, ◌^◌, ◌≡◌, ◌≢◌};
 

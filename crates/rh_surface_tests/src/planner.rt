@@ -6,7 +6,7 @@ ghost use Rattle.std.specs.Thread.{IsSync};
 ghost use Rattle.rh_layout.specs.Key.{IsKey};
 ghost use Rattle.rh_layout.specs.Layout.{IsLayout, keys_of};
 ghost use Rattle.rh_ledger.specs.Phase.{most_added};
-ghost use Rattle.rh_phase.specs.Made.{IsWorkers};
+ghost use Rattle.rh_threads.specs.Made.{IsWorkers};
 
 use rh_files::Counted;
 use rh_ledger::{Kind, Tally};

@@ -1,13 +1,13 @@
 //! The program `rhset`: a set of whole numbers in one Robin Hood hash table, and commands on it.
 #![tactic(auto)]
 
-ghost use Rattle.rh_phase.specs.Made.{IsWorkers};
+ghost use Rattle.rh_threads.specs.Made.{IsWorkers};
 
 use rh_cli::{LineFault, ProgramFault, Status, answer, words};
 use rh_commands::line::{Line, line};
-use rh_phase::Threads;
 use rh_runner::Single;
 use rh_set_program::{Fault, check_file, dump_streams, run_by, tell};
+use rh_threads::Threads;
 use std::env::Env;
 use std::fs::Files;
 use std::process::ExitCode;

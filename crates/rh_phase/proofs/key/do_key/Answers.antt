@@ -1,7 +1,7 @@
 use Rattle.std.proofs.Common.{rules, ⊎_elim, subst}
 use Rattle.rh_shared.specs.Seats.{view_of}
-use Rattle.rh_phase.specs.Keys.{IsTriedSo}
-use Rattle.rh_phase.proofs.Keying.{done_on, same_on, undone_on}
+use Rattle.rh_threads.specs.Keys.{IsTriedSo}
+use Rattle.rh_threads.proofs.Keying.{done_on, same_on, undone_on}
 use Rattle.rh_phase.proofs.key.do_key.Goals as goal
 
 pub returns-in-Done-clause-done : goal.returns-in-Done-clause-done

@@ -1,7 +1,7 @@
 use Rattle.std.proofs.Common.{◌≡◌, length}
 use Rattle.rh_shared.specs.Rests.{SeatRests}
 use Rattle.rh_shared.specs.Seats.{IsSame, view_of}
-use Rattle.rh_phase.specs.Keys.{IsUndone}
+use Rattle.rh_threads.specs.Keys.{IsUndone}
 use Rattle.rh_phase.proofs.key.do_key.Given as goal
 
 abbrev pub invariant-loop : goal.invariant-loop

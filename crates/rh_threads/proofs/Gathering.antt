@@ -1,0 +1,126 @@
+-- A round is gathered from what each worker's hand says, and the next one is begun.
+use Rattle.std.proofs.Common.{◌≡◌, ◌≢◌, ℕ, zero, suc, ◌<◌, ⊎_elim, List, [], length, refl, sym, ap, ◌∙◌, subst, arith, zero-add}
+use mathlib.Core.Option.{some, some-injective}
+use lib.ListN.{get_elem?}
+use Rattle.rh_ledger.specs.declared.tally.Kind.{Kind}
+use Rattle.rh_world.specs.World.{updated}
+use Rattle.rh_world.proofs.Updated.{same_nat, updated_else, updated_here}
+use Rattle.rh_words.specs.declared.known.Known.{Known}
+use Rattle.rh_words.specs.Parts.{IsShape}
+use Rattle.rh_words.specs.View.{View, round_view}
+use Rattle.rh_rule.specs.Seats.{AreMade, Spans, all_views, known}
+use Rattle.rh_rule.proofs.SeatsKept.{item_at, of_map, there}
+use Rattle.rh_run.specs.Run.{ProgressInvariant, RunInvariant}
+use Rattle.rh_run.specs.Words.{IsWiped}
+use Rattle.rh_run.proofs.Stepping.{run_gathers}
+use Rattle.rh_run.proofs.Turning.{run_rounds}
+use Rattle.rh_threads.specs.Hands.{Answer, Answered, Past, HandStands, keys_done, progress_by, told_of}
+use Rattle.rh_threads.specs.Rounds.{Comes, Phase, past_of, run_of}
+use Rattle.rh_threads.specs.declared.hand.Hand.{Hand}
+use Rattle.rh_threads.proofs.Wiped.{wiped_words}
+
+-- what there is for each number below n, as a function
+choose : {A : Type 0} (P : ℕ → A → Type 0) (other : A) (n : ℕ) → ((v : ℕ) → v < n → (a : A) × P v a) → (f : ℕ → A) × ((v : ℕ) → v < n → P v (f v))
+choose P other zero each = ((λ v. other), (λ v less. absurd (omega (arith, less))))
+choose P other (suc n) each =
+    let rest = choose P other n (λ v less. each v (omega (arith, less))) in
+    let last = each n (omega arith) in (
+      updated rest.0 n last.0,
+      (λ v less. ⊎_elim
+          (λ (is : v ≡ n). subst (P v) (sym (updated_here rest.0 n v last.0 is)) (subst (λ (u : ℕ). P u last.0) (sym is) last.1))
+          (λ (other_one : v ≢ n). subst (P v) (sym (updated_else rest.0 n v last.0 other_one)) (rest.1 v (omega (arith, less, other_one))))
+          (same_nat v n)),
+    )
+
+-- what the worker of this number answered, and its hand
+pub record AnsweredBy (ph : Phase) (keep : ℕ → View) (hs : List Hand) (v : ℕ) (answers : List Answer) : Type 0 where
+  pub hand : Hand
+  pub at : get_elem? hs v ≡ some hand
+  pub kind_is : hand.kind ≡ ph.kind
+  pub long : length hand.found.items ≡ ph.positions
+  pub answered : Answered ph.shape hand (keep v) answers
+
+-- the run at the end of a round
+pub record Gathered (ph : Phase) (words : List ℕ) (keep : ℕ → View) (hs : List Hand) : Type 0 where
+  pub answers : ℕ → List Answer
+  pub run : RunInvariant (run_of ph words keep (λ v. keys_done ph.keys (answers v)) (λ v. told_of (answers v)))
+  pub each : (v : ℕ) → v < ph.shape.workers → AnsweredBy ph keep hs v (answers v)
+
+module _ (ph : Phase) (vs : List Known) (hs : List Hand) (some_one : 0 < ph.shape.workers) (spans : Spans vs 0 ph.shape.workers) (long : length hs ≡ ph.shape.workers) (comes : Comes ph vs hs) (m : AreMade ph.shape vs) where
+  abbrev past : ℕ → Past
+  past = past_of ph.positions comes.run
+
+  -- what stands for a worker, by its number
+  record StandsAt (v : ℕ) (answers : List Answer) : Type 0 where
+    hand : Hand
+    at : get_elem? hs v ≡ some hand
+    stands : HandStands ph.shape ph.keys (past v) hand (m.keep v)
+    same : stands.answers ≡ answers
+
+  stands_at : (v : ℕ) → v < ph.shape.workers → (answers : List Answer) × StandsAt v answers
+  stands_at v less =
+      let s = item_at vs v (let l = spans.long in omega (arith, l, less)) in
+      let h = item_at hs v (omega (arith, long, less)) in
+      let whose : s.0.view.worker ≡ v = spans.each v s.0 s.1 ∙ zero-add v in
+      let st : HandStands ph.shape ph.keys (past v) h.0 (m.keep v) = subst (λ (x : View). HandStands ph.shape ph.keys (past v) h.0 x) (sym (m.of_view v s.0 s.1))
+      (subst (λ (w : ℕ). HandStands ph.shape ph.keys (past w) h.0 s.0.view) whose (comes.stands v s.0 h.0 s.1 h.1)) in
+      (st.answers, record { hand = h.0; at = h.1; stands = st; same = refl })
+
+  chosen : (f : ℕ → List Answer) × ((v : ℕ) → v < ph.shape.workers → StandsAt v (f v))
+  chosen = choose StandsAt [] ph.shape.workers stands_at
+
+  doing_at : (v : ℕ) (answers : List Answer) → StandsAt v answers → ProgressInvariant ph.shape ph.kind (progress_by ph.keys (past v) (m.keep v) answers)
+  doing_at v answers is =
+      subst (λ (l : List Answer). ProgressInvariant ph.shape ph.kind (progress_by ph.keys (past v) (m.keep v) l)) is.same
+      (subst (λ (k : Kind). ProgressInvariant ph.shape k (progress_by ph.keys (past v) (m.keep v) is.stands.answers)) is.stands.kind_is is.stands.doing)
+
+  pub gathered : Gathered ph m.words m.keep hs
+  gathered = record {
+    answers = chosen.0;
+    run = run_gathers (run_of ph comes.words comes.keep comes.done comes.told) comes.run m.words m.keep (λ v. keys_done ph.keys (chosen.0 v)) (λ v. told_of (chosen.0 v)) m.w 0 m.core some_one
+        (chosen.1 0 some_one).stands.opening (λ v less. doing_at v (chosen.0 v) (chosen.1 v less));
+    each = λ v less. let is = chosen.1 v less in record {
+      hand = is.hand;
+      at = is.at;
+      kind_is = is.stands.kind_is;
+      long = is.stands.long;
+      answered = subst (λ (l : List Answer). Answered ph.shape is.hand (m.keep v) l) is.same is.stands.answered;
+    };
+  }
+
+  -- the next round begins where they are
+  pub comes_on : IsShape ph.shape → (us : List Known) → us ≡ all_views (round_view m.cells) vs → Comes ph us hs
+  comes_on shape us is = record {
+    words = then;
+    keep = λ v. round_view m.cells (m.keep v);
+    done = λ v. keys_done ph.keys (gathered.answers v);
+    told = λ v. told_of (gathered.answers v);
+    run = run;
+    stands = λ r s h e f.
+        let old = of_map (λ k. known (round_view m.cells k.view)) vs r s (subst (λ (l : List Known). get_elem? l r ≡ some s) is e) in
+        let less : r < ph.shape.workers = let l = there hs r h f in omega (arith, l, long) in
+        let by = gathered.each r less in
+        let same : by.hand ≡ h = some-injective by.hand h (sym by.at ∙ f) in
+        let whose : old.0.view.worker ≡ r = spans.each r old.0 old.1 ∙ zero-add r in
+        let view : m.keep r ≡ old.0.view = m.of_view r old.0 old.1 in
+        subst (λ (k : Known). HandStands ph.shape ph.keys (past_of ph.positions run k.view.worker) h k.view) (sym old.2)
+        (subst (λ (x : View). HandStands ph.shape ph.keys (past_of ph.positions run x.worker) h (round_view m.cells x)) view
+        (subst (λ (w : ℕ). HandStands ph.shape ph.keys (past_of ph.positions run w) h (round_view m.cells (m.keep r))) (sym (ap (λ (x : View). x.worker) view ∙ whose))
+        (subst (λ (g : Hand). HandStands ph.shape ph.keys (past_of ph.positions run r) g (round_view m.cells (m.keep r))) same (record {
+          kind_is = by.kind_is;
+          answers = gathered.answers r;
+          doing = subst (λ (k : Kind). ProgressInvariant ph.shape k (progress_by ph.keys (past_of ph.positions run r) (round_view m.cells (m.keep r)) (gathered.answers r))) (sym by.kind_is) (run.doing r less);
+          answered = record { claimed_are = by.answered.claimed_are; counts = by.answered.counts; marks = by.answered.marks };
+          opening = refl;
+          long = by.long;
+        }))));
+  }
+    where
+      wiped : (then : List ℕ) × IsWiped ph.shape m.words then
+      wiped = wiped_words ph.shape m.words m.core.represents.sized
+
+      then : List ℕ
+      then = wiped.0
+
+      run : RunInvariant (run_of ph then (λ v. round_view m.cells (m.keep v)) (λ v. keys_done ph.keys (gathered.answers v)) (λ v. told_of (gathered.answers v)))
+      run = run_rounds (run_of ph m.words m.keep (λ v. keys_done ph.keys (gathered.answers v)) (λ v. told_of (gathered.answers v))) then m.cells shape some_one m.rest m.front wiped.1 gathered.run

@@ -1,0 +1,22 @@
+use Rattle.std.proofs.Common.{◌≡◌, ◌/◌, take, drop, refl, subst}
+use Rattle.std.specs.Prelude.{IfOk, OnOk}
+use Rattle.rh_threads.proofs.Crews.{are_halves, half_can_left, half_can_right}
+use Rattle.rh_threads.proofs.crew.cut.Goals as goal
+
+pub returns-clause-left : goal.returns-clause-left
+returns-clause-left c =
+    let e = c.split-others.ensures in
+    let n = c.args.crew.seat.count / 2 in
+    let left : c.split_off.new.self ≡ take n c.args.crew.hands = subst (λ r. OnOk r (c.split_off.new.self ≡ take n c.args.crew.hands)) c.unwrap-right.ensures c.split_off.ensures.items in
+    let right : c.unwrap-right.result ≡ drop n c.args.crew.hands = subst (λ r. IfOk r (λ w. w ≡ drop n c.args.crew.hands)) c.unwrap-right.ensures c.split_off.ensures.tail in
+    half_can_left c.args.table.now c.args.keys.now c.args.crew _ (record { seat = c.split-others.result; hands = c.unwrap-right.result }) c.requires.can
+    (are_halves c.args.crew _ _ _ n e.cut refl left right) e.left e.still_fresh.0
+
+pub returns-clause-right : goal.returns-clause-right
+returns-clause-right c =
+    let e = c.split-others.ensures in
+    let n = c.args.crew.seat.count / 2 in
+    let left : c.split_off.new.self ≡ take n c.args.crew.hands = subst (λ r. OnOk r (c.split_off.new.self ≡ take n c.args.crew.hands)) c.unwrap-right.ensures c.split_off.ensures.items in
+    let right : c.unwrap-right.result ≡ drop n c.args.crew.hands = subst (λ r. IfOk r (λ w. w ≡ drop n c.args.crew.hands)) c.unwrap-right.ensures c.split_off.ensures.tail in
+    half_can_right c.args.table.now c.args.keys.now c.args.crew (record { seat = c.split-others.new.seat; hands = c.split_off.new.self }) _ c.requires.can
+    (are_halves c.args.crew _ _ _ n e.cut refl left right) e.right e.still_fresh.1

@@ -1,0 +1,85 @@
+use Rattle.std.proofs.Common.{suc, ◌≡◌, ◌+◌, ◌≤◌, ◌<◌, ◌^◌, ℕ, None, length, length-set, rules, subst, sym, ◌∙◌, set, take, arith}
+use Rattle.rh_layout.specs.Order.{home_of}
+use Rattle.rh_layout.specs.Round.{cell_ahead}
+use Rattle.rh_tagword.proofs.PlainWords.{value_said}
+use Rattle.rh_words.specs.Parts.{cell_count}
+use Rattle.rh_run.specs.History.{kept_of}
+use Rattle.rh_shared.specs.Seats.{view_of}
+use Rattle.rh_worker.specs.Deciding.{Decides}
+use Rattle.rh_worker.specs.Reading.{HasScanned}
+use Rattle.rh_worker.specs.declared.deciding.Decision.TheVariants.{Done}
+use Rattle.rh_worker.proofs.Keeping.{value_read}
+use Rattle.rh_threads.proofs.Keying.{cell_read, scan_tells, one_value, same_on, undone_on, undone_read}
+use Rattle.rh_threads.proofs.key.scan.Goals as goal
+
+pub returns-in_default-clause-undone : goal.returns-in_default-clause-undone
+returns-in_default-clause-undone g c =
+    let z = c.args.table.now.shape in
+    let h = c.loop-count.invariant in
+    let e = c.in_default.ensures in
+    undone_on z c.args.kind c.args.key (view_of c.args.seat.now) (view_of c.loop-count.seat) (view_of c.read.new.seat) h.undone
+    (undone_read z c.args.kind c.args.key (view_of c.loop-count.seat) (view_of c.read.new.seat) h.rests.rested e.rests.rested c.cell_after-cell.result None (search rules) e.acts e.reads)
+
+pub returns-in-Done-clause-undone : goal.returns-in-Done-clause-undone
+returns-in-Done-clause-undone g c =
+    let z = c.args.table.now.shape in
+    let h = c.loop-count.invariant in
+    let e = c.in-Some.ensures in
+    undone_on z c.args.kind c.args.key (view_of c.args.seat.now) (view_of c.loop-count.seat) (view_of c.read.new.seat) h.undone
+    (undone_read z c.args.kind c.args.key (view_of c.loop-count.seat) (view_of c.read.new.seat) h.rests.rested e.rests.rested c.cell_after-cell.result _ (search rules) e.acts e.reads)
+
+pub returns-in-Acts-clause-undone : goal.returns-in-Acts-clause-undone
+returns-in-Acts-clause-undone g c =
+    let z = c.args.table.now.shape in
+    let h = c.loop-count.invariant in
+    let e = c.in-Some.ensures in
+    undone_on z c.args.kind c.args.key (view_of c.args.seat.now) (view_of c.loop-count.seat) (view_of c.read.new.seat) h.undone
+    (undone_read z c.args.kind c.args.key (view_of c.loop-count.seat) (view_of c.read.new.seat) h.rests.rested e.rests.rested c.cell_after-cell.result _ (search rules) e.acts e.reads)
+
+pub returns-in-Done-clause-scans : goal.returns-in-Done-clause-scans
+returns-in-Done-clause-scans g c =
+    let z = c.args.table.now.shape in
+    let l = c.loop-count in
+    let h = l.invariant in
+    let k = c.args.key in
+    let n = l.count in
+    let now = set l.seen n c.unwrap-value.result in
+    let before = kept_of z (view_of c.args.seat.now) in
+    let at : c.cell_after-cell.result ≡ cell_ahead (cell_count z) (home_of z.bits k) n = cc in
+    let said = value_said c.plain_value.result c.in-Some.word c.unwrap-value.result c.plain_value.ensures c.unwrap-value.ensures in
+    let within : n < length l.seen = (let t = c.loop-count-test.true in let s = h.seen in omega (arith, t, s)) in
+    let read = cell_read z k before (view_of l.seat) (view_of c.read.new.seat) l.seen n c.cell_after-cell.result c.in-Some.word c.unwrap-value.result c.in-Some.ensures.reads.seen_is (value_read c.in-Some.word c.unwrap-value.result said) (search rules) at within h.read in
+    let long = length-set l.seen n c.unwrap-value.result in
+    let next : suc n ≡ n + 1 = omega arith in
+    scan_tells z c.args.kind k before (view_of c.read.new.seat) now (n + 1) c.decide.new.entries c.in-Done.told (omega (arith, long, within))
+    (let s = h.seen in let r = c.requires.room in let b = c.requires.bits in subst (λ (b : ℕ). length now ≤ 2 ^ b) (sym b) (omega (arith, long, s, r)))
+    (subst (HasScanned z before (view_of c.read.new.seat) k now) next read)
+    (subst (λ (b : ℕ). Decides c.args.kind b k (take (n + 1) now) c.decide.new.entries (Done c.in-Done.told)) (sym c.requires.bits) c.in-Done.ensures)
+
+pub loop-count-preserved : goal.loop-count-preserved
+loop-count-preserved g c =
+    let z = c.args.table.now.shape in
+    let l = c.loop-count in
+    let h = l.invariant in
+    let e = c.in-Some.ensures in
+    let k = c.args.key in
+    let n = l.count in
+    let now = set l.seen n c.unwrap-value.result in
+    let before = kept_of z (view_of c.args.seat.now) in
+    let at : c.cell_after-cell.result ≡ cell_ahead (cell_count z) (home_of z.bits k) n = cc in
+    let said = value_said c.plain_value.result c.in-Some.word c.unwrap-value.result c.plain_value.ensures c.unwrap-value.ensures in
+    let within : n < length l.seen = (let t = c.loop-count-test.true in let s = h.seen in omega (arith, t, s)) in
+    let read = cell_read z k before (view_of l.seat) (view_of c.read.new.seat) l.seen n c.cell_after-cell.result c.in-Some.word c.unwrap-value.result e.reads.seen_is (value_read c.in-Some.word c.unwrap-value.result said) (search rules) at within h.read in
+    let next : suc n ≡ n + 1 = omega arith in
+    record {
+      within = let t = c.loop-count-test.true in omega (arith, t);
+      rests = e.rests;
+      same = same_on c.args.seat.now l.seat c.read.new.seat h.same e.same;
+      undone = undone_on z c.args.kind k (view_of c.args.seat.now) (view_of l.seat) (view_of c.read.new.seat) h.undone
+          (undone_read z c.args.kind k (view_of l.seat) (view_of c.read.new.seat) h.rests.rested e.rests.rested c.cell_after-cell.result _ (search rules) e.acts e.reads);
+      read = subst (HasScanned z before (view_of c.read.new.seat) k now) next read;
+      values = one_value l.seen n c.unwrap-value.result within said.0 h.values;
+      seen = length-set l.seen n c.unwrap-value.result ∙ h.seen;
+      news = search rules;
+      entries = search rules;
+    }

@@ -1,0 +1,52 @@
+use Rattle.std.proofs.Common.{length-take-le, take, arith}
+use Rattle.rh_helping.specs.declared.machine.Ended.TheVariants as ended
+use Rattle.rh_run.specs.History.{act_of}
+use Rattle.rh_shared.specs.Seats.{view_of}
+use Rattle.rh_worker.proofs.OpenStep.{are_entries, rising_of}
+use Rattle.rh_threads.proofs.Keying.{done_on, done_told, swap_done, swap_failed, swap_given_up, undone_on}
+use Rattle.rh_threads.proofs.key.try_key.Goals as goal
+
+pub kcas-requires-clause-entries : goal.kcas-requires-clause-entries
+kcas-requires-clause-entries g c =
+    let z = c.args.table.now.shape in
+    let plan = c.in-Acts.plan in
+    let es = c.scan.new.entries in
+    let p = c.in-Acts.ensures.scans in
+    let size = length-take-le plan.entries es p.within in
+    let some = p.some in
+    are_entries z (take plan.entries es) (omega (arith, size, some)) (rising_of c.args.kind z.bits c.args.key plan.changes (act_of (take plan.entries es)) p.act) p.fit
+
+pub returns-in-Done-clause-tries : goal.returns-in-Done-clause-tries
+returns-in-Done-clause-tries g c =
+    let e = c.in-Done.ensures in
+    done_told c.args.table.now.shape c.args.kind c.args.key (view_of c.args.seat.now) (view_of c.scan.new.seat) c.in-Done.told e.undone e.scans.0 e.scans.1
+
+pub returns-in-Done-kcas-clause-tries : goal.returns-in-Done-kcas-clause-tries
+returns-in-Done-kcas-clause-tries g c =
+    let z = c.args.table.now.shape in
+    let plan = c.in-Acts.plan in
+    let e = c.in-Acts.ensures in
+    let s = c.in-Done-kcas.ensures in
+    done_on z c.args.kind c.args.key (view_of c.args.seat.now) (view_of c.scan.new.seat) (view_of c.kcas.new.seat) plan.changes e.undone
+    (swap_done z c.args.kind c.args.key (view_of c.scan.new.seat) (view_of c.kcas.new.seat) e.rests.rested s.rests.rested (take plan.entries c.scan.new.entries) plan.changes e.scans.act
+    s.swaps.reads s.swaps.claims s.swaps.opening ended.Succeeded s.swaps.became.0 s.swaps.became.1)
+
+pub returns-in-Failed-clause-tries : goal.returns-in-Failed-clause-tries
+returns-in-Failed-clause-tries g c =
+    let z = c.args.table.now.shape in
+    let plan = c.in-Acts.plan in
+    let e = c.in-Acts.ensures in
+    let s = c.in-Failed.ensures in
+    undone_on z c.args.kind c.args.key (view_of c.args.seat.now) (view_of c.scan.new.seat) (view_of c.kcas.new.seat) e.undone
+    (swap_failed z c.args.kind c.args.key (view_of c.scan.new.seat) (view_of c.kcas.new.seat) e.rests.rested s.rests.rested (take plan.entries c.scan.new.entries) plan.changes e.scans.act
+    s.swaps.reads s.swaps.claims s.swaps.opening _ s.swaps.became.0 s.swaps.became.1)
+
+pub returns-in-Spent-kcas-clause-tries : goal.returns-in-Spent-kcas-clause-tries
+returns-in-Spent-kcas-clause-tries g c =
+    let z = c.args.table.now.shape in
+    let plan = c.in-Acts.plan in
+    let e = c.in-Acts.ensures in
+    let s = c.in-Spent-kcas.ensures in
+    let up = swap_given_up z c.args.kind c.args.key (view_of c.scan.new.seat) (view_of c.kcas.new.seat) e.rests.rested s.rests.rested (take plan.entries c.scan.new.entries) plan.changes e.scans.act
+    s.swaps.reads s.swaps.claims s.swaps.opening s.swaps.became.0 s.swaps.became.1 s.swaps.became.2 in
+    (undone_on z c.args.kind c.args.key (view_of c.args.seat.now) (view_of c.scan.new.seat) (view_of c.kcas.new.seat) e.undone up.0, up.1)

@@ -1,0 +1,63 @@
+-- Workers of a phase with their seat, who fork in halves and join again.
+use Rattle.std.specs.Prelude.{◌≡◌, ℕ, ◌+◌, ◌<◌, true, false, List, All, Bool, length, take, drop}
+use Rattle.rh_layout.specs.Key.{IsKey}
+use Rattle.rh_shared.specs.Crews.{SitsAt, IsCut, IsFresh, IsQuiet, views_of}
+use Rattle.rh_shared.specs.declared.table.Table.{Table}
+use Rattle.rh_rule.specs.Seats.{InView}
+use Rattle.rh_threads.specs.Hands.{AllStand, InPairs, IsHand, Past}
+use Rattle.rh_threads.specs.declared.crew.Crew.{Crew}
+use Rattle.rh_runner.specs.declared.runner.PhaseFault.{PhaseFault}
+use Rattle.rh_runner.specs.declared.runner.PhaseFault.TheVariants.{Memory, NoThread}
+use Rattle.rh_threads.specs.declared.fault.Fault.{Fault}
+use Rattle.rh_threads.specs.declared.fault.Fault.TheVariants as faults
+use Rattle.rh_threads.specs.declared.crew.Refused.{Refused}
+use Rattle.rh_threads.specs.declared.crew.Refused.TheVariants.{NotAllowed, NotStarted}
+
+-- it sits at the table, each worker with its hand, at a list of keys of which each is claimed once
+pub record IsCrew (t : Table) (keys : List ℕ) (c : Crew) : Type 0 where
+  pub here : SitsAt t c.seat
+  pub long : length c.hands ≡ c.seat.count
+  pub hands : InPairs (λ v h. IsHand t.shape keys h v) (views_of c.seat) c.hands
+  pub list : t.shape.keys ≡ length keys
+  pub keys_are : All IsKey keys
+
+-- nobody has done anything in this round
+pub record CanWork (t : Table) (keys : List ℕ) (c : Crew) : Type 0 where
+  pub crew : IsCrew t keys c
+  pub fresh : InView IsFresh (views_of c.seat)
+
+-- They worked and are at rest. Whatever each had done of the list, it has come as far as its hand says.
+pub record HaveWorked (t : Table) (keys : List ℕ) (c then : Crew) : Type 0 where
+  pub crew : IsCrew t keys then
+  pub first : then.seat.side.worker ≡ c.seat.side.worker
+  pub count : then.seat.count ≡ c.seat.count
+  pub quiet : InView IsQuiet (views_of then.seat)
+  pub stands : (past : ℕ → Past) → AllStand t.shape keys past (views_of c.seat) c.hands → AllStand t.shape keys past (views_of then.seat) then.hands
+
+-- the first workers and the others
+pub record AreHalves (c left right : Crew) : Type 0 where
+  pub seats : IsCut c.seat left.seat right.seat right.seat.side.worker
+  pub left_hands : left.hands ≡ take left.seat.count c.hands
+  pub right_hands : right.hands ≡ drop left.seat.count c.hands
+
+-- of so many workers each after the first may have a thread
+abbrev pub AllMayStart : (allows : ℕ → Bool) → (first count : ℕ) → Type 0
+AllMayStart allows first count = (w : ℕ) → first < w → w < first + count → allows w ≡ true
+
+abbrev pub OthersMayStart : (allows : ℕ → Bool) → Crew → Type 0
+OthersMayStart allows c = AllMayStart allows c.seat.side.worker c.seat.count
+
+-- Why they did not: one is not allowed to start, or the system refused a thread.
+abbrev pub RefusedBy : (allows : ℕ → Bool) → Refused → Type 0
+RefusedBy allows (NotAllowed worker) = allows worker ≡ false
+RefusedBy allows NotStarted = Unit {0}
+
+-- Why a phase was not carried out: for want of memory, or one of several workers was refused a thread.
+abbrev pub IsFault : (allows : ℕ → Bool) → (workers : ℕ) → Fault → Type 0
+IsFault allows workers faults.Memory = Unit {0}
+IsFault allows workers (faults.Refused why) = (1 < workers) × RefusedBy allows why
+
+-- what is told of it
+abbrev pub told_as : Fault → PhaseFault
+told_as faults.Memory = Memory
+told_as (faults.Refused why) = NoThread

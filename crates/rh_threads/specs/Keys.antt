@@ -1,0 +1,83 @@
+-- How a worker does one key.
+use Rattle.std.specs.Prelude.{◌≡◌, ℕ, ◌≤◌, ◌⊎◌, Option, None, Some, Bool, List, [], ◌∷◌, ◌++◌}
+use Rattle.std.specs.List.{Contains}
+use Rattle.rh_layout.specs.declared.entry.Entry.{Entry}
+use Rattle.rh_ledger.specs.declared.tally.Kind.{Kind}
+use Rattle.rh_acts.specs.Act.{Act}
+use Rattle.rh_acts.specs.Done.{Does, IsTold, Kept}
+use Rattle.rh_words.specs.declared.shape.Shape.{Shape}
+use Rattle.rh_words.specs.View.{View}
+use Rattle.rh_run.specs.History.{kept_of, own_acts_of}
+use Rattle.rh_shared.specs.Rests.{SeatRests}
+use Rattle.rh_shared.specs.Seats.{view_of}
+use Rattle.rh_shared.specs.declared.seat.Seat.{Seat}
+use Rattle.rh_shared.specs.declared.table.Table.{Table}
+use Rattle.rh_run.specs.Laws.{furthered}
+use Rattle.rh_run.specs.Run.{Progress, ProgressInvariant}
+use Rattle.rh_worker.specs.Deciding.{IsPlan}
+use Rattle.rh_worker.specs.Reading.{IsToldAnew}
+use Rattle.rh_worker.specs.Worker.{HasNoRoom}
+use Rattle.rh_threads.specs.declared.key.Scanned.{Scanned}
+use Rattle.rh_threads.specs.declared.key.Scanned.TheVariants as scanned
+use Rattle.rh_threads.specs.declared.key.Tried.{Tried}
+use Rattle.rh_threads.specs.declared.key.Tried.TheVariants as tried
+
+-- Between the two the own acts of the worker grew by just one, which does the key: it puts it in, takes it out, or shows that
+-- it is not there.
+pub record IsByOwnAct (z : Shape) (kind : Kind) (k : ℕ) (v next : View) (told : Bool) : Type 0 where
+  pub act : Act
+  pub own : own_acts_of next ≡ own_acts_of v ++ act ∷ []
+  pub does : Does kind z.bits k told act
+
+-- They are as before, and the cells that it read since, in turn from the key's home on, tell it.
+pub record IsByReading (z : Shape) (kind : Kind) (k : ℕ) (v next : View) (told : Bool) : Type 0 where
+  pub own : own_acts_of next ≡ own_acts_of v
+  pub tells : IsToldAnew z (kept_of z v) next kind k told
+
+-- Between the two the worker did the key, and is told this of it.
+abbrev pub KeySpec : Shape → Kind → (k : ℕ) → (v next : View) → (told : Bool) → Type 0
+KeySpec z kind k v next told = IsByOwnAct z kind k v next told ⊎ IsByReading z kind k v next told
+
+-- However far the worker had come with its keys, of which this is one: it has done this one too, where there is an answer.
+abbrev pub Furthers : Shape → Kind → (k : ℕ) → (v next : View) → (answer : Option Bool) → Type 0
+Furthers z kind k v next answer = (p : Progress) → Contains p.keys k
+    → ProgressInvariant z kind (record p { view = v }) → ProgressInvariant z kind (furthered p next k answer)
+
+-- The seat is one worker's, which rests at the table, and what is kept of it says that it did the key, and what it was told of it.
+pub record HasDone (t : Table) (s : Seat) (bits : ℕ) (kind : Kind) (k : ℕ) (told : Bool) : Type 0 where
+  pub rests : SeatRests t s
+  pub bits_are : t.shape.bits ≡ bits
+  pub before : View
+  pub so : KeySpec t.shape kind k before (view_of s) told
+
+-- ---- on the way to it
+
+-- The worker did not do the key: its own acts are as before, and what it read stands before all that it had read.
+pub record IsUndone (z : Shape) (kind : Kind) (k : ℕ) (v next : View) : Type 0 where
+  pub own : own_acts_of next ≡ own_acts_of v
+  pub since : List Kept
+  pub reads : kept_of z next ≡ since ++ kept_of z v
+  pub claims : next.side.claims ≡ v.side.claims
+  pub opening : next.opening ≡ v.opening
+  pub furthers : Furthers z kind k v next None
+
+-- what a scan leads to
+abbrev pub ScanSpec : Shape → Kind → (k : ℕ) → (v next : View) → List Entry → Scanned → Type 0
+ScanSpec z kind k v next entries (scanned.Done told) = IsToldAnew z (kept_of z v) next kind k told × IsTold kind z.bits (kept_of z next) k told
+ScanSpec z kind k v next entries (scanned.Acts p) = IsPlan kind z.bits k entries p
+ScanSpec z kind k v next entries scanned.Longer = Unit {0}
+ScanSpec z kind k v next entries scanned.Spent = z.rooms.marks ≤ next.marks_used
+
+-- it did the key, as one of those that it has to do
+pub record IsDoneSo (z : Shape) (kind : Kind) (k : ℕ) (v next : View) (told : Bool) : Type 0 where
+  pub claims : next.side.claims ≡ v.side.claims
+  pub opening : next.opening ≡ v.opening
+  pub furthers : Furthers z kind k v next (Some told)
+  pub so : KeySpec z kind k v next told
+
+-- what came of a try
+abbrev pub IsTriedSo : Shape → Kind → (k : ℕ) → (v next : View) → Tried → Type 0
+IsTriedSo z kind k v next (tried.Done told) = IsDoneSo z kind k v next told
+IsTriedSo z kind k v next tried.Again = IsUndone z kind k v next
+IsTriedSo z kind k v next tried.Longer = IsUndone z kind k v next
+IsTriedSo z kind k v next tried.Spent = IsUndone z kind k v next × HasNoRoom z next

@@ -1,0 +1,75 @@
+-- How far the workers of a phase have come, over its rounds, and what they made.
+use Rattle.std.specs.Prelude.{ℕ, ◌+◌, ◌||◌, Bool, false, All, List, [], ◌∷◌, slice_index_or}
+use Rattle.rh_ledger.specs.declared.tally.Kind.{Kind}
+use Rattle.rh_acts.specs.Workers.{own}
+use Rattle.rh_words.specs.declared.known.Known.{Known}
+use Rattle.rh_words.specs.declared.shape.Shape.{Shape}
+use Rattle.rh_words.specs.View.{View}
+use Rattle.rh_shared.specs.Crews.{HasAll, IsQuiet, views_of}
+use Rattle.rh_shared.specs.declared.table.Table.{Table}
+use Rattle.rh_rule.specs.Seats.{InView}
+use Rattle.rh_run.specs.Run.{Run, RunInvariant}
+use Rattle.rh_threads.specs.Crew.{IsCrew}
+use Rattle.rh_threads.specs.Hands.{AllStand, IsFinished, Past}
+use Rattle.rh_threads.specs.declared.crew.Crew.{Crew}
+use Rattle.rh_threads.specs.declared.hand.Hand.{Hand}
+
+-- What a phase is about: its kind, the cells from which it starts, the list that all workers share, and how many positions of
+-- that may be marked.
+pub record Phase : Type 0 where
+  pub kind : Kind
+  pub shape : Shape
+  pub opening : List ℕ
+  pub keys : List ℕ
+  pub positions : ℕ
+
+abbrev pub phase : Shape → Kind → (opening keys : List ℕ) (positions : ℕ) → Phase
+phase z kind opening keys positions = record { kind = kind; shape = z; opening = opening; keys = keys; positions = positions }
+
+-- its run, where each worker has the list
+abbrev pub run_of : Phase → (words : List ℕ) (keep : ℕ → View) (done : ℕ → List ℕ) (told : ℕ → List Bool) → Run
+run_of ph words keep done told = record {
+  kind = ph.kind;
+  shape = ph.shape;
+  opening = ph.opening;
+  words = words;
+  keep = keep;
+  keys = λ v. ph.keys;
+  done = done;
+  told = told;
+}
+
+-- what a run has of its rounds before this one
+abbrev pub past_of : {r : Run} → (positions : ℕ) → RunInvariant r → (v : ℕ) → Past
+past_of {r = r} positions run v = record { kind = r.kind; positions = positions; opening = (r.keep v).opening; acts = own v run.before; reads = run.reads v }
+
+-- At the start of the round there was a run of this phase. From it on each worker has come as far as its hand says.
+pub record Comes (ph : Phase) (vs : List Known) (hs : List Hand) : Type 0 where
+  pub words : List ℕ
+  pub keep : ℕ → View
+  pub done : ℕ → List ℕ
+  pub told : ℕ → List Bool
+  pub run : RunInvariant (run_of ph words keep done told)
+  pub stands : AllStand ph.shape ph.keys (past_of ph.positions run) vs hs
+
+-- All workers of the table have done all keys that they claimed, and found the end of the list. They came so far from where
+-- they were.
+pub record HaveDone (t : Table) (keys : List ℕ) (c then : Crew) : Type 0 where
+  pub crew : IsCrew t keys then
+  pub all : HasAll t then.seat
+  pub quiet : InView IsQuiet (views_of then.seat)
+  pub finished : All IsFinished then.hands
+  pub comes : (kind : Kind) (opening : List ℕ) (positions : ℕ) → Comes (phase t.shape kind opening keys positions) (views_of c.seat) c.hands
+      → Comes (phase t.shape kind opening keys positions) (views_of then.seat) then.hands
+
+-- ---- what all hands say
+
+-- how many keys were added, removed or found
+abbrev pub all_changed : List Hand → ℕ
+all_changed [] = 0
+all_changed (h ∷ hs) = h.changed + all_changed hs
+
+-- whether one of them has marked the position
+abbrev pub is_marked : List Hand → (position : ℕ) → Bool
+is_marked [] p = false
+is_marked (h ∷ hs) p = slice_index_or h.found.items p false || is_marked hs p

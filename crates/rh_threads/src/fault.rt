@@ -1,0 +1,48 @@
+//! Why a phase was not carried out.
+
+use crate::crew::Refused;
+use rh_runner::PhaseFault;
+use std::alloc::AllocError;
+
+/// Want of memory, or a thread that was not started, and why.
+#[derive(Clone, Copy)]
+pub enum Fault {
+    Memory,
+    Refused(Refused),
+}
+
+impl From<AllocError> for Fault {
+    ghost use Rattle.std.specs.Prelude.{◌≡◌};
+    ghost use Rattle.rh_threads.specs.declared.fault.Fault.TheVariants.{Memory};
+
+    ghost from_gives = { λ _ fault. fault ≡ Memory };
+
+    fn from(_error: AllocError) -> Fault {
+        Fault::Memory
+    }
+}
+
+impl From<Refused> for Fault {
+    ghost use Rattle.std.specs.Prelude.{◌≡◌};
+    ghost use Rattle.rh_threads.specs.declared.fault.Fault.TheVariants as faults;
+
+    ghost from_gives = { λ why fault. fault ≡ faults.Refused why };
+
+    fn from(why: Refused) -> Fault {
+        Fault::Refused(why)
+    }
+}
+
+impl From<Fault> for PhaseFault {
+    ghost use Rattle.std.specs.Prelude.{◌≡◌};
+    ghost use Rattle.rh_threads.specs.Crew.{told_as};
+
+    ghost from_gives = { λ fault told. told ≡ told_as fault };
+
+    fn from(fault: Fault) -> PhaseFault {
+        match fault {
+            Fault::Memory => PhaseFault::Memory,
+            Fault::Refused(_) => PhaseFault::NoThread,
+        }
+    }
+}
