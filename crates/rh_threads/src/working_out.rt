@@ -17,7 +17,7 @@ use crate::hands::{all_changed, mark_all, new_hands};
 use crate::rounds::rounds;
 use rh_ledger::{Kind, Tally, tally_by};
 use rh_shared::{Table, close, discard, make};
-use rh_words::Shape;
+use rh_words::{Rooms, Shape};
 use std::alloc::Global;
 use std::sync::Wait;
 use std::thread::Threads;

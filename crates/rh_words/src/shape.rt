@@ -27,7 +27,7 @@ impl Rooms {
 }
 
 /// How large a shared table is.
-#[derive(Clone, Copy)]
+#[derive(Clone, Copy, Debug, PartialEq, Eq)]
 pub struct Shape {
     /// It has 2 to the power of its bits cells.
     pub bits: u32,
