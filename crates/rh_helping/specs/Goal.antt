@@ -1,5 +1,5 @@
 -- What a worker knows of the descriptor that it goes about, and of the entry.
-use Rattle.std.specs.Prelude.{zero, suc, ◌≡◌, ℕ, ◌<◌, ◌≤◌, ◌==◌, ◌⊎◌, cond, Option, Some, None, List, [], ◌∷◌, length}
+use Rattle.std.specs.Prelude.{zero, suc, ◌≡◌, ℕ, ◌<◌, ◌≤◌, ◌==◌, ◌⊎◌, cond, Option, Some, None, List, [], ◌∷◌}
 use Rattle.rh_tagword.specs.declared.control.State.{State}
 use Rattle.rh_tagword.specs.declared.control.State.TheVariants.{Unused, Undecided, Succeeded, Withdrawn, Failed}
 use Rattle.rh_world.specs.World.{Ref, In}
@@ -11,7 +11,7 @@ use Rattle.rh_world.specs.Moves.{MayWork}
 use Rattle.rh_words.specs.declared.reference.Piece.{Piece}
 use Rattle.rh_words.specs.View.{OwnDesc, RowWord, View, own_ref}
 use Rattle.rh_words.specs.Words.{control_of, ref_of}
-use Rattle.rh_words.specs.Steps.{IsKnown, entry_of, row_word}
+use Rattle.rh_words.specs.Steps.{IsKnown}
 use Rattle.rh_helping.specs.declared.goal.Task.{Task}
 use Rattle.rh_helping.specs.Next.{Goal}
 use Rattle.rh_helping.specs.declared.goal.Owed.{Owed}

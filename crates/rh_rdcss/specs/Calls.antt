@@ -18,8 +18,6 @@ use Rattle.rh_words.specs.Steps.Step.{reads}
 use Rattle.rh_rule.specs.Sound.{Finds}
 use Rattle.rh_steps.specs.Relies.{Knows}
 use Rattle.rh_helping.specs.CellContent.{state_said}
-use Rattle.rh_shared.specs.declared.seat.Seat.{Seat}
-use Rattle.rh_shared.specs.declared.table.Table.{Table}
 
 -- the worker made just this step: it found this word, and noted it
 pub record Learned (z : Shape) (s : Step) (v : View) (word : ℕ) (next : View) : Type 0 where
