@@ -1,6 +1,7 @@
-//! What the two programs have alike: the reading of their words, their streams, and how they end.
+//! What the programs have alike: the reading of their words, their streams, and how they end.
 //!
-//! `rh_commands` and `rh_key_commands` read their command lines by it, and both programs stand on it.
+//! `rh_commands` and `rh_key_commands` read their command lines by it, and the programs stand on it. How
+//! they end by a fault of a file is said in `rh_endings`.
 //!
 //! Proved:
 //!
@@ -8,9 +9,9 @@
 //!   `specs/Words.antt`, `described` and `with_subcommand` the command that `clap` says. `parsed`: what
 //!   is found is what the words name by the rules of `clap`. They are refused exactly by the kinds of
 //!   fault that those rules give. `text`, `texts`, `number`: what was found for an argument.
-//! - `ProgramFault::status`, `status_of_keys`, `status_of_snapshot`, `answer`: the exit status of the
-//!   faults that several commands may meet, and of what `clap` answers, by the table
-//!   `specs/Endings.antt`. A failed write is told only of a text that was asked for.
+//! - `ProgramFault::status`, `answer`: the exit status of the faults that any command may meet, and of
+//!   what `clap` answers, by the table `specs/Endings.antt`. A failed write is told only of a text that
+//!   was asked for.
 //! - `words`: its fault is a word that is no text, or want of memory, and never a failed write.
 //! - `buffered_reader`, `buffered_writer`: the stream behind an empty buffer of 8,192 bytes, or
 //!   want of memory.
@@ -31,5 +32,5 @@ mod streams;
 
 pub use fault::LineFault;
 pub use program::{answer, words};
-pub use status::{ProgramFault, Status, status_of_keys, status_of_snapshot};
+pub use status::{ProgramFault, Status};
 pub use streams::{Streams, between, buffered_reader, buffered_writer, write_out};

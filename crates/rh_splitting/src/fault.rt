@@ -4,7 +4,8 @@ ghost use Rattle.std.specs.Prelude.{◌≡◌};
 ghost use Rattle.rh_splitting.specs.declared.fault.SplitFault.TheVariants.{Keys, Text};
 ghost use Rattle.rh_splitting.specs.declared.fault.FilesFault.TheVariants as files;
 
-use rh_key_files::{KeyFault, MAX_KEYS};
+use rh_key_files::KeyFault;
+use rh_layout::MAX_KEYS;
 use rh_numbers::TextFault;
 use std::alloc::{AllocError, AllocFailed};
 use thiserror::Error;

@@ -3,8 +3,9 @@
 ghost use Rattle.std.specs.Prelude.{◌≡◌};
 ghost use Rattle.rhset.specs.Endings.{ending_by, ending_by_play};
 
-use rh_cli::{ProgramFault, Status, status_of_snapshot};
+use rh_cli::{ProgramFault, Status};
 use rh_commands::{CheckFault, DumpFault};
+use rh_endings::status_of_snapshot;
 use rh_play::PlayTextKind;
 use rh_play_run::{DrawFault, PlayRunFault};
 use rh_script::{ScriptFault, ScriptFaultKind};
