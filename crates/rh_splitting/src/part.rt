@@ -10,7 +10,7 @@ use rh_layout::MAX_KEYS;
 use std::io::Write;
 
 /// Why a part did not take a key.
-#[derive(Clone, Copy, Debug, PartialEq, Eq)]
+#[derive(Clone, Copy)]
 pub(crate) enum PartFault {
     /// It has `MAX_KEYS` keys.
     Full,
