@@ -1,4 +1,4 @@
+pub use Rattle.rh_words.specs.Faults
+pub use Rattle.rh_words.specs.Words
 pub mod Endings
-pub mod Faults
 pub mod Streams
-pub mod Words

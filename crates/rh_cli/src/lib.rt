@@ -1,14 +1,10 @@
-//! What the programs have alike: the reading of their words, their streams, and how they end.
+//! What the programs have alike: their streams, and how they end.
 //!
-//! `rh_commands` and `rh_key_commands` read their command lines by it, and the programs stand on it. How
-//! they end by a fault of a file is said in `rh_endings`.
+//! The programs stand on it. It hands on `rh_words`, by which they read their command lines. How they end
+//! by a fault of a file is said in `rh_endings`.
 //!
 //! Proved:
 //!
-//! - `parsing`: `program_command` and `text_arg` build the program and the argument of
-//!   `specs/Words.antt`, `described` and `with_subcommand` the command that `clap` says. `parsed`: what
-//!   is found is what the words name by the rules of `clap`. They are refused exactly by the kinds of
-//!   fault that those rules give. `text`, `texts`, `number`: what was found for an argument.
 //! - `ProgramFault::status`, `answer`: the exit status of the faults that any command may meet, and of
 //!   what `clap` answers, by the table `specs/Endings.antt`. A failed write is told only of a text that
 //!   was asked for.
@@ -24,13 +20,11 @@
 //!   ended well. That memory was wanted is not said.
 #![tactic(auto)]
 
-mod fault;
-pub mod parsing;
 mod program;
 mod status;
 mod streams;
 
-pub use fault::LineFault;
 pub use program::{answer, words};
+pub use rh_words::{LineFault, parsing};
 pub use status::{ProgramFault, Status};
 pub use streams::{Streams, between, buffered_reader, buffered_writer, write_out};

@@ -7,7 +7,7 @@ use std::process::ExitCode;
 use thiserror::Error;
 
 /// How a run ends, with its exit status.
-#[derive(Clone, Copy, Debug, PartialEq, Eq)]
+#[derive(Clone, Copy)]
 pub enum Status {
     Done = 0,
     Refused = 1,

@@ -16,7 +16,7 @@ use std::io::Write;
 use thiserror::Error;
 
 /// What is in a file that is listed.
-#[derive(Clone, Copy, Debug, PartialEq, Eq)]
+#[derive(Clone, Copy)]
 pub enum Form {
     Keys,
     Snapshot,

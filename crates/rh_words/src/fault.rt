@@ -5,7 +5,7 @@ use clap::error::ErrorKind;
 use std::alloc::AllocError;
 
 /// Why there is no command to carry out.
-#[derive(Debug, Drop)]
+#[derive(Drop)]
 pub enum LineFault {
     /// The words are refused, or ask for the help or the version. The error's text says which.
     Words(Error),
@@ -13,7 +13,7 @@ pub enum LineFault {
 }
 
 impl From<Error> for LineFault {
-    ghost use Rattle.rh_cli.specs.Faults.{PassesOn};
+    ghost use Rattle.rh_words.specs.Faults.{PassesOn};
 
     ghost from_gives = { PassesOn };
 
@@ -27,7 +27,7 @@ impl From<Error> for LineFault {
 
 impl From<AllocError> for LineFault {
     ghost use Rattle.std.specs.Prelude.{◌≡◌};
-    ghost use Rattle.rh_cli.specs.declared.fault.LineFault.TheVariants.{Memory};
+    ghost use Rattle.rh_words.specs.declared.fault.LineFault.TheVariants.{Memory};
 
     ghost from_gives = { λ _ fault. fault ≡ Memory };
 
