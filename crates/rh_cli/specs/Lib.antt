@@ -1,4 +1,4 @@
-pub use Rattle.rh_words.specs.Faults
-pub use Rattle.rh_words.specs.Words
+pub use Rattle.rh_arguments.specs.Faults
+pub use Rattle.rh_arguments.specs.Words
 pub mod Endings
 pub mod Streams

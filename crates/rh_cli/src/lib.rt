@@ -1,6 +1,6 @@
 //! What the programs have alike: their streams, and how they end.
 //!
-//! The programs stand on it. It hands on `rh_words`, by which they read their command lines. How they end
+//! The programs stand on it. It hands on `rh_arguments`, by which they read their command lines. How they end
 //! by a fault of a file is said in `rh_endings`.
 //!
 //! Proved:
@@ -25,6 +25,6 @@ mod status;
 mod streams;
 
 pub use program::{answer, words};
-pub use rh_words::{LineFault, parsing};
+pub use rh_arguments::{LineFault, parsing};
 pub use status::{ProgramFault, Status};
 pub use streams::{Streams, between, buffered_reader, buffered_writer, write_out};

@@ -2,8 +2,8 @@ use Rattle.std.proofs.Common.{◌∙◌}
 use Rattle.std.specs.Str.Parse.{ExplainsUnsignedError, HasUnsignedDigitsIfOk, ParsesUnsigned}
 use Rattle.clap.proofs.WalkLemmas.{one_text-rows}
 use Rattle.clap.specs.Words.{found_of, rows_of}
-use Rattle.rh_words.proofs.ReadLemmas.{number_given, number_read}
-use Rattle.rh_words.proofs.parsing.number.Goals as goal
+use Rattle.rh_arguments.proofs.ReadLemmas.{number_given, number_read}
+use Rattle.rh_arguments.proofs.parsing.number.Goals as goal
 
 pub unwrap-requires : goal.unwrap-requires
 unwrap-requires c =

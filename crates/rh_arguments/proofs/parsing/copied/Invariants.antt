@@ -1,6 +1,6 @@
 use Rattle.std.proofs.Common.{◌≡◌, map, take}
-use Rattle.rh_words.specs.Words.{texts_of}
-use Rattle.rh_words.proofs.parsing.copied.Given as goal
+use Rattle.rh_arguments.specs.Words.{texts_of}
+use Rattle.rh_arguments.proofs.parsing.copied.Given as goal
 
 abbrev pub invariant-loop-text : goal.invariant-loop-text
 invariant-loop-text l = record {

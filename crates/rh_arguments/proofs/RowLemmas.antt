@@ -12,8 +12,8 @@ use Rattle.clap.specs.Walk.{Row, Rule, Text, at_row, default_rows, finished, has
 use Rattle.clap.specs.Simple.{Shape}
 use Rattle.clap.specs.declared.parser.matches.ValueSource.{ValueSource}
 use Rattle.clap.specs.declared.parser.matches.ValueSource.TheVariants.{DefaultValue}
-use Rattle.rh_words.proofs.HelpLemmas.{both_pass}
-use Rattle.rh_words.proofs.ValueLemmas.{Passes}
+use Rattle.rh_arguments.proofs.HelpLemmas.{both_pass}
+use Rattle.rh_arguments.proofs.ValueLemmas.{Passes}
 
 -- the argument is one of these
 abbrev pub IsIn : Rule → List Rule → Type 0

@@ -18,7 +18,7 @@ use Rattle.clap.specs.declared.builder.action.ArgAction.{ArgAction}
 use Rattle.clap.specs.declared.builder.action.ArgAction.TheVariants as actions
 use Rattle.clap.specs.declared.parser.matches.ValueSource.TheVariants.{CommandLine}
 use Rattle.clap.specs.declared.error.kind.ErrorKind.TheVariants as kind
-use Rattle.rh_words.proofs.HelpLemmas.{both_pass}
+use Rattle.rh_arguments.proofs.HelpLemmas.{both_pass}
 
 -- ---- rows
 

@@ -1,7 +1,7 @@
 use Rattle.std.proofs.Common.{◌∙◌, ap, true}
 use Rattle.std.proofs.lemmas.Result.{IfOk-weaker}
 use Rattle.clap.specs.Simple.{App, app_of_fields, on_top}
-use Rattle.rh_words.proofs.parsing.program_command.Goals as goal
+use Rattle.rh_arguments.proofs.parsing.program_command.Goals as goal
 
 abbrev with_a_command_required : App → App
 with_a_command_required = on_top (λ s. record s { subcommand_required = true })

@@ -13,9 +13,9 @@ use Rattle.clap.specs.Walk.{Row, Text, answers_to, finished, nothing_held, rows_
 use Rattle.clap.specs.Simple.{App, Shape, argument_words, built, entered, label_of, names_of, rows_at, subcommand_of}
 use Rattle.clap.specs.Words.{subcommand_name_of, subcommand_rows_of}
 use Rattle.clap.specs.declared.parser.matches.ArgMatches.{ArgMatches}
-use Rattle.rh_words.specs.Words.{Finds}
-use Rattle.rh_words.proofs.ValueLemmas.{Passes}
-use Rattle.rh_words.proofs.HelpLemmas.{AvoidsHelp, both_pass, walk_avoids}
+use Rattle.rh_arguments.specs.Words.{Finds}
+use Rattle.rh_arguments.proofs.ValueLemmas.{Passes}
+use Rattle.rh_arguments.proofs.HelpLemmas.{AvoidsHelp, both_pass, walk_avoids}
 
 -- where a subcommand is required, a parse without one fails
 required_fails : (wants_help wants_argument : Bool) → check_kinds wants_help true wants_argument ≡ [] → ⊥

@@ -2,8 +2,8 @@ use Rattle.std.proofs.Common.{[], ap, unwrap_or, ◌∙◌}
 use Rattle.std.proofs.lemmas.Result.{IfOk-weaker}
 use Rattle.clap.proofs.WalkLemmas.{raw_values-rows}
 use Rattle.clap.specs.Words.{found_of}
-use Rattle.rh_words.specs.Words.{texts_of}
-use Rattle.rh_words.proofs.parsing.texts.Goals as goal
+use Rattle.rh_arguments.specs.Words.{texts_of}
+use Rattle.rh_arguments.proofs.parsing.texts.Goals as goal
 
 pub returns-in-Some : goal.returns-in-Some
 returns-in-Some c =

@@ -13,7 +13,7 @@ pub enum LineFault {
 }
 
 impl From<Error> for LineFault {
-    ghost use Rattle.rh_words.specs.Faults.{PassesOn};
+    ghost use Rattle.rh_arguments.specs.Faults.{PassesOn};
 
     ghost from_gives = { PassesOn };
 
@@ -27,7 +27,7 @@ impl From<Error> for LineFault {
 
 impl From<AllocError> for LineFault {
     ghost use Rattle.std.specs.Prelude.{◌≡◌};
-    ghost use Rattle.rh_words.specs.declared.fault.LineFault.TheVariants.{Memory};
+    ghost use Rattle.rh_arguments.specs.declared.fault.LineFault.TheVariants.{Memory};
 
     ghost from_gives = { λ _ fault. fault ≡ Memory };
 

@@ -4,8 +4,8 @@ use Rattle.clap.specs.Kinds.{Kinds, IsAmong}
 use Rattle.clap.specs.Values.{kind_of}
 use Rattle.clap.specs.declared.error.Error.{Error}
 use Rattle.clap.specs.declared.error.kind.ErrorKind.TheVariants.{OutOfMemory}
-use Rattle.rh_words.specs.declared.fault.LineFault.{LineFault}
-use Rattle.rh_words.specs.declared.fault.LineFault.TheVariants.{Words, Memory}
+use Rattle.rh_arguments.specs.declared.fault.LineFault.{LineFault}
+use Rattle.rh_arguments.specs.declared.fault.LineFault.TheVariants.{Words, Memory}
 
 -- the fault passes on what clap told: want of memory by its own variant, and any other error whole
 abbrev pub PassesOn : Error → LineFault → Type 0

@@ -5,7 +5,7 @@ use Rattle.std.specs.Str.Parse.{ParsesUnsigned}
 use Rattle.clap.specs.Matches.{ReadsOne}
 use Rattle.clap.specs.Values.{IsUnsignedIn}
 use Rattle.clap.specs.Walk.{Row, Text, one_of}
-use Rattle.rh_words.specs.Words.{GivesNumber, number_spelled}
+use Rattle.rh_arguments.specs.Words.{GivesNumber, number_spelled}
 
 pub some_read : {X : Type 0} (f : X → Text) (read : Option X) (text : Option Text) → option_map f read ≡ text → is_some text ≡ true → IsSome read
 some_read f None text is some = let bad = rw (← is) at some in absurd cc

@@ -1,6 +1,6 @@
 use Rattle.std.proofs.Common.{◌≡◌, ◌&&◌, Bool, true, false, refl}
 use Rattle.clap.specs.Words.{app_of, is_simple}
-use Rattle.rh_words.proofs.parsing.parsed.Goals as goal
+use Rattle.rh_arguments.proofs.parsing.parsed.Goals as goal
 
 first_holds : (a b : Bool) → (a && b) ≡ true → a ≡ true
 first_holds true b both = refl

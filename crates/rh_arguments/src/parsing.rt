@@ -5,9 +5,9 @@ ghost use Rattle.clap.specs.Simple.{new_app};
 ghost use Rattle.clap.specs.Words.{AddsSubcommand, app_of, fault_of, found_of, is_simple_and_free};
 ghost use Rattle.clap.specs.Words.{rows_of, rule_of};
 ghost use Rattle.clap.specs.Words.{subcommand_of, subcommand_rows_of};
-ghost use Rattle.rh_words.specs.Faults.{IsOneOf};
-ghost use Rattle.rh_words.specs.Words.{IsTextFor, GivesAll, GivesNumber, HasNumber, HasText, path_rule, program_app};
-ghost use Rattle.rh_words.specs.Words.{texts_of};
+ghost use Rattle.rh_arguments.specs.Faults.{IsOneOf};
+ghost use Rattle.rh_arguments.specs.Words.{IsTextFor, GivesAll, GivesNumber, HasNumber, HasText, path_rule, program_app};
+ghost use Rattle.rh_arguments.specs.Words.{texts_of};
 
 use crate::fault::LineFault;
 use clap::{Arg, ArgAction, ArgMatches, Command};

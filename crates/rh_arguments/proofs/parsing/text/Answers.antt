@@ -2,8 +2,8 @@ use Rattle.std.proofs.Common.{Some, ap, option_map, sym, ◌∙◌}
 use Rattle.std.proofs.lemmas.Result.{IfOk-weaker}
 use Rattle.clap.proofs.WalkLemmas.{first_value-rows}
 use Rattle.clap.specs.Words.{found_of}
-use Rattle.rh_words.proofs.ReadLemmas.{some_read}
-use Rattle.rh_words.proofs.parsing.text.Goals as goal
+use Rattle.rh_arguments.proofs.ReadLemmas.{some_read}
+use Rattle.rh_arguments.proofs.parsing.text.Goals as goal
 
 pub unwrap-requires : goal.unwrap-requires
 unwrap-requires c =
