@@ -2,10 +2,6 @@
 use Rattle.std.specs.Prelude.{ℕ}
 use Rattle.clap.specs.declared.error.kind.ErrorKind.{ErrorKind}
 use Rattle.clap.specs.declared.error.kind.ErrorKind.TheVariants.{DisplayHelp, DisplayVersion}
-use Rattle.rh_key_files.specs.declared.fault.KeyFault.{KeyFault}
-use Rattle.rh_key_files.specs.declared.fault.KeyFault.TheVariants as keys
-use Rattle.rh_snapshot.specs.declared.fault.SnapFault.{SnapFault}
-use Rattle.rh_snapshot.specs.declared.fault.SnapFault.TheVariants as snap
 use Rattle.rh_cli.specs.declared.status.ProgramFault.{ProgramFault}
 use Rattle.rh_cli.specs.declared.status.ProgramFault.TheVariants as fault
 use Rattle.rh_cli.specs.declared.status.Status.{Status}
@@ -31,13 +27,3 @@ ending_by_program fault.NotText = CommandLine
 ending_by_program fault.Open = Refused
 ending_by_program fault.Memory = Memory
 ending_by_program fault.Write = Write
-
--- how a run ends whose key file could not be read, or is none
-abbrev pub ending_by_keys : KeyFault → Status
-ending_by_keys keys.Memory = Memory
-ending_by_keys fault = Refused
-
--- how a run ends whose snapshot could not be read, or is none
-abbrev pub ending_by_snapshot : SnapFault → Status
-ending_by_snapshot snap.Memory = Memory
-ending_by_snapshot fault = Refused

@@ -4,7 +4,7 @@ use Rattle.std.specs.Fn.{FnOnceReturnsAtMut, Once}
 use Rattle.std.specs.Io.Buffered.{reader_buffer, reader_inner, writer_buffer, writer_contents, writer_inner}
 use Rattle.std.specs.Io.KnownBytes.{Keeps}
 use denote.Ref.{MutBor}
-use Rattle.rh_key_files.specs.Counting.{failures_of, inner_of}
+use Rattle.rh_bytes.specs.Counting.{failures_of, inner_of}
 use Rattle.rh_cli.specs.declared.streams.Streams.{Streams}
 
 -- nothing has been read of this reader or written to this writer, and nothing failed

@@ -1,17 +1,13 @@
-//! What the programs have alike: the reading of their words, their streams, and how they end.
+//! What the programs have alike: their files and streams, and how they end.
 //!
-//! `rh_commands`, `rh_key_commands` and `rh_play_commands` read their command lines by it, and the
-//! programs stand on it.
+//! The programs stand on it. It hands on `rh_arguments`, by which they read their command lines. How they end
+//! by a fault of a file is said in `rh_endings`.
 //!
 //! Proved:
 //!
-//! - `parsing`: `program_command` and `text_arg` build the program and the argument of
-//!   `specs/Words.antt`, `described` and `with_subcommand` the command that `clap` says. `parsed`: what
-//!   is found is what the words name by the rules of `clap`. They are refused exactly by the kinds of
-//!   fault that those rules give. `text`, `texts`, `number`: what was found for an argument.
-//! - `ProgramFault::status`, `status_of_keys`, `status_of_snapshot`, `answer`: the exit status of the
-//!   faults that several commands may meet, and of what `clap` answers, by the table
-//!   `specs/Endings.antt`. A failed write is told only of a text that was asked for.
+//! - `ProgramFault::status`, `answer`: the exit status of the faults that any command may meet, and of
+//!   what `clap` answers, by the table `specs/Endings.antt`. A failed write is told only of a text that
+//!   was asked for.
 //! - `words`: its fault is a word that is no text, or want of memory, and never a failed write.
 //! - `open`: its fault is that the file cannot be opened, or want of memory.
 //! - `buffered_reader`, `buffered_writer`: the stream behind an empty buffer of 8,192 bytes, or
@@ -25,15 +21,13 @@
 //!   ended well. That memory was wanted is not said.
 #![tactic(auto)]
 
-mod fault;
 mod file;
-pub mod parsing;
 mod program;
 mod status;
 mod streams;
 
-pub use fault::LineFault;
 pub use file::open;
 pub use program::{answer, words};
-pub use status::{ProgramFault, Status, status_of_keys, status_of_snapshot};
+pub use rh_arguments::{LineFault, parsing};
+pub use status::{ProgramFault, Status};
 pub use streams::{Streams, between, buffered_reader, buffered_writer, write_out};

@@ -1,15 +1,13 @@
 //! How a program ends.
 
 ghost use Rattle.std.specs.Prelude.{◌≡◌};
-ghost use Rattle.rh_cli.specs.Endings.{ending_by_program, ending_by_keys, ending_by_snapshot, number_of};
+ghost use Rattle.rh_cli.specs.Endings.{ending_by_program, number_of};
 
-use rh_key_files::KeyFault;
-use rh_snapshot::SnapFault;
 use std::process::ExitCode;
 use thiserror::Error;
 
 /// How a run ends, with its exit status.
-#[derive(Clone, Copy, Debug, PartialEq, Eq)]
+#[derive(Clone, Copy)]
 pub enum Status {
     Done = 0,
     Refused = 1,
@@ -53,25 +51,5 @@ impl ProgramFault {
             ProgramFault::Memory => Status::Memory,
             ProgramFault::Write => Status::Write,
         }
-    }
-}
-
-/// How a run ends whose key file could not be read, or is none.
-pub fn status_of_keys(fault: &KeyFault) -> Status
-    ensures { result ≡ ending_by_keys fault.now }
-{
-    match fault {
-        KeyFault::Memory => Status::Memory,
-        _ => Status::Refused,
-    }
-}
-
-/// How a run ends whose snapshot could not be read, or is none.
-pub fn status_of_snapshot(fault: &SnapFault) -> Status
-    ensures { result ≡ ending_by_snapshot fault.now }
-{
-    match fault {
-        SnapFault::Memory => Status::Memory,
-        _ => Status::Refused,
     }
 }

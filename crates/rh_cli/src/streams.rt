@@ -7,7 +7,7 @@ ghost use Rattle.std.specs.Io.KnownBytes.{Keeps};
 ghost use Rattle.rh_cli.specs.Streams.{AreFresh, Delivers, Works};
 
 use crate::status::{ProgramFault, Status};
-use rh_key_files::Counted;
+use rh_bytes::Counted;
 use std::alloc::Global;
 use std::io::{BufReader, BufWriter, Read, Write};
 

@@ -1,4 +1,4 @@
-use rh_cli::LineFault;
+use rh_arguments::LineFault;
 use rh_key_commands::line::{Line, line};
 use std::alloc::Global;
 use std::test::Fail;

@@ -1,5 +1,5 @@
 use clap::Error;
-use rh_cli::LineFault;
+use rh_arguments::LineFault;
 use rh_play_commands::{Line, line, name_called};
 use std::alloc::Global;
 use std::test::Fail;

@@ -1,5 +1,5 @@
 use clap::Error;
-use rh_cli::LineFault;
+use rh_arguments::LineFault;
 use rh_commands::line::{Line, line};
 use std::alloc::Global;
 use std::test::Fail;

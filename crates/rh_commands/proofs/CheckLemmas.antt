@@ -3,9 +3,9 @@ use Rattle.std.proofs.Common.{inl, is_some, List, [], codes, refl, ap}
 use Rattle.clap.specs.Walk.{Rule, Text, rows_after}
 use Rattle.clap.specs.Simple.{Shape, built_leaf, filled, inherited, with_index, with_leaf_noted}
 use Rattle.rh_commands.specs.Line.{check_app, rhset_app}
-use Rattle.rh_cli.specs.Words.{HasText, path_rule}
-use Rattle.rh_cli.proofs.RowLemmas.{required_row}
-use Rattle.rh_cli.proofs.ValueLemmas.{Passes, rows_fit, value_of}
+use Rattle.rh_arguments.specs.Words.{HasText, path_rule}
+use Rattle.rh_arguments.proofs.RowLemmas.{required_row}
+use Rattle.rh_arguments.proofs.ValueLemmas.{Passes, rows_fit, value_of}
 
 -- the command and its argument, as clap builds them
 abbrev pub check_built : Shape

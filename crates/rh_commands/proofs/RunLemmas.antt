@@ -5,10 +5,10 @@ use Rattle.clap.specs.Simple.{Shape, built_leaf, filled, inherited, with_index, 
 use Rattle.clap.specs.declared.builder.value_parser.ValueParser.TheVariants.{Unsigned}
 use Rattle.clap.proofs.ValueTestLemmas.{accepts-Accepts}
 use Rattle.rh_commands.specs.Line.{HasRunArguments, rhset_app, run_app, workers_rule}
-use Rattle.rh_cli.specs.Words.{path_rule}
+use Rattle.rh_arguments.specs.Words.{path_rule}
 use Rattle.rh_commands.specs.declared.limits.TheConstants.{MAX_WORKERS}
-use Rattle.rh_cli.proofs.RowLemmas.{default_row, required_row}
-use Rattle.rh_cli.proofs.ValueLemmas.{Passes, rows_fit, value_of}
+use Rattle.rh_arguments.proofs.RowLemmas.{default_row, required_row}
+use Rattle.rh_arguments.proofs.ValueLemmas.{Passes, rows_fit, value_of}
 
 -- the command and its arguments, as clap builds them
 abbrev pub run_built : Shape

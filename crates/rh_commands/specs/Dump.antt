@@ -11,7 +11,7 @@ use Rattle.rh_key_files.specs.Counting.{AppendsFront}
 use Rattle.rh_key_files.specs.Limits.{header_bytes}
 use Rattle.rh_key_files.specs.Taking.{TakesAtMost}
 use Rattle.rh_key_files.specs.Reading.{BeginsWithHeader, IsFirstKeyFault, IsReadFrom}
-use Rattle.rh_key_files.specs.Dump.{dump_text}
+use Rattle.rh_dump.specs.Dump.{dump_text}
 use Rattle.rh_commands.specs.declared.dump.DumpFault.{DumpFault}
 use Rattle.rh_commands.specs.declared.dump.DumpFault.TheVariants.{Keys, TooLarge, Memory, Write}
 

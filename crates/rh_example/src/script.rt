@@ -2,7 +2,7 @@
 
 ghost use Rattle.std.specs.Prelude.{◌≤◌, All, length};
 ghost use Rattle.rh_layout.specs.Key.{IsKey};
-ghost use Rattle.rh_key_files.specs.declared.parts.TheConstants.{MAX_KEYS};
+ghost use Rattle.rh_layout.specs.declared.limits.TheConstants.{MAX_KEYS};
 
 use rh_planner::{
     Counted, MemShelf, Report, Shelf, Single, Threads, WriteFault, parse, run_twice, write_keys,

@@ -1,7 +1,7 @@
 -- What is known of the shelf that fails once.
 use Rattle.std.specs.Prelude.{List, ℕ, ◌+◌, min, ◌==◌, if◌then◌else◌, Option, Some, Vec}
 use Rattle.std.specs.Global.{Global}
-use Rattle.rh_key_files.specs.Counting.{last_count}
+use Rattle.rh_bytes.specs.Counting.{last_count}
 use Rattle.rh_shelf.specs.declared.memory.MemShelf.{MemShelf}
 use Rattle.rh_faulty.specs.declared.shelf.FaultyShelf.{FaultyShelf}
 use Rattle.rh_faulty.specs.declared.shelf.ShelfFailure.{ShelfFailure}

@@ -1,8 +1,9 @@
 use rh_commands::*;
+use rh_dump::write_dump;
 use rh_edit::SeqSet;
 use rh_faulty::{FaultyReader, FaultyWriter, Refusal};
 use rh_grow::grow;
-use rh_key_files::{Counted, KeyFault, write_dump};
+use rh_key_files::{Counted, KeyFault};
 use rh_layout::is_layout;
 use std::alloc::{AllocError, Global};
 use std::io::Read;

@@ -1,3 +1,4 @@
+use rh_dump::write_dump;
 use rh_faulty::{FaultyReader, FaultyWriter, Refusal};
 use rh_key_files::*;
 use rh_layout::is_layout;

@@ -1,8 +1,8 @@
 //! Files that are listed one after the other.
 
 use rh_faulty::{FaultyShelf, FaultyWriter, Refusal, ShelfFailure};
-use rh_key_commands::*;
 use rh_key_files::{Counted, KeyFault};
+use rh_key_texts::*;
 use rh_shelf::{MemShelf, Shelf, ShelfFault};
 use rh_snapshot::SnapFault;
 use std::alloc::Global;

@@ -1,6 +1,6 @@
 use rh_faulty::{FaultyReader, FaultyWriter, Refusal};
-use rh_key_commands::*;
 use rh_key_files::{Counted, KeyFault};
+use rh_key_texts::*;
 use rh_numbers::TextFault;
 use rh_snapshot::SnapFault;
 use std::alloc::Global;

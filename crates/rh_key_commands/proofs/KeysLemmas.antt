@@ -4,8 +4,8 @@ use Rattle.clap.specs.Faults.{fault_of}
 use Rattle.clap.specs.Walk.{Text}
 use Rattle.clap.specs.Simple.{built, subcommand_of}
 use Rattle.rh_key_commands.specs.Line.{IsKeysCommand, rhkeys_app}
-use Rattle.rh_cli.specs.Words.{Finds}
-use Rattle.rh_cli.proofs.CommandLemmas.{EachMeets, help_alone, words_find}
+use Rattle.rh_arguments.specs.Words.{Finds}
+use Rattle.rh_arguments.proofs.CommandLemmas.{EachMeets, help_alone, words_find}
 use Rattle.rh_key_commands.proofs.SplitLemmas.{split_arguments}
 
 each_command : (word : Text) (rest : List Text) → (word ≡ codes "help" → ⊥) → EachMeets IsKeysCommand word rest (built rhkeys_app).subs

@@ -1,4 +1,1 @@
-pub mod Files
 pub mod Line
-pub mod List
-pub mod Pack

@@ -7,7 +7,7 @@ use Rattle.clap.specs.declared.builder.value_parser.ValueParser.TheVariants.{Uns
 use Rattle.rh_key_commands.specs.declared.line.asked.Line.{Line}
 use Rattle.rh_key_commands.specs.declared.line.asked.Line.TheVariants.{Pack, List as Listing, Split}
 use Rattle.rh_key_commands.specs.declared.limits.TheConstants.{MAX_PARTS}
-use Rattle.rh_cli.specs.Words.{IsTextFor, GivesAll, GivesNumber, HasNumber, HasText, path_rule, program_app}
+use Rattle.rh_arguments.specs.Words.{IsTextFor, GivesAll, GivesNumber, HasNumber, HasText, path_rule, program_app}
 
 -- the command `pack` takes no argument
 abbrev pub pack_app : App

@@ -3,9 +3,9 @@ use Rattle.std.proofs.Common.{◌≡◌, ℕ, zero, suc, ◌+◌, ◌-◌, ◌�
 use borrow.Rule.Slice.PartMut.{put_mid, post_of}
 use Rattle.rh_key_files.specs.declared.version.Version.{Version}
 use Rattle.rh_key_files.specs.declared.fault.KeyFault.{KeyFault}
-use Rattle.rh_key_files.specs.Input.{◌>>=◌, always, with_head}
+use Rattle.rh_bytes.specs.Input.{◌>>=◌, always, with_head}
 use Rattle.rh_key_files.specs.Reading.{ReadsKeys, key_at, keys_at, is_silent}
-use Rattle.rh_key_files.proofs.Reading.{Fails-then, Reads-ok, with_front, nothing_before}
+use Rattle.rh_bytes.proofs.Reading.{Fails-then, Reads-ok, with_front, nothing_before}
 
 abbrev Read : Type 0
 Read = Result (List ℕ × List ℕ) KeyFault

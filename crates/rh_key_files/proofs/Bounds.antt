@@ -4,17 +4,17 @@ use Rattle.std.specs.Prelude.{nat_lt, IfErr, IsErrOf}
 use Rattle.std.proofs.lemmas.Bool.{cases_Bool}
 use Rattle.rh_key_files.specs.declared.version.Version.{Version}
 use Rattle.rh_key_files.specs.declared.batch.TheConstants.{PART_KEYS}
-use Rattle.rh_key_files.specs.declared.parts.TheConstants.{MAX_KEYS}
+use Rattle.rh_layout.specs.declared.limits.TheConstants.{MAX_KEYS}
 use Rattle.rh_key_files.specs.declared.fault.KeyFault.{KeyFault}
 use Rattle.rh_key_files.specs.declared.fault.KeyFault.TheVariants as faults
 use Rattle.rh_key_files.specs.declared.fault.KeyFault.TheVariants.{NotKeys, Short, TooMany, BadKey, Long}
 use Rattle.rh_key_files.specs.declared.header.Header.{Header}
-use Rattle.rh_key_files.specs.Input.{◌>>=◌, number_at, end_at, with_head}
+use Rattle.rh_bytes.specs.Input.{◌>>=◌, number_at, end_at, with_head}
 use Rattle.rh_key_files.specs.Reading.{KeysFail, ReadsKeys, few, count_at, is_key_in, in_range, key_at, keys_at, header_at}
-use Rattle.rh_key_files.specs.Taking.{TakesAtMost}
+use Rattle.rh_bytes.specs.Taking.{TakesAtMost}
 use Rattle.rh_key_files.specs.Limits.{magic_bytes, header_bytes, header_taken, keys_taken, whole_bytes, most_bytes, file_bytes, count_in, count_said, TakesOfFile}
-use Rattle.rh_key_files.proofs.Taking.{takes_of_unknown, takes_fewer, takes_then, takes_both}
-use Rattle.rh_key_files.proofs.Told.{end_told, number_told, then_told}
+use Rattle.rh_bytes.proofs.Taking.{takes_of_unknown, takes_fewer, takes_then, takes_both}
+use Rattle.rh_bytes.proofs.Told.{end_told, number_told, then_told}
 use Rattle.rh_key_files.proofs.Grammar.{header_read}
 
 -- ---- the header

@@ -9,14 +9,14 @@ use Rattle.rh_key_files.specs.declared.fault.KeyFault.TheVariants.{NotKeys, Shor
 use Rattle.rh_key_files.specs.declared.stream.State.{State}
 use Rattle.rh_key_files.specs.declared.stream.State.TheVariants.{Open, Ended, Failed}
 use Rattle.rh_key_files.specs.declared.header.Header.{Header}
-use Rattle.rh_key_files.specs.Input.{◌>>=◌, end_at}
+use Rattle.rh_bytes.specs.Input.{◌>>=◌, end_at}
 use Rattle.rh_key_files.specs.Reading.{KeysFail, ReadsKeys, count_in_header, front_of, header_at, keys_at, batch_at, after_header, keys_ended, file_keys, is_silent}
 use Rattle.rh_key_files.specs.Source.{Gives, ComesFrom, FaultComes, HasCount, keys_in, keys_of_file, keys_then}
 use Rattle.rh_key_files.specs.Stream.{answer_again, coming_in, keys_to_end, state_after}
-use Rattle.rh_key_files.proofs.Reading.{Fails-then, with_front}
+use Rattle.rh_bytes.proofs.Reading.{Fails-then, with_front}
 use Rattle.rh_key_files.proofs.Next.{none_left, some_left}
 use Rattle.rh_key_files.proofs.Batches.{keys_at-add, and_next}
-use Rattle.rh_key_files.proofs.Parsed.{then_ok, same_value}
+use Rattle.rh_bytes.proofs.Parsed.{then_ok, same_value}
 use Rattle.rh_key_files.proofs.Grammar.{keys_read}
 
 abbrev Read : Type 0

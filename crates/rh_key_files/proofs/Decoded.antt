@@ -5,7 +5,8 @@ use Rattle.std.proofs.lemmas.List.{nil_from_length}
 use Rattle.std.proofs.lemmas.Nat.{be_bytes_8}
 use Rattle.byteorder.specs.Endian.{IsRead, big_number}
 use Rattle.byteorder.specs.Numbers.{big_from-take}
-use Rattle.rh_key_files.specs.KeyFile.{eight_bytes, spelled_keys}
+use Rattle.rh_bytes.specs.Input.{eight_bytes}
+use Rattle.rh_key_files.specs.KeyFile.{spelled_keys}
 
 abbrev AreBytes : List ℕ → Type 0
 AreBytes bytes = (i : ℕ) → get_or bytes i 0 < 256

@@ -12,11 +12,12 @@ use Rattle.rh_layout.specs.declared.limits.TheConstants.{MAX_KEY}
 use Rattle.rh_key_files.specs.declared.version.Version.{Version}
 use Rattle.rh_key_files.specs.declared.fault.KeyFault.{KeyFault}
 use Rattle.rh_key_files.specs.declared.fault.KeyFault.TheVariants.{Short, BadKey}
-use Rattle.rh_key_files.specs.KeyFile.{least_key, eight_bytes, spelled_keys}
-use Rattle.rh_key_files.specs.Input.{◌>>=◌, always, bytes_at, number_at, with_head}
+use Rattle.rh_bytes.specs.Input.{eight_bytes}
+use Rattle.rh_key_files.specs.KeyFile.{least_key, spelled_keys}
+use Rattle.rh_bytes.specs.Input.{◌>>=◌, always, bytes_at, number_at, with_head}
 use Rattle.rh_key_files.specs.Reading.{ReadsKeys, is_key_in, is_refused, key_at, keys_at}
-use Rattle.rh_key_files.proofs.Spelled.{begins_not}
-use Rattle.rh_key_files.proofs.Reading.{with_front}
+use Rattle.rh_bytes.proofs.Spelled.{begins_not}
+use Rattle.rh_bytes.proofs.Reading.{with_front}
 use Rattle.rh_key_files.proofs.Batches.{and_next, keys_at-add}
 use Rattle.rh_key_files.proofs.Grammar.{key_spelled}
 

@@ -5,16 +5,16 @@ use Rattle.std.specs.Prelude.{All}
 use Rattle.std.proofs.lemmas.List.Elements.{All-nil, All-cons, All-head, All-tail}
 use Rattle.std.specs.Str.{bytes_eq}
 use Rattle.std.proofs.lemmas.Slice.Eq.{bytes_eq-Decides}
-use Rattle.rh_layout.specs.declared.limits.TheConstants.{MAX_KEY}
+use Rattle.rh_layout.specs.declared.limits.TheConstants.{MAX_KEY, MAX_KEYS}
 use Rattle.rh_key_files.specs.declared.version.Version.{Version}
 use Rattle.rh_key_files.specs.declared.version.Version.TheVariants.{First, Second}
-use Rattle.rh_key_files.specs.declared.parts.TheConstants.{MAX_KEYS}
 use Rattle.rh_key_files.specs.declared.fault.KeyFault.TheVariants.{NotKeys, Short, TooMany, BadKey, Long}
 use Rattle.rh_key_files.specs.declared.header.Header.{Header}
-use Rattle.rh_key_files.specs.KeyFile.{magic, least_key, IsKeyIn, eight_bytes, spelled_keys, KeyFile, IsKeyFile}
-use Rattle.rh_key_files.specs.Input.{◌>>=◌, bytes_at, number_at, end_at, with_head}
+use Rattle.rh_bytes.specs.Input.{eight_bytes}
+use Rattle.rh_key_files.specs.KeyFile.{magic, least_key, IsKeyIn, spelled_keys, KeyFile, IsKeyFile}
+use Rattle.rh_bytes.specs.Input.{◌>>=◌, bytes_at, number_at, end_at, with_head}
 use Rattle.rh_key_files.specs.Reading.{named, version_at, few, count_at, with_count, after_version, header_at, is_key_in, in_range, key_at, keys_at, keys_ended, after_header, file_keys}
-use Rattle.rh_key_files.proofs.Parsed.{then_ok, same_value, same_rest, ok, bytes_read, number_read, end_read, bytes_given, number_given}
+use Rattle.rh_bytes.proofs.Parsed.{then_ok, same_value, same_rest, ok, bytes_read, number_read, end_read, bytes_given, number_given}
 
 -- ---- what is read is spelled so
 

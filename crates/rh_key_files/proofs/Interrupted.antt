@@ -5,7 +5,7 @@ use Rattle.std.specs.Io.KnownBytes.{Consumes}
 use Rattle.rh_key_files.specs.declared.version.Version.{Version}
 use Rattle.rh_key_files.specs.declared.fault.KeyFault.TheVariants.{Short}
 use Rattle.rh_key_files.specs.KeyFile.{spelled_keys}
-use Rattle.rh_key_files.specs.Input.{always}
+use Rattle.rh_bytes.specs.Input.{always}
 use Rattle.rh_key_files.specs.Reading.{CutShort, ReadsKeys, is_refused, keys_at}
 use Rattle.rh_key_files.proofs.Batches.{keys_at-add}
 use Rattle.rh_key_files.proofs.Filled.{IsFilled, part_short}

@@ -5,7 +5,7 @@ use Rattle.std.proofs.lemmas.List.{take_at}
 use Rattle.rh_key_files.specs.declared.version.Version.{Version}
 use Rattle.rh_key_files.specs.declared.fault.KeyFault.{KeyFault}
 use Rattle.rh_key_files.specs.declared.fault.KeyFault.TheVariants.{Long}
-use Rattle.rh_key_files.specs.Input.{always, end_at}
+use Rattle.rh_bytes.specs.Input.{always, end_at}
 use Rattle.rh_key_files.specs.Reading.{CutShort, ReadsKeys, front_of, keys_at, batch_at}
 
 pub none_left : (version : Version) (index left room : ℕ) (bytes : List ℕ) → left ≡ 0 → batch_at version index left room bytes ≡ end_at Long bytes

@@ -4,14 +4,14 @@ use Rattle.std.specs.Str.{bytes_eq}
 use Rattle.std.proofs.lemmas.Bool.{le-ltb, lt-ltb}
 use Rattle.rh_key_files.specs.declared.version.Version.{Version}
 use Rattle.rh_key_files.specs.declared.version.Version.TheVariants.{First, Second}
-use Rattle.rh_key_files.specs.declared.parts.TheConstants.{MAX_KEYS}
+use Rattle.rh_layout.specs.declared.limits.TheConstants.{MAX_KEYS}
 use Rattle.rh_key_files.specs.declared.header.Header.{Header}
 use Rattle.rh_key_files.specs.declared.fault.KeyFault.{KeyFault}
 use Rattle.rh_key_files.specs.declared.fault.KeyFault.TheVariants.{NotKeys, Short, TooMany}
 use Rattle.rh_key_files.specs.KeyFile.{magic}
-use Rattle.rh_key_files.specs.Input.{always, bytes_at, number_at}
+use Rattle.rh_bytes.specs.Input.{always, bytes_at, number_at}
 use Rattle.rh_key_files.specs.Reading.{ReadsKeys, is_silent, named, version_at, few, count_at, after_version, with_count, header_at}
-use Rattle.rh_key_files.proofs.Reading.{Buffer, Reads-fails, Reads-then, Reads-ok, Reads-err, so_many}
+use Rattle.rh_bytes.proofs.Reading.{Buffer, Reads-fails, Reads-then, Reads-ok, Reads-err, so_many}
 
 pub version_fails : (a b : Option (List ℕ)) (buf : List ℕ) (e : KeyFault) → length buf ≡ 4 → Buffer is_silent Short a b buf (Err e) → ReadsKeys a b version_at (λ (v : Version). v) (Err e)
 unfolding version_at

@@ -5,9 +5,9 @@ use Rattle.rh_key_files.specs.declared.version.Version.{Version}
 use Rattle.rh_key_files.specs.declared.fault.KeyFault.{KeyFault}
 use Rattle.rh_key_files.specs.declared.fault.KeyFault.TheVariants.{Long}
 use Rattle.rh_key_files.specs.declared.header.Header.{Header}
-use Rattle.rh_key_files.specs.Input.{always, end_at}
+use Rattle.rh_bytes.specs.Input.{always, end_at}
 use Rattle.rh_key_files.specs.Reading.{ReadsKeys, front_of, header_at, keys_at, batch_at, after_header, keys_ended, file_keys, is_silent}
-use Rattle.rh_key_files.proofs.Reading.{Fails-then}
+use Rattle.rh_bytes.proofs.Reading.{Fails-then}
 use Rattle.rh_key_files.proofs.Next.{none_left, some_left}
 use Rattle.rh_key_files.proofs.Batches.{no_keys}
 

@@ -1,11 +1,11 @@
 -- The grammar of key files: which bytes are a key file, and of which keys.
 use Rattle.std.specs.Prelude.{◌≡◌, ℕ, ◌≤◌, List, ◌++◌, length, codes, All}
 use Rattle.std.specs.List.{flat_map}
-use Rattle.std.specs.Int.{w64, to_be_bytes}
 use Rattle.rh_layout.specs.Key.{IsKey}
+use Rattle.rh_bytes.specs.Input.{eight_bytes}
 use Rattle.rh_key_files.specs.declared.version.Version.{Version}
 use Rattle.rh_key_files.specs.declared.version.Version.TheVariants.{First, Second}
-use Rattle.rh_key_files.specs.declared.parts.TheConstants.{MAX_KEYS}
+use Rattle.rh_layout.specs.declared.limits.TheConstants.{MAX_KEYS}
 
 -- the first four bytes
 abbrev pub magic : Version → List ℕ
@@ -18,10 +18,6 @@ least_key Second = 0
 
 abbrev pub IsKeyIn : Version → ℕ → Type 0
 IsKeyIn version k = (least_key version ≤ k) × IsKey k
-
--- a number as 8 bytes, the highest first
-abbrev pub eight_bytes : ℕ → List ℕ
-eight_bytes n = to_be_bytes w64 n
 
 -- the keys one after the other
 abbrev pub spelled_keys : List ℕ → List ℕ

@@ -1,10 +1,9 @@
-pub mod Counting
-pub mod Taking
+pub use Rattle.rh_bytes.specs.Counting
+pub use Rattle.rh_bytes.specs.Input
+pub use Rattle.rh_bytes.specs.Taking
 pub mod KeyFile
-pub mod Input
 pub mod Reading
 pub mod Limits
 pub mod Source
 pub mod Stream
-pub mod Dump
 pub mod HeldKeys

@@ -1,12 +1,12 @@
 -- How many bytes of a key file the reading calls take, by what they answer.
 use Rattle.std.specs.Prelude.{ℕ, ◌+◌, ◌-◌, ◌*◌, min, ◌==◌, if◌then◌else◌, List, Option, Some, None, Result, Ok, Err}
 use Rattle.rh_key_files.specs.declared.header.Header.{Header}
-use Rattle.rh_key_files.specs.declared.parts.TheConstants.{MAX_KEYS}
+use Rattle.rh_layout.specs.declared.limits.TheConstants.{MAX_KEYS}
 use Rattle.rh_key_files.specs.declared.batch.TheConstants.{PART_KEYS}
 use Rattle.rh_key_files.specs.declared.fault.KeyFault.{KeyFault}
 use Rattle.rh_key_files.specs.declared.fault.KeyFault.TheVariants.{NotKeys, TooMany, BadKey, Read, Memory}
 use Rattle.rh_key_files.specs.Reading.{header_at}
-use Rattle.rh_key_files.specs.Taking.{TakesAtMost}
+use Rattle.rh_bytes.specs.Taking.{TakesAtMost}
 
 abbrev pub magic_bytes : ℕ
 magic_bytes = 4

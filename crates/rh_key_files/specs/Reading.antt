@@ -1,16 +1,15 @@
 -- Reading a key file from left to right, up to the first fault. A step gives a value and the bytes after it.
 use Rattle.std.specs.Prelude.{◌≡◌, ℕ, zero, suc, ◌+◌, min, Bool, true, false, not, ◌&&◌, ◌==◌, nat_lt, nat_le, if◌then◌else◌, List, [], ◌++◌, take, Option, Some, None, Result, Ok, Err}
 use Rattle.std.specs.Str.{bytes_eq}
-use Rattle.rh_layout.specs.declared.limits.TheConstants.{MAX_KEY}
+use Rattle.rh_layout.specs.declared.limits.TheConstants.{MAX_KEY, MAX_KEYS}
 use Rattle.rh_key_files.specs.declared.version.Version.{Version}
 use Rattle.rh_key_files.specs.declared.version.Version.TheVariants.{First, Second}
 use Rattle.rh_key_files.specs.declared.header.Header.{Header}
-use Rattle.rh_key_files.specs.declared.parts.TheConstants.{MAX_KEYS}
 use Rattle.rh_key_files.specs.declared.fault.KeyFault.{KeyFault}
 use Rattle.rh_key_files.specs.declared.fault.KeyFault.TheVariants as faults
 use Rattle.rh_key_files.specs.declared.fault.KeyFault.TheVariants.{NotKeys, Short, TooMany, BadKey, Long}
-use Rattle.rh_key_files.specs.Input as input
-use Rattle.rh_key_files.specs.Input.{◌>>=◌, bytes_at, number_at, with_head, end_at, AreAll, BeginsWith}
+use Rattle.rh_bytes.specs.Input as input
+use Rattle.rh_bytes.specs.Input.{◌>>=◌, bytes_at, number_at, with_head, end_at, AreAll, BeginsWith}
 use Rattle.rh_key_files.specs.KeyFile.{magic, least_key, IsKeyFile}
 
 -- the version whose magic the four bytes are

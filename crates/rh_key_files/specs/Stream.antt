@@ -1,15 +1,15 @@
 -- What is known of a stream of keys: its header, how far it is, and what it answers once it is over.
 use Rattle.std.specs.Prelude.{ℕ, ◌-◌, List, [], Option, Some, None, Result, Ok, Err, ◌==◌, if◌then◌else◌, option_map}
 use Rattle.std.specs.Borrow.{GName}
-use Rattle.rh_key_files.specs.declared.counted.Counted.{Counted}
+use Rattle.rh_bytes.specs.declared.counted.Counted.{Counted}
 use Rattle.rh_key_files.specs.declared.fault.KeyFault.{KeyFault}
 use Rattle.rh_key_files.specs.declared.version.Version.{Version}
 use Rattle.rh_key_files.specs.declared.header.Header.{Header}
 use Rattle.rh_key_files.specs.declared.stream.KeyStream.{KeyStream}
 use Rattle.rh_key_files.specs.declared.stream.State.{State}
 use Rattle.rh_key_files.specs.declared.stream.State.TheVariants.{Open, Ended, Failed}
-use Rattle.rh_key_files.specs.Counting.{inner_of}
-use Rattle.rh_key_files.specs.Input.{◌>>=◌}
+use Rattle.rh_bytes.specs.Counting.{inner_of}
+use Rattle.rh_bytes.specs.Input.{◌>>=◌}
 use Rattle.rh_key_files.specs.Reading.{ReadsKeys, keys_ended, header_at, keys_at}
 use Rattle.rh_key_files.specs.Source.{Coming, keys_in}
 

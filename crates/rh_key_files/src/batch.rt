@@ -4,19 +4,17 @@ ghost use Rattle.std.specs.Prelude.{◌≡◌, ◌≤◌, ◌<◌, ◌+◌, ◌*
 ghost use Rattle.std.specs.Prelude.{All, IfOk, IsErrOf, IsNone, OnOk};
 ghost use Rattle.std.specs.List.{position_from};
 ghost use Rattle.rh_layout.specs.Key.{IsKey};
-ghost use Rattle.rh_key_files.specs.Counting.{Rose};
-ghost use Rattle.rh_key_files.specs.Taking.{TakesAtMost};
+ghost use Rattle.rh_bytes.specs.Counting.{Rose, failures_of, inner_of};
+ghost use Rattle.rh_bytes.specs.Taking.{TakesAtMost};
 ghost use Rattle.rh_key_files.specs.Reading.{CutShort, ReadsKeys, front_of};
 ghost use Rattle.rh_key_files.specs.Reading.{batch_at, keys_at, is_refused};
 ghost use Rattle.rh_key_files.specs.Limits.{NoReadFailed, batch_bytes, keys_taken};
-ghost use Rattle.rh_key_files.specs.Input.{always, fault_of};
+ghost use Rattle.rh_bytes.specs.Input.{always, fault_of};
 
-use crate::bytes::{Filled, fill_front};
-use crate::counted::Counted;
 use crate::fault::KeyFault;
-use crate::input::read_end;
 use crate::numbers::decode_numbers;
 use crate::version::Version;
+use rh_bytes::{Counted, Filled, fill_front, read_end};
 use std::io::Read;
 
 /// How many keys are read at once: their bytes are a part, which lies on the stack.
@@ -51,16 +49,16 @@ fn read_part<R: Read>(
 ) -> Result<(), KeyFault>
     requires room { length part.old ≡ 8 * length keys.old }
     requires small { index + length keys.old < 2 ^ 64 }
-    ensures known { ReadsKeys (R.remaining reader.old.inner) (R.remaining reader.new.inner)
+    ensures known { ReadsKeys (R.remaining (inner_of reader.old)) (R.remaining (inner_of reader.new))
         (keys_at version index (length keys.new)) (always keys.new) result }
-    ensures tested { IsErrOf result KeyFault.Read → CutShort (R.remaining reader.old.inner)
-        (R.remaining reader.new.inner) (keys_at version index (length keys.new)) }
+    ensures tested { IsErrOf result KeyFault.Read → CutShort (R.remaining (inner_of reader.old))
+        (R.remaining (inner_of reader.new)) (keys_at version index (length keys.new)) }
     ensures in_range { OnOk result (All IsKey keys.new) }
-    ensures takes { TakesAtMost (R.remaining reader.old.inner) (R.remaining reader.new.inner)
+    ensures takes { TakesAtMost (R.remaining (inner_of reader.old)) (R.remaining (inner_of reader.new))
         (8 * length keys.new) }
-    ensures read { IsErrOf result KeyFault.Read → Rose reader.old.failures reader.new.failures }
+    ensures read { IsErrOf result KeyFault.Read → Rose (failures_of reader.old) (failures_of reader.new) }
     ensures no_memory { IsErrOf result KeyFault.Memory → ⊥ }
-    ensures fine { NoReadFailed (fault_of result) → reader.new.failures ≡ reader.old.failures }
+    ensures fine { NoReadFailed (fault_of result) → failures_of reader.new ≡ failures_of reader.old }
 {
     let Filled { count, failed } = fill_front(reader, part);
     decode_numbers(part, keys);
@@ -84,16 +82,16 @@ fn read_keys<R: Read>(
     batch: &mut [u64],
 ) -> Result<(), KeyFault>
     requires { index + length batch.old < 2 ^ 64 }
-    ensures known { ReadsKeys (R.remaining reader.old.inner) (R.remaining reader.new.inner)
+    ensures known { ReadsKeys (R.remaining (inner_of reader.old)) (R.remaining (inner_of reader.new))
         (keys_at version index (length batch.new)) (always batch.new) result }
-    ensures tested { IsErrOf result KeyFault.Read → CutShort (R.remaining reader.old.inner)
-        (R.remaining reader.new.inner) (keys_at version index (length batch.new)) }
+    ensures tested { IsErrOf result KeyFault.Read → CutShort (R.remaining (inner_of reader.old))
+        (R.remaining (inner_of reader.new)) (keys_at version index (length batch.new)) }
     ensures in_range { OnOk result (All IsKey batch.new) }
-    ensures takes { TakesAtMost (R.remaining reader.old.inner) (R.remaining reader.new.inner)
+    ensures takes { TakesAtMost (R.remaining (inner_of reader.old)) (R.remaining (inner_of reader.new))
         (8 * keys_taken index (length batch.new) (fault_of result)) }
-    ensures read { IsErrOf result KeyFault.Read → Rose reader.old.failures reader.new.failures }
+    ensures read { IsErrOf result KeyFault.Read → Rose (failures_of reader.old) (failures_of reader.new) }
     ensures no_memory { IsErrOf result KeyFault.Memory → ⊥ }
-    ensures fine { NoReadFailed (fault_of result) → reader.new.failures ≡ reader.old.failures }
+    ensures fine { NoReadFailed (fault_of result) → failures_of reader.new ≡ failures_of reader.old }
 {
     let mut part = [0u8; PART_BYTES];
     let mut done = 0;
@@ -116,19 +114,19 @@ pub(crate) fn read_batch<R: Read>(
     batch: &mut [u64],
 ) -> Result<usize, KeyFault>
     requires { index + left < 2 ^ 64 }
-    ensures known { ReadsKeys (R.remaining reader.old.inner) (R.remaining reader.new.inner)
+    ensures known { ReadsKeys (R.remaining (inner_of reader.old)) (R.remaining (inner_of reader.new))
         (batch_at version index left (length batch.new)) (front_of batch.new) result }
     ensures tested { IsErrOf result KeyFault.Read → 0 < left →
-        CutShort (R.remaining reader.old.inner) (R.remaining reader.new.inner)
+        CutShort (R.remaining (inner_of reader.old)) (R.remaining (inner_of reader.new))
         (batch_at version index left (length batch.new)) }
     ensures rest { IfOk result (λ n. drop n batch.new ≡ drop n batch.old) }
     ensures many { IfOk result (λ n. n ≡ min (length batch.new) left) }
     ensures in_range { IfOk result (λ n. All IsKey (take n batch.new)) }
-    ensures takes { TakesAtMost (R.remaining reader.old.inner) (R.remaining reader.new.inner)
+    ensures takes { TakesAtMost (R.remaining (inner_of reader.old)) (R.remaining (inner_of reader.new))
         (batch_bytes index left (length batch.new) (fault_of result)) }
-    ensures read { IsErrOf result KeyFault.Read → Rose reader.old.failures reader.new.failures }
+    ensures read { IsErrOf result KeyFault.Read → Rose (failures_of reader.old) (failures_of reader.new) }
     ensures no_memory { IsErrOf result KeyFault.Memory → ⊥ }
-    ensures fine { NoReadFailed (fault_of result) → reader.new.failures ≡ reader.old.failures }
+    ensures fine { NoReadFailed (fault_of result) → failures_of reader.new ≡ failures_of reader.old }
 {
     if left == 0 {
         read_end::<_, KeyFault>(reader)?;

@@ -2,16 +2,14 @@
 
 ghost use Rattle.std.specs.Prelude.{◌≡◌, ◌≤◌, All, OnErr, OnOk, length};
 ghost use Rattle.rh_layout.specs.Key.{IsKey};
-ghost use Rattle.rh_key_files.specs.Counting.{Rose, Writes, failures_of, inner_of};
+ghost use Rattle.rh_bytes.specs.Counting.{Rose, Writes, failures_of, inner_of};
 ghost use Rattle.rh_key_files.specs.KeyFile.{header, spelled_keys, spelling};
-ghost use Rattle.rh_key_files.specs.declared.parts.TheConstants.{MAX_KEYS};
+ghost use Rattle.rh_layout.specs.declared.limits.TheConstants.{MAX_KEYS};
 ghost use Rattle.rh_key_files.specs.declared.version.Version.TheVariants.{Second};
 
-use crate::bytes::{put, write_texts};
-use crate::counted::Counted;
-use crate::fault::WriteFault;
 use crate::version::Version;
 use byteorder::{BigEndian, ByteOrder};
+use rh_bytes::{Counted, WriteFault, write_text, write_texts};
 use std::io::Write;
 
 /// Writes the keys as a key file of the second version, in their order. `read_keys` takes it back
@@ -43,15 +41,15 @@ pub fn write_header<W: Write>(count: u64, writer: &mut Counted<W>) -> Result<(),
 }
 
 fn put_keys<W: Write>(keys: &[u64], writer: &mut Counted<W>) -> Result<(), WriteFault>
-    ensures text { Writes (W.contents writer.old.inner) (W.contents writer.new.inner)
+    ensures text { Writes (W.contents (inner_of writer.old)) (W.contents (inner_of writer.new))
         (spelled_keys keys.now) result }
-    ensures failed { OnErr result (Rose writer.old.failures writer.new.failures) }
-    ensures fine { OnOk result (writer.new.failures ≡ writer.old.failures) }
+    ensures failed { OnErr result (Rose (failures_of writer.old) (failures_of writer.new)) }
+    ensures fine { OnOk result (failures_of writer.new ≡ failures_of writer.old) }
 {
     for key in keys {
         let mut eight = [0; 8];
         BigEndian::write_u64(&mut eight, *key);
-        put(writer, &eight)?;
+        write_text(writer, &eight)?;
     }
     Ok(())
 }

@@ -4,8 +4,8 @@ ghost use Rattle.std.proofs.Common.{rules};
 ghost use Rattle.rh_key_files.specs.Reading.{is_silent};
 ghost use Rattle.rh_key_files.specs.declared.fault.KeyFault.TheVariants.{Long, Memory, Read, Short};
 
-use crate::input::InputFault;
-use crate::parts::MAX_KEYS;
+use rh_bytes::InputFault;
+use rh_layout::MAX_KEYS;
 use thiserror::Error;
 
 /// Why a key file could not be read.
@@ -52,11 +52,4 @@ impl InputFault for KeyFault {
     fn read() -> KeyFault {
         KeyFault::Read
     }
-}
-
-/// Why a text could not be written.
-#[derive(Clone, Copy, Debug, PartialEq, Eq, Error)]
-pub enum WriteFault {
-    #[error("cannot write the output")]
-    Write,
 }

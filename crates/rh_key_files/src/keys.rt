@@ -2,18 +2,18 @@
 
 ghost use Rattle.std.specs.Prelude.{◌≡◌, ◌*◌, [], length, All, IfOk, IsErrOf, OnOk};
 ghost use Rattle.rh_layout.specs.Key.{IsKey};
-ghost use Rattle.rh_key_files.specs.Counting.{Rose, failures_of, inner_of};
-ghost use Rattle.rh_key_files.specs.Taking.{TakesAtMost};
+ghost use Rattle.rh_bytes.specs.Counting.{Rose, failures_of, inner_of};
+ghost use Rattle.rh_bytes.specs.Taking.{TakesAtMost};
 ghost use Rattle.rh_key_files.specs.Limits.{NoReadFailed, TakesOfFile, keys_taken, most_bytes};
-ghost use Rattle.rh_key_files.specs.Input.{always, end_at, fault_of};
+ghost use Rattle.rh_bytes.specs.Input.{always, end_at, fault_of};
 ghost use Rattle.rh_key_files.specs.Reading.{BeginsWithHeader, ReadsKeys, IsReadFrom, file_keys, keys_at};
 ghost use Rattle.rh_key_files.specs.Stream.{reader_of, lender_of, version_of, count_of, taken_of};
 ghost use Rattle.rh_key_files.specs.Stream.{left_of, state_of};
 
-use crate::counted::Counted;
 use crate::fault::KeyFault;
 use crate::open::open_keys;
 use crate::stream::{KeyStream, State};
+use rh_bytes::Counted;
 use std::alloc::Global;
 use std::io::Read;
 

@@ -3,7 +3,7 @@
 ghost use Rattle.std.specs.Prelude.{◌≡◌, [], Ok};
 ghost use Rattle.rh_key_files.specs.KeyFile.{KeyFile, IsKeyFile};
 ghost use Rattle.rh_key_files.specs.Reading.{file_keys};
-ghost use Rattle.rh_key_files.specs.declared.parts.TheConstants.{MAX_KEYS};
+ghost use Rattle.rh_layout.specs.declared.limits.TheConstants.{MAX_KEYS};
 
 use crate::version::Version;
 

@@ -1,6 +1,7 @@
-//! Key files and dumps.
+//! Key files.
 //!
-//! `rh_snapshot`, `rh_numbers`, `rh_shelf`, `rh_runner`, `rh_report` and both programs stand on it.
+//! `rh_runner`, `rh_report`, `rh_key_texts`, `rh_splitting` and both programs stand on it. It hands on
+//! what `rh_bytes` has for its callers.
 //!
 //! ```text
 //! let mut writer = Counted::new(Vec::new(alloc));
@@ -24,25 +25,15 @@
 //! - `one_spelling`: what the grammar spells is read, and what is read is spelled so.
 //! - `write_keys`: a key file, which `one_spelling` takes back to its list. `write_header`: what
 //!   stands before its keys.
-//! - `write_dump`: the text of the dump, or a front of it where the writer failed.
-//! - `read_bytes`, `read_number`, `read_end`: what the bytes say, or the fault in them. `rh_snapshot`
-//!   reads by them too, so the faults are those of the file that is read.
-//! - `fill`: a buffer is filled up to the end of the input, or a read failed, and then no byte
-//!   beside those was taken.
-//! - `Counted` counts errors, and writes that took no byte. `HeldKeys`: keys in memory, which never
-//!   fail.
+//! - `HeldKeys`: keys in memory, which never fail.
 //! - `fixed_numbers`: a key file has at most 1,000,000 keys.
 #![tactic(auto)]
 
 mod batch;
-mod bytes;
-mod counted;
-mod dump;
 mod encoding;
 mod fault;
 mod header;
 mod held_keys;
-mod input;
 mod keys;
 mod laws;
 mod numbers;
@@ -53,18 +44,15 @@ mod stream;
 mod version;
 
 pub use batch::PART_KEYS;
-pub use bytes::{fill, write_texts};
-pub use counted::Counted;
-pub use dump::write_dump;
 pub use encoding::{write_header, write_keys};
-pub use fault::{KeyFault, WriteFault};
+pub use fault::KeyFault;
 pub use held_keys::HeldKeys;
-pub use input::{InputFault, read_bytes, read_end, read_number};
 pub use keys::read_keys;
 pub use laws::{fixed_numbers, one_spelling};
 pub use numbers::decode_numbers;
 pub use open::open_keys;
-pub use parts::MAX_KEYS;
+pub use rh_bytes::{Counted, WriteFault, fill, write_texts};
+pub use rh_layout::MAX_KEYS;
 pub use source::KeySource;
 pub use stream::KeyStream;
 pub use version::Version;

@@ -2,20 +2,20 @@
 
 ghost use Rattle.std.specs.Prelude.{◌≡◌, ◌≢◌, Err, IfErr, IfOk, IsErrOf, option_map};
 ghost use Rattle.std.specs.Borrow.{sem, RestsIfErr};
-ghost use Rattle.rh_key_files.specs.contracts.counted.Counted.{the_row};
-ghost use Rattle.rh_key_files.specs.Counting.{Rose, failures_of, inner_of};
-ghost use Rattle.rh_key_files.specs.Taking.{TakesAtMost};
-ghost use Rattle.rh_key_files.specs.Input.{fault_of};
+ghost use Rattle.rh_bytes.specs.contracts.counted.Counted.{the_row};
+ghost use Rattle.rh_bytes.specs.Counting.{Rose, failures_of, inner_of};
+ghost use Rattle.rh_bytes.specs.Taking.{TakesAtMost};
+ghost use Rattle.rh_bytes.specs.Input.{fault_of};
 ghost use Rattle.rh_key_files.specs.Limits.{header_bytes, header_taken};
 ghost use Rattle.rh_key_files.specs.Source.{ComesFrom, FaultComes, HasCount, keys_of_file};
 ghost use Rattle.rh_key_files.specs.Stream.{ReadsHeader, reader_of, lender_of, taken_of, state_of};
 ghost use Rattle.rh_key_files.specs.Stream.{coming_of, count_of};
 
-use crate::counted::Counted;
 use crate::fault::KeyFault;
 use crate::header::Header;
 use crate::parts::read_header;
 use crate::stream::{KeyStream, State};
+use rh_bytes::Counted;
 use std::io::Read;
 
 /// Reads the header: the version and the number of keys.

@@ -2,15 +2,15 @@
 
 ghost use Rattle.std.specs.Prelude.{◌≤◌, ◌≢◌};
 ghost use Rattle.rh_key_files.specs.declared.fault.KeyFault.TheVariants.{Memory};
-ghost use Rattle.rh_key_files.specs.declared.parts.TheConstants.{MAX_KEYS};
+ghost use Rattle.rh_layout.specs.declared.limits.TheConstants.{MAX_KEYS};
 ghost use Rattle.rh_key_files.specs.declared.stream.State.TheVariants.{Failed};
 
 use crate::batch::read_batch;
-use crate::counted::Counted;
 use crate::fault::KeyFault;
-use crate::parts::MAX_KEYS;
 use crate::source::KeySource;
 use crate::version::Version;
+use rh_bytes::Counted;
+use rh_layout::MAX_KEYS;
 use std::io::Read;
 
 /// Whether a stream goes on, and if not what it answers from now on.
@@ -38,10 +38,10 @@ impl<R: Read> KeyStream<'_, R> {
     ghost use Rattle.std.specs.Prelude.{◌≡◌, ◌≢◌, ◌⊎◌, ◌<◌, ◌+◌, min, length, IfOk, IsErrOf, Err};
     ghost use Rattle.std.specs.Prelude.{All, take, drop};
     ghost use Rattle.rh_layout.specs.Key.{IsKey};
-    ghost use Rattle.rh_key_files.specs.Counting.{Rose, failures_of, inner_of};
-    ghost use Rattle.rh_key_files.specs.Taking.{TakesAtMost};
+    ghost use Rattle.rh_bytes.specs.Counting.{Rose, failures_of, inner_of};
+    ghost use Rattle.rh_bytes.specs.Taking.{TakesAtMost};
     ghost use Rattle.rh_key_files.specs.Limits.{NoReadFailed, batch_bytes};
-    ghost use Rattle.rh_key_files.specs.Input.{fault_of};
+    ghost use Rattle.rh_bytes.specs.Input.{fault_of};
     ghost use Rattle.rh_key_files.specs.Reading.{CutShort, ReadsKeys, front_of, batch_at};
     ghost use Rattle.rh_key_files.specs.Stream.{reader_of, lender_of, header_of, version_of, count_of};
     ghost use Rattle.rh_key_files.specs.Stream.{taken_of, left_of, state_of, state_after, answer_again};

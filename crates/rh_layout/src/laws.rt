@@ -3,7 +3,7 @@
 ghost use Rattle.std.specs.Prelude.{◌≡◌, ◌+◌, ◌^◌, ◌<◌, count_by};
 ghost use Rattle.std.specs.FinSet as set;
 ghost use Rattle.rh_layout.specs.Key.{is_full};
-ghost use Rattle.rh_layout.specs.declared.limits.TheConstants.{MAX_KEY, MIN_BITS, MAX_BITS};
+ghost use Rattle.rh_layout.specs.declared.limits.TheConstants.{MAX_KEY, MAX_KEYS, MIN_BITS, MAX_BITS};
 ghost use Rattle.rh_layout.specs.declared.order.TheConstants.{MULTIPLIER};
 ghost use Rattle.rh_layout.specs.Layout.{Keys, Layout, IsLayout, HasFree, HasTwoFree, keys_of};
 
@@ -45,6 +45,7 @@ pub fn has_free(bits: u32, cells: &[u64])
 /// The numbers that the formats fix. The multiplier is 2^64 over the golden ratio, rounded down.
 pub fn fixed_numbers()
     ensures keys { MAX_KEY ≡ 4611686018427387902 }
+    ensures list { MAX_KEYS ≡ 1000000 }
     ensures bits { (MIN_BITS ≡ 3) × (MAX_BITS ≡ 18) }
     ensures multiplier { MULTIPLIER ≡ 11400714819323198485 }
 {}

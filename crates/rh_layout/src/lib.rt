@@ -19,8 +19,8 @@
 //!   so are two of one size that hold the same keys.
 //! - `has_free`: a layout has as many full cells as its set has keys. So fewer keys than cells
 //!   leave one free.
-//! - `fixed_numbers`: the greatest key, the sizes of a table and the multiplier of homes, each by
-//!   its value.
+//! - `fixed_numbers`: the greatest key, the most keys of a list, the sizes of a table and the
+//!   multiplier of homes, each by its value.
 #![tactic(auto)]
 
 mod entry;
@@ -33,6 +33,6 @@ mod table;
 pub use entry::Entry;
 pub use key::{cell_of, key_in};
 pub use laws::{cells_agree, fixed_numbers, has_free, one_layout};
-pub use limits::{MAX_BITS, MAX_KEY, MIN_BITS};
+pub use limits::{MAX_BITS, MAX_KEY, MAX_KEYS, MIN_BITS};
 pub use order::{beats, dist, home};
 pub use table::is_layout;

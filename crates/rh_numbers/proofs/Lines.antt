@@ -1,8 +1,8 @@
 -- Numbers written one after another.
 use Rattle.std.proofs.Common.{◌≡◌, ℕ, zero, suc, ◌<◌, List, [], ◌∷◌, ◌++◌, length, take, drop, get_or, Option, refl, sym, ap, ◌∙◌, arith, append_assoc}
 use Rattle.std.specs.Io.KnownBytes.{Appends}
-use Rattle.rh_key_files.specs.Counting.{AppendsFront}
-use Rattle.rh_key_files.proofs.Writing.{front_stops}
+use Rattle.rh_bytes.specs.Counting.{AppendsFront}
+use Rattle.rh_bytes.proofs.Writing.{front_stops}
 use Rattle.rh_numbers.specs.Writing.{number_line, text_of}
 
 text_split : (numbers : List ℕ) (i : ℕ) → i < length numbers → text_of numbers ≡ (text_of (take i numbers) ++ number_line (get_or numbers i 0)) ++ text_of (drop (suc i) numbers)

@@ -5,8 +5,7 @@ use Rattle.std.specs.Str.Parse.{digits_value}
 use Rattle.std.proofs.lemmas.Bool.{cases_Bool, eqb-true, eqb-false, ltb-false}
 use Rattle.std.proofs.lemmas.List.Elements.{All-nil, All-cons, All-append}
 use Rattle.rh_layout.specs.Key.{IsKey}
-use Rattle.rh_layout.specs.declared.limits.TheConstants.{MAX_KEY}
-use Rattle.rh_key_files.specs.declared.parts.TheConstants.{MAX_KEYS}
+use Rattle.rh_layout.specs.declared.limits.TheConstants.{MAX_KEY, MAX_KEYS}
 use Rattle.rh_numbers.specs.declared.fault.TextFault.{TextFault}
 use Rattle.rh_numbers.specs.declared.fault.TextFault.TheVariants.{NotAKey, OutOfRange, TooMany}
 use Rattle.rh_numbers.specs.declared.line_so_far.LineSoFar.{LineSoFar}

@@ -9,8 +9,7 @@ use Rattle.std.proofs.lemmas.List.Elements.{All-nil, All-cons, All-head, All-tai
 use Rattle.std.proofs.lemmas.List.Sums.{fold-append}
 use Rattle.std.proofs.lemmas.Str.Parse.{digit_from_value}
 use Rattle.rh_layout.specs.Key.{IsKey}
-use Rattle.rh_layout.specs.declared.limits.TheConstants.{MAX_KEY}
-use Rattle.rh_key_files.specs.declared.parts.TheConstants.{MAX_KEYS}
+use Rattle.rh_layout.specs.declared.limits.TheConstants.{MAX_KEY, MAX_KEYS}
 use Rattle.rh_numbers.specs.declared.line_so_far.LineSoFar.{LineSoFar}
 use Rattle.rh_numbers.specs.declared.line_so_far.LineSoFar.TheVariants.{Start, Blank, Comment, Number, After}
 use Rattle.rh_numbers.specs.Grammar.{AreLines, AreSpaces, IsKeyText, IsOneLine, IsReturn, IsText, Says, blank, comment, last, more, number}

@@ -2,7 +2,7 @@
 use Rattle.std.proofs.Common.{◌≡◌, ◌∙◌, ap, sym, ℕ, ◌≤◌, List, [], ◌++◌, length, Option, append_assoc, arith}
 use Rattle.std.specs.Io.KnownBytes.{Consumes}
 use Rattle.std.proofs.KnownBytes.{Consumes-nil, Consumes-trans}
-use Rattle.rh_key_files.specs.declared.parts.TheConstants.{MAX_KEYS}
+use Rattle.rh_layout.specs.declared.limits.TheConstants.{MAX_KEYS}
 use Rattle.rh_numbers.specs.declared.line_so_far.LineSoFar.{LineSoFar}
 use Rattle.rh_numbers.specs.declared.limits.TheConstants.{PART_BYTES}
 use Rattle.rh_numbers.specs.Reading.{TakesToFault, said_from, text_said}

@@ -3,7 +3,7 @@
 ghost use Rattle.std.specs.Prelude.{◌≡◌};
 ghost use Rattle.rh_numbers.specs.declared.fault.TextFault.TheVariants.{Memory};
 
-use rh_key_files::MAX_KEYS;
+use rh_layout::MAX_KEYS;
 use std::alloc::{AllocError, AllocFailed};
 use thiserror::Error;
 

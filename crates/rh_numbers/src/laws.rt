@@ -2,8 +2,7 @@
 
 ghost use Rattle.std.specs.Prelude.{◌≡◌, ◌≤◌, ◌<◌, ℕ, List, [], ◌∷◌, All, Err, None, Ok, Some, length};
 ghost use Rattle.rh_layout.specs.Key.{IsKey};
-ghost use Rattle.rh_key_files.specs.declared.parts.TheConstants.{MAX_KEYS};
-ghost use Rattle.rh_layout.specs.declared.limits.TheConstants.{MAX_KEY};
+ghost use Rattle.rh_layout.specs.declared.limits.TheConstants.{MAX_KEY, MAX_KEYS};
 ghost use Rattle.rh_numbers.specs.declared.fault.TextFault.TheVariants.{NotAKey, OutOfRange, TooMany};
 ghost use Rattle.rh_numbers.specs.Grammar.{ComesTo, IsKeyText, IsText, Says};
 ghost use Rattle.rh_numbers.specs.Reading.{text_keys, text_said};

@@ -1,6 +1,6 @@
 //! Texts of numbers: keys in decimal digits, one a line.
 //!
-//! `rh_key_commands` and `rh_splitting` stand on it.
+//! `rh_key_texts` and `rh_splitting` stand on it.
 //!
 //! Proved:
 //!

@@ -8,7 +8,7 @@ use rh_layout::MAX_KEY;
 
 /// What a line has said so far. A number above the greatest key counts as the first of them.
 /// No line is kept, so that one may be of any length.
-#[derive(Clone, Copy, Debug, PartialEq, Eq)]
+#[derive(Clone, Copy)]
 pub(crate) enum LineSoFar {
     /// Nothing.
     Start,

@@ -2,13 +2,13 @@
 
 ghost use Rattle.std.specs.Prelude.{◌≤◌, length, All};
 ghost use Rattle.rh_layout.specs.Key.{IsKey};
-ghost use Rattle.rh_key_files.specs.declared.parts.TheConstants.{MAX_KEYS};
+ghost use Rattle.rh_layout.specs.declared.limits.TheConstants.{MAX_KEYS};
 
 use crate::fault::TextFault;
 use crate::limits::PART_BYTES;
 use crate::line_so_far::LineSoFar;
-use rh_key_files::{Counted, MAX_KEYS, fill};
-use rh_layout::MAX_KEY;
+use rh_bytes::{Counted, fill};
+use rh_layout::{MAX_KEY, MAX_KEYS};
 use std::alloc::Global;
 use std::io::Read;
 
@@ -29,7 +29,7 @@ pub struct Reading {
 impl Reading {
     ghost use Rattle.std.specs.Prelude.{◌≡◌, ◌≢◌, ◌≤◌, ◌<◌, ◌+◌, ◌^◌, ℕ, List, [], ◌∷◌, ◌++◌};
     ghost use Rattle.std.specs.Prelude.{IsErrOf, MatchResult, None, OnOk, Err};
-    ghost use Rattle.rh_key_files.specs.Counting.{Rose, failures_of, inner_of};
+    ghost use Rattle.rh_bytes.specs.Counting.{Rose, failures_of, inner_of};
     ghost use Rattle.rh_numbers.specs.Parts.{ReadsPart, keys_read, line_reached, said_by, so_far_of};
     ghost use Rattle.rh_numbers.specs.Reading.{Stops, with_key, with_line};
     ghost use Rattle.rh_numbers.specs.declared.limits.TheConstants.{PART_BYTES};

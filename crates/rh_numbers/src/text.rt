@@ -2,14 +2,14 @@
 
 ghost use Rattle.std.specs.Prelude.{◌≡◌, ◌≢◌, ◌≤◌, length, All, Err, IfOk, IsErrOf, OnErr};
 ghost use Rattle.rh_layout.specs.Key.{IsKey};
-ghost use Rattle.rh_key_files.specs.declared.parts.TheConstants.{MAX_KEYS};
-ghost use Rattle.rh_key_files.specs.Counting.{Rose, failures_of, inner_of};
+ghost use Rattle.rh_layout.specs.declared.limits.TheConstants.{MAX_KEYS};
+ghost use Rattle.rh_bytes.specs.Counting.{Rose, failures_of, inner_of};
 ghost use Rattle.rh_numbers.specs.Reading.{IsTextReadFrom, ReadsText, TakesToFault};
 
 use crate::fault::TextFault;
 use crate::limits::MAX_READS;
 use crate::reading::Reading;
-use rh_key_files::Counted;
+use rh_bytes::Counted;
 use std::alloc::Global;
 use std::io::Read;
 

@@ -1,11 +1,11 @@
 //! Texts of numbers, written.
 
 ghost use Rattle.std.specs.Prelude.{◌≡◌, OnErr, OnOk};
-ghost use Rattle.rh_key_files.specs.Counting.{Rose, Writes, failures_of, inner_of};
+ghost use Rattle.rh_bytes.specs.Counting.{Rose, Writes, failures_of, inner_of};
 ghost use Rattle.rh_numbers.specs.Writing.{number_line, text_of};
 
 use itoa::Buffer;
-use rh_key_files::{Counted, WriteFault, write_texts};
+use rh_bytes::{Counted, WriteFault, write_texts};
 use std::io::Write;
 
 /// Writes the numbers as a text, one a line, each ended by LF. `read_numbers` takes it back to the

@@ -1,5 +1,5 @@
 -- What the contracts of the calls that this crate hands on speak of.
-pub use Rattle.rh_key_files.specs.Counting
+pub use Rattle.rh_bytes.specs.Counting
 pub use Rattle.rh_script.specs.Grammar
 pub use Rattle.rh_script.specs.Script
 pub use Rattle.rh_script.specs.Plan

@@ -3,9 +3,9 @@ use Rattle.std.proofs.Common.{inl, is_some, List, [], codes, refl, ap}
 use Rattle.clap.specs.Walk.{Rule, Text, rows_after}
 use Rattle.clap.specs.Simple.{App, Shape, built_leaf, filled, inherited, with_index, with_leaf_noted}
 use Rattle.rh_play_commands.specs.Line.{play_app, rhplay_app, trace_app}
-use Rattle.rh_cli.specs.Words.{HasText, path_rule}
-use Rattle.rh_cli.proofs.RowLemmas.{IsIn, required_row}
-use Rattle.rh_cli.proofs.ValueLemmas.{EachIs, Passes, rows_fit, value_of}
+use Rattle.rh_arguments.specs.Words.{HasText, path_rule}
+use Rattle.rh_arguments.proofs.RowLemmas.{IsIn, required_row}
+use Rattle.rh_arguments.proofs.ValueLemmas.{EachIs, Passes, rows_fit, value_of}
 
 -- a command and its file, as clap builds them
 abbrev pub command_built : App → Shape

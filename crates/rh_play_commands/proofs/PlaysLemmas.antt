@@ -4,8 +4,8 @@ use Rattle.clap.specs.Faults.{fault_of}
 use Rattle.clap.specs.Walk.{Text}
 use Rattle.clap.specs.Simple.{built, subcommand_of}
 use Rattle.rh_play_commands.specs.Line.{IsCommand, rhplay_app}
-use Rattle.rh_cli.specs.Words.{Finds}
-use Rattle.rh_cli.proofs.CommandLemmas.{EachMeets, help_alone, words_find}
+use Rattle.rh_arguments.specs.Words.{Finds}
+use Rattle.rh_arguments.proofs.CommandLemmas.{EachMeets, help_alone, words_find}
 use Rattle.rh_play_commands.proofs.FileLemmas.{play_arguments, trace_arguments}
 use Rattle.rh_play_commands.proofs.DrawLemmas.{draw_arguments}
 

@@ -7,7 +7,7 @@ use Rattle.clap.specs.declared.builder.value_parser.ValueParser.TheVariants.{Uns
 use Rattle.rh_play_commands.specs.declared.asked.Line.{Line}
 use Rattle.rh_play_commands.specs.declared.asked.Line.TheVariants.{Play, Trace, Draw}
 use Rattle.rh_play_commands.specs.declared.limits.TheConstants.{MAX_DRAWN, MAX_FROM}
-use Rattle.rh_cli.specs.Words.{IsTextFor, GivesNumber, HasNumber, HasText, path_rule, program_app}
+use Rattle.rh_arguments.specs.Words.{IsTextFor, GivesNumber, HasNumber, HasText, path_rule, program_app}
 
 -- ---- the commands
 

@@ -1,7 +1,7 @@
 //! The name by which the program was called.
 
 ghost use Rattle.std.specs.Prelude.{◌≡◌};
-ghost use Rattle.rh_cli.specs.Words.{texts_of};
+ghost use Rattle.rh_arguments.specs.Words.{texts_of};
 ghost use Rattle.rh_play_commands.specs.Name.{name_in};
 
 use std::path::Path;

@@ -3,8 +3,8 @@
 ghost use Rattle.std.specs.Prelude.{◌≡◌, [], IfOk, IfErr, codes, false};
 ghost use Rattle.clap.specs.Words.{app_of, fault_of, found_of, rows_of, rule_of};
 ghost use Rattle.clap.specs.Words.{subcommand_of, subcommand_rows_of};
-ghost use Rattle.rh_cli.specs.Faults.{IsOneOf};
-ghost use Rattle.rh_cli.specs.Words.{Finds, HasText, texts_of};
+ghost use Rattle.rh_arguments.specs.Faults.{IsOneOf};
+ghost use Rattle.rh_arguments.specs.Words.{Finds, HasText, texts_of};
 ghost use Rattle.rh_play_commands.specs.Line.{Asks, HasDrawArguments, IsCommand, Says, draw_app};
 ghost use Rattle.rh_play_commands.specs.Line.{from_rule, play_app, rhplay_app, steps_rule, trace_app};
 
@@ -13,8 +13,8 @@ use crate::help;
 use crate::limits::{MAX_DRAWN, MAX_FROM};
 use crate::name::NAME;
 use clap::{Arg, ArgAction, ArgMatches, Command, value_parser};
-use rh_cli::LineFault;
-use rh_cli::parsing::{
+use rh_arguments::LineFault;
+use rh_arguments::parsing::{
     described, number, parsed, program_command, text, text_arg, with_subcommand,
 };
 use std::alloc::{AllocError, Global};

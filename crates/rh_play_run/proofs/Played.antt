@@ -12,7 +12,7 @@ use Rattle.std.specs.Io.KnownBytes.{Appends}
 use Rattle.rh_ledger.specs.declared.tally.Tally.{Tally}
 use Rattle.rh_key_files.specs.Counting.{AppendsFront}
 use Rattle.rh_play.specs.Lines.{end_line, tally_line}
-use Rattle.rh_key_files.specs.Dump.{dump_text}
+use Rattle.rh_dump.specs.Dump.{dump_text}
 use Rattle.rh_play.specs.declared.play.Play.{Play}
 use Rattle.rh_play_run.specs.Beginning.{BeginsPlay, bits_of, held_of, work_keys}
 use Rattle.rh_play_run.specs.declared.fault.PlayRunFault.{PlayRunFault}

@@ -2,7 +2,7 @@
 use Rattle.std.specs.Prelude.{◌≡◌, ◌≢◌, ℕ, ◌+◌, List, Option, Result, Err, IfErr, IsErrOf, OnOk}
 use Rattle.rh_key_files.specs.Counting.{Rose, failures_of}
 use Rattle.rh_key_files.specs.Taking.{TakesAtMost}
-use Rattle.rh_key_files.specs.declared.counted.Counted.{Counted}
+use Rattle.rh_bytes.specs.declared.counted.Counted.{Counted}
 use Rattle.rh_play.specs.declared.limits.TheConstants.{MAX_TEXT_BYTES}
 
 -- At most one byte more is taken than a play may have. The call answers that the reading failed only where the count of the

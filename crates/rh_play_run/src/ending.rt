@@ -7,10 +7,11 @@ ghost use Rattle.rh_words.specs.Parts.{cell_count};
 ghost use Rattle.rh_turns.specs.Game.{AllFinished};
 ghost use Rattle.rh_stepper.specs.Made.{IsMadeSoFar, held_first};
 ghost use Rattle.rh_key_files.specs.Counting.{Rose, Writes, failures_of, inner_of};
-ghost use Rattle.rh_key_files.specs.Dump.{dump_text};
+ghost use Rattle.rh_dump.specs.Dump.{dump_text};
 ghost use Rattle.rh_play_run.specs.Run.{ClosesWith, closing};
 
-use rh_key_files::{Counted, WriteFault, write_dump, write_texts};
+use rh_dump::write_dump;
+use rh_key_files::{Counted, WriteFault, write_texts};
 use rh_play::{push_end, push_tally};
 use rh_stepper::Player;
 use std::alloc::{AllocError, Global};

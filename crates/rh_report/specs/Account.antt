@@ -2,7 +2,7 @@
 use Rattle.std.specs.Prelude.{◌≡◌, ℕ, ◌<◌, ◌^◌, Bool, List, [], ◌∷◌, codes}
 use Rattle.std.specs.FinSet as set
 use Rattle.rh_layout.specs.Layout.{Keys, Layout}
-use Rattle.rh_key_files.specs.Dump.{dump_text}
+use Rattle.rh_dump.specs.Dump.{dump_text}
 use Rattle.rh_report.specs.declared.lines.Account as lines
 use Rattle.rh_report.specs.declared.lines.Account.TheVariants as told
 use Rattle.rh_report.specs.declared.lines.Change.{Change}

@@ -4,7 +4,7 @@ use Rattle.std.specs.FinSet as set
 use Rattle.rh_layout.specs.Layout.{Keys, Layout}
 use Rattle.rh_layout.proofs.CountLemmas.{free_from_len}
 use Rattle.rh_layout.proofs.OneLayout.{one_layout_of}
-use Rattle.rh_key_files.specs.Dump.{dump_text}
+use Rattle.rh_dump.specs.Dump.{dump_text}
 use Rattle.rh_snapshot.specs.declared.version.Version.TheVariants.{Second}
 use Rattle.rh_snapshot.specs.Snapshot.{snap_spelling}
 use Rattle.rh_shelf.specs.Shelf.{Files}

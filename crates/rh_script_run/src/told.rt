@@ -6,7 +6,8 @@ ghost use Rattle.rh_report.specs.Account.{Says};
 ghost use Rattle.rh_script_run.specs.Told.{told_as};
 
 use rh_edit::SeqSet;
-use rh_key_files::{Counted, WriteFault, write_dump};
+use rh_dump::write_dump;
+use rh_key_files::{Counted, WriteFault};
 use rh_report::{Account, write_account, write_asked};
 use std::io::Write;
 

@@ -1,5 +1,6 @@
 -- How the program ends.
-use Rattle.rh_cli.specs.Endings.{ending_by_program as ending_by_program, ending_by_snapshot}
+use Rattle.rh_cli.specs.Endings.{ending_by_program as ending_by_program}
+use Rattle.rh_endings.specs.Endings.{ending_by_snapshot}
 use Rattle.rh_cli.specs.declared.status.Status.{Status}
 use Rattle.rh_cli.specs.declared.status.Status.TheVariants.{Refused, Memory, Write}
 use Rattle.rh_script.specs.declared.fault.ScriptFaultKind.{ScriptFaultKind}

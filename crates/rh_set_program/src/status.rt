@@ -3,8 +3,9 @@
 ghost use Rattle.std.specs.Prelude.{◌≡◌};
 ghost use Rattle.rh_set_program.specs.Endings.{ending_by};
 
-use rh_cli::{ProgramFault, Status, status_of_snapshot};
+use rh_cli::{ProgramFault, Status};
 use rh_commands::{CheckFault, DumpFault};
+use rh_endings::status_of_snapshot;
 use rh_script::{ScriptFault, ScriptFaultKind};
 use rh_script_run::{Cause, RunFault};
 use thiserror::Error;

@@ -1,7 +1,7 @@
 //! The files of the current folder, as a shelf.
 
 ghost use Rattle.std.specs.Prelude.{◌≡◌, ◌⊎◌};
-ghost use Rattle.rh_key_files.specs.Counting.{Rose};
+ghost use Rattle.rh_bytes.specs.Counting.{Rose};
 ghost use Rattle.rh_shelf.specs.Kinds.{failed_files};
 
 use crate::shelf::{Shelf, ShelfFault};

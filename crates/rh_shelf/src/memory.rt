@@ -1,7 +1,7 @@
 //! A shelf in memory.
 
 ghost use Rattle.std.specs.Prelude.{◌≡◌, None, Some, IfErr, IfOk, IsErrOf, OnErr, OnOk};
-ghost use Rattle.rh_key_files.specs.Counting.{Rose};
+ghost use Rattle.rh_bytes.specs.Counting.{Rose};
 ghost use Rattle.rh_shelf.specs.Shelf.{InDoubt, Puts, with_file};
 ghost use Rattle.rh_shelf.specs.Kinds.{failures_in, files_of};
 

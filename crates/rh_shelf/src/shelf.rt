@@ -1,7 +1,7 @@
 //! What a shelf is.
 
 ghost use Rattle.std.specs.Prelude.{◌≡◌, ◌⊎◌, ℕ, Option, IfOk, IsErrOf, OnErr, OnOk};
-ghost use Rattle.rh_key_files.specs.Counting.{Rose};
+ghost use Rattle.rh_bytes.specs.Counting.{Rose};
 ghost use Rattle.rh_shelf.specs.Shelf.{Files, Finds, InDoubt, Lacks, Puts};
 ghost use Rattle.rh_shelf.specs.declared.shelf.ShelfFault.TheVariants.{Memory};
 

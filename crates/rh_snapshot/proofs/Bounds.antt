@@ -4,10 +4,10 @@ use Rattle.std.specs.Prelude.{IsErrOf, slice_index, IfErr}
 use Rattle.std.proofs.Math.Pow.{pow_mono}
 use Rattle.std.proofs.lemmas.Bool.{cases_Bool}
 use Rattle.rh_layout.specs.declared.limits.TheConstants.{MAX_BITS}
-use Rattle.rh_key_files.specs.Taking.{TakesAtMost}
-use Rattle.rh_key_files.specs.Input.{◌>>=◌, bytes_at, number_at, end_at, with_head}
-use Rattle.rh_key_files.proofs.Taking.{takes_of_unknown, takes_fewer, takes_then, takes_both}
-use Rattle.rh_key_files.proofs.Told.{then_told, bytes_told, number_told, end_told}
+use Rattle.rh_bytes.specs.Taking.{TakesAtMost}
+use Rattle.rh_bytes.specs.Input.{◌>>=◌, bytes_at, number_at, end_at, with_head}
+use Rattle.rh_bytes.proofs.Taking.{takes_of_unknown, takes_fewer, takes_then, takes_both}
+use Rattle.rh_bytes.proofs.Told.{then_told, bytes_told, number_told, end_told}
 use Rattle.rh_snapshot.specs.declared.version.Version.{Version}
 use Rattle.rh_snapshot.specs.declared.version.Version.TheVariants.{First, Second}
 use Rattle.rh_snapshot.specs.declared.header.Header.{Header}

@@ -14,9 +14,9 @@ use Rattle.rh_layout.specs.declared.limits.TheConstants.{MIN_BITS, MAX_BITS}
 use Rattle.rh_layout.specs.Layout.{IsLayout, keys_of}
 use Rattle.rh_layout.proofs.CountLemmas.{count_of_layout}
 use Rattle.rh_layout.proofs.TestLemmas.{layout_decided}
-use Rattle.rh_key_files.specs.KeyFile.{eight_bytes}
-use Rattle.rh_key_files.specs.Input.{is_byte, ◌>>=◌, bytes_at, number_at, end_at, with_head}
-use Rattle.rh_key_files.proofs.Parsed.{then_ok, same, same_value, same_rest, ok, bytes_read, number_read, end_read, bytes_given, number_given}
+use Rattle.rh_bytes.specs.Input.{eight_bytes}
+use Rattle.rh_bytes.specs.Input.{is_byte, ◌>>=◌, bytes_at, number_at, end_at, with_head}
+use Rattle.rh_bytes.proofs.Parsed.{then_ok, same, same_value, same_rest, ok, bytes_read, number_read, end_read, bytes_given, number_given}
 use Rattle.rh_snapshot.specs.declared.version.Version.{Version}
 use Rattle.rh_snapshot.specs.declared.version.Version.TheVariants.{First, Second}
 use Rattle.rh_snapshot.specs.declared.header.Header.{Header}

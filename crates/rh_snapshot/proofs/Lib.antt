@@ -1,4 +1,4 @@
--- A snapshot is read by steps, as a key file is, and what is so of the steps of both is shown in rh_key_files. Its numbers are
+-- A snapshot is read by steps, as a key file is, and what is so of the steps of both is shown in rh_bytes. Its numbers are
 -- hashed as they come, and then the seal is tested.
 -- Steps: the steps of the header.
 -- Numbers: numbers one after the other, and their hash.

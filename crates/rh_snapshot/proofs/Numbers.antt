@@ -1,8 +1,8 @@
 -- Numbers one after the other, and their hash.
 use Rattle.std.proofs.Common.{◌≡◌, ℕ, suc, ◌+◌, ◌-◌, ◌<◌, List, [], ◌∷◌, ◌++◌, Option, Some, None, Result, Ok, Err, refl, sym, ap, ◌∙◌, subst, arith, append_assoc, append-nil}
-use Rattle.rh_key_files.specs.KeyFile.{eight_bytes}
-use Rattle.rh_key_files.specs.Input.{◌>>=◌, always, number_at, with_head}
-use Rattle.rh_key_files.proofs.Reading.{Fails-then, with_front, nothing_before}
+use Rattle.rh_bytes.specs.Input.{eight_bytes}
+use Rattle.rh_bytes.specs.Input.{◌>>=◌, always, number_at, with_head}
+use Rattle.rh_bytes.proofs.Reading.{Fails-then, with_front, nothing_before}
 use Rattle.rh_snapshot.specs.declared.header.Header.{Header}
 use Rattle.rh_snapshot.specs.declared.fault.SnapFault.{SnapFault}
 use Rattle.rh_snapshot.specs.declared.fault.SnapFault.TheVariants.{Short}

@@ -7,7 +7,7 @@ use Rattle.std.proofs.lemmas.Bool.{and_from, lt-ltb}
 use Rattle.std.proofs.lemmas.List.Folds.{list_all-append}
 use Rattle.std.proofs.Math.Nat.{mod-lt}
 use Rattle.sha2.specs.Sha256.{digest_bytes, final_hash, initial_hash_256, sha256}
-use Rattle.rh_key_files.specs.Input.{is_byte}
+use Rattle.rh_bytes.specs.Input.{is_byte}
 
 byte : (n : ℕ) → is_byte (n % 256) ≡ true
 byte n = lt-ltb (n % 256) 256 (mod-lt n (omega arith))

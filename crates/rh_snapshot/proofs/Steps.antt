@@ -1,8 +1,8 @@
 -- The steps of the header.
 use Rattle.std.proofs.Common.{◌≡◌, ℕ, true, false, List, length, get_or, Option, Ok, Err, refl}
 use Rattle.std.specs.Str.{bytes_eq}
-use Rattle.rh_key_files.specs.Input.{always, bytes_at, number_at}
-use Rattle.rh_key_files.proofs.Reading.{Reads-fails, Reads-then, Reads-ok, Reads-err, Buffer, so_many}
+use Rattle.rh_bytes.specs.Input.{always, bytes_at, number_at}
+use Rattle.rh_bytes.proofs.Reading.{Reads-fails, Reads-then, Reads-ok, Reads-err, Buffer, so_many}
 use Rattle.rh_snapshot.specs.declared.version.Version.{Version}
 use Rattle.rh_snapshot.specs.declared.version.Version.TheVariants.{First, Second}
 use Rattle.rh_snapshot.specs.declared.header.Header.{Header}

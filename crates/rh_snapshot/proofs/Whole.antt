@@ -1,7 +1,7 @@
 -- A whole snapshot, read by its header, its numbers, its seal and its end.
 use Rattle.std.proofs.Common.{◌≡◌, ℕ, ◌^◌, true, false, List, Option, Some, None, Result, Ok, Err, refl}
-use Rattle.rh_key_files.specs.Input.{◌>>=◌, bytes_at, end_at}
-use Rattle.rh_key_files.proofs.Reading.{Fails-then}
+use Rattle.rh_bytes.specs.Input.{◌>>=◌, bytes_at, end_at}
+use Rattle.rh_bytes.proofs.Reading.{Fails-then}
 use Rattle.rh_snapshot.specs.declared.header.Header.{Header}
 use Rattle.rh_snapshot.specs.declared.fault.SnapFault.{SnapFault}
 use Rattle.rh_snapshot.specs.declared.fault.SnapFault.TheVariants.{Damaged, NotALayout, Long, Short}

@@ -1,7 +1,7 @@
 -- How many bytes of a snapshot the reading calls take, by what they answer.
 use Rattle.std.specs.Prelude.{ℕ, ◌+◌, ◌*◌, ◌^◌, List, Option, Some, None, Result, Ok, Err}
 use Rattle.rh_layout.specs.declared.limits.TheConstants.{MAX_BITS}
-use Rattle.rh_key_files.specs.Taking.{TakesAtMost}
+use Rattle.rh_bytes.specs.Taking.{TakesAtMost}
 use Rattle.rh_snapshot.specs.declared.header.Header.{Header}
 use Rattle.rh_snapshot.specs.declared.fault.SnapFault.{SnapFault}
 use Rattle.rh_snapshot.specs.declared.fault.SnapFault.TheVariants.{NotSnapshot, BadBits, Damaged, NotALayout, Memory}

@@ -6,7 +6,7 @@ use Rattle.sha2.specs.Sha256.{sha256}
 use Rattle.rh_layout.specs.declared.limits.TheConstants.{MIN_BITS, MAX_BITS}
 use Rattle.rh_layout.specs.Key.{cell_of, is_full}
 use Rattle.rh_layout.specs.Layout.{Keys, IsLayout, keys_of}
-use Rattle.rh_key_files.specs.KeyFile.{eight_bytes}
+use Rattle.rh_bytes.specs.Input.{eight_bytes}
 use Rattle.rh_snapshot.specs.declared.version.Version.{Version}
 use Rattle.rh_snapshot.specs.declared.version.Version.TheVariants.{First, Second}
 use Rattle.rh_snapshot.specs.declared.version.TheConstants.{FIRST_MAX_BITS}

@@ -4,7 +4,7 @@ ghost use Rattle.std.proofs.Common.{rules};
 ghost use Rattle.rh_snapshot.specs.Reading.{is_snap_silent};
 ghost use Rattle.rh_snapshot.specs.declared.fault.SnapFault.TheVariants.{Long, Memory, Read, Short};
 
-use rh_key_files::InputFault;
+use rh_bytes::InputFault;
 use thiserror::Error;
 
 /// Why a snapshot could not be read.

@@ -3,9 +3,9 @@
 ghost use Rattle.std.specs.Prelude.{◌≡◌, ◌≢◌, ◌*◌, ◌^◌, length, Err, IfOk, IsErrOf};
 ghost use Rattle.sha2.specs.Sha256.{sha256};
 ghost use Rattle.rh_layout.specs.Key.{IsBits};
-ghost use Rattle.rh_key_files.specs.Counting.{Rose, failures_of, inner_of};
-ghost use Rattle.rh_key_files.specs.Taking.{TakesAtMost};
-ghost use Rattle.rh_key_files.specs.Input.{always, bytes_at, fault_of};
+ghost use Rattle.rh_bytes.specs.Counting.{Rose, failures_of, inner_of};
+ghost use Rattle.rh_bytes.specs.Taking.{TakesAtMost};
+ghost use Rattle.rh_bytes.specs.Input.{always, bytes_at, fault_of};
 ghost use Rattle.rh_snapshot.specs.Limits.{snap_header_taken, snap_magic_bytes, numbers_taken, seal_bytes};
 ghost use Rattle.rh_snapshot.specs.Snapshot.{text_of};
 ghost use Rattle.rh_snapshot.specs.Reading.{ReadsSnap, snap_version_at, bits_at, snap_header_at, numbers_at};
@@ -13,7 +13,7 @@ ghost use Rattle.rh_snapshot.specs.Reading.{ReadsSnap, snap_version_at, bits_at,
 use crate::fault::SnapFault;
 use crate::header::Header;
 use crate::version::Version;
-use rh_key_files::{Counted, read_bytes, read_number};
+use rh_bytes::{Counted, read_bytes, read_number};
 use sha2::{Digest, Sha256};
 use std::alloc::Global;
 use std::io::Read;

@@ -3,9 +3,9 @@
 ghost use Rattle.std.specs.Prelude.{◌≡◌, ◌≢◌, ◌<◌, ◌^◌, Err, IfOk, IsErrOf};
 ghost use Rattle.std.specs.FinSet as set;
 ghost use Rattle.rh_layout.specs.Layout.{IsLayout, keys_of};
-ghost use Rattle.rh_key_files.specs.Counting.{Rose, failures_of, inner_of};
-ghost use Rattle.rh_key_files.specs.Taking.{TakesAtMost};
-ghost use Rattle.rh_key_files.specs.Input.{fault_of};
+ghost use Rattle.rh_bytes.specs.Counting.{Rose, failures_of, inner_of};
+ghost use Rattle.rh_bytes.specs.Taking.{TakesAtMost};
+ghost use Rattle.rh_bytes.specs.Input.{fault_of};
 ghost use Rattle.rh_snapshot.specs.Limits.{TakesOfSnap, most_snap_bytes};
 ghost use Rattle.rh_snapshot.specs.Reading.{BeginsWithSnapHeader, IsSnapReadFrom, ReadsSnap, file_table};
 ghost use Rattle.rh_snapshot.specs.Reading.{table_as};
@@ -14,7 +14,7 @@ use crate::cells::table_in;
 use crate::fault::SnapFault;
 use crate::parts::{read_header, read_numbers, read_seal};
 use crate::snapshot::Snapshot;
-use rh_key_files::{Counted, read_end};
+use rh_bytes::{Counted, read_end};
 use std::alloc::Global;
 use std::io::Read;
 

@@ -8,11 +8,12 @@ use Rattle.std.proofs.lemmas.Grind.{flat_map-append}
 use Rattle.std.proofs.lemmas.List.Elements.{All-cons, All-head, All-nil, All-tail, filter-append}
 use Rattle.std.proofs.lemmas.List.{set-get_or}
 use Rattle.std.proofs.lemmas.Option.{get_or_from_slice_get, slice_get_within, slice_get-get_or}
-use Rattle.rh_key_files.specs.Counting.{Rose, failures_of, inner_of}
+use Rattle.rh_bytes.specs.Counting.{Rose, failures_of, inner_of}
 use Rattle.rh_layout.specs.Key.{IsKey}
-use Rattle.rh_key_files.specs.KeyFile.{IsKeyIn, eight_bytes, spelled_keys}
+use Rattle.rh_bytes.specs.Input.{eight_bytes}
+use Rattle.rh_key_files.specs.KeyFile.{IsKeyIn, spelled_keys}
 use Rattle.rh_key_files.specs.declared.version.Version.TheVariants.{Second}
-use Rattle.rh_key_files.specs.declared.parts.TheConstants.{MAX_KEYS}
+use Rattle.rh_layout.specs.declared.limits.TheConstants.{MAX_KEYS}
 use Rattle.rh_ranges.specs.Ranges.{in_part, part_of, stands_in}
 use Rattle.rh_splitting.specs.declared.part.Part.{Part}
 use Rattle.rh_splitting.specs.Parts.{EachGot, Got, IsFull, part_count, writer_of}

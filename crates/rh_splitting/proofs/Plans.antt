@@ -3,8 +3,8 @@ use Rattle.std.proofs.Common.{◌≡◌, ℕ, zero, suc, ◌+◌, List, [], ◌�
 use Rattle.std.specs.Prelude.{slice_get}
 use Rattle.std.specs.Io.KnownBytes.{Appends}
 use Rattle.std.proofs.KnownBytes.{Appends-trans}
-use Rattle.rh_key_files.specs.Counting.{AppendsFront}
-use Rattle.rh_key_files.proofs.Writing.{front_stops}
+use Rattle.rh_bytes.specs.Counting.{AppendsFront}
+use Rattle.rh_bytes.proofs.Writing.{front_stops}
 use Rattle.rh_splitting.specs.declared.part.Part.{Part}
 use Rattle.rh_splitting.specs.Parts.{part_count}
 use Rattle.rh_splitting.specs.Plan.{part_line, part_lines, plan_text}

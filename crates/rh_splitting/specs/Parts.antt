@@ -1,10 +1,10 @@
 -- A part of a list that is split, and what it was given.
 use Rattle.std.specs.Prelude.{◌≡◌, ℕ, ◌+◌, List, length, Option, Some, slice_get}
 use Rattle.std.specs.Io.KnownBytes.{Appends}
-use Rattle.rh_key_files.specs.Counting.{failures_of, inner_of}
+use Rattle.rh_bytes.specs.Counting.{failures_of, inner_of}
 use Rattle.rh_key_files.specs.KeyFile.{spelled_keys}
-use Rattle.rh_key_files.specs.declared.counted.Counted.{Counted}
-use Rattle.rh_key_files.specs.declared.parts.TheConstants.{MAX_KEYS}
+use Rattle.rh_bytes.specs.declared.counted.Counted.{Counted}
+use Rattle.rh_layout.specs.declared.limits.TheConstants.{MAX_KEYS}
 use Rattle.rh_ranges.specs.Ranges.{in_part}
 use Rattle.rh_splitting.specs.declared.part.Part.{Part}
 

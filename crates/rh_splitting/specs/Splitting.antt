@@ -1,7 +1,7 @@
 -- What becomes of a list that is split.
 use Rattle.std.specs.Prelude.{◌≡◌, ℕ, ◌≤◌, List, [], ◌∷◌, ◌++◌, length, Option, Some, None, Result, Ok, Err, slice_get}
 use Rattle.std.specs.Io.KnownBytes.{Consumes}
-use Rattle.rh_key_files.specs.Counting.{Rose, failures_of}
+use Rattle.rh_bytes.specs.Counting.{Rose, failures_of}
 use Rattle.rh_key_files.specs.Reading as files
 use Rattle.rh_key_files.specs.declared.fault.KeyFault.{KeyFault}
 use Rattle.rh_numbers.specs.Grammar.{IsText}

@@ -4,9 +4,9 @@ ghost use Rattle.std.specs.Prelude.{◌≡◌};
 ghost use Rattle.rh_splitting.specs.declared.fault.SplitFault.TheVariants.{Keys, Text};
 ghost use Rattle.rh_splitting.specs.declared.fault.FilesFault.TheVariants as files;
 
-use rh_key_files::{KeyFault, MAX_KEYS};
+use rh_key_files::KeyFault;
+use rh_layout::MAX_KEYS;
 use rh_numbers::TextFault;
-use std::alloc::{AllocError, AllocFailed};
 use thiserror::Error;
 
 /// Why a list was not split, or not all of it. Parts are numbered from 0.
@@ -58,21 +58,5 @@ impl From<SplitFault> for FilesFault {
 
     fn from(fault: SplitFault) -> FilesFault {
         FilesFault::Split(fault)
-    }
-}
-
-impl From<AllocError> for FilesFault {
-    ghost from_gives = { λ _ fault. fault ≡ files.Memory };
-
-    fn from(_error: AllocError) -> FilesFault {
-        FilesFault::Memory
-    }
-}
-
-impl<T: Drop> From<AllocFailed<T>> for FilesFault {
-    ghost from_gives = { λ _ fault. fault ≡ files.Memory };
-
-    fn from(_error: AllocFailed<T>) -> FilesFault {
-        FilesFault::Memory
     }
 }

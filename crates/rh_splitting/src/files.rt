@@ -5,7 +5,8 @@ ghost use Rattle.std.specs.Prelude.{◌≤◌, length};
 use crate::fault::FilesFault;
 use crate::part::Part;
 use crate::source::{Source, split_source};
-use rh_key_files::{Counted, write_header};
+use rh_bytes::Counted;
+use rh_key_files::write_header;
 use std::alloc::Global;
 use std::fs::{self, Files, OpenFile};
 use std::io::{self, BufWriter, ErrorKind, Read, Seek, SeekFrom, Write};
@@ -135,16 +136,33 @@ impl<F: Files> PartFiles<'_, F> {
     {
         let mut parts = Vec::new(alloc);
         for number in 0..count {
-            let file = self.create(alloc, number, name)?;
-            let Ok(writer) = BufWriter::new(alloc, file) else {
+            let part = self.begin(alloc, number, name)?;
+            let Ok(()) = parts.push(part) else {
                 return Err(FilesFault::Memory);
             };
-            let Ok(part) = Part::begin(writer) else {
-                return Err(FilesFault::Write { part: number });
-            };
-            parts.push(part)?;
         }
         Ok(parts)
+    }
+
+    /// Makes the file of a part, and the part that is written to it.
+    fn begin(
+        &mut self,
+        alloc: Global,
+        number: u64,
+        name: &str,
+    ) -> Result<Part<BufWriter<F::File>>, FilesFault>
+        ensures made { OnOk result (made_of self.new ≡ made_of self.old + 1) }
+        ensures whole { whole_of self.new ≡ whole_of self.old }
+        ensures placed { placed_of self.new ≡ placed_of self.old }
+    {
+        let file = self.create(alloc, number, name)?;
+        let Ok(writer) = BufWriter::new(alloc, file) else {
+            return Err(FilesFault::Memory);
+        };
+        match Part::begin(writer) {
+            Ok(part) => Ok(part),
+            Err(_) => Err(FilesFault::Write { part: number }),
+        }
     }
 
     /// Writes out what the parts still hold, and the header of each, from the last one on.
@@ -170,26 +188,32 @@ impl<F: Files> PartFiles<'_, F> {
         ensures whole { whole_of self.new ≡ whole_of self.old }
         ensures placed { placed_of self.new ≡ placed_of self.old }
     {
-        let Ok(folder) = format!(in alloc; "{part:03}") else {
+        make_folder(alloc, self.files, part)?;
+        // What was made is always noted: there is room for it before.
+        let Ok(()) = self.made.reserve(1) else {
             return Err(FilesFault::Memory);
         };
-        if fs::create_dir_all(self.files, &folder).is_err() {
-            return Err(FilesFault::Create { part });
-        }
         for number in 0..NAMES {
             let named = PartFile::new(alloc, part, name, number)?;
-            // What was made is always noted: there is room for it before.
-            self.made.reserve(1)?;
             match fs::File::create_new(self.files, &named.beside) {
-                Ok(file) => {
-                    self.made.push(named)?;
-                    return Ok(file);
-                }
+                Ok(file) => return self.note(named, file),
                 Err(error) if error.kind() == ErrorKind::AlreadyExists => {}
                 Err(_) => return Err(FilesFault::Create { part }),
             }
         }
         Err(FilesFault::Create { part })
+    }
+
+    /// Notes that the file was made, and gives it back.
+    fn note(&mut self, named: PartFile, file: F::File) -> Result<F::File, FilesFault>
+        ensures made { OnOk result (made_of self.new ≡ made_of self.old + 1) }
+        ensures whole { whole_of self.new ≡ whole_of self.old }
+        ensures placed { placed_of self.new ≡ placed_of self.old }
+    {
+        match self.made.push(named) {
+            Ok(()) => Ok(file),
+            Err(_) => Err(FilesFault::Memory),
+        }
     }
 
     /// Puts each file at its place, once all are whole.
@@ -234,6 +258,17 @@ impl<F: Files> PartFiles<'_, F> {
 
 /// The parts, each with its file behind a buffer.
 type Parts<F> = Vec<Part<BufWriter<<F as Files>::File>>>;
+
+/// Makes the folder of a part, where that is not there.
+fn make_folder<F: Files>(alloc: Global, files: &F, part: u64) -> Result<(), FilesFault> {
+    let Ok(folder) = format!(in alloc; "{part:03}") else {
+        return Err(FilesFault::Memory);
+    };
+    match fs::create_dir_all(files, &folder) {
+        Ok(()) => Ok(()),
+        Err(_) => Err(FilesFault::Create { part }),
+    }
+}
 
 /// Writes the header where there is room for it. The file is on the disk once this is done.
 fn end<T: Write + Seek + OpenFile + Drop>(part: Part<BufWriter<T>>) -> io::Result<()> {

@@ -3,7 +3,7 @@
 ghost use Rattle.std.specs.Prelude.{◌≤◌, ◌++◌, ℕ, List, All, length};
 ghost use Rattle.rh_layout.specs.Key.{IsKey};
 ghost use Rattle.rh_key_files.specs.KeyFile.{KeyFile, header, spelled_keys};
-ghost use Rattle.rh_key_files.specs.declared.parts.TheConstants.{MAX_KEYS};
+ghost use Rattle.rh_layout.specs.declared.limits.TheConstants.{MAX_KEYS};
 ghost use Rattle.rh_key_files.specs.declared.version.Version.TheVariants.{Second};
 ghost use Rattle.rh_ranges.specs.Ranges.{in_part};
 

@@ -1,14 +1,16 @@
 //! One part of a list that is split.
 
 ghost use Rattle.std.specs.Prelude.{◌≤◌};
-ghost use Rattle.rh_key_files.specs.declared.parts.TheConstants.{MAX_KEYS};
+ghost use Rattle.rh_layout.specs.declared.limits.TheConstants.{MAX_KEYS};
 
 use byteorder::{BigEndian, ByteOrder};
-use rh_key_files::{Counted, MAX_KEYS, WriteFault, write_header, write_texts};
+use rh_bytes::{Counted, WriteFault, write_texts};
+use rh_key_files::write_header;
+use rh_layout::MAX_KEYS;
 use std::io::Write;
 
 /// Why a part did not take a key.
-#[derive(Clone, Copy, Debug, PartialEq, Eq)]
+#[derive(Clone, Copy)]
 pub(crate) enum PartFault {
     /// It has `MAX_KEYS` keys.
     Full,
@@ -25,7 +27,7 @@ pub struct Part<W> {
 
 impl<W> Part<W> {
     ghost use Rattle.std.specs.Prelude.{◌≡◌, ◌≤◌};
-    ghost use Rattle.rh_key_files.specs.Counting.{failures_of, inner_of};
+    ghost use Rattle.rh_bytes.specs.Counting.{failures_of, inner_of};
     ghost use Rattle.rh_splitting.specs.Parts.{part_count, writer_of};
 
     /// A part that was given no key.
@@ -59,7 +61,7 @@ impl<W> Part<W> {
 impl<W: Write> Part<W> {
     ghost use Rattle.std.specs.Prelude.{◌≡◌, [], ◌∷◌, IfOk, IsErrOf, OnOk};
     ghost use Rattle.std.specs.Io.KnownBytes.{Appends};
-    ghost use Rattle.rh_key_files.specs.Counting.{Rose, failures_of, inner_of};
+    ghost use Rattle.rh_bytes.specs.Counting.{Rose, failures_of, inner_of};
     ghost use Rattle.rh_key_files.specs.KeyFile.{header};
     ghost use Rattle.rh_key_files.specs.declared.version.Version.TheVariants.{Second};
     ghost use Rattle.rh_splitting.specs.Parts.{Got, part_count, writer_of};

@@ -1,13 +1,13 @@
 //! How many keys each part was given, as a text.
 
 ghost use Rattle.std.specs.Prelude.{◌≡◌, ◌≤◌, ◌+◌, ◌%◌, OnErr, OnOk, length};
-ghost use Rattle.rh_key_files.specs.Counting.{Rose, Writes, failures_of, inner_of};
+ghost use Rattle.rh_bytes.specs.Counting.{Rose, Writes, failures_of, inner_of};
 ghost use Rattle.rh_ranges.specs.declared.part.TheConstants.{MAX_PARTS};
 ghost use Rattle.rh_splitting.specs.Plan.{part_line, plan_text, three_digits};
 
 use crate::part::Part;
 use itoa::Buffer;
-use rh_key_files::{Counted, WriteFault, write_texts};
+use rh_bytes::{Counted, WriteFault, write_texts};
 use std::io::Write;
 
 /// Writes a line for each part: its number, in three digits, and how many keys it was given.

@@ -1,20 +1,21 @@
 //! Where the keys that are split come from.
 
 ghost use Rattle.std.specs.Prelude.{◌≡◌, ◌<◌, ◌≤◌, IsErrOf, OnOk, length};
-ghost use Rattle.rh_key_files.specs.Counting.{Rose, failures_of, inner_of};
+ghost use Rattle.rh_bytes.specs.Counting.{Rose, failures_of, inner_of};
 ghost use Rattle.rh_ranges.specs.declared.part.TheConstants.{MAX_PARTS};
 ghost use Rattle.rh_splitting.specs.Splitting.{SplitsSource};
 
 use crate::fault::SplitFault;
 use crate::part::Part;
 use crate::splitting::{split_file, split_text};
-use rh_key_files::{Counted, KeyFault};
+use rh_bytes::Counted;
+use rh_key_files::KeyFault;
 use rh_numbers::TextFault;
 use std::alloc::Global;
 use std::io::{Read, Write};
 
 /// What is split.
-#[derive(Clone, Copy, Debug, PartialEq, Eq)]
+#[derive(Clone, Copy)]
 pub enum Source {
     /// A text of numbers.
     Text,

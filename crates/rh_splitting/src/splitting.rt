@@ -2,7 +2,7 @@
 
 ghost use Rattle.std.specs.Prelude.{◌≡◌, ◌≢◌, ◌<◌, ◌≤◌, All, Err, IfErr, IsErrOf, length};
 ghost use Rattle.rh_layout.specs.Key.{IsKey};
-ghost use Rattle.rh_key_files.specs.Counting.{Rose, failures_of, inner_of};
+ghost use Rattle.rh_bytes.specs.Counting.{Rose, failures_of, inner_of};
 ghost use Rattle.rh_ranges.specs.declared.part.TheConstants.{MAX_PARTS};
 ghost use Rattle.rh_key_files.specs.Limits.{NoReadFailed, TakesOfFile};
 ghost use Rattle.rh_key_files.specs.Reading.{BeginsWithHeader};
@@ -10,7 +10,8 @@ ghost use Rattle.rh_splitting.specs.Splitting.{Puts, Splits, SplitsFile, TakesTe
 
 use crate::fault::SplitFault;
 use crate::part::{Part, PartFault};
-use rh_key_files::{Counted, KeyFault, read_keys};
+use rh_bytes::Counted;
+use rh_key_files::{KeyFault, read_keys};
 use rh_numbers::{MAX_READS, Reading, TextFault};
 use rh_ranges::part_of;
 use std::alloc::Global;

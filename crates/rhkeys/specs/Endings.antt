@@ -1,15 +1,16 @@
 -- How the program ends.
-use Rattle.rh_cli.specs.Endings.{ending_by_program as ending_by_program, ending_by_keys, ending_by_snapshot}
+use Rattle.rh_cli.specs.Endings.{ending_by_program as ending_by_program}
+use Rattle.rh_endings.specs.Endings.{ending_by_keys, ending_by_snapshot}
 use Rattle.rh_cli.specs.declared.status.Status.{Status}
 use Rattle.rh_cli.specs.declared.status.Status.TheVariants.{Refused, CommandLine, Memory, Write}
 use Rattle.rh_numbers.specs.declared.fault.TextFault.{TextFault}
 use Rattle.rh_numbers.specs.declared.fault.TextFault.TheVariants as text
 use Rattle.rh_shelf.specs.declared.shelf.ShelfFault.TheVariants as shelf
-use Rattle.rh_key_commands.specs.declared.files.FileFault.{FileFault}
-use Rattle.rh_key_commands.specs.declared.files.FileFault.TheVariants as file
-use Rattle.rh_key_commands.specs.declared.packing.PackFault.TheVariants as pack
-use Rattle.rh_key_commands.specs.declared.listing.ListFault.TheVariants as list
-use Rattle.rh_key_commands.specs.declared.snapshot.HeldFault.TheVariants as held
+use Rattle.rh_key_texts.specs.declared.files.FileFault.{FileFault}
+use Rattle.rh_key_texts.specs.declared.files.FileFault.TheVariants as file
+use Rattle.rh_key_texts.specs.declared.packing.PackFault.TheVariants as pack
+use Rattle.rh_key_texts.specs.declared.listing.ListFault.TheVariants as list
+use Rattle.rh_key_texts.specs.declared.snapshot.HeldFault.TheVariants as held
 use Rattle.rh_splitting.specs.declared.fault.FilesFault.{FilesFault}
 use Rattle.rh_splitting.specs.declared.fault.FilesFault.TheVariants as files
 use Rattle.rh_splitting.specs.declared.fault.SplitFault.TheVariants as split

@@ -8,10 +8,11 @@ ghost use Rattle.rhkeys.specs.Endings.{ending_by};
 
 mod status;
 
+use rh_bytes::Counted;
 use rh_cli::{LineFault, ProgramFault, Status, answer, between, buffered_writer, words, write_out};
 use rh_key_commands::line::{Line, line};
-use rh_key_commands::{FaultAt, FileFault, Form, list_files, list_keys, list_snapshot, pack};
-use rh_key_files::{Counted, KeyFault};
+use rh_key_files::KeyFault;
+use rh_key_texts::{FaultAt, FileFault, Form, list_files, list_keys, list_snapshot, pack};
 use rh_shelf::{FileShelf, ShelfFault};
 use rh_snapshot::SnapFault;
 use rh_splitting::{FilesFault, Part, PartFiles, Source, is_name, split_source, write_plan};

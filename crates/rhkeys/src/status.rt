@@ -3,9 +3,10 @@
 ghost use Rattle.std.specs.Prelude.{◌≡◌};
 ghost use Rattle.rhkeys.specs.Endings.{ending_by_file, ending_by_split};
 
-use rh_cli::{ProgramFault, Status, status_of_keys, status_of_snapshot};
-use rh_key_commands::{FileFault, HeldFault, ListFault, PackFault};
+use rh_cli::{ProgramFault, Status};
+use rh_endings::{status_of_keys, status_of_snapshot};
 use rh_key_files::KeyFault;
+use rh_key_texts::{FileFault, HeldFault, ListFault, PackFault};
 use rh_numbers::TextFault;
 use rh_shelf::ShelfFault;
 use rh_splitting::{FilesFault, SplitFault};

@@ -3,17 +3,17 @@
 ghost use Rattle.std.specs.Prelude.{◌≡◌, ◌↔◌, [], IfOk, IfErr, IsTrue, codes, false};
 ghost use Rattle.clap.specs.Words.{app_of, fault_of, found_of, rows_of, rule_of};
 ghost use Rattle.clap.specs.Words.{subcommand_of, subcommand_rows_of};
-ghost use Rattle.rh_cli.specs.Faults.{IsOneOf};
+ghost use Rattle.rh_arguments.specs.Faults.{IsOneOf};
 ghost use Rattle.rh_key_commands.specs.Line.{AsksKeys, HasSplitArguments, IsKeysCommand, IsGiven, SaysKeys, flag_rule};
 ghost use Rattle.rh_key_commands.specs.Line.{files_rule, list_app, pack_app, parts_rule, rhkeys_app, split_app};
-ghost use Rattle.rh_cli.specs.Words.{Finds, texts_of};
+ghost use Rattle.rh_arguments.specs.Words.{Finds, texts_of};
 
 use super::asked::Line;
 use super::help;
 use crate::limits::MAX_PARTS;
 use clap::{Arg, ArgAction, ArgMatches, Command, value_parser};
-use rh_cli::LineFault;
-use rh_cli::parsing::{
+use rh_arguments::LineFault;
+use rh_arguments::parsing::{
     described, number, parsed, program_command, text, text_arg, texts, with_subcommand,
 };
 use std::alloc::{AllocError, Global};

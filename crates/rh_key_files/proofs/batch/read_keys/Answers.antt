@@ -4,7 +4,7 @@ use Rattle.std.proofs.lemmas.Slice.{take-put_mid}
 use Rattle.std.proofs.lemmas.List.Elements.{All-append}
 use borrow.Rule.Slice.PartMut.{put_mid}
 use Rattle.rh_layout.specs.Key.{IsKey}
-use Rattle.rh_key_files.proofs.Taking.{takes_nothing, takes_both}
+use Rattle.rh_bytes.proofs.Taking.{takes_nothing, takes_both}
 use Rattle.rh_key_files.proofs.Batches.{no_keys, part_goes_on, part_stops, part_inside}
 use Rattle.rh_key_files.proofs.Bounds.{keys_stop}
 use Rattle.rh_key_files.proofs.Interrupted.{cut_later}

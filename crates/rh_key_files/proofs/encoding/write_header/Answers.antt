@@ -1,6 +1,6 @@
 use Rattle.std.proofs.Common.{◌≡◌, refl, replicate}
-use Rattle.rh_key_files.specs.KeyFile.{eight_bytes}
-use Rattle.rh_key_files.proofs.Writing.{eight_written, header_written}
+use Rattle.rh_bytes.specs.Input.{eight_bytes}
+use Rattle.rh_key_files.proofs.Written.{eight_written, header_written}
 use Rattle.rh_key_files.proofs.encoding.write_header.Goals as goal
 
 pub returns-clause-text : goal.returns-clause-text

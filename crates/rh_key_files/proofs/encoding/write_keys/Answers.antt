@@ -1,5 +1,5 @@
 use Rattle.std.proofs.lemmas.Result.{err_from_is_err_and}
-use Rattle.rh_key_files.proofs.Writing.{file_stops, file_written}
+use Rattle.rh_key_files.proofs.Written.{file_stops, file_written}
 use Rattle.rh_key_files.proofs.encoding.write_keys.Goals as goal
 
 pub returns-in_err-write_header-clause-text : goal.returns-in_err-write_header-clause-text

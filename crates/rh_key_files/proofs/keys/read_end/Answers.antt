@@ -1,6 +1,6 @@
 use Rattle.std.proofs.Common.{[]}
 use Rattle.std.proofs.lemmas.Result.{err_from_is_err_and}
-use Rattle.rh_key_files.specs.Input.{always}
+use Rattle.rh_bytes.specs.Input.{always}
 use Rattle.rh_key_files.proofs.Whole.{the_end, the_end_fails}
 use Rattle.rh_key_files.proofs.keys.read_end.Goals as goal
 

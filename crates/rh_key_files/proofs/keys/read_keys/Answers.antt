@@ -2,12 +2,12 @@ use Rattle.std.specs.Vec.{with_items}
 use Rattle.std.proofs.lemmas.List.{with_items_is}
 use Rattle.std.proofs.lemmas.Result.{err_from_is_err_and}
 use Rattle.std.proofs.Common.{◌≡◌, length, Some, None, rules}
-use Rattle.rh_key_files.specs.Input.{fault_of}
+use Rattle.rh_bytes.specs.Input.{fault_of}
 use Rattle.rh_key_files.specs.KeyFile.{IsKeyFile}
 use Rattle.rh_key_files.specs.Reading.{file_keys, is_silent}
 use Rattle.rh_key_files.proofs.Whole.{as_many, whole_ok, header_faults, keys_fault, end_faults, Reads-moved}
 use Rattle.rh_key_files.proofs.Grammar.{file_read}
-use Rattle.rh_key_files.proofs.Reading.{read_from}
+use Rattle.rh_bytes.proofs.Reading.{read_from}
 use Rattle.rh_key_files.proofs.Bounds.{HeaderRead, file_stops_in_keys, file_stops_at_end, file_taken, of_file_moved, takes_of_any_file}
 use Rattle.rh_key_files.proofs.keys.read_keys.Goals as goal
 

@@ -1,6 +1,6 @@
 use Rattle.std.proofs.lemmas.Result.{err_from_is_err_and}
 use Rattle.rh_key_files.proofs.Steps.{header_fails, header_fails_later, header_ok}
-use Rattle.rh_key_files.proofs.Taking.{takes_then}
+use Rattle.rh_bytes.proofs.Taking.{takes_then}
 use Rattle.rh_key_files.proofs.Bounds.{header_stops}
 use Rattle.rh_key_files.proofs.parts.read_header.Goals as goal
 

@@ -1,7 +1,7 @@
 use Rattle.std.proofs.Common.{◌≡◌, take}
 use Rattle.std.specs.Io.KnownBytes.{Appends}
 use Rattle.rh_numbers.specs.Writing.{text_of}
-use Rattle.rh_key_files.specs.Counting.{failures_of, inner_of}
+use Rattle.rh_bytes.specs.Counting.{failures_of, inner_of}
 use Rattle.rh_numbers.proofs.writing.write_numbers.Given as goal
 
 abbrev pub invariant-loop-number : goal.invariant-loop-number

@@ -1,6 +1,6 @@
 use Rattle.std.proofs.Common.{refl}
 use Rattle.rh_play_commands.specs.Line.{draw_app, play_app, trace_app}
-use Rattle.rh_cli.proofs.BuilderLemmas.{made_with_subcommand}
+use Rattle.rh_arguments.proofs.BuilderLemmas.{made_with_subcommand}
 use Rattle.rh_play_commands.proofs.parse.command.Goals as goal
 
 pub returns : goal.returns

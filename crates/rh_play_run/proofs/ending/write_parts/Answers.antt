@@ -1,5 +1,5 @@
 use Rattle.std.proofs.lemmas.Result.{err_from_is_err_and}
-use Rattle.rh_key_files.specs.Dump.{dump_text}
+use Rattle.rh_dump.specs.Dump.{dump_text}
 use Rattle.rh_play_run.proofs.Written.{first_stops, second_stops, third_ends}
 use Rattle.rh_play_run.proofs.ending.write_parts.Goals as goal
 

@@ -1,7 +1,7 @@
 use Rattle.std.proofs.Common.{◌≡◌, ◌++◌, ◌<◌, min, codes, length, map, rules}
 use Rattle.std.proofs.lemmas.Result.{err_from_is_err_and}
 use Rattle.std.proofs.KnownBytes.{Appends-trans}
-use Rattle.rh_key_files.proofs.Writing.{front_stops}
+use Rattle.rh_bytes.proofs.Writing.{front_stops}
 use Rattle.rh_report.specs.declared.answers.TheConstants.{ANSWERS_PER_LINE}
 use Rattle.rh_report.specs.Texts.{digit_of, digits_from}
 use Rattle.rh_report.proofs.AnswerLemmas.{line_and_rest, one_line_more}

@@ -1,5 +1,5 @@
 use Rattle.std.proofs.lemmas.Result.{err_from_is_err_and}
-use Rattle.rh_key_files.proofs.Writing.{front_longer, Writes-then}
+use Rattle.rh_bytes.proofs.Writing.{front_longer, Writes-then}
 use Rattle.rh_report.specs.Texts.{asked_head, digits_from}
 use Rattle.rh_report.proofs.answers.write_asked.Goals as goal
 

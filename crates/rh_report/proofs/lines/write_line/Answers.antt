@@ -1,6 +1,6 @@
 use Rattle.std.proofs.Common.{codes}
 use Rattle.std.proofs.lemmas.Result.{err_from_is_err_and}
-use Rattle.rh_key_files.proofs.Writing.{front_longer, Writes-then}
+use Rattle.rh_bytes.proofs.Writing.{front_longer, Writes-then}
 use Rattle.rh_report.specs.Texts.{front_text, numbers_as}
 use Rattle.rh_report.proofs.lines.write_line.Goals as goal
 

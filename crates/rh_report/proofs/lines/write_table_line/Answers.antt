@@ -1,6 +1,6 @@
 use Rattle.std.proofs.Common.{◌≡◌, [], rules}
 use Rattle.std.proofs.lemmas.Result.{err_from_is_err_and}
-use Rattle.rh_key_files.proofs.Writing.{front_longer, Writes-then}
+use Rattle.rh_bytes.proofs.Writing.{front_longer, Writes-then}
 use Rattle.rh_report.specs.Texts.{front_text, line_text, numbers_as, table_numbers}
 use Rattle.rh_report.proofs.LineLemmas.{line_more}
 use Rattle.rh_report.proofs.lines.write_table_line.Goals as goal

@@ -3,8 +3,8 @@ use Rattle.std.proofs.Common.{◌≡◌, ℕ, ◌*◌, ◌++◌, ◌∙◌, sym,
 use Rattle.std.proofs.lemmas.Result.{err_from_is_err_and}
 use Rattle.std.proofs.lemmas.List.{take_more_set, take_all}
 use Rattle.sha2.specs.Hashers.{Holds256}
-use Rattle.rh_key_files.specs.Counting.{inner_of}
-use Rattle.rh_key_files.proofs.Taking.{takes_both}
+use Rattle.rh_bytes.specs.Counting.{inner_of}
+use Rattle.rh_bytes.proofs.Taking.{takes_both}
 use Rattle.rh_snapshot.specs.Snapshot.{text_of}
 use Rattle.rh_snapshot.proofs.Numbers.{ReadsOn, reads_on, stops, all_read, text-more}
 use Rattle.rh_snapshot.proofs.parts.fill_numbers.Goals as goal

@@ -1,7 +1,7 @@
 use Rattle.std.proofs.Common.{◌≡◌, ◌*◌, take}
 use Rattle.sha2.specs.Hashers.{Holds256}
-use Rattle.rh_key_files.specs.Counting.{failures_of, inner_of}
-use Rattle.rh_key_files.specs.Taking.{TakesAtMost}
+use Rattle.rh_bytes.specs.Counting.{failures_of, inner_of}
+use Rattle.rh_bytes.specs.Taking.{TakesAtMost}
 use Rattle.rh_snapshot.specs.Snapshot.{text_of}
 use Rattle.rh_snapshot.proofs.Numbers.{ReadsOn}
 use Rattle.rh_snapshot.proofs.parts.fill_numbers.Given as goal

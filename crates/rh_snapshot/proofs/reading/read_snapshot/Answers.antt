@@ -1,8 +1,8 @@
 use Rattle.std.proofs.Common.{◌≡◌, ◌*◌, ◌^◌, true, false, Some, None, le_refl, rules}
 use Rattle.std.proofs.lemmas.Result.{err_from_is_err_and}
-use Rattle.rh_key_files.specs.Input.{fault_of}
-use Rattle.rh_key_files.proofs.Reading.{read_from}
-use Rattle.rh_key_files.proofs.Taking.{takes_then}
+use Rattle.rh_bytes.specs.Input.{fault_of}
+use Rattle.rh_bytes.proofs.Reading.{read_from}
+use Rattle.rh_bytes.proofs.Taking.{takes_then}
 use Rattle.rh_snapshot.specs.declared.fault.SnapFault.TheVariants.{Damaged, NotALayout}
 use Rattle.rh_snapshot.specs.Reading.{file_table, is_sealed, is_snap_silent, table_as}
 use Rattle.rh_snapshot.specs.Snapshot.{IsSnapshot}

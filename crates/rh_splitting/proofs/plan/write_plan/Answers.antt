@@ -3,7 +3,7 @@ use Rattle.std.specs.Prelude.{slice_get}
 use Rattle.std.specs.Io.KnownBytes.{Appends}
 use Rattle.std.proofs.lemmas.Option.{slice_get_read}
 use Rattle.std.proofs.lemmas.Result.{err_from_is_err_and}
-use Rattle.rh_key_files.specs.Counting.{AppendsFront, inner_of}
+use Rattle.rh_bytes.specs.Counting.{AppendsFront, inner_of}
 use Rattle.rh_splitting.specs.Parts.{part_count}
 use Rattle.rh_splitting.specs.Plan.{part_line}
 use Rattle.rh_splitting.proofs.Plans.{line_goes_on, line_stops}

@@ -1,6 +1,6 @@
 use Rattle.std.proofs.Common.{◌≡◌, take}
 use Rattle.std.specs.Io.KnownBytes.{Appends}
-use Rattle.rh_key_files.specs.Counting.{failures_of, inner_of}
+use Rattle.rh_bytes.specs.Counting.{failures_of, inner_of}
 use Rattle.rh_splitting.specs.Plan.{part_lines}
 use Rattle.rh_splitting.proofs.plan.write_plan.Given as goal
 

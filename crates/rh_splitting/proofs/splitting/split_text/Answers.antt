@@ -1,6 +1,6 @@
 use Rattle.std.proofs.Common.{◌≡◌, ◌≤◌, ◌+◌, ◌*◌, ◌++◌, Err, subst, sym, arith, rules}
 use Rattle.std.proofs.lemmas.Result.{err_from_is_err_and}
-use Rattle.rh_key_files.specs.Counting.{inner_of}
+use Rattle.rh_bytes.specs.Counting.{inner_of}
 use Rattle.rh_numbers.specs.declared.limits.TheConstants.{MAX_BYTES, PART_BYTES}
 use Rattle.rh_numbers.specs.Parts.{keys_read, line_reached, so_far_of}
 use Rattle.rh_numbers.proofs.Parts.{GoesOn}

@@ -1,5 +1,5 @@
 use Rattle.std.proofs.Common.{◌≡◌, ◌≤◌, ◌+◌, ◌*◌, List, [], ℕ}
-use Rattle.rh_key_files.specs.Counting.{failures_of, inner_of}
+use Rattle.rh_bytes.specs.Counting.{failures_of, inner_of}
 use Rattle.rh_numbers.specs.Parts.{keys_read, line_reached, so_far_of}
 use Rattle.rh_numbers.proofs.Parts.{GoesOn}
 use Rattle.rh_numbers.proofs.Taken.{Fresh}

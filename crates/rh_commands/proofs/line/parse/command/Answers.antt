@@ -1,6 +1,6 @@
 use Rattle.std.proofs.Common.{refl, Ok}
 use Rattle.rh_commands.specs.Line.{check_app, dump_app, run_app}
-use Rattle.rh_cli.proofs.BuilderLemmas.{made_with_subcommand}
+use Rattle.rh_arguments.proofs.BuilderLemmas.{made_with_subcommand}
 use Rattle.rh_commands.proofs.line.parse.command.Goals as goal
 
 pub returns : goal.returns

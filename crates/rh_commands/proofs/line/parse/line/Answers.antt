@@ -1,7 +1,7 @@
 use Rattle.std.proofs.Common.{◌≡◌, ◌∙◌, [], ap, subst, sym}
 use Rattle.clap.specs.Words.{fault_of, is_simple_and_free, subcommand_of}
 use Rattle.rh_commands.specs.Line.{IsCommand}
-use Rattle.rh_cli.specs.Words.{Finds, texts_of}
+use Rattle.rh_arguments.specs.Words.{Finds, texts_of}
 use Rattle.rh_commands.proofs.SetLemmas.{words_name_a_command}
 use Rattle.rh_commands.proofs.line.parse.line.Goals as goal
 

@@ -1,7 +1,7 @@
 use Rattle.std.proofs.Common.{◌≡◌, inl, inr, List, Some, option_map, arith}
 use Rattle.clap.specs.Words.{Row, Text}
 use Rattle.rh_key_commands.specs.Line.{IsKeysCommand}
-use Rattle.rh_cli.proofs.CommandLemmas.{name_told}
+use Rattle.rh_arguments.proofs.CommandLemmas.{name_told}
 use Rattle.rh_key_commands.proofs.line.parse.asked.Goals as goal
 use Rattle.rh_key_commands.proofs.line.parse.asked.Goals.{in_default-via-in-Some+in_default, in_default-via-in_default}
 

@@ -1,6 +1,6 @@
 use Rattle.std.proofs.Common.{refl, Ok}
 use Rattle.rh_key_commands.specs.Line.{list_app, pack_app, split_app}
-use Rattle.rh_cli.proofs.BuilderLemmas.{made_with_subcommand}
+use Rattle.rh_arguments.proofs.BuilderLemmas.{made_with_subcommand}
 use Rattle.rh_key_commands.proofs.line.parse.command.Goals as goal
 
 pub returns : goal.returns

@@ -1,7 +1,7 @@
 use Rattle.std.proofs.Common.{◌≡◌, [], ap, subst, sym}
 use Rattle.clap.specs.Words.{fault_of, is_simple_and_free, subcommand_of}
 use Rattle.rh_key_commands.specs.Line.{IsKeysCommand}
-use Rattle.rh_cli.specs.Words.{Finds, texts_of}
+use Rattle.rh_arguments.specs.Words.{Finds, texts_of}
 use Rattle.rh_key_commands.proofs.KeysLemmas.{words_name_a_command}
 use Rattle.rh_key_commands.proofs.line.parse.line.Goals as goal
 

@@ -1,7 +1,6 @@
 use Rattle.std.proofs.Common.{[], ◌≤◌, length, refl, rules}
 use Rattle.std.proofs.lemmas.Bool.{le-ltb}
-use Rattle.rh_layout.specs.declared.limits.TheConstants.{MAX_KEY}
-use Rattle.rh_key_files.specs.declared.parts.TheConstants.{MAX_KEYS}
+use Rattle.rh_layout.specs.declared.limits.TheConstants.{MAX_KEY, MAX_KEYS}
 use Rattle.rh_numbers.proofs.reading.Reading.take.Goals as goal
 
 pub returns-then-len-ge-MAX_KEYS-clause-keys : goal.returns-then-len-ge-MAX_KEYS-clause-keys

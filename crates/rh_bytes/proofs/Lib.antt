@@ -1,0 +1,15 @@
+-- A file is read by steps from a reader, each of which takes some bytes and gives what they spell, or a fault. A text is
+-- written piece by piece.
+-- Reading: reading from a reader, one step after another.
+-- Parsed: bytes that spell what is read of them, and the other way round.
+-- Told: which faults a reading may tell.
+-- Taking: how many bytes calls take together.
+-- Spelled: bytes and the numbers that they spell.
+-- Writing: texts written one after another.
+
+pub mod Taking
+pub mod Spelled
+pub mod Reading
+pub mod Parsed
+pub mod Told
+pub mod Writing

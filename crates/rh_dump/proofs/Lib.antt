@@ -1,0 +1,3 @@
+-- Written: a dump, written line by line.
+
+pub mod Written

@@ -1,5 +1,0 @@
-use Rattle.rh_key_commands.proofs.Same.{listed_after}
-use Rattle.rh_key_commands.proofs.laws.listed_again.Goals as goal
-
-pub returns : goal.returns
-returns c = λ keys left rest. listed_after c.args.text.now c.args.file.now c.args.again.now keys left rest

@@ -1,5 +1,0 @@
-use Rattle.rh_key_commands.proofs.Same.{packed_after}
-use Rattle.rh_key_commands.proofs.laws.packed_again.Goals as goal
-
-pub returns : goal.returns
-returns c = λ keys left rest. packed_after c.args.file.now c.args.text.now c.args.again.now keys left rest

@@ -1,0 +1,3 @@
+pub mod Files
+pub mod List
+pub mod Pack
