@@ -128,11 +128,12 @@ class Trial:
     def try_alone(self, proved):
         """Tries those edits of which nothing is known one after the other, over what those before them proved."""
         self.alone = [it for it in self.edits if it.file not in self.results]
-        ran = check({self.crate: {}}, [], proved) if self.alone else None
+        # A single one is tried from nothing: another check would take as long. So are all where the crate as it stands is not
+        # proved over what was kept.
+        ran = check({self.crate: {}}, [], proved) if len(self.alone) > 1 else None
         for edit in self.alone:
             with tempfile.TemporaryDirectory(prefix=f"rt-edits-{os.getpid()}-") as room:
                 over = None
-                # Where the crate as it stands is not proved over what was kept, each is tried from nothing.
                 if ran and ran.is_proved:
                     # Links will do: a check replaces files, and changes none in place.
                     over = shutil.copytree(proved, f"{room}/over", copy_function=os.link)
