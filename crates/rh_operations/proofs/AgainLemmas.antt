@@ -22,10 +22,12 @@ use Rattle.rh_operations.specs.declared.cause.Cause.TheVariants as causes
 use Rattle.rh_operations.specs.declared.key_lists.KeyList.{KeyList}
 use Rattle.rh_operations.specs.declared.key_lists.Source.{Source}
 use Rattle.rh_operations.specs.Causes.{of_keys, of_list}
-use Rattle.rh_operations.specs.Refusals.{RefusedAgain, RefusedBy}
+use Rattle.rh_operations.specs.Refusals.{RefusedAgain, RefusedAt, RefusedBy}
 use Rattle.rh_operations.specs.Found.{count_again, count_or_cause, header_count, keys_again, keys_found, still}
 use Rattle.rh_operations.specs.KeyLists.{Gave, Opens, Stands, source_bytes}
-use Rattle.rh_operations.specs.Operations.{flipped_most, size_to_add, size_to_flip, size_to_keep}
+use Rattle.rh_operations.specs.Operations.{flipped_most, room_to_change, size_to_add, size_to_change, size_to_flip, size_to_keep, size_with}
+use Rattle.rh_ledger.specs.declared.tally.Kind.{Kind}
+use Rattle.rh_ledger.specs.declared.tally.Kind.TheVariants.{Remove}
 use Rattle.rh_operations.specs.Found.{keys_or_cause}
 use Rattle.rh_key_files.specs.Input.{◌>>=◌}
 use Rattle.rh_operations.specs.Size.{size_for}
@@ -69,21 +71,21 @@ pub stands_again : (files : Files) (list : KeyList) (keys : List ℕ) → Stands
 stands_again files list keys stands =
     ap (λ r. r >>= (λ _. keys_found (source_bytes files list.source))) (count_stands (source_bytes files list.source) keys list.count stands.0 stands.1) ∙ stands.0
 
--- Memory that is wanted once a list stands is wanted after its count was found.
-wanted : {Y : Type 0} (found : Result Y Cause) (failed : Type 0) (cause : Cause) → IsOk found → WantedAfter found failed cause
-wanted found failed causes.Memory ok = inr ok
-wanted found failed causes.Missing ok = tt
-wanted found failed (causes.Keys fault) ok = tt
-wanted found failed (causes.Snap fault) ok = tt
-wanted found failed causes.Changed ok = tt
-wanted found failed causes.TooLarge ok = tt
-wanted found failed causes.NoThread ok = tt
-wanted found failed causes.Put ok = tt
-wanted found failed causes.Write ok = tt
+-- Memory that is wanted only where this was found is wanted after it.
+pub wanted_if : {Y : Type 0} (found : Result Y Cause) (failed : Type 0) (cause : Cause) → (cause ≡ causes.Memory → IsOk found) → WantedAfter found failed cause
+wanted_if found failed causes.Memory ok = inr (ok refl)
+wanted_if found failed causes.Missing ok = tt
+wanted_if found failed (causes.Keys fault) ok = tt
+wanted_if found failed (causes.Snap fault) ok = tt
+wanted_if found failed causes.Changed ok = tt
+wanted_if found failed causes.TooLarge ok = tt
+wanted_if found failed causes.NoThread ok = tt
+wanted_if found failed causes.Put ok = tt
+wanted_if found failed causes.Write ok = tt
 
 pub wanted_again : (files : Files) (list : KeyList) (keys : List ℕ) (failed : Type 0) (cause : Cause) → Stands (Some files) list keys → WantedAfter (count_again list.count (source_bytes files list.source)) failed cause
 wanted_again files list keys failed cause stands =
-    wanted (count_again list.count (source_bytes files list.source)) failed cause (ap is_ok (count_stands (source_bytes files list.source) keys list.count stands.0 stands.1))
+    wanted_if (count_again list.count (source_bytes files list.source)) failed cause (λ _. ap is_ok (count_stands (source_bytes files list.source) keys list.count stands.0 stands.1))
 
 -- so what is said of them is said of its keys
 pub given : (P : List ℕ → Type 0) (files : Option Files) (list : KeyList) (keys : List ℕ) → Stands files list keys → (given : List ℕ) × Gave files list given × P given → P keys
@@ -92,6 +94,14 @@ given P files list keys stands (some, gave, said) = subst P (its_keys files list
 pub given_twice : (P : List ℕ → List ℕ → Type 0) (files : Option Files) (list : KeyList) (keys : List ℕ) → Stands files list keys → (first : List ℕ) × (second : List ℕ) × Gave files list first × Gave files list second × P first second → P keys keys
 given_twice P files list keys stands (first, second, gave, gave', said) =
     subst (P keys) (its_keys files list keys second stands gave') (subst (λ k. P k second) (its_keys files list keys first stands gave) said)
+
+-- the size is found where it is for so many keys
+pub room_found : (kind : Kind) (table : Held) (noted left : ℕ) (found : Option (List ℕ)) → count_again noted found ≡ Ok noted → left ≡ noted → IsOk (size_with kind table left) → IsOk (room_to_change kind table noted found)
+room_found kind table noted left found again is ok =
+    subst (λ r. IsOk (r >>= (λ count. size_with kind table count))) (sym again) (subst (λ n. IsOk (size_with kind table n)) is ok)
+
+abbrev as_size : ℕ → Result ℕ Cause
+as_size bits = Ok bits
 
 as_it_was : {A : Type 0} (r : Result A Cause) → (r >>= (λ x. Ok x)) ≡ r
 as_it_was (Ok x) = refl
@@ -176,6 +186,21 @@ module _ (files : Option Files) (known : Files) (is : files ≡ Some known) (sou
     rest_refused failed n m (list_faults.Phase phase_faults.Memory) h = inr tt
     rest_refused failed n m (list_faults.Phase phase_faults.NoThread) h = inr h
 
+    at_size : (size : Result ℕ Cause) (failed : Type 0) (n m : ℕ) (cause : Cause) → RefusedAt size coming n m cause → RefusedBy (size >>= (λ bits. keys_found (source_bytes known source) >>= (λ _. Ok bits))) (PhaseFails failed (Rose n m)) cause
+    at_size size failed n m cause (inl why) =
+        first_refused size (λ bits. keys_found (source_bytes known source) >>= (λ _. Ok bits)) cause MemoryFails (PhaseFails failed (Rose n m)) (memory_fails failed (Rose n m) cause) why
+    at_size size failed n m cause (inr (bits, sized, fault, is, why)) =
+        later_refused size (λ bits. keys_found (source_bytes known source) >>= (λ _. Ok bits)) cause failed (Rose n m) bits sized
+        (first_refused (keys_found (source_bytes known source)) (λ _. Ok bits) cause (PhaseFails failed (Rose n m)) (PhaseFails failed (Rose n m)) (λ out. out)
+        (subst (RefusedBy (keys_found (source_bytes known source)) (PhaseFails failed (Rose n m))) (sym is) (rest_refused failed n m fault why)))
+
+    -- Keys that come from the list, of which as many are left as were noted, were not gone through.
+    pub keys_refused : (size : ℕ → Result ℕ Cause) (failed : Type 0) (n m left : ℕ) (cause : Cause) → left ≡ noted → count_again noted (source_bytes known source) ≡ Ok noted → RefusedAt (size left) coming n m cause
+        → RefusedBy (count_again noted (source_bytes known source) >>= (λ count. size count >>= (λ bits. keys_found (source_bytes known source) >>= (λ _. Ok bits)))) (PhaseFails failed (Rose n m)) cause
+    keys_refused size failed n m left cause many again why =
+        later_refused (count_again noted (source_bytes known source)) (λ count. size count >>= (λ bits. keys_found (source_bytes known source) >>= (λ _. Ok bits))) cause failed (Rose n m) noted again
+        (at_size (size noted) failed n m cause (subst (λ k. RefusedAt (size k) coming n m cause) many why))
+
     -- at the second reading of a list that was chosen from
     pub again_refused : (failed : Type 0) (choice : Choice) (n m : ℕ) (e : ListFault) → count_again noted (source_bytes known source) ≡ Ok noted → RefusedFor coming choice n m e
         → RefusedAgain (keys_again noted (source_bytes known source)) (by_choice choice) choice.many (PhaseFails failed (Rose n m)) (of_list e)
@@ -189,6 +214,26 @@ module _ (files : Option Files) (known : Files) (is : files ≡ Some known) (sou
     )
     again_refused failed choice n m (list_faults.Phase phase_faults.Memory) again h = inl (inr tt)
     again_refused failed choice n m (list_faults.Phase phase_faults.NoThread) again h = inl (inr h)
+
+-- ---- keys are taken out of a table of the same size
+
+as_taken : (bits : ℕ) (count : Result ℕ Cause) (keys : Result (List ℕ) Cause) (cause : Cause) → (count >>= (λ _. keys >>= (λ _. Ok bits))) ≡ Err cause → (count >>= (λ _. keys)) ≡ Err cause
+as_taken bits (Ok n) (Ok keys) cause is = let none : Ok bits ≡ Err cause = is in absurd cc
+as_taken bits (Ok n) (Err e) cause is = let same : Err e ≡ Err cause = is in (cc)
+as_taken bits (Err e) keys cause is = let same : Err e ≡ Err cause = is in (cc)
+
+pub taken_refused : (table : Held) (noted : ℕ) (found : Option (List ℕ)) (outside : Cause → Type 0) (cause : Cause) → RefusedBy (size_to_change Remove table noted found) outside cause → RefusedBy (keys_again noted found) outside cause
+taken_refused table noted found outside cause (inl said) = inl (as_taken table.bits (count_again noted found) (keys_found found) cause said)
+taken_refused table noted found outside cause (inr out) = inr out
+
+counted : (bits : ℕ) (count : Result ℕ Cause) → IsOk (count >>= (λ _. as_size bits)) → IsOk count
+counted bits (Ok n) ok = ok
+counted bits (Err e) ok = ok
+
+pub taken_wanted : (table : Held) (noted : ℕ) (found : Option (List ℕ)) (failed : Type 0) (cause : Cause) → WantedAfter (room_to_change Remove table noted found) failed cause → WantedAfter (count_again noted found) failed cause
+taken_wanted table noted found failed causes.Memory (inl failure) = inl failure
+taken_wanted table noted found failed causes.Memory (inr ok) = inr (counted table.bits (count_again noted found) ok)
+taken_wanted table noted found failed _ wanted = tt
 
 -- the same list again is refused by what comes from outside alone
 pub same_again : (said : Result (List ℕ) Cause) (keys : List ℕ) (chosen : List ℕ → List ℕ) (many : ℕ) (failed refused : Type 0) (cause : Cause) → said ≡ Ok keys → length (chosen keys) ≡ many → RefusedAgain said chosen many (PhaseFails failed refused) cause → PhaseFails failed refused cause

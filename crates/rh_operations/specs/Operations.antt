@@ -4,7 +4,8 @@ use Rattle.std.specs.FinSet as set
 use Rattle.rh_layout.specs.Layout.{Keys, Layout}
 use Rattle.rh_layout.specs.declared.limits.TheConstants.{MIN_BITS}
 use Rattle.rh_edit.specs.Held.{Held}
-use Rattle.rh_ledger.specs.declared.tally.Kind.TheVariants.{Insert, Remove}
+use Rattle.rh_ledger.specs.declared.tally.Kind.{Kind}
+use Rattle.rh_ledger.specs.declared.tally.Kind.TheVariants.{Insert, Remove, Ask}
 use Rattle.rh_ledger.specs.declared.tally.Tally.{Tally}
 use Rattle.rh_ledger.specs.Phase.{set_after, tally_of}
 use Rattle.rh_runner.specs.declared.choice.Chosen.TheVariants.{Absent, Present}
@@ -33,6 +34,12 @@ pub record Dropped (keys : List ℕ) (old new : Held) (told : Tally) : Type 0 wh
   pub held : new.keys ≡ set_after Remove old.keys keys
   pub tally : told ≡ tally_of Remove old.keys keys
 
+-- as one of them, by the kind of the phase
+abbrev pub Changed : Kind → (keys : List ℕ) → (old new : Held) → Tally → Type 0
+Changed Insert keys old new told = Added keys old new told
+Changed Remove keys old new told = Dropped keys old new told
+Changed Ask keys old new told = ⊥
+
 -- of the keys that were held, those of the list were kept
 pub record Kept (keys : List ℕ) (old new : Held) (found : ℕ) : Type 0 where
   pub size : size_for MIN_BITS (length (chosen Present old.keys keys)) ≡ Ok new.bits
@@ -53,6 +60,22 @@ pub record Flipped (first second : List ℕ) (old new : Held) (told : Flips) : T
   pub added : told.added ≡ tally_of Insert (set_after Remove old.keys first) (chosen Absent old.keys second)
 
 -- ---- the size of the table that a command makes from the bytes of its list, or why there is none
+
+-- of a set that so many keys are added to, or taken out of
+abbrev pub size_with : Kind → Held → (many : ℕ) → Result ℕ Cause
+size_with Insert table many = size_for table.bits (set.len table.keys + many)
+size_with Remove table many = Ok table.bits
+size_with Ask table many = Ok table.bits
+
+-- of a set that a list of so many keys is added to, or taken out of
+abbrev pub room_to_change : Kind → Held → (noted : ℕ) → Option (List ℕ) → Result ℕ Cause
+room_to_change kind table noted found = count_again noted found >>= (λ count. size_with kind table count)
+
+-- the same, and the list can be read
+abbrev pub size_to_change : Kind → Held → (noted : ℕ) → Option (List ℕ) → Result ℕ Cause
+size_to_change kind table noted found =
+    count_again noted found
+    >>= (λ count. size_with kind table count >>= (λ size. keys_found found >>= (λ _. Ok size)))
 
 -- of a set to which a list of so many keys is added
 abbrev pub room_to_add : Held → (noted : ℕ) → Option (List ℕ) → Result ℕ Cause

@@ -3,6 +3,10 @@
 use Rattle.std.specs.Prelude.{◌≡◌, ◌≢◌, ℕ, ◌⊎◌, List, length, Result, Ok, Err, IsOk}
 use Rattle.rh_key_files.specs.declared.fault.KeyFault.TheVariants as faults
 use Rattle.rh_snapshot.specs.declared.fault.SnapFault.TheVariants as snap_faults
+use Rattle.rh_key_files.specs.Source.{Coming}
+use Rattle.rh_runner.specs.declared.fault.ListFault.{ListFault}
+use Rattle.rh_runner.specs.Lists.{Refused}
+use Rattle.rh_operations.specs.Causes.{of_list}
 use Rattle.rh_operations.specs.declared.cause.Cause.{Cause}
 use Rattle.rh_operations.specs.declared.cause.Cause.TheVariants.{Missing, Keys, Snap, Changed, Memory, NoThread, Put}
 
@@ -52,3 +56,10 @@ RestoreFails failed Memory = Unit {0}
 RestoreFails failed (Snap snap_faults.Read) = Unit {0}
 RestoreFails failed Missing = failed
 RestoreFails failed _ = ⊥
+
+-- Keys that come in batches were not gone through: there is no table of a size for them, or no memory for it, or a
+-- fault of theirs or of a phase came after that.
+abbrev pub RefusedAt : (size : Result ℕ Cause) → Coming → (starts starts' : ℕ) → Cause → Type 0
+RefusedAt size coming starts starts' cause =
+    RefusedBy size MemoryFails cause
+    ⊎ ((bits : ℕ) × (size ≡ Ok bits) × (fault : ListFault) × (cause ≡ of_list fault) × Refused coming starts starts' fault)

@@ -1,37 +1,38 @@
 //! What the commands do with the set that is held and with the lists. They take shelf, runner and
 //! set one by one, and no record of them: so what a command leaves alone is seen at its arguments.
 
-ghost use Rattle.std.specs.Prelude.{◌≡◌, ◌+◌, ◌^◌, ◌<◌, ℕ, List, [], Some, Ok};
-ghost use Rattle.std.specs.Prelude.{IfOk, IfErr, OnErr, OnOk, length};
+ghost use Rattle.std.specs.Prelude.{◌≡◌, ◌≢◌, ◌+◌, ◌^◌, ◌<◌, ℕ, List, [], Some, Ok};
+ghost use Rattle.std.specs.Prelude.{IfOk, IfErr, IsOk, OnErr, OnOk, length};
 ghost use Rattle.std.specs.FinSet as finset;
 ghost use Rattle.rh_key_files.specs.Counting.{Rose};
 ghost use Rattle.rh_shelf.specs.Shelf.{Files};
 ghost use Rattle.rh_ledger.specs.Phase.{looked_up};
 ghost use Rattle.rh_runner.specs.declared.choice.Chosen.TheVariants.{Absent, Present};
-ghost use Rattle.rh_runner.specs.Lists.{Ran, by_choice, chosen};
-ghost use Rattle.rh_ledger.specs.declared.tally.Kind.TheVariants.{Insert};
+ghost use Rattle.rh_runner.specs.Lists.{Ran, Took, by_choice, chosen};
+ghost use Rattle.rh_ledger.specs.declared.tally.Kind.TheVariants.{Insert, Remove};
 ghost use Rattle.rh_layout.specs.Layout.{IsLayout, keys_of};
 ghost use Rattle.rh_layout.specs.declared.limits.TheConstants.{MIN_BITS};
 ghost use Rattle.rh_edit.specs.Rising.{rising_keys};
 ghost use Rattle.rh_operations.specs.Leaves.{KeepsRunner, KeepsShelf};
-ghost use Rattle.rh_operations.specs.Refusals.{RefusedAgain, RefusedBy};
+ghost use Rattle.rh_operations.specs.Refusals.{RefusedAgain, RefusedAt, RefusedBy};
 ghost use Rattle.rh_operations.specs.Found.{count_again, keys_again, keys_found};
 ghost use Rattle.rh_operations.specs.KeyLists.{Gave, Stands, source_bytes, path_of};
-ghost use Rattle.rh_operations.specs.Operations.{Added, Dropped, Flipped, Kept};
-ghost use Rattle.rh_operations.specs.Operations.{room_to_add, size_to_add, size_to_flip, size_to_keep};
+ghost use Rattle.rh_operations.specs.Operations.{Added, Changed, Dropped, Flipped, Kept};
+ghost use Rattle.rh_operations.specs.Operations.{room_to_add, room_to_change, size_to_add, size_to_change};
+ghost use Rattle.rh_operations.specs.Operations.{size_to_flip, size_to_keep, size_with};
 ghost use Rattle.rh_operations.specs.Refusals.{ListFails, PhaseFails, WantedAfter};
 
 use crate::cause::Cause;
 use crate::key_lists::{KeyList, Source};
 use crate::opening::{fetched, keys_again, open_list};
-use crate::size::{copied, grown};
+use crate::size::{copied, grown, scratch_for};
 use rh_edit::SeqSet;
-use rh_key_files::{Counted, open_keys, write_keys};
+use rh_key_files::{Counted, KeySource, open_keys, write_keys};
 use rh_layout::MIN_BITS;
 use rh_ledger::{Kind, Tally};
 use rh_runner::{
-    Choice, Chosen, Removed, Runner, Scratch, ask_all, change_all, count_chosen, insert_chosen,
-    read_through, remove_and_count_absent,
+    Choice, Chosen, Removed, Runner, Scratch, ask_all, change_all, insert_chosen, read_through,
+    remove_and_count_absent,
 };
 use rh_shelf::Shelf;
 use std::alloc::Global;
@@ -60,8 +61,6 @@ pub fn use_file<S: Shelf>(alloc: Global, shelf: &mut S, path: &str) -> Result<u6
 }
 
 /// Adds the keys of the list to the set, in a table that has grown for them.
-/// It works on a copy of the cells until its end, as the others do: a refused command leaves the
-/// set as it was.
 pub fn add<T: Threads + Wait + Sync, S: Shelf, N: Runner>(
     rt: &T,
     alloc: Global,
@@ -86,13 +85,7 @@ pub fn add<T: Threads + Wait + Sync, S: Shelf, N: Runner>(
         result }
     ensures no_write { IfErr result (λ cause. cause ≡ Cause.Write → ⊥) }
 {
-    let count = list.count;
-    let mut reader = open_list(alloc, shelf, list)?;
-    let mut keys = keys_again(&mut reader, count)?;
-    let mut scratch = grown(alloc, set, count)?;
-    let tally = change_all(rt, alloc, runner, Kind::Insert, &mut scratch, &mut keys)?;
-    *set = SeqSet::from_cells(scratch.bits, scratch.cells);
-    Ok(tally)
+    change_listed(rt, alloc, shelf, runner, Kind::Insert, set, list)
 }
 
 /// Takes the keys of the list out of the set.
@@ -120,10 +113,71 @@ pub fn drop_keys<T: Threads + Wait + Sync, S: Shelf, N: Runner>(
         result }
     ensures no_write { IfErr result (λ cause. cause ≡ Cause.Write → ⊥) }
 {
+    change_listed(rt, alloc, shelf, runner, Kind::Remove, set, list)
+}
+
+/// Adds the keys of the list to the set, in a table that has grown for them, or takes them out.
+fn change_listed<T: Threads + Wait + Sync, S: Shelf, N: Runner>(
+    rt: &T,
+    alloc: Global,
+    shelf: &mut S,
+    runner: &mut N,
+    kind: Kind,
+    set: &mut SeqSet,
+    list: &KeyList<'_>,
+) -> Result<Tally, Cause>
+    requires { kind ≢ Kind.Ask }
+    ensures changed { IfOk result (λ told. (keys : List ℕ) × Gave (S.files shelf.old) list.now keys
+        × Changed kind keys set.old set.new told) }
+    ensures memory { (files : Files) → S.files shelf.old ≡ Some files → IfErr result
+        (WantedAfter (room_to_change kind set.old list.now.count
+        (source_bytes files list.now.source))
+        (Rose (S.failures shelf.old) (S.failures shelf.new))) }
+    ensures refused { (files : Files) → S.files shelf.old ≡ Some files → IfErr result
+        (RefusedBy (size_to_change kind set.old list.now.count
+        (source_bytes files list.now.source))
+        (PhaseFails (Rose (S.failures shelf.old) (S.failures shelf.new))
+        (Rose (N.refused_starts runner.old) (N.refused_starts runner.new)))) }
+    ensures unchanged { OnErr result (set.new ≡ set.old) }
+    ensures shelf { KeepsShelf (S.files shelf.old) (S.files shelf.new) (S.failures shelf.old)
+        (S.failures shelf.new) result }
+    ensures runner { KeepsRunner (N.refused_starts runner.old) (N.refused_starts runner.new)
+        result }
+    ensures no_write { IfErr result (λ cause. cause ≡ Cause.Write → ⊥) }
+{
     let mut reader = open_list(alloc, shelf, list)?;
     let mut keys = keys_again(&mut reader, list.count)?;
-    let mut scratch = copied(alloc, set)?;
-    let tally = change_all(rt, alloc, runner, Kind::Remove, &mut scratch, &mut keys)?;
+    change_by(rt, alloc, runner, kind, set, &mut keys)
+}
+
+/// Adds keys that come in batches to the set, or takes them out.
+/// It works on a copy of the cells until its end, as the others do: a refused command leaves the
+/// set as it was.
+fn change_by<T: Threads + Wait + Sync, N: Runner, K: KeySource>(
+    rt: &T,
+    alloc: Global,
+    runner: &mut N,
+    kind: Kind,
+    set: &mut SeqSet,
+    keys: &mut K,
+) -> Result<Tally, Cause>
+    requires { kind ≢ Kind.Ask }
+    ensures changed { IfOk result (λ told. (list : List ℕ)
+        × Took (K.coming keys.old) (K.left_of keys.old) list
+        × Changed kind list set.old set.new told) }
+    ensures memory { IfErr result (λ cause. cause ≡ Cause.Memory →
+        IsOk (size_with kind set.old (K.left_of keys.old))) }
+    ensures refused { IfErr result (RefusedAt (size_with kind set.old (K.left_of keys.old))
+        (K.coming keys.old) (N.refused_starts runner.old) (N.refused_starts runner.new)) }
+    ensures unchanged { OnErr result (set.new ≡ set.old) }
+    ensures runner { KeepsRunner (N.refused_starts runner.old) (N.refused_starts runner.new)
+        result }
+    ensures not_missing { IfErr result (λ cause. cause ≡ Cause.Missing → ⊥) }
+    ensures not_put { IfErr result (λ cause. cause ≡ Cause.Put → ⊥) }
+    ensures no_write { IfErr result (λ cause. cause ≡ Cause.Write → ⊥) }
+{
+    let mut scratch = scratch_for(alloc, kind, set, keys.left())?;
+    let tally = change_all(rt, alloc, runner, kind, &mut scratch, keys)?;
     *set = SeqSet::from_cells(scratch.bits, scratch.cells);
     Ok(tally)
 }
@@ -220,9 +274,8 @@ fn count_found<T: Threads + Wait + Sync, S: Shelf, N: Runner>(
         result }
     ensures no_write { IfErr result (λ cause. cause ≡ Cause.Write → ⊥) }
 {
-    let mut reader = open_list(alloc, shelf, list)?;
-    let mut keys = keys_again(&mut reader, list.count)?;
-    Ok(count_chosen(rt, alloc, runner, Chosen::Present, set, &mut keys)?)
+    let answers = ask(rt, alloc, shelf, runner, set, list)?;
+    Ok(answers.iter().filter(|there| **there).count() as u64)
 }
 
 /// Inserts the chosen keys of the list. They are looked up again, so that a file that changed is found
@@ -267,7 +320,7 @@ fn insert_listed<T: Threads + Wait + Sync, S: Shelf, N: Runner>(
 }
 
 /// What was counted while a list was flipped.
-#[derive(Clone, Copy, Debug, PartialEq, Eq)]
+#[derive(Clone, Copy)]
 pub struct Flips {
     pub removed: Tally,
     pub added: Tally,
@@ -345,8 +398,31 @@ fn without_listed<T: Threads + Wait + Sync, S: Shelf, N: Runner>(
 {
     let mut reader = open_list(alloc, shelf, list)?;
     let mut keys = keys_again(&mut reader, list.count)?;
+    without(rt, alloc, runner, set, &mut keys)
+}
+
+/// A copy of the set without keys that come in batches.
+fn without<T: Threads + Wait + Sync, N: Runner, K: KeySource>(
+    rt: &T,
+    alloc: Global,
+    runner: &mut N,
+    set: &SeqSet,
+    keys: &mut K,
+) -> Result<Rest, Cause>
+    ensures dropped { IfOk result (λ r. (list : List ℕ)
+        × Took (K.coming keys.old) (K.left_of keys.old) list
+        × Dropped list set.now r.set r.removed.tally
+        × (r.removed.absent ≡ length (chosen Absent set.now.keys list))) }
+    ensures refused { IfErr result (RefusedAt (size_with Remove set.now (K.left_of keys.old))
+        (K.coming keys.old) (N.refused_starts runner.old) (N.refused_starts runner.new)) }
+    ensures runner { KeepsRunner (N.refused_starts runner.old) (N.refused_starts runner.new)
+        result }
+    ensures not_missing { IfErr result (λ cause. cause ≡ Cause.Missing → ⊥) }
+    ensures not_put { IfErr result (λ cause. cause ≡ Cause.Put → ⊥) }
+    ensures no_write { IfErr result (λ cause. cause ≡ Cause.Write → ⊥) }
+{
     let mut scratch = copied(alloc, set)?;
-    let removed = remove_and_count_absent(rt, alloc, runner, set, &mut scratch, &mut keys)?;
+    let removed = remove_and_count_absent(rt, alloc, runner, set, &mut scratch, keys)?;
     let set = SeqSet::from_cells(scratch.bits, scratch.cells);
     Ok(Rest { set, removed })
 }

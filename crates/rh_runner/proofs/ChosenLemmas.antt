@@ -43,9 +43,8 @@ module _ (which : Chosen) (S : Keys) where
 
   -- ---- one more batch counted
 
-  pub count_more : (done batch : List ℕ) (found : List Bool) (many told : ℕ) → many ≡ length (chosen which S done) → told ≡ count_by (is_chosen which) found → found ≡ looked_up S batch → many + told ≡ length (chosen which S (done ++ batch))
-  count_more done batch found many told so_far counted answers =
-      omega (arith, so_far, counted, count_found batch found answers, length_chosen-append done batch)
+  pub count_more : (done batch : List ℕ) (many told : ℕ) → many ≡ length (chosen which S done) → told ≡ length (chosen which S batch) → many + told ≡ length (chosen which S (done ++ batch))
+  count_more done batch many told so_far counted = omega (arith, so_far, counted, length_chosen-append done batch)
 
   pub ran_chosen : (bits : ℕ) (done batch old mid new : List ℕ) (t told : Tally) → Ran Insert bits (chosen which S done) old mid t → Ran Insert bits (chosen which S batch) mid new told → Ran Insert bits (chosen which S (done ++ batch)) old new (sum_of t told)
   ran_chosen bits done batch old mid new t told ran next =

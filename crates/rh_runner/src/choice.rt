@@ -6,7 +6,7 @@ ghost use Rattle.rh_runner.specs.Lists.{is_chosen};
 use rh_edit::SeqSet;
 
 /// Which keys of a list are chosen: those that a set holds, or the others.
-#[derive(Clone, Copy, Debug, PartialEq, Eq)]
+#[derive(Clone, Copy)]
 pub enum Chosen {
     Present,
     Absent,

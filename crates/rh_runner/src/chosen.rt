@@ -1,14 +1,13 @@
 //! Phases over the keys of a list that a table holds, or does not hold.
 
 ghost use Rattle.std.specs.Prelude.{◌≡◌, ◌≢◌, ◌+◌, ◌^◌, ◌<◌, ◌≤◌, ℕ, List, length, take, All};
-ghost use Rattle.std.specs.Prelude.{IfOk, IfErr, OnOk};
-ghost use Rattle.std.specs.List.{count_by};
+ghost use Rattle.std.specs.Prelude.{IfOk, IfErr, IsErrOf, OnOk};
 ghost use Rattle.std.specs.FinSet as finset;
 ghost use Rattle.rh_layout.specs.Key.{IsKey};
 ghost use Rattle.rh_layout.specs.Layout.{Keys, IsLayout, keys_of};
 ghost use Rattle.rh_ledger.specs.Phase.{looked_up};
 ghost use Rattle.rh_ledger.specs.declared.tally.Kind.TheVariants.{Insert, Remove};
-ghost use Rattle.rh_runner.specs.Lists.{Took, Ran, Refused, RefusedBatch, RefusedFor, by_choice};
+ghost use Rattle.rh_runner.specs.Lists.{Took, Ran, Refused, RefusedBatch, RefusedFor, RefusedPhase, by_choice};
 ghost use Rattle.rh_runner.specs.Lists.{TellsKeyFault, is_chosen, chosen};
 ghost use Rattle.rh_runner.specs.declared.choice.Chosen.TheVariants.{Absent};
 
@@ -32,12 +31,6 @@ pub struct Removed {
     pub absent: u64,
 }
 
-fn count_taken(which: Chosen, found: &[bool]) -> usize
-    ensures { result ≡ count_by (is_chosen which) found.now }
-{
-    found.iter().filter(|there| which.takes(**there)).count()
-}
-
 /// Moves the chosen keys to the front, by what was found of each, and answers how many they are.
 fn choose(which: Chosen, found: &[bool], batch: &mut [u64]) -> usize
     requires { length found.now ≡ length batch.old }
@@ -53,40 +46,6 @@ fn choose(which: Chosen, found: &[bool], batch: &mut [u64]) -> usize
         }
     }
     n
-}
-
-/// How many positions of a list have a key that is chosen.
-pub fn count_chosen<T: Threads + Wait + Sync, N: Runner, K: KeySource>(
-    rt: &T,
-    alloc: Global,
-    runner: &mut N,
-    which: Chosen,
-    set: &SeqSet,
-    keys: &mut K,
-) -> Result<u64, ListFault>
-    ensures counted { IfOk result (λ many. (list : List ℕ)
-        × Took (K.coming keys.old) (K.left_of keys.old) list
-        × (many ≡ length (chosen which set.now.keys list))) }
-    ensures refused { IfErr result (Refused (K.coming keys.old)
-        (N.refused_starts runner.old) (N.refused_starts runner.new)) }
-    ensures told { IfErr result (TellsKeyFault (K.told_by keys.old) (K.told_by keys.new)) }
-    ensures fine { OnOk result (N.refused_starts runner.new ≡ N.refused_starts runner.old) }
-    ensures others { IfErr result (λ fault. fault ≢ ListFault.Phase PhaseFault.NoThread →
-        N.refused_starts runner.new ≡ N.refused_starts runner.old) }
-{
-    // The count is no greater.
-    let most = keys.left();
-    let mut room = phase_room(alloc, most, runner.phase_keys(Kind::Ask))?;
-    let batch = room.as_mut_slice();
-    let mut many = 0;
-    loop {
-        let n = keys.next_keys(batch)?;
-        if n == 0 {
-            return Ok(many);
-        }
-        let found = runner.ask(rt, alloc, set.bits(), set.cells(), &batch[..n])?;
-        many += count_taken(which, &found) as u64;
-    }
 }
 
 /// Inserts the chosen keys of a batch, unless they are more than `many`. The batch is used up.
@@ -172,6 +131,26 @@ pub fn insert_chosen<T: Threads + Wait + Sync, N: Runner, K: KeySource>(
     Ok(tally)
 }
 
+/// How many positions of a batch have a key that the set does not hold.
+fn count_absent<T: Threads + Wait + Sync, N: Runner>(
+    rt: &T,
+    alloc: Global,
+    runner: &mut N,
+    set: &SeqSet,
+    batch: &[u64],
+) -> Result<u64, PhaseFault>
+    requires { All IsKey batch.now }
+    ensures counted { IfOk result (λ absent. absent ≡ length (chosen Absent set.now.keys batch.now)) }
+    ensures refused { IfErr result (RefusedPhase (N.refused_starts runner.old)
+        (N.refused_starts runner.new)) }
+    ensures fine { OnOk result (N.refused_starts runner.new ≡ N.refused_starts runner.old) }
+    ensures memory { IsErrOf result PhaseFault.Memory →
+        N.refused_starts runner.new ≡ N.refused_starts runner.old }
+{
+    let found = runner.ask(rt, alloc, set.bits(), set.cells(), batch)?;
+    Ok(found.iter().filter(|there| !**there).count() as u64)
+}
+
 /// Removes all keys of a list, and counts its positions with keys that the set does not hold. On a
 /// fault some of the keys may be removed.
 pub fn remove_and_count_absent<T: Threads + Wait + Sync, N: Runner, K: KeySource>(
@@ -208,8 +187,7 @@ pub fn remove_and_count_absent<T: Threads + Wait + Sync, N: Runner, K: KeySource
         if n == 0 {
             return Ok(Removed { tally, absent });
         }
-        let found = runner.ask(rt, alloc, set.bits(), set.cells(), &batch[..n])?;
-        absent += count_taken(Chosen::Absent, &found) as u64;
+        absent += count_absent(rt, alloc, runner, set, &batch[..n])?;
         let told = runner.change(rt, alloc, Kind::Remove, *bits, cells, &batch[..n])?;
         tally = joined(tally, told).unwrap();
     }

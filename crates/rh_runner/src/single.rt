@@ -1,11 +1,11 @@
 //! One worker.
 
-ghost use Rattle.std.specs.Prelude.{◌≡◌, ◌+◌, ◌^◌, ◌<◌, All, length};
+ghost use Rattle.std.specs.Prelude.{◌≡◌, ◌≢◌, ◌+◌, ◌^◌, ◌<◌, All, length};
 ghost use Rattle.std.specs.FinSet as set;
 ghost use Rattle.rh_layout.specs.Key.{IsKey};
 ghost use Rattle.rh_layout.specs.Layout.{IsLayout, keys_of};
 ghost use Rattle.rh_ledger.specs.declared.tally.Kind.TheVariants.{Insert, Remove};
-ghost use Rattle.rh_ledger.specs.Phase.{set_after, tally_of};
+ghost use Rattle.rh_ledger.specs.Phase.{most_added, set_after, tally_of};
 ghost use Rattle.rh_runner.specs.Cells.{AreTheCells};
 
 use crate::lists::BATCH;
@@ -19,7 +19,7 @@ use std::thread::Threads;
 
 /// Carries out each phase itself, on the calling thread: it starts no other. Only a look-up takes
 /// memory, for its answers.
-#[derive(Clone, Copy, Debug, PartialEq, Eq)]
+#[derive(Clone, Copy)]
 pub struct Single;
 
 impl Runner for Single {
@@ -40,12 +40,7 @@ impl Runner for Single {
         cells: &mut Vec<u64>,
         keys: &[u64],
     ) -> Result<Tally, PhaseFault> {
-        let cells = cells.as_mut_slice();
-        match kind {
-            Kind::Insert => Ok(insert_all(bits, cells, keys)),
-            Kind::Remove => Ok(remove_all(bits, cells, keys)),
-            Kind::Ask => unreachable!(),
-        }
+        Ok(change_cells(kind, bits, cells.as_mut_slice(), keys))
     }
 
     fn ask<R: Threads + Wait + Sync>(
@@ -62,6 +57,23 @@ impl Runner for Single {
             found.push_reserved(there);
         }
         Ok(found)
+    }
+}
+
+fn change_cells(kind: Kind, bits: u32, cells: &mut [u64], keys: &[u64]) -> Tally
+    requires kind { kind ≢ Kind.Ask }
+    requires layout { IsLayout bits cells.old }
+    requires keys { All IsKey keys.now }
+    requires room { set.len (keys_of cells.old) + most_added kind keys.now < 2 ^ bits }
+    ensures layout { IsLayout bits cells.new }
+    ensures keys { keys_of cells.new ≡ set_after kind (keys_of cells.old) keys.now }
+    ensures cells { AreTheCells bits (set_after kind (keys_of cells.old) keys.now) cells.new }
+    ensures tally { result ≡ tally_of kind (keys_of cells.old) keys.now }
+{
+    match kind {
+        Kind::Insert => insert_all(bits, cells, keys),
+        Kind::Remove => remove_all(bits, cells, keys),
+        Kind::Ask => unreachable!(),
     }
 }
 

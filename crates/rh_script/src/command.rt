@@ -22,7 +22,9 @@ pub(crate) fn read_command(alloc: Global, line: &[u8]) -> Result<Option<Command>
     if is_skipped(line) {
         return Ok(None);
     }
-    let text = printable(line).ok_or(ScriptFaultKind::BadCommand)?;
+    let Some(text) = printable(line) else {
+        return Err(ScriptFaultKind::BadCommand);
+    };
     let command = command_in(alloc, text)?;
     Ok(Some(command))
 }
@@ -31,8 +33,12 @@ pub(crate) fn read_command(alloc: Global, line: &[u8]) -> Result<Option<Command>
 fn command_in(alloc: Global, text: &str) -> Result<Command, ScriptFaultKind>
     ensures { Answers (instruction_in (words_of text.now)) instruction_as result }
 {
-    let (word, rest) = next_word(text).ok_or(ScriptFaultKind::BadCommand)?;
-    let verb = Verb::from_word(word).ok_or(ScriptFaultKind::BadCommand)?;
+    let Some((word, rest)) = next_word(text) else {
+        return Err(ScriptFaultKind::BadCommand);
+    };
+    let Some(verb) = Verb::from_word(word) else {
+        return Err(ScriptFaultKind::BadCommand);
+    };
     command_of(alloc, verb, rest)
 }
 
@@ -64,11 +70,15 @@ fn command_of(alloc: Global, verb: Verb, rest: &str) -> Result<Command, ScriptFa
             name: read_name(alloc, rest)?,
         },
         Verb::Clear => {
-            end_of_words(rest).ok_or(ScriptFaultKind::BadCommand)?;
+            let Some(()) = end_of_words(rest) else {
+                return Err(ScriptFaultKind::BadCommand);
+            };
             Command::Clear
         }
         Verb::Dump => {
-            end_of_words(rest).ok_or(ScriptFaultKind::BadCommand)?;
+            let Some(()) = end_of_words(rest) else {
+                return Err(ScriptFaultKind::BadCommand);
+            };
             Command::Dump
         }
         Verb::Snapshot => Command::Snapshot {
@@ -86,9 +96,15 @@ fn read_name_and_path(alloc: Global, rest: &str) -> Result<(String, String), Scr
     ensures { Answers (name_and_path (words_of rest.now))
         (λ given. (string_bytes given.0, string_bytes given.1)) result }
 {
-    let (name, rest) = next_word(rest).ok_or(ScriptFaultKind::BadCommand)?;
-    let (path, rest) = next_word(rest).ok_or(ScriptFaultKind::BadCommand)?;
-    end_of_words(rest).ok_or(ScriptFaultKind::BadCommand)?;
+    let Some((name, rest)) = next_word(rest) else {
+        return Err(ScriptFaultKind::BadCommand);
+    };
+    let Some((path, rest)) = next_word(rest) else {
+        return Err(ScriptFaultKind::BadCommand);
+    };
+    let Some(()) = end_of_words(rest) else {
+        return Err(ScriptFaultKind::BadCommand);
+    };
     if !is_name(name) {
         return Err(ScriptFaultKind::BadName);
     }
@@ -102,8 +118,12 @@ fn read_name_and_path(alloc: Global, rest: &str) -> Result<(String, String), Scr
 fn read_name(alloc: Global, rest: &str) -> Result<String, ScriptFaultKind>
     ensures { Answers (one_name (words_of rest.now)) string_bytes result }
 {
-    let (name, rest) = next_word(rest).ok_or(ScriptFaultKind::BadCommand)?;
-    end_of_words(rest).ok_or(ScriptFaultKind::BadCommand)?;
+    let Some((name, rest)) = next_word(rest) else {
+        return Err(ScriptFaultKind::BadCommand);
+    };
+    let Some(()) = end_of_words(rest) else {
+        return Err(ScriptFaultKind::BadCommand);
+    };
     if !is_name(name) {
         return Err(ScriptFaultKind::BadName);
     }
@@ -116,8 +136,12 @@ fn read_name(alloc: Global, rest: &str) -> Result<String, ScriptFaultKind>
 fn read_path(alloc: Global, rest: &str) -> Result<String, ScriptFaultKind>
     ensures { Answers (one_path (words_of rest.now)) string_bytes result }
 {
-    let (word, rest) = next_word(rest).ok_or(ScriptFaultKind::BadCommand)?;
-    end_of_words(rest).ok_or(ScriptFaultKind::BadCommand)?;
+    let Some((word, rest)) = next_word(rest) else {
+        return Err(ScriptFaultKind::BadCommand);
+    };
+    let Some(()) = end_of_words(rest) else {
+        return Err(ScriptFaultKind::BadCommand);
+    };
     let path = String::from_str(alloc, word)?;
     Ok(path)
 }

@@ -5,7 +5,7 @@ ghost use Rattle.rh_script.specs.Names.{InOrder};
 ghost use Rattle.rh_script.specs.Steps.{step_as};
 
 /// A command with its words. A name stands for a list of keys, a path for a file.
-#[derive(Debug, Drop)]
+#[derive(Drop)]
 pub enum Command {
     Use { name: String, path: String },
     Add { name: String },
@@ -21,14 +21,14 @@ pub enum Command {
 }
 
 /// A command, and the number of its line. Lines are numbered from 1.
-#[derive(Debug, Drop)]
+#[derive(Drop)]
 pub struct Step {
     pub line: u64,
     pub command: Command,
 }
 
 /// The commands of a script, in order.
-#[derive(Debug, Drop)]
+#[derive(Drop)]
 pub struct Script {
     pub(crate) steps: Vec<Step>,
     // Each name is given once, and before it is used, and no snapshot takes an earlier path.

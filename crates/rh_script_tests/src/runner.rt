@@ -74,17 +74,6 @@ fn look_up(
     Ok(ask_all(rt, alloc, runner, bits, cells, list))
 }
 
-// How many keys of a list are chosen by the table of 1, 9 and 17.
-fn count(
-    rt: &(impl Threads + Wait + Sync + Abort + AllocGlobal),
-    runner: &mut impl Runner,
-    which: Chosen,
-    list: &mut impl KeySource,
-) -> Result<Result<u64, ListFault>, Fail> {
-    let set = three_keys(rt.alloc())?;
-    Ok(count_chosen(rt, rt.alloc(), runner, which, &set, list))
-}
-
 // Inserts the keys of a list that are chosen by the table of 1, 9 and 17, which an earlier reading
 // found to be so many.
 fn insert(
@@ -152,16 +141,6 @@ fn a_long_list_is_looked_up(rt: HostRuntime) -> Result<(), Fail> {
             .zip(1..)
             .all(|(there, key)| *there == [1, 9, 17].contains(&key))
     );
-    Ok(())
-}
-
-#[test]
-fn the_found_of_a_long_list_are_counted(rt: HostRuntime) -> Result<(), Fail> {
-    let keys = many_keys(rt.alloc())?;
-    for (which, many) in [(Chosen::Present, 3), (Chosen::Absent, 199_997)] {
-        let told = count(&rt, &mut Single, which, &mut list_of(&rt, &keys))?;
-        assert_eq!(rt; told, Ok(many));
-    }
     Ok(())
 }
 
@@ -283,8 +262,6 @@ fn faults_of_the_runner_are_told(rt: HostRuntime) -> Result<(), Fail> {
     let no_thread = ListFault::Phase(PhaseFault::NoThread);
     let asked = look_up(&rt, &mut refusing, &mut { list })?;
     assert_eq!(rt; asked.err(), Some(no_thread));
-    let counted = count(&rt, &mut refusing, Chosen::Present, &mut { list })?;
-    assert_eq!(rt; counted.err(), Some(no_thread));
     let (told, _) = change(&rt, &mut refusing, Kind::Remove, &[9], &mut { list })?;
     assert_eq!(rt; told.err(), Some(ListFault::Phase(PhaseFault::Memory)));
     Ok(())

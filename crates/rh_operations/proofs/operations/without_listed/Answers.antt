@@ -1,41 +1,39 @@
-use Rattle.std.proofs.Common.{◌∙◌, ◌^◌, ◌<◌, ap, arith}
-use Rattle.std.proofs.lemmas.Result.{err_from_is_err_and}
+use Rattle.std.proofs.Common.{ap, is_ok}
+use Rattle.std.proofs.lemmas.Result.{IfErr-weaker, IfOk-weaker, err_from_is_err_and}
 use Rattle.rh_key_files.specs.Counting.{Rose}
+use Rattle.rh_ledger.specs.declared.tally.Kind.TheVariants.{Remove}
 use Rattle.rh_operations.specs.Found.{count_again, keys_found}
 use Rattle.rh_operations.specs.KeyLists.{source_bytes}
-use Rattle.rh_operations.proofs.AgainLemmas.{gave, is_again, later_refused, not_again, not_opened, rest_refused}
-use Rattle.std.specs.FinSet as set
-use Rattle.rh_layout.specs.Layout.{keys_of}
-use Rattle.rh_operations.proofs.OperationLemmas.{dropped, free_after_dropping}
+use Rattle.rh_operations.specs.Operations.{size_with}
+use Rattle.rh_operations.specs.Refusals.{PhaseFails}
+use Rattle.rh_operations.proofs.AgainLemmas.{gave, is_again, keys_refused, not_again, not_opened, taken_refused, wanted_if}
 use Rattle.rh_operations.proofs.operations.without_listed.Goals as goal
-
-pub from_cells-set-requires-clause-free : goal.from_cells-set-requires-clause-free
-from_cells-set-requires-clause-free g c =
-    let done = c.in_ok-removed.ensures.done in
-    let old = c.in_ok-scratch.scratch.cells.items in
-    let room : set.len (keys_of old) < 2 ^ c.in_ok-scratch.scratch.bits = omega (arith, c.in_ok-scratch.ensures.room, ap (λ S. set.len S) c.in_ok-scratch.ensures.keys) in
-    rw c.in_ok-removed.ensures.bits (free_after_dropping c.in_ok-scratch.scratch.bits done.0 old c.remove_and_count_absent.new.scratch.cells.items c.in_ok-removed.removed.tally done.2 room)
 
 pub returns-clause-dropped : goal.returns-clause-dropped
 returns-clause-dropped g c =
-    let done = c.in_ok-removed.ensures.done in (
-      done.0,
-      gave _ _ _ _ _ done.0 c.in_ok-reader.ensures.opened c.in_ok-keys.ensures.coming done.1 c.in_ok-keys.ensures.left,
-      dropped _ _ _ _ _ _ c.from_cells-set.result c.in_ok-scratch.ensures.keys (c.from_cells-set.ensures.bits ∙ c.in_ok-removed.ensures.bits) c.from_cells-set.ensures.keys done.2 c.in_ok-scratch.ensures.bits,
-      done.3,
-    )
+    IfOk-weaker c.without.result _ _
+    (λ rest done. (done.0, gave _ _ _ _ _ done.0 c.in_ok-reader.ensures.opened c.in_ok-keys.ensures.coming done.1 c.in_ok-keys.ensures.left, done.2, done.3))
+    c.without.ensures.dropped
 
-pub returns-in_err-removed-clause-refused : goal.returns-in_err-removed-clause-refused
-returns-in_err-removed-clause-refused g c files known =
-    let p = err_from_is_err_and c.from_residual-in_err-removed.result c.from_residual-in_err-removed.ensures.1 in
+pub returns-clause-memory : goal.returns-clause-memory
+returns-clause-memory g c files known =
+    let count = c.args.list.now.count in
+    let again = is_again _ files known _ _ count c.in_ok-reader.ensures.opened c.in_ok-keys.ensures.again in
+    IfErr-weaker c.without.result _ _
+    (λ cause why. wanted_if (count_again count (source_bytes files c.args.list.now.source)) _ cause (λ is. ap is_ok again))
+    c.without.ensures.refused
+
+pub returns-clause-refused : goal.returns-clause-refused
+returns-clause-refused g c files known =
     let found = source_bytes files c.args.list.now.source in
     let count = c.args.list.now.count in
+    let again = is_again _ files known _ _ count c.in_ok-reader.ensures.opened c.in_ok-keys.ensures.again in
     let failed : Type 0 = Rose (g.S.Shelf.failures c.args.shelf.now) (g.S.Shelf.failures c.open_list.new.shelf) in
     let starts = g.N.Runner.refused_starts c.args.runner.now in
-    let starts' = g.N.Runner.refused_starts c.remove_and_count_absent.new.runner in
-    let again = is_again _ files known _ _ count c.in_ok-reader.ensures.opened c.in_ok-keys.ensures.again in
-    let fault = rest_refused _ files known _ _ count c.in_ok-reader.ensures.opened _ c.in_ok-keys.ensures.coming failed starts starts' _ c.in_err-removed.ensures.refused in
-    rw (p.1, p.2) (later_refused (count_again count found) (λ _. keys_found found) _ failed (Rose starts starts') count again fault)
+    let starts' = g.N.Runner.refused_starts c.without.new.runner in
+    IfErr-weaker c.without.result _ _
+    (λ cause why. taken_refused c.args.set.now count found (PhaseFails failed (Rose starts starts')) cause (keys_refused _ files known _ _ count c.in_ok-reader.ensures.opened _ c.in_ok-keys.ensures.coming (size_with Remove c.args.set.now) failed starts starts' _ cause c.in_ok-keys.ensures.left again why))
+    c.without.ensures.refused
 
 pub returns-in_err-keys-clause-refused : goal.returns-in_err-keys-clause-refused
 returns-in_err-keys-clause-refused g c files known =

@@ -1,8 +1,7 @@
-use Rattle.std.proofs.Common.{◌∙◌, ap, ◌++◌, refl, arith, take, length-append, length-take}
+use Rattle.std.proofs.Common.{◌∙◌, ◌++◌, refl, arith, take, length-append, length-take}
 use Rattle.rh_ledger.specs.declared.tally.Kind.TheVariants.{Remove}
 use Rattle.rh_runner.specs.declared.choice.Chosen.TheVariants.{Absent}
 use Rattle.rh_runner.specs.Lists.{Ran}
-use Rattle.rh_ledger.specs.Phase.{looked_up}
 use Rattle.rh_runner.proofs.ListLemmas.{none_came, more_came, more_ran, removed-le, tally_fits}
 use Rattle.rh_runner.proofs.ChosenLemmas.{count_more, length_chosen-le}
 use Rattle.rh_runner.proofs.chosen.remove_and_count_absent.Goals as goal
@@ -16,7 +15,7 @@ overflow_add-absent g c =
     let done = c.loop-room.invariant.0 in
     let batch = take c.in_ok-n.n c.next_keys.new.batch in
     let came = more_came c.loop-room.invariant.1 (g.K.KeySource.coming c.next_keys.new.self) c.next_keys.new.batch (g.K.KeySource.left_of c.next_keys.new.self) c.in_ok-n.n c.in_ok-n.ensures.gives c.if-n-eq0.false c.in_ok-n.ensures.room c.in_ok-n.ensures.left c.in_ok-n.ensures.in_range in
-    let counted = count_more Absent S done batch c.deref.result.now c.loop-room.absent c.count_taken.result c.loop-room.invariant.3 c.count_taken.ensures (rw c.deref.ensures.value (c.in_ok-found.ensures.found ∙ ap (λ S. looked_up S (take c.in_ok-n.n c.next_keys.new.batch)) c.cells.ensures.keys)) in
+    let counted = count_more Absent S done batch c.loop-room.absent c.in_ok-absent.field-0 c.loop-room.invariant.3 c.in_ok-absent.ensures.counted in
     omega (arith, counted, length_chosen-le Absent S (done ++ batch), came.long, c.left-most.ensures, c.left-most.type_inv)
 
 pub change-requires-clause-room : goal.change-requires-clause-room
@@ -40,7 +39,7 @@ loop-room-preserved g c =
       _,
       more_came c.loop-room.invariant.1 _ c.next_keys.new.batch _ c.in_ok-n.n c.in_ok-n.ensures.gives c.if-n-eq0.false c.in_ok-n.ensures.room c.in_ok-n.ensures.left c.in_ok-n.ensures.in_range,
       record { layout = ran.layout; held = ran.held; tally = sums ∙ ran.tally },
-      count_more Absent c.args.set.now.keys c.loop-room.invariant.0 batch c.deref.result.now c.loop-room.absent c.count_taken.result c.loop-room.invariant.3 c.count_taken.ensures (rw c.deref.ensures.value (c.in_ok-found.ensures.found ∙ ap (λ S. looked_up S (take c.in_ok-n.n c.next_keys.new.batch)) c.cells.ensures.keys)),
-      c.in_ok-told.ensures.fine ∙ c.in_ok-found.ensures.fine ∙ c.loop-room.invariant.4,
+      count_more Absent c.args.set.now.keys c.loop-room.invariant.0 batch c.loop-room.absent c.in_ok-absent.field-0 c.loop-room.invariant.3 c.in_ok-absent.ensures.counted,
+      c.in_ok-told.ensures.fine ∙ c.in_ok-absent.ensures.fine ∙ c.loop-room.invariant.4,
       c.in_ok-n.ensures.fine ∙ c.loop-room.invariant.5,
     )
