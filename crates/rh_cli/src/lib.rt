@@ -1,7 +1,6 @@
 //! What the programs have alike: their files and streams, and how they end.
 //!
-//! The programs stand on it. It hands on `rh_arguments`, by which they read their command lines. How they end
-//! by a fault of a file is said in `rh_endings`.
+//! The programs stand on it. How they end by a fault of a file is said in `rh_endings`.
 //!
 //! Proved:
 //!
@@ -28,6 +27,5 @@ mod streams;
 
 pub use file::open;
 pub use program::{answer, words};
-pub use rh_arguments::{LineFault, parsing};
 pub use status::{ProgramFault, Status};
 pub use streams::{Streams, between, buffered_reader, buffered_writer, write_out};

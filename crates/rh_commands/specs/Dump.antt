@@ -7,9 +7,9 @@ use Rattle.rh_layout.specs.Layout.{Layout}
 use Rattle.rh_grow.specs.Growth.{Fits, IsCapacity}
 use Rattle.rh_key_files.specs.declared.fault.KeyFault.{KeyFault}
 use Rattle.rh_key_files.specs.declared.fault.KeyFault.TheVariants as faults
-use Rattle.rh_key_files.specs.Counting.{AppendsFront}
+use Rattle.rh_bytes.specs.Counting.{AppendsFront}
 use Rattle.rh_key_files.specs.Limits.{header_bytes}
-use Rattle.rh_key_files.specs.Taking.{TakesAtMost}
+use Rattle.rh_bytes.specs.Taking.{TakesAtMost}
 use Rattle.rh_key_files.specs.Reading.{BeginsWithHeader, IsFirstKeyFault, IsReadFrom}
 use Rattle.rh_dump.specs.Dump.{dump_text}
 use Rattle.rh_commands.specs.declared.dump.DumpFault.{DumpFault}

@@ -2,9 +2,9 @@
 
 ghost use Rattle.std.specs.Prelude.{◌≡◌, ◌≢◌, IfErr, IsErrOf, OnErr, OnOk};
 ghost use Rattle.hex.specs.Hex.{encode_lower};
-ghost use Rattle.rh_key_files.specs.Counting.{Rose, Writes, failures_of, inner_of};
+ghost use Rattle.rh_bytes.specs.Counting.{Rose, Writes, failures_of, inner_of};
 ghost use Rattle.rh_snapshot.specs.Reading.{BeginsWithSnapHeader, table_as};
-ghost use Rattle.rh_key_files.specs.Taking.{TakesAtMost};
+ghost use Rattle.rh_bytes.specs.Taking.{TakesAtMost};
 ghost use Rattle.rh_snapshot.specs.Limits.{TakesOfSnap, most_snap_bytes};
 ghost use Rattle.rh_commands.specs.Check.{Checks, check_text, snap_fault_in};
 

@@ -7,9 +7,9 @@
 //! let keys = read_keys(alloc, &mut Counted::new(Cursor::new(file.into_inner())))?;
 //! ```
 //!
-//! It hands on what `rh_key_files`, `rh_dump`, `rh_snapshot` and `rh_faulty` do, with their contracts. What is
-//! read is what the file says or its first fault, unless a read fails or memory is refused first. A
-//! key file or a snapshot that was written is read back. `rh_planner` hands on what carries out
+//! It hands on what `rh_key_files`, `rh_dump`, `rh_snapshot` and `rh_faulty` do, with their contracts.
+//! What is read is what the file says or its first fault, unless a read fails or memory is refused
+//! first. A key file or a snapshot that was written is read back. `rh_planner` hands on what carries out
 //! scripts over such files.
 #![tactic(auto)]
 

@@ -1,6 +1,3 @@
-pub use Rattle.rh_bytes.specs.Counting
-pub use Rattle.rh_bytes.specs.Input
-pub use Rattle.rh_bytes.specs.Taking
 pub mod KeyFile
 pub mod Reading
 pub mod Limits

@@ -3,7 +3,7 @@ use Rattle.std.proofs.Common.{◌≡◌, ◌∙◌, ap, sym, subst, refl, ℕ, �
 use Rattle.std.proofs.lemmas.Bool.{eq-eqb}
 use Rattle.rh_key_files.specs.declared.fault.KeyFault.{KeyFault}
 use Rattle.rh_key_files.specs.declared.fault.KeyFault.TheVariants as faults
-use Rattle.rh_key_files.specs.Counting.{Rose}
+use Rattle.rh_bytes.specs.Counting.{Rose}
 use Rattle.rh_key_files.specs.Reading.{KeysFail}
 use Rattle.rh_key_files.specs.Source.{AllCome, Coming, ComesFrom, FaultComes, keys_of_file}
 use Rattle.rh_key_files.proofs.Coming.{counts_its_keys}
@@ -29,7 +29,7 @@ use Rattle.rh_operations.specs.Operations.{flipped_most, room_to_change, size_to
 use Rattle.rh_ledger.specs.declared.tally.Kind.{Kind}
 use Rattle.rh_ledger.specs.declared.tally.Kind.TheVariants.{Remove}
 use Rattle.rh_operations.specs.Found.{keys_or_cause}
-use Rattle.rh_key_files.specs.Input.{◌>>=◌}
+use Rattle.rh_bytes.specs.Input.{◌>>=◌}
 use Rattle.rh_operations.specs.Size.{size_for}
 use Rattle.rh_operations.specs.Refusals.{ListFails, MemoryFails, PhaseFails, WantedAfter}
 

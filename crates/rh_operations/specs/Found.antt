@@ -10,7 +10,7 @@ use Rattle.rh_snapshot.specs.Snapshot.{Table}
 use Rattle.rh_snapshot.specs.Reading.{file_table}
 use Rattle.rh_operations.specs.declared.cause.Cause.{Cause}
 use Rattle.rh_operations.specs.declared.cause.Cause.TheVariants.{Missing, Keys, Snap, Changed}
-use Rattle.rh_key_files.specs.Input.{◌>>=◌}
+use Rattle.rh_bytes.specs.Input.{◌>>=◌}
 
 abbrev pub keys_or_cause : Result (List ℕ) KeyFault → Result (List ℕ) Cause
 keys_or_cause (Ok keys) = Ok keys

@@ -15,7 +15,7 @@ use Rattle.rh_snapshot.specs.Snapshot.{snap_spelling}
 use Rattle.rh_operations.specs.declared.cause.Cause.{Cause}
 use Rattle.rh_operations.specs.declared.operations.Flips.{Flips}
 use Rattle.rh_operations.specs.Found.{count_again, keys_again, keys_found}
-use Rattle.rh_key_files.specs.Input.{◌>>=◌}
+use Rattle.rh_bytes.specs.Input.{◌>>=◌}
 use Rattle.rh_operations.specs.Size.{size_for}
 
 -- the bytes are the snapshot of a table: they spell a layout of its keys that has a free cell

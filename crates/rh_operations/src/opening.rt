@@ -1,7 +1,7 @@
 //! Opening a list at its beginning.
 
 ghost use Rattle.std.specs.Prelude.{◌≡◌, ◌⊎◌, ℕ, List, Some, Ok, IfOk, IfErr, OnOk};
-ghost use Rattle.rh_key_files.specs.Counting.{Rose, inner_of};
+ghost use Rattle.rh_bytes.specs.Counting.{Rose, inner_of};
 ghost use Rattle.rh_key_files.specs.Source.{ComesFrom};
 ghost use Rattle.rh_key_files.specs.Stream.{coming_of, left_in, left_of, state_of};
 ghost use Rattle.rh_shelf.specs.Shelf.{Files, Finds, Lacks};

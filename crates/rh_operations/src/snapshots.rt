@@ -1,7 +1,7 @@
 //! Snapshots of the table on a shelf.
 
 ghost use Rattle.std.specs.Prelude.{◌≡◌, ℕ, List, Some, Ok, IfErr, IfOk, OnErr, OnOk};
-ghost use Rattle.rh_key_files.specs.Counting.{Rose};
+ghost use Rattle.rh_bytes.specs.Counting.{Rose};
 ghost use Rattle.rh_shelf.specs.Shelf.{Files, InDoubt, Puts};
 ghost use Rattle.rh_operations.specs.Operations.{IsSnapshotOf};
 ghost use Rattle.rh_operations.specs.Leaves.{KeepsShelf};

@@ -10,7 +10,7 @@ use Rattle.rh_turns.specs.Game.{AllFinished, Game}
 use Rattle.rh_stepper.specs.Made.{IsMadeSoFar, TallySpec, held_first}
 use Rattle.std.specs.Io.KnownBytes.{Appends}
 use Rattle.rh_ledger.specs.declared.tally.Tally.{Tally}
-use Rattle.rh_key_files.specs.Counting.{AppendsFront}
+use Rattle.rh_bytes.specs.Counting.{AppendsFront}
 use Rattle.rh_play.specs.Lines.{end_line, tally_line}
 use Rattle.rh_dump.specs.Dump.{dump_text}
 use Rattle.rh_play.specs.declared.play.Play.{Play}

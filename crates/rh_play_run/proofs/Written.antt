@@ -1,7 +1,7 @@
 -- Three texts written one after the other.
 use Rattle.std.proofs.Common.{ℕ, List, [], ◌++◌, Option, Result, subst, append-nil}
 use Rattle.std.specs.Io.KnownBytes.{Appends}
-use Rattle.rh_key_files.specs.Counting.{AppendsFront, Writes}
+use Rattle.rh_bytes.specs.Counting.{AppendsFront, Writes}
 use Rattle.rh_bytes.proofs.Writing.{Writes-then, front_after, front_longer}
 
 pub first_stops : (a b : Option (List ℕ)) (first second third : List ℕ) → AppendsFront a b (first ++ []) → AppendsFront a b (first ++ (second ++ third))

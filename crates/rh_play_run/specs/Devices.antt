@@ -1,7 +1,7 @@
 -- What a call does with the device that it reads a play from, and with the one that it writes to.
 use Rattle.std.specs.Prelude.{◌≡◌, ◌≢◌, ℕ, ◌+◌, List, Option, Result, Err, IfErr, IsErrOf, OnOk}
-use Rattle.rh_key_files.specs.Counting.{Rose, failures_of}
-use Rattle.rh_key_files.specs.Taking.{TakesAtMost}
+use Rattle.rh_bytes.specs.Counting.{Rose, failures_of}
+use Rattle.rh_bytes.specs.Taking.{TakesAtMost}
 use Rattle.rh_bytes.specs.declared.counted.Counted.{Counted}
 use Rattle.rh_play.specs.declared.limits.TheConstants.{MAX_TEXT_BYTES}
 

@@ -10,7 +10,7 @@ use Rattle.rh_draw.specs.Records.{count_from}
 use Rattle.rh_draw.specs.declared.limits.TheConstants.{MAX_STEPS}
 use Rattle.rh_draw.specs.declared.records.Record.{Record}
 use Rattle.rh_draw.specs.declared.records.Window.{Window}
-use Rattle.rh_key_files.specs.Counting.{AppendsFront}
+use Rattle.rh_bytes.specs.Counting.{AppendsFront}
 use Rattle.rh_play.specs.declared.play.Play.{Play}
 use Rattle.rh_play_run.specs.declared.draw_fault.DrawFault.{DrawFault}
 use Rattle.rh_play_run.specs.declared.draw_fault.DrawFault.TheVariants as draw

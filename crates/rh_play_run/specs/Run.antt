@@ -8,7 +8,7 @@ use Rattle.rh_turns.specs.Game.{AllFinished, Game}
 use Rattle.rh_stepper.specs.declared.fault.PlayFault.{PlayFault}
 use Rattle.rh_ledger.specs.Tally.{tally_by}
 use Rattle.rh_stepper.specs.Made.{IsMadeSoFar, TallySpec, changed_count, done_count}
-use Rattle.rh_key_files.specs.Counting.{AppendsFront}
+use Rattle.rh_bytes.specs.Counting.{AppendsFront}
 use Rattle.rh_dump.specs.Dump.{dump_text}
 use Rattle.rh_play.specs.declared.fault.PlayTextFault.{PlayTextFault}
 use Rattle.rh_play.specs.declared.fault.PlayTextKind.TheVariants as kind

@@ -1,8 +1,8 @@
 //! A play, drawn.
 
 ghost use Rattle.std.specs.Prelude.{◌≡◌, ◌≢◌, ◌+◌, ◌<◌, ◌≤◌, Err, IfErr, IfOk, IfSome, IsErrOf, None};
-ghost use Rattle.rh_key_files.specs.Counting.{Rose, failures_of, inner_of};
-ghost use Rattle.rh_key_files.specs.Taking.{TakesAtMost};
+ghost use Rattle.rh_bytes.specs.Counting.{Rose, failures_of, inner_of};
+ghost use Rattle.rh_bytes.specs.Taking.{TakesAtMost};
 ghost use Rattle.rh_draw.specs.Records.{count_from};
 ghost use Rattle.rh_draw.specs.declared.limits.TheConstants.{MAX_STEPS};
 ghost use Rattle.rh_play.specs.declared.limits.TheConstants.{MAX_TEXT_BYTES};

@@ -2,7 +2,7 @@
 
 ghost use Rattle.std.specs.Prelude.{◌≡◌, ◌+◌, ◌++◌, ◌⊎◌, IfErr, IfOk, IsErrOf};
 ghost use Rattle.rh_layout.specs.Layout.{IsLayout};
-ghost use Rattle.rh_key_files.specs.Counting.{failures_of, inner_of};
+ghost use Rattle.rh_bytes.specs.Counting.{failures_of, inner_of};
 ghost use Rattle.rh_dump.specs.Dump.{dump_text};
 ghost use Rattle.rh_play_run.specs.Beginning.{IsBlank, workers_in};
 ghost use Rattle.rh_play_run.specs.Devices.{ReadsPlay, WritesLast};

@@ -1,7 +1,7 @@
 //! Ranges of keys, by which a list is split.
 //!
-//! `rh_splitting` stands on it, and `rh_range_laws`, which says that what is made of the parts is what is
-//! made of the whole.
+//! `rh_splitting` stands on it, and `rh_range_laws`, which says that what is made of the parts is what
+//! is made of the whole.
 //!
 //! Proved:
 //!

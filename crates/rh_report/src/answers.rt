@@ -1,7 +1,7 @@
 //! The report of look-ups.
 
 ghost use Rattle.std.specs.Prelude.{◌≡◌, ◌≤◌, ◌<◌, ◌++◌, OnErr, OnOk, codes, length, map};
-ghost use Rattle.rh_key_files.specs.Counting.{Rose, Writes, failures_of, inner_of};
+ghost use Rattle.rh_bytes.specs.Counting.{Rose, Writes, failures_of, inner_of};
 ghost use Rattle.rh_report.specs.Texts.{asked_head, asked_text, digit_of, digits_from};
 
 use crate::lines::write_line;

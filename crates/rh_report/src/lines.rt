@@ -2,7 +2,7 @@
 //! give them a writer with a buffer.
 
 ghost use Rattle.std.specs.Prelude.{◌≡◌, ◌++◌, List, ℕ, OnErr, OnOk, decimal};
-ghost use Rattle.rh_key_files.specs.Counting.{Rose, Writes, failures_of, inner_of};
+ghost use Rattle.rh_bytes.specs.Counting.{Rose, Writes, failures_of, inner_of};
 ghost use Rattle.rh_report.specs.Account.{Says, account_as, change_as};
 ghost use Rattle.rh_report.specs.Texts.{front_text, line_text, numbers_as, table_numbers};
 

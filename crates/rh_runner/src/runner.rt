@@ -5,7 +5,7 @@ ghost use Rattle.std.specs.FinSet as set;
 ghost use Rattle.std.specs.Thread.{IsSync};
 ghost use Rattle.rh_layout.specs.Key.{IsKey};
 ghost use Rattle.rh_layout.specs.Layout.{IsLayout, keys_of};
-ghost use Rattle.rh_key_files.specs.Counting.{Rose};
+ghost use Rattle.rh_bytes.specs.Counting.{Rose};
 ghost use Rattle.rh_ledger.specs.Phase.{set_after, tally_of, looked_up, most_added};
 ghost use Rattle.rh_runner.specs.Cells.{AreTheCells};
 

@@ -11,7 +11,7 @@ use Rattle.rh_layout.specs.Layout.{Keys, keys_of}
 use Rattle.rh_layout.proofs.LayoutLemmas.{layout_keys, layout_own}
 use Rattle.rh_edit.specs.Held.{Held}
 use Rattle.rh_key_files.specs.declared.fault.KeyFault.TheVariants.{NotKeys, Short}
-use Rattle.rh_key_files.specs.Input.{◌>>=◌, bytes_at, is_byte}
+use Rattle.rh_bytes.specs.Input.{◌>>=◌, bytes_at, is_byte}
 use Rattle.rh_key_files.specs.Reading.{after_header, after_version, file_keys, header_at, named, version_at}
 use Rattle.rh_key_files.specs.Source as source
 use Rattle.rh_key_files.specs.Source.{keys_of_file}

@@ -3,7 +3,7 @@ use Rattle.std.proofs.Common.{◌≡◌, ◌∙◌, ap, sym, ℕ, List, [], ◌�
 use Rattle.rh_script.specs.Instruction.{Numbered}
 use Rattle.rh_report.specs.Account.{Account}
 use Rattle.rh_operations.specs.declared.cause.Cause.{Cause}
-use Rattle.rh_key_files.specs.Input.{◌>>=◌}
+use Rattle.rh_bytes.specs.Input.{◌>>=◌}
 use Rattle.rh_script_run.specs.declared.fault.RunFault.{RunFault}
 use Rattle.rh_script_run.specs.Meaning.{Outcome, ScriptState, outcome_at, meaning, outcome_of}
 use Rattle.rh_script_run.proofs.RunLemmas.{Course, reached_in, then_ok}

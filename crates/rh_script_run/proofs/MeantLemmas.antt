@@ -2,7 +2,7 @@
 use Rattle.std.proofs.Common.{◌≡◌, ◌∙◌, ap, sym, subst, refl, ℕ, inl, inr, List, [], append-nil, Option, Result, Ok, Err}
 use Rattle.std.specs.Io.KnownBytes.{Appends}
 use Rattle.std.proofs.KnownBytes.{Appends-trans}
-use Rattle.rh_key_files.specs.Counting.{Rose}
+use Rattle.rh_bytes.specs.Counting.{Rose}
 use Rattle.rh_key_files.specs.declared.fault.KeyFault.TheVariants as key_faults
 use Rattle.rh_snapshot.specs.declared.fault.SnapFault.TheVariants as snap_faults
 use Rattle.rh_script.specs.Instruction.{Instruction, Numbered, Use, Add, Drop, Ask, Keep, Flip, Save, Clear, Dump, Snapshot, Restore}

@@ -15,7 +15,7 @@ use Rattle.rh_shelf.specs.Shelf.{Files}
 use Rattle.rh_report.specs.Account.{Account}
 use Rattle.rh_report.specs.Account as accounts
 use Rattle.rh_operations.specs.declared.cause.Cause.{Cause}
-use Rattle.rh_key_files.specs.Input.{◌>>=◌}
+use Rattle.rh_bytes.specs.Input.{◌>>=◌}
 use Rattle.rh_operations.specs.Size.{size_for}
 use Rattle.rh_script_run.specs.declared.fault.RunFault.{RunFault}
 use Rattle.rh_script_run.specs.declared.report.Report.{Report}

@@ -22,7 +22,7 @@ use Rattle.rh_script_run.specs.declared.fault.RunFault.{RunFault}
 use Rattle.rh_operations.specs.declared.key_lists.KeyList.{KeyList}
 use Rattle.rh_script_run.specs.Files.{HasFiles, given_files}
 use Rattle.rh_operations.specs.KeyLists.{paths_of}
-use Rattle.rh_key_files.specs.Input.{◌>>=◌}
+use Rattle.rh_bytes.specs.Input.{◌>>=◌}
 use Rattle.rh_operations.specs.Size.{size_for}
 use Rattle.rh_script_run.specs.Meaning.{ScriptState, Outcome, outcome_at, keys_at_path, meaning, outcome_of, start, table_at}
 use Rattle.rh_script_run.specs.Environment.{Environment}

@@ -6,7 +6,7 @@ use Rattle.rh_script_run.specs.Files.{FileMap}
 use Rattle.rh_report.specs.Account.{Account, Says}
 use Rattle.rh_report.specs.Account as accounts
 use Rattle.rh_operations.specs.declared.cause.Cause.{Cause}
-use Rattle.rh_key_files.specs.Input.{◌>>=◌}
+use Rattle.rh_bytes.specs.Input.{◌>>=◌}
 use Rattle.rh_script_run.specs.Meaning.{Outcome, keys_at_path, restores, table_at, uses}
 use Rattle.rh_script_run.specs.Steps.{Named, world_of}
 

@@ -2,7 +2,7 @@
 use Rattle.std.specs.Prelude.{◌≡◌, ◌≢◌, ℕ, List, [], ◌∷◌, length, Option, Some, Result, Ok, Err}
 use Rattle.std.specs.FinSet as set
 use Rattle.std.specs.Io.KnownBytes.{Appends}
-use Rattle.rh_key_files.specs.Counting.{AppendsFront, Rose}
+use Rattle.rh_bytes.specs.Counting.{AppendsFront, Rose}
 use Rattle.rh_key_files.specs.declared.fault.KeyFault.TheVariants as key_faults
 use Rattle.rh_snapshot.specs.declared.fault.SnapFault.TheVariants as snap_faults
 use Rattle.rh_script.specs.Instruction.{Instruction, Numbered, Use, Restore}

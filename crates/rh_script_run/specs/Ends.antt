@@ -2,7 +2,7 @@
 use Rattle.std.specs.Prelude.{◌≡◌, ℕ, ◌⊎◌, List, [], ◌∷◌, ◌++◌, length, Option, Some, None, Result, Ok, Err, OnOk, IfErr}
 use Rattle.std.specs.FinSet as set
 use Rattle.std.specs.Io.KnownBytes.{Appends}
-use Rattle.rh_key_files.specs.Counting.{AppendsFront, Rose}
+use Rattle.rh_bytes.specs.Counting.{AppendsFront, Rose}
 use Rattle.rh_script.specs.Instruction.{Instruction, Numbered, Snapshot}
 use Rattle.rh_shelf.specs.Shelf.{Files}
 use Rattle.rh_report.specs.Account.{Account, Says}

@@ -25,7 +25,7 @@ use Rattle.rh_operations.specs.declared.cause.Cause.{Cause}
 use Rattle.rh_operations.specs.declared.cause.Cause.TheVariants as causes
 use Rattle.rh_operations.specs.declared.cause.Cause.TheVariants.{Missing}
 use Rattle.rh_operations.specs.Found.{keys_or_cause, table_or_cause}
-use Rattle.rh_key_files.specs.Input.{◌>>=◌}
+use Rattle.rh_bytes.specs.Input.{◌>>=◌}
 use Rattle.rh_operations.specs.Size.{size_for}
 use Rattle.rh_script_run.specs.declared.fault.RunFault.{RunFault}
 use Rattle.rh_script_run.specs.Files.{File, FileMap, Bytes, Sealed, given_files, with_snapshot}

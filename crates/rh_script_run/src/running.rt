@@ -3,7 +3,7 @@
 ghost use Rattle.std.specs.Prelude.{◌≡◌, List, None, Some, IfOk, IfErr, OnOk};
 ghost use Rattle.std.specs.FinSet as finset;
 ghost use Rattle.rh_layout.specs.declared.limits.TheConstants.{MIN_BITS};
-ghost use Rattle.rh_key_files.specs.Counting.{Rose, failures_of, inner_of};
+ghost use Rattle.rh_bytes.specs.Counting.{Rose, failures_of, inner_of};
 ghost use Rattle.rh_script.specs.Instruction.{Numbered};
 ghost use Rattle.rh_script.specs.Names.{SnapshotsAreNew};
 ghost use Rattle.rh_script.specs.Plan.{plan_of};

@@ -3,7 +3,7 @@
 ghost use Rattle.std.specs.Prelude.{◌≡◌, ◌+◌, ℕ, false, List, [], ◌∷◌, ◌++◌, Some, IfErr, OnErr};
 ghost use Rattle.std.specs.Prelude.{OnOk, Option, length};
 ghost use Rattle.rh_edit.specs.Held.{Held};
-ghost use Rattle.rh_key_files.specs.Counting.{Rose};
+ghost use Rattle.rh_bytes.specs.Counting.{Rose};
 ghost use Rattle.rh_script.specs.Instruction.{Snapshot};
 ghost use Rattle.rh_script.specs.Names.{is_given};
 ghost use Rattle.rh_shelf.specs.Shelf.{Files};

@@ -1,7 +1,7 @@
 //! The steps of a plan.
 
 ghost use Rattle.std.specs.Prelude.{◌≡◌, ◌≢◌, ◌+◌, ◌++◌, IfErr, OnErr, OnOk, length};
-ghost use Rattle.rh_key_files.specs.Counting.{Rose, failures_of, inner_of};
+ghost use Rattle.rh_bytes.specs.Counting.{Rose, failures_of, inner_of};
 ghost use Rattle.rh_script.specs.Names.{file_of, given_by};
 ghost use Rattle.rh_script.specs.Plan.{number_after};
 ghost use Rattle.rh_script.specs.Tasks.{task_as};

@@ -1,12 +1,12 @@
 //! What commands have to report.
 
 ghost use Rattle.std.specs.Prelude.{◌≡◌, List, ℕ, OnErr, OnOk};
-ghost use Rattle.rh_key_files.specs.Counting.{Rose, Writes, failures_of, inner_of};
+ghost use Rattle.rh_bytes.specs.Counting.{Rose, Writes, failures_of, inner_of};
 ghost use Rattle.rh_report.specs.Account.{Says};
 ghost use Rattle.rh_script_run.specs.Told.{told_as};
 
-use rh_edit::SeqSet;
 use rh_dump::write_dump;
+use rh_edit::SeqSet;
 use rh_key_files::{Counted, WriteFault};
 use rh_report::{Account, write_account, write_asked};
 use std::io::Write;

@@ -1,7 +1,7 @@
 //! Two runs of one script.
 
 ghost use Rattle.std.specs.Prelude.{◌≡◌, Some};
-ghost use Rattle.rh_key_files.specs.Counting.{inner_of};
+ghost use Rattle.rh_bytes.specs.Counting.{inner_of};
 ghost use Rattle.rh_script.specs.Script.{steps_of};
 ghost use Rattle.rh_shelf.specs.Shelf.{Files};
 ghost use Rattle.rh_script_run.specs.Agree.{AppendSame, EndsByItself};

@@ -41,7 +41,7 @@ impl From<KeyFault> for SplitFault {
 }
 
 /// Why the key files of the parts were not written. None of them is left then.
-#[derive(Clone, Copy, Debug, PartialEq, Eq, Error)]
+#[derive(Clone, Copy, Debug, Error)]
 pub enum FilesFault {
     #[error(transparent)]
     Split(SplitFault),

@@ -1,7 +1,7 @@
 //! Phases of scripts, each by several workers.
 
 ghost use Rattle.std.specs.Prelude.{◌≡◌};
-ghost use Rattle.rh_key_files.specs.Counting.{Rose};
+ghost use Rattle.rh_bytes.specs.Counting.{Rose};
 ghost use Rattle.rh_threads.specs.Made.{IsWorkers};
 ghost use Rattle.rh_threads.specs.declared.crew.Refused.{Refused};
 ghost use Rattle.rh_threads.specs.declared.fault.Fault.TheVariants as faults;

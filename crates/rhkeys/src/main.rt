@@ -1,15 +1,16 @@
 //! The program `rhkeys`: texts of numbers become key files, and key files and snapshots texts.
 #![tactic(auto)]
 
-ghost use Rattle.std.specs.Prelude.{◌≡◌, ◌≤◌, ◌<◌, length, true};
+ghost use Rattle.std.specs.Prelude.{◌≡◌, ◌≤◌, ◌<◌, IfOk, length, true};
 ghost use Rattle.rh_ranges.specs.declared.part.TheConstants.{MAX_PARTS};
 ghost use Rattle.rh_splitting.specs.Name.{is_name};
 ghost use Rattle.rhkeys.specs.Endings.{ending_by};
 
 mod status;
 
+use rh_arguments::LineFault;
 use rh_bytes::Counted;
-use rh_cli::{LineFault, ProgramFault, Status, answer, between, buffered_writer, words, write_out};
+use rh_cli::{ProgramFault, Status, answer, between, buffered_writer, words, write_out};
 use rh_key_commands::line::{Line, line};
 use rh_key_files::KeyFault;
 use rh_key_texts::{FaultAt, FileFault, Form, list_files, list_keys, list_snapshot, pack};
@@ -17,9 +18,10 @@ use rh_shelf::{FileShelf, ShelfFault};
 use rh_snapshot::SnapFault;
 use rh_splitting::{FilesFault, Part, PartFiles, Source, is_name, split_source, write_plan};
 use status::Fault;
+use std::alloc::Global;
 use std::env::Env;
 use std::fs::Files;
-use std::io;
+use std::io::{self, Sink};
 use std::process::ExitCode;
 
 fn main(rt: HostRuntime) -> ExitCode {
@@ -150,17 +152,33 @@ fn plan_streams(
     requires some { 0 < count }
     requires few { count ≤ MAX_PARTS }
 {
-    let output = buffered_writer(rt.alloc(), io::writer(rt))?;
-    let mut parts = Vec::new(rt.alloc());
+    let mut parts = empty_parts(rt.alloc(), count)?;
+    let mut reader = Counted::new(rt.reader());
+    match split_source(rt.alloc(), &mut reader, source, &mut parts) {
+        Ok(()) => tell_plan(rt, &parts),
+        Err(fault) => Err(Fault::Split(FilesFault::Split(fault))),
+    }
+}
+
+// Parts whose keys are counted, and written nowhere.
+fn empty_parts(alloc: Global, count: u64) -> Result<Vec<Part<Sink>>, ProgramFault>
+    ensures { IfOk result (λ parts. length parts.items ≡ count) }
+{
+    let mut parts = Vec::new(alloc);
     for _ in 0..count {
         let Ok(()) = parts.push(Part::new(io::sink())) else {
-            return Err(Fault::Program(ProgramFault::Memory));
+            return Err(ProgramFault::Memory);
         };
     }
-    let mut reader = Counted::new(rt.reader());
-    split_source(rt.alloc(), &mut reader, source, &mut parts).map_err(FilesFault::Split)?;
-    let mut writer = Counted::new(output);
-    if write_plan(&parts, &mut writer).is_err() {
+    Ok(parts)
+}
+
+// Writes to standard output how many keys each part was given.
+fn tell_plan(rt: &(impl Print + AllocGlobal), parts: &[Part<Sink>]) -> Result<Status, Fault>
+    requires { length parts.now ≤ MAX_PARTS }
+{
+    let mut writer = Counted::new(buffered_writer(rt.alloc(), io::writer(rt))?);
+    if write_plan(parts, &mut writer).is_err() {
         return Err(Fault::Program(ProgramFault::Write));
     }
     write_out(&mut writer.into_inner())?;

@@ -7,7 +7,8 @@ ghost use Rattle.rhplay.specs.Endings.{ending_by};
 
 mod status;
 
-use rh_cli::{LineFault, ProgramFault, Status, answer, between, open, words};
+use rh_arguments::LineFault;
+use rh_cli::{ProgramFault, Status, answer, between, open, words};
 use rh_play_commands::{Line, NAME, line, name_called};
 use rh_play_run::{Telling, draw_play, tell_play};
 use status::Fault;

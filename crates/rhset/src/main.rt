@@ -3,7 +3,8 @@
 
 ghost use Rattle.rh_threads.specs.Made.{IsWorkers};
 
-use rh_cli::{LineFault, ProgramFault, Status, answer, words};
+use rh_arguments::LineFault;
+use rh_cli::{ProgramFault, Status, answer, words};
 use rh_commands::line::{Line, line};
 use rh_runner::Single;
 use rh_set_program::{Fault, check_file, dump_streams, run_by, tell};

@@ -11,7 +11,7 @@ impl Shelf for ChangingShelf<'_> {
     type Reader = Cursor<Vec<u8>>;
 
     ghost use Rattle.std.specs.Prelude.{None};
-    ghost use Rattle.rh_key_files.specs.Counting.{last_count};
+    ghost use Rattle.rh_bytes.specs.Counting.{last_count};
 
     ghost files = { λ _. None };
 

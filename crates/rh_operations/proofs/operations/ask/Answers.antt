@@ -1,6 +1,6 @@
 use Rattle.std.proofs.Common.{◌∙◌, ap}
 use Rattle.std.proofs.lemmas.Result.{err_from_is_err_and}
-use Rattle.rh_key_files.specs.Counting.{Rose}
+use Rattle.rh_bytes.specs.Counting.{Rose}
 use Rattle.rh_operations.specs.Found.{count_again, keys_found}
 use Rattle.rh_operations.specs.KeyLists.{source_bytes}
 use Rattle.rh_operations.proofs.AgainLemmas.{gave, is_again, later_refused, not_again, not_opened, rest_refused}

@@ -1,7 +1,7 @@
 use Rattle.std.proofs.Common.{Ok}
 use Rattle.std.proofs.lemmas.Result.{IfErr-weaker, IfOk-weaker, err_from_is_err_and}
-use Rattle.rh_key_files.specs.Counting.{Rose}
-use Rattle.rh_key_files.specs.Input.{◌>>=◌}
+use Rattle.rh_bytes.specs.Counting.{Rose}
+use Rattle.rh_bytes.specs.Input.{◌>>=◌}
 use Rattle.rh_operations.specs.Found.{keys_found}
 use Rattle.rh_operations.specs.KeyLists.{source_bytes}
 use Rattle.rh_operations.specs.Operations.{room_to_change, size_with}

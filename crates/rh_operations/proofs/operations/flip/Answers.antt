@@ -1,7 +1,7 @@
 use Rattle.std.proofs.Common.{◌≡◌, ◌∙◌, ◌+◌, ap, sym, subst, arith, inr}
 use Rattle.std.proofs.lemmas.Result.{err_from_is_err_and}
 use Rattle.std.specs.FinSet as set
-use Rattle.rh_key_files.specs.Counting.{Rose}
+use Rattle.rh_bytes.specs.Counting.{Rose}
 use Rattle.rh_layout.specs.Layout.{Keys}
 use Rattle.rh_runner.specs.declared.choice.Chosen.TheVariants.{Absent}
 use Rattle.rh_runner.specs.Lists.{chosen}

@@ -1,6 +1,6 @@
 use Rattle.std.proofs.Common.{◌+◌, ◌^◌, ◌<◌, arith, inl, length}
 use Rattle.std.proofs.lemmas.Result.{err_from_is_err_and}
-use Rattle.rh_key_files.specs.Counting.{Rose}
+use Rattle.rh_bytes.specs.Counting.{Rose}
 use Rattle.rh_operations.specs.Found.{keys_found}
 use Rattle.rh_operations.specs.KeyLists.{source_bytes}
 use Rattle.rh_operations.proofs.AgainLemmas.{again_refused, gave, is_again, not_again, not_opened}

@@ -1,7 +1,7 @@
 use Rattle.std.proofs.Common.{◌≡◌, ◌∙◌, ◌+◌, ap, sym, subst, arith, inr, length, Ok, ℕ}
 use Rattle.std.proofs.lemmas.Result.{err_from_is_err_and}
 use Rattle.std.specs.FinSet as set
-use Rattle.rh_key_files.specs.Counting.{Rose}
+use Rattle.rh_bytes.specs.Counting.{Rose}
 use Rattle.rh_layout.specs.Layout.{Keys}
 use Rattle.rh_layout.specs.declared.limits.TheConstants.{MIN_BITS}
 use Rattle.rh_ledger.specs.declared.tally.Kind.TheVariants.{Insert}

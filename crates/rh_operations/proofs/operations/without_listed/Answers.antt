@@ -1,6 +1,6 @@
 use Rattle.std.proofs.Common.{ap, is_ok}
 use Rattle.std.proofs.lemmas.Result.{IfErr-weaker, IfOk-weaker, err_from_is_err_and}
-use Rattle.rh_key_files.specs.Counting.{Rose}
+use Rattle.rh_bytes.specs.Counting.{Rose}
 use Rattle.rh_ledger.specs.declared.tally.Kind.TheVariants.{Remove}
 use Rattle.rh_operations.specs.Found.{count_again, keys_found}
 use Rattle.rh_operations.specs.KeyLists.{source_bytes}

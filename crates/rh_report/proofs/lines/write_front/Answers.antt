@@ -1,5 +1,5 @@
 use Rattle.std.proofs.Common.{[], ◌++◌, rules, subst, take}
-use Rattle.rh_key_files.specs.Counting.{AppendsFront}
+use Rattle.rh_bytes.specs.Counting.{AppendsFront}
 use Rattle.std.proofs.lemmas.Result.{err_from_is_err_and}
 use Rattle.rh_bytes.proofs.Writing.{front_longer, front_stops}
 use Rattle.rh_report.specs.Texts.{front_text, numbers_as}
