@@ -9,7 +9,7 @@ ghost use Rattle.rh_snapshot.specs.Limits.{TakesOfSnap, most_snap_bytes};
 ghost use Rattle.rh_commands.specs.Check.{Checks, check_text, snap_fault_in};
 
 use itoa::Buffer;
-use rh_key_files::{Counted, WriteFault, write_texts};
+use rh_bytes::{Counted, WriteFault, write_texts};
 use rh_snapshot::{SnapFault, Snapshot, read_snapshot};
 use std::alloc::Global;
 use std::io::{Read, Write};

@@ -6,10 +6,11 @@ ghost use Rattle.rh_bytes.specs.Taking.{TakesAtMost};
 ghost use Rattle.rh_key_files.specs.Limits.{NoReadFailed, TakesOfFile, most_bytes};
 ghost use Rattle.rh_commands.specs.Dump.{Dumps, dump_fault_in};
 
+use rh_bytes::{Counted, WriteFault};
 use rh_dump::write_dump;
 use rh_edit::SeqSet;
 use rh_grow::bits_for;
-use rh_key_files::{Counted, KeyFault, WriteFault, read_keys};
+use rh_key_files::{KeyFault, read_keys};
 use rh_layout::MIN_BITS;
 use std::alloc::{AllocError, Global};
 use std::io::{Read, Write};

@@ -13,7 +13,8 @@ ghost use Rattle.rh_operations.specs.Refusals.{ListFails};
 
 use crate::cause::Cause;
 use crate::key_lists::{KeyList, ListReader, Source};
-use rh_key_files::{Counted, KeyStream, open_keys};
+use rh_bytes::Counted;
+use rh_key_files::{KeyStream, open_keys};
 use rh_shelf::{Shelf, ShelfFault};
 use std::alloc::Global;
 use std::io::Read;

@@ -26,8 +26,9 @@ use crate::cause::Cause;
 use crate::key_lists::{KeyList, Source};
 use crate::opening::{fetched, keys_again, open_list};
 use crate::size::{copied, grown, scratch_for};
+use rh_bytes::Counted;
 use rh_edit::SeqSet;
-use rh_key_files::{Counted, KeySource, open_keys, write_keys};
+use rh_key_files::{KeySource, open_keys, write_keys};
 use rh_layout::MIN_BITS;
 use rh_ledger::{Kind, Tally};
 use rh_runner::{

@@ -11,8 +11,8 @@ ghost use Rattle.rh_operations.specs.Refusals.{PutFails, RestoreFails};
 
 use crate::cause::Cause;
 use crate::opening::fetched;
+use rh_bytes::Counted;
 use rh_edit::SeqSet;
-use rh_key_files::Counted;
 use rh_shelf::{Shelf, ShelfFault};
 use rh_snapshot::{read_snapshot, write_snapshot};
 use std::alloc::Global;

@@ -1,8 +1,8 @@
 //! What can go wrong where a play is drawn.
 
 use crate::fault::PlayRunFault;
+use rh_bytes::WriteFault;
 use rh_draw::MAX_STEPS;
-use rh_key_files::WriteFault;
 use std::alloc::AllocError;
 use thiserror::Error;
 

@@ -10,8 +10,8 @@ ghost use Rattle.rh_bytes.specs.Counting.{Rose, Writes, failures_of, inner_of};
 ghost use Rattle.rh_dump.specs.Dump.{dump_text};
 ghost use Rattle.rh_play_run.specs.Run.{ClosesWith, closing};
 
+use rh_bytes::{Counted, WriteFault, write_texts};
 use rh_dump::write_dump;
-use rh_key_files::{Counted, WriteFault, write_texts};
 use rh_play::{push_end, push_tally};
 use rh_stepper::Player;
 use std::alloc::{AllocError, Global};

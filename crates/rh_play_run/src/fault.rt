@@ -1,6 +1,6 @@
 //! What can go wrong.
 
-use rh_key_files::WriteFault;
+use rh_bytes::WriteFault;
 use rh_play::PlayTextFault;
 use rh_stepper::PlayFault;
 use std::alloc::{AllocError, AllocFailed};

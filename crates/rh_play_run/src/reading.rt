@@ -8,7 +8,7 @@ ghost use Rattle.rh_play.specs.declared.limits.TheConstants.{MAX_TEXT_BYTES};
 ghost use Rattle.rh_play_run.specs.Run.{IsPlayRead, IsUnread};
 
 use crate::fault::PlayRunFault;
-use rh_key_files::{Counted, fill};
+use rh_bytes::{Counted, fill};
 use rh_play::{MAX_TEXT_BYTES, Play, parse_play};
 use std::alloc::Global;
 use std::io::Read;

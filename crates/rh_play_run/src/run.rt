@@ -16,7 +16,7 @@ use crate::log::{Log, Telling};
 use crate::orders::Size;
 use crate::reading::read_play;
 use crate::schedule::follow;
-use rh_key_files::Counted;
+use rh_bytes::Counted;
 use rh_play::{Play, Work};
 use std::alloc::Global;
 use std::io::{Read, Write};

@@ -1,5 +1,5 @@
+use rh_bytes::Counted;
 use rh_faulty::{FaultyReader, FaultyWriter, Refusal};
-use rh_key_files::Counted;
 use rh_play::{MAX_TEXT_BYTES, PlayTextFault, PlayTextKind};
 use rh_play_run::*;
 use rh_stepper::PlayFault;

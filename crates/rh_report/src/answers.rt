@@ -5,7 +5,7 @@ ghost use Rattle.rh_bytes.specs.Counting.{Rose, Writes, failures_of, inner_of};
 ghost use Rattle.rh_report.specs.Texts.{asked_head, asked_text, digit_of, digits_from};
 
 use crate::lines::write_line;
-use rh_key_files::{Counted, WriteFault, write_texts};
+use rh_bytes::{Counted, WriteFault, write_texts};
 use std::io::Write;
 
 /// How many answers stand on a full line.

@@ -7,7 +7,7 @@ ghost use Rattle.rh_report.specs.Account.{Says, account_as, change_as};
 ghost use Rattle.rh_report.specs.Texts.{front_text, line_text, numbers_as, table_numbers};
 
 use itoa::Buffer;
-use rh_key_files::{Counted, WriteFault, write_texts};
+use rh_bytes::{Counted, WriteFault, write_texts};
 use std::io::Write;
 
 /// How many keys are held, and the bits of their table.

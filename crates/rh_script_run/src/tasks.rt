@@ -19,8 +19,8 @@ use crate::steps::{
     Action, ask_step, change_step, clear_step, restore_step, save_step, snapshot_step, use_step,
 };
 use crate::told::{Told, tell};
+use rh_bytes::Counted;
 use rh_edit::SeqSet;
-use rh_key_files::Counted;
 use rh_operations::{Cause, KeyList};
 use rh_runner::Runner;
 use rh_script::Task;

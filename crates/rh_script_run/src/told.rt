@@ -5,9 +5,9 @@ ghost use Rattle.rh_bytes.specs.Counting.{Rose, Writes, failures_of, inner_of};
 ghost use Rattle.rh_report.specs.Account.{Says};
 ghost use Rattle.rh_script_run.specs.Told.{told_as};
 
+use rh_bytes::{Counted, WriteFault};
 use rh_dump::write_dump;
 use rh_edit::SeqSet;
-use rh_key_files::{Counted, WriteFault};
 use rh_report::{Account, write_account, write_asked};
 use std::io::Write;
 

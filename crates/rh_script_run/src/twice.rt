@@ -11,7 +11,7 @@ ghost use Rattle.rh_script_run.specs.Environment.{environment};
 use crate::fault::RunFault;
 use crate::report::Report;
 use crate::running::run;
-use rh_key_files::Counted;
+use rh_bytes::Counted;
 use rh_runner::Runner;
 use rh_script::Script;
 use rh_shelf::Shelf;

@@ -4,8 +4,8 @@ ghost use Rattle.std.specs.Prelude.{◌≡◌, ◌⊎◌, IfErr, IfOk, IfSome, t
 ghost use Rattle.rh_set_program.specs.declared.script.TheConstants.{MAX_BYTES};
 
 use crate::status::Fault;
+use rh_bytes::{Counted, fill};
 use rh_cli::{ProgramFault, Status, buffered_writer, open, write_out};
-use rh_key_files::{Counted, fill};
 use rh_runner::Runner;
 use rh_script::{MAX_LINE_BYTES, MAX_LINES, parse};
 use rh_script_run::run;
