@@ -3,15 +3,16 @@ and the words in which a check tells what it leaves open. Where a name is not as
 
 Names. `rt ci` does all of the gate but two things. It calls `add_edits` for each crate, where the gate has its own, and
 `in_lanes` for all tasks, which the gate watches. Beside these the gate calls the names in CALLS and reads those in VALUES and, of
-a crate, in OF_A_CRATE. A task stands under the crate's name and its kind: what it waits for, its work, its memory, and a call,
-which is given what the tasks that have ended came to.
+a crate, in OF_A_CRATE. A task stands under the crate's name and its kind: what it waits for, its work, its memory, and a call. Each
+call is given the same table of what the tasks that have ended came to, which fills while they run.
 
 Words of a call. `rattle check` takes a library as source (`--lib NAME:USES=FILE`), named functions alone (`--only`), and a folder
 of what earlier checks proved (`--incremental`).
 
 Words of an answer. A line of a refusal begins with its place and has the goal in brackets or the declaration before a colon
-(LINE, GOAL). A line tells of each function whether it is proved (STATUS), or not tried (UNTRIED, CALLS). The other patterns tell
-why an answer is refused. The last line begins with `only=` or `logic=`. `tests/edits` goes through all of these.
+(LINE, GOAL). A line tells of each function whether it is proved (STATUS), or not tried (UNTRIED, CALLS_UNPROVED). The other
+patterns tell why an answer is refused. Where libraries are passed as source, the place begins with the name of the library, and so
+does the function. The last line begins with `only=` or `logic=`. `tests/edits` goes through all of these.
 """
 import inspect
 import os

@@ -107,7 +107,7 @@ class Trial:
 
     def answers(self, told):
         """What a check refuses of each edit that is asked of: of edited functions, of these and what they call alone. WAITS where
-        it has not tried the function. None where nothing is known: a text could not be read, or what is refused is none of theirs."""
+        it has not tried the function. None where nothing is known: a text could not be read, or a refusal is none of theirs."""
         edits = [it.edit for it in self.questions()]
         of_edits = [[it for it in told.refusals if edit.is_place(it.path, it.line)] for edit in edits]
         # A file of which answers are left out may well name one of them.
