@@ -162,7 +162,9 @@ pub(crate) fn use_step<'a, S: Shelf>(
 {
     let count = use_file(alloc, shelf, path)?;
     let source = Source::Path(path);
-    lists.push(KeyList { source, count })?;
+    let Ok(()) = lists.push(KeyList { source, count }) else {
+        return Err(Cause::Memory);
+    };
     Ok(Told::Line(Account::Used { name, count }))
 }
 
@@ -183,7 +185,9 @@ pub(crate) fn save_step<'a>(
 {
     let list = saved(alloc, set)?;
     let count = list.count;
-    lists.push(list)?;
+    let Ok(()) = lists.push(list) else {
+        return Err(Cause::Memory);
+    };
     Ok(Told::Line(Account::Saved { name, count }))
 }
 
