@@ -27,6 +27,7 @@ class Trial:
 
     def __init__(self, crate, files, kept):
         self.crate, self.files, self.kept = crate, files, kept
+        self.below, self.memory = crate.below(), rt.need(crate)
         self.results, self.earlier, self.kept_as, self.edits, self.asked, self.alone = {}, {}, {}, [], [], []
 
     def begin(self):
@@ -49,7 +50,7 @@ class Trial:
 
     def work(self):
         """To give up the goals of an edit costs about as much as to read ten libraries."""
-        return len(self.left()) * (10 + len(self.crate.below()))
+        return len(self.left()) * (10 + len(self.below))
 
     def told(self):
         refused = sum(kind == rt.REFUSED for kind, _ in self.results.values())
@@ -61,7 +62,7 @@ class Trial:
         return self.crate.is_program or self.crate.is_static
 
     def is_related(self, other):
-        return self.crate in other.crate.below() or other.crate in self.crate.below()
+        return self.crate in other.below or other.crate in self.below
 
     def note(self, edit, kind, text):
         self.results[edit.file] = kind, text
