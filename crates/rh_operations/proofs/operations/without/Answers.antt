@@ -1,4 +1,4 @@
-use Rattle.std.proofs.Common.{◌∙◌, ◌+◌, ◌^◌, ◌<◌, ap, arith, inr, refl}
+use Rattle.std.proofs.Common.{◌∙◌, ◌^◌, ◌<◌, ap, arith, inr, refl}
 use Rattle.std.proofs.lemmas.Result.{err_from_is_err_and}
 use Rattle.std.specs.FinSet as set
 use Rattle.rh_layout.specs.Layout.{keys_of}
