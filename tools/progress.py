@@ -19,23 +19,25 @@ def clock(seconds):
 
 
 class Screen:
-    """A terminal, whose last line is rewritten below what is written to it."""
+    """Standard output, where a terminal shows it, and below it the terminal's last line, which is rewritten."""
 
-    def __init__(self, terminal):
-        self.terminal, self.lock, self.is_shown, self.is_at_start = terminal, threading.Lock(), False, True
+    def __init__(self, output, terminal):
+        self.output, self.terminal = output, terminal
+        self.lock, self.is_shown, self.is_at_start = threading.Lock(), False, True
 
     def __getattr__(self, name):
-        return getattr(self.terminal, name)
+        return getattr(self.output, name)
 
     def write(self, text):
         with self.lock:
             self.clear()
             self.is_at_start = text.endswith("\n") if text else self.is_at_start
-            return self.terminal.write(text)
+            return self.output.write(text)
 
     def clear(self):
         if self.is_shown:
             self.terminal.write("\r\033[K")
+            self.terminal.flush()
         self.is_shown = False
 
     def show(self, text):
@@ -150,10 +152,10 @@ class Progress:
 
 
 class Shown:
-    """Shows what runs as long as it does, where standard output is a terminal."""
+    """Shows what runs as long as it does, where standard error is a terminal."""
 
     def __init__(self, progress):
-        self.progress, self.screen, self.is_over = progress, Screen(sys.stdout), threading.Event()
+        self.progress, self.screen, self.is_over = progress, Screen(sys.stdout, sys.stderr), threading.Event()
         self.thread = threading.Thread(target=self.go_on, daemon=True)
 
     def go_on(self):
@@ -161,7 +163,7 @@ class Shown:
             self.screen.show(self.progress.running())
 
     def __enter__(self):
-        if sys.stdout.isatty():
+        if sys.stderr.isatty():
             sys.stdout = self.screen
             self.thread.start()
 
@@ -171,4 +173,4 @@ class Shown:
             self.thread.join()
         with self.screen.lock:
             self.screen.clear()
-        sys.stdout = self.screen.terminal
+        sys.stdout = self.screen.output
