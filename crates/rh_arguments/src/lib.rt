@@ -1,7 +1,6 @@
 //! The words of a command line, as `clap` reads them.
 //!
-//! `rh_key_commands` reads its command line by it, and so does `rh_commands`, to which `rh_cli` hands
-//! it on.
+//! `rh_commands`, `rh_key_commands` and `rh_play_commands` read their command lines by it.
 //!
 //! Proved:
 //!

@@ -1,6 +1,6 @@
 //! Key files.
 //!
-//! `rh_runner`, `rh_report`, `rh_key_texts`, `rh_splitting` and both programs stand on it. It hands on
+//! `rh_runner`, `rh_operations`, `rh_commands`, `rh_key_texts` and `rh_splitting` stand on it. It hands on
 //! what `rh_bytes` has for its callers.
 //!
 //! ```text

@@ -12,7 +12,7 @@
 //! let report = run(rt, alloc, &script, &mut shelf, &mut Threads::new(4), &mut writer)?;
 //! ```
 //!
-//! It hands on what `rh_script`, `rh_script_run`, `rh_runner`, `Threads` of `rh_phase` and `rh_shelf`
+//! It hands on what `rh_script`, `rh_script_run`, `rh_runner`, `Threads` of `rh_threads` and `rh_shelf`
 //! do, with their contracts. With these go `write_keys` of `rh_key_files` and the shelf of `rh_faulty`
 //! that fails once. The program `rh_example` carries out a script so, by one worker and by four.
 #![tactic(auto)]

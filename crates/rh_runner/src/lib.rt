@@ -1,7 +1,7 @@
 //! Who carries out phases (`Runner`), one worker that does (`Single`), and phases over whole lists.
 //!
 //! Scripts know phases by `Runner` alone: `rh_operations` and `rh_script_run` stand on it, and
-//! `Threads` of `rh_phase` is another one.
+//! `Threads` of `rh_threads` is another one.
 //!
 //! Proved:
 //!

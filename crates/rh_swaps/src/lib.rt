@@ -1,8 +1,8 @@
 //! Compare-and-swap of several cells of a table that threads share (Harris, Fraser and Pratt 2002), and
 //! the reading of a cell.
 //!
-//! `rh_phase` stands on it. `rh_kcas` hands it on to programs of others, beside the tables and what only
-//! these call.
+//! `rh_threads` stands on it. `rh_kcas` hands it on to programs of others, beside the tables and what
+//! only these call.
 //!
 //! Proved:
 //!

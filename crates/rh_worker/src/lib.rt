@@ -2,8 +2,8 @@
 //! cells: Kelly, Pearlmutter and Maguire 2018). It scans the cells from a key's home on, changes
 //! those that the key asks for by a descriptor of its own, and helps the descriptors that it meets.
 //!
-//! `rh_turns` runs such a worker a step a turn; `rh_phase` uses `decide` alone, and goes by the
-//! calls of `rh_kcas`.
+//! `rh_turns` runs such a worker a step a turn; `rh_threads` uses `decide` alone, and goes by
+//! the calls of `rh_swaps`.
 //!
 //! Proved:
 //!
