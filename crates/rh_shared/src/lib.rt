@@ -1,8 +1,8 @@
 //! A table that threads share, the seats of its workers, and the single steps that a seat makes on its
 //! words.
 //!
-//! `rh_kcas` stands on it and hands on the tables and seats, `rh_rdcss` its single steps as calls. What is
-//! promised holds whatever other threads do meanwhile.
+//! `rh_swaps`, `rh_rdcss` and `rh_threads` stand on it, and `rh_kcas` hands on the tables and seats. What
+//! is promised holds whatever other threads do meanwhile.
 //!
 //! Proved:
 //!
