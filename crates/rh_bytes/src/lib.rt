@@ -17,8 +17,10 @@ mod bytes;
 mod counted;
 mod fault;
 mod input;
+mod progress;
 
 pub use bytes::{Filled, fill, fill_front, write_text, write_texts};
 pub use counted::Counted;
 pub use fault::WriteFault;
 pub use input::{InputFault, read_bytes, read_end, read_number};
+pub use progress::{Nobody, Progress};

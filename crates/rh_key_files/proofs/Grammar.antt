@@ -11,9 +11,9 @@ use Rattle.rh_key_files.specs.declared.version.Version.TheVariants.{First, Secon
 use Rattle.rh_key_files.specs.declared.fault.KeyFault.TheVariants.{NotKeys, Short, TooMany, BadKey, Long}
 use Rattle.rh_key_files.specs.declared.header.Header.{Header}
 use Rattle.rh_bytes.specs.Input.{eight_bytes}
-use Rattle.rh_key_files.specs.KeyFile.{magic, least_key, IsKeyIn, spelled_keys, KeyFile, IsKeyFile}
+use Rattle.rh_key_files.specs.KeyFile.{magic, least_key, IsKeyIn, spelled_keys, KeyFile, IsKeyFile, LongKeyFile, IsLongKeyFile}
 use Rattle.rh_bytes.specs.Input.{◌>>=◌, bytes_at, number_at, end_at, with_head}
-use Rattle.rh_key_files.specs.Reading.{named, version_at, few, count_at, with_count, after_version, header_at, is_key_in, in_range, key_at, keys_at, keys_ended, after_header, file_keys}
+use Rattle.rh_key_files.specs.Reading.{named, version_at, few, count_at, with_count, after_version, header_at, is_key_in, in_range, key_at, keys_at, keys_ended, after_header, file_keys, keys_behind, long_file_keys}
 use Rattle.rh_bytes.proofs.Parsed.{then_ok, same_value, same_rest, ok, bytes_read, number_read, end_read, bytes_given, number_given}
 
 -- ---- what is read is spelled so
@@ -122,9 +122,27 @@ file_read bytes p h =
     } in
     (subst (IsKeyFile bytes) is (s.0.0.version, file), none)
 
+pub long_read : (bytes : List ℕ) (p : List ℕ × List ℕ) → long_file_keys bytes ≡ Ok p → IsLongKeyFile bytes p.0 × (p.1 ≡ [])
+unfolding long_file_keys keys_behind
+long_read bytes p h =
+    let s = then_ok (version_at bytes) (λ begun. keys_behind begun.0 begun.1) p h in
+    let n = then_ok (number_at Short s.0.1) (λ count. keys_at s.0.0 0 count.0 count.1 >>= keys_ended) p s.2 in
+    let t = then_ok (keys_at s.0.0 0 n.0.0 n.0.1) keys_ended p n.2 in
+    let u = then_ok (end_at Long t.0.1) (λ end. Ok (t.0.0, end.1)) p t.2 in
+    let keys = keys_read s.0.0 0 n.0.0 n.0.1 t.0 t.1 in
+    let end = end_read Long t.0.1 u.0 u.1 in
+    let is : t.0.0 ≡ p.0 = same_value (t.0.0, u.0.1) p u.2 in
+    let none : p.1 ≡ [] = sym (same_rest (t.0.0, u.0.1) p u.2) ∙ end.1 in
+    let body : n.0.1 ≡ spelled_keys t.0.0 = keys.whole ∙ ap (λ l. spelled_keys t.0.0 ++ l) end.0 ∙ append-nil (spelled_keys t.0.0) in
+    let file : LongKeyFile s.0.0 bytes t.0.0 = record {
+      spelled = version_read bytes s.0 s.1 ∙ ap (λ l. magic s.0.0 ++ l) (number_read Short s.0.1 n.0 n.1 ∙ ap (λ l. eight_bytes n.0.0 ++ l) body ∙ ap (λ m. eight_bytes m ++ spelled_keys t.0.0) (sym keys.many));
+      in_range = keys.fit;
+    } in
+    (subst (IsLongKeyFile bytes) is (s.0.0, file), none)
+
 -- ---- what is spelled is read
 
-version_given : (version : Version) (rest : List ℕ) → version_at (magic version ++ rest) ≡ Ok (version, rest)
+pub version_given : (version : Version) (rest : List ℕ) → version_at (magic version ++ rest) ≡ Ok (version, rest)
 unfolding version_at
 version_given First rest = rw (bytes_given Short (magic First) rest 4 refl refl) refl
 version_given Second rest = rw (bytes_given Short (magic Second) rest 4 refl refl) refl
@@ -165,3 +183,11 @@ unfolding file_keys
 file_given version bytes keys f =
     let body : spelled_keys keys ++ [] ≡ spelled_keys keys = append-nil (spelled_keys keys) in
     ap file_keys f.spelled ∙ ap (λ r. r >>= after_header) (header_given version (length keys) (spelled_keys keys) f.few) ∙ ap (λ l. keys_at version 0 (length keys) l >>= keys_ended) (sym body) ∙ ap (λ r. r >>= keys_ended) (keys_given version 0 keys [] f.in_range) ∙ no_more keys
+
+pub long_given : (version : Version) (bytes keys : List ℕ) → length keys < 2 ^ 64 → LongKeyFile version bytes keys → long_file_keys bytes ≡ Ok (keys, [])
+unfolding long_file_keys keys_behind
+long_given version bytes keys fits f =
+    let body : spelled_keys keys ++ [] ≡ spelled_keys keys = append-nil (spelled_keys keys) in
+    ap long_file_keys f.spelled ∙ ap (λ r. r >>= (λ begun. keys_behind begun.0 begun.1)) (version_given version (eight_bytes (length keys) ++ spelled_keys keys))
+    ∙ ap (λ r. r >>= (λ count. keys_at version 0 count.0 count.1 >>= keys_ended)) (number_given Short (length keys) (spelled_keys keys) fits)
+    ∙ ap (λ l. keys_at version 0 (length keys) l >>= keys_ended) (sym body) ∙ ap (λ r. r >>= keys_ended) (keys_given version 0 keys [] f.in_range) ∙ no_more keys

@@ -7,6 +7,7 @@
 -- Next: the next batch, or the end.
 -- Coming: what is still to come of a stream of keys.
 -- Whole: a whole key file, read by its header, its keys and its end.
+-- BehindMagic: a key file of any number of keys, read behind its magic in pieces.
 -- Bounds: which faults come where, and how many bytes are taken before they are told.
 -- Grammar: what is spelled as a key file is read to its keys, and what is read is spelled so.
 -- Written: key files, written text by text.
@@ -19,6 +20,7 @@ pub mod Decoded
 pub mod Bounds
 pub mod Next
 pub mod Whole
+pub mod BehindMagic
 pub mod Grammar
 pub mod Written
 pub mod Coming

@@ -1,7 +1,8 @@
 -- The steps of the header.
-use Rattle.std.proofs.Common.{◌≡◌, ℕ, true, false, ◌<◌, ◌≤◌, List, Option, Ok, Err, refl, length}
+use Rattle.std.proofs.Common.{◌≡◌, ℕ, true, false, ◌<◌, ◌≤◌, List, ◌++◌, Option, Ok, Err, inl, inr, refl, ap, ◌∙◌, length, take}
 use Rattle.std.specs.Str.{bytes_eq}
-use Rattle.std.proofs.lemmas.Bool.{le-ltb, lt-ltb}
+use Rattle.std.proofs.lemmas.Bool.{cases_Bool, le-ltb, lt-ltb}
+use Rattle.std.proofs.lemmas.List.{take_at}
 use Rattle.rh_key_files.specs.declared.version.Version.{Version}
 use Rattle.rh_key_files.specs.declared.version.Version.TheVariants.{First, Second}
 use Rattle.rh_layout.specs.declared.limits.TheConstants.{MAX_KEYS}
@@ -9,9 +10,24 @@ use Rattle.rh_key_files.specs.declared.header.Header.{Header}
 use Rattle.rh_key_files.specs.declared.fault.KeyFault.{KeyFault}
 use Rattle.rh_key_files.specs.declared.fault.KeyFault.TheVariants.{NotKeys, Short, TooMany}
 use Rattle.rh_key_files.specs.KeyFile.{magic}
-use Rattle.rh_bytes.specs.Input.{always, bytes_at, number_at}
+use Rattle.rh_bytes.specs.Input.{always, begins_with_bytes, bytes_at, number_at}
 use Rattle.rh_key_files.specs.Reading.{ReadsKeys, is_silent, named, version_at, few, count_at, after_version, with_count, header_at}
+use Rattle.rh_key_files.proofs.Grammar.{version_given}
 use Rattle.rh_bytes.proofs.Reading.{Buffer, Reads-fails, Reads-then, Reads-ok, Reads-err, so_many}
+
+-- the version that four bytes name, whatever comes behind them
+module _ (four rest : List ℕ) where
+  pub magic_named : (version : Version) → four ≡ magic version → version_at (four ++ rest) ≡ Ok (version, rest)
+  magic_named version is = ap (λ l. version_at (l ++ rest)) is ∙ version_given version rest
+
+  pub none_named : length four ≡ 4 → bytes_eq four (magic First) ≡ false → bytes_eq four (magic Second) ≡ false → (fault : KeyFault) × (version_at (four ++ rest) ≡ Err fault)
+  unfolding version_at bytes_at
+  none_named len other neither =
+      let front : take 4 (four ++ rest) ≡ four = take_at four rest 4 len in
+      elim (cases_Bool (begins_with_bytes 4 (four ++ rest))) [
+        | inl there ↦ (NotKeys, rw there (rw front (rw (other, neither) refl)))
+        | inr few ↦ (Short, rw few refl)
+      ]
 
 pub version_fails : (a b : Option (List ℕ)) (buf : List ℕ) (e : KeyFault) → length buf ≡ 4 → Buffer is_silent Short a b buf (Err e) → ReadsKeys a b version_at (λ (v : Version). v) (Err e)
 unfolding version_at

@@ -37,6 +37,14 @@ pub record KeyFile (version : Version) (bytes keys : List ℕ) : Type 0 where
   pub few : length keys ≤ MAX_KEYS
   pub in_range : All (IsKeyIn version) keys
 
+-- the same, of any number of keys
+pub record LongKeyFile (version : Version) (bytes keys : List ℕ) : Type 0 where
+  pub spelled : bytes ≡ spelling version keys
+  pub in_range : All (IsKeyIn version) keys
+
 -- the bytes are a key file of these keys, in one of the versions
 abbrev pub IsKeyFile : (bytes keys : List ℕ) → Type 0
 IsKeyFile bytes keys = (version : Version) × KeyFile version bytes keys
+
+abbrev pub IsLongKeyFile : (bytes keys : List ℕ) → Type 0
+IsLongKeyFile bytes keys = (version : Version) × LongKeyFile version bytes keys

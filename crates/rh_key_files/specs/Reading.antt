@@ -76,6 +76,16 @@ after_header header = keys_at header.0.version 0 header.0.count header.1 >>= key
 unfoldable pub file_keys : List ℕ → Result (List ℕ × List ℕ) KeyFault
 file_keys bytes = header_at bytes >>= after_header
 
+-- ---- a file of any number of keys
+
+-- what comes behind the magic: the number of keys, so many keys, and nothing after them
+unfoldable pub keys_behind : Version → List ℕ → Result (List ℕ × List ℕ) KeyFault
+keys_behind version bytes = number_at Short bytes >>= (λ count. keys_at version 0 count.0 count.1 >>= keys_ended)
+
+-- a whole file
+unfoldable pub long_file_keys : List ℕ → Result (List ℕ × List ℕ) KeyFault
+long_file_keys bytes = version_at bytes >>= (λ begun. keys_behind begun.0 begun.1)
+
 -- ---- what is said of a reader's bytes, as of those of any file
 
 -- A failed read and want of memory say nothing of the bytes.

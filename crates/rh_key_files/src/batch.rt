@@ -75,7 +75,7 @@ fn read_part<R: Read>(
 }
 
 /// Fills the slice with keys, of which the first has this index.
-fn read_keys<R: Read>(
+pub(crate) fn read_keys<R: Read>(
     reader: &mut Counted<R>,
     version: Version,
     index: u64,

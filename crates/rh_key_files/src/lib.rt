@@ -22,6 +22,11 @@
 //! - Of a reader whose bytes are known each takes no more than its answer rests on, and never more
 //!   than 8,000,013 bytes. Another magic takes four bytes, and too many keys the header. A key out
 //!   of range takes its part of 4,096 keys, a file that goes on one byte more.
+//! - `read_pieces`: a key file of any number of keys is read to its list, behind its magic, in pieces of
+//!   65,536 keys. No memory is taken for keys that did not come, but for those of one piece.
+//!   `Version::of_magic` tells its version.
+//! - `any_spelling`: what the grammar spells of any number of keys is read, and what is read is spelled
+//!   so.
 //! - `one_spelling`: what the grammar spells is read, and what is read is spelled so.
 //! - `write_keys`: a key file, which `one_spelling` takes back to its list. `write_header`: what
 //!   stands before its keys.
@@ -39,6 +44,7 @@ mod laws;
 mod numbers;
 mod open;
 mod parts;
+mod pieces;
 mod source;
 mod stream;
 mod version;
@@ -48,9 +54,10 @@ pub use encoding::{write_header, write_keys};
 pub use fault::KeyFault;
 pub use held_keys::HeldKeys;
 pub use keys::read_keys;
-pub use laws::{fixed_numbers, one_spelling};
+pub use laws::{any_spelling, fixed_numbers, one_spelling};
 pub use numbers::decode_numbers;
 pub use open::open_keys;
+pub use pieces::{PIECE_KEYS, read_pieces};
 pub use rh_bytes::{Counted, WriteFault, fill, write_texts};
 pub use rh_layout::MAX_KEYS;
 pub use source::KeySource;

@@ -1,8 +1,9 @@
 //! The versions of the key file.
 
-ghost use Rattle.std.specs.Prelude.{◌≡◌, ◌↔◌, IsTrue};
+ghost use Rattle.std.specs.Prelude.{◌≡◌, ◌↔◌, ◌++◌, ℕ, List, Err, IfSome, IsNone, IsTrue, Ok};
 ghost use Rattle.rh_key_files.specs.KeyFile.{magic, least_key, IsKeyIn};
-ghost use Rattle.rh_key_files.specs.Reading.{is_key_in};
+ghost use Rattle.rh_key_files.specs.declared.fault.KeyFault.{KeyFault};
+ghost use Rattle.rh_key_files.specs.Reading.{is_key_in, version_at};
 
 use rh_layout::MAX_KEY;
 
@@ -22,6 +23,22 @@ impl Version {
             Version::First => *b"RHK1",
             Version::Second => *b"RHK2",
         }
+    }
+
+    /// The version whose first four bytes these are.
+    pub fn of_magic(four: [u8; 4]) -> Option<Version>
+        ensures some { IfSome result (λ version. (rest : List ℕ) →
+            version_at (four ++ rest) ≡ Ok (version, rest)) }
+        ensures none { IsNone result → (rest : List ℕ) →
+            (fault : KeyFault) × (version_at (four ++ rest) ≡ Err fault) }
+    {
+        if four == Version::First.magic() {
+            return Some(Version::First);
+        }
+        if four == Version::Second.magic() {
+            return Some(Version::Second);
+        }
+        None
     }
 
     fn least_key(self) -> u64

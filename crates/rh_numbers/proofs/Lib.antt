@@ -3,6 +3,9 @@
 -- SoFar: what is so of a line of which the reader has come so far.
 -- Fronts: the keys that were read come first among those that are said.
 -- Parts: a text that is read in parts.
+-- Chunks: a chunk of a text, read line by line.
+-- FewDigits: plain lines, of a few digits alone.
+-- TwoTexts: two texts one after the other, of which the first is whole lines.
 -- Taken: how much of a text is taken up to its first fault.
 -- Meaning: what is read is a text of its keys.
 -- Spelling: a text of keys is read to them.
@@ -17,3 +20,6 @@ pub mod SoFar
 pub mod Meaning
 pub mod Spelling
 pub mod Faults
+pub mod Chunks
+pub mod FewDigits
+pub mod TwoTexts

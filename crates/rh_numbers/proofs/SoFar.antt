@@ -55,10 +55,10 @@ spaces_push : (line : List ℕ) (b : ℕ) → AreSpaces line → b ≡ 32 → Ar
 spaces_push [] b spaces is = (is, tt)
 spaces_push (x ∷ line) b spaces is = (spaces.0, spaces_push line b spaces.1 is)
 
-digit_of : (b : ℕ) → is_ascii_digit b ≡ true → digit_value b + 48 ≡ b
+pub digit_of : (b : ℕ) → is_ascii_digit b ≡ true → digit_value b + 48 ≡ b
 digit_of b is = let p : (nat_le 48 b ≡ true) × (nat_le b 57 ≡ true) = and_parts (nat_le 48 b) (nat_le b 57) is in digit_value_digit b (leb-true _ _ p.0, leb-true _ _ p.1)
 
-small_digit : (b : ℕ) → is_ascii_digit b ≡ true → digit_value b < 10
+pub small_digit : (b : ℕ) → is_ascii_digit b ≡ true → digit_value b < 10
 small_digit b is =
     let p : (nat_le 48 b ≡ true) × (nat_le b 57 ≡ true) = and_parts (nat_le 48 b) (nat_le b 57) is in
     let most : b ≤ 57 = leb-true _ _ p.1 in

@@ -155,7 +155,7 @@ text_given text keys t =
 
 -- ---- what is written
 
-digits_are_one_line : (digits : List ℕ) → AllDigits 10 digits → IsOneLine digits
+pub digits_are_one_line : (digits : List ℕ) → AllDigits 10 digits → IsOneLine digits
 digits_are_one_line [] all = tt
 digits_are_one_line (b ∷ digits) all = let r = digit_from_value b all.0 in (λ is. omega (arith, r.0, is), digits_are_one_line digits all.1)
 

@@ -1,4 +1,5 @@
 pub mod Grammar
 pub mod Reading
 pub mod Parts
+pub mod Chunks
 pub mod Writing

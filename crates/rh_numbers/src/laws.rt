@@ -1,9 +1,10 @@
 //! The laws of texts of numbers, as functions that do nothing.
 
-ghost use Rattle.std.specs.Prelude.{◌≡◌, ◌≤◌, ◌<◌, ℕ, List, [], ◌∷◌, All, Err, None, Ok, Some, length};
+ghost use Rattle.std.specs.Prelude.{◌≡◌, ◌≤◌, ◌<◌, ◌+◌, ◌++◌, ℕ, List, [], ◌∷◌, All, Err, None, Ok, Some, length};
 ghost use Rattle.rh_layout.specs.Key.{IsKey};
 ghost use Rattle.rh_layout.specs.declared.limits.TheConstants.{MAX_KEY, MAX_KEYS};
 ghost use Rattle.rh_numbers.specs.declared.fault.TextFault.TheVariants.{NotAKey, OutOfRange, TooMany};
+ghost use Rattle.rh_numbers.specs.Chunks.{feeds, then_said};
 ghost use Rattle.rh_numbers.specs.Grammar.{ComesTo, IsKeyText, IsText, Says};
 ghost use Rattle.rh_numbers.specs.Reading.{text_keys, text_said};
 ghost use Rattle.rh_numbers.specs.Writing.{text_of};
@@ -45,4 +46,11 @@ pub fn any_length(text: &[u8], keys: &[u64])
     ensures out_of_range { (number : ℕ) (line : List ℕ) (n : ℕ) →
         ComesTo text.now keys.now number line → Says line (n ∷ []) → MAX_KEY < n →
         text_said text.now ≡ (keys.now, Some (OutOfRange number)) }
+{}
+
+/// The numbers of a text whose front is whole lines are those of its front, and then those of the rest.
+/// Its first bad line is that of its front, or else that of the rest, counted on.
+pub fn text_in_chunks(front: &[u8], rest: &[u8])
+    ensures { text_said (front.now ++ 10 ∷ rest.now)
+        ≡ then_said (feeds front.now + 1) (text_said (front.now ++ 10 ∷ [])) (text_said rest.now) }
 {}

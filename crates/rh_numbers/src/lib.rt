@@ -13,6 +13,8 @@
 //! - `Reading::read_part`: of the next 8,192 bytes the keys were added, in order, up to the first
 //!   fault, and the line goes on after the part. So texts of any length are read by whoever clears
 //!   the keys. `new`, `keys` and `clear` are exact.
+//! - `read_chunk`: a chunk of a text, cut at any byte, is read to its keys and to how it ends, whatever
+//!   stands before it and comes after it. So texts are read by several workers.
 //! - `write_numbers`: the text of the numbers, one a line, or a front of it where the writer
 //!   failed.
 //! - `one_meaning`: what the grammar calls a text of these keys is read to them, what is read is
@@ -21,19 +23,25 @@
 //!   key` with its number. A number above the greatest key gives `out of range`. A key after a
 //!   million gives `more than 1000000 keys`.
 //! - `any_length`: both laws hold of texts of any length, without that limit.
+//! - `text_in_chunks`: a text whose front is whole lines says what the front says, and then what the
+//!   rest says, so many lines later.
 #![tactic(auto)]
 
+mod chunk;
 mod fault;
 mod laws;
 mod limits;
 mod line_so_far;
+mod plain;
 mod reading;
 mod text;
 mod writing;
 
+pub use chunk::{Chunk, ChunkEnd, read_chunk};
 pub use fault::TextFault;
-pub use laws::{any_length, first_fault, one_meaning};
+pub use laws::{any_length, first_fault, one_meaning, text_in_chunks};
 pub use limits::{MAX_BYTES, MAX_READS, PART_BYTES};
+pub use line_so_far::{BadLine, LineSoFar};
 pub use reading::Reading;
 pub use text::read_numbers;
 pub use writing::write_numbers;

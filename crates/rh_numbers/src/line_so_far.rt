@@ -1,15 +1,18 @@
 //! What a line has said so far, byte by byte.
 
-ghost use Rattle.std.specs.Prelude.{◌≡◌, ◌≤◌, ◌+◌};
+ghost use Rattle.std.specs.Prelude.{◌≡◌, ◌≤◌, ◌+◌, ℕ, List, IfOk, IfSome};
+ghost use Rattle.rh_layout.specs.Key.{IsKey};
 ghost use Rattle.rh_layout.specs.declared.limits.TheConstants.{MAX_KEY};
-ghost use Rattle.rh_numbers.specs.Reading.{grown, next, past};
+ghost use Rattle.rh_numbers.specs.Chunks.{ended, in_line};
+ghost use Rattle.rh_numbers.specs.Reading.{grown, next, past, with_key, with_line};
 
+use crate::fault::TextFault;
 use rh_layout::MAX_KEY;
 
 /// What a line has said so far. A number above the greatest key counts as the first of them.
 /// No line is kept, so that one may be of any length.
 #[derive(Clone, Copy)]
-pub(crate) enum LineSoFar {
+pub enum LineSoFar {
     /// Nothing.
     Start,
     /// Spaces.
@@ -24,6 +27,26 @@ pub(crate) enum LineSoFar {
     Return(Option<u64>),
     /// What is no number.
     Other,
+}
+
+/// What is wrong with a line.
+#[derive(Clone, Copy)]
+pub enum BadLine {
+    NotAKey,
+    /// Its number is greater than the greatest key.
+    OutOfRange,
+}
+
+impl BadLine {
+    /// The fault of a text whose line with this number is so.
+    pub fn in_line(self, line: u64) -> TextFault
+        ensures { result ≡ in_line line self }
+    {
+        match self {
+            BadLine::NotAKey => TextFault::NotAKey { line },
+            BadLine::OutOfRange => TextFault::OutOfRange { line },
+        }
+    }
 }
 
 impl LineSoFar {
@@ -43,6 +66,30 @@ impl LineSoFar {
             LineSoFar::Return(_) | LineSoFar::Other => LineSoFar::Other,
         }
     }
+
+    /// The key that the line says where it ends here, if it says one.
+    pub fn end(self) -> Result<Option<u64>, BadLine>
+        ensures said { (keys : List ℕ) (line : ℕ) → with_line keys line self ≡ ended keys line result }
+        ensures in_range { IfOk result (λ said. IfSome said IsKey) }
+    {
+        match self {
+            LineSoFar::Start | LineSoFar::Blank | LineSoFar::Comment | LineSoFar::Return(None) =>
+                Ok(None),
+            LineSoFar::Number(n) | LineSoFar::After(n) | LineSoFar::Return(Some(n)) => key(n),
+            LineSoFar::Other => Err(BadLine::NotAKey),
+        }
+    }
+}
+
+/// The number, where it is a key.
+fn key(n: u64) -> Result<Option<u64>, BadLine>
+    ensures said { (keys : List ℕ) (line : ℕ) → with_key keys line n ≡ ended keys line result }
+    ensures in_range { IfOk result (λ said. IfSome said IsKey) }
+{
+    if n > MAX_KEY {
+        return Err(BadLine::OutOfRange);
+    }
+    Ok(Some(n))
 }
 
 /// The number with one more digit.

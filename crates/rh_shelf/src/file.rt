@@ -13,8 +13,9 @@ use std::io::{self, BufReader, ErrorKind, Write};
 /// number.
 const BESIDE: &str = ".rhset-part-";
 
-/// How many names are tried for it: a run that was cut may have left some.
-const NAMES: u32 = 100;
+/// How many names are tried for it. Each run that is cut may leave such a file, which no other one touches:
+/// it may be at work.
+const NAMES: u32 = 10_000;
 
 /// Real files: a path is one of the system's, from the current folder on. No contract tells what bytes
 /// stand there; the files that could not be opened or written are counted.

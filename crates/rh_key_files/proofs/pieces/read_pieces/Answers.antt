@@ -1,0 +1,48 @@
+use Rattle.std.proofs.Common.{rules, ◌≡◌, ◌-◌, min, [], refl, arith, append-nil}
+use Rattle.std.proofs.lemmas.List.Concat.{flat_map-append}
+use Rattle.std.proofs.lemmas.Result.{err_from_is_err_and}
+use Rattle.rh_key_files.proofs.Batches.{no_keys, part_goes_on, part_stops}
+use Rattle.rh_key_files.proofs.BehindMagic.{all_read, as_batch, as_batch_fails, end_fails, keys_fail, number_fails}
+use Rattle.rh_key_files.proofs.Whole.{as_many}
+use Rattle.rh_key_files.proofs.pieces.read_pieces.Goals as goal
+
+pub returns-in_err-count-clause-known : goal.returns-in_err-count-clause-known
+returns-in_err-count-clause-known g c =
+    let p = err_from_is_err_and c.from_residual.result c.from_residual.ensures.1 in
+    rw (p.1, p.2) (number_fails _ c.args.version _ _ _ c.in_err-count.ensures.known)
+
+pub loop-taken-init : goal.loop-taken-init
+loop-taken-init g c = rw c.new-pieces.ensures.items (record { within = omega arith; read = no_keys _ _ _; in_range = λ k d less. absurd (omega (arith, less)); fine = search rules })
+
+pub returns-in_err-piece-clause-known : goal.returns-in_err-piece-clause-known
+returns-in_err-piece-clause-known g c =
+    let p = err_from_is_err_and c.from_residual-in_err-piece.result c.from_residual-in_err-piece.ensures.1 in
+    let taken = c.loop-taken.taken in
+    let count = c.in_ok-count.count in
+    let many = min (count - taken) 65536 in
+    rw (p.1, p.2) (keys_fail _ c.args.version count _ _ _ _ (λ u. []) _ c.in_ok-count.ensures.known
+    (part_stops c.args.version 0 taken taken many count _ _ _ _ (λ u. []) _ _ (omega arith) (omega arith) c.loop-taken.invariant.read (as_batch_fails c.args.version taken many _ _ _ _ _ c.in_err-piece.ensures.known)))
+
+pub loop-taken-preserved : goal.loop-taken-preserved
+loop-taken-preserved g c =
+    let taken = c.loop-taken.taken in
+    let piece = c.in_ok-piece.piece in
+    let many = min (c.in_ok-count.count - taken) 65536 in
+    let len : c.len.result ≡ many = search rules in
+    record {
+      within = omega (arith, len);
+      read = part_goes_on c.args.version 0 taken taken many _ _ _ _ _ piece.items _ (omega arith) (omega (arith, len)) (rw c.in-Ok.ensures.items (rw flat_map-append (rw append-nil refl))) c.loop-taken.invariant.read (as_batch c.args.version taken many _ _ (λ p. p.items) piece c.in_ok-piece.ensures.known);
+      in_range = search rules;
+      fine = search rules;
+    }
+
+pub returns-in_err-read_end-clause-known : goal.returns-in_err-read_end-clause-known
+returns-in_err-read_end-clause-known g c =
+    let p = err_from_is_err_and c.from_residual-in_err-read_end.result c.from_residual-in_err-read_end.ensures.1 in
+    let all : c.loop-taken.taken ≡ c.in_ok-count.count = omega arith in
+    rw (p.1, p.2) (end_fails _ c.args.version c.in_ok-count.count _ _ _ _ _ _ _ c.in_ok-count.ensures.known (as_many _ _ _ _ _ _ _ all c.loop-taken.invariant.read) c.in_err-read_end.ensures.known)
+
+pub returns-clause-known : goal.returns-clause-known
+returns-clause-known g c =
+    let all : c.loop-taken.taken ≡ c.in_ok-count.count = omega arith in
+    all_read _ c.args.version c.in_ok-count.count _ _ _ _ _ c.loop-taken.pieces refl c.in_ok-count.ensures.known (as_many _ _ _ _ _ _ _ all c.loop-taken.invariant.read) c.in_ok-read_end.ensures.known

@@ -1,0 +1,74 @@
+//! The keys of a key file of any number of keys, in pieces.
+
+ghost use Rattle.std.specs.Prelude.{◌≡◌, ◌<◌, ◌+◌, ◌^◌, min, length, All, IfOk, IsErrOf};
+ghost use Rattle.std.specs.List.{flat_map};
+ghost use Rattle.rh_layout.specs.Key.{IsKey};
+ghost use Rattle.rh_bytes.specs.Counting.{Rose, failures_of, inner_of};
+ghost use Rattle.rh_bytes.specs.Input.{fault_of};
+ghost use Rattle.rh_key_files.specs.Limits.{NoReadFailed};
+ghost use Rattle.rh_key_files.specs.Reading.{ReadsKeys, keys_at, keys_behind};
+
+use crate::batch;
+use crate::fault::KeyFault;
+use crate::version::Version;
+use rh_bytes::{Counted, Progress, read_end, read_number};
+use std::alloc::Global;
+use std::io::Read;
+
+/// The most keys of a piece. So much room is taken before its keys come.
+pub const PIECE_KEYS: u64 = 65_536;
+
+/// The keys of a key file of any number of keys, in its order, where its magic was read before. They
+/// come in pieces, none of which is longer than `PIECE_KEYS`, and after each one it is told how many
+/// bytes that took.
+/// `Memory` comes only where a growth was refused.
+pub fn read_pieces<R: Read, P: Progress>(
+    alloc: Global,
+    version: Version,
+    reader: &mut Counted<R>,
+    progress: &mut P,
+) -> Result<Vec<Vec<u64>>, KeyFault>
+    ensures known { ReadsKeys (R.remaining (inner_of reader.old)) (R.remaining (inner_of reader.new))
+        (keys_behind version) (λ pieces. flat_map (λ piece. piece.items) pieces.items) result }
+    ensures in_range { IfOk result (λ pieces. All (λ piece. All IsKey piece.items) pieces.items) }
+    ensures read { IsErrOf result KeyFault.Read → Rose (failures_of reader.old) (failures_of reader.new) }
+    ensures fine { NoReadFailed (fault_of result) → failures_of reader.new ≡ failures_of reader.old }
+{
+    let count = read_number::<_, KeyFault>(reader)?;
+    let mut pieces = Vec::new(alloc);
+    let mut taken = 0;
+    while taken < count {
+        let piece = read_piece(alloc, version, taken, count - taken, reader)?;
+        taken += piece.len() as u64;
+        progress.read(8 * piece.len());
+        let Ok(()) = pieces.push(piece) else {
+            return Err(KeyFault::Memory);
+        };
+    }
+    read_end::<_, KeyFault>(reader)?;
+    Ok(pieces)
+}
+
+/// The next piece of keys, of which the first has this index and so many are left.
+fn read_piece<R: Read>(
+    alloc: Global,
+    version: Version,
+    index: u64,
+    left: u64,
+    reader: &mut Counted<R>,
+) -> Result<Vec<u64>, KeyFault>
+    requires { index + left < 2 ^ 64 }
+    ensures known { ReadsKeys (R.remaining (inner_of reader.old)) (R.remaining (inner_of reader.new))
+        (keys_at version index (min left PIECE_KEYS)) (λ piece. piece.items) result }
+    ensures many { IfOk result (λ piece. length piece.items ≡ min left PIECE_KEYS) }
+    ensures in_range { IfOk result (λ piece. All IsKey piece.items) }
+    ensures read { IsErrOf result KeyFault.Read → Rose (failures_of reader.old) (failures_of reader.new) }
+    ensures fine { NoReadFailed (fault_of result) → failures_of reader.new ≡ failures_of reader.old }
+{
+    let many = left.min(PIECE_KEYS) as usize;
+    let Ok(mut piece) = vec![in alloc; 0u64; many] else {
+        return Err(KeyFault::Memory);
+    };
+    batch::read_keys(reader, version, index, &mut piece)?;
+    Ok(piece)
+}

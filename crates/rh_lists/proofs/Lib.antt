@@ -1,0 +1,12 @@
+-- A text is read block by block, and each block in parts, which are joined.
+-- Joining: two parts of a text, one behind the other.
+-- Ending: the end of a text, and its first fault.
+-- Texts: a text that is read block by block.
+-- Told: what the first four bytes tell of a list.
+-- Agreeing: two readings of the same bytes.
+
+pub mod Joining
+pub mod Ending
+pub mod Texts
+pub mod Told
+pub mod Agreeing

@@ -1,0 +1,73 @@
+-- What a list of numbers says: a text, or a key file of either version, of any length.
+use Rattle.std.specs.Prelude.{◌≡◌, ℕ, ◌≤◌, Bool, true, false, List, [], length, Option, Some, None, Result, Ok, Err}
+use Rattle.std.specs.List.{flat_map}
+use Rattle.rh_bytes.specs.Input as input
+use Rattle.rh_key_files.specs.declared.fault.KeyFault.{KeyFault}
+use Rattle.rh_key_files.specs.declared.version.Version.{Version}
+use Rattle.rh_key_files.specs.Reading as files
+use Rattle.rh_key_files.specs.Reading.{long_file_keys, version_at}
+use Rattle.rh_numbers.specs.declared.fault.TextFault.{TextFault}
+use Rattle.rh_numbers.specs.declared.fault.TextFault.TheVariants as texts
+use Rattle.rh_numbers.specs.Reading.{Said, text_said}
+use Rattle.rh_lists.specs.declared.fault.ListFault.{ListFault}
+use Rattle.rh_lists.specs.declared.fault.ListFault.TheVariants.{Text, Keys}
+use Rattle.rh_lists.specs.declared.list.KeyList.{KeyList}
+
+-- the pieces one after the other
+abbrev pub keys_of : KeyList → List ℕ
+keys_of list = flat_map (λ piece. piece.items) list.pieces.items
+
+-- ---- bytes
+
+-- all keys of a text, or its first fault
+abbrev pub of_text : Said → Result (List ℕ × List ℕ) ListFault
+of_text (keys, None) = Ok (keys, [])
+of_text (keys, Some fault) = Err (Text fault)
+
+abbrev pub of_file : Result (List ℕ × List ℕ) KeyFault → Result (List ℕ × List ℕ) ListFault
+of_file (Ok keys) = Ok keys
+of_file (Err fault) = Err (Keys fault)
+
+-- what begins with the magic of a version is a key file, and anything else a text
+abbrev pub file_or_text : List ℕ → Result (Version × List ℕ) KeyFault → Result (List ℕ × List ℕ) ListFault
+file_or_text bytes (Ok begun) = of_file (long_file_keys bytes)
+file_or_text bytes (Err other) = of_text (text_said bytes)
+
+-- the keys of a list in its order, and none of its bytes left; or its first fault
+abbrev pub list_said : List ℕ → Result (List ℕ × List ℕ) ListFault
+list_said bytes = file_or_text bytes (version_at bytes)
+
+-- ---- a reader's bytes
+
+-- A failed read and want of memory say nothing of the bytes, and a text that is too long may have any other fault too.
+abbrev pub is_text_silent : TextFault → Bool
+is_text_silent texts.Read = true
+is_text_silent texts.Memory = true
+is_text_silent texts.TooLong = true
+is_text_silent fault = false
+
+-- what may be told of bytes in memory: no failed read, and no end of what may be read
+abbrev pub OfHeldBytes : TextFault → Type 0
+OfHeldBytes texts.Read = ⊥
+OfHeldBytes texts.TooLong = ⊥
+OfHeldBytes fault = Unit {0}
+
+abbrev pub is_silent : ListFault → Bool
+is_silent (Text fault) = is_text_silent fault
+is_silent (Keys fault) = files.is_silent fault
+
+-- Where the bytes are known, they were read to the keys of the list that they are, and none is left; or this is their first fault.
+abbrev pub ReadsList : Option (List ℕ) → Option (List ℕ) → Result KeyList ListFault → Type 0
+ReadsList old new r = input.Reads is_silent old new list_said keys_of r
+
+-- so many bytes or more, if they are known
+abbrev pub HasBytes : ℕ → Option (List ℕ) → Type 0
+HasBytes n None = Unit {0}
+HasBytes n (Some bytes) = n ≤ length bytes
+
+-- The same keys, or the same fault, unless one of the two says nothing of the bytes.
+abbrev pub Agree : Result KeyList ListFault → Result KeyList ListFault → Type 0
+Agree (Ok first) (Ok second) = keys_of first ≡ keys_of second
+Agree (Ok first) (Err fault) = is_silent fault ≡ true
+Agree (Err fault) (Ok second) = is_silent fault ≡ true
+Agree (Err fault) (Err other) = input.Unless (is_silent fault) (input.Unless (is_silent other) (fault ≡ other))

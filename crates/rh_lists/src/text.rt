@@ -1,0 +1,147 @@
+//! A text of numbers of any length, read block by block.
+
+ghost use Rattle.std.specs.Prelude.{◌≡◌, ◌<◌, ◌≤◌, ◌+◌, ◌++◌, ◌^◌, ℕ, List, [], IfErr, IsErrOf, IsFalse, IsTrue, OnOk, length};
+ghost use Rattle.rh_bytes.specs.Counting.{Rose, failures_of, inner_of};
+ghost use Rattle.rh_numbers.specs.declared.line_so_far.LineSoFar.TheVariants.{Start};
+ghost use Rattle.rh_numbers.specs.declared.limits.TheConstants.{MAX_BYTES};
+ghost use Rattle.rh_numbers.specs.Reading.{text_said};
+ghost use Rattle.rh_lists.specs.Lists.{HasBytes, OfHeldBytes};
+ghost use Rattle.rh_lists.specs.Parts.{IsReadTo, IsTold, ReadsText};
+ghost use Rattle.rh_lists.specs.declared.limits.TheConstants.{BLOCK_BYTES};
+
+use crate::ahead::read_ahead;
+use crate::limits::BLOCK_BYTES;
+use crate::list::KeyList;
+use crate::part::Part;
+use crate::workers::read_part;
+use rh_bytes::{Counted, Filled, Progress, fill_front};
+use rh_numbers::{LineSoFar, MAX_BYTES, TextFault};
+use std::alloc::Global;
+use std::io::Read;
+use std::mem;
+use std::thread::Threads;
+
+/// Reads a whole text that is held in memory.
+pub(crate) fn read_short_text(alloc: Global, bytes: &[u8]) -> Result<KeyList, TextFault>
+    requires { length bytes.now + 1 < 2 ^ 64 }
+    ensures told { IsTold (text_said bytes.now) result }
+    ensures held { IfErr result OfHeldBytes }
+{
+    let Ok(text) = Part::read(alloc, LineSoFar::Start, bytes) else {
+        return Err(TextFault::Memory);
+    };
+    text.end_text(alloc)
+}
+
+/// Reads the rest of a text that begins so, in blocks of so many bytes.
+pub(crate) fn read_text<T: Threads + Sync, R: Read, P: Progress>(
+    rt: &T,
+    alloc: Global,
+    workers: usize,
+    block_bytes: usize,
+    begun: &[u8],
+    reader: &mut Counted<R>,
+    progress: &mut P,
+) -> Result<KeyList, TextFault>
+    requires workers { 0 < workers }
+    requires block { (0 < block_bytes) × (block_bytes ≤ BLOCK_BYTES) }
+    requires begun { length begun.now ≤ BLOCK_BYTES }
+    ensures known { ReadsText begun.now (R.remaining (inner_of reader.old))
+        (R.remaining (inner_of reader.new)) result }
+    ensures read { IsErrOf result TextFault.Read → Rose (failures_of reader.old) (failures_of reader.new) }
+    ensures long { IsErrOf result TextFault.TooLong →
+        HasBytes MAX_BYTES (R.remaining (inner_of reader.old)) }
+    ensures fine { OnOk result (failures_of reader.new ≡ failures_of reader.old) }
+{
+    let Ok(text) = Part::read(alloc, LineSoFar::Start, begun) else {
+        return Err(TextFault::Memory);
+    };
+    let Ok(mut block) = vec![in alloc; 0u8; block_bytes] else {
+        return Err(TextFault::Memory);
+    };
+    let Filled { count, failed } = fill_front(reader, &mut block);
+    progress.read(count);
+    if count < block_bytes {
+        return last_block(rt, alloc, workers, text, &block[..count], failed);
+    }
+    read_blocks(rt, alloc, workers, text, block, reader, progress)
+}
+
+/// Reads a text of which this block comes next, and the rest of it from the reader, in blocks that are
+/// as long.
+fn read_blocks<T: Threads + Sync, R: Read, P: Progress>(
+    rt: &T,
+    alloc: Global,
+    workers: usize,
+    begun: Part,
+    mut block: Vec<u8>,
+    reader: &mut Counted<R>,
+    progress: &mut P,
+) -> Result<KeyList, TextFault>
+    requires workers { 0 < workers }
+    requires some { 0 < length block.items }
+    requires few { length block.items ≤ BLOCK_BYTES }
+    requires lines { begun.lines ≤ BLOCK_BYTES }
+    ensures known { (before : List ℕ) → IsReadTo Start before begun →
+        ReadsText (before ++ block.items) (R.remaining (inner_of reader.old))
+        (R.remaining (inner_of reader.new)) result }
+    ensures read { IsErrOf result TextFault.Read → Rose (failures_of reader.old) (failures_of reader.new) }
+    ensures long { IsErrOf result TextFault.TooLong →
+        HasBytes MAX_BYTES (R.remaining (inner_of reader.old)) }
+    ensures fine { OnOk result (failures_of reader.new ≡ failures_of reader.old) }
+{
+    let Ok(mut next) = vec![in alloc; 0u8; block.len()] else {
+        return Err(TextFault::Memory);
+    };
+    let mut text = begun;
+    let mut passed = 0u64;
+    while passed < MAX_BYTES {
+        let (part, Filled { count, failed }) = read_ahead(
+            rt,
+            alloc,
+            workers,
+            text.so_far(),
+            &block,
+            reader,
+            &mut next,
+        );
+        progress.read(count);
+        let Ok(part) = part else {
+            return Err(TextFault::Memory);
+        };
+        text = text.more(part)?;
+        if count < next.len() {
+            return last_block(rt, alloc, workers, text, &next[..count], failed);
+        }
+        passed += next.len() as u64;
+        mem::swap(&mut block, &mut next);
+    }
+    Err(TextFault::TooLong)
+}
+
+/// Reads the last bytes of a text, behind which a read failed, or nothing comes.
+fn last_block<T: Threads + Sync>(
+    rt: &T,
+    alloc: Global,
+    workers: usize,
+    text: Part,
+    bytes: &[u8],
+    failed: bool,
+) -> Result<KeyList, TextFault>
+    requires workers { 0 < workers }
+    requires room { text.lines + length bytes.now + 1 < 2 ^ 64 }
+    ensures told { (before rest : List ℕ) → IsReadTo Start before text → (IsFalse failed → rest ≡ []) →
+        IsTold (text_said ((before ++ bytes.now) ++ rest)) result }
+    ensures read { IsErrOf result TextFault.Read → IsTrue failed }
+    ensures not_long { IsErrOf result TextFault.TooLong → ⊥ }
+    ensures fine { OnOk result (IsFalse failed) }
+{
+    let Ok(part) = read_part(rt, alloc, workers, text.so_far(), bytes) else {
+        return Err(TextFault::Memory);
+    };
+    let text = text.more(part)?;
+    if failed {
+        return Err(TextFault::Read);
+    }
+    text.end_text(alloc)
+}
