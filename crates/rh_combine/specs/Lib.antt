@@ -1,0 +1,6 @@
+-- Combine: what comes of lists of numbers, and of their numbers in a range
+pub mod Combine
+-- Grid: a range of numbers that is cut in parts
+pub mod Grid
+-- Table: the room that a table needs for one list more
+pub mod Table

@@ -1,0 +1,11 @@
+//! Tests of what comes of lists, by one worker and by several, from outside.
+//!
+//! They stand apart from the code, so that each crate is proved once, and not once more with its tests.
+#![tactic(auto)]
+
+#[cfg(test)]
+mod long;
+#[cfg(test)]
+mod rows;
+#[cfg(test)]
+mod written;

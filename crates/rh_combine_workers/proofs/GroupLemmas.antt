@@ -1,0 +1,151 @@
+-- What came of consecutive ranges, one after the other.
+use Rattle.std.proofs.Common.{◌≡◌, ◌∙◌, ap, sym, refl, ℕ, zero, suc, ◌+◌, ◌-◌, ◌*◌, ◌<◌, ◌≤◌, arith, List, [], ◌∷◌, ◌++◌, length, get_or, Ok, Result}
+use Rattle.std.specs.Prelude.{All, map, slice_index, sum_by}
+use Rattle.std.specs.List.{flat_map}
+use Rattle.std.proofs.Math.Nat.{add-mul}
+use Rattle.std.proofs.lemmas.List.{length-append}
+use Rattle.std.proofs.lemmas.List.Concat.{flat_map-append}
+use Rattle.std.proofs.lemmas.List.Sums.{sum_by-cons}
+use Rattle.rh_layout.specs.Key.{IsKey}
+use Rattle.rh_layout.specs.declared.limits.TheConstants.{MAX_KEY}
+use Rattle.rh_combine.specs.declared.how.How.{How}
+use Rattle.rh_combine.specs.Combine.{AllWithin, answer, within}
+use Rattle.rh_combine.proofs.RangeLaws.{of_all, of_two}
+use Rattle.rh_combine.proofs.RangeLemmas.{all_keys, within-none}
+use Rattle.rh_combine_workers.specs.declared.group.Group.{Group}
+use Rattle.rh_combine_workers.specs.declared.lists.CutLists.{CutLists}
+use Rattle.rh_combine_workers.specs.declared.wanted.Wanted.{Wanted}
+use Rattle.rh_combine_workers.specs.Borders.{AreBorders, between}
+use Rattle.rh_combine_workers.specs.Cut.{AreLists}
+use Rattle.rh_combine_workers.specs.Groups.{IsGroup, TellsGroup, TellsShare, edge, parts_of}
+use Rattle.rh_combine_workers.specs.Spelled.{spelled, spelling_of}
+use Rattle.rh_combine_workers.proofs.BorderLemmas.{rise_to}
+use Rattle.rh_combine_workers.proofs.CutLemmas.{as_many, told_one}
+
+module _ (how : How) (lists : List (List ℕ)) where
+  abbrev of : (a c : ℕ) → List ℕ
+  of a c = within a c (answer how lists)
+
+  -- borders that rise
+  rising : (at : ℕ → ℕ) (n : ℕ) → ((i : ℕ) → i < n → at i ≤ at (i + 1)) → at 0 ≤ at n
+  rising at zero rise = omega arith
+  rising at (suc n) rise =
+      let before : at 0 ≤ at n = rising at n (λ i inside. rise i (omega (arith, inside))) in
+      let next : at n ≤ at (n + 1) = rise n (omega arith) in
+      let same : n + 1 ≡ suc n = omega arith in
+      omega (arith, before, next, ap at same)
+
+  module _ {V : Type 0} where
+    -- g makes of the numbers what is told of them
+    pub all_told : (told : V → List ℕ) (g : List ℕ → List ℕ) → g [] ≡ [] → ((xs ys : List ℕ) → g (xs ++ ys) ≡ g xs ++ g ys) → (groups : List V) (at : ℕ → ℕ) → ((i : ℕ) → i < length groups → at i ≤ at (i + 1))
+        → ((i : ℕ) (d : V) → i < length groups → told (get_or groups i d) ≡ g (of (at i) (at (i + 1))))
+        → flat_map told groups ≡ g (of (at 0) (at (length groups)))
+    all_told told g none both [] at rise each = sym (ap g (within-none (at 0) (answer how lists)) ∙ none)
+    all_told told g none both (x ∷ groups) at rise each =
+        let many : length groups + 1 ≡ length (x ∷ groups) = omega arith in
+        let later : (i : ℕ) → suc i ≡ i + 1 = λ i. omega arith in
+        let this : told x ≡ g (of (at 0) (at 1)) = each 0 x (omega arith) in
+        let others : flat_map told groups ≡ g (of (at 1) (at (length groups + 1))) =
+        all_told told g none both groups (λ i. at (i + 1)) (λ i inside. rise (i + 1) (omega (arith, inside)))
+        (λ i d inside. each (suc i) d (omega (arith, inside)) ∙ (λ j. g (of (at (later i j)) (at (later i j + 1))))) in
+        let behind : at 1 ≤ at (length groups + 1) = rising (λ i. at (i + 1)) (length groups) (λ i inside. rise (i + 1) (omega (arith, inside))) in
+        (λ j. this j ++ others j)
+        ∙ sym (ap g (of_two (at 0) (at 1) (at (length groups + 1)) (rise 0 (omega arith)) behind how lists)
+        ∙ both (of (at 0) (at 1)) (of (at 1) (at (length groups + 1))))
+        ∙ ap (λ n. g (of (at 0) (at n))) many
+
+    pub all_counts : (count : V → ℕ) (groups : List V) (at : ℕ → ℕ) → ((i : ℕ) → i < length groups → at i ≤ at (i + 1))
+        → ((i : ℕ) (d : V) → i < length groups → count (get_or groups i d) ≡ length (of (at i) (at (i + 1))))
+        → sum_by count groups ≡ length (of (at 0) (at (length groups)))
+    all_counts count [] at rise each = sym (ap length (within-none (at 0) (answer how lists)))
+    all_counts count (x ∷ groups) at rise each =
+        let many : length groups + 1 ≡ length (x ∷ groups) = omega arith in
+        let later : (i : ℕ) → suc i ≡ i + 1 = λ i. omega arith in
+        let this : count x ≡ length (of (at 0) (at 1)) = each 0 x (omega arith) in
+        let others : sum_by count groups ≡ length (of (at 1) (at (length groups + 1))) =
+        all_counts count groups (λ i. at (i + 1)) (λ i inside. rise (i + 1) (omega (arith, inside)))
+        (λ i d inside. each (suc i) d (omega (arith, inside)) ∙ (λ j. length (of (at (later i j)) (at (later i j + 1))))) in
+        let behind : at 1 ≤ at (length groups + 1) = rising (λ i. at (i + 1)) (length groups) (λ i inside. rise (i + 1) (omega (arith, inside))) in
+        sum_by-cons count x groups
+        ∙ (λ j. this j + others j)
+        ∙ sym (ap length (of_two (at 0) (at 1) (at (length groups + 1)) (rise 0 (omega arith)) behind how lists)
+        ∙ length-append (of (at 0) (at 1)) (of (at 1) (at (length groups + 1))))
+        ∙ ap (λ n. length (of (at 0) (at n))) many
+
+-- ---- the edges of groups
+
+pub edge-first : (first size parts : ℕ) → first ≤ parts → edge first 0 size parts ≡ first
+edge-first first size parts inside = omega (arith, inside)
+
+pub edge-inside : (first i size parts : ℕ) → edge first i size parts ≤ parts
+edge-inside first i size parts = omega arith
+
+pub edge-rises : (first i size parts : ℕ) → edge first i size parts ≤ edge first (i + 1) size parts
+edge-rises first i size parts = omega (arith, add-mul i 1 size)
+
+module _ (cut : CutLists) (are : AreBorders cut.borders.items) (first size : ℕ) where
+  abbrev border_at : ℕ → ℕ
+  border_at i = slice_index cut.borders.items (edge first i size (parts_of cut))
+
+  pub border-rises : (i : ℕ) → border_at i ≤ border_at (i + 1)
+  border-rises i =
+      rise_to cut.borders.items are (edge first i size (parts_of cut)) (edge first (i + 1) size (parts_of cut)) (edge-rises first i size (parts_of cut)) (omega (arith, edge-inside first (i + 1) size (parts_of cut), are.some))
+
+-- ---- a round of groups
+
+module _ {E : Type 0} (wanted : Wanted) (cut : CutLists) (lists : List (List ℕ)) (are : AreLists cut lists) (first size n : ℕ) (inside : first < length cut.borders.items) (done : List Group) (told : List (Result Group E))
+    (is : map Ok done ≡ told) (many : length told ≡ n) (each : (i : ℕ) (d : Result Group E) → i < n → TellsGroup wanted cut first size i (get_or told i d)) where
+  so_many : length done ≡ n
+  so_many = as_many done told is ∙ many
+
+  group_is : (i : ℕ) (d : Group) → i < length done → IsGroup wanted cut.borders.items (edge first i size (parts_of cut)) (edge first (i + 1) size (parts_of cut)) lists (get_or done i d)
+  group_is i d here =
+      told_one (IsGroup wanted cut.borders.items (edge first i size (parts_of cut)) (edge first (i + 1) size (parts_of cut)) lists) done told i d is here
+      ((each i (Ok d) (omega (arith, here, so_many))).is lists are)
+
+  begins : edge first 0 size (parts_of cut) ≡ first
+  begins = edge-first first size (parts_of cut) (omega (arith, inside))
+
+  pub round_bytes : flat_map (λ g. g.bytes.items) done ≡ spelled wanted.form (between cut.borders.items first (edge first n size (parts_of cut)) (answer wanted.how lists))
+  round_bytes =
+      all_told wanted.how lists (λ (g : Group). g.bytes.items) (spelled wanted.form) refl (flat_map-append (spelling_of wanted.form)) done (border_at cut are.borders first size) (λ i _. border-rises cut are.borders first size i) (λ i d here. (group_is i d here).bytes)
+      ∙ (λ j. spelled wanted.form (between cut.borders.items (begins j) (edge first (so_many j) size (parts_of cut)) (answer wanted.how lists)))
+
+  pub round_count : sum_by (λ g. g.count) done ≡ length (between cut.borders.items first (edge first n size (parts_of cut)) (answer wanted.how lists))
+  round_count =
+      all_counts wanted.how lists (λ (g : Group). g.count) done (border_at cut are.borders first size) (λ i _. border-rises cut are.borders first size i) (λ i d here. (group_is i d here).count)
+      ∙ (λ j. length (between cut.borders.items (begins j) (edge first (so_many j) size (parts_of cut)) (answer wanted.how lists)))
+
+-- ---- the shares of all workers
+
+module _ {V E : Type 0} (items : V → List ℕ) (how : How) (cut : CutLists) (lists : List (List ℕ)) (are : AreLists cut lists) (size n : ℕ) (done : List V) (told : List (Result V E))
+    (is : map Ok done ≡ told) (many : length told ≡ n) (each : (i : ℕ) (d : Result V E) → i < n → TellsShare items how cut size i (get_or told i d)) (enough : parts_of cut ≤ n * size) where
+  pub all_shares : flat_map items done ≡ between cut.borders.items 0 (parts_of cut) (answer how lists)
+  all_shares =
+      let so_many : length done ≡ n = as_many done told is ∙ many in
+      let begins : edge 0 0 size (parts_of cut) ≡ 0 = edge-first 0 size (parts_of cut) (omega arith) in
+      let ends : edge 0 n size (parts_of cut) ≡ parts_of cut = omega (arith, enough) in
+      all_told how lists items (λ l. l) refl (λ _ _. refl) done (border_at cut are.borders 0 size) (λ i _. border-rises cut are.borders 0 size i)
+      (λ i d here. told_one (λ v. items v ≡ between cut.borders.items (edge 0 i size (parts_of cut)) (edge 0 (i + 1) size (parts_of cut)) (answer how lists)) done told i d is here ((each i (Ok d) (omega (arith, here, so_many))).is lists are))
+      ∙ ap (λ m. between cut.borders.items (edge 0 0 size (parts_of cut)) (edge 0 m size (parts_of cut)) (answer how lists)) so_many
+      ∙ (λ j. between cut.borders.items (begins j) (ends j) (answer how lists))
+
+-- ---- all parts
+
+pub all_parts : (borders : List ℕ) → AreBorders borders → (how : How) (lists : List (List ℕ)) → AllWithin 0 (MAX_KEY + 1) lists → between borders 0 (length borders - 1) (answer how lists) ≡ answer how lists
+all_parts borders are how lists all =
+    let last = are.last (length borders - 1) (omega (arith, are.some)) in
+    (λ j. within (are.first j) (last j) (answer how lists)) ∙ of_all 0 (MAX_KEY + 1) how lists all
+
+module _ {K : Type 0} (f : K → List ℕ) where
+  keys_of_pieces : (pieces : List K) → All (λ k. All IsKey (f k)) pieces → All IsKey (flat_map f pieces)
+  keys_of_pieces [] all = λ i d inside. absurd (omega (arith, inside))
+  keys_of_pieces (x ∷ pieces) all = both (f x) (flat_map f pieces) (all 0 x (omega arith)) (keys_of_pieces pieces (λ j e here. all (suc j) e (omega (arith, here))))
+    where
+      both : (xs ys : List ℕ) → All IsKey xs → All IsKey ys → All IsKey (xs ++ ys)
+      both [] ys first second i d inside = second i d inside
+      both (x ∷ xs) ys first second zero d inside = first 0 x (omega arith)
+      both (x ∷ xs) ys first second (suc i) d inside = both xs ys (λ j e here. first (suc j) e (omega (arith, here))) second i d (omega (arith, inside))
+
+  pub keys_of_lists : {L : Type 0} (h : L → List K) (lists : List L) → All (λ l. All (λ k. All IsKey (f k)) (h l)) lists → AllWithin 0 (MAX_KEY + 1) (map (λ l. flat_map f (h l)) lists)
+  keys_of_lists h lists all = all_keys (λ l. flat_map f (h l)) lists (λ i d inside. keys_of_pieces (h (get_or lists i d)) (all i d inside))

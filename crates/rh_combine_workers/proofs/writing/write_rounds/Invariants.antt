@@ -1,0 +1,20 @@
+use Rattle.std.proofs.Common.{◌≡◌, ℕ, ◌-◌, ◌^◌, ◌≤◌, List, length}
+use Rattle.std.specs.Prelude.{min}
+use Rattle.std.specs.Io.KnownBytes.{Appends}
+use Rattle.rh_bytes.specs.Counting.{failures_of, inner_of}
+use Rattle.rh_combine.specs.Combine.{answer}
+use Rattle.rh_combine_workers.specs.Borders.{between}
+use Rattle.rh_combine_workers.specs.Cut.{AreLists}
+use Rattle.rh_combine_workers.specs.Spelled.{spelled}
+use Rattle.rh_combine_workers.proofs.writing.write_rounds.Given as goal
+
+abbrev pub invariant-loop-first : goal.invariant-loop-first
+invariant-loop-first g l = record {
+  inside : l.first ≤ l.parts;
+  written : (lists : List (List ℕ)) → AreLists l.cut lists → Appends (g.W.Write.contents (inner_of l.fn.writer)) (g.W.Write.contents (inner_of l.writer)) (spelled l.wanted.form (between l.cut.borders.items 0 l.first (answer l.wanted.how lists)));
+  count : (lists : List (List ℕ)) → AreLists l.cut lists → l.count ≡ min (length (between l.cut.borders.items 0 l.first (answer l.wanted.how lists))) (2 ^ 64 - 1);
+  fine : failures_of l.writer ≡ failures_of l.fn.writer;
+}
+
+abbrev pub decreases-loop-first : goal.decreases-loop-first
+decreases-loop-first g l = l.parts - l.first

@@ -1,0 +1,44 @@
+//! What comes of lists of numbers, by several workers: what all lists have, what one or another has, what
+//! only the first has, or what an odd number of them has.
+//!
+//! No crate stands on it yet; the commands of `rhkeys` on several files will.
+//!
+//! ```text
+//! combine(rt, alloc, 4, How::Intersect, lists)?
+//! write_combined(rt, alloc, 4, How::Union, Form::Lines, lists, &mut writer, &mut progress)?
+//! ```
+//!
+//! A list is given in pieces, as they are read. By a sample of all keys borders are chosen, between which
+//! about as many keys stand as between others. The pieces are cut there, side by side. A part has what
+//! all pieces have between two borders, so that each part is worked out by itself, by `rh_combine`.
+//! Groups of consecutive parts are worked out side by side, and written in their order.
+//!
+//! Proved:
+//!
+//! - `combine`: the rising list of what the lists mean (`rh_combine`). The number of workers and the
+//!   pieces stand nowhere in it.
+//! - `write_combined`: its numbers were written in their form, or, on a fault, a front of them. It answers
+//!   how many they are. `Write` comes only where the writer's count of failures rose, and else that did
+//!   not rise.
+//! - `workers_agree`: two such runs that end well wrote the same.
+#![tactic(auto)]
+
+mod borders;
+mod cut;
+mod fault;
+mod form;
+mod group;
+mod laws;
+mod lists;
+mod numbers;
+mod part;
+mod parts;
+mod wanted;
+mod writing;
+
+pub use fault::CombineFault;
+pub use form::Form;
+pub use laws::workers_agree;
+pub use numbers::combine;
+pub use rh_combine::How;
+pub use writing::{Progress, write_combined};

@@ -1,0 +1,97 @@
+//! What comes of the keys of one part, and of consecutive parts, worked out by one worker.
+
+ghost use Rattle.std.specs.Prelude.{◌≡◌, ℕ, List, ◌+◌, ◌<◌, ◌≤◌, All, IfOk, length, map};
+ghost use Rattle.rh_combine.specs.Combine.{answer};
+ghost use Rattle.rh_combine_workers.specs.Borders.{between, part_of};
+ghost use Rattle.rh_combine_workers.specs.Cut.{AreLists, IsOfLists};
+
+use crate::lists::CutLists;
+use crate::parts::Parts;
+use rh_combine::{How, combined};
+use std::alloc::{AllocError, Global};
+
+/// How many keys of a list stand in a part. So much room is taken for them at once; no more depends on it.
+fn count(pieces: &[Parts], part: usize) -> usize
+    requires { All (λ parts. part < length parts) pieces.now }
+{
+    let mut many = 0usize;
+    for parts in pieces {
+        many = many.saturating_add(parts.part(part).len());
+    }
+    many
+}
+
+/// The keys of a list that stand in a part.
+fn gathered(alloc: Global, pieces: &[Parts], part: usize) -> Result<Vec<u64>, AllocError>
+    requires { All (λ parts. part < length parts) pieces.now }
+    ensures { IfOk result (λ v. v.items ≡ part_of pieces.now part) }
+{
+    let mut keys = Vec::with_capacity(alloc, count(pieces, part))?;
+    for parts in pieces {
+        keys.extend_from_slice(parts.part(part))?;
+    }
+    Ok(keys)
+}
+
+/// The same of each list.
+fn all_gathered(
+    alloc: Global,
+    lists: &[Vec<Parts>],
+    part: usize,
+) -> Result<Vec<Vec<u64>>, AllocError>
+    requires { All (λ l. All (λ parts. part < length parts) l.items) lists.now }
+    ensures { IfOk result (λ v. map (λ k. k.items) v.items
+        ≡ map (λ l. part_of l.items part) lists.now) }
+{
+    let mut all = Vec::with_capacity(alloc, lists.len())?;
+    for pieces in lists {
+        all.push(gathered(alloc, pieces, part)?)?;
+    }
+    Ok(all)
+}
+
+fn slices_of(alloc: Global, lists: &[Vec<u64>]) -> Result<Vec<&[u64]>, AllocError>
+    ensures { IfOk result (λ v. map (λ k. k.now) v.items ≡ map (λ k. k.items) lists.now) }
+{
+    let mut slices = Vec::with_capacity(alloc, lists.len())?;
+    for keys in lists {
+        slices.push(keys.as_slice())?;
+    }
+    Ok(slices)
+}
+
+/// What comes of the keys of a part.
+fn of_part(alloc: Global, how: How, cut: &CutLists, part: usize) -> Result<Vec<u64>, AllocError>
+    requires lists { IsOfLists cut.now }
+    requires part { part + 1 < length cut.now.borders.items }
+    ensures { (lists : List (List ℕ)) → AreLists cut.now lists →
+        IfOk result (λ v. v.items
+        ≡ between cut.now.borders.items part (part + 1) (answer how lists)) }
+{
+    let mine = all_gathered(alloc, &cut.lists, part)?;
+    let slices = slices_of(alloc, &mine)?;
+    let found = combined(alloc, how, &slices)?;
+    Ok(found)
+}
+
+/// What comes of the keys of the parts from one up to before another.
+pub(crate) fn of_parts(
+    alloc: Global,
+    how: How,
+    cut: &CutLists,
+    from: usize,
+    to: usize,
+) -> Result<Vec<u64>, AllocError>
+    requires lists { IsOfLists cut.now }
+    requires order { from ≤ to }
+    requires inside { to < length cut.now.borders.items }
+    ensures { (lists : List (List ℕ)) → AreLists cut.now lists →
+        IfOk result (λ v. v.items ≡ between cut.now.borders.items from to (answer how lists)) }
+{
+    let mut found = Vec::new(alloc);
+    for part in from..to {
+        let mut more = of_part(alloc, how, cut, part)?;
+        found.append(&mut more)?;
+    }
+    Ok(found)
+}
