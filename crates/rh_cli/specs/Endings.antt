@@ -5,7 +5,7 @@ use Rattle.clap.specs.declared.error.kind.ErrorKind.TheVariants.{DisplayHelp, Di
 use Rattle.rh_cli.specs.declared.status.ProgramFault.{ProgramFault}
 use Rattle.rh_cli.specs.declared.status.ProgramFault.TheVariants as fault
 use Rattle.rh_cli.specs.declared.status.Status.{Status}
-use Rattle.rh_cli.specs.declared.status.Status.TheVariants.{Done, Refused, CommandLine, Memory, Write}
+use Rattle.rh_cli.specs.declared.status.Status.TheVariants.{Done, Refused, CommandLine, Memory, Write, ReaderGone}
 
 -- the exit status of each ending
 abbrev pub number_of : Status → ℕ
@@ -14,6 +14,7 @@ number_of Refused = 1
 number_of CommandLine = 2
 number_of Memory = 3
 number_of Write = 4
+number_of ReaderGone = 141
 
 -- how a run ends that printed what clap told: a text that was asked for, or a mistake in the words
 abbrev pub ending_of : ErrorKind → Status

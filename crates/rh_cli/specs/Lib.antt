@@ -1,2 +1,4 @@
+pub mod Closed
 pub mod Endings
 pub mod Streams
+pub mod Outlet

@@ -8,9 +8,11 @@
 //!   what `clap` answers, by the table `specs/Endings.antt`. A failed write is told only of a text that
 //!   was asked for.
 //! - `words`: its fault is a word that is no text, or want of memory, and never a failed write.
+//! - `hold_closed`: what is held has the number of a standard stream.
 //! - `open`: its fault is that the file cannot be opened, or want of memory.
 //! - `buffered_reader`, `buffered_writer`: the stream behind an empty buffer of 8,192 bytes, or
 //!   want of memory.
+//! - `Outlet` writes what is written to it to its writer, and nothing else.
 //! - `write_out`: the buffer is empty, and of a writer that tells its bytes all is written; or a
 //!   write failed, and none is lost or comes twice.
 //! - `Streams::new`: streams of which nothing is read or written yet, or want of memory.
@@ -20,12 +22,16 @@
 //!   ended well. That memory was wanted is not said.
 #![tactic(auto)]
 
+mod closed;
 mod file;
+mod outlet;
 mod program;
 mod status;
 mod streams;
 
+pub use closed::hold_closed;
 pub use file::open;
+pub use outlet::Outlet;
 pub use program::{answer, words};
 pub use status::{ProgramFault, Status};
 pub use streams::{Streams, between, buffered_reader, buffered_writer, write_out};

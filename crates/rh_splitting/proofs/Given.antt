@@ -13,22 +13,22 @@ use Rattle.rh_layout.specs.Key.{IsKey}
 use Rattle.rh_bytes.specs.Input.{eight_bytes}
 use Rattle.rh_key_files.specs.KeyFile.{IsKeyIn, spelled_keys}
 use Rattle.rh_key_files.specs.declared.version.Version.TheVariants.{Second}
-use Rattle.rh_layout.specs.declared.limits.TheConstants.{MAX_KEYS}
-use Rattle.rh_ranges.specs.Ranges.{in_part, part_of, stands_in}
+use Rattle.rh_parts.specs.Parts.{in_part, part_of, stands_in}
 use Rattle.rh_splitting.specs.declared.part.Part.{Part}
-use Rattle.rh_splitting.specs.Parts.{EachGot, Got, IsFull, part_count, writer_of}
+use Rattle.rh_splitting.specs.Parts.{EachGot, Got, IsFull, limit_of, part_count, writer_of}
 use Rattle.rh_splitting.specs.Splitting.{FailedAt}
 
 -- ---- one part
 
 got_none : {W : Type 0} (contents : W → Option (List ℕ)) (part : Part W) → Got contents part part []
-got_none contents part = record { written = Appends-nil (contents (inner_of (writer_of part))); counted = omega arith; fine = refl }
+got_none contents part = record { written = Appends-nil (contents (inner_of (writer_of part))); counted = omega arith; fine = refl; same_limit = refl }
 
 got_both : {W : Type 0} (contents : W → Option (List ℕ)) (a b c : Part W) (xs ys : List ℕ) → Got contents a b xs → Got contents b c ys → Got contents a c (xs ++ ys)
 got_both contents a b c xs ys first then = record {
   written = subst (Appends (contents (inner_of (writer_of a))) (contents (inner_of (writer_of c)))) (sym (flat_map-append eight_bytes xs ys)) (Appends-trans _ _ _ (spelled_keys xs) (spelled_keys ys) first.written then.written);
   counted = omega (arith, first.counted, then.counted, length-append xs ys);
   fine = then.fine ∙ first.fine;
+  same_limit = then.same_limit ∙ first.same_limit;
 }
 
 -- ---- all parts
@@ -105,8 +105,8 @@ pub still_given : {W : Type 0} (contents : W → Option (List ℕ)) (first parts
 still_given contents first parts place old new keys given there same =
     subst (λ ps. EachGot contents first ps keys) (sym (ap (slice_set parts place) same ∙ set_same parts place old there)) given
 
-pub is_full : {W : Type 0} (parts : List (Part W)) (place : ℕ) (old new : Part W) → slice_get parts place ≡ Some old → new ≡ old → part_count old ≡ MAX_KEYS → IsFull (slice_set parts place new) place
-is_full parts place old new there same full = (new, set_here parts place new (slice_get_within parts place old there), ap part_count same ∙ full)
+pub is_full : {W : Type 0} (parts : List (Part W)) (place : ℕ) (old new : Part W) → slice_get parts place ≡ Some old → new ≡ old → part_count old ≡ limit_of old → IsFull (slice_set parts place new) place
+is_full parts place old new there same full = (new, set_here parts place new (slice_get_within parts place old there), ap part_count same ∙ full ∙ ap limit_of (sym same))
 
 -- a write failed after these keys
 pub failed_after : {W : Type 0} (contents : W → Option (List ℕ)) (first mid last : List (Part W)) (place : ℕ) (keys : List ℕ) → EachGot contents first mid keys → FailedAt mid last place → FailedAt first last place

@@ -7,7 +7,7 @@ use Rattle.rh_bytes.specs.Counting.{AppendsFront}
 use Rattle.rh_bytes.proofs.Writing.{front_stops}
 use Rattle.rh_splitting.specs.declared.part.Part.{Part}
 use Rattle.rh_splitting.specs.Parts.{part_count}
-use Rattle.rh_splitting.specs.Plan.{part_line, part_lines, plan_text}
+use Rattle.rh_splitting.specs.Plan.{keys_given, part_line, part_lines}
 
 same_some : {X : Type 0} (x y : X) → Some x ≡ Some y → x ≡ y
 same_some x y h = cc
@@ -48,9 +48,26 @@ line_goes_on a b c parts i part is before line =
     (subst (Appends a c) (sym (more_from_first parts i part is)) (Appends-trans a b c (part_lines 0 (take i parts)) (part_line i (part_count part)) before line))
 
 pub line_stops : {W : Type 0} (a b c : Option (List ℕ)) (parts : List (Part W)) (i : ℕ) (part : Part W) → slice_get parts i ≡ Some part → Appends a b (part_lines 0 (take i parts)) → AppendsFront b c (part_line i (part_count part))
-    → AppendsFront a c (plan_text parts)
+    → AppendsFront a c (part_lines 0 parts)
 line_stops a b c parts i part is before line =
     let here : 0 + suc i ≡ suc i = omega arith in
-    front_stops a b c (part_lines 0 (take i parts)) (part_line i (part_count part)) (part_lines (suc i) (drop (suc i) parts)) (plan_text parts)
+    front_stops a b c (part_lines 0 (take i parts)) (part_line i (part_count part)) (part_lines (suc i) (drop (suc i) parts)) (part_lines 0 parts)
     (lines_in_two 0 parts (suc i) ∙ ap (λ n. part_lines 0 (take (suc i) parts) ++ part_lines n (drop (suc i) parts)) here
     ∙ ap (λ l. l ++ part_lines (suc i) (drop (suc i) parts)) (more_from_first parts i part is)) before line
+
+-- ---- the keys of all parts
+
+one_part_more : {W : Type 0} (parts : List (Part W)) (i : ℕ) (part : Part W) → slice_get parts i ≡ Some part → keys_given (take (suc i) parts) ≡ keys_given (take i parts) + part_count part
+one_part_more [] i part is = absurd cc
+one_part_more (p ∷ parts) zero part is =
+    let same : part_count p ≡ part_count part = ap part_count (same_some p part is) in
+    omega (arith, same)
+one_part_more (p ∷ parts) (suc i) part is =
+    let others = one_part_more parts i part is in
+    omega (arith, others)
+
+pub part_counted : {W : Type 0} (parts : List (Part W)) (i : ℕ) (part : Part W) (before count : ℕ) → slice_get parts i ≡ Some part → before ≡ keys_given (take i parts) → count ≡ part_count part → before + count ≡ keys_given (take (i + 1) parts)
+part_counted parts i part before count is so_far one =
+    let more = one_part_more parts i part is in
+    let next : suc i ≡ i + 1 = omega arith in
+    subst (λ n. before + count ≡ keys_given (take n parts)) next (omega (arith, more, so_far, one))

@@ -12,7 +12,7 @@ use Rattle.rh_numbers.proofs.Fronts.{Begins, begins, behind, said_behind}
 use Rattle.rh_numbers.proofs.Meaning.{any_text_read}
 use Rattle.rh_numbers.proofs.Parts.{GoesOn, goes_on}
 use Rattle.rh_numbers.proofs.Taken.{Fresh, fresh_after}
-use Rattle.rh_ranges.specs.Ranges.{part_of}
+use Rattle.rh_parts.specs.Parts.{part_of}
 use Rattle.rh_splitting.specs.declared.fault.SplitFault.{SplitFault}
 use Rattle.rh_splitting.specs.declared.fault.SplitFault.TheVariants as faults_of
 use Rattle.rh_splitting.specs.declared.part.Part.{Part}

@@ -1,5 +1,6 @@
 pub mod Parts
 pub mod Splitting
+pub mod Number
 pub mod Plan
 pub mod Files
 pub mod Name

@@ -4,8 +4,7 @@ use Rattle.std.specs.Io.KnownBytes.{Appends}
 use Rattle.rh_bytes.specs.Counting.{failures_of, inner_of}
 use Rattle.rh_key_files.specs.KeyFile.{spelled_keys}
 use Rattle.rh_bytes.specs.declared.counted.Counted.{Counted}
-use Rattle.rh_layout.specs.declared.limits.TheConstants.{MAX_KEYS}
-use Rattle.rh_ranges.specs.Ranges.{in_part}
+use Rattle.rh_parts.specs.Parts.{in_part}
 use Rattle.rh_splitting.specs.declared.part.Part.{Part}
 
 abbrev pub writer_of : {W : Type 0} → Part W → Counted W
@@ -15,19 +14,24 @@ writer_of part = part.writer
 abbrev pub part_count : {W : Type 0} → Part W → ℕ
 part_count part = part.count
 
+-- how many keys it takes
+abbrev pub limit_of : {W : Type 0} → Part W → ℕ
+limit_of part = part.limit
+
 -- The part was given these keys: they were written one after the other, and counted, and no write failed.
 pub record Got {W : Type 0} (contents : W → Option (List ℕ)) (old new : Part W) (keys : List ℕ) : Type 0 where
   pub written : Appends (contents (inner_of (writer_of old))) (contents (inner_of (writer_of new))) (spelled_keys keys)
   pub counted : part_count new ≡ part_count old + length keys
   pub fine : failures_of (writer_of new) ≡ failures_of (writer_of old)
+  pub same_limit : limit_of new ≡ limit_of old
 
 -- Each part was given its keys of the list, in the order of the list.
--- Of 4 parts and 0, 5 and 4611686018427387902, part 0 is given 0 and 5, and part 3 the other.
+-- Of 3 parts and 0, 5, 7 and 2, part 0 is given 0 and 7, part 1 is given 2, and part 2 is given 5.
 pub record EachGot {W : Type 0} (contents : W → Option (List ℕ)) (old new : List (Part W)) (keys : List ℕ) : Type 0 where
   pub many : length new ≡ length old
   pub each : (part : ℕ) (before after : Part W) → slice_get old part ≡ Some before → slice_get new part ≡ Some after
       → Got contents before after (in_part (length old) part keys)
 
--- the part of this number has as many keys as it may have
+-- the part of this number has as many keys as it takes
 abbrev pub IsFull : {W : Type 0} → List (Part W) → ℕ → Type 0
-IsFull {W} parts part = (full : Part W) × (slice_get parts part ≡ Some full) × (part_count full ≡ MAX_KEYS)
+IsFull {W} parts part = (full : Part W) × (slice_get parts part ≡ Some full) × (part_count full ≡ limit_of full)

@@ -4,12 +4,13 @@ use Rattle.std.specs.Io.KnownBytes.{Consumes}
 use Rattle.rh_bytes.specs.Counting.{Rose, failures_of}
 use Rattle.rh_key_files.specs.Reading as files
 use Rattle.rh_key_files.specs.declared.fault.KeyFault.{KeyFault}
+use Rattle.rh_key_files.specs.declared.fault.KeyFault.TheVariants as key_faults
 use Rattle.rh_numbers.specs.Grammar.{IsText}
 use Rattle.rh_numbers.specs.Reading.{SayOnly, text_said}
 use Rattle.rh_numbers.specs.declared.fault.TextFault.{TextFault}
 use Rattle.rh_numbers.specs.declared.fault.TextFault.TheVariants as faults
 use Rattle.rh_numbers.specs.declared.limits.TheConstants.{MAX_BYTES, PART_BYTES}
-use Rattle.rh_ranges.specs.Ranges.{part_of}
+use Rattle.rh_parts.specs.Parts.{part_of}
 use Rattle.rh_splitting.specs.declared.fault.SplitFault.{SplitFault}
 use Rattle.rh_splitting.specs.declared.fault.SplitFault.TheVariants.{Keys, Text, TooMany, Write}
 use Rattle.rh_splitting.specs.declared.part.Part.{Part}
@@ -100,3 +101,8 @@ fault_in_file r = None
 abbrev pub SplitsSource : {W X : Type 0} → Source → (bytes left : Option (List ℕ)) (contents : W → Option (List ℕ)) (old new : List (Part W)) → Result X SplitFault → Type 0
 SplitsSource sources.Text bytes left contents old new r = Splits bytes left contents old new r
 SplitsSource sources.Keys bytes left contents old new r = SplitsFile bytes left contents old new r
+
+-- the fault of an input that cannot be read
+abbrev pub unread : Source → SplitFault
+unread sources.Text = Text faults.Read
+unread sources.Keys = Keys key_faults.Read

@@ -9,6 +9,9 @@ use rh_layout::MAX_KEYS;
 use rh_numbers::TextFault;
 use thiserror::Error;
 
+/// What is written beside a place, before it takes that, has this at the end of its name, and a number.
+pub(crate) const BESIDE: &str = ".rhset-part-";
+
 /// Why a list was not split, or not all of it. Parts are numbered from 0.
 #[derive(Clone, Copy, Debug, PartialEq, Eq, Error)]
 pub enum SplitFault {
@@ -18,7 +21,8 @@ pub enum SplitFault {
     /// The key file is refused, or could not be read, also for want of memory.
     #[error(transparent)]
     Keys(KeyFault),
-    #[error("part {part:03}: more than {} keys", MAX_KEYS)]
+    /// The part takes no more keys.
+    #[error("part {part:03}: more than {} keys; --plan tells how many parts would do", MAX_KEYS)]
     TooMany { part: u64 },
     #[error("part {part:03}: cannot write the key file")]
     Write { part: u64 },
@@ -47,6 +51,9 @@ pub enum FilesFault {
     Split(SplitFault),
     #[error("part {part:03}: cannot make the key file")]
     Create { part: u64 },
+    /// All names beside its place are taken.
+    #[error("part {part:03}: too many files of runs that were cut: remove {part:03}/NAME.keys{}*", BESIDE)]
+    Left { part: u64 },
     #[error("part {part:03}: cannot write the key file")]
     Write { part: u64 },
     #[error("out of memory")]

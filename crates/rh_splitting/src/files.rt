@@ -2,20 +2,18 @@
 
 ghost use Rattle.std.specs.Prelude.{◌≤◌, length};
 
-use crate::fault::FilesFault;
+use crate::fault::{BESIDE, FilesFault};
 use crate::part::Part;
-use crate::source::{Source, split_source};
+use crate::source::{Source, split_source, try_source};
 use rh_bytes::Counted;
 use rh_key_files::write_header;
 use std::alloc::Global;
 use std::fs::{self, Files, OpenFile};
 use std::io::{self, BufWriter, ErrorKind, Read, Seek, SeekFrom, Write};
 
-/// What is written beside a place, before it takes that, has this at the end of its name, and a number.
-const BESIDE: &str = ".rhset-part-";
-
-/// How many names are tried for it: a run that was cut may have left some.
-const NAMES: u32 = 100;
+/// How many names are tried beside a place. Each run that is cut may leave a file there, which no other
+/// one touches: it may be at work.
+const NAMES: u32 = 10_000;
 
 /// Where the key file of a part is written, and where it stands in the end.
 #[derive(Drop)]
@@ -73,7 +71,7 @@ impl<'a, F> PartFiles<'a, F> {
 
 impl<F: Files> PartFiles<'_, F> {
     ghost use Rattle.std.specs.Prelude.{◌≡◌, ◌≤◌, ◌<◌, ◌+◌, length, IfOk, OnErr, OnOk, true};
-    ghost use Rattle.rh_ranges.specs.declared.part.TheConstants.{MAX_PARTS};
+    ghost use Rattle.rh_parts.specs.declared.part.TheConstants.{MAX_PARTS};
     ghost use Rattle.rh_splitting.specs.Files.{made_of, placed_of, whole_of};
     ghost use Rattle.rh_splitting.specs.Name.{is_name};
 
@@ -120,6 +118,8 @@ impl<F: Files> PartFiles<'_, F> {
         ensures whole { OnOk result (whole_of self.new ≡ count) }
         ensures placed { OnOk result (placed_of self.new ≡ count) }
     {
+        // Where nothing can be read, no file and no folder is made.
+        try_source(reader, source)?;
         let mut parts = self.begin_all(alloc, count, name)?;
         split_source(alloc, reader, source, &mut parts)?;
         self.end_all(parts)?;
@@ -201,7 +201,7 @@ impl<F: Files> PartFiles<'_, F> {
                 Err(_) => return Err(FilesFault::Create { part }),
             }
         }
-        Err(FilesFault::Create { part })
+        Err(FilesFault::Left { part })
     }
 
     /// Notes that the file was made, and gives it back.

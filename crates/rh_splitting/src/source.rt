@@ -1,9 +1,10 @@
 //! Where the keys that are split come from.
 
-ghost use Rattle.std.specs.Prelude.{◌≡◌, ◌<◌, ◌≤◌, IsErrOf, OnOk, length};
+ghost use Rattle.std.specs.Prelude.{◌≡◌, ◌<◌, ◌≤◌, IfErr, IsErrOf, OnErr, OnOk, length};
+ghost use Rattle.std.specs.Io.KnownBytes.{Keeps};
 ghost use Rattle.rh_bytes.specs.Counting.{Rose, failures_of, inner_of};
-ghost use Rattle.rh_ranges.specs.declared.part.TheConstants.{MAX_PARTS};
-ghost use Rattle.rh_splitting.specs.Splitting.{SplitsSource};
+ghost use Rattle.rh_parts.specs.declared.part.TheConstants.{MAX_PARTS};
+ghost use Rattle.rh_splitting.specs.Splitting.{SplitsSource, unread};
 
 use crate::fault::SplitFault;
 use crate::part::Part;
@@ -21,6 +22,22 @@ pub enum Source {
     Text,
     /// A key file, of either version.
     Keys,
+}
+
+/// Reads no byte, which fails where nothing can be read, as from a stream that is closed.
+pub fn try_source<R: Read>(reader: &mut Counted<R>, source: Source) -> Result<(), SplitFault>
+    ensures kept { Keeps (R.remaining (inner_of reader.old)) (R.remaining (inner_of reader.new)) }
+    ensures told { IfErr result (λ fault. fault ≡ unread source) }
+    ensures failed { OnErr result (Rose (failures_of reader.old) (failures_of reader.new)) }
+    ensures fine { OnOk result (failures_of reader.new ≡ failures_of reader.old) }
+{
+    match reader.read(&mut []) {
+        Ok(_) => Ok(()),
+        Err(_) => Err(match source {
+            Source::Text => SplitFault::Text(TextFault::Read),
+            Source::Keys => SplitFault::Keys(KeyFault::Read),
+        }),
+    }
 }
 
 /// Gives each key that the reader has to its part, in their order.

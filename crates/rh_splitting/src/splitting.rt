@@ -1,9 +1,8 @@
 //! A list of keys is split into parts.
 
-ghost use Rattle.std.specs.Prelude.{◌≡◌, ◌≢◌, ◌<◌, ◌≤◌, All, Err, IfErr, IsErrOf, length};
-ghost use Rattle.rh_layout.specs.Key.{IsKey};
+ghost use Rattle.std.specs.Prelude.{◌≡◌, ◌≢◌, ◌<◌, ◌≤◌, Err, IfErr, IsErrOf, length};
 ghost use Rattle.rh_bytes.specs.Counting.{Rose, failures_of, inner_of};
-ghost use Rattle.rh_ranges.specs.declared.part.TheConstants.{MAX_PARTS};
+ghost use Rattle.rh_parts.specs.declared.part.TheConstants.{MAX_PARTS};
 ghost use Rattle.rh_key_files.specs.Limits.{NoReadFailed, TakesOfFile};
 ghost use Rattle.rh_key_files.specs.Reading.{BeginsWithHeader};
 ghost use Rattle.rh_splitting.specs.Splitting.{Puts, Splits, SplitsFile, TakesText, fault_in_file};
@@ -13,7 +12,7 @@ use crate::part::{Part, PartFault};
 use rh_bytes::Counted;
 use rh_key_files::{KeyFault, read_keys};
 use rh_numbers::{MAX_READS, Reading, TextFault};
-use rh_ranges::part_of;
+use rh_parts::part_of;
 use std::alloc::Global;
 use std::io::{Read, Write};
 
@@ -54,7 +53,6 @@ pub fn split_text<R: Read, W: Write>(
 pub fn split_keys<W: Write>(keys: &[u64], parts: &mut [Part<W>]) -> Result<(), SplitFault>
     requires some { 0 < length parts.old }
     requires few { length parts.old ≤ MAX_PARTS }
-    requires keys { All IsKey keys.now }
     ensures { Puts W.contents parts.old parts.new keys.now result }
 {
     for key in keys {

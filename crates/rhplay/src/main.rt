@@ -8,7 +8,7 @@ ghost use Rattle.rhplay.specs.Endings.{ending_by};
 mod status;
 
 use rh_arguments::LineFault;
-use rh_cli::{ProgramFault, Status, answer, between, open, words};
+use rh_cli::{ProgramFault, Status, answer, between, hold_closed, open, words};
 use rh_play_commands::{Line, NAME, line, name_called};
 use rh_play_run::{Telling, draw_play, tell_play};
 use status::Fault;
@@ -18,6 +18,7 @@ use std::io;
 use std::process::ExitCode;
 
 fn main(rt: HostRuntime) -> ExitCode {
+    let _held = hold_closed(&rt);
     let status = match words(&rt) {
         Ok(words) => match carry_out(&rt, &words) {
             Ok(status) => status,

@@ -4,7 +4,7 @@
 ghost use Rattle.rh_threads.specs.Made.{IsWorkers};
 
 use rh_arguments::LineFault;
-use rh_cli::{ProgramFault, Status, answer, words};
+use rh_cli::{ProgramFault, Status, answer, hold_closed, words};
 use rh_commands::line::{Line, line};
 use rh_runner::Single;
 use rh_set_program::{Fault, check_file, dump_streams, run_by, tell};
@@ -16,6 +16,7 @@ use std::sync::Wait;
 use std::thread;
 
 fn main(rt: HostRuntime) -> ExitCode {
+    let _held = hold_closed(&rt);
     let status = match carry_out(&rt) {
         Ok(status) => status,
         Err(fault) => tell(&rt, &fault),

@@ -1,7 +1,7 @@
 use Rattle.std.proofs.Common.{append_assoc, codes, length}
 use Rattle.rh_bytes.specs.Input.{eight_bytes}
 use Rattle.rh_key_files.specs.KeyFile.{spelled_keys}
-use Rattle.rh_ranges.specs.Ranges.{in_part}
+use Rattle.rh_parts.specs.Parts.{in_part}
 use Rattle.rh_splitting.proofs.Given.{keys_in_part}
 use Rattle.rh_splitting.proofs.laws.whole_part.Goals as goal
 

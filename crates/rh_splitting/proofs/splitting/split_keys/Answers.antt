@@ -1,7 +1,7 @@
 use Rattle.std.proofs.Common.{◌≡◌, ◌<◌, Some, length, take, drop, get_or, refl, suc, subst, rules}
 use Rattle.std.proofs.lemmas.Option.{slice_get_read}
 use Rattle.std.specs.Prelude.{slice_get}
-use Rattle.rh_ranges.specs.Ranges.{part_of}
+use Rattle.rh_parts.specs.Parts.{part_of}
 use Rattle.rh_splitting.specs.Parts.{EachGot}
 use Rattle.rh_splitting.proofs.Given.{both_given, failed_after, failed_here, is_full, key_at, one_given, one_more, still_given}
 use Rattle.rh_splitting.proofs.splitting.split_keys.Goals as goal

@@ -1,0 +1,3 @@
+-- Cutting: sets and lists of which those keys are kept that pass a test.
+
+pub mod Cutting

@@ -1,0 +1,3 @@
+-- Parts: which parts there are, and what stands in a part of a list.
+
+pub mod Parts

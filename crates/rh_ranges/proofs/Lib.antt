@@ -1,3 +1,0 @@
--- Parts: what stands in a part of a list.
-
-pub mod Parts
