@@ -26,7 +26,7 @@ fn listing_of(alloc: Global, words: &[&str]) -> Result<Option<(bool, bool)>, Fai
         Ok(line) => match line {
             Line::Pack => Some((false, false)),
             Line::List { snapshot, .. } => Some((true, snapshot)),
-            Line::Split { .. } => None,
+            Line::Combine { .. } | Line::Split { .. } => None,
         },
         Err(_fault) => None,
     })
@@ -40,7 +40,7 @@ fn files_of(alloc: Global, words: &[&str]) -> Result<Option<Vec<String>>, Fail> 
                 files,
                 snapshot: _snapshot,
             } => Some(files),
-            Line::Pack | Line::Split { .. } => None,
+            Line::Combine { .. } | Line::Pack | Line::Split { .. } => None,
         },
         Err(_fault) => None,
     })
@@ -56,7 +56,7 @@ fn split_of(alloc: Global, words: &[&str]) -> Result<Option<(usize, bool, bool, 
                 plan,
                 name,
             } => Some((parts, key_file, plan, name)),
-            Line::Pack | Line::List { .. } => None,
+            Line::Combine { .. } | Line::Pack | Line::List { .. } => None,
         },
         Err(_fault) => None,
     })
@@ -121,6 +121,9 @@ const SPLITS: &[(&[&str], Split)] = &[
         (3, true, true, "--a"),
     ),
     (&["split", "--parts", "2", ""], (2, false, false, "")),
+    (&["split", "a"], (0, false, false, "a")),
+    (&["split", "--plan", "a"], (0, false, true, "a")),
+    (&["split", "--parts", "1", "a"], (1, false, false, "a")),
 ];
 
 #[test]
@@ -145,9 +148,8 @@ const MISTAKES: &[&[&str]] = &[
     &["--snapshot"],
     &["--snapshot", "list"],
     &["split"],
-    &["split", "a"],
     &["split", "--parts", "2"],
-    &["split", "--parts", "1", "a"],
+    &["split", "--parts", "-1", "a"],
     &["split", "--parts", "1001", "a"],
     &["split", "--parts", "two", "a"],
     &["split", "--parts", "2", "a", "b"],

@@ -8,7 +8,7 @@ fn numbers_of(alloc: Global, text: &[u8]) -> Result<Vec<u64>, TextFault> {
     read_numbers(alloc, &mut Counted::new(text))
 }
 
-const ACCEPTED: &[(&[u8], &[u64])] = &[
+pub(crate) const ACCEPTED: &[(&[u8], &[u64])] = &[
     (b"", &[]),
     (b"\n", &[]),
     (b"17\n1\n9\n", &[17, 1, 9]),
@@ -38,7 +38,7 @@ fn texts_are_read(rt: HostRuntime) -> Result<(), Fail> {
     Ok(())
 }
 
-const NOT_A_KEY: &[(&[u8], u64)] = &[
+pub(crate) const NOT_A_KEY: &[(&[u8], u64)] = &[
     (b"+1\n", 1),
     (b"-1\n", 1),
     (b"1 2\n", 1),
@@ -72,7 +72,7 @@ fn what_is_no_number_is_refused_at_its_line(rt: HostRuntime) {
     }
 }
 
-const OUT_OF_RANGE: &[(&[u8], u64)] = &[
+pub(crate) const OUT_OF_RANGE: &[(&[u8], u64)] = &[
     (b"4611686018427387903\n", 1),
     (b"1\n\n18446744073709551615\n", 3),
     (b"18446744073709551616\r\n", 1),
@@ -93,7 +93,7 @@ fn a_number_above_the_greatest_key_is_refused_at_its_line(rt: HostRuntime) {
 }
 
 // So many lines `7`, and this last line.
-fn sevens(alloc: Global, lines: usize, last: &[u8]) -> Result<Vec<u8>, AllocError> {
+pub(crate) fn sevens(alloc: Global, lines: usize, last: &[u8]) -> Result<Vec<u8>, AllocError> {
     let mut text = Vec::new(alloc);
     for _ in 0..lines {
         text.extend_from_slice(b"7\n")?;

@@ -1,34 +1,35 @@
 use rh_faulty::{FaultyReader, FaultyWriter, Refusal};
 use rh_key_files::{Counted, KeyFault};
 use rh_numbers::TextFault;
-use rh_ranges::MAX_PARTS;
+use rh_parts::MAX_PARTS;
 use rh_splitting::*;
 use std::alloc::Global;
 use std::io::Read;
 use std::process::Abort;
 use std::test::*;
 
-// Keys of three of four parts, and the bounds of two; part 2 has none.
+// Keys of three of four parts; part 1 has none.
 const TEXT: &[u8] =
-    b"# keys\n5\n1152921504606846976\n0\n1152921504606846975\n4611686018427387902\n5";
+    b"# keys\n5\n1152921504606846976\n0\n2305843009213693952\n4611686018427387902\n5";
 
 // What each part is given, and how many keys these are.
 const PARTS: [(&[u8], u64); 4] = [
-    (
-        b"\0\0\0\0\0\0\0\x05\0\0\0\0\0\0\0\0\x0f\xff\xff\xff\xff\xff\xff\xff\0\0\0\0\0\0\0\x05",
-        4,
-    ),
-    (b"\x10\0\0\0\0\0\0\0", 1),
+    (b"\0\0\0\0\0\0\0\0\x20\0\0\0\0\0\0\0", 2),
     (b"", 0),
-    (b"\x3f\xff\xff\xff\xff\xff\xff\xfe", 1),
+    (b"\x10\0\0\0\0\0\0\0", 1),
+    (
+        b"\0\0\0\0\0\0\0\x05\x3f\xff\xff\xff\xff\xff\xff\xfe\0\0\0\0\0\0\0\x05",
+        3,
+    ),
 ];
 
-fn in_memory(alloc: Global) -> [Part<Vec<u8>>; 4] {
+// Parts that take so many keys each.
+fn in_memory(alloc: Global, limit: u64) -> [Part<Vec<u8>>; 4] {
     [
-        Part::new(Vec::new(alloc)),
-        Part::new(Vec::new(alloc)),
-        Part::new(Vec::new(alloc)),
-        Part::new(Vec::new(alloc)),
+        Part::new(Vec::new(alloc), limit),
+        Part::new(Vec::new(alloc), limit),
+        Part::new(Vec::new(alloc), limit),
+        Part::new(Vec::new(alloc), limit),
     ]
 }
 
@@ -48,33 +49,74 @@ fn assert_got(rt: &impl Abort, part: Part<Vec<u8>>, got: (&[u8], u64)) {
 
 #[test]
 fn each_key_goes_to_its_part(rt: HostRuntime) {
-    let mut parts = in_memory(rt.alloc());
+    let mut parts = in_memory(rt.alloc(), 3);
     let outcome = split_text(rt.alloc(), &mut Counted::new(TEXT), &mut parts);
     assert_eq!(rt; outcome, Ok(()));
     let mut plan = Counted::new(Vec::new(rt.alloc()));
     assert!(rt; write_plan(&parts, &mut plan).is_ok());
     assert_eq!(rt;
         plan.into_inner().as_slice(),
-        b"000 4\n001 1\n002 0\n003 1\n".as_slice()
+        b"000 2\n001 0\n002 1\n003 3\nkeys 6 parts 1\n".as_slice()
     );
     assert_given(&rt, parts);
+}
+
+#[test]
+fn a_part_that_is_full_takes_no_key(rt: HostRuntime) {
+    let mut parts = in_memory(rt.alloc(), 2);
+    let outcome = split_text(rt.alloc(), &mut Counted::new(TEXT), &mut parts);
+    assert_eq!(rt; outcome, Err(SplitFault::TooMany { part: 3 }));
+    assert_eq!(rt; parts[0].count(), 2);
+    assert_eq!(rt; parts[3].count(), 2);
+}
+
+#[test]
+fn parts_are_planned(rt: HostRuntime) -> Result<(), Fail> {
+    let mut parts = counting_parts(rt.alloc(), 4)?;
+    let outcome = split_text(rt.alloc(), &mut Counted::new(TEXT), &mut parts);
+    assert_eq!(rt; outcome, Ok(()));
+    for (part, got) in parts.iter().zip(&PARTS) {
+        assert_eq!(rt; part.count(), got.1);
+    }
+    for (keys, parts) in [(0, 1), (150_000, 1), (150_001, 2), (150_000_001, 1_001)] {
+        assert_eq!(rt; parts_for(keys), parts);
+    }
+    for (bytes, of_text, of_keys) in [
+        (0, 1, 1),
+        (1_050_006, 1, 1),
+        (1_050_007, 2, 1),
+        (1_200_007, 2, 1),
+        (1_200_008, 2, 2),
+        (u64::MAX, 1_000, 1_000),
+    ] {
+        assert_eq!(rt; parts_chosen(Source::Text, bytes), of_text);
+        assert_eq!(rt; parts_chosen(Source::Keys, bytes), of_keys);
+    }
+    Ok(())
+}
+
+#[test]
+fn what_cannot_be_read_is_told(rt: HostRuntime) {
+    let mut reader = Counted::new(FaultyReader::new(TEXT, 1));
+    let told = try_source(&mut reader, Source::Keys);
+    assert_eq!(rt; told, Err(SplitFault::Keys(KeyFault::Read)));
+    let told = try_source(&mut reader, Source::Text);
+    assert_eq!(rt; told, Ok(()));
 }
 
 #[test]
 fn a_key_file_is_split_too(rt: HostRuntime) -> Result<(), Fail> {
     let mut file = Vec::new(rt.alloc());
     file.extend_from_slice(b"RHK2\0\0\0\0\0\0\0\x06")?;
-    for at in [0..8, 8..16, 16..24, 24..32] {
-        file.extend_from_slice(&PARTS[0].0[at])?;
+    for part in &PARTS {
+        file.extend_from_slice(part.0)?;
     }
-    file.extend_from_slice(PARTS[3].0)?;
-    file.extend_from_slice(PARTS[1].0)?;
-    let mut parts = in_memory(rt.alloc());
+    let mut parts = in_memory(rt.alloc(), 3);
     let mut reader = Counted::new(file.as_slice());
     let outcome = split_source(rt.alloc(), &mut reader, Source::Keys, &mut parts);
     assert_eq!(rt; outcome, Ok(()));
     assert_given(&rt, parts);
-    let mut parts = in_memory(rt.alloc());
+    let mut parts = in_memory(rt.alloc(), 3);
     let outcome = split_file(rt.alloc(), &mut Counted::new(TEXT), &mut parts);
     assert_eq!(rt; outcome, Err(SplitFault::Keys(KeyFault::NotKeys)));
     for part in &parts {
@@ -84,7 +126,7 @@ fn a_key_file_is_split_too(rt: HostRuntime) -> Result<(), Fail> {
 }
 
 fn fault_of(alloc: Global, reader: &mut Counted<impl Read>) -> Option<SplitFault> {
-    let mut parts = in_memory(alloc);
+    let mut parts = in_memory(alloc, 3);
     split_source(alloc, reader, Source::Text, &mut parts).err()
 }
 
@@ -110,21 +152,21 @@ fn each_read_fails(rt: HostRuntime) {
     }
 }
 
-// The first part writes four keys.
+// The last part writes three keys.
 #[test]
 fn each_write_fails(rt: HostRuntime) {
     for refusal in [Refusal::Error, Refusal::TakesNothing] {
-        for n in 1..6u64 {
+        for n in 1..5u64 {
             let mut parts = [
-                Part::new(FaultyWriter::new(rt.alloc(), n, refusal)),
-                Part::new(FaultyWriter::new(rt.alloc(), 0, refusal)),
-                Part::new(FaultyWriter::new(rt.alloc(), 0, refusal)),
-                Part::new(FaultyWriter::new(rt.alloc(), 0, refusal)),
+                Part::new(FaultyWriter::new(rt.alloc(), 0, refusal), 3),
+                Part::new(FaultyWriter::new(rt.alloc(), 0, refusal), 3),
+                Part::new(FaultyWriter::new(rt.alloc(), 0, refusal), 3),
+                Part::new(FaultyWriter::new(rt.alloc(), n, refusal), 3),
             ];
             let outcome = split_text(rt.alloc(), &mut Counted::new(TEXT), &mut parts);
             assert_eq!(rt;
                 outcome.err(),
-                (n < 5).then_some(SplitFault::Write { part: 0 })
+                (n < 4).then_some(SplitFault::Write { part: 3 })
             );
         }
     }
@@ -151,7 +193,7 @@ fn a_fault_can_be_printed(rt: HostRuntime) -> Result<(), Fail> {
     for (fault, text) in [
         (
             SplitFault::TooMany { part: 7 },
-            "part 007: more than 1000000 keys",
+            "part 007: more than 1000000 keys; --plan tells how many parts would do",
         ),
         (
             SplitFault::Write { part: 999 },
@@ -171,6 +213,10 @@ fn a_fault_can_be_printed(rt: HostRuntime) -> Result<(), Fail> {
         (
             FilesFault::Create { part: 0 },
             "part 000: cannot make the key file",
+        ),
+        (
+            FilesFault::Left { part: 3 },
+            "part 003: too many files of runs that were cut: remove 003/NAME.keys.rhset-part-*",
         ),
         (
             FilesFault::Write { part: 12 },

@@ -1,21 +1,20 @@
 -- The command line of rhkeys: the commands as clap reads them, and what a line says of the words.
-use Rattle.std.specs.Prelude.{◌≡◌, ◌⊎◌, ◌↔◌, IsTrue, true, List, Option, Some, None, codes}
-use Rattle.clap.specs.Walk.{Row, Rule, Text, first_of}
+use Rattle.std.specs.Prelude.{◌≡◌, ◌⊎◌, ◌↔◌, IsTrue, List, [], ◌∷◌, Option, Some, None, codes}
+use Rattle.clap.specs.Walk.{Row, Rule, Text}
 use Rattle.clap.specs.Simple.{App, new_app, new_rule, with_rule, with_subcommand}
-use Rattle.clap.specs.declared.builder.action.ArgAction.TheVariants.{Append, Set, SetTrue}
+use Rattle.clap.specs.declared.builder.action.ArgAction.TheVariants.{Append, Set}
 use Rattle.clap.specs.declared.builder.value_parser.ValueParser.TheVariants.{Unsigned}
 use Rattle.rh_key_commands.specs.declared.line.asked.Line.{Line}
-use Rattle.rh_key_commands.specs.declared.line.asked.Line.TheVariants.{Pack, List as Listing, Split}
-use Rattle.rh_key_commands.specs.declared.limits.TheConstants.{MAX_PARTS}
+use Rattle.rh_key_commands.specs.declared.line.asked.Line.TheVariants.{Combine, Pack, List as Listing, Split}
+use Rattle.rh_key_commands.specs.declared.line.asked.Combination.{Combination}
+use Rattle.rh_key_commands.specs.declared.limits.TheConstants.{MAX_PARTS, MAX_WORKERS}
+use Rattle.rh_key_commands.specs.Flags.{IsGiven, flag_rule}
+use Rattle.rh_key_commands.specs.Lists.{HasWorkers, lists_app, name_of}
 use Rattle.rh_arguments.specs.Words.{IsTextFor, GivesAll, GivesNumber, HasNumber, HasText, path_rule, program_app}
 
 -- the command `pack` takes no argument
 abbrev pub pack_app : App
 pack_app = new_app (codes "pack")
-
--- a flag, whose long name is its id
-abbrev pub flag_rule : Text → Rule
-flag_rule id = record (new_rule id) { long = Some id; action = Some SetTrue }
 
 -- any number of files
 abbrev pub files_rule : Rule
@@ -25,43 +24,48 @@ files_rule = record (new_rule (codes "file")) { action = Some Append; value_name
 abbrev pub list_app : App
 list_app = with_rule (with_rule (new_app (codes "list")) (flag_rule (codes "snapshot"))) files_rule
 
--- `--parts N`: a number from 2 to MAX_PARTS, which has to be given
+-- `--parts N`: a number up to MAX_PARTS, and 0 where it is left out
 abbrev pub parts_rule : Rule
 parts_rule = record (new_rule (codes "parts")) {
   long = Some (codes "parts");
   action = Some Set;
   value_names = 1;
-  required = true;
-  parser = Some (Unsigned 2 MAX_PARTS);
+  defaults = codes "0" ∷ [];
+  parser = Some (Unsigned 0 MAX_PARTS);
 }
 
 -- the command `split` takes a number of parts, these flags, and a name
 abbrev pub split_app : App
 split_app = with_rule (with_rule (with_rule (with_rule (new_app (codes "split")) parts_rule) (flag_rule (codes "key-file"))) (flag_rule (codes "plan"))) (path_rule (codes "name"))
 
+-- the program with the commands that make one list of several
+abbrev pub lists_added : App
+lists_added =
+    with_subcommand (with_subcommand (with_subcommand (with_subcommand (program_app (codes "rhkeys"))
+    (lists_app (codes "intersect")).top) (lists_app (codes "union")).top) (lists_app (codes "subtract")).top) (lists_app (codes "xor")).top
+
 abbrev pub rhkeys_app : App
-rhkeys_app = with_subcommand (with_subcommand (with_subcommand (program_app (codes "rhkeys")) pack_app.top) list_app.top) split_app.top
+rhkeys_app = with_subcommand (with_subcommand (with_subcommand lists_added pack_app.top) list_app.top) split_app.top
 
 abbrev pub HasSplitArguments : List Row → Type 0
-HasSplitArguments rows = HasNumber (codes "parts") 2 MAX_PARTS rows × HasText (codes "name") rows
+HasSplitArguments rows = HasNumber (codes "parts") 0 MAX_PARTS rows × HasText (codes "name") rows
 
 -- the name of a command, with what it needs
 abbrev pub IsKeysCommand : Text → List Row → Type 0
 IsKeysCommand name rows =
-    (name ≡ codes "pack") ⊎ ((name ≡ codes "list") ⊎ ((name ≡ codes "split") × HasSplitArguments rows))
-
--- the flag is told as given: `true` is the text that clap has for a flag that is
--- (`get_flag` of clap promises nothing of texts that no flag has)
-abbrev pub IsGiven : Text → List Row → Type 0
-IsGiven id rows = first_of id rows ≡ Some (codes "true")
+    ((how : Combination) × (name ≡ name_of how) × HasWorkers rows)
+    ⊎ ((name ≡ codes "pack") ⊎ ((name ≡ codes "list") ⊎ ((name ≡ codes "split") × HasSplitArguments rows)))
 
 -- the line is the command, with what was found for it
 abbrev pub SaysKeys : Text → List Row → Line → Type 0
+SaysKeys name rows (Combine how workers count packed files) =
+    (name ≡ name_of how) × GivesNumber (codes "workers") 0 MAX_WORKERS rows workers × (IsTrue count ↔ IsGiven (codes "count") rows)
+    × (IsTrue packed ↔ IsGiven (codes "packed") rows) × GivesAll (codes "file") rows files.items
 SaysKeys name rows Pack = name ≡ codes "pack"
 SaysKeys name rows (Listing snapshot files) =
     (name ≡ codes "list") × (IsTrue snapshot ↔ IsGiven (codes "snapshot") rows) × GivesAll (codes "file") rows files.items
 SaysKeys name rows (Split parts key_file plan text) =
-    (name ≡ codes "split") × GivesNumber (codes "parts") 2 MAX_PARTS rows parts × (IsTrue key_file ↔ IsGiven (codes "key-file") rows)
+    (name ≡ codes "split") × GivesNumber (codes "parts") 0 MAX_PARTS rows parts × (IsTrue key_file ↔ IsGiven (codes "key-file") rows)
     × (IsTrue plan ↔ IsGiven (codes "plan") rows) × IsTextFor (codes "name") rows text
 
 -- a command was found, and the line is that

@@ -2,3 +2,6 @@
 
 /// The most parts that `split` makes.
 pub const MAX_PARTS: usize = 1_000;
+
+/// The most workers that combine lists.
+pub const MAX_WORKERS: usize = 64;

@@ -1,8 +1,11 @@
 //! The command line of `rhkeys`: its commands, and what the words ask for.
 
 mod asked;
+mod flags;
 mod help;
+mod lists;
 mod parse;
 
-pub use asked::Line;
+pub use crate::limits::MAX_WORKERS;
+pub use asked::{Combination, Line};
 pub use parse::line;

@@ -1,49 +1,86 @@
-//! The program `rhkeys`: texts of numbers become key files, and key files and snapshots texts.
+//! The program `rhkeys`: lists of numbers become one, texts of numbers key files, and key files and
+//! snapshots texts.
 #![tactic(auto)]
 
-ghost use Rattle.std.specs.Prelude.{◌≡◌, ◌≤◌, ◌<◌, IfOk, length, true};
-ghost use Rattle.rh_ranges.specs.declared.part.TheConstants.{MAX_PARTS};
+ghost use Rattle.std.specs.Prelude.{◌≡◌, ◌≤◌, ◌<◌, IfOk, Ok, length, true};
+ghost use Rattle.rh_parts.specs.declared.part.TheConstants.{MAX_PARTS};
 ghost use Rattle.rh_splitting.specs.Name.{is_name};
 ghost use Rattle.rhkeys.specs.Endings.{ending_by};
 
+mod lists;
+mod progress;
 mod status;
 
+use lists::{Asked, combine};
 use rh_arguments::LineFault;
 use rh_bytes::Counted;
-use rh_cli::{ProgramFault, Status, answer, between, buffered_writer, words, write_out};
+use rh_cli::{
+    Outlet, ProgramFault, Status, answer, between, buffered_writer, hold_closed, words, write_out,
+};
 use rh_key_commands::line::{Line, line};
 use rh_key_files::KeyFault;
 use rh_key_texts::{FaultAt, FileFault, Form, list_files, list_keys, list_snapshot, pack};
 use rh_shelf::{FileShelf, ShelfFault};
 use rh_snapshot::SnapFault;
-use rh_splitting::{FilesFault, Part, PartFiles, Source, is_name, split_source, write_plan};
+use rh_splitting::{
+    FilesFault, Part, PartFiles, Source, SplitFault, counting_parts, is_name, parts_chosen,
+    split_source, try_source, write_plan,
+};
 use status::Fault;
 use std::alloc::Global;
 use std::env::Env;
-use std::fs::Files;
-use std::io::{self, Sink};
+use std::fs::{self, Files};
+use std::io::{self, IsTerminal, Sink, Write};
 use std::process::ExitCode;
+use std::thread::Threads;
+use std::time::Clock;
 
 fn main(rt: HostRuntime) -> ExitCode {
-    let status = match carry_out(&rt) {
+    let _held = hold_closed(&rt);
+    let mut outlet = Outlet::new(io::writer(&rt));
+    let on_terminal = rt.stderr().is_terminal();
+    let status = match carry_out(&rt, &mut outlet, on_terminal) {
         Ok(status) => status,
+        // As the usual tools do, which the signal of a closed pipe ends.
+        Err(_) if outlet.is_gone() => Status::ReaderGone,
         Err(fault) => tell(&rt, &fault),
     };
     ExitCode::from(status)
 }
 
-fn carry_out(
-    rt: &(impl Env + Files + Input + Print + Eprint + AllocGlobal),
+fn carry_out<W: Write>(
+    rt: &(impl Clock + Env + Files + Input + Print + Eprint + Threads + Sync + AllocGlobal),
+    outlet: &mut Outlet<W>,
+    on_terminal: bool,
 ) -> Result<Status, Fault> {
     let words = words(rt)?;
     match line(rt.alloc(), &words) {
-        Ok(Line::Pack) => pack_streams(rt),
+        Ok(
+            Line::Combine {
+                combination,
+                workers,
+                count,
+                packed,
+                files,
+            },
+        ) => {
+            let asked = Asked {
+                combination,
+                workers,
+                count,
+                packed,
+                files,
+                on_terminal,
+            };
+            combine(rt, outlet, asked)
+        }
+        Ok(Line::Pack) => pack_streams(rt, outlet),
         Ok(Line::List { snapshot, files }) => {
             let form = if snapshot { Form::Snapshot } else { Form::Keys };
             if files.is_empty() {
-                list_input(rt, form)
+                list_input(rt, outlet, form)
             } else {
-                list_paths(rt, files, form)
+                list_paths(rt, outlet, files, form)
             }
         }
         Ok(
@@ -55,10 +92,13 @@ fn carry_out(
             },
         ) => {
             let source = if key_file { Source::Keys } else { Source::Text };
-            match (is_name(&name), plan) {
-                (false, _) => Err(Fault::Name),
-                (true, true) => plan_streams(rt, source, parts as u64),
-                (true, false) => split_streams(rt, source, parts as u64, &name),
+            if !is_name(&name) {
+                return Err(Fault::Name);
+            }
+            let parts = parts_asked(rt, source, parts as u64)?;
+            match plan {
+                true => plan_streams(rt, outlet, source, parts),
+                false => split_streams(rt, source, parts, &name),
             }
         }
         Err(LineFault::Words(error)) => Ok(answer(rt, &error)?),
@@ -67,8 +107,11 @@ fn carry_out(
 }
 
 // Packs the text on standard input to standard output. It is read in parts, with no other buffer.
-fn pack_streams(rt: &(impl Input + Print + AllocGlobal)) -> Result<Status, Fault> {
-    let output = buffered_writer(rt.alloc(), io::writer(rt))?;
+fn pack_streams<W: Write>(
+    rt: &(impl Input + AllocGlobal),
+    outlet: &mut Outlet<W>,
+) -> Result<Status, Fault> {
+    let output = buffered_writer(rt.alloc(), outlet)?;
     let mut reader = Counted::new(rt.reader());
     let mut writer = Counted::new(output);
     pack(rt.alloc(), &mut reader, &mut writer)?;
@@ -77,9 +120,13 @@ fn pack_streams(rt: &(impl Input + Print + AllocGlobal)) -> Result<Status, Fault
 }
 
 // Lists what stands on standard input to standard output.
-fn list_input(rt: &(impl Input + Print + AllocGlobal), form: Form) -> Result<Status, Fault> {
+fn list_input<W: Write>(
+    rt: &(impl Input + AllocGlobal),
+    outlet: &mut Outlet<W>,
+    form: Form,
+) -> Result<Status, Fault> {
     let alloc = rt.alloc();
-    between(alloc, rt.reader(), io::writer(rt), |streams| {
+    between(alloc, rt.reader(), outlet, |streams| {
         let (reader, writer) = (&mut streams.reader, &mut streams.writer);
         match form {
             Form::Keys => Ok(list_keys(alloc, reader, writer)?),
@@ -89,12 +136,13 @@ fn list_input(rt: &(impl Input + Print + AllocGlobal), form: Form) -> Result<Sta
 }
 
 // Lists the files at these paths to standard output, one after the other. It goes through a buffer.
-fn list_paths(
-    rt: &(impl Files + Print + AllocGlobal),
+fn list_paths<W: Write>(
+    rt: &(impl Files + AllocGlobal),
+    outlet: &mut Outlet<W>,
     paths: Vec<String>,
     form: Form,
 ) -> Result<Status, Fault> {
-    let output = buffered_writer(rt.alloc(), io::writer(rt))?;
+    let output = buffered_writer(rt.alloc(), outlet)?;
     let mut shelf = FileShelf::new(rt);
     let mut writer = Counted::new(output);
     let listed = list_files(rt.alloc(), &mut shelf, &paths, form, &mut writer);
@@ -125,6 +173,36 @@ fn file_fault(mut paths: Vec<String>, fault: &FaultAt) -> Fault
     }
 }
 
+// How many parts are to be made: as many as were asked for, or where that is 0 as the size of standard
+// input says. Of a pipe the size is not known, and it is read but once: the parts of its first key have
+// to be known before its last one.
+fn parts_asked(rt: &(impl Files + Input), source: Source, asked: u64) -> Result<u64, Fault>
+    requires { asked ≤ MAX_PARTS }
+    ensures some { IfOk result (λ parts. 0 < parts) }
+    ensures few { IfOk result (λ parts. parts ≤ MAX_PARTS) }
+    ensures asked { 0 < asked → result ≡ Ok asked }
+{
+    if asked > 0 {
+        return Ok(asked);
+    }
+    if let Some(bytes) = size_of_input(rt) {
+        return Ok(parts_chosen(source, bytes));
+    }
+    // (what cannot be read has no size either)
+    match try_source(&mut Counted::new(rt.reader()), source) {
+        Ok(()) => Err(Fault::Size),
+        Err(fault) => Err(Fault::Split(FilesFault::Split(fault))),
+    }
+}
+
+// How many bytes standard input has, where it is a file.
+fn size_of_input(files: &impl Files) -> Option<u64> {
+    let Ok(metadata) = fs::metadata(files, "/dev/stdin") else {
+        return None;
+    };
+    metadata.is_file().then_some(metadata.len())
+}
+
 // Splits what stands on standard input into key files below the current folder. It is read in parts,
 // with no other buffer.
 fn split_streams(
@@ -139,45 +217,58 @@ fn split_streams(
 {
     let mut reader = Counted::new(rt.reader());
     let mut files = PartFiles::new(rt.alloc(), rt);
-    files.split(rt.alloc(), &mut reader, source, parts, name)?;
-    Ok(Status::Done)
+    match files.split(rt.alloc(), &mut reader, source, parts, name) {
+        Ok(()) => Ok(Status::Done),
+        Err(FilesFault::Split(SplitFault::TooMany { part })) => {
+            Err(too_full(rt, source, part, parts))
+        }
+        Err(fault) => Err(Fault::Split(fault)),
+    }
+}
+
+// The fault of a part that is too full, of so many. Where the size of the input asks for more parts, it
+// says how many: only the repeats of a key all go to one part.
+fn too_full(files: &impl Files, source: Source, part: u64, parts: u64) -> Fault
+    ensures { ending_by result ≡ Status.Refused }
+{
+    match size_of_input(files) {
+        Some(bytes) if parts_chosen(source, bytes) > parts => Fault::TooFull {
+            part,
+            parts: parts_chosen(source, bytes),
+        },
+        _ => Fault::Split(FilesFault::Split(SplitFault::TooMany { part })),
+    }
 }
 
 // Writes to standard output how many keys of standard input each part would have, and no file.
-fn plan_streams(
-    rt: &(impl Input + Print + AllocGlobal),
+fn plan_streams<W: Write>(
+    rt: &(impl Input + AllocGlobal),
+    outlet: &mut Outlet<W>,
     source: Source,
     count: u64,
 ) -> Result<Status, Fault>
     requires some { 0 < count }
     requires few { count ≤ MAX_PARTS }
 {
-    let mut parts = empty_parts(rt.alloc(), count)?;
+    let Ok(mut parts) = counting_parts(rt.alloc(), count) else {
+        return Err(Fault::Program(ProgramFault::Memory));
+    };
     let mut reader = Counted::new(rt.reader());
     match split_source(rt.alloc(), &mut reader, source, &mut parts) {
-        Ok(()) => tell_plan(rt, &parts),
+        Ok(()) => tell_plan(rt.alloc(), outlet, &parts),
         Err(fault) => Err(Fault::Split(FilesFault::Split(fault))),
     }
 }
 
-// Parts whose keys are counted, and written nowhere.
-fn empty_parts(alloc: Global, count: u64) -> Result<Vec<Part<Sink>>, ProgramFault>
-    ensures { IfOk result (λ parts. length parts.items ≡ count) }
-{
-    let mut parts = Vec::new(alloc);
-    for _ in 0..count {
-        let Ok(()) = parts.push(Part::new(io::sink())) else {
-            return Err(ProgramFault::Memory);
-        };
-    }
-    Ok(parts)
-}
-
 // Writes to standard output how many keys each part was given.
-fn tell_plan(rt: &(impl Print + AllocGlobal), parts: &[Part<Sink>]) -> Result<Status, Fault>
+fn tell_plan<W: Write>(
+    alloc: Global,
+    outlet: &mut Outlet<W>,
+    parts: &[Part<Sink>],
+) -> Result<Status, Fault>
     requires { length parts.now ≤ MAX_PARTS }
 {
-    let mut writer = Counted::new(buffered_writer(rt.alloc(), io::writer(rt))?);
+    let mut writer = Counted::new(buffered_writer(alloc, outlet)?);
     if write_plan(parts, &mut writer).is_err() {
         return Err(Fault::Program(ProgramFault::Write));
     }

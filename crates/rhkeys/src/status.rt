@@ -1,12 +1,13 @@
 //! How the program ends.
 
 ghost use Rattle.std.specs.Prelude.{◌≡◌};
-ghost use Rattle.rhkeys.specs.Endings.{ending_by_file, ending_by_split};
+ghost use Rattle.rhkeys.specs.Endings.{ending_by_combined, ending_by_file, ending_by_split};
 
 use rh_cli::{ProgramFault, Status};
 use rh_endings::{status_of_keys, status_of_snapshot};
-use rh_key_files::KeyFault;
+use rh_key_files::{KeyFault, MAX_KEYS};
 use rh_key_texts::{FileFault, HeldFault, ListFault, PackFault};
+use rh_list_commands::FileFault as CombinedFault;
 use rh_numbers::TextFault;
 use rh_shelf::ShelfFault;
 use rh_splitting::{FilesFault, SplitFault};
@@ -25,11 +26,46 @@ pub enum Fault {
     Held(#[from] HeldFault),
     /// A file that was to be listed has this fault.
     #[error("{path}: {fault}")]
-    File { path: String, fault: FileFault },
+    File {
+        path: String,
+        fault: FileFault,
+    },
     #[error(transparent)]
     Split(#[from] FilesFault),
+    /// A list that was to be combined has this fault.
+    #[error("{path}: {fault}{reason}")]
+    Combined {
+        path: String,
+        fault: CombinedFault,
+        reason: Reason,
+    },
+    #[error("standard input is named twice")]
+    InputTwice,
+    #[error("--count and --packed are asked for at once")]
+    TwoOutputs,
+    /// A part of a list is too full; so many parts would do, by the size of the input.
+    #[error("part {part:03}: more than {} keys; by the size of the input, {parts} parts would do", MAX_KEYS)]
+    TooFull {
+        part: u64,
+        parts: u64,
+    },
+    #[error("standard input is no file whose size is known: give --parts N")]
+    Size,
     #[error("bad name: 1 to 200 bytes, no slash, space or control character")]
     Name,
+}
+
+/// What the system says of a file that was not opened or read.
+#[derive(Clone, Copy, Debug, PartialEq, Eq, Error)]
+pub enum Reason {
+    #[error("")]
+    Unknown,
+    #[error(": no such file")]
+    NoFile,
+    #[error(": permission denied")]
+    NoRight,
+    #[error(": is a directory")]
+    Folder,
 }
 
 impl Fault {
@@ -53,7 +89,10 @@ impl Fault {
             Fault::Held(HeldFault::Write) => Status::Write,
             Fault::File { fault, .. } => status_of_file(fault),
             Fault::Split(fault) => status_of_split(fault),
-            Fault::Name => Status::CommandLine,
+            Fault::TooFull { .. } => Status::Refused,
+            Fault::Combined { fault, .. } => status_of_combined(fault),
+            Fault::Name | Fault::Size | Fault::InputTwice | Fault::TwoOutputs =>
+                Status::CommandLine,
         }
     }
 }
@@ -70,6 +109,19 @@ fn status_of_file(fault: &FileFault) -> Status
     }
 }
 
+fn status_of_combined(fault: &CombinedFault) -> Status
+    ensures { result ≡ ending_by_combined fault.now }
+{
+    match fault {
+        CombinedFault::Shelf(ShelfFault::Missing) => Status::Refused,
+        CombinedFault::Shelf(ShelfFault::Memory) => Status::Memory,
+        CombinedFault::Shelf(ShelfFault::Write) => Status::Write,
+        CombinedFault::List(rh_lists::ListFault::Text(TextFault::Memory)) => Status::Memory,
+        CombinedFault::List(rh_lists::ListFault::Text(_)) => Status::Refused,
+        CombinedFault::List(rh_lists::ListFault::Keys(fault)) => status_of_keys(fault),
+    }
+}
+
 fn status_of_split(fault: &FilesFault) -> Status
     ensures { result ≡ ending_by_split fault.now }
 {
@@ -78,7 +130,9 @@ fn status_of_split(fault: &FilesFault) -> Status
         FilesFault::Split(SplitFault::Keys(KeyFault::Memory)) => Status::Memory,
         FilesFault::Split(SplitFault::Write { .. }) => Status::Write,
         FilesFault::Split(_) => Status::Refused,
-        FilesFault::Create { .. } | FilesFault::Write { .. } => Status::Write,
+        FilesFault::Create { .. } | FilesFault::Left { .. } | FilesFault::Write { .. } => {
+            Status::Write
+        }
         FilesFault::Memory => Status::Memory,
     }
 }

@@ -1,8 +1,30 @@
 //! What the words of the command line ask for.
 
+/// What is made of lists of numbers.
+#[derive(Clone, Copy)]
+pub enum Combination {
+    /// The numbers that stand in every list.
+    Intersect,
+    /// The numbers that stand in one list or more.
+    Union,
+    /// The numbers of the first list that stand in no other one.
+    Subtract,
+    /// The numbers that stand in an odd number of lists.
+    Xor,
+}
+
 /// A command, with its arguments.
 #[derive(Drop)]
 pub enum Line {
+    /// Write what is made of the lists in these files, or how many numbers that are, or a key file of it.
+    /// With 0 workers there are as many as processors.
+    Combine {
+        combination: Combination,
+        workers: usize,
+        count: bool,
+        packed: bool,
+        files: Vec<String>,
+    },
     /// Write the key file of the numbers on standard input.
     Pack,
     /// Write keys as text, those of a key file, or of a snapshot: of each of these files in turn, or of
@@ -12,7 +34,8 @@ pub enum Line {
         files: Vec<String>,
     },
     /// Split the numbers on standard input, or the keys of a key file there, into this many parts, with
-    /// a key file `name` each; or plan that alone, and tell how many keys each part has.
+    /// a key file `name` each; or plan that alone, and tell how many keys each part has. 0 parts: as
+    /// many as the size of the input asks for.
     Split {
         parts: usize,
         key_file: bool,

@@ -1,11 +1,21 @@
 //! What `--help` says.
 
+/// What is said of a command on lists.
+pub struct Texts {
+    /// In a line.
+    pub about: &'static str,
+    /// On the command's `--help` alone.
+    pub at_length: &'static str,
+}
+
 /// The program, in a line.
-pub const PROGRAM: &str = "Turns texts of numbers into key files for rhset, and back";
+pub const PROGRAM: &str =
+    "Intersects, unites and subtracts lists of numbers, and makes key files for rhset";
 
 /// The program, on `rhkeys --help` alone.
 pub const PROGRAM_AT_LENGTH: &str = "\
-Turns texts of numbers into key files for rhset, and key files and snapshots into texts.
+Makes one list of several lists of numbers, of any length: what stands in all of them, in any, in the
+first alone. And turns texts of numbers into key files for rhset, and key files and snapshots into texts.
 `rhkeys COMMAND --help` says what a command reads and writes.";
 
 /// What the program's exit status says.
@@ -16,6 +26,74 @@ Exit status:
   2  the command line was refused
   3  out of memory
   4  the output could not be written";
+
+/// The command `intersect`.
+pub const INTERSECT: Texts = Texts {
+    about: "Writes the numbers that stand in every list",
+    at_length: "\
+Reads lists of numbers, and writes those that stand in every list, each once and in rising order, one
+a line.
+
+Example:
+  rhkeys intersect spring.txt summer.txt > both.txt",
+};
+
+/// The command `union`.
+pub const UNION: Texts = Texts {
+    about: "Writes the numbers that stand in any of the lists",
+    at_length: "\
+Reads lists of numbers, and writes those that stand in any of them, each once and in rising order, one
+a line. Of one list it writes its numbers, sorted and each once.
+
+Example:
+  rhkeys union spring.txt summer.txt > all.txt",
+};
+
+/// The command `subtract`.
+pub const SUBTRACT: Texts = Texts {
+    about: "Writes the numbers of the first list that stand in no other one",
+    at_length: "\
+Reads lists of numbers, and writes those of the first list that stand in no other one, each once and
+in rising order, one a line.
+
+Example:
+  rhkeys subtract spring.txt summer.txt > spring-alone.txt",
+};
+
+/// The command `xor`.
+pub const XOR: Texts = Texts {
+    about: "Writes the numbers that stand in an odd number of the lists",
+    at_length: "\
+Reads lists of numbers, and writes those that stand in an odd number of the lists, each once and in
+rising order, one a line: of two lists what stands in one of them alone.
+
+Example:
+  rhkeys xor spring.txt summer.txt > changed.txt",
+};
+
+/// The argument `--workers`.
+pub const WORKERS: &str =
+    "Number of workers, 1 to 64; 0: as many as processors. It changes nothing that is written";
+
+/// The flag `--count`.
+pub const COUNT: &str = "Write how many numbers that are, and not the numbers";
+
+/// The flag `--packed`.
+pub const PACKED: &str = "Write a key file, and not a text";
+
+/// The argument FILE of a command on lists.
+pub const LIST_FILES: &str = "Texts of numbers or key files; - is standard input";
+
+/// What the commands on lists read.
+pub const LISTS: &str = "\
+A FILE is a text of numbers, or a key file of either version, which its first four bytes tell. A line of
+a text is a number from 0 to 4611686018427387902 in decimal digits, with spaces before and after it. A
+line with no more than spaces is skipped, and so is one that begins with #. Numbers may come in any
+order and any number of times. A line may end with CR LF; the last may lack its LF.
+
+Nothing is written where a list is refused: the first one that is is told, with its first bad line. The
+lists are held in memory, at most 24 bytes for each number of all lists and 64 MB. Larger ones are split
+first: see `rhkeys split --help`. On a terminal, work of more than a second tells how far it is.";
 
 /// The command `pack`, in a line.
 pub const PACK: &str = "Writes the key file of the numbers of a text";
@@ -62,35 +140,44 @@ Examples:
   rhkeys list --snapshot 000/both.rhs2 001/both.rhs2";
 
 /// The command `split`, in a line.
-pub const SPLIT: &str = "Splits a text of numbers of any length into key files by ranges of keys";
+pub const SPLIT: &str = "Splits a text of numbers of any length into key files of parts of it";
 
 /// The command `split`, on `rhkeys split --help` alone.
 pub const SPLIT_AT_LENGTH: &str = "\
-Reads a text of numbers of any length from standard input, once, and gives each key to one of N parts:
-key k goes to part k * N / 2^62, rounded down. The key file of part 7 is 007/NAME.keys below the current
-folder; folders that are not there are made. What stood there before is replaced.";
+Reads a text of numbers of any length from standard input, once, and gives each key to one of N parts,
+by a hash of the key: so the parts are about equally large, whatever the numbers are. The key file of
+part 7 is 007/NAME.keys below the current folder; folders that are not there are made. What stood there
+before is replaced.";
 
 /// The argument `--parts`.
-pub const PARTS: &str = "Number of parts, 2 to 1000";
+pub const PARTS: &str =
+    "Number of parts, up to 1000; where it is 0, the size of the input says how many there are";
 
 /// The flag `--key-file`.
 pub const KEY_FILE: &str = "Read a key file in place of a text";
 
 /// The flag `--plan`.
-pub const PLAN: &str = "Write how many keys each part would have, and no file";
+pub const PLAN: &str =
+    "Write how many keys each part would have, and how many parts would do, and no file";
 
 /// The argument NAME.
 pub const NAME: &str = "Name of the list: 1 to 200 bytes, no `/`, space or control character";
 
 /// What `split` reads and writes.
 pub const SPLIT_FORMATS: &str = "\
-The parts are ranges of keys, one after the other, and the keys of a part keep their order. What a
-script makes of the parts of its lists, part by part, is what it makes of the lists: `rhkeys list` of
-the parts' snapshots, one after the other, gives all keys in rising order. A part has at most 1000000
-keys, and the table of a script 196608: `--plan` shows which N is enough.
+The keys of a part keep their order. What a script makes of the parts of its lists, part by part, are
+the parts of what it makes of the lists: `rhkeys list --snapshot` of the parts' snapshots gives all of
+its keys, in the order of the parts, and `sort -n` puts them in rising order. Lists that belong together
+are split into the same number of parts.
+
+A part has at most 1000000 keys, and the table of a script 196608. `--plan` has no such limit: after
+`keys` it tells how many keys there are, and after `parts` into how many parts they go so that each has
+about 150000. Without `--parts` there are as many for the size of the input: one for each 1050000 bytes
+of a text, or 1200000 of a key file. That takes a file; of a pipe the size is not known.
 
 The files are written beside their places and put there once all are whole; on a fault none of them is
 left. Each part has an open file meanwhile: see `ulimit -n`.
 
-Example, of parts of about 150000 keys:
+Examples:
+  rhkeys split --plan --parts 2 spring < spring.txt
   rhkeys split --parts 32 spring < spring.txt";

@@ -1,15 +1,18 @@
 //! Reading the words of the command line.
 
-ghost use Rattle.std.specs.Prelude.{◌≡◌, ◌↔◌, [], IfOk, IfErr, IsTrue, codes, false};
+ghost use Rattle.std.specs.Prelude.{◌≡◌, [], IfOk, IfErr, codes, false};
 ghost use Rattle.clap.specs.Words.{app_of, fault_of, found_of, rows_of, rule_of};
 ghost use Rattle.clap.specs.Words.{subcommand_of, subcommand_rows_of};
 ghost use Rattle.rh_arguments.specs.Faults.{IsOneOf};
-ghost use Rattle.rh_key_commands.specs.Line.{AsksKeys, HasSplitArguments, IsKeysCommand, IsGiven, SaysKeys, flag_rule};
-ghost use Rattle.rh_key_commands.specs.Line.{files_rule, list_app, pack_app, parts_rule, rhkeys_app, split_app};
-ghost use Rattle.rh_arguments.specs.Words.{Finds, texts_of};
+ghost use Rattle.rh_key_commands.specs.Line.{AsksKeys, HasSplitArguments, IsKeysCommand, SaysKeys};
+ghost use Rattle.rh_key_commands.specs.Line.{files_rule, list_app, lists_added, pack_app, parts_rule};
+ghost use Rattle.rh_key_commands.specs.Line.{rhkeys_app, split_app};
+ghost use Rattle.rh_arguments.specs.Words.{Finds, program_app, texts_of};
 
-use super::asked::Line;
+use super::asked::{Combination, Line};
+use super::flags::{flag_arg, is_given};
 use super::help;
+use super::lists::{lists_asked, lists_command};
 use crate::limits::MAX_PARTS;
 use clap::{Arg, ArgAction, ArgMatches, Command, value_parser};
 use rh_arguments::LineFault;
@@ -38,6 +41,10 @@ fn asked(alloc: Global, matches: &ArgMatches<'_>) -> Result<Line, AllocError>
     ensures { IfOk result (λ l. AsksKeys (subcommand_rows_of matches.now) l) }
 {
     match matches.subcommand() {
+        Some(("intersect", given)) => lists_asked(alloc, Combination::Intersect, given),
+        Some(("union", given)) => lists_asked(alloc, Combination::Union, given),
+        Some(("subtract", given)) => lists_asked(alloc, Combination::Subtract, given),
+        Some(("xor", given)) => lists_asked(alloc, Combination::Xor, given),
         Some(("pack", _)) => Ok(Line::Pack),
         Some(("list", given)) => list_asked(alloc, given),
         Some(("split", given)) => split_asked(alloc, given),
@@ -57,7 +64,7 @@ fn split_asked(alloc: Global, given: &ArgMatches<'_>) -> Result<Line, AllocError
     requires { HasSplitArguments (rows_of (found_of given.now)) }
     ensures { IfOk result (λ l. SaysKeys (codes "split") (rows_of (found_of given.now)) l) }
 {
-    let parts = number(given, "parts", 2, MAX_PARTS);
+    let parts = number(given, "parts", 0, MAX_PARTS);
     let key_file = is_given(given, "key-file");
     let plan = is_given(given, "plan");
     let name = text(alloc, given, "name")?;
@@ -67,13 +74,6 @@ fn split_asked(alloc: Global, given: &ArgMatches<'_>) -> Result<Line, AllocError
         plan,
         name,
     })
-}
-
-fn is_given(given: &ArgMatches<'_>, flag: &str) -> bool
-    ensures { IsTrue result ↔ IsGiven flag.now (rows_of (found_of given.now)) }
-{
-    // The text says it exactly, where `get_flag` promises nothing of other texts.
-    given.get_str(flag) == Some("true")
 }
 
 fn command<'a>(alloc: Global) -> Result<Command<'a>, AllocError>
@@ -86,9 +86,28 @@ fn command<'a>(alloc: Global) -> Result<Command<'a>, AllocError>
         help::PROGRAM_AT_LENGTH,
         help::STATUSES,
     );
-    let with_pack = with_subcommand(program, Ok(pack_command(alloc)));
+    let with_lists = lists_added(alloc, program);
+    let with_pack = with_subcommand(with_lists, Ok(pack_command(alloc)));
     let with_list = with_subcommand(with_pack, list_command(alloc));
     with_subcommand(with_list, split_command(alloc))
+}
+
+// The commands that make one list of several, added to the program.
+fn lists_added<'a>(
+    alloc: Global,
+    program: Result<Command<'a>, AllocError>,
+) -> Result<Command<'a>, AllocError>
+    requires { IfOk program (λ c. app_of c ≡ program_app (codes "rhkeys")) }
+    ensures { IfOk result (λ c. app_of c ≡ lists_added) }
+{
+    let intersect = lists_command(alloc, "intersect", &help::INTERSECT);
+    let union = lists_command(alloc, "union", &help::UNION);
+    let subtract = lists_command(alloc, "subtract", &help::SUBTRACT);
+    let xor = lists_command(alloc, "xor", &help::XOR);
+    let with_intersect = with_subcommand(program, intersect);
+    let with_union = with_subcommand(with_intersect, union);
+    let with_subtract = with_subcommand(with_union, subtract);
+    with_subcommand(with_subtract, xor)
 }
 
 fn pack_command<'a>(alloc: Global) -> Command<'a>
@@ -140,9 +159,9 @@ fn parts_arg<'a>(alloc: Global) -> Arg<'a>
     Arg::new(alloc, "parts")
         .long("parts")
         .value_name("N")
-        .required(true)
         .action(ArgAction::Set)
-        .value_parser(value_parser!(usize).range(2..=MAX_PARTS as i64))
+        .value_parser(value_parser!(usize).range(0..=MAX_PARTS as i64))
+        .default_value("0")
         .help(help::PARTS)
 }
 
@@ -154,15 +173,4 @@ fn files_arg<'a>(alloc: Global) -> Arg<'a>
         .value_name("FILE")
         .action(ArgAction::Append)
         .help(help::FILES)
-}
-
-// A flag, whose long name is its id.
-fn flag_arg<'a>(alloc: Global, id: &'a str, help: &'a str) -> Arg<'a>
-    ensures rule { rule_of result ≡ flag_rule id.now }
-    ensures local { result.global ≡ false }
-{
-    Arg::new(alloc, id)
-        .long(id)
-        .action(ArgAction::SetTrue)
-        .help(help)
 }

@@ -1,6 +1,7 @@
-use Rattle.std.proofs.Common.{◌≡◌, [], ap, subst, sym}
-use Rattle.clap.specs.Words.{fault_of, is_simple_and_free, subcommand_of}
-use Rattle.rh_key_commands.specs.Line.{IsKeysCommand}
+use Rattle.std.proofs.Common.{◌≡◌, ◌∙◌, [], ap, rules, subst, sym}
+use Rattle.clap.specs.Words.{App, fault_of, is_simple_and_free, subcommand_of}
+use Rattle.rh_key_commands.specs.Line.{AsksKeys, IsKeysCommand}
+use Rattle.rh_arguments.specs.Faults.{IsOneOf}
 use Rattle.rh_arguments.specs.Words.{Finds, texts_of}
 use Rattle.rh_key_commands.proofs.KeysLemmas.{words_name_a_command}
 use Rattle.rh_key_commands.proofs.line.parse.line.Goals as goal
@@ -14,3 +15,15 @@ asked-requires c =
     rw c.in_ok-matches.ensures.found
     (subst (λ a. fault_of a (texts_of c.args.words.now) ≡ [] → Finds IsKeysCommand (subcommand_of a (texts_of c.args.words.now))) (sym c.in_ok-command.ensures)
     (words_name_a_command (texts_of c.args.words.now)) c.in_ok-matches.ensures.taken)
+
+pub returns-clause-asked : goal.returns-clause-asked
+returns-clause-asked c =
+    subst (λ r. AsksKeys r c.in_ok-line.line) (c.in_ok-matches.ensures.found ∙ ap (λ (a : App). subcommand_of a (texts_of c.args.words.now)) c.in_ok-command.ensures) c.in_ok-line.ensures
+
+pub returns-clause-taken : goal.returns-clause-taken
+returns-clause-taken c = ap (λ (a : App). fault_of a (texts_of c.args.words.now)) (sym c.in_ok-command.ensures) ∙ c.in_ok-matches.ensures.taken
+
+pub returns-in_err-matches-clause-refused : goal.returns-in_err-matches-clause-refused
+returns-in_err-matches-clause-refused c =
+    let refused = subst (λ (a : App). IsOneOf (fault_of a (texts_of c.args.words.now)) c.in_err-matches.field-0.0) c.in_ok-command.ensures c.in_err-matches.ensures.refused in
+    search (rules, refused, c.from_residual-in_err-matches.ensures)

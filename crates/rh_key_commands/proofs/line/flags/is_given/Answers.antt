@@ -2,7 +2,7 @@ use Rattle.std.proofs.Common.{◌∙◌}
 use Rattle.clap.proofs.WalkLemmas.{first_value-rows}
 use Rattle.clap.specs.Words.{found_of}
 use Rattle.rh_key_commands.proofs.FlagLemmas.{is_word}
-use Rattle.rh_key_commands.proofs.line.parse.is_given.Goals as goal
+use Rattle.rh_key_commands.proofs.line.flags.is_given.Goals as goal
 
 pub returns : goal.returns
 returns c =

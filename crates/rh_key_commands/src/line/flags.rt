@@ -1,0 +1,25 @@
+//! Flags, whose long names are their ids.
+
+ghost use Rattle.std.specs.Prelude.{◌≡◌, ◌↔◌, IsTrue, false};
+ghost use Rattle.clap.specs.Words.{found_of, rows_of, rule_of};
+ghost use Rattle.rh_key_commands.specs.Flags.{IsGiven, flag_rule};
+
+use clap::{Arg, ArgAction, ArgMatches};
+use std::alloc::Global;
+
+pub(super) fn flag_arg<'a>(alloc: Global, id: &'a str, help: &'a str) -> Arg<'a>
+    ensures rule { rule_of result ≡ flag_rule id.now }
+    ensures local { result.global ≡ false }
+{
+    Arg::new(alloc, id)
+        .long(id)
+        .action(ArgAction::SetTrue)
+        .help(help)
+}
+
+pub(super) fn is_given(given: &ArgMatches<'_>, flag: &str) -> bool
+    ensures { IsTrue result ↔ IsGiven flag.now (rows_of (found_of given.now)) }
+{
+    // The text says it exactly, where `get_flag` promises nothing of other texts.
+    given.get_str(flag) == Some("true")
+}
