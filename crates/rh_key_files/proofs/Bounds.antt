@@ -20,7 +20,7 @@ use Rattle.rh_key_files.proofs.Grammar.{header_read}
 -- ---- the header
 
 -- the magic is not what is wrong
-abbrev IsLater : KeyFault → Type 0
+abbrev pub IsLater : KeyFault → Type 0
 IsLater NotKeys = ⊥
 IsLater e = Unit {0}
 
@@ -40,12 +40,12 @@ header_stops (Some x) (Some y) c e s t h = takes_then (Some x) (Some y) c magic_
 -- ---- the keys
 
 -- of keys from this index on
-abbrev IsFrom : ℕ → KeyFault → Type 0
+abbrev pub IsFrom : ℕ → KeyFault → Type 0
 IsFrom index Short = Unit {0}
 IsFrom index (BadKey bad) = index ≤ bad
 IsFrom index e = ⊥
 
-abbrev ComesFrom : {A : Type 0} → ℕ → Result A KeyFault → Type 0
+abbrev pub ComesFrom : {A : Type 0} → ℕ → Result A KeyFault → Type 0
 ComesFrom index r = IfErr r (IsFrom index)
 
 comes_before : {A : Type 0} (index : ℕ) (r : Result A KeyFault) → ComesFrom (index + 1) r → ComesFrom index r
@@ -63,7 +63,7 @@ unfolding key_at
 key_comes version index bytes =
     then_told (IsFrom index) (number_at Short bytes) (in_range version index) (number_told (IsFrom index) Short tt bytes) (test_comes version index)
 
-keys_come : (version : Version) (index n : ℕ) (bytes : List ℕ) → ComesFrom index (keys_at version index n bytes)
+pub keys_come : (version : Version) (index n : ℕ) (bytes : List ℕ) → ComesFrom index (keys_at version index n bytes)
 unfolding keys_at
 keys_come version index zero bytes = tt
 keys_come version index (suc n) bytes =
@@ -87,7 +87,7 @@ keys_stop v version index done at many all (Some x) (Some y) c e place fits with
 -- ---- a whole file
 
 -- the bytes do not end
-abbrev IsLong : KeyFault → Type 0
+abbrev pub IsLong : KeyFault → Type 0
 IsLong Long = Unit {0}
 IsLong e = ⊥
 

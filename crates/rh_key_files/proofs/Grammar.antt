@@ -1,5 +1,5 @@
 -- What is spelled as a key file is read to its keys, and what is read is spelled so.
-use Rattle.std.proofs.Common.{◌≡◌, ℕ, zero, suc, ◌+◌, ◌<◌, ◌≤◌, ◌^◌, true, List, [], ◌∷◌, ◌++◌, length, Ok, Err, inl, inr, refl, sym, ap, ◌∙◌, subst, arith, append_assoc, append-nil, ltb, leb}
+use Rattle.std.proofs.Common.{◌≡◌, ℕ, zero, suc, ◌+◌, ◌<◌, ◌≤◌, ◌^◌, true, List, [], ◌∷◌, ◌++◌, length, Ok, Err, inl, inr, refl, sym, ap, ◌∙◌, subst, arith, append_assoc, append-nil, length-append, ltb, leb}
 use Rattle.std.proofs.lemmas.Bool.{cases_Bool, and_parts, and_from, ltb-false, leb-true, le-leb, le-ltb}
 use Rattle.std.specs.Prelude.{All}
 use Rattle.std.proofs.lemmas.List.Elements.{All-nil, All-cons, All-head, All-tail}
@@ -191,3 +191,16 @@ long_given version bytes keys fits f =
     ap long_file_keys f.spelled ∙ ap (λ r. r >>= (λ begun. keys_behind begun.0 begun.1)) (version_given version (eight_bytes (length keys) ++ spelled_keys keys))
     ∙ ap (λ r. r >>= (λ count. keys_at version 0 count.0 count.1 >>= keys_ended)) (number_given Short (length keys) (spelled_keys keys) fits)
     ∙ ap (λ l. keys_at version 0 (length keys) l >>= keys_ended) (sym body) ∙ ap (λ r. r >>= keys_ended) (keys_given version 0 keys [] f.in_range) ∙ no_more keys
+
+-- ---- how many keys a file can have
+
+no_fewer_bytes : (keys : List ℕ) → length keys ≤ length (spelled_keys keys)
+no_fewer_bytes [] = omega arith
+no_fewer_bytes (k ∷ keys) =
+    let eight : length (eight_bytes k) ≡ 8 = refl in
+    omega (arith, eight, no_fewer_bytes keys, length-append (eight_bytes k) (spelled_keys keys))
+
+pub no_more_keys : (version : Version) (bytes keys : List ℕ) → LongKeyFile version bytes keys → length keys ≤ length bytes
+no_more_keys version bytes keys f =
+    let rest : List ℕ = eight_bytes (length keys) ++ spelled_keys keys in
+    rw f.spelled (omega (arith, no_fewer_bytes keys, length-append (magic version) rest, length-append (eight_bytes (length keys)) (spelled_keys keys)))

@@ -9,6 +9,8 @@
 -- Whole: a whole key file, read by its header, its keys and its end.
 -- BehindMagic: a key file of any number of keys, read behind its magic in pieces.
 -- Bounds: which faults come where, and how many bytes are taken before they are told.
+-- PieceBounds: how many bytes are taken of a key file of any number of keys, behind its magic.
+-- LongFile: a key file of any number of keys: its magic, and then what stands behind it.
 -- Grammar: what is spelled as a key file is read to its keys, and what is read is spelled so.
 -- Written: key files, written text by text.
 
@@ -21,6 +23,8 @@ pub mod Bounds
 pub mod Next
 pub mod Whole
 pub mod BehindMagic
+pub mod PieceBounds
+pub mod LongFile
 pub mod Grammar
 pub mod Written
 pub mod Coming

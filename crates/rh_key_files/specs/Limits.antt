@@ -4,8 +4,9 @@ use Rattle.rh_key_files.specs.declared.header.Header.{Header}
 use Rattle.rh_layout.specs.declared.limits.TheConstants.{MAX_KEYS}
 use Rattle.rh_key_files.specs.declared.batch.TheConstants.{PART_KEYS}
 use Rattle.rh_key_files.specs.declared.fault.KeyFault.{KeyFault}
-use Rattle.rh_key_files.specs.declared.fault.KeyFault.TheVariants.{NotKeys, TooMany, BadKey, Read, Memory}
-use Rattle.rh_key_files.specs.Reading.{header_at}
+use Rattle.rh_key_files.specs.declared.fault.KeyFault.TheVariants.{NotKeys, Short, TooMany, BadKey, Read, Memory}
+use Rattle.rh_key_files.specs.Reading.{header_at, long_header_at}
+use Rattle.rh_bytes.specs.Input.{number_at}
 use Rattle.rh_bytes.specs.Taking.{TakesAtMost}
 
 abbrev pub magic_bytes : ℕ
@@ -63,3 +64,38 @@ count_said (Some bytes) = count_in (header_at bytes)
 -- A whole file was read, up to this fault if there is one, and the bytes behind that are still there.
 abbrev pub TakesOfFile : (old new : Option (List ℕ)) → Option KeyFault → Type 0
 TakesOfFile old new fault = TakesAtMost old new (file_bytes (count_said old) fault)
+
+-- ---- a file of any number of keys
+
+-- behind the magic, where so many keys are said there: want of memory may come after any piece of them
+abbrev pub bytes_behind : ℕ → Option KeyFault → ℕ
+bytes_behind count (Some Memory) = 8 + 8 * count
+bytes_behind count (Some (BadKey index)) = 8 + 8 * min count (index + PART_KEYS)
+bytes_behind count fault = 8 + 8 * count + 1
+
+-- of a whole file of so many keys
+abbrev pub long_file_bytes : ℕ → Option KeyFault → ℕ
+long_file_bytes count (Some NotKeys) = magic_bytes
+long_file_bytes count fault = magic_bytes + bytes_behind count fault
+
+abbrev pub first_number : Result (ℕ × List ℕ) KeyFault → ℕ
+first_number (Ok n) = n.0
+first_number (Err e) = 0
+
+-- the number that known bytes begin with, as they do behind the magic
+abbrev pub number_said : Option (List ℕ) → ℕ
+number_said None = 0
+number_said (Some bytes) = first_number (number_at Short bytes)
+
+-- the number of keys that the header says, however large it is
+abbrev pub long_count_said : Option (List ℕ) → ℕ
+long_count_said None = 0
+long_count_said (Some bytes) = count_in (long_header_at bytes)
+
+-- What stands behind the magic was read, up to this fault if there is one, and the bytes behind that are still there.
+abbrev pub TakesBehindMagic : (old new : Option (List ℕ)) → Option KeyFault → Type 0
+TakesBehindMagic old new fault = TakesAtMost old new (bytes_behind (number_said old) fault)
+
+-- The same of a whole file.
+abbrev pub TakesOfLongFile : (old new : Option (List ℕ)) → Option KeyFault → Type 0
+TakesOfLongFile old new fault = TakesAtMost old new (long_file_bytes (long_count_said old) fault)

@@ -10,7 +10,7 @@ use Rattle.rh_key_files.specs.declared.fault.KeyFault.TheVariants as faults
 use Rattle.rh_key_files.specs.declared.fault.KeyFault.TheVariants.{NotKeys, Short, TooMany, BadKey, Long}
 use Rattle.rh_bytes.specs.Input as input
 use Rattle.rh_bytes.specs.Input.{◌>>=◌, bytes_at, number_at, with_head, end_at, AreAll, BeginsWith}
-use Rattle.rh_key_files.specs.KeyFile.{magic, least_key, IsKeyFile}
+use Rattle.rh_key_files.specs.KeyFile.{magic, least_key, IsKeyFile, IsLongKeyFile}
 
 -- the version whose magic the four bytes are
 abbrev pub named : List ℕ × List ℕ → Result (Version × List ℕ) KeyFault
@@ -86,6 +86,10 @@ keys_behind version bytes = number_at Short bytes >>= (λ count. keys_at version
 unfoldable pub long_file_keys : List ℕ → Result (List ℕ × List ℕ) KeyFault
 long_file_keys bytes = version_at bytes >>= (λ begun. keys_behind begun.0 begun.1)
 
+-- its header
+unfoldable pub long_header_at : List ℕ → Result (Header × List ℕ) KeyFault
+long_header_at bytes = version_at bytes >>= (λ begun. number_at Short begun.1 >>= with_count begun.0)
+
 -- ---- what is said of a reader's bytes, as of those of any file
 
 -- A failed read and want of memory say nothing of the bytes.
@@ -122,3 +126,19 @@ BeginsWithHeader old = BeginsWith header_at old
 -- Known bytes are a key file of these keys, and none is left.
 abbrev pub IsReadFrom : Option (List ℕ) → Option (List ℕ) → List ℕ → Type 0
 IsReadFrom old new keys = AreAll IsKeyFile old new keys
+
+-- ---- the same, of a file of any number of keys
+
+abbrev pub IsFirstLongKeyFault : Option (List ℕ) → KeyFault → Type 0
+IsFirstLongKeyFault None fault = Unit {0}
+IsFirstLongKeyFault (Some bytes) fault = KeysFail {X = List ℕ × List ℕ} fault (long_file_keys bytes)
+
+abbrev pub BeginsWithLongHeader : Option (List ℕ) → Type 0
+BeginsWithLongHeader old = BeginsWith long_header_at old
+
+-- known bytes begin with a number that can be read, as they do behind the magic
+abbrev pub BeginsWithNumber : Option (List ℕ) → Type 0
+BeginsWithNumber old = BeginsWith (number_at Short) old
+
+abbrev pub IsLongReadFrom : Option (List ℕ) → Option (List ℕ) → List ℕ → Type 0
+IsLongReadFrom old new keys = AreAll IsLongKeyFile old new keys

@@ -1,6 +1,6 @@
 //! Key files.
 //!
-//! `rh_runner`, `rh_operations`, `rh_commands`, `rh_key_texts` and `rh_splitting` stand on it. It hands on
+//! `rh_runner`, `rh_operations`, `rh_commands`, `rh_key_texts`, `rh_splitting` and `rh_lists` stand on it. It hands on
 //! what `rh_bytes` has for its callers.
 //!
 //! ```text
@@ -22,9 +22,10 @@
 //! - Of a reader whose bytes are known each takes no more than its answer rests on, and never more
 //!   than 8,000,013 bytes. Another magic takes four bytes, and too many keys the header. A key out
 //!   of range takes its part of 4,096 keys, a file that goes on one byte more.
-//! - `read_pieces`: a key file of any number of keys is read to its list, behind its magic, in pieces of
-//!   65,536 keys. No memory is taken for keys that did not come, but for those of one piece.
-//!   `Version::of_magic` tells its version.
+//! - `read_long_keys`: a key file of any number of keys is read to its list, in pieces of 65,536 keys,
+//!   or refused by the first fault in it. It takes no more bytes than its answer rests on either: of a
+//!   key out of range its part of 4,096 keys, and where memory is refused no byte behind the keys.
+//!   `read_pieces` does so behind the magic, where `Version::of_magic` tells the version.
 //! - `any_spelling`: what the grammar spells of any number of keys is read, and what is read is spelled
 //!   so.
 //! - `one_spelling`: what the grammar spells is read, and what is read is spelled so.
@@ -57,7 +58,7 @@ pub use keys::read_keys;
 pub use laws::{any_spelling, fixed_numbers, one_spelling};
 pub use numbers::decode_numbers;
 pub use open::open_keys;
-pub use pieces::{PIECE_KEYS, read_pieces};
+pub use pieces::{PIECE_KEYS, read_long_keys, read_pieces};
 pub use rh_bytes::{Counted, WriteFault, fill, write_texts};
 pub use rh_layout::MAX_KEYS;
 pub use source::KeySource;

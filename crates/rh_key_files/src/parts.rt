@@ -14,7 +14,7 @@ use rh_bytes::{Counted, read_bytes, read_number};
 use rh_layout::MAX_KEYS;
 use std::io::Read;
 
-fn read_version<R: Read>(reader: &mut Counted<R>) -> Result<Version, KeyFault>
+pub(crate) fn read_version<R: Read>(reader: &mut Counted<R>) -> Result<Version, KeyFault>
     ensures known { ReadsKeys (R.remaining (inner_of reader.old)) (R.remaining (inner_of reader.new)) version_at
         (λ v. v) result }
     ensures takes { TakesAtMost (R.remaining (inner_of reader.old)) (R.remaining (inner_of reader.new))

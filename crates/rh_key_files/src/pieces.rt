@@ -1,27 +1,51 @@
 //! The keys of a key file of any number of keys, in pieces.
 
-ghost use Rattle.std.specs.Prelude.{◌≡◌, ◌<◌, ◌+◌, ◌^◌, min, length, All, IfOk, IsErrOf};
+ghost use Rattle.std.specs.Prelude.{◌≡◌, ◌<◌, ◌+◌, ◌*◌, ◌^◌, min, length, All, IfOk, IsErrOf};
 ghost use Rattle.std.specs.List.{flat_map};
 ghost use Rattle.rh_layout.specs.Key.{IsKey};
 ghost use Rattle.rh_bytes.specs.Counting.{Rose, failures_of, inner_of};
 ghost use Rattle.rh_bytes.specs.Input.{fault_of};
-ghost use Rattle.rh_key_files.specs.Limits.{NoReadFailed};
-ghost use Rattle.rh_key_files.specs.Reading.{ReadsKeys, keys_at, keys_behind};
+ghost use Rattle.rh_bytes.specs.Taking.{TakesAtMost};
+ghost use Rattle.rh_key_files.specs.Limits.{NoReadFailed, TakesBehindMagic, TakesOfLongFile, keys_taken};
+ghost use Rattle.rh_key_files.specs.Reading.{BeginsWithLongHeader, BeginsWithNumber, IsLongReadFrom};
+ghost use Rattle.rh_key_files.specs.Reading.{ReadsKeys, keys_at, keys_behind, long_file_keys};
 
 use crate::batch;
 use crate::fault::KeyFault;
+use crate::parts::read_version;
 use crate::version::Version;
-use rh_bytes::{Counted, Progress, read_end, read_number};
+use rh_bytes::{Counted, Nobody, Progress, read_end, read_number};
 use std::alloc::Global;
 use std::io::Read;
 
 /// The most keys of a piece. So much room is taken before its keys come.
 pub const PIECE_KEYS: u64 = 65_536;
 
-/// The keys of a key file of any number of keys, in its order, where its magic was read before. They
-/// come in pieces, none of which is longer than `PIECE_KEYS`, and after each one it is told how many
-/// bytes that took.
-/// `Memory` comes only where a growth was refused.
+/// The keys of a key file of any number of keys, in its order. They come in pieces, none of which is
+/// longer than `PIECE_KEYS`: so no more memory is taken than for the keys that came, and a piece.
+/// `Memory` comes only where a growth was refused, and `TooMany` never.
+pub fn read_long_keys<R: Read>(
+    alloc: Global,
+    reader: &mut Counted<R>,
+) -> Result<Vec<Vec<u64>>, KeyFault>
+    ensures known { ReadsKeys (R.remaining (inner_of reader.old)) (R.remaining (inner_of reader.new))
+        long_file_keys (λ pieces. flat_map (λ piece. piece.items) pieces.items) result }
+    ensures spelled { IfOk result (λ pieces. IsLongReadFrom
+        (R.remaining (inner_of reader.old)) (R.remaining (inner_of reader.new))
+        (flat_map (λ piece. piece.items) pieces.items)) }
+    ensures in_range { IfOk result (λ pieces. All (λ piece. All IsKey piece.items) pieces.items) }
+    ensures takes { TakesOfLongFile (R.remaining (inner_of reader.old))
+        (R.remaining (inner_of reader.new)) (fault_of result) }
+    ensures read { IsErrOf result KeyFault.Read → Rose (failures_of reader.old) (failures_of reader.new) }
+    ensures fine { NoReadFailed (fault_of result) → failures_of reader.new ≡ failures_of reader.old }
+    ensures memory { IsErrOf result KeyFault.Memory →
+        BeginsWithLongHeader (R.remaining (inner_of reader.old)) }
+{
+    let version = read_version(reader)?;
+    read_pieces(alloc, version, reader, &mut Nobody)
+}
+
+/// The same, where the magic was read before. After each piece it is told how many bytes that took.
 pub fn read_pieces<R: Read, P: Progress>(
     alloc: Global,
     version: Version,
@@ -31,8 +55,12 @@ pub fn read_pieces<R: Read, P: Progress>(
     ensures known { ReadsKeys (R.remaining (inner_of reader.old)) (R.remaining (inner_of reader.new))
         (keys_behind version) (λ pieces. flat_map (λ piece. piece.items) pieces.items) result }
     ensures in_range { IfOk result (λ pieces. All (λ piece. All IsKey piece.items) pieces.items) }
+    ensures takes { TakesBehindMagic (R.remaining (inner_of reader.old))
+        (R.remaining (inner_of reader.new)) (fault_of result) }
     ensures read { IsErrOf result KeyFault.Read → Rose (failures_of reader.old) (failures_of reader.new) }
     ensures fine { NoReadFailed (fault_of result) → failures_of reader.new ≡ failures_of reader.old }
+    ensures memory { IsErrOf result KeyFault.Memory →
+        BeginsWithNumber (R.remaining (inner_of reader.old)) }
 {
     let count = read_number::<_, KeyFault>(reader)?;
     let mut pieces = Vec::new(alloc);
@@ -62,6 +90,8 @@ fn read_piece<R: Read>(
         (keys_at version index (min left PIECE_KEYS)) (λ piece. piece.items) result }
     ensures many { IfOk result (λ piece. length piece.items ≡ min left PIECE_KEYS) }
     ensures in_range { IfOk result (λ piece. All IsKey piece.items) }
+    ensures takes { TakesAtMost (R.remaining (inner_of reader.old)) (R.remaining (inner_of reader.new))
+        (8 * keys_taken index (min left PIECE_KEYS) (fault_of result)) }
     ensures read { IsErrOf result KeyFault.Read → Rose (failures_of reader.old) (failures_of reader.new) }
     ensures fine { NoReadFailed (fault_of result) → failures_of reader.new ≡ failures_of reader.old }
 {

@@ -29,9 +29,9 @@ abbrev pub of_held : HeldFault → FileFault
 of_held (held.Snap fault) = Snap fault
 of_held held.Write = Write
 
--- The bytes are a file of this form, and these its keys: a key file's in their order, a snapshot's in rising order.
+-- The bytes are a file of this form, and these its keys: a key file's, however many, in their order, a snapshot's in rising order.
 abbrev pub AreKeysIn : Form → (bytes left : Option (List ℕ)) → List ℕ → Type 0
-AreKeysIn forms.Keys bytes left ks = keys.IsReadFrom bytes left ks
+AreKeysIn forms.Keys bytes left ks = keys.IsLongReadFrom bytes left ks
 AreKeysIn forms.Snapshot bytes left ks = (table : Table) × snapshots.IsSnapReadFrom bytes left table × (ks ≡ rising_keys (keys_of table.cells))
 
 -- the file at the path has these keys
@@ -48,7 +48,7 @@ HaveEach files form paths lists = ⊥
 abbrev pub ListsFile : {X : Type 0} → Option Files → (path : List ℕ) → Form → (old new : Option (List ℕ)) → Result X FileFault → Type 0
 ListsFile files path form old new (Ok x) = (ks : List ℕ) × Has files form path ks × Appends old new (text_of ks)
 ListsFile files path form old new (Err Write) = (ks : List ℕ) × Has files form path ks × AppendsFront old new (text_of ks)
-ListsFile files path form old new (Err (Keys fault)) = (form ≡ forms.Keys) × (bytes : Option (List ℕ)) × Finds files path bytes × keys.IsFirstKeyFault bytes fault
+ListsFile files path form old new (Err (Keys fault)) = (form ≡ forms.Keys) × (bytes : Option (List ℕ)) × Finds files path bytes × keys.IsFirstLongKeyFault bytes fault
 ListsFile files path form old new (Err (Snap fault)) = (form ≡ forms.Snapshot) × (bytes : Option (List ℕ)) × Finds files path bytes × snapshots.IsFirstSnapFault bytes fault
 ListsFile files path form old new (Err (Shelf fault)) = Unit {0}
 

@@ -21,11 +21,11 @@ abbrev pub list_fault_in : {X : Type 0} → Result X ListFault → Option KeyFau
 list_fault_in (Err (list.Keys fault)) = Some fault
 list_fault_in r = None
 
--- The bytes were a key file, and the text of its keys, or a front of it, was written; or they were none.
+-- The bytes were a key file, of any number of keys, and their text, or a front of it, was written; or they were none.
 abbrev pub Lists : {X : Type 0} → (bytes left old new : Option (List ℕ)) → Result X ListFault → Type 0
-Lists bytes left old new (Ok x) = (keys : List ℕ) × files.IsReadFrom bytes left keys × Appends old new (text_of keys)
-Lists bytes left old new (Err list.Write) = (keys : List ℕ) × files.IsReadFrom bytes left keys × AppendsFront old new (text_of keys)
-Lists bytes left old new (Err (list.Keys fault)) = files.IsFirstKeyFault bytes fault
+Lists bytes left old new (Ok x) = (keys : List ℕ) × files.IsLongReadFrom bytes left keys × Appends old new (text_of keys)
+Lists bytes left old new (Err list.Write) = (keys : List ℕ) × files.IsLongReadFrom bytes left keys × AppendsFront old new (text_of keys)
+Lists bytes left old new (Err (list.Keys fault)) = files.IsFirstLongKeyFault bytes fault
 
 -- The fault that was found in the snapshot, if one was. Want of memory may come after it was read.
 abbrev pub fault_held : {X : Type 0} → Result X HeldFault → Option SnapFault

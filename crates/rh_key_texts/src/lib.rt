@@ -1,14 +1,14 @@
 //! The commands between texts of numbers, key files and snapshots: packing and listing.
 //!
-//! `rhkeys` stands on it.
+//! `rh_keys_program` stands on it.
 //!
 //! Proved, for every reader and writer whose bytes are known:
 //!
 //! - `pack`: where it answers `Ok`, the bytes read were a text of some keys, and the writer grew by
 //!   the key file of exactly these. On `Write` it grew by a front of that file, on a refused text
 //!   by nothing, and the fault is the first in the text.
-//! - `list_keys`, `list_snapshot`: the same of a key file and the text of its keys in order, and of
-//!   a snapshot and the text of its keys in rising order.
+//! - `list_keys`, `list_snapshot`: the same of a key file of any number of keys and their text, in order,
+//!   and of a snapshot and the text of its keys in rising order.
 //! - Of these, `Read` and `Write` come only where the device's count of failures rose. The lists take
 //!   no more of their reader than their answer rests on, and a refused `pack` at most 8,192 bytes more.
 //! - `list_files`: of files at paths, the texts of each one's keys were written, one after the

@@ -1,8 +1,10 @@
-use Rattle.std.proofs.Common.{rules, ◌≡◌, ◌-◌, min, [], refl, arith, append-nil}
+use Rattle.std.proofs.Common.{rules, ◌≡◌, ◌*◌, ◌+◌, ◌-◌, min, [], refl, arith, append-nil}
 use Rattle.std.proofs.lemmas.List.Concat.{flat_map-append}
 use Rattle.std.proofs.lemmas.Result.{err_from_is_err_and}
 use Rattle.rh_key_files.proofs.Batches.{no_keys, part_goes_on, part_stops}
+use Rattle.rh_bytes.proofs.Taking.{takes_both, takes_fewer, takes_nothing}
 use Rattle.rh_key_files.proofs.BehindMagic.{all_read, as_batch, as_batch_fails, end_fails, keys_fail, number_fails}
+use Rattle.rh_key_files.proofs.PieceBounds.{NumberRead, all_taken, end_stops, memory_stops, number_stops, piece_stops}
 use Rattle.rh_key_files.proofs.Whole.{as_many}
 use Rattle.rh_key_files.proofs.pieces.read_pieces.Goals as goal
 
@@ -12,7 +14,7 @@ returns-in_err-count-clause-known g c =
     rw (p.1, p.2) (number_fails _ c.args.version _ _ _ c.in_err-count.ensures.known)
 
 pub loop-taken-init : goal.loop-taken-init
-loop-taken-init g c = rw c.new-pieces.ensures.items (record { within = omega arith; read = no_keys _ _ _; in_range = λ k d less. absurd (omega (arith, less)); fine = search rules })
+loop-taken-init g c = rw c.new-pieces.ensures.items (record { within = omega arith; read = no_keys _ _ _; in_range = λ k d less. absurd (omega (arith, less)); takes = takes_nothing _ _; fine = search rules })
 
 pub returns-in_err-piece-clause-known : goal.returns-in_err-piece-clause-known
 returns-in_err-piece-clause-known g c =
@@ -33,6 +35,7 @@ loop-taken-preserved g c =
       within = omega (arith, len);
       read = part_goes_on c.args.version 0 taken taken many _ _ _ _ _ piece.items _ (omega arith) (omega (arith, len)) (rw c.in-Ok.ensures.items (rw flat_map-append (rw append-nil refl))) c.loop-taken.invariant.read (as_batch c.args.version taken many _ _ (λ p. p.items) piece c.in_ok-piece.ensures.known);
       in_range = search rules;
+      takes = takes_both _ _ _ (8 * taken) (8 * many) _ c.loop-taken.invariant.takes c.in_ok-piece.ensures.takes (omega (arith, len));
       fine = search rules;
     }
 
@@ -46,3 +49,42 @@ pub returns-clause-known : goal.returns-clause-known
 returns-clause-known g c =
     let all : c.loop-taken.taken ≡ c.in_ok-count.count = omega arith in
     all_read _ c.args.version c.in_ok-count.count _ _ _ _ _ c.loop-taken.pieces refl c.in_ok-count.ensures.known (as_many _ _ _ _ _ _ _ all c.loop-taken.invariant.read) c.in_ok-read_end.ensures.known
+
+-- ---- the bytes that were taken
+
+pub returns-in_err-count-clause-takes : goal.returns-in_err-count-clause-takes
+returns-in_err-count-clause-takes g c =
+    let p = err_from_is_err_and c.from_residual.result c.from_residual.ensures.1 in
+    rw (p.1, p.2) (number_stops _ _ _ c.in_err-count.ensures.takes)
+
+pub returns-in_err-piece-clause-takes : goal.returns-in_err-piece-clause-takes
+returns-in_err-piece-clause-takes g c =
+    let p = err_from_is_err_and c.from_residual-in_err-piece.result c.from_residual-in_err-piece.ensures.1 in
+    let taken = c.loop-taken.taken in
+    let count = c.in_ok-count.count in
+    let many = min (count - taken) 65536 in
+    let number : NumberRead _ _ count = record { read = c.in_ok-count.ensures.known; taken = c.in_ok-count.ensures.takes } in
+    rw (p.1, p.2) (piece_stops _ _ _ _ c.args.version count taken many _ _ number (omega arith) c.loop-taken.invariant.takes c.in_err-piece.ensures.takes c.in_err-piece.ensures.known)
+
+pub returns-in_err-read_end-clause-takes : goal.returns-in_err-read_end-clause-takes
+returns-in_err-read_end-clause-takes g c =
+    let p = err_from_is_err_and c.from_residual-in_err-read_end.result c.from_residual-in_err-read_end.ensures.1 in
+    let count = c.in_ok-count.count in
+    let number : NumberRead _ _ count = record { read = c.in_ok-count.ensures.known; taken = c.in_ok-count.ensures.takes } in
+    let all : c.loop-taken.taken ≡ count = omega arith in
+    rw (p.1, p.2) (end_stops _ _ _ _ count _ _ number c.in_err-read_end.ensures.no_memory (takes_fewer _ _ (8 * c.loop-taken.taken) (8 * count) c.loop-taken.invariant.takes (omega (arith, all))) c.in_err-read_end.ensures.takes c.in_err-read_end.ensures.known)
+
+pub returns-clause-takes : goal.returns-clause-takes
+returns-clause-takes g c =
+    let count = c.in_ok-count.count in
+    let number : NumberRead _ _ count = record { read = c.in_ok-count.ensures.known; taken = c.in_ok-count.ensures.takes } in
+    let all : c.loop-taken.taken ≡ count = omega arith in
+    all_taken _ _ _ _ count number (takes_fewer _ _ (8 * c.loop-taken.taken) (8 * count) c.loop-taken.invariant.takes (omega (arith, all))) c.in_ok-read_end.ensures.takes
+
+pub returns-in_default-clause-takes : goal.returns-in_default-clause-takes
+returns-in_default-clause-takes g c =
+    let taken = c.loop-taken.taken in
+    let count = c.in_ok-count.count in
+    let many = min (count - taken) 65536 in
+    let number : NumberRead _ _ count = record { read = c.in_ok-count.ensures.known; taken = c.in_ok-count.ensures.takes } in
+    memory_stops _ _ _ count (taken + many) number (omega arith) (takes_both _ _ _ (8 * taken) (8 * many) (8 * (taken + many)) c.loop-taken.invariant.takes c.in_ok-piece.ensures.takes (omega arith))
