@@ -1,5 +1,5 @@
 -- A text that is read block by block.
-use Rattle.std.proofs.Common.{◌≡◌, ℕ, ◌+◌, ◌≤◌, ◌<◌, Bool, List, [], ◌++◌, length, Option, Some, None, Result, Ok, Err, inl, inr, sym, ap, subst, ◌∙◌, arith, append_assoc, length-append}
+use Rattle.std.proofs.Common.{◌≡◌, ℕ, ◌+◌, ◌≤◌, ◌<◌, Bool, List, [], ◌++◌, length, Option, Some, None, Result, Ok, Err, inl, inr, refl, sym, ap, subst, ◌∙◌, arith, append_assoc, length-append}
 use Rattle.std.specs.Prelude.{IsFalse, IsTrue, OnOk}
 use Rattle.std.proofs.lemmas.Bool.{cases_Bool}
 use Rattle.std.specs.Io.KnownBytes.{Consumes, IsAtEnd}
@@ -19,6 +19,10 @@ pub record Going (begun : List ℕ) (start now : Option (List ℕ)) (text : Part
   pub taken : Consumes start now front
   pub whole : begun ++ front ≡ before ++ block
   pub read : IsReadTo Start before text
+
+-- the first block came, and only what the text begins with is read
+pub first_going : (begun : List ℕ) (start now : Option (List ℕ)) (text : Part) (block : List ℕ) → IsReadTo Start begun text → Consumes start now block → Going begun start now text block
+first_going begun start now text block read comes = record { before = begun; front = block; taken = comes; whole = refl; read = read }
 
 -- the block is read, and the next one comes behind it
 pub going_on : (begun : List ℕ) (a b c : Option (List ℕ)) (block next : List ℕ) (text more : Part) → Going begun a b text block → Consumes b c next
@@ -99,6 +103,12 @@ pub long_taken : (a b : Option (List ℕ)) (passed n : ℕ) → Taken a b passed
 long_taken None b passed n t many = tt
 long_taken (Some xs) None passed n t many = absurd t.taken
 long_taken (Some xs) (Some ys) passed n t many = omega (arith, t.many, many, ap length t.taken, length-append t.front ys)
+
+-- what comes behind other bytes is no more than both
+pub has_more : (n : ℕ) (a b : Option (List ℕ)) (front : List ℕ) → Consumes a b front → HasBytes n b → HasBytes n a
+has_more n None b front comes has = tt
+has_more n (Some xs) None front comes has = absurd comes
+has_more n (Some xs) (Some ys) front comes has = omega (arith, has, ap length comes, length-append front ys)
 
 -- a buffer that is full was filled with no failure
 pub not_failed : (failed : Bool) (count size : ℕ) → (IsTrue failed → count < size) → size ≤ count → IsFalse failed

@@ -1,6 +1,6 @@
 //! Lists of keys of any length: texts of numbers and key files, read by several workers.
 //!
-//! No crate stands on it yet.
+//! `rh_list_files` stands on it.
 //!
 //! ```text
 //! let list = read_list(&rt, alloc, 4, &mut Counted::new(file), &mut Nobody)?;

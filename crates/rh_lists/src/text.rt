@@ -7,10 +7,10 @@ ghost use Rattle.rh_numbers.specs.declared.limits.TheConstants.{MAX_BYTES};
 ghost use Rattle.rh_numbers.specs.Reading.{text_said};
 ghost use Rattle.rh_lists.specs.Lists.{HasBytes, OfHeldBytes};
 ghost use Rattle.rh_lists.specs.Parts.{IsReadTo, IsTold, ReadsText};
-ghost use Rattle.rh_lists.specs.declared.limits.TheConstants.{BLOCK_BYTES};
+ghost use Rattle.rh_lists.specs.declared.limits.TheConstants.{BLOCK_BYTES, FIRST_BYTES};
 
 use crate::ahead::read_ahead;
-use crate::limits::BLOCK_BYTES;
+use crate::limits::{BLOCK_BYTES, FIRST_BYTES};
 use crate::list::KeyList;
 use crate::part::Part;
 use crate::workers::read_part;
@@ -33,7 +33,8 @@ pub(crate) fn read_short_text(alloc: Global, bytes: &[u8]) -> Result<KeyList, Te
     text.end_text(alloc)
 }
 
-/// Reads the rest of a text that begins so, in blocks of so many bytes.
+/// Reads the rest of a text that begins so, in blocks of so many bytes. The first one is small, so that
+/// a short text takes little memory.
 pub(crate) fn read_text<T: Threads + Sync, R: Read, P: Progress>(
     rt: &T,
     alloc: Global,
@@ -45,7 +46,7 @@ pub(crate) fn read_text<T: Threads + Sync, R: Read, P: Progress>(
 ) -> Result<KeyList, TextFault>
     requires workers { 0 < workers }
     requires block { (0 < block_bytes) × (block_bytes ≤ BLOCK_BYTES) }
-    requires begun { length begun.now ≤ BLOCK_BYTES }
+    requires begun { length begun.now ≤ FIRST_BYTES }
     ensures known { ReadsText begun.now (R.remaining (inner_of reader.old))
         (R.remaining (inner_of reader.new)) result }
     ensures read { IsErrOf result TextFault.Read → Rose (failures_of reader.old) (failures_of reader.new) }
@@ -53,9 +54,44 @@ pub(crate) fn read_text<T: Threads + Sync, R: Read, P: Progress>(
         HasBytes MAX_BYTES (R.remaining (inner_of reader.old)) }
     ensures fine { OnOk result (failures_of reader.new ≡ failures_of reader.old) }
 {
-    let Ok(text) = Part::read(alloc, LineSoFar::Start, begun) else {
+    let Ok(front) = Part::read(alloc, LineSoFar::Start, begun) else {
         return Err(TextFault::Memory);
     };
+    let Ok(mut first) = vec![in alloc; 0u8; block_bytes.min(FIRST_BYTES)] else {
+        return Err(TextFault::Memory);
+    };
+    let Filled { count, failed } = fill_front(reader, &mut first);
+    progress.read(count);
+    if count < first.len() {
+        return last_block(rt, alloc, workers, front, &first[..count], failed);
+    }
+    let Ok(part) = read_part(rt, alloc, workers, front.so_far(), &first) else {
+        return Err(TextFault::Memory);
+    };
+    let text = front.more(part)?;
+    read_on(rt, alloc, workers, block_bytes, text, reader, progress)
+}
+
+/// Reads the rest of a text of which so much is read, in blocks of so many bytes.
+fn read_on<T: Threads + Sync, R: Read, P: Progress>(
+    rt: &T,
+    alloc: Global,
+    workers: usize,
+    block_bytes: usize,
+    text: Part,
+    reader: &mut Counted<R>,
+    progress: &mut P,
+) -> Result<KeyList, TextFault>
+    requires workers { 0 < workers }
+    requires block { (0 < block_bytes) × (block_bytes ≤ BLOCK_BYTES) }
+    requires lines { text.lines ≤ BLOCK_BYTES }
+    ensures known { (before : List ℕ) → IsReadTo Start before text →
+        ReadsText before (R.remaining (inner_of reader.old)) (R.remaining (inner_of reader.new)) result }
+    ensures read { IsErrOf result TextFault.Read → Rose (failures_of reader.old) (failures_of reader.new) }
+    ensures long { IsErrOf result TextFault.TooLong →
+        HasBytes MAX_BYTES (R.remaining (inner_of reader.old)) }
+    ensures fine { OnOk result (failures_of reader.new ≡ failures_of reader.old) }
+{
     let Ok(mut block) = vec![in alloc; 0u8; block_bytes] else {
         return Err(TextFault::Memory);
     };

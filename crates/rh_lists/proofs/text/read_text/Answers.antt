@@ -1,30 +1,64 @@
-use Rattle.std.proofs.Common.{◌≡◌, take, drop, length, sym, subst, ◌∙◌, rules, arith}
+use Rattle.std.proofs.Common.{◌≡◌, ◌++◌, take, drop, length, sym, subst, ◌∙◌, rules, arith}
 use Rattle.std.specs.Io.KnownBytes.{Consumes}
 use Rattle.std.proofs.lemmas.List.{take_all, take_at}
+use Rattle.std.proofs.lemmas.Result.{err_from_is_err_and}
 use Rattle.rh_bytes.specs.Counting.{inner_of}
-use Rattle.rh_lists.proofs.Texts.{block_first, only_read}
+use Rattle.rh_numbers.specs.declared.limits.TheConstants.{MAX_BYTES}
+use Rattle.rh_lists.specs.Parts.{IsReadTo, so_far_of}
+use Rattle.rh_lists.proofs.Texts.{block_first, block_refused, first_going, has_more, only_read}
 use Rattle.rh_lists.proofs.text.read_text.Goals as goal
 
-pub returns-then-count-block_bytes-clause-known : goal.returns-then-count-block_bytes-clause-known
-returns-then-count-block_bytes-clause-known g c =
+pub returns-then-count-len-clause-known : goal.returns-then-count-len-clause-known
+returns-then-count-len-clause-known g c =
     let start = g.R.Read.remaining (inner_of c.args.reader.now) in
     let now = g.R.Read.remaining (inner_of c.fill_front-count.new.reader) in
     let n = c.fill_front-count.result.count in
     let buf = c.fill_front-count.new.buf in
-    let len : length buf ≡ c.in-Ok-vec.block.len = search rules in
-    let size : length buf ≡ c.args.block_bytes = search rules in
-    let same : c.deref.result.now ≡ buf = c.deref.ensures.value ∙ take_at buf (drop (length buf) c.in-Ok-vec.block.items) c.in-Ok-vec.block.len len in
-    only_read c.args.begun.now start now (take n c.deref.result.now) c.in-Ok.text c.fill_front-count.result.failed c.last_block.result c.in-Ok.ensures.read
-    (subst (λ l. Consumes start now (take n l)) (sym same) c.fill_front-count.ensures.bytes) (λ fine. c.fill_front-count.ensures.end fine (omega (arith, size))) c.last_block.ensures.told c.last_block.ensures.fine
+    let len : length buf ≡ c.in-Ok-vec.first.len = search rules in
+    let same : c.deref.result.now ≡ buf = c.deref.ensures.value ∙ take_at buf (drop (length buf) c.in-Ok-vec.first.items) c.in-Ok-vec.first.len len in
+    only_read c.args.begun.now start now (take n c.deref.result.now) c.in-Ok.front c.fill_front-count.result.failed c.last_block.result c.in-Ok.ensures.read
+    (subst (λ l. Consumes start now (take n l)) (sym same) c.fill_front-count.ensures.bytes) (λ fine. c.fill_front-count.ensures.end fine (search rules)) c.last_block.ensures.told c.last_block.ensures.fine
+
+pub returns-in_err-text-clause-known : goal.returns-in_err-text-clause-known
+returns-in_err-text-clause-known g c =
+    let start = g.R.Read.remaining (inner_of c.args.reader.now) in
+    let now = g.R.Read.remaining (inner_of c.fill_front-count.new.reader) in
+    let n = c.fill_front-count.result.count in
+    let buf = c.fill_front-count.new.buf in
+    let len : length buf ≡ c.in-Ok-vec.first.len = search rules in
+    let size : c.len.result ≡ length buf = search rules in
+    let all : take n buf ≡ buf = take_all n buf (omega (arith, size)) in
+    let comes : Consumes start now buf = subst (Consumes start now) all c.fill_front-count.ensures.bytes in
+    let part = c.in-Ok-read_part.part in
+    let same : c.deref-2.result.now ≡ buf = c.deref-2.ensures.value ∙ take_at buf (drop (length buf) c.in-Ok-vec.first.items) c.in-Ok-vec.first.len len in
+    let here : IsReadTo (so_far_of c.in-Ok.front) buf part = subst (λ s. IsReadTo s buf part) c.so_far.ensures (subst (λ l. IsReadTo c.so_far.result l part) same c.in-Ok-read_part.ensures.read) in
+    let p = err_from_is_err_and c.from_residual.result c.from_residual.ensures.1 in
+    rw (p.1, p.2) (block_refused _ _ _ _ buf c.in-Ok.front c.in_err-text.field-0.0 (first_going _ start now c.in-Ok.front buf c.in-Ok.ensures.read comes) (λ b rest r. c.in_err-text.ensures.read b buf rest r here))
 
 pub returns-clause-known : goal.returns-clause-known
 returns-clause-known g c =
     let start = g.R.Read.remaining (inner_of c.args.reader.now) in
     let now = g.R.Read.remaining (inner_of c.fill_front-count.new.reader) in
-    let buf = c.fill_front-count.new.buf in
     let n = c.fill_front-count.result.count in
-    let len : length buf ≡ c.in-Ok-vec.block.len = search rules in
-    let size : length buf ≡ c.args.block_bytes = search rules in
+    let buf = c.fill_front-count.new.buf in
+    let len : length buf ≡ c.in-Ok-vec.first.len = search rules in
+    let size : c.len.result ≡ length buf = search rules in
     let all : take n buf ≡ buf = take_all n buf (omega (arith, size)) in
-    let same : take c.in-Ok-vec.block.len _ ≡ buf = take_at buf (drop (length buf) c.in-Ok-vec.block.items) c.in-Ok-vec.block.len len in
-    block_first c.args.begun.now start now _ _ c.read_blocks.result (subst (Consumes start now) (all ∙ sym same) c.fill_front-count.ensures.bytes) (c.read_blocks.ensures.known c.args.begun.now c.in-Ok.ensures.read)
+    let comes : Consumes start now buf = subst (Consumes start now) all c.fill_front-count.ensures.bytes in
+    let part = c.in-Ok-read_part.part in
+    let same : c.deref-2.result.now ≡ buf = c.deref-2.ensures.value ∙ take_at buf (drop (length buf) c.in-Ok-vec.first.items) c.in-Ok-vec.first.len len in
+    let here : IsReadTo (so_far_of c.in-Ok.front) buf part = subst (λ s. IsReadTo s buf part) c.so_far.ensures (subst (λ l. IsReadTo c.so_far.result l part) same c.in-Ok-read_part.ensures.read) in
+    block_first c.args.begun.now start now _ buf c.read_on.result comes
+    (c.read_on.ensures.known (c.args.begun.now ++ buf) (c.in_ok-text.ensures.read c.args.begun.now buf c.in-Ok.ensures.read here))
+
+pub returns-clause-long : goal.returns-clause-long
+returns-clause-long g c =
+    let start = g.R.Read.remaining (inner_of c.args.reader.now) in
+    let now = g.R.Read.remaining (inner_of c.fill_front-count.new.reader) in
+    let n = c.fill_front-count.result.count in
+    let buf = c.fill_front-count.new.buf in
+    let len : length buf ≡ c.in-Ok-vec.first.len = search rules in
+    let size : c.len.result ≡ length buf = search rules in
+    let all : take n buf ≡ buf = take_all n buf (omega (arith, size)) in
+    let comes : Consumes start now buf = subst (Consumes start now) all c.fill_front-count.ensures.bytes in
+    λ is. has_more MAX_BYTES start now buf comes (c.read_on.ensures.long is)
