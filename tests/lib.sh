@@ -53,6 +53,15 @@ keys() {
     } >"$work/$file" || fail "no file $file is written"
 }
 
+# two_lists: writes the texts a and b of the work folder: numbers of all sizes, with repeats, and bounds of theirs, of which many
+# stand in both.
+two_lists() {
+    awk 'BEGIN { srand(7); for (i = 0; i < 3000; i++) printf "%d%018d\n", int(rand() * 3) + 1, int(rand() * 1e9) * 1000000007 % 1e18 }' >"$work/a"
+    awk 'BEGIN { srand(9); for (i = 0; i < 2000; i++) print int(rand() * 500) }' >>"$work/a"
+    printf '%s\n' 0 4611686018427387902 1152921504606846975 1152921504606846976 2305843009213693951 2305843009213693952 >>"$work/a"
+    { head -n 1500 "$work/a" && tail -n 900 "$work/a" && seq 200 900; } | shuf --random-source="$work/a" >"$work/b"
+}
+
 # run INPUT COMMAND..: runs the command in the work folder, on the file INPUT. What it writes is then $work/output, what it
 # tells $work/told, and its status $ended, which is the status of this call too.
 run() {
