@@ -1,9 +1,12 @@
-//! How far the reading of a file is.
+//! How far long work is.
 
-/// Who is told how far the reading of a file is.
+/// Who is told how far long work is.
 pub trait Progress {
     /// So many bytes more were read.
     fn read(&mut self, bytes: usize);
+
+    /// So many parts of so many are done.
+    fn done(&mut self, parts: usize, of: usize);
 }
 
 /// Nobody, who is told.
@@ -12,4 +15,6 @@ pub struct Nobody;
 
 impl Progress for Nobody {
     fn read(&mut self, _bytes: usize) {}
+
+    fn done(&mut self, _parts: usize, _of: usize) {}
 }

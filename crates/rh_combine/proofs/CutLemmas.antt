@@ -7,7 +7,7 @@ use Rattle.std.proofs.lemmas.List.{append-nil, take_more}
 use Rattle.std.proofs.lemmas.List.Elements.{filter-append}
 use Rattle.std.proofs.lemmas.Nat.{pow_pos}
 use Rattle.rh_combine.specs.declared.cut.Grid.{Grid}
-use Rattle.rh_combine.specs.Combine.{stands}
+use Rattle.rh_layout.specs.Range.{stands}
 use Rattle.rh_combine.specs.Grid.{in_part, is_at, stands_in}
 
 module _ (from to k w : ℕ) (above : from ≤ k) (below : k < to) where

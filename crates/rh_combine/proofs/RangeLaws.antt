@@ -9,7 +9,8 @@ use Rattle.std.specs.Cmp.{ranks}
 use Rattle.std.proofs.lemmas.Bool.{cases_lt, le-ltb, lt-ltb}
 use Rattle.rh_edit.specs.Rising.{rising_keys}
 use Rattle.rh_combine.specs.declared.how.How.{How}
-use Rattle.rh_combine.specs.Combine.{AllWithin, answer, meant, stands, within}
+use Rattle.rh_layout.specs.Range.{stands, within}
+use Rattle.rh_combine.specs.Combine.{AllWithin, answer, meant}
 use Rattle.rh_combine.proofs.Meaning.{of_them}
 use Rattle.rh_combine.proofs.Rising.{rising_of_part, rising_rise}
 

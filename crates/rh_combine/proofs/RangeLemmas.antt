@@ -21,7 +21,8 @@ use Rattle.rh_layout.specs.Layout.{Keys}
 use Rattle.rh_combine.specs.declared.cut.Grid.{Grid}
 use Rattle.rh_combine.specs.declared.how.How.{How}
 use Rattle.rh_combine.specs.declared.how.How.TheVariants.{Union}
-use Rattle.rh_combine.specs.Combine.{AllWithin, answer, has, meant, stands, within}
+use Rattle.rh_layout.specs.Range.{stands, within}
+use Rattle.rh_combine.specs.Combine.{AllWithin, answer, has, meant}
 use Rattle.rh_combine.specs.Grid.{IsGrid, edge, in_part}
 use Rattle.rh_combine.proofs.Meaning.{holds, listed, of_them, same, stands_is}
 use Rattle.rh_combine.proofs.Rising.{above_all, itself, len-rising, rising_rise, rising_there}

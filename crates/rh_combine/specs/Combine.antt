@@ -41,13 +41,6 @@ stands_by Xor lists k = (count_by (λ keys. has keys k) lists % 2) == 1
 
 -- ---- ranges
 
-abbrev pub stands : (from to key : ℕ) → Bool
-stands from to key = not (nat_lt key from) && nat_lt key to
-
--- the numbers of a list that are `from` or more and less than `to`, in the list's order
-abbrev pub within : (from to : ℕ) → List ℕ → List ℕ
-within from to keys = filter (stands from to) keys
-
 -- each number of each list is `from` or more, and less than `to`
 abbrev pub AllWithin : (from to : ℕ) → List (List ℕ) → Type 0
 AllWithin from to lists = All (λ (keys : List ℕ). All (λ k. (from ≤ k) × (k < to)) keys) lists

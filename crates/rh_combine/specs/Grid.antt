@@ -1,7 +1,7 @@
 -- A range of numbers that is cut in parts.
 use Rattle.std.specs.Prelude.{ℕ, ◌+◌, ◌*◌, ◌^◌, ◌<◌, ◌≤◌, ◌==◌, min, Bool, false, List, Option, Some, None}
 use Rattle.rh_combine.specs.declared.cut.Grid.{Grid}
-use Rattle.rh_combine.specs.Combine.{stands, within}
+use Rattle.rh_layout.specs.Range.{stands, within}
 
 -- where part p begins: each has 2 ^ shift numbers, but for the last one, which ends with the range
 abbrev pub edge : Grid → ℕ → ℕ

@@ -3,7 +3,8 @@
 ghost use Rattle.std.specs.Prelude.{◌≡◌, ◌≤◌, ◌++◌, ℕ, List, map};
 ghost use Rattle.std.specs.FinSet.{contains};
 ghost use Rattle.std.specs.List.Sorted.{IsStrictlyIncreasing};
-ghost use Rattle.rh_combine.specs.Combine.{AllWithin, answer, has, meant, stands_by, within};
+ghost use Rattle.rh_layout.specs.Range.{within};
+ghost use Rattle.rh_combine.specs.Combine.{AllWithin, answer, has, meant, stands_by};
 ghost use Rattle.rh_combine.specs.declared.how.How.{How as Made};
 
 /// Which numbers come of lists: the rising list of those that stand in each list, in one list or more, in

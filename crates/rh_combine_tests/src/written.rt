@@ -3,7 +3,7 @@
 ghost use Rattle.std.specs.Prelude.{◌≤◌, All, IfOk};
 ghost use Rattle.rh_layout.specs.Key.{IsKey};
 
-use rh_bytes::Counted;
+use rh_bytes::{Counted, Progress};
 use rh_combine_workers::*;
 use rh_faulty::{FaultyWriter, Refusal};
 use std::alloc::{AllocError, Global};
@@ -59,6 +59,8 @@ struct Told {
 }
 
 impl Progress for Told {
+    fn read(&mut self, _bytes: usize) {}
+
     fn done(&mut self, parts: usize, of: usize) {
         self.rounds = self.rounds.saturating_add(1);
         self.parts = parts;

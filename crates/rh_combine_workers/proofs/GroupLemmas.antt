@@ -9,18 +9,19 @@ use Rattle.std.proofs.lemmas.List.Sums.{sum_by-cons}
 use Rattle.rh_layout.specs.Key.{IsKey}
 use Rattle.rh_layout.specs.declared.limits.TheConstants.{MAX_KEY}
 use Rattle.rh_combine.specs.declared.how.How.{How}
-use Rattle.rh_combine.specs.Combine.{AllWithin, answer, within}
+use Rattle.rh_layout.specs.Range.{within}
+use Rattle.rh_combine.specs.Combine.{AllWithin, answer}
 use Rattle.rh_combine.proofs.RangeLaws.{of_all, of_two}
 use Rattle.rh_combine.proofs.RangeLemmas.{all_keys, within-none}
 use Rattle.rh_combine_workers.specs.declared.group.Group.{Group}
-use Rattle.rh_combine_workers.specs.declared.lists.CutLists.{CutLists}
+use Rattle.rh_borders.specs.declared.lists.CutLists.{CutLists}
 use Rattle.rh_combine_workers.specs.declared.wanted.Wanted.{Wanted}
-use Rattle.rh_combine_workers.specs.Borders.{AreBorders, between}
-use Rattle.rh_combine_workers.specs.Cut.{AreLists}
+use Rattle.rh_borders.specs.Borders.{AreBorders, between}
+use Rattle.rh_borders.specs.Cut.{AreLists}
 use Rattle.rh_combine_workers.specs.Groups.{IsGroup, TellsGroup, TellsShare, edge, parts_of}
 use Rattle.rh_combine_workers.specs.Spelled.{spelled, spelling_of}
-use Rattle.rh_combine_workers.proofs.BorderLemmas.{rise_to}
-use Rattle.rh_combine_workers.proofs.CutLemmas.{as_many, told_one}
+use Rattle.rh_borders.proofs.BorderLemmas.{rise_to}
+use Rattle.rh_borders.proofs.CutLemmas.{as_many, told_one}
 
 module _ (how : How) (lists : List (List ℕ)) where
   abbrev of : (a c : ℕ) → List ℕ

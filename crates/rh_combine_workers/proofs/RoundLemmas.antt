@@ -12,9 +12,9 @@ use Rattle.rh_combine.specs.Combine.{answer}
 use Rattle.rh_combine.proofs.RangeLaws.{of_two}
 use Rattle.rh_combine.proofs.RangeLemmas.{within-none}
 use Rattle.rh_combine_workers.specs.declared.form.Form.{Form}
-use Rattle.rh_combine_workers.specs.Borders.{AreBorders, between}
+use Rattle.rh_borders.specs.Borders.{AreBorders, between}
 use Rattle.rh_combine_workers.specs.Spelled.{spelled, spelling_of}
-use Rattle.rh_combine_workers.proofs.BorderLemmas.{rise_to}
+use Rattle.rh_borders.proofs.BorderLemmas.{rise_to}
 
 appends_nothing : (a : Option (List ℕ)) → Appends a a []
 appends_nothing None = tt

@@ -4,9 +4,9 @@ use Rattle.rh_combine.specs.Combine.{answer}
 use Rattle.rh_combine.specs.declared.how.How.{How}
 use Rattle.rh_combine_workers.specs.declared.group.Group.{Group}
 use Rattle.rh_combine_workers.specs.declared.wanted.Wanted.{Wanted}
-use Rattle.rh_combine_workers.specs.declared.lists.CutLists.{CutLists}
-use Rattle.rh_combine_workers.specs.Borders.{between}
-use Rattle.rh_combine_workers.specs.Cut.{AreLists}
+use Rattle.rh_borders.specs.declared.lists.CutLists.{CutLists}
+use Rattle.rh_borders.specs.Borders.{between}
+use Rattle.rh_borders.specs.Cut.{AreLists}
 use Rattle.rh_combine_workers.specs.Spelled.{spelled}
 
 -- the part with which a group begins, and the group before it ends: groups of so many parts from the first one on, of so many in all

@@ -1,7 +1,3 @@
--- Borders: the borders between parts, and lists that are cut there
-pub mod Borders
--- Cut: lists that were cut, of which nothing else is left
-pub mod Cut
 -- Groups: groups of consecutive parts
 pub mod Groups
 -- Spelled: numbers as they are written

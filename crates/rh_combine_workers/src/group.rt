@@ -1,13 +1,13 @@
 //! Groups of consecutive parts, worked out side by side.
 
 ghost use Rattle.std.specs.Prelude.{◌≡◌, ℕ, List, ◌+◌, ◌-◌, ◌^◌, ◌<◌, ◌≤◌, IfOk, Ok, length, map, min, slice_index_or, sum_by};
-ghost use Rattle.rh_combine_workers.specs.Cut.{IsOfLists};
+ghost use Rattle.rh_borders.specs.Cut.{IsOfLists};
 ghost use Rattle.rh_combine_workers.specs.Groups.{TellsGroup, edge};
 
 use crate::form::spell;
-use crate::lists::CutLists;
 use crate::part::of_parts;
 use crate::wanted::Wanted;
+use rh_borders::CutLists;
 use std::alloc::{AllocError, Global};
 use std::thread;
 use std::thread::Threads;

@@ -1,17 +1,16 @@
 //! What comes of lists of numbers, by several workers: what all lists have, what one or another has, what
 //! only the first has, or what an odd number of them has.
 //!
-//! No crate stands on it yet; the commands of `rhkeys` on several files will.
+//! `rh_list_commands` stands on it.
 //!
 //! ```text
 //! combine(rt, alloc, 4, How::Intersect, lists)?
 //! write_combined(rt, alloc, 4, How::Union, Form::Lines, lists, &mut writer, &mut progress)?
 //! ```
 //!
-//! A list is given in pieces, as they are read. By a sample of all keys borders are chosen, between which
-//! about as many keys stand as between others. The pieces are cut there, side by side. A part has what
-//! all pieces have between two borders, so that each part is worked out by itself, by `rh_combine`.
-//! Groups of consecutive parts are worked out side by side, and written in their order.
+//! A list is given in pieces, as they are read. The lists are cut into parts at borders (`rh_borders`), so that
+//! each part is worked out by itself, by `rh_combine`. Groups of consecutive parts are worked out side by side,
+//! and written in their order.
 //!
 //! Proved:
 //!
@@ -23,16 +22,12 @@
 //! - `workers_agree`: two such runs that end well wrote the same.
 #![tactic(auto)]
 
-mod borders;
-mod cut;
 mod fault;
 mod form;
 mod group;
 mod laws;
-mod lists;
 mod numbers;
 mod part;
-mod parts;
 mod wanted;
 mod writing;
 
@@ -41,4 +36,4 @@ pub use form::Form;
 pub use laws::workers_agree;
 pub use numbers::combine;
 pub use rh_combine::How;
-pub use writing::{Progress, write_combined};
+pub use writing::write_combined;

@@ -4,12 +4,12 @@ ghost use Rattle.std.specs.Prelude.{◌≡◌, ℕ, List, ◌+◌, ◌-◌, ◌^
 ghost use Rattle.std.specs.List.{flat_map};
 ghost use Rattle.rh_layout.specs.Key.{IsKey};
 ghost use Rattle.rh_combine.specs.Combine.{answer};
-ghost use Rattle.rh_combine_workers.specs.Cut.{IsOfLists};
+ghost use Rattle.rh_borders.specs.Cut.{IsOfLists};
 ghost use Rattle.rh_combine_workers.specs.Groups.{TellsShare, edge};
 
 use crate::group::edge;
-use crate::lists::{CutLists, cut_lists};
 use crate::part::of_parts;
+use rh_borders::{CutLists, cut_lists};
 use rh_combine::How;
 use std::alloc::{AllocError, Global};
 use std::thread;

@@ -2,11 +2,10 @@
 
 ghost use Rattle.std.specs.Prelude.{◌≡◌, ℕ, List, ◌+◌, ◌<◌, ◌≤◌, All, IfOk, length, map};
 ghost use Rattle.rh_combine.specs.Combine.{answer};
-ghost use Rattle.rh_combine_workers.specs.Borders.{between, part_of};
-ghost use Rattle.rh_combine_workers.specs.Cut.{AreLists, IsOfLists};
+ghost use Rattle.rh_borders.specs.Borders.{between, part_of};
+ghost use Rattle.rh_borders.specs.Cut.{AreLists, IsOfLists};
 
-use crate::lists::CutLists;
-use crate::parts::Parts;
+use rh_borders::{CutLists, Parts};
 use rh_combine::{How, combined};
 use std::alloc::{AllocError, Global};
 

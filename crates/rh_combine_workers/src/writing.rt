@@ -5,8 +5,8 @@ ghost use Rattle.std.specs.List.{flat_map};
 ghost use Rattle.rh_bytes.specs.Counting.{Rose, Writes, failures_of, inner_of};
 ghost use Rattle.rh_layout.specs.Key.{IsKey};
 ghost use Rattle.rh_combine.specs.Combine.{answer};
-ghost use Rattle.rh_combine_workers.specs.Borders.{between};
-ghost use Rattle.rh_combine_workers.specs.Cut.{AreLists, IsOfLists};
+ghost use Rattle.rh_borders.specs.Borders.{between};
+ghost use Rattle.rh_borders.specs.Cut.{AreLists, IsOfLists};
 ghost use Rattle.rh_combine_workers.specs.Groups.{edge};
 ghost use Rattle.rh_combine_workers.specs.Spelled.{spelled};
 ghost use Rattle.rh_combine_workers.specs.Written.{IsWritten};
@@ -15,9 +15,9 @@ ghost use Rattle.rh_combine_workers.specs.declared.fault.CombineFault.TheVariant
 use crate::fault::CombineFault;
 use crate::form::Form;
 use crate::group::{Group, all_done, count_of, edge, groups};
-use crate::lists::{CutLists, cut_lists};
 use crate::wanted::Wanted;
-use rh_bytes::{Counted, WriteFault, write_text};
+use rh_borders::{CutLists, cut_lists};
+use rh_bytes::{Counted, Progress, WriteFault, write_text};
 use rh_combine::How;
 use std::alloc::{AllocError, Global};
 use std::io::Write;
@@ -25,12 +25,6 @@ use std::thread::Threads;
 
 /// About how many keys a group of parts has, so that a round takes little memory beside the lists.
 const IN_A_GROUP: usize = 1 << 18;
-
-/// Who is told of what is done.
-pub trait Progress {
-    /// So many parts of so many are written.
-    fn done(&mut self, parts: usize, of: usize);
-}
 
 /// How many parts a group has: no more than each worker needs to have one.
 fn group_size(keys: usize, parts: usize, workers: usize) -> usize

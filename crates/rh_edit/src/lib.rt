@@ -1,7 +1,7 @@
 //! Insertion into a Robin Hood table (Celis 1986), removal by backward shift, and the set of one
 //! worker.
 //!
-//! `rh_grow`, `rh_acts`, `rh_runner` and `rh_operations` stand on it, and so does whoever wants a
+//! `rh_grow`, `rh_combine`, `rh_acts`, `rh_runner` and `rh_operations` stand on it, and so does whoever wants a
 //! set with one table: `SeqSet`.
 //!
 //! ```text

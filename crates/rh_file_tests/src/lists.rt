@@ -130,6 +130,8 @@ impl Progress for Told {
     fn read(&mut self, bytes: usize) {
         self.bytes = self.bytes.wrapping_add(bytes as u64);
     }
+
+    fn done(&mut self, _parts: usize, _of: usize) {}
 }
 
 // More keys than the other commands take.

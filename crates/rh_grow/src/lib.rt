@@ -1,6 +1,6 @@
 //! When a table grows, and to what size.
 //!
-//! `rh_runner`, `rh_operations` and `rh_commands` stand on it.
+//! `rh_combine`, `rh_runner`, `rh_operations` and `rh_commands` stand on it.
 //!
 //! ```text
 //! bits_for(3, 0, 7)                            // Some(4): 7 keys do not fit 8 cells

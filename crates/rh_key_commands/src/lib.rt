@@ -1,6 +1,6 @@
 //! The command line of `rhkeys`.
 //!
-//! `rhkeys` stands on it, and `rhset` does not, which is built without it.
+//! `rh_keys_program` and `rhkeys` stand on it, and `rhset` does not, which is built without it.
 //!
 //! Proved:
 //!

@@ -3,3 +3,4 @@ pub mod Layout
 pub mod Test
 pub mod Order
 pub mod Round
+pub mod Range

@@ -1,5 +1,5 @@
 -- What is written of numbers, from what the workers wrote of them.
-use Rattle.std.proofs.Common.{◌≡◌, ◌∙◌, ℕ, List, [], ◌∷◌, ◌++◌, length, Option, Result, ap, refl, subst, append_assoc}
+use Rattle.std.proofs.Common.{◌≡◌, ◌∙◌, ℕ, List, [], ◌∷◌, ◌++◌, length, Option, Result, ap, refl, subst, append-nil, append_assoc, Err, sym}
 use Rattle.std.specs.Io.KnownBytes.{Appends}
 use Rattle.rh_bytes.specs.Counting.{AppendsFront, Writes}
 use Rattle.rh_bytes.specs.Input.{eight_bytes}
@@ -8,7 +8,7 @@ use Rattle.rh_combine_workers.specs.Spelled.{spelled}
 use Rattle.rh_combine_workers.specs.declared.form.Form.TheVariants.{Count, Keys}
 use Rattle.rh_key_files.specs.KeyFile.{header, magic, spelled_keys, spelling}
 use Rattle.rh_key_files.specs.declared.version.Version.TheVariants.{Second}
-use Rattle.rh_numbers.specs.Writing.{number_line}
+use Rattle.rh_numbers.specs.Writing.{number_line, text_of}
 
 nothing_spelled : (ns : List ℕ) → spelled Count ns ≡ []
 nothing_spelled [] = refl
@@ -17,6 +17,14 @@ nothing_spelled (n ∷ ns) = nothing_spelled ns
 keys_spelled : (ns : List ℕ) → spelled Keys ns ≡ spelled_keys ns
 keys_spelled [] = refl
 keys_spelled (n ∷ ns) = ap (λ l. eight_bytes n ++ l) (keys_spelled ns)
+
+-- what ended early wrote a front
+pub told_front : {X E : Type 0} (a b : Option (List ℕ)) (text : List ℕ) (r : Result X E) (fault : E) → r ≡ Err fault → AppendsFront a b text → Writes a b text r
+told_front a b text r fault is front = subst (Writes a b text) (sym is) front
+
+-- the text of one number is its line
+pub one_line : {X E : Type 0} (a b : Option (List ℕ)) (n : ℕ) (r : Result X E) → Writes a b (text_of (n ∷ [])) r → Writes a b (number_line n) r
+one_line a b n r wrote = subst (λ text. Writes a b text r) (append-nil (number_line n)) wrote
 
 -- numbers that are counted are not written, and then comes their number
 pub counted : {X E : Type 0} (a b c : Option (List ℕ)) (ns : List ℕ) (n : ℕ) (r : Result X E) → Appends a b (spelled Count ns) → n ≡ length ns → Writes b c (number_line n) r → Writes a c (number_line (length ns)) r

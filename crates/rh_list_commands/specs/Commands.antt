@@ -1,5 +1,5 @@
 -- What a command on lists writes.
-use Rattle.std.specs.Prelude.{◌<◌, ◌≡◌, ◌⊎◌, ℕ, List, length, take, slice_get, Option, Some, Result, Ok, Err}
+use Rattle.std.specs.Prelude.{◌≡◌, ◌⊎◌, ℕ, List, length, take, slice_get, Option, Some, Result, Ok, Err}
 use Rattle.std.specs.Io.KnownBytes.{Appends}
 use Rattle.rh_bytes.specs.Counting.{AppendsFront}
 use Rattle.rh_combine.specs.Combine.{answer}
@@ -8,9 +8,9 @@ use Rattle.rh_key_files.specs.KeyFile.{spelling}
 use Rattle.rh_key_files.specs.declared.version.Version.TheVariants.{Second}
 use Rattle.rh_numbers.specs.Writing.{number_line, text_of}
 use Rattle.rh_shelf.specs.Shelf.{Files}
-use Rattle.rh_list_commands.specs.Lists.{GiveEach, HasFault}
-use Rattle.rh_list_commands.specs.declared.fault.CommandFault.{CommandFault}
-use Rattle.rh_list_commands.specs.declared.fault.CommandFault.TheVariants as faults
+use Rattle.rh_list_files.specs.Lists.{GiveEach, HasFault}
+use Rattle.rh_list_files.specs.declared.fault.CommandFault.{CommandFault}
+use Rattle.rh_list_files.specs.declared.fault.CommandFault.TheVariants as faults
 use Rattle.rh_list_commands.specs.declared.output.Output.{Output}
 use Rattle.rh_list_commands.specs.declared.output.Output.TheVariants.{Lines, Count, Packed}
 
@@ -39,19 +39,6 @@ Ends how output files paths input left old new (Err (faults.List index fault)) =
 Ends how output files paths input left old new (Err faults.Write) = Combines how output files paths input left (AppendsFront old new)
 Ends how output files paths input left old new (Err faults.Memory) = Stops how output files paths input left old new
 
--- The lists of all paths were read, in pieces; or the first that has a fault is told by its place; or memory ran out.
-abbrev pub ReadsAll : {X : Type 0} → (X → List (List ℕ)) → Option Files → (paths : List (List ℕ)) → (input left : Option (List ℕ)) → Result X CommandFault → Type 0
-ReadsAll view files paths input left (Ok x) = GiveEach files paths input left (view x)
-ReadsAll view files paths input left (Err (faults.List index fault)) =
-    (path : List ℕ) × (mid : Option (List ℕ)) × (lists : List (List ℕ)) × (slice_get paths index ≡ Some path)
-    × GiveEach files (take index paths) input mid lists × HasFault files path mid fault
-ReadsAll view files paths input left (Err fault) = Unit {0}
-
 -- the answer where all went well
 abbrev pub ended : Result (Unit {0}) CommandFault
 ended = Ok tt
-
--- the fault names one of so many lists, if it names one
-abbrev pub IsInside : ℕ → CommandFault → Type 0
-IsInside many (faults.List index fault) = index < many
-IsInside many fault = Unit {0}

@@ -9,15 +9,15 @@ ghost use Rattle.rh_key_files.specs.declared.version.Version.TheVariants.{Second
 ghost use Rattle.rh_layout.specs.Key.{IsKey};
 ghost use Rattle.rh_numbers.specs.Writing.{number_line};
 ghost use Rattle.rh_combine_workers.specs.declared.fault.CombineFault.TheVariants.{Write};
-ghost use Rattle.rh_list_commands.specs.Commands.{Ends, IsInside, written};
+ghost use Rattle.rh_list_commands.specs.Commands.{Ends, written};
+ghost use Rattle.rh_list_files.specs.Reading.{Blames, IsInside};
 
-use crate::fault::CommandFault;
 use crate::output::Output;
-use crate::reading::read_paths;
-use rh_bytes::{Counted, Progress, write_text};
+use rh_bytes::{Counted, Progress, WriteFault, write_text};
 use rh_combine::How;
-use rh_combine_workers::{CombineFault, Form, Progress as PartsProgress, write_combined};
+use rh_combine_workers::{CombineFault, Form, write_combined};
 use rh_key_files::write_header;
+use rh_list_files::{CommandFault, read_paths};
 use rh_numbers::write_numbers;
 use rh_shelf::Shelf;
 use std::alloc::Global;
@@ -37,7 +37,7 @@ pub struct Job<'a> {
 
 /// Reads the lists at these paths, and writes what comes of them. Nothing is written before all are read.
 /// Each write is a large one, so that no buffer is wanted.
-pub fn combine_files<T: Threads + Sync, S: Shelf, I: Read, W: Write, P: Progress + PartsProgress>(
+pub fn combine_files<T: Threads + Sync, S: Shelf, I: Read, W: Write, P: Progress>(
     rt: &T,
     alloc: Global,
     job: &Job<'_>,
@@ -53,9 +53,11 @@ pub fn combine_files<T: Threads + Sync, S: Shelf, I: Read, W: Write, P: Progress
         (W.contents (inner_of writer.old)) (W.contents (inner_of writer.new)) result }
     ensures inside { IfErr result (IsInside (length job.now.paths.now)) }
     ensures same_files { S.files shelf.new ≡ S.files shelf.old }
-    ensures write { IsErrOf result CommandFault.Write →
-        Rose (failures_of writer.old) (failures_of writer.new) }
-    ensures fine { OnOk result (failures_of writer.new ≡ failures_of writer.old) }
+    ensures blamed { IfErr result (Blames (S.files shelf.old) (map string_bytes job.now.paths.now)
+        (Rose (S.failures shelf.old) (S.failures shelf.new)) (Rose (failures_of input.old) (failures_of input.new))
+        (Rose (failures_of writer.old) (failures_of writer.new))) }
+    ensures fine { OnOk result ((S.failures shelf.new ≡ S.failures shelf.old)
+        × (failures_of input.new ≡ failures_of input.old) × (failures_of writer.new ≡ failures_of writer.old)) }
 {
     let lists = read_paths(rt, alloc, job.workers, shelf, job.paths, input, progress)?;
     match write_lists(rt, alloc, job, lists, writer, progress) {
@@ -66,7 +68,7 @@ pub fn combine_files<T: Threads + Sync, S: Shelf, I: Read, W: Write, P: Progress
 }
 
 /// Writes what comes of the lists, which are given in pieces.
-fn write_lists<T: Threads + Sync, W: Write, P: PartsProgress>(
+fn write_lists<T: Threads + Sync, W: Write, P: Progress>(
     rt: &T,
     alloc: Global,
     job: &Job<'_>,
@@ -102,7 +104,7 @@ fn write_lists<T: Threads + Sync, W: Write, P: PartsProgress>(
 }
 
 /// Writes how many numbers come of the lists.
-fn write_counted<T: Threads + Sync, W: Write, P: PartsProgress>(
+fn write_counted<T: Threads + Sync, W: Write, P: Progress>(
     rt: &T,
     alloc: Global,
     workers: usize,
@@ -118,7 +120,7 @@ fn write_counted<T: Threads + Sync, W: Write, P: PartsProgress>(
     ensures write { IsErrOf result Write → Rose (failures_of writer.old) (failures_of writer.new) }
     ensures fine { OnOk result (failures_of writer.new ≡ failures_of writer.old) }
 {
-    match write_combined(
+    let count = write_combined(
         rt,
         alloc,
         workers,
@@ -127,28 +129,13 @@ fn write_counted<T: Threads + Sync, W: Write, P: PartsProgress>(
         lists,
         writer,
         progress,
-    ) {
-        Ok(count) => write_count(count, writer),
-        Err(fault) => Err(fault),
-    }
-}
-
-/// Writes a line that says how many there are.
-fn write_count<W: Write>(count: u64, writer: &mut Counted<W>) -> Result<(), CombineFault>
-    ensures written { Writes (W.contents (inner_of writer.old)) (W.contents (inner_of writer.new))
-        (number_line count) result }
-    ensures fault { IfErr result (λ fault. fault ≡ Write) }
-    ensures failed { OnErr result (Rose (failures_of writer.old) (failures_of writer.new)) }
-    ensures fine { OnOk result (failures_of writer.new ≡ failures_of writer.old) }
-{
-    match write_numbers(&[count], writer) {
-        Ok(()) => Ok(()),
-        Err(_) => Err(CombineFault::Write),
-    }
+    )?;
+    write_numbers(&[count], writer)?;
+    Ok(())
 }
 
 /// Writes a key file of the numbers. They are held until all are there, as it begins with their number.
-fn write_packed<T: Threads + Sync, W: Write, P: PartsProgress>(
+fn write_packed<T: Threads + Sync, W: Write, P: Progress>(
     rt: &T,
     alloc: Global,
     workers: usize,
@@ -165,7 +152,7 @@ fn write_packed<T: Threads + Sync, W: Write, P: PartsProgress>(
     ensures fine { OnOk result (failures_of writer.new ≡ failures_of writer.old) }
 {
     let mut held = Counted::new(Vec::new(alloc));
-    match write_combined(
+    let Ok(count) = write_combined(
         rt,
         alloc,
         workers,
@@ -174,39 +161,21 @@ fn write_packed<T: Threads + Sync, W: Write, P: PartsProgress>(
         lists,
         &mut held,
         progress,
-    ) {
-        Ok(count) => write_file(count, held.get_ref(), writer),
+    ) else {
         // Only memory can be wanting where a vector is written to.
-        Err(_) => Err(CombineFault::Memory),
-    }
+        return Err(CombineFault::Memory);
+    };
+    write_file(count, held.get_ref(), writer)?;
+    Ok(())
 }
 
 /// Writes a key file of so many keys, which are spelled so.
-fn write_file<W: Write>(
-    count: u64,
-    keys: &[u8],
-    writer: &mut Counted<W>,
-) -> Result<(), CombineFault>
+fn write_file<W: Write>(count: u64, keys: &[u8], writer: &mut Counted<W>) -> Result<(), WriteFault>
     ensures written { Writes (W.contents (inner_of writer.old)) (W.contents (inner_of writer.new))
         (header Second count ++ keys.now) result }
-    ensures fault { IfErr result (λ fault. fault ≡ Write) }
     ensures failed { OnErr result (Rose (failures_of writer.old) (failures_of writer.new)) }
     ensures fine { OnOk result (failures_of writer.new ≡ failures_of writer.old) }
 {
-    match write_header(count, writer) {
-        Ok(()) => write_keys(keys, writer),
-        Err(_) => Err(CombineFault::Write),
-    }
-}
-
-fn write_keys<W: Write>(keys: &[u8], writer: &mut Counted<W>) -> Result<(), CombineFault>
-    ensures written { Writes (W.contents (inner_of writer.old)) (W.contents (inner_of writer.new)) keys.now result }
-    ensures fault { IfErr result (λ fault. fault ≡ Write) }
-    ensures failed { OnErr result (Rose (failures_of writer.old) (failures_of writer.new)) }
-    ensures fine { OnOk result (failures_of writer.new ≡ failures_of writer.old) }
-{
-    match write_text(writer, keys) {
-        Ok(()) => Ok(()),
-        Err(_) => Err(CombineFault::Write),
-    }
+    write_header(count, writer)?;
+    write_text(writer, keys)
 }

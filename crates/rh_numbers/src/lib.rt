@@ -1,6 +1,6 @@
 //! Texts of numbers: keys in decimal digits, one a line.
 //!
-//! `rh_key_texts` and `rh_splitting` stand on it.
+//! `rh_key_texts`, `rh_splitting`, `rh_lists` and `rh_combine_workers` stand on it.
 //!
 //! Proved:
 //!

@@ -1,6 +1,6 @@
 //! Splitting a list of any length into parts by a hash of its keys.
 //!
-//! `rhkeys` stands on it for `split`.
+//! `rh_keys_program` stands on it.
 //!
 //! Proved:
 //!

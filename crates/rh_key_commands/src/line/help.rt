@@ -92,7 +92,7 @@ line with no more than spaces is skipped, and so is one that begins with #. Numb
 order and any number of times. A line may end with CR LF; the last may lack its LF.
 
 Nothing is written where a list is refused: the first one that is is told, with its first bad line. The
-lists are held in memory, at most 24 bytes for each number of all lists and 64 MB. Larger ones are split
+lists are held in memory, at most 24 bytes for each number of all lists and 32 MB. Larger ones are split
 first: see `rhkeys split --help`. On a terminal, work of more than a second tells how far it is.";
 
 /// The command `pack`, in a line.
@@ -131,9 +131,10 @@ pub const SNAPSHOT: &str = "Read snapshots, and write the keys of each in rising
 
 /// What `list` reads and writes.
 pub const LIST_FORMATS: &str = "\
-Key files of both versions are read. `rhset run` with the command `snapshot` makes snapshots.
-Nothing is written of a file that is refused, which is told by its name: what stands before it was
-written, and what comes after it is not read. What was listed is packed to the same keys.
+Key files of both versions are read, of any number of keys; 8 bytes are held for each key of the file
+that is listed. `rhset run` with the command `snapshot` makes snapshots. Nothing is written of a file
+that is refused, which is told by its name: what stands before it was written, and what comes after
+it is not read. What was listed of at most 1000000 keys is packed to the same keys.
 
 Examples:
   rhkeys list < three.keys

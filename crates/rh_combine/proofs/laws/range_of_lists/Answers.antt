@@ -1,4 +1,4 @@
-use Rattle.rh_combine.specs.Combine.{stands}
+use Rattle.rh_layout.specs.Range.{stands}
 use Rattle.rh_combine.proofs.RangeLaws.{answer_of}
 use Rattle.rh_combine.proofs.laws.range_of_lists.Goals as goal
 

@@ -1,6 +1,7 @@
 use Rattle.std.proofs.Common.{◌≡◌, ◌-◌}
 use Rattle.std.specs.Prelude.{map}
-use Rattle.rh_combine.specs.Combine.{answer, within}
+use Rattle.rh_layout.specs.Range.{within}
+use Rattle.rh_combine.specs.Combine.{answer}
 use Rattle.rh_combine.specs.Grid.{edge}
 use Rattle.rh_combine.proofs.ranges.+of_lists.Given as goal
 

@@ -1,6 +1,6 @@
 use Rattle.std.proofs.Common.{◌≡◌, ◌∙◌, ◌+◌, ap, arith, length}
 use Rattle.rh_combine.specs.Combine.{answer}
-use Rattle.rh_combine_workers.specs.Borders.{between}
+use Rattle.rh_borders.specs.Borders.{between}
 use Rattle.rh_combine_workers.specs.Groups.{edge, parts_of}
 use Rattle.rh_combine_workers.specs.Spelled.{spelled}
 use Rattle.rh_combine_workers.proofs.group.group_at.Goals as goal

@@ -1,7 +1,7 @@
 use Rattle.std.proofs.Common.{◌≡◌, ◌∙◌, ◌+◌, ap, arith}
 use Rattle.std.proofs.lemmas.Result.{IfOk-weaker}
 use Rattle.rh_combine.specs.Combine.{answer}
-use Rattle.rh_combine_workers.specs.Borders.{between}
+use Rattle.rh_borders.specs.Borders.{between}
 use Rattle.rh_combine_workers.specs.Groups.{edge, parts_of}
 use Rattle.rh_combine_workers.proofs.numbers.share_at.Goals as goal
 

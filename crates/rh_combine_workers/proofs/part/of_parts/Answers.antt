@@ -2,7 +2,7 @@ use Rattle.std.proofs.Common.{◌∙◌, ◌+◌, ◌++◌, arith, sym, slice_in
 use Rattle.rh_combine.specs.Combine.{answer}
 use Rattle.rh_combine.proofs.RangeLaws.{of_two}
 use Rattle.rh_combine.proofs.RangeLemmas.{within-none}
-use Rattle.rh_combine_workers.proofs.BorderLemmas.{rise_to}
+use Rattle.rh_borders.proofs.BorderLemmas.{rise_to}
 use Rattle.rh_combine_workers.proofs.part.of_parts.Goals as goal
 
 pub loop-part-init : goal.loop-part-init

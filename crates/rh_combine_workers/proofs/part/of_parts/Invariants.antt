@@ -1,7 +1,7 @@
 use Rattle.std.proofs.Common.{◌≡◌, ℕ, List}
 use Rattle.rh_combine.specs.Combine.{answer}
-use Rattle.rh_combine_workers.specs.Borders.{between}
-use Rattle.rh_combine_workers.specs.Cut.{AreLists}
+use Rattle.rh_borders.specs.Borders.{between}
+use Rattle.rh_borders.specs.Cut.{AreLists}
 use Rattle.rh_combine_workers.proofs.part.of_parts.Given as goal
 
 abbrev pub invariant-loop-part : goal.invariant-loop-part

@@ -1,7 +1,7 @@
 use Rattle.std.proofs.Common.{◌∙◌, ◌++◌, ap}
 use Rattle.rh_combine.specs.Combine.{answer}
 use Rattle.rh_list_commands.specs.Commands.{written}
-use Rattle.rh_list_commands.proofs.Given.{one_each}
+use Rattle.rh_list_files.proofs.Given.{one_each}
 use Rattle.rh_list_commands.proofs.laws.commands_agree.Goals as goal
 
 pub returns : goal.returns

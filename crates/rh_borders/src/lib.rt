@@ -1,0 +1,25 @@
+//! Lists of numbers, cut into parts at borders, by several workers.
+//!
+//! `rh_combine_workers` stands on it.
+//!
+//! ```text
+//! let cut = cut_lists(rt, alloc, 4, lists)?;
+//! for part in 0..cut.parts() { .. }
+//! ```
+//!
+//! A list is given in pieces, as they are read. By a sample of all keys borders are chosen, between which
+//! about as many keys stand as between others: so one key far away gives no part all others. The pieces
+//! are cut there, side by side.
+//!
+//! Proved: each part of each list has exactly what the list has between the two borders, in its order, and
+//! each key stands in one part. The number of workers stands nowhere in it. That the parts are about equally
+//! large is measured and not proved.
+#![tactic(auto)]
+
+mod borders;
+mod cut;
+mod lists;
+mod parts;
+
+pub use lists::{CutLists, cut_lists};
+pub use parts::Parts;

@@ -1,7 +1,0 @@
-use Rattle.std.specs.Prelude.{map}
-use Rattle.std.specs.List.{flat_map}
-use Rattle.rh_combine_workers.specs.Borders.{AreCut}
-use Rattle.rh_combine_workers.proofs.lists.cut_lists.Given as goal
-
-abbrev pub invariant-loop-pieces : goal.invariant-loop-pieces
-invariant-loop-pieces g l = AreCut l.borders.items (map (λ v. flat_map (λ k. k.items) v.items) l.yielded) (map (λ v. v.items) l.cut.items)

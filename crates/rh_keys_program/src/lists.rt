@@ -1,0 +1,95 @@
+//! What a command on lists asks of the system, and what is told of its faults.
+
+ghost use Rattle.std.specs.Prelude.{◌<◌, ◌≤◌, vec_len};
+ghost use Rattle.rh_list_files.specs.Reading.{IsInside};
+
+use crate::status::{Fault, Reason};
+use rh_cli::ProgramFault;
+use rh_key_commands::line::MAX_WORKERS;
+use rh_key_files::KeyFault;
+use rh_list_files::{CommandFault, FileFault, INPUT};
+use rh_lists::ListFault;
+use rh_numbers::TextFault;
+use rh_shelf::ShelfFault;
+use std::fs::{self, Files};
+use std::io::ErrorKind;
+use std::thread::{self, Threads};
+
+/// So many workers, or as many as there are processors where none is asked for; 64 at the most.
+pub fn workers_of(rt: &impl Threads, asked: usize) -> usize
+    ensures some { 0 < result }
+    ensures few { result ≤ MAX_WORKERS }
+{
+    if asked > 0 {
+        return asked.min(MAX_WORKERS);
+    }
+    match thread::available_parallelism(rt) {
+        Ok(processors) => processors.get().clamp(1, MAX_WORKERS),
+        Err(_) => 1,
+    }
+}
+
+/// How often standard input is named.
+pub fn times_named(paths: &[String]) -> usize {
+    paths.iter().filter(|path| path.as_str() == INPUT).count()
+}
+
+/// How many bytes the files have, where that is known of each.
+pub fn bytes_of(files: &impl Files, paths: &[String]) -> Option<u64> {
+    let mut total = 0u64;
+    for path in paths {
+        let Ok(metadata) = fs::metadata(files, path) else {
+            return None;
+        };
+        if !metadata.is_file() {
+            return None;
+        }
+        total = total.saturating_add(metadata.len());
+    }
+    Some(total)
+}
+
+/// The fault, with the path of its file. Want of memory and a failed write are no faults of a file.
+pub fn told(files: &impl Files, mut paths: Vec<String>, fault: CommandFault) -> Fault
+    requires { IsInside (vec_len paths) fault }
+{
+    match fault {
+        CommandFault::Write => Fault::Program(ProgramFault::Write),
+        CommandFault::Memory
+        | CommandFault::List {
+            fault: FileFault::Shelf(ShelfFault::Memory)
+            | FileFault::List(
+                ListFault::Text(TextFault::Memory) | ListFault::Keys(KeyFault::Memory),
+            ),
+            ..
+        } => Fault::Program(ProgramFault::Memory),
+        CommandFault::List { index, fault } => {
+            let path = paths.swap_remove(index);
+            let reason = reason_of(files, &path, fault);
+            Fault::Combined {
+                path,
+                fault,
+                reason,
+            }
+        }
+    }
+}
+
+/// Why the file was not opened or read, as far as the system says it now.
+fn reason_of(files: &impl Files, path: &str, fault: FileFault) -> Reason {
+    match fault {
+        FileFault::Shelf(_) => match fs::open(files, path) {
+            Ok(_) => Reason::Unknown,
+            Err(error) => match error.kind() {
+                ErrorKind::NotFound => Reason::NoFile,
+                ErrorKind::PermissionDenied => Reason::NoRight,
+                _ => Reason::Unknown,
+            },
+        },
+        FileFault::List(ListFault::Text(TextFault::Read)) => match fs::metadata(files, path) {
+            Ok(metadata) if metadata.is_dir() => Reason::Folder,
+            _ => Reason::Unknown,
+        },
+        FileFault::List(_) => Reason::Unknown,
+    }
+}

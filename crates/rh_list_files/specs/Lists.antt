@@ -1,0 +1,88 @@
+-- The lists that a command reads: what their bytes say, and the first fault in them.
+use Rattle.std.specs.Prelude.{◌≡◌, ◌⊎◌, ℕ, Bool, true, false, List, [], ◌∷◌, codes, Option, Some, None, Result, Ok, Err}
+use Rattle.std.specs.Str.{bytes_eq}
+use Rattle.rh_bytes.specs.Input.{Unless}
+use Rattle.rh_key_files.specs.declared.fault.KeyFault.TheVariants as keys
+use Rattle.rh_numbers.specs.declared.fault.TextFault.TheVariants as texts
+use Rattle.rh_numbers.specs.declared.limits.TheConstants.{MAX_BYTES}
+use Rattle.rh_shelf.specs.Shelf.{Files, Finds, Lacks}
+use Rattle.rh_shelf.specs.declared.shelf.ShelfFault.{ShelfFault}
+use Rattle.rh_shelf.specs.declared.shelf.ShelfFault.TheVariants.{Missing, Memory, Write}
+use Rattle.rh_lists.specs.Lists.{HasBytes, is_silent, keys_of, list_said}
+use Rattle.rh_lists.specs.declared.fault.ListFault.{ListFault}
+use Rattle.rh_lists.specs.declared.fault.ListFault.TheVariants.{Text, Keys}
+use Rattle.rh_lists.specs.declared.list.KeyList.{KeyList}
+use Rattle.rh_list_files.specs.declared.fault.FileFault.{FileFault}
+use Rattle.rh_list_files.specs.declared.fault.FileFault.TheVariants.{Shelf, List as InList}
+
+-- the path that stands for standard input
+abbrev pub is_input : List ℕ → Bool
+is_input path = bytes_eq path (codes "-")
+
+-- The bytes, where they are known, are a list of these numbers, and what `list_said` leaves of them is left: nothing.
+abbrev pub AreNumbers : (bytes left : Option (List ℕ)) → List ℕ → Type 0
+AreNumbers None left numbers = Unit {0}
+AreNumbers (Some bytes) None numbers = ⊥
+AreNumbers (Some bytes) (Some rest) numbers = list_said bytes ≡ Ok (numbers, rest)
+
+-- the file at the path holds these numbers
+abbrev pub HoldsFile : Option Files → (path numbers : List ℕ) → Type 0
+HoldsFile files path numbers = (bytes : Option (List ℕ)) × (left : Option (List ℕ)) × Finds files path bytes × AreNumbers bytes left numbers
+
+-- The path, which stands for the input or for a file, gave these numbers; this was left of the input.
+abbrev pub GivesBy : (input : Bool) → Option Files → (path : List ℕ) → (old new : Option (List ℕ)) → List ℕ → Type 0
+GivesBy true files path old new numbers = AreNumbers old new numbers
+GivesBy false files path old new numbers = HoldsFile files path numbers × (new ≡ old)
+
+abbrev pub Gives : Option Files → (path : List ℕ) → (old new : Option (List ℕ)) → List ℕ → Type 0
+Gives files path old new numbers = GivesBy (is_input path) files path old new numbers
+
+-- the paths gave these lists, one after the other
+abbrev pub GiveEach : Option Files → (paths : List (List ℕ)) → (old new : Option (List ℕ)) → (lists : List (List ℕ)) → Type 0
+GiveEach files [] old new [] = new ≡ old
+GiveEach files (path ∷ paths) old new (numbers ∷ lists) = (mid : Option (List ℕ)) × Gives files path old mid numbers × GiveEach files paths mid new lists
+GiveEach files paths old new lists = ⊥
+
+-- the bytes, where they are known, are no list, and this is the first fault in them
+abbrev pub IsFirstFault : (bytes : Option (List ℕ)) → ListFault → Type 0
+IsFirstFault None fault = Unit {0}
+IsFirstFault (Some bytes) fault = Unless (is_silent fault) (list_said bytes ≡ Err fault)
+
+-- the first fault in the bytes; a text is too long only where it has so many
+abbrev pub IsFaultOf : (bytes : Option (List ℕ)) → ListFault → Type 0
+IsFaultOf bytes fault = IsFirstFault bytes fault × (fault ≡ Text texts.TooLong → HasBytes MAX_BYTES bytes)
+
+-- The path, which stands for the input or for a file, has this fault. Of a file that was not opened `BlamesAt` tells why.
+abbrev pub HasFaultBy : (input : Bool) → Option Files → (path : List ℕ) → (old : Option (List ℕ)) → FileFault → Type 0
+HasFaultBy true files path old (InList fault) = IsFaultOf old fault
+HasFaultBy true files path old (Shelf fault) = ⊥
+HasFaultBy false files path old (InList fault) = (bytes : Option (List ℕ)) × Finds files path bytes × IsFaultOf bytes fault
+HasFaultBy false files path old (Shelf fault) = Unit {0}
+
+abbrev pub HasFault : Option Files → (path : List ℕ) → (old : Option (List ℕ)) → FileFault → Type 0
+HasFault files path old fault = HasFaultBy (is_input path) files path old fault
+
+-- ---- which device failed
+
+-- A file was not opened: there is none, or the shelf failed.
+abbrev pub BlamesShelf : Option Files → (path : List ℕ) → (ShelfFailed : Type 0) → ShelfFault → Type 0
+BlamesShelf files path ShelfFailed Missing = Lacks files path ⊎ ShelfFailed
+BlamesShelf files path ShelfFailed Memory = ShelfFailed
+BlamesShelf files path ShelfFailed Write = ⊥
+
+-- A failed read is told of the input only where it failed. What becomes of a file's reader nobody sees.
+abbrev pub BlamesBy : (input : Bool) → Option Files → (path : List ℕ) → (ShelfFailed InputFailed : Type 0) → FileFault → Type 0
+BlamesBy true files path ShelfFailed InputFailed (InList fault) = (fault ≡ Text texts.Read) ⊎ (fault ≡ Keys keys.Read) → InputFailed
+BlamesBy true files path ShelfFailed InputFailed (Shelf fault) = ⊥
+BlamesBy false files path ShelfFailed InputFailed (InList fault) = Unit {0}
+BlamesBy false files path ShelfFailed InputFailed (Shelf fault) = BlamesShelf files path ShelfFailed fault
+
+abbrev pub BlamesAt : Option Files → (path : List ℕ) → (ShelfFailed InputFailed : Type 0) → FileFault → Type 0
+BlamesAt files path ShelfFailed InputFailed fault = BlamesBy (is_input path) files path ShelfFailed InputFailed fault
+
+-- ---- the list of a file, read
+
+abbrev pub IsReadAt : Option Files → (path : List ℕ) → Result KeyList FileFault → Type 0
+IsReadAt files path (Ok list) = HoldsFile files path (keys_of list)
+IsReadAt files path (Err (InList fault)) = (bytes : Option (List ℕ)) × Finds files path bytes × IsFaultOf bytes fault
+IsReadAt files path (Err (Shelf fault)) = Unit {0}

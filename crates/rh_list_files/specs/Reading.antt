@@ -1,0 +1,26 @@
+-- The lists of several paths, read one after the other.
+use Rattle.std.specs.Prelude.{◌≡◌, ◌<◌, ℕ, List, take, slice_get, Option, Some, Result, Ok, Err}
+use Rattle.rh_shelf.specs.Shelf.{Files}
+use Rattle.rh_list_files.specs.Lists.{BlamesAt, GiveEach, HasFault}
+use Rattle.rh_list_files.specs.declared.fault.CommandFault.{CommandFault}
+use Rattle.rh_list_files.specs.declared.fault.CommandFault.TheVariants as faults
+
+-- The lists of all paths were read, in pieces; or the first that has a fault is told by its place; or memory ran out.
+abbrev pub ReadsAll : {X : Type 0} → (X → List (List ℕ)) → Option Files → (paths : List (List ℕ)) → (input left : Option (List ℕ)) → Result X CommandFault → Type 0
+ReadsAll view files paths input left (Ok x) = GiveEach files paths input left (view x)
+ReadsAll view files paths input left (Err (faults.List index fault)) =
+    (path : List ℕ) × (mid : Option (List ℕ)) × (lists : List (List ℕ)) × (slice_get paths index ≡ Some path)
+    × GiveEach files (take index paths) input mid lists × HasFault files path mid fault
+ReadsAll view files paths input left (Err fault) = Unit {0}
+
+-- What a command blames for its fault: the file at that place, or the device that failed.
+abbrev pub Blames : Option Files → (paths : List (List ℕ)) → (ShelfFailed InputFailed WriterFailed : Type 0) → CommandFault → Type 0
+Blames files paths ShelfFailed InputFailed WriterFailed (faults.List index fault) =
+    (path : List ℕ) × (slice_get paths index ≡ Some path) × BlamesAt files path ShelfFailed InputFailed fault
+Blames files paths ShelfFailed InputFailed WriterFailed faults.Write = WriterFailed
+Blames files paths ShelfFailed InputFailed WriterFailed faults.Memory = Unit {0}
+
+-- the fault names one of so many lists, if it names one
+abbrev pub IsInside : ℕ → CommandFault → Type 0
+IsInside many (faults.List index fault) = index < many
+IsInside many fault = Unit {0}

@@ -1,0 +1,15 @@
+//! The lists of keys that a command works on: in files, and on standard input.
+//!
+//! `rh_list_commands` and `rh_keys_program` stand on it.
+//!
+//! Proved, for every shelf and reader whose bytes are known, of `read_paths`: where it answers `Ok`, the files
+//! and the input were texts of numbers or key files, of exactly these numbers. Else the fault is the first of
+//! the first list that has one. A file is told as missing only where there is none, or the shelf failed, and
+//! a failed read of the input only where one failed.
+#![tactic(auto)]
+
+mod fault;
+mod reading;
+
+pub use fault::{CommandFault, FileFault};
+pub use reading::{INPUT, read_paths};
