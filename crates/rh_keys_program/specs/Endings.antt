@@ -12,6 +12,8 @@ use Rattle.rh_key_texts.specs.declared.packing.PackFault.TheVariants as pack
 use Rattle.rh_key_texts.specs.declared.listing.ListFault.TheVariants as list
 use Rattle.rh_key_texts.specs.declared.snapshot.HeldFault.TheVariants as held
 use Rattle.rh_lists.specs.declared.fault.ListFault.TheVariants as of_list
+use Rattle.rh_list_files.specs.declared.fault.CommandFault.{CommandFault}
+use Rattle.rh_list_files.specs.declared.fault.CommandFault.TheVariants as command
 use Rattle.rh_list_files.specs.declared.fault.FileFault.{FileFault as CombinedFault}
 use Rattle.rh_list_files.specs.declared.fault.FileFault.TheVariants as combined
 use Rattle.rh_splitting.specs.declared.fault.FilesFault.{FilesFault}
@@ -41,6 +43,12 @@ ending_by_combined (combined.Shelf shelf.Memory) = Memory
 ending_by_combined (combined.Shelf shelf.Write) = Write
 ending_by_combined (combined.List (of_list.Text fault)) = ending_by_numbers fault
 ending_by_combined (combined.List (of_list.Keys fault)) = ending_by_keys fault
+
+-- how a run ends that a fault of several lists ended
+abbrev pub ending_by_command : CommandFault → Status
+ending_by_command (command.List index fault) = ending_by_combined fault
+ending_by_command command.Memory = Memory
+ending_by_command command.Write = Write
 
 -- how a run ends whose list was not split
 abbrev pub ending_by_split : FilesFault → Status

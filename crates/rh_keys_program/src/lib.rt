@@ -7,7 +7,8 @@
 //!
 //! - `Fault::status`, `tell`: the exit status of each fault, by the table `specs/Endings.antt`.
 //! - `parts_asked`: as many parts as were asked for, and else at least one and no more than a run may have.
-//! - `workers_of`: one worker at least, and no more than a run may have.
+//! - `workers_of`: as many workers as were asked for, and else at least one and no more than a run may have.
+//! - `told`: what is told of a fault of several lists ends the run as that fault does.
 //!
 //! What real files and streams give and take no contract says.
 #![tactic(auto)]

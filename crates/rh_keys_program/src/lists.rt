@@ -1,7 +1,8 @@
 //! What a command on lists asks of the system, and what is told of its faults.
 
-ghost use Rattle.std.specs.Prelude.{◌<◌, ◌≤◌, vec_len};
+ghost use Rattle.std.specs.Prelude.{◌≡◌, ◌<◌, ◌≤◌, min, vec_len};
 ghost use Rattle.rh_list_files.specs.Reading.{IsInside};
+ghost use Rattle.rh_keys_program.specs.Endings.{ending_by, ending_by_command};
 
 use crate::status::{Fault, Reason};
 use rh_cli::ProgramFault;
@@ -19,6 +20,7 @@ use std::thread::{self, Threads};
 pub fn workers_of(rt: &impl Threads, asked: usize) -> usize
     ensures some { 0 < result }
     ensures few { result ≤ MAX_WORKERS }
+    ensures asked { 0 < asked → result ≡ min asked MAX_WORKERS }
 {
     if asked > 0 {
         return asked.min(MAX_WORKERS);
@@ -52,6 +54,7 @@ pub fn bytes_of(files: &impl Files, paths: &[String]) -> Option<u64> {
 /// The fault, with the path of its file. Want of memory and a failed write are no faults of a file.
 pub fn told(files: &impl Files, mut paths: Vec<String>, fault: CommandFault) -> Fault
     requires { IsInside (vec_len paths) fault }
+    ensures { ending_by result ≡ ending_by_command fault }
 {
     match fault {
         CommandFault::Write => Fault::Program(ProgramFault::Write),
