@@ -3,11 +3,17 @@ use Rattle.std.proofs.Common.{◌≡◌, ◌≢◌, ◌∙◌, ap, sym, subst, r
 use Rattle.std.specs.Prelude.{map, All, IfOk, ◌==◌, slice_index}
 use Rattle.std.specs.List.{flat_map}
 use Rattle.std.proofs.lemmas.Bool.{eq-eqb, ne_eqb}
-use Rattle.std.proofs.lemmas.List.{append-nil, get_or-map, length-map, map-append}
+use Rattle.std.proofs.lemmas.List.{append-nil, get_or-map, length-map, map-append, take_more}
 use Rattle.std.proofs.lemmas.Simd.{map-map}
-use Rattle.std.proofs.lemmas.List.Elements.{filter-append, filter_more}
+use Rattle.std.proofs.lemmas.List.Concat.{flat_map-append}
+use Rattle.std.proofs.lemmas.List.Elements.{All-cons, All-nil, filter-append, filter_more}
 use Rattle.rh_layout.specs.Range.{stands}
-use Rattle.rh_borders.specs.Borders.{AreCut, AreParts, between, part_of}
+use Rattle.rh_borders.specs.Borders.{AreCut, AreParts, IsCut, between, part_of}
+
+all_both : {A : Type 0} (P : A → Type 0) (xs ys : List A) → All P xs → All P ys → All P (xs ++ ys)
+all_both P [] ys before behind i d inside = behind i d inside
+all_both P (x ∷ xs) ys before behind zero d inside = before 0 x (omega arith)
+all_both P (x ∷ xs) ys before behind (suc k) d inside = all_both P xs ys (λ j e there. before (suc j) e (omega (arith, there))) behind k d (omega (arith, inside))
 
 -- ---- a key more of a piece
 
@@ -25,23 +31,36 @@ module _ (borders keys : List ℕ) (i n p : ℕ) (inside : i < length keys) (par
 
 -- ---- the pieces of a list
 
-pub pieces_parts : {X : Type 0} (f : X → List ℕ) (borders : List ℕ) (cut : List (List (List ℕ))) (pieces : List X) → length cut ≡ length pieces
-    → ((i : ℕ) (d : X) (e : List (List ℕ)) → i < length pieces → AreParts borders (f (get_or pieces i d)) (get_or cut i e))
-    → (p : ℕ) → p + 1 < length borders → part_of cut p ≡ between borders p (p + 1) (flat_map f pieces)
-pieces_parts f borders [] [] many each p inside = refl
-pieces_parts f borders [] (x ∷ pieces) many each p inside = absurd (omega (arith, many))
-pieces_parts f borders (parts ∷ cut) [] many each p inside = absurd (omega (arith, many))
-pieces_parts f borders (parts ∷ cut) (x ∷ pieces) many each p inside =
-    let this = each 0 x parts (omega arith) in
-    let others = pieces_parts f borders cut pieces (omega (arith, many)) (λ i d e there. each (suc i) d e (omega (arith, there))) p inside in
-    let here = this.each p (omega (arith, this.many, inside)) in
-    (λ j. here j ++ others j) ∙ sym (filter-append (stands (slice_index borders p) (slice_index borders (p + 1))) (f x) (flat_map f pieces))
+pub no_piece : (borders : List ℕ) (cut : List (List (List ℕ))) → cut ≡ [] → IsCut borders [] cut
+no_piece borders cut none = subst (IsCut borders []) (sym none) (record { many = λ i d there. absurd (omega (arith, there)); each = λ p inside. refl })
 
-pub pieces_many : {X : Type 0} (f : X → List ℕ) (borders : List ℕ) (cut : List (List (List ℕ))) (pieces : List X) → length cut ≡ length pieces
-    → ((i : ℕ) (d : X) (e : List (List ℕ)) → i < length pieces → AreParts borders (f (get_or pieces i d)) (get_or cut i e))
-    → All (λ (parts : List (List ℕ)). length parts + 1 ≡ length borders) cut
-pieces_many f borders cut [] many each i e inside = absurd (omega (arith, many, inside))
-pieces_many f borders cut (x ∷ pieces) many each i e inside = (each i x e (omega (arith, many, inside))).many
+pub one_piece : (borders keys : List ℕ) (parts : List (List ℕ)) → AreParts borders keys parts → IsCut borders keys (parts ∷ [])
+one_piece borders keys parts are = record {
+  many = λ i d there. first i d there;
+  each = λ p inside. append-nil (get_or parts p []) ∙ are.each p (omega (arith, are.many, inside));
+}
+  where
+    first : (i : ℕ) (d : List (List ℕ)) → i < 1 → length (get_or (parts ∷ []) i d) + 1 ≡ length borders
+    first zero d there = are.many
+    first (suc i) d there = absurd (omega (arith, there))
+
+-- two lists of pieces, one behind the other
+pub both_cut : (borders keys more both : List ℕ) (first second whole : List (List (List ℕ))) → whole ≡ first ++ second → both ≡ keys ++ more → IsCut borders keys first → IsCut borders more second → IsCut borders both whole
+both_cut borders keys more both first second whole is joined before behind = record {
+  many = subst (All (λ (parts : List (List ℕ)). length parts + 1 ≡ length borders)) (sym is) (all_both (λ (parts : List (List ℕ)). length parts + 1 ≡ length borders) first second before.many behind.many);
+  each = λ p inside.
+      ap (λ l. part_of l p) is ∙ flat_map-append (λ (parts : List (List ℕ)). get_or parts p []) first second
+      ∙ (λ j. before.each p inside j ++ behind.each p inside j)
+      ∙ sym (ap (between borders p (p + 1)) joined ∙ filter-append (stands (slice_index borders p) (slice_index borders (p + 1))) keys more);
+}
+
+-- and one piece more
+pub piece_more : {X : Type 0} (f : X → List ℕ) (borders : List ℕ) (pieces : List X) (i : ℕ) (x : X) (cut new : List (List (List ℕ))) (parts : List (List ℕ)) → i < length pieces → x ≡ get_or pieces i x → new ≡ cut ++ parts ∷ []
+    → IsCut borders (flat_map f (take i pieces)) cut → AreParts borders (f x) parts → IsCut borders (flat_map f (take (i + 1) pieces)) new
+piece_more f borders pieces i x cut new parts inside here is before are =
+    let joined : flat_map f (take (i + 1) pieces) ≡ flat_map f (take i pieces) ++ f x =
+    ap (flat_map f) (take_more pieces i x inside ∙ ap (λ (y : _). take i pieces ++ y ∷ []) (sym here)) ∙ flat_map-append f (take i pieces) (x ∷ []) ∙ ap (λ l. flat_map f (take i pieces) ++ l) (append-nil (f x)) in
+    both_cut borders (flat_map f (take i pieces)) (f x) (flat_map f (take (i + 1) pieces)) cut (parts ∷ []) new is joined before (one_piece borders (f x) parts are)
 
 -- what was told of each is so of what was told
 pub told_one : {V E : Type 0} (P : V → Type 0) (made : List V) (told : List (Result V E)) (i : ℕ) (d : V) → map Ok made ≡ told → i < length made → IfOk (get_or told i (Ok d)) P → P (get_or made i d)
@@ -68,33 +87,20 @@ of_lists f borders lists cut part are inside = sym (map-map (λ pieces. part_of 
 
 -- ---- one list after the other
 
-pub cut_each : {X E : Type 0} (f : X → List ℕ) (borders : List ℕ) (pieces slice : List X) (made : List (List (List ℕ))) (told : List (Result (List (List ℕ)) E)) → slice ≡ pieces → map Ok made ≡ told → length told ≡ length slice
-    → ((i : ℕ) (d : X) (e : Result (List (List ℕ)) E) → i < length slice → IfOk (get_or told i e) (λ parts. AreParts borders (f (get_or slice i d)) parts))
-    → (i : ℕ) (d : X) (e : List (List ℕ)) → i < length pieces → AreParts borders (f (get_or pieces i d)) (get_or made i e)
-cut_each {X} f borders pieces slice made told same is many each =
-    subst (λ (ps : List X). (i : ℕ) (d : X) (e : List (List ℕ)) → i < length ps → AreParts borders (f (get_or ps i d)) (get_or made i e)) same
-    (λ i d e inside. told_one (λ parts. AreParts borders (f (get_or slice i d)) parts) made told i e is (omega (arith, inside, many, as_many made told is)) (each i d (Ok e) inside))
-
 pub none_cut : (borders : List ℕ) (cut : List (List (List (List ℕ)))) → cut ≡ [] → AreCut borders [] cut
 none_cut borders cut none = subst (AreCut borders []) (sym none) (record { many = λ i d there. absurd (omega (arith, there)); each = λ p inside. refl })
 
-all_more : {A : Type 0} (P : A → Type 0) (xs : List A) (y : A) → All P xs → P y → All P (xs ++ y ∷ [])
-all_more P [] y before last zero d inside = last
-all_more P [] y before last (suc k) d inside = absurd (omega (arith, inside))
-all_more P (x ∷ xs) y before last zero d inside = before 0 x (omega arith)
-all_more P (x ∷ xs) y before last (suc k) d inside = all_more P xs y (λ j e there. before (suc j) e (omega (arith, there))) last k d (omega (arith, inside))
-
 pub cut_more : {X V : Type 0} (f : X → List ℕ) (h : V → List (List (List ℕ))) (borders : List ℕ) (done : List X) (x : X) (cut new : List V) (v : V) → new ≡ cut ++ v ∷ [] → AreCut borders (map f done) (map h cut)
-    → All (λ (parts : List (List ℕ)). length parts + 1 ≡ length borders) (h v) → ((p : ℕ) → p + 1 < length borders → part_of (h v) p ≡ between borders p (p + 1) (f x))
+    → IsCut borders (f x) (h v)
     → AreCut borders (map f (done ++ x ∷ [])) (map h new)
-cut_more f h borders done x cut new v is before many each =
+cut_more f h borders done x cut new v is before is_cut =
     let both : map h new ≡ map h cut ++ h v ∷ [] = ap (map h) is ∙ map-append h cut (v ∷ []) in
     record {
       many = subst (All (λ (pieces : List (List (List ℕ))). All (λ (parts : List (List ℕ)). length parts + 1 ≡ length borders) pieces)) (sym both)
-          (all_more (λ (pieces : List (List (List ℕ))). All (λ (parts : List (List ℕ)). length parts + 1 ≡ length borders) pieces) (map h cut) (h v) before.many many);
+          (all_both (λ (pieces : List (List (List ℕ))). All (λ (parts : List (List ℕ)). length parts + 1 ≡ length borders) pieces) (map h cut) (h v ∷ []) before.many (All-cons (All (λ (parts : List (List ℕ)). length parts + 1 ≡ length borders)) (h v) [] is_cut.many (All-nil (All (λ (parts : List (List ℕ)). length parts + 1 ≡ length borders)))));
       each = λ p inside.
           ap (map (λ pieces. part_of pieces p)) both
           ∙ map-append (λ pieces. part_of pieces p) (map h cut) (h v ∷ [])
-          ∙ (λ j. before.each p inside j ++ each p inside j ∷ [])
+          ∙ (λ j. before.each p inside j ++ is_cut.each p inside j ∷ [])
           ∙ sym (ap (map (between borders p (p + 1))) (map-append f done (x ∷ [])) ∙ map-append (between borders p (p + 1)) (map f done) (f x ∷ []));
     }

@@ -24,7 +24,12 @@ pub record AreParts (borders keys : List ℕ) (parts : List (List ℕ)) : Type 0
 abbrev pub part_of : List (List (List ℕ)) → ℕ → List ℕ
 part_of pieces p = flat_map (λ parts. get_or parts p []) pieces
 
--- lists in pieces, each piece in parts, have in each part what the lists have there
+-- a list in pieces, each piece in parts, has in each part what the list has there
+pub record IsCut (borders keys : List ℕ) (pieces : List (List (List ℕ))) : Type 0 where
+  pub many : All (λ (parts : List (List ℕ)). length parts + 1 ≡ length borders) pieces
+  pub each : (p : ℕ) → p + 1 < length borders → part_of pieces p ≡ between borders p (p + 1) keys
+
+-- the same of several lists
 pub record AreCut (borders : List ℕ) (lists : List (List ℕ)) (cut : List (List (List (List ℕ)))) : Type 0 where
   pub many : All (λ (pieces : List (List (List ℕ))). All (λ (parts : List (List ℕ)). length parts + 1 ≡ length borders) pieces) cut
   pub each : (p : ℕ) → p + 1 < length borders → map (λ pieces. part_of pieces p) cut ≡ map (between borders p (p + 1)) lists

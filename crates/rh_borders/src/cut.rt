@@ -62,7 +62,7 @@ fn counted(alloc: Global, numbers: &[u16], parts: usize) -> Result<Vec<usize>, A
 }
 
 /// The keys of a piece part by part, each part in the order of the piece.
-pub(crate) fn cut(alloc: Global, borders: &[u64], keys: &[u64]) -> Result<Parts, AllocError>
+pub(crate) fn cut_piece(alloc: Global, borders: &[u64], keys: &[u64]) -> Result<Parts, AllocError>
     requires borders { AreBorders borders.now }
     requires few { length borders.now ≤ MOST_PARTS + 1 }
     requires keys { All IsKey keys.now }

@@ -1,16 +1,17 @@
 //! All lists are cut into parts, piece beside piece.
 
-ghost use Rattle.std.specs.Prelude.{◌≡◌, ℕ, ◌+◌, ◌<◌, ◌≤◌, All, IfOk, Ok, length, map, slice_index_or};
+ghost use Rattle.std.specs.Thread.{IsSync};
+ghost use Rattle.std.specs.Prelude.{◌≡◌, ◌+◌, ◌<◌, ◌≤◌, All, IfOk, length, map};
 ghost use Rattle.std.specs.List.{flat_map};
 ghost use Rattle.rh_layout.specs.Key.{IsKey};
-ghost use Rattle.rh_borders.specs.Borders.{AreBorders, AreCut, AreParts, between, part_of};
+ghost use Rattle.rh_borders.specs.Borders.{AreBorders, AreCut, IsCut};
 ghost use Rattle.rh_borders.specs.declared.borders.TheConstants.{MOST_PARTS};
 
 use crate::borders::{borders, keys_in};
-use crate::cut::cut;
+use crate::cut::cut_piece;
 use crate::parts::Parts;
+use rh_forks::both;
 use std::alloc::{AllocError, Global};
-use std::thread;
 use std::thread::Threads;
 
 /// Lists in pieces, each piece in parts, and the borders of these.
@@ -32,75 +33,62 @@ impl CutLists {
     }
 }
 
-/// Slots for so many pieces, before these are cut.
-fn slots(alloc: Global, many: usize) -> Result<Vec<Result<Parts, AllocError>>, AllocError>
-    ensures { IfOk result (λ v. length v.items ≡ many) }
+/// Each of the pieces, cut.
+fn cut_each(alloc: Global, borders: &[u64], pieces: &[Vec<u64>]) -> Result<Vec<Parts>, AllocError>
+    requires borders { AreBorders borders.now }
+    requires few { length borders.now ≤ MOST_PARTS + 1 }
+    requires keys { All (λ k. All IsKey k.items) pieces.now }
+    ensures { IfOk result (λ v. IsCut borders.now (flat_map (λ k. k.items) pieces.now) v.items) }
 {
-    let mut slots = Vec::with_capacity(alloc, many)?;
-    for _ in 0..many {
-        slots.push(Err(AllocError))?;
+    let mut cut = Vec::with_capacity(alloc, pieces.len())?;
+    for piece in pieces {
+        let parts = cut_piece(alloc, borders, piece)?;
+        cut.push(parts)?;
     }
-    Ok(slots)
+    Ok(cut)
 }
 
-/// Each piece of a list, cut by one of the workers. Where no thread can be started the caller does its work.
+/// The same by so many workers: each half of them cuts about half of the pieces, while the caller waits.
+/// Where no thread can be started, one half is cut after the other.
+#[cycle(halves)]
 fn cut_pieces<T: Threads + Sync>(
     rt: &T,
     alloc: Global,
     workers: usize,
     borders: &[u64],
     pieces: &[Vec<u64>],
-) -> Result<Vec<Result<Parts, AllocError>>, AllocError>
-    requires workers { 0 < workers }
-    requires borders { AreBorders borders.now }
-    requires few { length borders.now ≤ MOST_PARTS + 1 }
-    requires keys { All (λ k. All IsKey k.items) pieces.now }
-    ensures len { IfOk result (λ v. length v.items ≡ length pieces.now) }
-    ensures each { IfOk result (λ v. (i : ℕ) (d : _) (e : _) → i < length pieces.now →
-        IfOk (slice_index_or v.items i e) (λ parts.
-        AreParts borders.now (slice_index_or pieces.now i d).items parts)) }
-{
-    let mut slots = slots(alloc, pieces.len())?;
-    thread::for_each_mut(
-        rt,
-        slots.as_mut_slice(),
-        workers,
-        &|i, slot| *slot = cut(alloc, borders, &pieces[i]),
-    );
-    Ok(slots)
-}
-
-/// What stands in all slots, where memory sufficed for each.
-fn all_cut(alloc: Global, slots: Vec<Result<Parts, AllocError>>) -> Result<Vec<Parts>, AllocError>
-    ensures { IfOk result (λ v. map Ok v.items ≡ slots.items) }
-{
-    let mut cut = Vec::with_capacity(alloc, slots.len())?;
-    for slot in slots {
-        let parts = slot?;
-        cut.push(parts)?;
-    }
-    Ok(cut)
-}
-
-/// The pieces of a list, cut. They are dropped then.
-fn cut_list<T: Threads + Sync>(
-    rt: &T,
-    alloc: Global,
-    workers: usize,
-    borders: &[u64],
-    pieces: Vec<Vec<u64>>,
 ) -> Result<Vec<Parts>, AllocError>
     requires workers { 0 < workers }
     requires borders { AreBorders borders.now }
     requires few { length borders.now ≤ MOST_PARTS + 1 }
-    requires keys { All (λ k. All IsKey k.items) pieces.items }
-    ensures many { IfOk result (λ v. All (λ parts. length parts + 1 ≡ length borders.now) v.items) }
-    ensures parts { IfOk result (λ v. (p : ℕ) → p + 1 < length borders.now →
-        part_of v.items p
-        ≡ between borders.now p (p + 1) (flat_map (λ k. k.items) pieces.items)) }
+    requires keys { All (λ k. All IsKey k.items) pieces.now }
+    ensures { IfOk result (λ v. IsCut borders.now (flat_map (λ k. k.items) pieces.now) v.items) }
 {
-    let slots = cut_pieces(rt, alloc, workers, borders, &pieces)?;
-    let cut = all_cut(alloc, slots)?;
+    if workers == 1 {
+        return cut_each(alloc, borders, pieces);
+    }
+    let first = workers / 2;
+    let others = workers - first;
+    let at = pieces
+        .len()
+        .div_ceil(workers)
+        .saturating_mul(first)
+        .min(pieces.len());
+    let (front, back) = pieces.split_at(at);
+    let theirs = move || -> Result<Vec<Parts>, AllocError>
+        requires { IsSync T.row × (0 < first) × AreBorders borders.now
+            × (length borders.now ≤ MOST_PARTS + 1) × All (λ k. All IsKey k.items) front.now }
+        ensures { IfOk result (λ v. IsCut borders.entry.now (flat_map (λ k. k.items) front.entry.now) v.items) }
+    { cut_pieces(rt, alloc, first, borders, front) };
+    let ours = move || -> Result<Vec<Parts>, AllocError>
+        requires { IsSync T.row × (0 < others) × AreBorders borders.now
+            × (length borders.now ≤ MOST_PARTS + 1) × All (λ k. All IsKey k.items) back.now }
+        ensures { IfOk result (λ v. IsCut borders.entry.now (flat_map (λ k. k.items) back.entry.now) v.items) }
+    { cut_pieces(rt, alloc, others, borders, back) };
+    let (before, behind) = both(rt, theirs, ours);
+    let mut cut = before?;
+    let mut rest = behind?;
+    cut.append(&mut rest)?;
     Ok(cut)
 }
 
@@ -123,7 +111,7 @@ pub fn cut_lists<T: Threads + Sync>(
     let borders = borders(alloc, &lists, keys)?;
     let mut cut = Vec::with_capacity(alloc, lists.len())?;
     for pieces in lists {
-        let list = cut_list(rt, alloc, workers, &borders, pieces)?;
+        let list = cut_pieces(rt, alloc, workers, &borders, &pieces)?;
         cut.push(list)?;
     }
     Ok(CutLists {

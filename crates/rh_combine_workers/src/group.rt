@@ -8,8 +8,8 @@ use crate::form::spell;
 use crate::part::of_parts;
 use crate::wanted::Wanted;
 use rh_borders::CutLists;
+use rh_forks::map_indices;
 use std::alloc::{AllocError, Global};
-use std::thread;
 use std::thread::Threads;
 
 /// What came of a group of parts: its bytes, and how many numbers it was.
@@ -66,7 +66,7 @@ pub(crate) fn groups<T: Threads + Sync>(
     ensures each { IfOk result (λ v. (i : ℕ) (d : _) → i < workers →
         TellsGroup wanted cut.now first size i (slice_index_or v.items i d)) }
 {
-    thread::map_indices(
+    map_indices(
         rt,
         alloc,
         workers,

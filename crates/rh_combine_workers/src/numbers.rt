@@ -11,8 +11,8 @@ use crate::group::edge;
 use crate::part::of_parts;
 use rh_borders::{CutLists, cut_lists};
 use rh_combine::How;
+use rh_forks::map_indices;
 use std::alloc::{AllocError, Global};
-use std::thread;
 use std::thread::Threads;
 
 /// What one worker makes of its share, of those of so many parts.
@@ -48,7 +48,7 @@ fn shares<T: Threads + Sync>(
     ensures each { IfOk result (λ v. (i : ℕ) (d : _) → i < workers →
         TellsShare (λ w. w.items) how cut.now size i (slice_index_or v.items i d)) }
 {
-    thread::map_indices(rt, alloc, workers, &|i| share_at(alloc, how, cut, size, i))
+    map_indices(rt, alloc, workers, &|i| share_at(alloc, how, cut, size, i))
 }
 
 /// All shares, where memory sufficed for each.

@@ -33,8 +33,8 @@ pub(crate) fn read_short_text(alloc: Global, bytes: &[u8]) -> Result<KeyList, Te
     text.end_text(alloc)
 }
 
-/// Reads the rest of a text that begins so, in blocks of so many bytes. The first one is small, so that
-/// a short text takes little memory.
+/// Reads the rest of a text that begins so, in blocks of so many bytes. The first one is small, and read
+/// by one worker, so that a short text takes little memory and no thread.
 pub(crate) fn read_text<T: Threads + Sync, R: Read, P: Progress>(
     rt: &T,
     alloc: Global,
@@ -63,9 +63,9 @@ pub(crate) fn read_text<T: Threads + Sync, R: Read, P: Progress>(
     let Filled { count, failed } = fill_front(reader, &mut first);
     progress.read(count);
     if count < first.len() {
-        return last_block(rt, alloc, workers, front, &first[..count], failed);
+        return last_block(rt, alloc, 1, front, &first[..count], failed);
     }
-    let Ok(part) = read_part(rt, alloc, workers, front.so_far(), &first) else {
+    let Ok(part) = Part::read(alloc, front.so_far(), &first) else {
         return Err(TextFault::Memory);
     };
     let text = front.more(part)?;

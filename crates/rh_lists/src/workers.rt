@@ -6,12 +6,13 @@ ghost use Rattle.rh_numbers.specs.Chunks.{EndsLine, last_of};
 ghost use Rattle.rh_lists.specs.Parts.{IsReadTo};
 
 use crate::part::Part;
+use rh_forks::both;
 use rh_numbers::LineSoFar;
 use std::alloc::{AllocError, Global};
-use std::thread::{Threads, join};
+use std::thread::Threads;
 
 /// The first place from this one on at which a line begins behind another one.
-fn line_from(bytes: &[u8], from: usize) -> Option<usize>
+pub(crate) fn line_from(bytes: &[u8], from: usize) -> Option<usize>
     ensures { IfSome result (λ at. (0 < at) × (at < length bytes.now) × (slice_index bytes.now (at - 1) ≡ 10)) }
 {
     for at in from.max(1)..bytes.len() {
@@ -23,8 +24,8 @@ fn line_from(bytes: &[u8], from: usize) -> Option<usize>
 }
 
 /// Reads the bytes, before which the line has said so much, by so many workers: they are cut where a
-/// line begins, and both halves of the workers read their part side by side. Where no thread can be
-/// started, one half reads after the other.
+/// line begins, and both halves of the workers read their part side by side, while the caller waits.
+/// Where no thread can be started, one half reads after the other.
 #[cycle(halves)]
 pub(crate) fn read_part<T: Threads + Sync>(
     rt: &T,
@@ -59,7 +60,7 @@ pub(crate) fn read_part<T: Threads + Sync>(
             × (part.lines ≤ length back.entry.now)
             × (last_of back.entry.now ≡ 10 → EndsLine part.end)) }
     { read_part(rt, alloc, others, LineSoFar::Start, back) };
-    let (before, behind) = join(rt, theirs, ours);
+    let (before, behind) = both(rt, theirs, ours);
     let before = before?;
     let behind = behind?;
     before.then(behind)

@@ -1,10 +1,10 @@
-use Rattle.std.proofs.Common.{◌≡◌, ◌∙◌, ◌+◌, ◌<◌, ap, length, subst, sym, ℕ, List}
-use Rattle.std.specs.Prelude.{All, map}
+use Rattle.std.proofs.Common.{◌≡◌, ◌∙◌, ap, subst, sym, ℕ, List}
+use Rattle.std.specs.Prelude.{map}
 use Rattle.std.specs.List.{flat_map}
 use Rattle.std.proofs.lemmas.List.{map-id}
 use Rattle.std.proofs.lemmas.Iterator.Adapters.{YieldsList-from_vec}
 use Rattle.std.proofs.lemmas.Iterator.Consumers.{YieldsList-end}
-use Rattle.rh_borders.specs.Borders.{AreCut, between, part_of}
+use Rattle.rh_borders.specs.Borders.{AreCut, IsCut}
 use Rattle.rh_borders.proofs.CutLemmas.{cut_more, none_cut}
 use Rattle.rh_borders.proofs.lists.cut_lists.Goals as goal
 
@@ -19,8 +19,7 @@ loop-pieces-preserved g c =
     let same = c.deref-in-loop-pieces.ensures.value in
     cut_more (λ v. flat_map (λ k. k.items) v.items) (λ v. v.items) borders c.loop-pieces.yielded c.in-Some.pieces c.loop-pieces.cut.items c.push.new.self.items c.in_ok-list.list
     c.in_ok-push.ensures.items c.loop-pieces.invariant
-    (subst (λ (bs : List ℕ). All (λ (parts : List (List ℕ)). length parts + 1 ≡ length bs) pieces) same c.in_ok-list.ensures.many)
-    (subst (λ (bs : List ℕ). (p : ℕ) → p + 1 < length bs → part_of pieces p ≡ between bs p (p + 1) keys) same c.in_ok-list.ensures.parts)
+    (subst (λ (bs : List ℕ). IsCut bs keys pieces) same (subst (λ ps. IsCut c.deref-in-loop-pieces.result.now (flat_map (λ k. k.items) ps) pieces) c.deref-in-loop-pieces-2.ensures.value c.in_ok-list.ensures))
 
 pub returns-clause-cut : goal.returns-clause-cut
 returns-clause-cut g c =

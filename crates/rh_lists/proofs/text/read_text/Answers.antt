@@ -29,9 +29,9 @@ returns-in_err-text-clause-known g c =
     let size : c.len.result ≡ length buf = search rules in
     let all : take n buf ≡ buf = take_all n buf (omega (arith, size)) in
     let comes : Consumes start now buf = subst (Consumes start now) all c.fill_front-count.ensures.bytes in
-    let part = c.in-Ok-read_part.part in
+    let part = c.in-Ok-read.part in
     let same : c.deref-2.result.now ≡ buf = c.deref-2.ensures.value ∙ take_at buf (drop (length buf) c.in-Ok-vec.first.items) c.in-Ok-vec.first.len len in
-    let here : IsReadTo (so_far_of c.in-Ok.front) buf part = subst (λ s. IsReadTo s buf part) c.so_far.ensures (subst (λ l. IsReadTo c.so_far.result l part) same c.in-Ok-read_part.ensures.read) in
+    let here : IsReadTo (so_far_of c.in-Ok.front) buf part = subst (λ s. IsReadTo s buf part) c.so_far.ensures (subst (λ l. IsReadTo c.so_far.result l part) same c.in-Ok-read.ensures.read) in
     let p = err_from_is_err_and c.from_residual.result c.from_residual.ensures.1 in
     rw (p.1, p.2) (block_refused _ _ _ _ buf c.in-Ok.front c.in_err-text.field-0.0 (first_going _ start now c.in-Ok.front buf c.in-Ok.ensures.read comes) (λ b rest r. c.in_err-text.ensures.read b buf rest r here))
 
@@ -45,9 +45,9 @@ returns-clause-known g c =
     let size : c.len.result ≡ length buf = search rules in
     let all : take n buf ≡ buf = take_all n buf (omega (arith, size)) in
     let comes : Consumes start now buf = subst (Consumes start now) all c.fill_front-count.ensures.bytes in
-    let part = c.in-Ok-read_part.part in
+    let part = c.in-Ok-read.part in
     let same : c.deref-2.result.now ≡ buf = c.deref-2.ensures.value ∙ take_at buf (drop (length buf) c.in-Ok-vec.first.items) c.in-Ok-vec.first.len len in
-    let here : IsReadTo (so_far_of c.in-Ok.front) buf part = subst (λ s. IsReadTo s buf part) c.so_far.ensures (subst (λ l. IsReadTo c.so_far.result l part) same c.in-Ok-read_part.ensures.read) in
+    let here : IsReadTo (so_far_of c.in-Ok.front) buf part = subst (λ s. IsReadTo s buf part) c.so_far.ensures (subst (λ l. IsReadTo c.so_far.result l part) same c.in-Ok-read.ensures.read) in
     block_first c.args.begun.now start now _ buf c.read_on.result comes
     (c.read_on.ensures.known (c.args.begun.now ++ buf) (c.in_ok-text.ensures.read c.args.begun.now buf c.in-Ok.ensures.read here))
 

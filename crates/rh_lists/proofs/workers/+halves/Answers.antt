@@ -12,7 +12,7 @@ returns-clause-whole g t c =
     let bytes = c.args.bytes.now in
     let at = c.in-Some.at in
     let back : c.split_at.result.1.now ≡ drop at bytes = c.split_at.ensures.back in
-    let second = IfOk-at_ok (λ part. IsReadTo Start c.split_at.result.1.now part × (part.lines ≤ length c.split_at.result.1.now) × (last_of c.split_at.result.1.now ≡ 10 → EndsLine part.end)) c.in_ok-behind.was c.join-before.ensures.second in
+    let second = IfOk-at_ok (λ part. IsReadTo Start c.split_at.result.1.now part × (part.lines ≤ length c.split_at.result.1.now) × (last_of c.split_at.result.1.now ≡ 10 → EndsLine part.end)) c.in_ok-behind.was c.both-before.ensures.second in
     IfOk-weaker c.then.result _ _ (λ part ends feed. ends (second.2 (ap last_of back ∙ last_of_rest bytes at c.in-Some.ensures.1 ∙ feed))) c.then.ensures.whole
 
 pub returns-clause-read : goal.returns-clause-read
@@ -21,8 +21,8 @@ returns-clause-read g t c =
     let front = c.split_at.result.0.now in
     let back = c.split_at.result.1.now in
     let at = c.in-Some.at in
-    let first = IfOk-at_ok (λ part. IsReadTo c.args.so_far front part × (part.lines ≤ length front) × (last_of front ≡ 10 → EndsLine part.end)) c.in_ok-before.was c.join-before.ensures.first in
-    let second = IfOk-at_ok (λ part. IsReadTo Start back part × (part.lines ≤ length back) × (last_of back ≡ 10 → EndsLine part.end)) c.in_ok-behind.was c.join-before.ensures.second in
+    let first = IfOk-at_ok (λ part. IsReadTo c.args.so_far front part × (part.lines ≤ length front) × (last_of front ≡ 10 → EndsLine part.end)) c.in_ok-before.was c.both-before.ensures.first in
+    let second = IfOk-at_ok (λ part. IsReadTo Start back part × (part.lines ≤ length back) × (last_of back ≡ 10 → EndsLine part.end)) c.in_ok-behind.was c.both-before.ensures.second in
     let next = c.in_ok-behind.behind in
     let feed : last_of front ≡ 10 = ap last_of c.split_at.ensures.front ∙ last_of_front bytes at c.in-Some.ensures.0 (omega (arith, c.in-Some.ensures.1)) c.in-Some.ensures.2 in
     let anew : so_far_of c.in_ok-before.before ≡ Start = starts_anew c.in_ok-before.before.end (first.2 feed) in

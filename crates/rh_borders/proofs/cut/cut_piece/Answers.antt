@@ -4,7 +4,7 @@ use Rattle.std.proofs.lemmas.Bool.{cases_eq}
 use Rattle.std.proofs.lemmas.List.{take_all}
 use Rattle.rh_borders.specs.Borders.{between}
 use Rattle.rh_borders.proofs.CutLemmas.{key_elsewhere, key_more}
-use Rattle.rh_borders.proofs.cut.cut.Goals as goal
+use Rattle.rh_borders.proofs.cut.cut_piece.Goals as goal
 
 pub loop-i-preserved : goal.loop-i-preserved
 loop-i-preserved c =

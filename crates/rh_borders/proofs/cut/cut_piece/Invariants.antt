@@ -1,6 +1,6 @@
 use Rattle.std.proofs.Common.{◌≡◌, ℕ, ◌+◌, ◌<◌, [], get_or, length, take}
 use Rattle.rh_borders.specs.Borders.{between}
-use Rattle.rh_borders.proofs.cut.cut.Given as goal
+use Rattle.rh_borders.proofs.cut.cut_piece.Given as goal
 
 abbrev pub invariant-loop-i : goal.invariant-loop-i
 invariant-loop-i l = record {
