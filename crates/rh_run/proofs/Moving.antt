@@ -3,7 +3,6 @@ use Rattle.std.proofs.Common.{ℕ, ◌<◌, List, [], ◌∷◌, ◌++◌}
 use Rattle.std.specs.List.{Contains}
 use Rattle.rh_layout.specs.Layout.{Keys, Layout}
 use Rattle.rh_words.specs.Parts.{IsShape}
-use Rattle.rh_ledger.specs.Phase.{set_after}
 use Rattle.rh_acts.specs.Act.{apply_acts}
 use Rattle.rh_acts.specs.Workers.{LeavesRoom, acts_of}
 use Rattle.rh_run.specs.History.{history}
@@ -19,30 +18,31 @@ goes_on r (RunMove.steps who k s word then next answer) shape some it run = run_
 goes_on r (RunMove.claims who word then next) shape some it run = run_claims r who word then next shape it.within it.allowed it.made run
 goes_on r (RunMove.round then cells) shape some it run = run_rounds r then cells shape some it.rest it.cells_are it.wiped run
 
--- what the cells stand for reflects what is done, now and after any moves
-module _ (S : Keys) (all : List ℕ) where
+-- what the cells stand for is the first set, changed, and reflects what is done, now and after any moves
+module _ (S : Keys) (keys : ℕ → List ℕ) (all : List ℕ) where
   keeps : (r : Run) → IsShape r.shape → Layout r.opening r.shape.bits S → ((v k : ℕ) → v < r.shape.workers → Contains (r.keys v) k → Contains all k)
-      → LeavesRoom r.kind r.shape.bits S all → RunInvariant r → KeepsKeys r
-  keeps r shape layout asked room run =
+      → ((v k : ℕ) → Contains (r.keys v) k → Contains (keys v) k) → LeavesRoom r.kind r.shape.bits S all → RunInvariant r → KeepsKeys S keys r
+  keeps r shape layout asked given room run =
       let moment = run_moment r S all run shape layout asked room in
       record {
         cells = apply_acts (acts_of (run.before ++ history run.world)) r.opening;
         stand = moment.acts.cells;
-        set = set_after r.kind S moment.so_far;
+        so_far = moment.so_far;
+        among = λ k there. let of = moment.among k there in (of.0, of.1, given of.0 k of.2);
         layout = moment.layout (apply_acts (acts_of (run.before ++ history run.world)) r.opening) moment.acts.cells;
         reflects = moment.reflects;
       }
 
   keeps_on : (r : Run) (moves : List RunMove) → IsShape r.shape → 0 < r.shape.workers → Layout r.opening r.shape.bits S → ((v k : ℕ) → v < r.shape.workers → Contains (r.keys v) k → Contains all k)
-      → LeavesRoom r.kind r.shape.bits S all → AreNext r moves → RunInvariant r → KeepsKeys (after_all r moves)
-  keeps_on r [] shape some layout asked room next run = keeps r shape layout asked room run
-  keeps_on r (RunMove.steps who k s word then view answer ∷ moves) shape some layout asked room next run =
-      let m = RunMove.steps who k s word then view answer in keeps_on (after r m) moves shape some layout asked room next.1 (goes_on r m shape some next.0 run)
-  keeps_on r (RunMove.claims who word then view ∷ moves) shape some layout asked room next run =
-      let m = RunMove.claims who word then view in keeps_on (after r m) moves shape some layout asked room next.1 (goes_on r m shape some next.0 run)
-  keeps_on r (RunMove.round then cells ∷ moves) shape some layout asked room next run =
-      let m = RunMove.round then cells in keeps_on (after r m) moves shape some layout asked room next.1 (goes_on r m shape some next.0 run)
+      → ((v k : ℕ) → Contains (r.keys v) k → Contains (keys v) k) → LeavesRoom r.kind r.shape.bits S all → AreNext r moves → RunInvariant r → KeepsKeys S keys (after_all r moves)
+  keeps_on r [] shape some layout asked given room next run = keeps r shape layout asked given room run
+  keeps_on r (RunMove.steps who k s word then view answer ∷ moves) shape some layout asked given room next run =
+      let m = RunMove.steps who k s word then view answer in keeps_on (after r m) moves shape some layout asked given room next.1 (goes_on r m shape some next.0 run)
+  keeps_on r (RunMove.claims who word then view ∷ moves) shape some layout asked given room next run =
+      let m = RunMove.claims who word then view in keeps_on (after r m) moves shape some layout asked given room next.1 (goes_on r m shape some next.0 run)
+  keeps_on r (RunMove.round then cells ∷ moves) shape some layout asked given room next run =
+      let m = RunMove.round then cells in keeps_on (after r m) moves shape some layout asked given room next.1 (goes_on r m shape some next.0 run)
 
 pub no_key_is_lost : NoKeyIsLost
 no_key_is_lost kind z cells S keys all moves shape some layout asked room next =
-    keeps_on S all (started kind z cells keys) moves shape some layout asked room next (run_starts kind z cells keys shape layout.size)
+    keeps_on S keys all (started kind z cells keys) moves shape some layout asked (λ v k there. there) room next (run_starts kind z cells keys shape layout.size)

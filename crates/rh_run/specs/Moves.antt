@@ -3,6 +3,7 @@ use Rattle.std.specs.Prelude.{◌≡◌, ℕ, ◌<◌, Option, Bool, List, [], �
 use Rattle.std.specs.List.{Contains}
 use Rattle.rh_layout.specs.Layout.{Keys, Layout}
 use Rattle.rh_ledger.specs.declared.tally.Kind.{Kind}
+use Rattle.rh_ledger.specs.Phase.{set_after}
 use Rattle.rh_words.specs.declared.shape.Shape.{Shape}
 use Rattle.rh_words.specs.Parts.{IsShape, cell_count}
 use Rattle.rh_words.specs.View.{View, round_view}
@@ -67,17 +68,20 @@ AreNext r (m ∷ moves) = MayCome r m × AreNext (after r m) moves
 
 -- ---- what they keep
 
--- The cells stand for the layout of a set, and that reflects each key that a worker has done.
-pub record KeepsKeys (r : Run) : Type 0 where
+-- The cells stand for the layout of the set of the start, changed by some keys that the workers were given: so a key that was held
+-- is there unless it was removed, and none is there that was neither held nor inserted. And that set reflects each key that a
+-- worker has done.
+pub record KeepsKeys (S : Keys) (keys : ℕ → List ℕ) (r : Run) : Type 0 where
   pub cells : List ℕ
   pub stand : AreNow r.shape r.words r.keep cells
-  pub set : Keys
-  pub layout : Layout cells r.shape.bits set
-  pub reflects : (v k : ℕ) → v < r.shape.workers → Contains (r.done v) k → Reflects r.kind set k
+  pub so_far : List ℕ
+  pub among : (k : ℕ) → Contains so_far k → (v : ℕ) × (v < r.shape.workers) × Contains (keys v) k
+  pub layout : Layout cells r.shape.bits (set_after r.kind S so_far)
+  pub reflects : (v k : ℕ) → v < r.shape.workers → Contains (r.done v) k → Reflects r.kind (set_after r.kind S so_far) k
 
--- Whatever moves come after the start of a phase that has room for its keys, no key that is done is lost.
+-- Whatever moves come after the start of a phase that has room for its keys, no key is lost, of those that were held or are done.
 abbrev pub NoKeyIsLost : Type 0
 NoKeyIsLost = (kind : Kind) (z : Shape) (cells : List ℕ) (S : Keys) (keys : ℕ → List ℕ) (all : List ℕ) (moves : List RunMove)
     → IsShape z → 0 < z.workers → Layout cells z.bits S
     → ((v k : ℕ) → v < z.workers → Contains (keys v) k → Contains all k) → LeavesRoom kind z.bits S all
-    → AreNext (started kind z cells keys) moves → KeepsKeys (after_all (started kind z cells keys) moves)
+    → AreNext (started kind z cells keys) moves → KeepsKeys S keys (after_all (started kind z cells keys) moves)

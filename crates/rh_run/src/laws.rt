@@ -44,8 +44,10 @@ pub fn only_success_changes()
 {}
 
 /// Helping loses no key. Whatever moves a run makes after its start, a worker's steps for its own
-/// descriptors and for those of others among them, each key that a worker has done shows in the set
-/// that the cells stand for: a key added is there, a key removed is not.
+/// descriptors and for those of others among them, the cells stand for the set of the start, changed by
+/// some keys that the workers were given: what was held and not removed is there, and nothing else
+/// but what was inserted. And each key that a worker has done shows: a key added is there, a key removed
+/// is not.
 pub fn no_key_is_lost()
     ensures { NoKeyIsLost }
 {}

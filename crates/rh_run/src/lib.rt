@@ -39,7 +39,8 @@
 //!   of the acts so far. Each key that is done shows in it. Each key that was asked for is answered
 //!   by whether the first set holds it.
 //! - `no_key_is_lost`: whatever moves a run makes from its start, in a phase that has room for its
-//!   keys, the cells stand for the layout of a set. Each key that a worker has done shows in it.
+//!   keys, the cells stand for the layout of the set of the start, changed by keys that the workers
+//!   were given. Each key that a worker has done shows in it.
 //! - `run_ends`: where each worker has done its list and all are at rest, the cells are the layout
 //!   that one worker makes of the joined lists. The tallies add up to its tally. So it is for one
 //!   list that the workers claimed to its end.
