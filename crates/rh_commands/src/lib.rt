@@ -7,6 +7,7 @@
 //!
 //! - `line::line`: the command is the one that the words name, by the rules of `clap`, with what they
 //!   give. It is refused exactly by the kinds of fault that those rules give.
+//! - `fixed_numbers`: at most 16 workers are taken.
 //!
 //! Proved, for every reader and writer whose bytes are known:
 //!
@@ -31,8 +32,10 @@
 
 mod check;
 mod dump;
+mod laws;
 mod limits;
 pub mod line;
 
 pub use check::{CheckFault, check_snapshot};
 pub use dump::{DumpFault, dump_keys};
+pub use laws::fixed_numbers;

@@ -26,6 +26,7 @@
 //!   whole, and then put at their places. Else each that was made was removed again. Files are put
 //!   at their places only once all are whole.
 //! - `is_name` is exact.
+//! - `fixed_numbers`: how long a name is, and by how many keys and bytes parts are chosen.
 //!
 //! Of real files no contract says which bytes stand there, nor that the system removes one.
 #![tactic(auto)]
@@ -42,7 +43,7 @@ mod splitting;
 
 pub use fault::{FilesFault, SplitFault};
 pub use files::PartFiles;
-pub use laws::whole_part;
+pub use laws::{fixed_numbers, whole_part};
 pub use name::{MAX_NAME_BYTES, is_name};
 pub use number::{KEYS_A_PART, parts_chosen, parts_for};
 pub use part::Part;

@@ -10,13 +10,16 @@
 //! - `leaf`, `labelled`: where memory is there, the text grew by exactly that of an element that
 //!   holds nothing, or this text. In a text each `<`, `>` and `&` stands as a reference, and what
 //!   is no printable character as a `?`.
+//! - `fixed_numbers`: there are as many colours as a play may have workers.
 #![tactic(auto)]
 
+mod laws;
 mod looks;
 mod markup;
 mod outlines;
 mod tags;
 
+pub use laws::fixed_numbers;
 pub use looks::Look;
 pub use markup::{labelled, leaf};
 pub use tags::{Tag, close, open};
