@@ -32,11 +32,11 @@ fn numbers_of(text: &[u8]) -> Vec<u64> {
     let mut at = 0;
     while at < text.len() {
         let (mut number, mut end) = (0u64, at);
-        while end < text.len() && text[end].is_ascii_digit() && end < at + 18 {
+        while end < text.len() && text[end].is_ascii_digit() && end < at + 19 {
             number = number * 10 + u64::from(text[end] - b'0');
             end += 1;
         }
-        if end > at && text.get(end) == Some(&b'\n') {
+        if end > at && number <= MAX_KEY && text.get(end) == Some(&b'\n') {
             keys.push(number);
             at = end + 1;
             continue;
