@@ -6,6 +6,10 @@ Names. `rt ci` does all of the gate but two things. It calls `add_edits` for eac
 a crate, in OF_A_CRATE. A task stands under the crate's name and its kind: what it waits for, its work, its memory, and a call. Each
 call is given the same table of what the tasks that have ended came to, which fills while they run.
 
+Releases. One keeps what proofs and edits came to between runs, and takes names of crates: it has the names in KEEPING too. An
+older one begins each run from nothing, with all crates: it has those in ANEW. There a task of edits is made by `rt ci`, its call
+has the crate as a default, and it comes to what edits there are and what each came to.
+
 Words of a call. `rattle check` takes a library as source (`--lib NAME:USES=FILE`), named functions alone (`--only`), and a folder
 of what earlier checks proved (`--incremental`).
 
@@ -25,10 +29,8 @@ import typing
 
 import toolchain
 
-RELEASES = ("rattle-kit-13f",)
 CALLS = {
     "main": "words",
-    "add_edits": "tasks crate edits first waits is_well kept start in_ci",
     "in_lanes": "tasks",
     "checked": "crate texts flags kept",
     "must_fail": "crate edit flags kept",
@@ -39,15 +41,21 @@ CALLS = {
     "free": "",
     "say": "text out",
     "Crate.below": "self",
+    "rtlib.guarded": "",
+    "rtlib.text_of": "file",
+}
+KEEPING = {
+    "add_edits": "tasks crate edits first waits is_well kept start in_ci",
     "Kept.key": "self crate",
     "Kept.of_edit": "self edit sum",
     "Kept.tried": "self name",
     "Kept.keep_tried": "self name kind text",
     "Kept.is_untouched": "self crate",
-    "rtlib.guarded": "",
-    "rtlib.text_of": "file",
 }
-VALUES = "KIT REFUSED MISSED SETTLED rtlib.PARTS rtlib.RATTLE rtlib.STALE"
+ANEW = {"crates_of": "root aside", "edits_of": "crate"}
+RELEASES = {"rattle-kit-13f": KEEPING, "rattle-kit-13b": ANEW}
+VALUES = "KIT rtlib.PARTS rtlib.RATTLE rtlib.STALE"
+OF_KEEPING = "REFUSED MISSED SETTLED"
 OF_A_CRATE = "name folder deps of_kit rlib is_program is_static"
 ONE_JOB = ["--jobs", "1"]
 
@@ -75,6 +83,8 @@ NOT_FOUND = re.compile(r"`omega`: the goal does not follow|`search`: no proof of
 ABOVE = "above_edits"
 
 rt = toolchain.load("rt")
+# What `rt` calls an edit that is refused, and one that is not; and which of them an earlier run settles.
+REFUSED, MISSED, SETTLED = getattr(rt, "REFUSED", True), getattr(rt, "MISSED", False), getattr(rt, "SETTLED", ())
 
 
 def found(name):
@@ -85,17 +95,23 @@ def found(name):
     return it
 
 
+def keeps():
+    """Whether this release keeps what proofs and edits came to between runs."""
+    return hasattr(rt, "add_edits")
+
+
 def changes():
     """What of the toolchain is not as it was, told by name."""
-    for name in [*CALLS, *VALUES.split()]:
+    calls = CALLS | (KEEPING if keeps() else ANEW)
+    for name in [*calls, *VALUES.split(), *(OF_KEEPING.split() if keeps() else [])]:
         try:
             it = found(name)
         except AttributeError:
             yield f"rt has no {name}"
             continue
-        parameters = " ".join(inspect.signature(it).parameters) if name in CALLS else ""
-        if parameters != CALLS.get(name, ""):
-            yield f"rt.{name} takes ({parameters}) and not ({CALLS[name]})"
+        parameters = " ".join(inspect.signature(it).parameters) if name in calls else ""
+        if parameters != calls.get(name, ""):
+            yield f"rt.{name} takes ({parameters}) and not ({calls[name]})"
     with open(f"{rt.KIT}/KIT-ID", encoding="utf-8") as it:
         release = it.read().split()[0]
     if release not in RELEASES:

@@ -4,13 +4,29 @@ import os
 import shutil
 import tempfile
 
-from checking import ONE_JOB, check, rt
+from checking import MISSED, ONE_JOB, REFUSED, SETTLED, check, rt
 from must_fail import Edit, NothingKnown
 
 # A check says nothing of an edited function that calls another one, which is refused in that check.
 WAITS = "waits"
 # What an edit came to is kept under this name too, which changes with what counts as refused.
 RULE = "goals that no answer leaves open"
+
+
+class NothingKept:
+    """What a release keeps between runs that begins each from nothing."""
+
+    def key(self, _crate):
+        return ""
+
+    def of_edit(self, file, _key):
+        return file
+
+    def tried(self, _name):
+        return None
+
+    def is_untouched(self, _crate):
+        return False
 
 
 def next_question(tries, found):
@@ -53,7 +69,7 @@ class Trial:
         return len(self.left()) * (10 + len(self.below))
 
     def told(self):
-        refused = sum(kind == rt.REFUSED for kind, _ in self.results.values())
+        refused = sum(kind == REFUSED for kind, _ in self.results.values())
         alone = "".join(f" {os.path.basename(it.file)}" for it in self.alone)
         return f"{refused} of {len(self.files)} edits refused{alone and f' (tried alone:{alone})'}"
 
@@ -66,7 +82,7 @@ class Trial:
 
     def note(self, edit, kind, text):
         self.results[edit.file] = kind, text
-        if kind in rt.SETTLED and self.kept.is_untouched(self.crate):
+        if kind in SETTLED and self.kept.is_untouched(self.crate):
             self.kept.keep_tried(self.kept_as[edit.file], kind, text)
 
     def ask(self, tries):
@@ -90,9 +106,9 @@ class Trial:
                 edit.forget()
                 continue
             if it:
-                self.note(edit, rt.REFUSED, f"{edit.label}: refused, as it must be: {it.text[:160]}")
+                self.note(edit, REFUSED, f"{edit.label}: refused, as it must be: {it.text[:160]}")
             elif edit.first:
-                self.note(edit, rt.MISSED, edit.not_shown(edit.first.text))
+                self.note(edit, MISSED, edit.not_shown(edit.first.text))
 
     def texts(self):
         """The texts of the files that the questions change."""
@@ -146,7 +162,7 @@ class Trial:
             Group(over, [self]).run()
         if edit.file not in self.results:
             kind, text = rt.must_fail(self.crate, edit.file, ONE_JOB, over)
-            self.note(edit, *((rt.MISSED, edit.not_shown(text)) if kind == rt.REFUSED else (kind, text)))
+            self.note(edit, *((MISSED, edit.not_shown(text)) if kind == REFUSED else (kind, text)))
 
 
 class Group:
