@@ -60,10 +60,17 @@ is_act touched = has_succeeded (decided touched)
 abbrev pub entry_count : Shape → (words : List ℕ) → (worker : ℕ) → ℕ
 entry_count z words worker = min (word_if_any z words (Length worker)) (cell_count z)
 
--- the cells of the first entries
+-- the cell of an entry, if the entry changes it
+abbrev pub entry_cell : Shape → (words : List ℕ) → (worker entry : ℕ) → List ℕ
+entry_cell z words worker e =
+    if word_if_any z words (EntryNew worker e) == word_if_any z words (EntryOld worker e)
+    then []
+    else word_if_any z words (EntryCell worker e) ∷ []
+
+-- the cells that the first entries change
 abbrev pub entry_cells : Shape → (words : List ℕ) → (worker count : ℕ) → List ℕ
 entry_cells z words worker zero = []
-entry_cells z words worker (suc e) = entry_cells z words worker e ++ word_if_any z words (EntryCell worker e) ∷ []
+entry_cells z words worker (suc e) = entry_cells z words worker e ++ entry_cell z words worker e
 
 -- the values, where those of the first entries' cells are their new words
 abbrev pub settled : Shape → (words : List ℕ) → (worker : ℕ) → (values : List ℕ) → (count : ℕ) → List ℕ

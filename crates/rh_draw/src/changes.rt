@@ -76,7 +76,8 @@ pub(crate) fn list_changes(
     Ok(())
 }
 
-// The cells of a worker's entries, in order.
+// The cells that a worker's entries change, in order. (An entry whose two words are the same asks for a
+// value, and leaves it.)
 fn list_entries(
     shape: &Shape,
     words: &[u64],
@@ -88,7 +89,10 @@ fn list_entries(
         cells.old.items ++ entry_cells shape.now words.now worker (entry_count shape.now words.now worker)) }
 {
     for entry in 0..entry_count(shape, words, worker) {
-        cells.push(word_at(shape, words, Part::EntryCell { worker, entry }))?;
+        let old = word_at(shape, words, Part::EntryOld { worker, entry });
+        if word_at(shape, words, Part::EntryNew { worker, entry }) != old {
+            cells.push(word_at(shape, words, Part::EntryCell { worker, entry }))?;
+        }
     }
     Ok(())
 }

@@ -1,6 +1,8 @@
 //! Laws of pictures. They do nothing when they run.
 
+ghost use Rattle.std.specs.Prelude.{◌≡◌, ◌<◌};
 ghost use Rattle.rh_draw.specs.Laws.{ColumnsAreChanges, MarksAreSteps};
+ghost use Rattle.rh_draw.specs.declared.limits.TheConstants.{HEAD_STEPS, LANE, MAX_STEPS, ROW};
 
 /// Beside the marks of its legend a picture has one for each step of its window, in the lane of its
 /// worker and at the height of its number, and no other.
@@ -13,4 +15,13 @@ pub fn marks_are_steps()
 #[tactic(auto, using(crate::proofs::ColumnLemmas::columns_are_changes))]
 pub fn columns_are_changes()
     ensures { ColumnsAreChanges }
+{}
+
+/// The most steps of a picture, and after how many its heads stand again. No two lanes stand at one
+/// place, and no two moments.
+pub fn fixed_numbers()
+    ensures steps { MAX_STEPS ≡ 2000 }
+    ensures heads { HEAD_STEPS ≡ 40 }
+    ensures lanes { 0 < LANE }
+    ensures moments { 0 < ROW }
 {}

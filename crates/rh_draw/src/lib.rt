@@ -20,6 +20,7 @@
 //!   window, in their order, lanes and heights, and no other.
 //! - `columns_are_changes`: a cell has a column exactly where a step of the window changes its word
 //!   or its value.
+//! - `fixed_numbers`: the most steps of a picture; no two lanes and no two moments stand at one place.
 //! - `steps_from`: how many steps there are from a number on, by which a caller can see whether
 //!   they are more than `MAX_STEPS`.
 #![tactic(auto)]
@@ -43,6 +44,6 @@ mod sight;
 mod words;
 
 pub use drawing::draw;
-pub use laws::{columns_are_changes, marks_are_steps};
+pub use laws::{columns_are_changes, fixed_numbers, marks_are_steps};
 pub use limits::MAX_STEPS;
 pub use records::{Record, Window, steps_from};
