@@ -1,5 +1,5 @@
-//! Two workers work at once, each key is told of once, and no lock lies round a whole key: a gate
-//! holds one worker before its first key until the other one has done a key.
+//! Workers work at once, each key is told of once, and no lock lies round a whole key: a gate holds one
+//! worker before its first key until the other one has done a key, or each until all have come.
 
 use rh_edit::SeqSet;
 use rh_kcas::{Seat, Table};
@@ -74,6 +74,79 @@ impl Gate for Held {
     }
 }
 
+/// Holds each worker before its first key until so many have come.
+#[derive(Drop)]
+struct Gathered {
+    workers: u64,
+    came: AtomicU64,
+    /// 1 where one of them did not come in time.
+    late: AtomicU64,
+}
+
+impl Gathered {
+    fn new(workers: u64) -> Gathered {
+        Gathered {
+            workers,
+            came: AtomicU64::new(0),
+            late: AtomicU64::new(0),
+        }
+    }
+}
+
+impl Gate for Gathered {
+    fn before(&self, _worker: usize, done: usize) {
+        if done > 0 {
+            return;
+        }
+        self.came.fetch_add(1, Ordering::SeqCst);
+        for _ in 0..LOOKS {
+            if self.came.load(Ordering::SeqCst) >= self.workers {
+                return;
+            }
+        }
+        self.late.store(1, Ordering::SeqCst);
+    }
+
+    fn after(
+        &self,
+        _table: &Table,
+        _seat: &Seat,
+        _bits: u32,
+        _kind: Kind,
+        _key: u64,
+        _answer: bool,
+    ) {}
+}
+
+#[test]
+fn eight_workers_work_at_once(rt: HostRuntime) -> Result<(), Fail> {
+    let set = SeqSet::new(rt.alloc(), 4)?;
+    assert!(rt; set.len() == 0);
+    let mut cells = set.into_cells();
+    assert!(rt; is_layout(4, &cells));
+    let gate = Gathered::new(8);
+    let keys = [1, 2, 3, 4, 5, 6, 7, 8];
+    let told = change(
+        &rt,
+        rt.alloc(),
+        8,
+        Kind::Insert,
+        4,
+        &mut cells,
+        &keys,
+        &gate,
+    )?;
+    assert_eq!(rt; gate.late.load(Ordering::SeqCst), 0);
+    assert_eq!(rt; told.added, 8);
+    let set = SeqSet::from_keys(rt.alloc(), 4, &keys)?;
+    assert!(rt; set.bits() == 4);
+    let gate = Gathered::new(8);
+    let found = ask(&rt, rt.alloc(), 8, 4, set.cells(), &keys, &gate)?;
+    assert_eq!(rt; gate.late.load(Ordering::SeqCst), 0);
+    assert_eq!(rt; found.as_slice(), [true; 8].as_slice());
+    Ok(())
+}
+
 #[test]
 fn two_workers_change_a_table_at_once(rt: HostRuntime) -> Result<(), Fail> {
     for held in [0, 1] {
@@ -102,6 +175,41 @@ fn two_workers_change_a_table_at_once(rt: HostRuntime) -> Result<(), Fail> {
                 read: 4,
                 added: 4,
                 removed: 0,
+                found: 0
+            }
+        );
+    }
+    Ok(())
+}
+
+#[test]
+fn two_workers_remove_at_once(rt: HostRuntime) -> Result<(), Fail> {
+    for held in [0, 1] {
+        let set = SeqSet::from_keys(rt.alloc(), 3, &[1, 2, 4, 9])?;
+        assert!(rt; set.bits() == 3);
+        let mut cells = set.into_cells();
+        assert!(rt; is_layout(3, &cells));
+        let gate = Held::new(held);
+        let keys = [1, 2, 3, 9];
+        let told = change(
+            &rt,
+            rt.alloc(),
+            2,
+            Kind::Remove,
+            3,
+            &mut cells,
+            &keys,
+            &gate,
+        )?;
+        assert_eq!(rt; gate.late.load(Ordering::SeqCst), 0);
+        assert_eq!(rt; gate.done.load(Ordering::SeqCst), 0x10_0000_0111);
+        assert_eq!(rt; gate.changed.load(Ordering::SeqCst), 0x10_0000_0011);
+        assert_eq!(rt;
+            told,
+            Tally {
+                read: 4,
+                added: 0,
+                removed: 3,
                 found: 0
             }
         );

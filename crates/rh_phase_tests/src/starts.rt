@@ -5,6 +5,7 @@ use rh_layout::is_layout;
 use rh_ledger::{Kind, Tally};
 use rh_phase::{AllStart, OpenGate, PhaseFault, Starts, ask_with, change_with};
 use rh_words::Rooms;
+use std::sync::atomic::{AtomicU64, Ordering};
 use std::test::Fail;
 
 // Room for one key of 3 bits, and no more.
@@ -62,6 +63,52 @@ fn a_refused_start_leaves_the_cells(rt: HostRuntime) -> Result<(), Fail> {
                 assert_eq!(rt; cells.as_slice(), [0, 0, 0, 0, 0, 0, 0, 0].as_slice());
             }
         }
+    }
+    Ok(())
+}
+
+/// The same, and counts how many halves were asked for.
+#[derive(Drop)]
+struct Counted {
+    refused: usize,
+    asked: AtomicU64,
+}
+
+impl Starts for Counted {
+    ghost allows = { λ s worker. not (worker == s.refused) };
+
+    fn allowed(&self, worker: usize) -> bool {
+        self.asked.fetch_add(1, Ordering::SeqCst);
+        worker != self.refused
+    }
+}
+
+// Where a half may not start, none of its own halves is asked for; the other half forks on.
+#[test]
+fn workers_fork_in_halves(rt: HostRuntime) -> Result<(), Fail> {
+    for (refused, asked) in [(4, 1), (2, 5), (6, 5), (1, 7)] {
+        let set = SeqSet::new(rt.alloc(), 3)?;
+        assert!(rt; set.len() == 0);
+        let mut cells = set.into_cells();
+        assert!(rt; is_layout(3, &cells));
+        let starts = Counted {
+            refused,
+            asked: AtomicU64::new(0),
+        };
+        let told = change_with(
+            &rt,
+            rt.alloc(),
+            8,
+            Kind::Insert,
+            3,
+            &mut cells,
+            &[9, 9],
+            &OpenGate,
+            &starts,
+            ROOMS,
+        );
+        assert!(rt; told == Err(PhaseFault::NoThread));
+        assert_eq!(rt; starts.asked.load(Ordering::SeqCst), asked);
     }
     Ok(())
 }
