@@ -5,7 +5,7 @@
 //!
 //! Proved: after `all_work` the seat has the workers that it had, and each is at rest. `round` is
 //! this, and a wipe after it, so that another round may begin. What each worker does is the
-//! caller's.
+//! caller's, and no contract says how often it is called to work.
 //!
 //! That two of them work at once is neither proved nor tested here.
 #![tactic(auto)]

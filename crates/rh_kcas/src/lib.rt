@@ -27,6 +27,8 @@
 //! - `failures_tell`, `reads_tell`: after some first acts of all workers the entry's cell did not
 //!   hold the old value, or the cell held the word that was read. Among these are all acts that the
 //!   worker had made before the call, and no later one of it; they never get fewer.
+//! - `own_changes_are_read`: a worker reads its own change back, unless another worker's act came
+//!   between. `kcas` and `read` hand on what these laws ask for, by their clause `told`.
 //! - `are_entries`: exactly whether a descriptor may have these entries. `change`: the entry from one
 //!   value to another.
 //! - What is handed on: see the heads of `rh_shared` and `rh_swaps`.
@@ -41,6 +43,6 @@ mod laws;
 
 pub use entries::{are_entries, change};
 pub use helping::help;
-pub use laws::{failures_tell, reads_tell};
+pub use laws::{failures_tell, own_changes_are_read, reads_tell};
 pub use rh_shared::{Seat, Table, claim, close, discard, join, make, split, wipe};
 pub use rh_swaps::{Outcome, carry_out, kcas, open, read};

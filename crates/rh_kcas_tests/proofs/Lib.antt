@@ -1,3 +1,2 @@
 mod Meeting
-mod OwnChanges
 mod Peeking

@@ -5,7 +5,7 @@ use Rattle.rh_world.specs.Facts.Fact.{found}
 use Rattle.rh_words.specs.declared.reference.Ref.{Ref}
 use Rattle.rh_words.specs.Words.{ref_of}
 use Rattle.rh_shared.specs.Seats.{IsHere, view_of}
-use Rattle.rh_rdcss.specs.Placing.{IsMine, MayPlace}
+use Rattle.rh_rdcss.specs.Placing.{HasEntry, IsMine, MayPlace}
 use Rattle.rh_shared.specs.declared.seat.Seat.{Seat}
 use Rattle.rh_shared.specs.declared.table.Table.{Table}
 use Rattle.rh_steps.specs.Relies.{Knows}
@@ -21,6 +21,12 @@ pub record MayTry (t : Table) (s : Seat) (d : Ref) : Type 0 where
   pub here : IsHere t s
   pub knows : Knows t.shape (view_of s)
   pub may : MayPlace t.shape (view_of s) d
+
+-- a mark may be placed for its entry
+pub record MayMark (t : Table) (s : Seat) (d : Ref) (e : ℕ) : Type 0 where
+  pub here : IsHere t s
+  pub knows : Knows t.shape (view_of s)
+  pub entry : HasEntry t.shape (view_of s) d e
 
 -- its mark stands for this entry
 pub record HasPlaced (t : Table) (s : Seat) (d : Ref) (e : ℕ) : Type 0 where

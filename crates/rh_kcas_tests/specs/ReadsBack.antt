@@ -1,13 +1,12 @@
--- What the only worker of a table reads after its own swap.
-use Rattle.std.specs.Prelude.{◌≡◌, ℕ, List}
+-- What a worker reads after its own swap.
+use Rattle.std.specs.Prelude.{ℕ, List}
 use Rattle.rh_layout.specs.declared.entry.Entry.{Entry}
-use Rattle.rh_world.specs.World.{World}
-use Rattle.rh_world.specs.Sides.{Side}
 use Rattle.rh_words.specs.declared.shape.Shape.{Shape}
 use Rattle.rh_words.specs.View.{View}
 use Rattle.rh_words.specs.Steps.{entry_of}
-use Rattle.rh_rule.specs.Rest.{Told}
+use Rattle.rh_rule.specs.Rest.{IsTold}
+use Rattle.rh_kcas.specs.Reads.{HasReadBack}
 
--- whatever the rule tells of the acts when this is kept of it, the word is the new one of the entry
-abbrev pub ReadsBack : Shape → List Entry → (entry : ℕ) → View → (word : ℕ) → Type 0
-ReadsBack z es e v word = (w : World) (keep : ℕ → View) (side : ℕ → Side) → Told w z keep side → keep v.worker ≡ v → word ≡ (entry_of es e).new
+-- the word is the new one of the entry, unless an act of another worker came between
+abbrev pub ReadsBack : Shape → List Entry → (entry : ℕ) → (v next : View) → (word : ℕ) → Type 0
+ReadsBack z es e v next word = (t : IsTold z next) × HasReadBack t.w next.worker v.next_number (entry_of es e) word

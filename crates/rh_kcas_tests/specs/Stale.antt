@@ -2,11 +2,16 @@
 use Rattle.rh_words.specs.declared.reference.Ref.{Ref}
 use Rattle.rh_shared.specs.Rests.{SeatRests}
 use Rattle.rh_shared.specs.Seats.{view_of}
-use Rattle.rh_rdcss.specs.Placing.{MayPlace}
+use Rattle.rh_rdcss.specs.Placing.{HasEntry, MayPlace}
 use Rattle.rh_shared.specs.declared.seat.Seat.{Seat}
 use Rattle.rh_shared.specs.declared.table.Table.{Table}
 
--- it rests, and may place a mark for it
-pub record HasMet (t : Table) (s : Seat) (d : Ref) : Type 0 where
+-- it rests, and saw it as opened
+pub record HasSeen (t : Table) (s : Seat) (d : Ref) : Type 0 where
   pub rests : SeatRests t s
   pub may : MayPlace t.shape (view_of s) d
+
+-- and may place a mark for its first entry
+pub record HasMet (t : Table) (s : Seat) (d : Ref) : Type 0 where
+  pub rests : SeatRests t s
+  pub entry : HasEntry t.shape (view_of s) d 0

@@ -3,14 +3,14 @@
 ghost use Rattle.std.specs.Prelude.{IfOk, IsTrue};
 ghost use Rattle.rh_shared.specs.Rests.{SeatRests};
 ghost use Rattle.rh_kcas_tests.specs.Halfway.{IsIdle, IsHalfway};
-ghost use Rattle.rh_kcas_tests.specs.Marks.{HasFound, HasPlaced, IsSettled, MayTry};
+ghost use Rattle.rh_kcas_tests.specs.Marks.{HasFound, HasPlaced, IsSettled, MayMark, MayTry};
 
 use crate::halfway::{go_on, open_one};
 use crate::tables::*;
 use rh_helping::{CellContent, Ended, named_desc, what_stands};
 use rh_kcas::{Seat, Table, are_entries, change, make, split};
 use rh_layout::Entry;
-use rh_rdcss::{Placed, peek_cell, place, settle, status};
+use rh_rdcss::{Placed, count_entries, peek_cell, place, settle, status};
 use rh_tagword::{State, plain_value};
 use rh_words::Ref;
 use std::alloc::{AllocError, Global};
@@ -53,6 +53,7 @@ fn place_second<R: Abort>(rt: &R, table: &Table, seat: &mut Seat, desc: Ref)
     ensures { HasPlaced table.now seat.new desc 1 }
 {
     assert!(rt; is_undecided(rt, table, seat, desc));
+    assert!(rt; has_entry(table, seat, desc, 1));
     let Placed::Mine = place(table, seat, desc, 1) else {
         panic!(rt; "another word stands in the cell")
     };
@@ -68,6 +69,17 @@ fn is_undecided<R: Abort>(rt: &R, table: &Table, seat: &mut Seat, desc: Ref) -> 
         return false;
     };
     true
+}
+
+/// Whether the descriptor has this entry, by the length that is read.
+fn has_entry(table: &Table, seat: &mut Seat, desc: Ref, entry: usize) -> bool
+    requires { MayTry table.now seat.old desc }
+    ensures { IsTrue result → MayMark table.now seat.new desc entry }
+{
+    match count_entries(table, seat, desc) {
+        Some(size) => entry < size,
+        None => false,
+    }
 }
 
 /// Such a table, on which the first worker has opened a descriptor of the entries, and the second has placed a
@@ -105,6 +117,24 @@ fn settle_mine(table: &Table, seat: &mut Seat, desc: Ref, entry: usize) -> Optio
     ensures { IsSettled table.now seat.new }
 {
     let own = seat.placed.unwrap();
+    settle(table, seat, own.piece.cell, own.mark)
+}
+
+/// Looks at the cell and at the control before it settles the own mark.
+fn settle_after_looks<R: Abort>(
+    rt: &R,
+    table: &Table,
+    seat: &mut Seat,
+    desc: Ref,
+    entry: usize,
+) -> Option<u64>
+    requires { HasPlaced table.now seat.old desc entry }
+{
+    assert!(rt; desc.worker < table.shape.workers && desc.number < table.shape.rooms.descriptors);
+    let own = seat.placed.unwrap();
+    assert!(rt; own.piece.cell < table.shape.cells());
+    peek_cell(table, seat, own.piece.cell);
+    status(table, seat, desc);
     settle(table, seat, own.piece.cell, own.mark)
 }
 
@@ -150,7 +180,8 @@ fn an_own_mark_is_settled_to_its_descriptor(rt: HostRuntime) -> Result<(), Fail>
         &BOTH,
     )?;
     let mark = peek(&rt, &table, &mut fourth, 5);
-    assert_eq!(rt; settle_mine(&table, &mut second, desc, 1), Some(mark));
+    let settled = settle_after_looks(&rt, &table, &mut second, desc, 1);
+    assert_eq!(rt; settled, Some(mark));
     assert_eq!(rt; named_desc(peek(&rt, &table, &mut fourth, 5)), Some(desc));
     assert_eq!(rt;
         go_on(&rt, &table, &mut first, &BOTH, desc.number),
@@ -158,6 +189,27 @@ fn an_own_mark_is_settled_to_its_descriptor(rt: HostRuntime) -> Result<(), Fail>
     );
     assert_eq!(rt; plain_value(peek(&rt, &table, &mut fourth, 4)), Some(9));
     assert_eq!(rt; plain_value(peek(&rt, &table, &mut fourth, 5)), Some(3));
+    Ok(())
+}
+
+// Who reads a cell settles the mark in it and helps its descriptor: the two workers that stopped hold it
+// up no longer than its own steps take.
+#[test]
+fn a_read_meets_a_mark_and_its_descriptor(rt: HostRuntime) -> Result<(), Fail> {
+    let (table, mut first, mut second, mut third, _fourth, desc) = marked(
+        &rt,
+        rt.alloc(),
+        &[0; 8],
+        &BOTH,
+    )?;
+    assert_eq!(rt; value(&rt, &table, &mut third, 5), Some(3));
+    assert_eq!(rt; value(&rt, &table, &mut third, 4), Some(9));
+    assert_eq!(rt; settle_mine(&table, &mut second, desc, 1), Some(12));
+    assert_eq!(rt;
+        go_on(&rt, &table, &mut first, &BOTH, desc.number),
+        Ended::Succeeded
+    );
+    assert_eq!(rt; value(&rt, &table, &mut third, 5), Some(3));
     Ok(())
 }
 
@@ -223,6 +275,7 @@ fn a_stale_foreign_mark_is_left(rt: HostRuntime) -> Result<(), Fail> {
     let mark = meet(&rt, &table, &mut third, 5);
     settle_mine(&table, &mut second, desc, 1);
     assert!(rt; is_undecided(&rt, &table, &mut second, desc));
+    assert!(rt; has_entry(&table, &mut second, desc, 0));
     assert_eq!(rt; place(&table, &mut second, desc, 0), Placed::Mine);
     let settled = peek(&rt, &table, &mut fourth, 5);
     assert_eq!(rt; settle_met(&table, &mut third, 5, mark), None);
@@ -231,12 +284,8 @@ fn a_stale_foreign_mark_is_left(rt: HostRuntime) -> Result<(), Fail> {
 }
 
 #[test]
-fn a_descriptor_is_asked_for_an_entry_that_it_does_not_have(rt: HostRuntime) -> Result<(), Fail> {
-    let (table, mut first, mut second, _third, mut fourth) = four_workers(
-        &rt,
-        rt.alloc(),
-        &[0; 8],
-    )?;
+fn the_entries_of_a_descriptor_are_counted(rt: HostRuntime) -> Result<(), Fail> {
+    let (table, mut first, mut second, _third, _fourth) = four_workers(&rt, rt.alloc(), &[0; 8])?;
     let desc = Ref {
         worker: 0,
         number: 0,
@@ -244,8 +293,7 @@ fn a_descriptor_is_asked_for_an_entry_that_it_does_not_have(rt: HostRuntime) -> 
     assert!(rt; !is_undecided(&rt, &table, &mut second, desc));
     opened(&rt, &table, &mut first, &BOTH);
     assert!(rt; is_undecided(&rt, &table, &mut second, desc));
-    assert_eq!(rt; place(&table, &mut second, desc, 2), Placed::Absent);
-    assert_eq!(rt; plain_value(peek(&rt, &table, &mut fourth, 5)), Some(0));
+    assert_eq!(rt; count_entries(&table, &mut second, desc), Some(2));
     Ok(())
 }
 

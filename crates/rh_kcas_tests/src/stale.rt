@@ -4,7 +4,7 @@ ghost use Rattle.std.specs.Prelude.{IsTrue};
 ghost use Rattle.rh_words.specs.Steps.{IsKnown};
 ghost use Rattle.rh_words.specs.Words.{ref_of};
 ghost use Rattle.rh_shared.specs.Rests.{SeatRests};
-ghost use Rattle.rh_kcas_tests.specs.Stale.{HasMet};
+ghost use Rattle.rh_kcas_tests.specs.Stale.{HasMet, HasSeen};
 ghost use Rattle.rh_shared.specs.Seats.{IsHere, view_of};
 ghost use Rattle.rh_steps.specs.Relies.{Knows};
 
@@ -12,7 +12,7 @@ use crate::halfway::{go_on, stop_halfway};
 use crate::tables::*;
 use rh_helping::{Ended, named_desc};
 use rh_kcas::{Seat, Table, are_entries, change, help};
-use rh_rdcss::{Placed, peek_cell, place, status};
+use rh_rdcss::{Placed, count_entries, peek_cell, place, status};
 use rh_tagword::{State, plain_value};
 use rh_words::Ref;
 use std::process::Abort;
@@ -26,6 +26,7 @@ fn meet<R: Abort>(rt: &R, table: &Table, seat: &mut Seat, cell: usize) -> Ref
 {
     let desc = found(rt, table, seat, cell);
     assert!(rt; is_undecided(table, seat, desc));
+    assert!(rt; has_an_entry(table, seat, desc));
     desc
 }
 
@@ -43,12 +44,22 @@ fn found<R: Abort>(rt: &R, table: &Table, seat: &mut Seat, cell: usize) -> Ref
 fn is_undecided(table: &Table, seat: &mut Seat, desc: Ref) -> bool
     requires rests { SeatRests table.now seat.old }
     requires known { IsKnown (view_of seat.old).side.facts (ref_of desc) }
-    ensures { IsTrue result → HasMet table.now seat.new desc }
+    ensures { IsTrue result → HasSeen table.now seat.new desc }
 {
     let Some(State::Undecided) = status(table, seat, desc) else {
         return false;
     };
     true
+}
+
+fn has_an_entry(table: &Table, seat: &mut Seat, desc: Ref) -> bool
+    requires { HasSeen table.now seat.old desc }
+    ensures { IsTrue result → HasMet table.now seat.new desc }
+{
+    match count_entries(table, seat, desc) {
+        Some(size) => size > 0,
+        None => false,
+    }
 }
 
 /// Reads how far a descriptor is.
@@ -85,6 +96,24 @@ fn words<R: Abort>(rt: &R, table: &Table, seat: &mut Seat) -> [u64; 8]
         words[cell] = peek(rt, table, seat, cell);
     }
     words
+}
+
+// Its worker has stopped before the decision, so who reads the cell makes it.
+#[test]
+fn a_read_meets_an_undecided_descriptor(rt: HostRuntime) -> Result<(), Fail> {
+    let (table, mut first, mut second) = two_workers(&rt, rt.alloc(), rooms(2, 8), &[0; 8])?;
+    let entries = [change(4, 0, 9)];
+    assert!(rt; are_entries(&table.shape, &entries));
+    assert!(rt; first.side.next_number < table.shape.rooms.descriptors);
+    let number = stop_halfway(&table, &mut first, &entries);
+    let number = number.expect(&rt, "the worker comes to its decision");
+    assert_eq!(rt; value(&rt, &table, &mut second, 4), Some(9));
+    assert_eq!(rt;
+        go_on(&rt, &table, &mut first, &entries, number),
+        Ended::Succeeded
+    );
+    assert_eq!(rt; value(&rt, &table, &mut second, 4), Some(9));
+    Ok(())
 }
 
 // The first worker's row is of its next descriptor, which stands undecided in cell 5.

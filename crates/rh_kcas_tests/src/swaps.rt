@@ -1,11 +1,11 @@
-ghost use Rattle.std.specs.Prelude.{◌≡◌, ◌<◌, IfSome, length};
+ghost use Rattle.std.specs.Prelude.{◌<◌, IfSome, length};
 ghost use Rattle.rh_words.specs.Steps.{AreEntries};
 ghost use Rattle.rh_shared.specs.Rests.{SeatRests};
 ghost use Rattle.rh_kcas_tests.specs.ReadsBack.{ReadsBack};
 ghost use Rattle.rh_shared.specs.Seats.{view_of};
 
 use crate::tables::*;
-use rh_kcas::{Outcome, Seat, Table, are_entries, change, kcas, read, reads_tell};
+use rh_kcas::{Outcome, Seat, Table, are_entries, change, kcas, own_changes_are_read, read};
 use rh_layout::Entry;
 use rh_tagword::plain_value;
 use std::process::Abort;
@@ -122,8 +122,7 @@ fn a_swap_that_failed_names_one_of_its_entries(rt: HostRuntime) -> Result<(), Fa
     Ok(())
 }
 
-/// Swaps, and reads the cell of an entry, if the swap is done: the only worker of a table reads its own
-/// change back.
+/// Swaps, and reads the cell of an entry, if the swap is done: a worker reads its own change back.
 fn swapped_and_read<R: Wait>(
     rt: &R,
     table: &Table,
@@ -132,13 +131,12 @@ fn swapped_and_read<R: Wait>(
     entry: usize,
 ) -> Option<u64>
     requires rests { SeatRests table.now seat.old }
-    requires alone { table.now.shape.workers ≡ 1 }
     requires entries { AreEntries table.now.shape entries.now }
     requires entry { entry < length entries.now }
     ensures rests { SeatRests table.now seat.new }
-    ensures reads_back { IfSome result (ReadsBack table.now.shape entries.now entry (view_of seat.new)) }
+    ensures reads_back { IfSome result (ReadsBack table.now.shape entries.now entry (view_of seat.old) (view_of seat.new)) }
 {
-    reads_tell();
+    own_changes_are_read();
     match kcas(rt, table, seat, entries) {
         Outcome::Done => read(rt, table, seat, entries[entry].cell),
         Outcome::Failed { .. } | Outcome::Spent => None,

@@ -3,7 +3,8 @@ use Rattle.std.proofs.Common.{◌≡◌, ◌≢◌, ℕ, eqb, Bool, true, false,
 use Rattle.std.specs.Prelude.{nat_lt, option_map}
 use Rattle.rh_tagword.specs.declared.control.State.{State}
 use Rattle.rh_tagword.specs.declared.control.State.TheVariants.{Unused, Undecided, Succeeded, Withdrawn, Failed}
-use Rattle.rh_world.specs.World.{Cell, Control, Ref}
+use Rattle.rh_world.specs.World.{Cell, Control, In, Ref}
+use Rattle.rh_world.specs.Facts.{Fact}
 use Rattle.rh_world.specs.World.Cell.{desc, mark, plain}
 use Rattle.rh_world.specs.World.Control.{failed, succeeded, undecided, unused, withdrawn}
 use Rattle.rh_world.specs.Sides.{Side}
@@ -39,7 +40,19 @@ control_settles_none s d succeeded = refl
 control_settles_none s d withdrawn = refl
 control_settles_none s d (failed e by) = refl
 
+-- what was known is known still
+control_facts : (s : Side) (d : Ref) (k : Control) (n : Fact) → In n s.facts → In n (control_noted s d k).facts
+control_facts s d unused n i = i
+control_facts s d undecided n i = inr i
+control_facts s d succeeded n i = inr i
+control_facts s d withdrawn n i = inr i
+control_facts s d (failed e by) n i = inr i
+
 module _ (s : Side) (d : Ref) (word : ℕ) where
+  pub still_known : (n : Fact) → In n s.facts → In n (control_read s d word).facts
+  still_known n i = by_cond (λ (t : Side). In n t.facts) (eqb (serial_in word) d.number) _ _ (λ yes. control_facts s d (read_control word) n i)
+      (λ no. by_cond (λ (t : Side). In n t.facts) (is_known s.facts d) (stale_noted s d) s (λ h. inr (inr i)) (λ h. i))
+
   read_seen : (k : Control) → k ≢ unused → Some k ≡ status_said d.number word → HasSeen (control_read s d word).facts d
   read_seen k opened e =
       let q = said_is k (read_control word) opened (nat_lt (serial_in word) d.number) (eqb (serial_in word) d.number) e in

@@ -18,7 +18,9 @@ use Rattle.rh_rule.proofs.Said.{plain_said}
 use Rattle.rh_helping.proofs.Knowing.{allowed}
 use Rattle.rh_helping.proofs.Marking.{newest_word, older_word, other_word}
 use Rattle.rh_steps.specs.Relies.{Knows}
-use Rattle.rh_rdcss.specs.Placing.{IsMarkFor, KnowsPiece, Tried, with_row}
+use Rattle.rh_rule.specs.declared.rule.Sitter.{Sitter}
+use Rattle.rh_rdcss.specs.Calls.{Learned}
+use Rattle.rh_rdcss.specs.Placing.{IsMarkFor, KnowsPiece, Tried, WritesRow}
 
 module _ (z : Shape) (v : View) (p : Piece) (old worker mark word : ℕ) (may : KnowsPiece z v p old) (left : v.marks_used < z.rooms.marks) (of_worker : v.worker ≡ worker) (of_mark : v.marks_used ≡ mark) where
   -- what is written, the newest first
@@ -53,9 +55,34 @@ module _ (z : Shape) (v : View) (p : Piece) (old worker mark word : ℕ) (may : 
           settled = may.settled;
         }))
 
+-- the row of the own mark of this number was written
+pub writes_row : (z : Shape) (p : Piece) (k first second next : Sitter) (worker mark word w1 w2 w3 : ℕ) → k.view.worker ≡ worker → k.view.marks_used ≡ mark → word ≡ desc_number (ref_of p.desc)
+    → Learned z (writes (part.MarkSerial worker) mark) k w1 first → Learned z (writes (part.MarkDesc worker) word) first w2 second
+    → Learned z (writes (part.MarkEntry worker) p.entry) second w3 next → WritesRow z p k next
+writes_row z p k first second next worker mark word w1 w2 w3 of_worker of_mark of_desc a b c = record {
+  first = first;
+  second = second;
+  of_serial = (w1, subst (λ (w : ℕ). Learned z (writes (part.MarkSerial w) k.view.marks_used) k w1 first) (sym of_worker) (subst (λ (m : ℕ). Learned z (writes (part.MarkSerial worker) m) k w1 first) (sym of_mark) a));
+  of_desc = (w2, subst (λ (w : ℕ). Learned z (writes (part.MarkDesc w) (desc_number (ref_of p.desc))) first w2 second) (sym of_worker) (subst (λ (n : ℕ). Learned z (writes (part.MarkDesc worker) n) first w2 second) of_desc b));
+  of_entry = (w3, subst (λ (w : ℕ). Learned z (writes (part.MarkEntry w) p.entry) second w3 next) (sym of_worker) c);
+}
+
 -- ---- it found the old value: the own mark stands in the cell
 
-module _ (z : Shape) (v : View) (p : Piece) (old : ℕ) (knows : Knows z v) (may : KnowsPiece z v p old) where
+module _ (z : Shape) (k : Sitter) (p : Piece) (old : ℕ) (knows : Knows z k.view) (may : KnowsPiece z k.view p old) where
+  abbrev v : View
+  v = k.view
+
+  -- what the worker keeps once the row is written, the newest word first
+  abbrev with_row : View
+  with_row = record v { written = record { row = mark_row z 2; word = p.entry } ∷ record { row = mark_row z 1; word = desc_number (ref_of p.desc) } ∷ record { row = mark_row z 0; word = v.marks_used } ∷ v.written }
+
+  row_is : (next : Sitter) → WritesRow z p k next → next.view ≡ with_row
+  row_is next r =
+      r.of_entry.1.view_is
+      ∙ ap (λ (u : View). noted z u (writes (part.MarkEntry v.worker) p.entry) 0)
+      (r.of_desc.1.view_is ∙ ap (λ (u : View). noted z u (writes (part.MarkDesc v.worker) (desc_number (ref_of p.desc))) 0) r.of_serial.1.view_is)
+
   abbrev d : Ref
   d = ref_of p.desc
 
@@ -63,7 +90,7 @@ module _ (z : Shape) (v : View) (p : Piece) (old : ℕ) (knows : Knows z v) (may
   there = placed_noted v.side (own_mark v) d p.entry p.cell
 
   abbrev after : Side → View
-  after s = record (with_row z v p) { side = s; marks_used = cond (eqb old old) (suc v.marks_used) v.marks_used }
+  after s = record with_row { side = s; marks_used = cond (eqb old old) (suc v.marks_used) v.marks_used }
 
   placed : place_noted v.side (own_mark v) d p.entry p.cell old (cell_in old) 0 ≡ there
   placed =
@@ -71,11 +98,11 @@ module _ (z : Shape) (v : View) (p : Piece) (old : ℕ) (knows : Knows z v) (may
       ap (λ (k : Cell). place_noted v.side (own_mark v) d p.entry p.cell old k 0) (plain_said old plain_old)
       ∙ ap (λ (b : Bool). cond b there (note_side v.side (mismatch d p.entry 0))) (eq-eqb old old refl)
 
-  pub is_mark_for : (next : View) → Tried z p old v old next → (x : Reference) → x.worker ≡ v.worker → x.number ≡ v.marks_used
-      → IsMarkFor p.desc p.entry next (record { mark = x; piece = p; old = old })
+  pub is_mark_for : (next : Sitter) → Tried z p old k old next → (x : Reference) → x.worker ≡ v.worker → x.number ≡ v.marks_used
+      → IsMarkFor p.desc p.entry next.view (record { mark = x; piece = p; old = old })
   is_mark_for next tried x worker number =
       let mine : own_mark v ≡ ref_of x = ref_path (own_mark v) (ref_of x) (sym worker) (sym number) in
-      subst (λ (u : View). IsMarkFor p.desc p.entry u (record { mark = x; piece = p; old = old })) (sym tried.place.view_is)
+      subst (λ (u : View). IsMarkFor p.desc p.entry u (record { mark = x; piece = p; old = old })) (sym (tried.place.view_is ∙ ap (λ (u : View). noted z u (places (ref_of p.desc) p.entry p.cell old) old) (row_is tried.written tried.row)))
       (subst (λ (s : Side). IsMarkFor p.desc p.entry (after s) (record { mark = x; piece = p; old = old })) (sym placed) (record {
         desc = refl;
         entry = refl;

@@ -29,6 +29,7 @@ use Rattle.rh_helping.proofs.Marks.{found_keeps, may_read_entry, may_read_old, m
 use Rattle.rh_helping.proofs.Rows.{grows_read, serial_grows, serial_tells as row_tells_so}
 use Rattle.rh_steps.specs.Relies.{Knows}
 use Rattle.rh_shared.specs.declared.seat.OwnMark.{OwnMark}
+use Rattle.rh_rule.specs.declared.rule.Sitter.{Sitter}
 use Rattle.rh_rdcss.specs.Calls.{Learned}
 use Rattle.rh_rdcss.specs.Settling.{ByControl, ByOld, IsOwnUnsettled, Judged, Named, ReadsOld, ReadsRow, SettlesOwn, old_of, own_target}
 use Rattle.rh_rdcss.specs.declared.settling.Target.{Target}
@@ -37,46 +38,46 @@ use Rattle.rh_rdcss.proofs.Looked.{control_settles_none}
 
 -- ---- the row is read
 
-module _ (z : Shape) (v : View) (x : Reference) (c : ℕ) (here : In (found (ref_of x) c) v.side.facts) where
+module _ (z : Shape) (k : Sitter) (x : Reference) (c : ℕ) (here : In (found (ref_of x) c) k.view.side.facts) where
   abbrev CellContent : View → Type 0
   CellContent u = In (found (ref_of x) c) u.side.facts
 
-  met_entry : (named : ℕ) (first : View) → Learned z (reads (reading.MarkDesc x)) v named first → CellContent first
+  met_entry : (named : ℕ) (first : Sitter) → Learned z (reads (reading.MarkDesc x)) k named first → CellContent first.view
   met_entry named first l = subst CellContent (sym l.view_is) here
 
-  met_serial : (named entry : ℕ) (first second : View) → Learned z (reads (reading.MarkDesc x)) v named first → Learned z (reads (reading.MarkEntry x)) first entry second → CellContent second
+  met_serial : (named entry : ℕ) (first second : Sitter) → Learned z (reads (reading.MarkDesc x)) k named first → Learned z (reads (reading.MarkEntry x)) first entry second → CellContent second.view
   met_serial named entry first second l m = subst CellContent (sym m.view_is) (met_entry named first l)
 
   -- once its descriptor was read, its entry may be, and then the number of the mark that it is of
-  pub then_entry : (named : ℕ) (first : View) → Learned z (reads (reading.MarkDesc x)) v named first → Allowed z first (reads (reading.MarkEntry x))
-  then_entry named first l = may_read_entry z first l.knows x c (met_entry named first l)
+  pub then_entry : (named : ℕ) (first : Sitter) → Learned z (reads (reading.MarkDesc x)) k named first → Allowed z first.view (reads (reading.MarkEntry x))
+  then_entry named first l = may_read_entry z first.view l.knows x c (met_entry named first l)
 
-  pub then_serial : (named entry : ℕ) (first second : View) → Learned z (reads (reading.MarkDesc x)) v named first → Learned z (reads (reading.MarkEntry x)) first entry second
-      → Allowed z second (reads (reading.MarkSerial x))
-  then_serial named entry first second l m = may_read_serial z second m.knows x c (met_serial named entry first second l m)
+  pub then_serial : (named entry : ℕ) (first second : Sitter) → Learned z (reads (reading.MarkDesc x)) k named first → Learned z (reads (reading.MarkEntry x)) first entry second
+      → Allowed z second.view (reads (reading.MarkSerial x))
+  then_serial named entry first second l m = may_read_serial z second.view m.knows x c (met_serial named entry first second l m)
 
-  module _ (named entry serial : ℕ) (next : View) (r : ReadsRow z x named entry serial v next) where
+  module _ (named entry serial : ℕ) (next : Sitter) (r : ReadsRow z x named entry serial k next) where
     abbrev said : View
-    said = noted z (noted z v (reads (reading.MarkDesc x)) named) (reads (reading.MarkEntry x)) entry
+    said = noted z (noted z k.view (reads (reading.MarkDesc x)) named) (reads (reading.MarkEntry x)) entry
 
-    said_is : r.second ≡ said
+    said_is : r.second.view ≡ said
     said_is = r.of_entry.view_is ∙ ap (λ (u : View). noted z u (reads (reading.MarkEntry x)) entry) r.of_desc.view_is
 
     -- while the row is of the mark, it names a descriptor
     pub names_desc : serial ≡ x.number → None ≡ desc_in named → ⊥
     names_desc is none =
-        let raw : HasReadMark r.second x (desc_word named) = subst (λ (u : View). HasReadMark u x (desc_word named)) (sym said_is) (inr (inl refl)) in
+        let raw : HasReadMark r.second.view x (desc_word named) = subst (λ (u : View). HasReadMark u x (desc_word named)) (sym said_is) (inr (inl refl)) in
         let d = r.of_serial.finds named is raw in
         let both : None ≡ Some d.0 = none ∙ d.1 in
         cc
 
-    pub row_tells : (p : Piece) → p.cell ≡ c → p.entry ≡ entry → serial ≡ x.number → desc_in named ≡ Some (ref_of p.desc) → IsFound next x p
+    pub row_tells : (p : Piece) → p.cell ≡ c → p.entry ≡ entry → serial ≡ x.number → desc_in named ≡ Some (ref_of p.desc) → IsFound next.view x p
     row_tells p at of_entry is names =
         subst (λ (u : View). IsFound u x p) (sym (r.of_serial.view_is ∙ ap (λ (u : View). noted z u (reads (reading.MarkSerial x)) serial) said_is))
-        (serial_tells said x serial p named is names (subst (λ (n : ℕ). In (found (ref_of x) n) v.side.facts) (sym at) here) (inr (inl refl))
+        (serial_tells said x serial p named is names (subst (λ (n : ℕ). In (found (ref_of x) n) k.view.side.facts) (sym at) here) (inr (inl refl))
         (subst (λ (n : ℕ). HasReadMark said x (entry_word n)) (sym of_entry) (inl refl)))
 
-  pub row_met : (p : Piece) (next : View) → (p.cell ≡ c) × Named z x p v next → IsFound next x p
+  pub row_met : (p : Piece) (next : Sitter) → (p.cell ≡ c) × Named z x p k next → IsFound next.view x p
   row_met p next h = row_tells h.1.word p.entry x.number next h.1.row p h.0 refl refl h.1.names
 
 -- ---- the control is read, and where it is decided the old value
@@ -93,109 +94,109 @@ control_told number word = by (eqb (serial_in word) number)
     by true = let q = of_state (state_in (word % 2 ^ 8)) in (Some q.0, ap Some q.1)
     by false = (None, refl)
 
-module _ (z : Shape) (v : View) (x : Reference) (p : Piece) (h : IsFound v x p) (word : ℕ) (next : View) (l : Learned z (reads (reading.MarkControl x p.cell p.desc)) v word next) where
+module _ (z : Shape) (k : Sitter) (x : Reference) (p : Piece) (h : IsFound k.view x p) (word : ℕ) (next : Sitter) (l : Learned z (reads (reading.MarkControl x p.cell p.desc)) k word next) where
   its : (r : Option State) × (option_map control_of r ≡ state_said p.desc.number word)
   its = control_told p.desc.number word
 
-  control_keeps : Keeps v next
-  control_keeps = (saw_mark_control v (ref_of x) (ref_of p.desc) p.cell _ word l.finds its.0 its.1 next l.view_is).0.keeps
+  control_keeps : Keeps k.view next.view
+  control_keeps = (saw_mark_control k.view (ref_of x) (ref_of p.desc) p.cell _ word l.finds its.0 its.1 next.view l.view_is).0.keeps
 
-  marked : MarkedAs next (ref_of x) p.cell its.0
-  marked = (saw_mark_control v (ref_of x) (ref_of p.desc) p.cell _ word l.finds its.0 its.1 next l.view_is).2
+  marked : MarkedAs next.view (ref_of x) p.cell its.0
+  marked = (saw_mark_control k.view (ref_of x) (ref_of p.desc) p.cell _ word l.finds its.0 its.1 next.view l.view_is).2
 
-  pub met_then : IsFound next x p
-  met_then = found_keeps v next control_keeps x p h
+  pub met_then : IsFound next.view x p
+  met_then = found_keeps k.view next.view control_keeps x p h
 
-  pub then_old : Allowed z next (reads (reading.EntryOld p.desc p.entry))
-  then_old = may_read_old z next l.knows x p met_then
+  pub then_old : Allowed z next.view (reads (reading.EntryOld p.desc p.entry))
+  then_old = may_read_old z next.view l.knows x p met_then
 
   -- the old value is read, and then its row is seen to be of it still
-  module _ (old : ℕ) (middle : View) (m : Learned z (reads (reading.EntryOld p.desc p.entry)) next old middle) where
-    met_middle : IsFound middle x p
-    met_middle = found_keeps next middle (subst (Keeps next) (sym m.view_is) (grows_read next _ _).keeps) x p met_then
+  module _ (old : ℕ) (middle : Sitter) (m : Learned z (reads (reading.EntryOld p.desc p.entry)) next old middle) where
+    met_middle : IsFound middle.view x p
+    met_middle = found_keeps next.view middle.view (subst (Keeps next.view) (sym m.view_is) (grows_read next.view _ _).keeps) x p met_then
 
-    pub then_row : Allowed z middle (reads (reading.Serial p.desc))
-    then_row = may_read_row z middle m.knows x p met_middle
+    pub then_row : Allowed z middle.view (reads (reading.Serial p.desc))
+    then_row = may_read_row z middle.view m.knows x p met_middle
 
-  demotes : In (may_demote (ref_of x)) next.side.facts → (old : ℕ) (last : View) → ReadsOld z p old p.desc.number next last
-      → Allowed z last (settles (ref_of x) p.cell (ref_of p.desc) p.entry (Some old))
+  demotes : In (may_demote (ref_of x)) next.view.side.facts → (old : ℕ) (last : Sitter) → ReadsOld z p old p.desc.number next last
+      → Allowed z last.view (settles (ref_of x) p.cell (ref_of p.desc) p.entry (Some old))
   demotes may old last r =
       let d = ref_of p.desc in
-      let said : HasReadRow r.middle d (old_word p.entry old) = subst (λ (u : View). HasReadRow u d (old_word p.entry old)) (sym r.of_old.view_is) (inl refl) in
-      let keeps : Keeps next r.middle = subst (Keeps next) (sym r.of_old.view_is) (grows_read next _ _).keeps in
-      let last_keeps : Keeps r.middle last = subst (Keeps r.middle) (sym r.of_serial.view_is) (serial_grows r.middle d p.desc.number).keeps in
-      may_settle z last r.of_serial.knows x p (found_keeps r.middle last last_keeps x p (met_middle old r.middle r.of_old)) (Some old) (
+      let said : HasReadRow r.middle.view d (old_word p.entry old) = subst (λ (u : View). HasReadRow u d (old_word p.entry old)) (sym r.of_old.view_is) (inl refl) in
+      let keeps : Keeps next.view r.middle.view = subst (Keeps next.view) (sym r.of_old.view_is) (grows_read next.view _ _).keeps in
+      let last_keeps : Keeps r.middle.view last.view = subst (Keeps r.middle.view) (sym r.of_serial.view_is) (serial_grows r.middle.view d p.desc.number).keeps in
+      may_settle z last.view r.of_serial.knows x p (found_keeps r.middle.view last.view last_keeps x p (met_middle old r.middle r.of_old)) (Some old) (
         last_keeps.facts (may_demote (ref_of x)) (keeps.facts (may_demote (ref_of x)) may),
-        subst (λ (u : View). In (old_is d p.entry old) u.side.facts) (sym r.of_serial.view_is) (row_tells_so r.middle d p.desc.number refl (old_word p.entry old) said),
+        subst (λ (u : View). In (old_is d p.entry old) u.side.facts) (sym r.of_serial.view_is) (row_tells_so r.middle.view d p.desc.number refl (old_word p.entry old) said),
       )
 
-  by_old : In (may_demote (ref_of x)) next.side.facts → (to : Target) (last : View) → ByOld z p next (Some to) last
-      → Allowed z last (settles (ref_of x) p.cell (ref_of p.desc) p.entry (old_of to))
+  by_old : In (may_demote (ref_of x)) next.view.side.facts → (to : Target) (last : Sitter) → ByOld z p next (Some to) last
+      → Allowed z last.view (settles (ref_of x) p.cell (ref_of p.desc) p.entry (old_of to))
   by_old may Descriptor last none = absurd none
   by_old may (Old old) last r = demotes may old last r
 
-  settles_so : (r : Option State) → MarkedAs next (ref_of x) p.cell r → (to : Target) (last : View) → ByControl z p (option_map control_of r) next (Some to) last
-      → Allowed z last (settles (ref_of x) p.cell (ref_of p.desc) p.entry (old_of to))
+  settles_so : (r : Option State) → MarkedAs next.view (ref_of x) p.cell r → (to : Target) (last : Sitter) → ByControl z p (option_map control_of r) next (Some to) last
+      → Allowed z last.view (settles (ref_of x) p.cell (ref_of p.desc) p.entry (old_of to))
   settles_so None may to last by = absurd (let e = by.0 in cc)
   settles_so (Some Unused) may to last by = absurd by
   settles_so (Some Undecided) may to last by =
-      subst (λ (u : View). Allowed z u (settles (ref_of x) p.cell (ref_of p.desc) p.entry (old_of to))) (sym by.1)
-      (subst (λ (o : Target). Allowed z next (settles (ref_of x) p.cell (ref_of p.desc) p.entry (old_of o))) {x = Descriptor} (let e = by.0 in cc)
-      (may_settle z next l.knows x p met_then None may))
+      subst (λ (u : Sitter). Allowed z u.view (settles (ref_of x) p.cell (ref_of p.desc) p.entry (old_of to))) (sym by.1)
+      (subst (λ (o : Target). Allowed z next.view (settles (ref_of x) p.cell (ref_of p.desc) p.entry (old_of o))) {x = Descriptor} (let e = by.0 in cc)
+      (may_settle z next.view l.knows x p met_then None may))
   settles_so (Some Succeeded) may to last by = by_old may to last by
   settles_so (Some Withdrawn) may to last by = by_old may to last by
   settles_so (Some (Failed who)) may to last by = by_old may to last by
 
-  pub settles_next : (to : Target) (last : View) → ByControl z p (state_said p.desc.number word) next (Some to) last
-      → Allowed z last (settles (ref_of x) p.cell (ref_of p.desc) p.entry (old_of to))
-  settles_next to last by = settles_so its.0 marked to last (subst (λ (k : Option Control). ByControl z p k next (Some to) last) (sym its.1) by)
+  pub settles_next : (to : Target) (last : Sitter) → ByControl z p (state_said p.desc.number word) next (Some to) last
+      → Allowed z last.view (settles (ref_of x) p.cell (ref_of p.desc) p.entry (old_of to))
+  settles_next to last by = settles_so its.0 marked to last (subst (λ (o : Option Control). ByControl z p o next (Some to) last) (sym its.1) by)
 
 -- the own mark is settled by it, to the descriptor or to the old value that is noted
-pub own_settles : (z : Shape) (v : View) (x : Reference) (p : Piece) (h : IsFound v x p) (old : ℕ) → In (old_is (ref_of p.desc) p.entry old) v.side.facts
-    → (word : ℕ) (next : View) → Learned z (reads (reading.MarkControl x p.cell p.desc)) v word next
-    → Allowed z next (settles (ref_of x) p.cell (ref_of p.desc) p.entry (old_of (own_target (state_said p.desc.number word) old)))
-own_settles z v x p h old noted word next l =
-    let r = its z v x p h word next l in
-    subst (λ (k : Option Control). Allowed z next (settles (ref_of x) p.cell (ref_of p.desc) p.entry (old_of (own_target k old)))) r.1 (so r.0 (marked z v x p h word next l))
+pub own_settles : (z : Shape) (k : Sitter) (x : Reference) (p : Piece) (h : IsFound k.view x p) (old : ℕ) → In (old_is (ref_of p.desc) p.entry old) k.view.side.facts
+    → (word : ℕ) (next : Sitter) → Learned z (reads (reading.MarkControl x p.cell p.desc)) k word next
+    → Allowed z next.view (settles (ref_of x) p.cell (ref_of p.desc) p.entry (old_of (own_target (state_said p.desc.number word) old)))
+own_settles z k x p h old noted word next l =
+    let r = its z k x p h word next l in
+    subst (λ (o : Option Control). Allowed z next.view (settles (ref_of x) p.cell (ref_of p.desc) p.entry (old_of (own_target o old)))) r.1 (so r.0 (marked z k x p h word next l))
   where
-    keeps : Keeps v next
-    keeps = control_keeps z v x p h word next l
+    keeps : Keeps k.view next.view
+    keeps = control_keeps z k x p h word next l
 
-    back : In (may_demote (ref_of x)) next.side.facts → Allowed z next (settles (ref_of x) p.cell (ref_of p.desc) p.entry (Some old))
-    back may = may_settle z next l.knows x p (met_then z v x p h word next l) (Some old) (may, keeps.facts (old_is (ref_of p.desc) p.entry old) noted)
+    back : In (may_demote (ref_of x)) next.view.side.facts → Allowed z next.view (settles (ref_of x) p.cell (ref_of p.desc) p.entry (Some old))
+    back may = may_settle z next.view l.knows x p (met_then z k x p h word next l) (Some old) (may, keeps.facts (old_is (ref_of p.desc) p.entry old) noted)
 
-    so : (r : Option State) → MarkedAs next (ref_of x) p.cell r → Allowed z next (settles (ref_of x) p.cell (ref_of p.desc) p.entry (old_of (own_target (option_map control_of r) old)))
+    so : (r : Option State) → MarkedAs next.view (ref_of x) p.cell r → Allowed z next.view (settles (ref_of x) p.cell (ref_of p.desc) p.entry (old_of (own_target (option_map control_of r) old)))
     so None may = back may
     so (Some Unused) may = absurd may
-    so (Some Undecided) may = may_settle z next l.knows x p (met_then z v x p h word next l) None may
+    so (Some Undecided) may = may_settle z next.view l.knows x p (met_then z k x p h word next l) None may
     so (Some Succeeded) may = back may
     so (Some Withdrawn) may = back may
     so (Some (Failed who)) may = back may
 
-pub then_settle : (z : Shape) (v : View) (x : Reference) (p : Piece) → IsFound v x p → (to : Target) (last : View) → Judged z x p v (Some to) last
-    → Allowed z last (settles (ref_of x) p.cell (ref_of p.desc) p.entry (old_of to))
-then_settle z v x p h to last j = settles_next z v x p h j.word j.between j.control to last j.by
+pub then_settle : (z : Shape) (k : Sitter) (x : Reference) (p : Piece) → IsFound k.view x p → (to : Target) (last : Sitter) → Judged z x p k (Some to) last
+    → Allowed z last.view (settles (ref_of x) p.cell (ref_of p.desc) p.entry (old_of to))
+then_settle z k x p h to last j = settles_next z k x p h j.word j.between j.control to last j.by
 
 -- ---- what the worker knows after it
 
-pub judged_knows : (z : Shape) (v : View) (x : Reference) (p : Piece) (to : Option Target) (last : View) → Judged z x p v to last → Knows z last
-judged_knows z v x p to last j = by (state_said p.desc.number j.word) to j.by
+pub judged_knows : (z : Shape) (k : Sitter) (x : Reference) (p : Piece) (to : Option Target) (last : Sitter) → Judged z x p k to last → Knows z last.view
+judged_knows z k x p to last j = by (state_said p.desc.number j.word) to j.by
   where
-    old_known : (to : Option Target) → ByOld z p j.between to last → Knows z last
+    old_known : (to : Option Target) → ByOld z p j.between to last → Knows z last.view
     old_known None h = h.3.of_serial.knows
     old_known (Some Descriptor) none = absurd none
     old_known (Some (Old old)) r = r.of_serial.knows
 
-    by : (k : Option Control) (to : Option Target) → ByControl z p k j.between to last → Knows z last
-    by None to h = subst (Knows z) (sym h.1) j.control.knows
+    by : (o : Option Control) (to : Option Target) → ByControl z p o j.between to last → Knows z last.view
+    by None to h = subst (λ (u : Sitter). Knows z u.view) (sym h.1) j.control.knows
     by (Some unused) to h = absurd h
-    by (Some undecided) to h = subst (Knows z) (sym h.1) j.control.knows
+    by (Some undecided) to h = subst (λ (u : Sitter). Knows z u.view) (sym h.1) j.control.knows
     by (Some succeeded) to h = old_known to h
     by (Some withdrawn) to h = old_known to h
     by (Some (failed e who)) to h = old_known to h
 
-pub settle_knows : (z : Shape) (v : View) (x : Reference) (p : Piece) (to : Target) (last : View) → Judged z x p v (Some to) last → Knows z last
-settle_knows z v x p to last j = judged_knows z v x p (Some to) last j
+pub settle_knows : (z : Shape) (k : Sitter) (x : Reference) (p : Piece) (to : Target) (last : Sitter) → Judged z x p k (Some to) last → Knows z last.view
+settle_knows z k x p to last j = judged_knows z k x p (Some to) last j
 
 -- ---- the own mark is settled
 
@@ -226,11 +227,11 @@ settled_none v x c d e old word (Some n) is mine worker =
     either true = refl
     either false = refl
 
-pub own_settled : (z : Shape) (c : ℕ) (own : OwnMark) (v : View) (word : ℕ) (next : View) → SettlesOwn z c own v word next → IsOwnUnsettled v own.mark → next.side.unsettled ≡ None
-own_settled z c own v word next h mine =
+pub own_settled : (z : Shape) (c : ℕ) (own : OwnMark) (k : Sitter) (word : ℕ) (next : Sitter) → SettlesOwn z c own k word next → IsOwnUnsettled k.view own.mark → next.view.side.unsettled ≡ None
+own_settled z c own k word next h mine =
     let x = ref_of own.mark in
     let d = ref_of own.piece.desc in
-    let same : h.between.side.unsettled ≡ v.side.unsettled = ap (λ (u : View). u.side.unsettled) h.control.view_is ∙ control_same v.side x c d h.said in
-    let worker : h.between.worker ≡ v.worker = ap (λ (u : View). u.worker) h.control.view_is in
+    let same : h.between.view.side.unsettled ≡ k.view.side.unsettled = ap (λ (u : View). u.side.unsettled) h.control.view_is ∙ control_same k.view.side x c d h.said in
+    let worker : h.between.view.worker ≡ k.view.worker = ap (λ (u : View). u.worker) h.control.view_is in
     ap (λ (u : View). u.side.unsettled) h.swap.view_is
-    ∙ settled_none h.between x c d own.piece.entry (old_of (own_target (state_said own.piece.desc.number h.said) own.old)) word (Some own.mark.number) (same ∙ mine.1) refl (mine.0 ∙ sym worker)
+    ∙ settled_none h.between.view x c d own.piece.entry (old_of (own_target (state_said own.piece.desc.number h.said) own.old)) word (Some own.mark.number) (same ∙ mine.1) refl (mine.0 ∙ sym worker)

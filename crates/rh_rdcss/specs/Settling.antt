@@ -10,6 +10,7 @@ use Rattle.rh_words.specs.declared.reference.Ref.{Ref as Reference}
 use Rattle.rh_words.specs.View.{View}
 use Rattle.rh_words.specs.Words.{desc_in, ref_of}
 use Rattle.rh_words.specs.Steps.Step.{reads, settles}
+use Rattle.rh_rule.specs.declared.rule.Sitter.{Sitter}
 use Rattle.rh_helping.specs.CellContent.{state_said}
 use Rattle.rh_shared.specs.declared.seat.OwnMark.{OwnMark}
 use Rattle.rh_rdcss.specs.declared.settling.Target.{Target}
@@ -27,31 +28,31 @@ Recalls v x None = ⊥
 Recalls v x (Some own) = (own.mark ≡ x) × NotesMark v own
 
 -- the words of the mark's row were read, and after them the number of the mark that it is of by now
-pub record ReadsRow (z : Shape) (x : Reference) (named entry serial : ℕ) (v next : View) : Type 0 where
-  pub first : View
-  pub second : View
-  pub of_desc : Learned z (reads (reading.MarkDesc x)) v named first
+pub record ReadsRow (z : Shape) (x : Reference) (named entry serial : ℕ) (k next : Sitter) : Type 0 where
+  pub first : Sitter
+  pub second : Sitter
+  pub of_desc : Learned z (reads (reading.MarkDesc x)) k named first
   pub of_entry : Learned z (reads (reading.MarkEntry x)) first entry second
   pub of_serial : Learned z (reads (reading.MarkSerial x)) second serial next
 
 -- it is still of this mark, and names this entry
-pub record Named (z : Shape) (x : Reference) (p : Piece) (v next : View) : Type 0 where
+pub record Named (z : Shape) (x : Reference) (p : Piece) (k next : Sitter) : Type 0 where
   pub word : ℕ
-  pub row : ReadsRow z x word p.entry x.number v next
+  pub row : ReadsRow z x word p.entry x.number k next
   pub names : desc_in word ≡ Some (ref_of p.desc)
 
 -- the row is of another mark by now
-pub record IsStaleMark (z : Shape) (x : Reference) (v next : View) : Type 0 where
+pub record IsStaleMark (z : Shape) (x : Reference) (k next : Sitter) : Type 0 where
   pub named : ℕ
   pub entry : ℕ
   pub serial : ℕ
-  pub row : ReadsRow z x named entry serial v next
+  pub row : ReadsRow z x named entry serial k next
   pub other : serial ≢ x.number
 
 -- of a mark that was found in this cell
-abbrev pub RowSays : Shape → Reference → (c : ℕ) → Option Piece → View → View → Type 0
-RowSays z x c None v next = IsStaleMark z x v next
-RowSays z x c (Some p) v next = (p.cell ≡ c) × Named z x p v next
+abbrev pub RowSays : Shape → Reference → (c : ℕ) → Option Piece → Sitter → Sitter → Type 0
+RowSays z x c None k next = IsStaleMark z x k next
+RowSays z x c (Some p) k next = (p.cell ≡ c) × Named z x p k next
 
 -- none stands for the descriptor
 abbrev pub old_of : Target → Option ℕ
@@ -59,53 +60,53 @@ old_of Descriptor = None
 old_of (Old old) = Some old
 
 -- the old value of the entry was read, and after it the number of the descriptor that the row is of by now
-pub record ReadsOld (z : Shape) (p : Piece) (old serial : ℕ) (v next : View) : Type 0 where
-  pub middle : View
-  pub of_old : Learned z (reads (reading.EntryOld p.desc p.entry)) v old middle
+pub record ReadsOld (z : Shape) (p : Piece) (old serial : ℕ) (k next : Sitter) : Type 0 where
+  pub middle : Sitter
+  pub of_old : Learned z (reads (reading.EntryOld p.desc p.entry)) k old middle
   pub of_serial : Learned z (reads (reading.Serial p.desc)) middle serial next
 
 -- the mark is settled to it, or left where the descriptor is stale
-abbrev pub ByOld : Shape → Piece → View → Option Target → View → Type 0
-ByOld z p v None next = (old serial : ℕ) × (serial ≢ p.desc.number) × ReadsOld z p old serial v next
-ByOld z p v (Some Descriptor) next = ⊥
-ByOld z p v (Some (Old old)) next = ReadsOld z p old p.desc.number v next
+abbrev pub ByOld : Shape → Piece → Sitter → Option Target → Sitter → Type 0
+ByOld z p k None next = (old serial : ℕ) × (serial ≢ p.desc.number) × ReadsOld z p old serial k next
+ByOld z p k (Some Descriptor) next = ⊥
+ByOld z p k (Some (Old old)) next = ReadsOld z p old p.desc.number k next
 
 -- By what the control tells: a mark of an undecided descriptor is settled to it, of a decided one to the old value, and
 -- that of a stale one is left.
-abbrev pub ByControl : Shape → Piece → Option Control → View → Option Target → View → Type 0
-ByControl z p None v to next = (to ≡ None) × (next ≡ v)
-ByControl z p (Some unused) v to next = ⊥
-ByControl z p (Some undecided) v to next = (to ≡ Some Descriptor) × (next ≡ v)
-ByControl z p (Some succeeded) v to next = ByOld z p v to next
-ByControl z p (Some withdrawn) v to next = ByOld z p v to next
-ByControl z p (Some (failed e by)) v to next = ByOld z p v to next
+abbrev pub ByControl : Shape → Piece → Option Control → Sitter → Option Target → Sitter → Type 0
+ByControl z p None k to next = (to ≡ None) × (next ≡ k)
+ByControl z p (Some unused) k to next = ⊥
+ByControl z p (Some undecided) k to next = (to ≡ Some Descriptor) × (next ≡ k)
+ByControl z p (Some succeeded) k to next = ByOld z p k to next
+ByControl z p (Some withdrawn) k to next = ByOld z p k to next
+ByControl z p (Some (failed e by)) k to next = ByOld z p k to next
 
 -- the control was read once the mark was found, and tells what the mark is settled to
-pub record Judged (z : Shape) (x : Reference) (p : Piece) (v : View) (to : Option Target) (next : View) : Type 0 where
+pub record Judged (z : Shape) (x : Reference) (p : Piece) (k : Sitter) (to : Option Target) (next : Sitter) : Type 0 where
   pub word : ℕ
-  pub between : View
-  pub control : Learned z (reads (reading.MarkControl x p.cell p.desc)) v word between
+  pub between : Sitter
+  pub control : Learned z (reads (reading.MarkControl x p.cell p.desc)) k word between
   pub by : ByControl z p (state_said p.desc.number word) between to next
 
 -- the row of the mark, which was found in this cell, was read and then the control of its descriptor
-pub record HasJudged (z : Shape) (x : Reference) (c : ℕ) (piece : Piece) (v : View) (to : Option Target) (next : View) : Type 0 where
+pub record HasJudged (z : Shape) (x : Reference) (c : ℕ) (piece : Piece) (k : Sitter) (to : Option Target) (next : Sitter) : Type 0 where
   pub in_cell : piece.cell ≡ c
-  pub named : View
-  pub row : Named z x piece v named
+  pub named : Sitter
+  pub row : Named z x piece k named
   pub control : Judged z x piece named to next
 
 -- the mark was settled by it; the Settle found this word
-pub record HasSettled (z : Shape) (x : Reference) (c : ℕ) (v : View) (word : ℕ) (next : View) : Type 0 where
+pub record HasSettled (z : Shape) (x : Reference) (c : ℕ) (k : Sitter) (word : ℕ) (next : Sitter) : Type 0 where
   pub piece : Piece
   pub to : Target
-  pub judged : View
-  pub by : HasJudged z x c piece v (Some to) judged
+  pub judged : Sitter
+  pub by : HasJudged z x c piece k (Some to) judged
   pub swap : Learned z (settles (ref_of x) piece.cell (ref_of piece.desc) piece.entry (old_of to)) judged word next
 
 -- or one of the two rows was stale, and no Settle was made
-abbrev pub SettlesMet : Shape → Reference → (c : ℕ) → View → Option ℕ → View → Type 0
-SettlesMet z x c v None next = IsStaleMark z x v next ⊎ ((piece : Piece) × HasJudged z x c piece v None next)
-SettlesMet z x c v (Some word) next = HasSettled z x c v word next
+abbrev pub SettlesMet : Shape → Reference → (c : ℕ) → Sitter → Option ℕ → Sitter → Type 0
+SettlesMet z x c k None next = IsStaleMark z x k next ⊎ ((piece : Piece) × HasJudged z x c piece k None next)
+SettlesMet z x c k (Some word) next = HasSettled z x c k word next
 
 -- what the own mark is settled to by what the control tells of its descriptor: to that, or to the old value
 abbrev pub own_target : Option Control → (old : ℕ) → Target
@@ -117,18 +118,18 @@ own_target (Some withdrawn) old = Old old
 own_target (Some (failed e by)) old = Old old
 
 -- the control of its descriptor was read, and the own mark was settled by it; the Settle found this word
-pub record SettlesOwn (z : Shape) (c : ℕ) (own : OwnMark) (v : View) (word : ℕ) (next : View) : Type 0 where
+pub record SettlesOwn (z : Shape) (c : ℕ) (own : OwnMark) (k : Sitter) (word : ℕ) (next : Sitter) : Type 0 where
   pub said : ℕ
-  pub between : View
-  pub control : Learned z (reads (reading.MarkControl own.mark c own.piece.desc)) v said between
+  pub between : Sitter
+  pub control : Learned z (reads (reading.MarkControl own.mark c own.piece.desc)) k said between
   pub swap : Learned z (settles (ref_of own.mark) c (ref_of own.piece.desc) own.piece.entry (old_of (own_target (state_said own.piece.desc.number said) own.old))) between word next
 
-abbrev pub SettlesMine : Shape → (c : ℕ) → Option OwnMark → View → Option ℕ → View → Type 0
-SettlesMine z c None v r next = ⊥
-SettlesMine z c (Some own) v None next = ⊥
-SettlesMine z c (Some own) v (Some word) next = SettlesOwn z c own v word next
+abbrev pub SettlesMine : Shape → (c : ℕ) → Option OwnMark → Sitter → Option ℕ → Sitter → Type 0
+SettlesMine z c None k r next = ⊥
+SettlesMine z c (Some own) k None next = ⊥
+SettlesMine z c (Some own) k (Some word) next = SettlesOwn z c own k word next
 
 -- So of a mark of another worker, which may be left; the own one is settled whatever became of the rows.
-pub record SettlesMark (z : Shape) (c : ℕ) (x : Reference) (kept : Option OwnMark) (v : View) (r : Option ℕ) (next : View) : Type 0 where
-  pub foreign : (x.worker ≡ v.worker → ⊥) → SettlesMet z x c v r next
-  pub own : x.worker ≡ v.worker → SettlesMine z c kept v r next
+pub record SettlesMark (z : Shape) (c : ℕ) (x : Reference) (kept : Option OwnMark) (k : Sitter) (r : Option ℕ) (next : Sitter) : Type 0 where
+  pub foreign : (x.worker ≡ k.view.worker → ⊥) → SettlesMet z x c k r next
+  pub own : x.worker ≡ k.view.worker → SettlesMine z c kept k r next

@@ -1,6 +1,6 @@
 //! The calls of one worker at a table.
 
-ghost use Rattle.std.specs.Prelude.{◌≡◌, ◌<◌, None};
+ghost use Rattle.std.specs.Prelude.{◌≡◌, ◌<◌, ℕ, IfSome, None};
 ghost use Rattle.rh_world.specs.World.{In};
 ghost use Rattle.rh_world.specs.Facts.Fact.{found};
 ghost use Rattle.rh_words.specs.Parts.{cell_count};
@@ -8,14 +8,14 @@ ghost use Rattle.rh_words.specs.Steps.{IsDesc};
 ghost use Rattle.rh_words.specs.Steps.Step.{reads};
 ghost use Rattle.rh_words.specs.Words.{cell_in, ref_of};
 ghost use Rattle.rh_steps.specs.Relies.{Knows};
-ghost use Rattle.rh_shared.specs.Seats.{IsHere, IsSame, view_of};
-ghost use Rattle.rh_rdcss.specs.Calls.{HasStatus, Learned, Meets, SeenAs};
-ghost use Rattle.rh_rdcss.specs.Placing.{IsMine, MayPlace, Places};
+ghost use Rattle.rh_shared.specs.Seats.{IsHere, IsSame, sitter_of, view_of};
+ghost use Rattle.rh_rdcss.specs.Calls.{HasStatus, Learned, Meets, SeenAs, StillKnows};
+ghost use Rattle.rh_rdcss.specs.Placing.{HasEntry, IsMine, LengthSays, MayPlace, Places};
 ghost use Rattle.rh_rdcss.specs.Settling.{IsOwnUnsettled, Recalls, SettlesMark};
 ghost use Rattle.rh_rdcss.specs.declared.calls.Placed.TheVariants.{Mine};
 
 use crate::making::make;
-use crate::placing::{place_there, read_entry, read_length};
+use crate::placing::{place_there, read_entry};
 use crate::reading::status_told;
 use crate::settling::{settle_met, settle_own};
 use rh_shared::{Seat, Table};
@@ -31,8 +31,6 @@ pub enum Placed {
     Found(u64),
     /// The descriptor is stale, and no mark was placed.
     Passed,
-    /// The descriptor has fewer entries, and no mark was placed.
-    Absent,
     /// No mark was left.
     Spent,
 }
@@ -44,7 +42,9 @@ pub fn peek_cell(table: &Table, seat: &mut Seat, cell: usize) -> u64
     requires knows { Knows table.now.shape (view_of seat.old) }
     requires cell { cell < cell_count table.now.shape }
     ensures same { IsSame seat.old seat.new }
-    ensures read { Learned table.now.shape (reads (Reading.Cell cell)) (view_of seat.old) result (view_of seat.new) }
+    ensures placed { seat.new.placed ≡ seat.old.placed }
+    ensures read { Learned table.now.shape (reads (Reading.Cell cell)) (sitter_of seat.old) result (sitter_of seat.new) }
+    ensures still { StillKnows (view_of seat.old) (view_of seat.new) }
     ensures meets { Meets cell (cell_in result) (view_of seat.new).side.facts }
 {
     make(table, seat, Request::Read(Reading::Cell(cell)))
@@ -58,7 +58,9 @@ pub fn status(table: &Table, seat: &mut Seat, desc: Ref) -> Option<State>
     requires knows { Knows table.now.shape (view_of seat.old) }
     requires desc { IsDesc table.now.shape (ref_of desc) }
     ensures same { IsSame seat.old seat.new }
-    ensures read { HasStatus table.now.shape desc (view_of seat.old) result (view_of seat.new) }
+    ensures placed { seat.new.placed ≡ seat.old.placed }
+    ensures read { HasStatus table.now.shape desc (sitter_of seat.old) result (sitter_of seat.new) }
+    ensures still { StillKnows (view_of seat.old) (view_of seat.new) }
     ensures seen { SeenAs (ref_of desc) result (view_of seat.new).side.facts }
     ensures unsettled { (view_of seat.new).side.unsettled ≡ (view_of seat.old).side.unsettled }
 {
@@ -66,30 +68,47 @@ pub fn status(table: &Table, seat: &mut Seat, desc: Ref) -> Option<State>
     status_told(desc, word)
 }
 
-/// Places the worker's next mark for an entry of a descriptor. The length, the cell and the old value are
-/// read in the row, and whether it is still of the descriptor; then the three words of the mark row are
-/// written, and one compare-and-swap of the cell is made.
-/// How many entries there are a caller cannot know, so it may answer `Absent`.
+/// Reads how many entries a descriptor has, and then whether its row is still of it: none where it is
+/// stale.
 #[inline(always)]
-pub fn place(table: &Table, seat: &mut Seat, desc: Ref, entry: usize) -> Placed
+pub fn count_entries(table: &Table, seat: &mut Seat, desc: Ref) -> Option<usize>
     requires here { IsHere table.now seat.old }
     requires knows { Knows table.now.shape (view_of seat.old) }
     requires may { MayPlace table.now.shape (view_of seat.old) desc }
     ensures same { IsSame seat.old seat.new }
+    ensures placed { seat.new.placed ≡ seat.old.placed }
     ensures knows { Knows table.now.shape (view_of seat.new) }
-    ensures places { Places table.now.shape desc entry (view_of seat.old) result (view_of seat.new) }
+    ensures says { LengthSays table.now.shape desc result (sitter_of seat.old) (sitter_of seat.new) }
+    ensures entries { IfSome result (λ size. (e : ℕ) → e < size →
+        HasEntry table.now.shape (view_of seat.new) desc e) }
+{
+    let length = make(table, seat, Request::Read(Reading::Length(desc))) as usize;
+    let serial = make(table, seat, Request::Read(Reading::Serial(desc)));
+    if serial != desc.number {
+        return None;
+    }
+    Some(length)
+}
+
+/// Places the worker's next mark for an entry that it knows the descriptor to have. The cell and the old
+/// value are read in the row, and whether it is still of the descriptor; then the three words of the
+/// mark row are written, and one compare-and-swap of the cell is made.
+#[inline(always)]
+pub fn place(table: &Table, seat: &mut Seat, desc: Ref, entry: usize) -> Placed
+    requires here { IsHere table.now seat.old }
+    requires knows { Knows table.now.shape (view_of seat.old) }
+    requires entry { HasEntry table.now.shape (view_of seat.old) desc entry }
+    ensures same { IsSame seat.old seat.new }
+    ensures knows { Knows table.now.shape (view_of seat.new) }
+    ensures places { Places table.now.shape desc entry (sitter_of seat.old) result (sitter_of seat.new) }
     ensures mine { result ≡ Mine → IsMine desc entry seat.new }
 {
     if seat.side.marks_used >= table.shape.rooms.marks {
         return Placed::Spent;
     }
-    match read_length(table, seat, desc) {
+    match read_entry(table, seat, desc, entry) {
         None => Placed::Passed,
-        Some(size) if entry >= size => Placed::Absent,
-        Some(_) => match read_entry(table, seat, desc, entry) {
-            None => Placed::Passed,
-            Some((piece, old)) => place_there(table, seat, piece, old),
-        },
+        Some((piece, old)) => place_there(table, seat, piece, old),
     }
 }
 
@@ -107,8 +126,9 @@ pub fn settle(table: &Table, seat: &mut Seat, cell: usize, mark: Ref) -> Option<
     requires found { In (found (ref_of mark) cell) (view_of seat.old).side.facts }
     requires own { mark.worker ≡ (view_of seat.old).worker → Recalls (view_of seat.old) mark seat.old.placed }
     ensures same { IsSame seat.old seat.new }
+    ensures placed { seat.new.placed ≡ seat.old.placed }
     ensures knows { Knows table.now.shape (view_of seat.new) }
-    ensures settles { SettlesMark table.now.shape cell mark seat.old.placed (view_of seat.old) result (view_of seat.new) }
+    ensures settles { SettlesMark table.now.shape cell mark seat.old.placed (sitter_of seat.old) result (sitter_of seat.new) }
     ensures settled { IsOwnUnsettled (view_of seat.old) mark → (view_of seat.new).side.unsettled ≡ None }
 {
     if mark.worker == seat.side.worker {

@@ -1,9 +1,10 @@
 //! A step by the seat of one worker.
 
+ghost use Rattle.std.specs.Prelude.{◌≡◌};
 ghost use Rattle.rh_words.specs.Requests.{step_asked};
 ghost use Rattle.rh_words.specs.Steps.{Allowed};
 ghost use Rattle.rh_steps.specs.Relies.{Knows};
-ghost use Rattle.rh_shared.specs.Seats.{IsHere, IsSame, view_of};
+ghost use Rattle.rh_shared.specs.Seats.{IsHere, IsSame, sitter_of, view_of};
 ghost use Rattle.rh_rdcss.specs.Calls.{Learned};
 
 use rh_shared::{OnTable, Seat, Table};
@@ -17,7 +18,8 @@ pub(crate) fn make(table: &Table, seat: &mut Seat, request: Request) -> u64
     requires knows { Knows table.now.shape (view_of seat.old) }
     requires allowed { Allowed table.now.shape (view_of seat.old) (step_asked request) }
     ensures same { IsSame seat.old seat.new }
-    ensures learned { Learned table.now.shape (step_asked request) (view_of seat.old) result (view_of seat.new) }
+    ensures placed { seat.new.placed ≡ seat.old.placed }
+    ensures learned { Learned table.now.shape (step_asked request) (sitter_of seat.old) result (sitter_of seat.new) }
 {
     let mut here = OnTable {
         table,

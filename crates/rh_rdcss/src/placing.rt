@@ -2,29 +2,14 @@
 
 ghost use Rattle.std.specs.Prelude.{◌≡◌, ◌<◌};
 ghost use Rattle.rh_steps.specs.Relies.{Knows};
-ghost use Rattle.rh_shared.specs.Seats.{IsHere, IsSame, view_of};
-ghost use Rattle.rh_rdcss.specs.Placing.{EntrySays, HasEntry, IsMine, KnowsPiece, LengthSays, MayPlace, Tried, TriedSo};
+ghost use Rattle.rh_shared.specs.Seats.{IsHere, IsSame, sitter_of, view_of};
+ghost use Rattle.rh_rdcss.specs.Placing.{EntrySays, HasEntry, IsMine, KnowsPiece, Tried, TriedSo};
 ghost use Rattle.rh_rdcss.specs.declared.calls.Placed.TheVariants.{Mine};
 
 use crate::calls::Placed;
 use crate::making::make;
 use rh_shared::{OwnMark, Seat, Table};
 use rh_words::{Part, Piece, Reading, Ref, Request, desc_word};
-
-/// Reads in the row of a descriptor how many entries it has, and then whether the row is still of it: if
-/// not, what was read says nothing of it.
-#[inline(always)]
-pub(crate) fn read_length(table: &Table, seat: &mut Seat, desc: Ref) -> Option<usize>
-    requires here { IsHere table.now seat.old }
-    requires knows { Knows table.now.shape (view_of seat.old) }
-    requires may { MayPlace table.now.shape (view_of seat.old) desc }
-    ensures same { IsSame seat.old seat.new }
-    ensures says { LengthSays table.now.shape desc result (view_of seat.old) (view_of seat.new) }
-{
-    let length = make(table, seat, Request::Read(Reading::Length(desc))) as usize;
-    let serial = make(table, seat, Request::Read(Reading::Serial(desc)));
-    (serial == desc.number).then_some(length)
-}
 
 /// Reads the cell and the old value of an entry in the row of its descriptor, and then whether the row
 /// is still of it: if not, what was read says nothing of it.
@@ -39,7 +24,7 @@ pub(crate) fn read_entry(
     requires knows { Knows table.now.shape (view_of seat.old) }
     requires has { HasEntry table.now.shape (view_of seat.old) desc entry }
     ensures same { IsSame seat.old seat.new }
-    ensures says { EntrySays table.now.shape desc entry result (view_of seat.old) (view_of seat.new) }
+    ensures says { EntrySays table.now.shape desc entry result (sitter_of seat.old) (sitter_of seat.new) }
 {
     let reading = Reading::EntryCell { desc, entry };
     let cell = make(table, seat, Request::Read(reading)) as usize;
@@ -61,7 +46,7 @@ pub(crate) fn place_there(table: &Table, seat: &mut Seat, piece: Piece, old: u64
     requires left { seat.old.side.marks_used < table.now.shape.rooms.marks }
     ensures same { IsSame seat.old seat.new }
     ensures knows { Knows table.now.shape (view_of seat.new) }
-    ensures tried { TriedSo table.now.shape piece old (view_of seat.old) result (view_of seat.new) }
+    ensures tried { TriedSo table.now.shape piece old (sitter_of seat.old) result (sitter_of seat.new) }
     ensures mine { result ≡ Mine → IsMine piece.desc piece.entry seat.new }
 {
     let mark = Ref {
@@ -86,7 +71,7 @@ pub(crate) fn place_next(table: &Table, seat: &mut Seat, piece: Piece, old: u64)
     requires knows_it { KnowsPiece table.now.shape (view_of seat.old) piece old }
     requires left { seat.old.side.marks_used < table.now.shape.rooms.marks }
     ensures same { IsSame seat.old seat.new }
-    ensures tried { Tried table.now.shape piece old (view_of seat.old) result (view_of seat.new) }
+    ensures tried { Tried table.now.shape piece old (sitter_of seat.old) result (sitter_of seat.new) }
 {
     let worker = seat.side.worker;
     let part = Part::MarkSerial { worker };

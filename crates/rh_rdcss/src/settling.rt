@@ -5,7 +5,7 @@ ghost use Rattle.rh_world.specs.World.{In};
 ghost use Rattle.rh_world.specs.Facts.Fact.{found};
 ghost use Rattle.rh_words.specs.Words.{ref_of};
 ghost use Rattle.rh_steps.specs.Relies.{Knows};
-ghost use Rattle.rh_shared.specs.Seats.{IsHere, IsSame, view_of};
+ghost use Rattle.rh_shared.specs.Seats.{IsHere, IsSame, sitter_of, view_of};
 ghost use Rattle.rh_rdcss.specs.Placing.{NotesMark};
 ghost use Rattle.rh_rdcss.specs.Settling.{IsOwnUnsettled, Judged, RowSays, SettlesMet, SettlesOwn, old_of, own_target};
 ghost use Rattle.rh_rule.specs.Sound.{IsControlWord};
@@ -46,8 +46,9 @@ pub(crate) fn settle_own(table: &Table, seat: &mut Seat, cell: usize, own: OwnMa
     requires found { In (found (ref_of own.mark) cell) (view_of seat.old).side.facts }
     requires facts { NotesMark (view_of seat.old) own }
     ensures same { IsSame seat.old seat.new }
+    ensures placed { seat.new.placed ≡ seat.old.placed }
     ensures knows { Knows table.now.shape (view_of seat.new) }
-    ensures settles { SettlesOwn table.now.shape cell own (view_of seat.old) result (view_of seat.new) }
+    ensures settles { SettlesOwn table.now.shape cell own (sitter_of seat.old) result (sitter_of seat.new) }
     ensures settled { IsOwnUnsettled (view_of seat.old) own.mark → (view_of seat.new).side.unsettled ≡ None }
 {
     let OwnMark { mark, piece, old } = own;
@@ -80,8 +81,9 @@ pub(crate) fn settle_met(table: &Table, seat: &mut Seat, cell: usize, mark: Ref)
     requires knows { Knows table.now.shape (view_of seat.old) }
     requires found { In (found (ref_of mark) cell) (view_of seat.old).side.facts }
     ensures same { IsSame seat.old seat.new }
+    ensures placed { seat.new.placed ≡ seat.old.placed }
     ensures knows { Knows table.now.shape (view_of seat.new) }
-    ensures settles { SettlesMet table.now.shape mark cell (view_of seat.old) result (view_of seat.new) }
+    ensures settles { SettlesMet table.now.shape mark cell (sitter_of seat.old) result (sitter_of seat.new) }
 {
     let piece = read_row(table, seat, mark, cell)?;
     let to = judge(table, seat, mark, piece)?;
@@ -97,7 +99,8 @@ pub(crate) fn read_row(table: &Table, seat: &mut Seat, mark: Ref, cell: usize) -
     requires knows { Knows table.now.shape (view_of seat.old) }
     requires found { In (found (ref_of mark) cell) (view_of seat.old).side.facts }
     ensures same { IsSame seat.old seat.new }
-    ensures says { RowSays table.now.shape mark cell result (view_of seat.old) (view_of seat.new) }
+    ensures placed { seat.new.placed ≡ seat.old.placed }
+    ensures says { RowSays table.now.shape mark cell result (sitter_of seat.old) (sitter_of seat.new) }
 {
     let named = make(table, seat, Request::Read(Reading::MarkDesc(mark)));
     let entry = make(table, seat, Request::Read(Reading::MarkEntry(mark))) as usize;
@@ -120,7 +123,8 @@ pub(crate) fn judge(table: &Table, seat: &mut Seat, mark: Ref, piece: Piece) -> 
     requires knows { Knows table.now.shape (view_of seat.old) }
     requires met { IsFound (view_of seat.old) mark piece }
     ensures same { IsSame seat.old seat.new }
-    ensures judged { Judged table.now.shape mark piece (view_of seat.old) result (view_of seat.new) }
+    ensures placed { seat.new.placed ≡ seat.old.placed }
+    ensures judged { Judged table.now.shape mark piece (sitter_of seat.old) result (sitter_of seat.new) }
 {
     let Piece { desc, entry, cell } = piece;
     let reading = Reading::MarkControl { mark, cell, desc };

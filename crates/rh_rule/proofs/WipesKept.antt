@@ -21,7 +21,7 @@ use Rattle.rh_words.proofs.IndexLemmas.{entry_inside}
 use Rattle.rh_rule.specs.Represents.{IsCell, IsOwn, Kept, cell_number, word_at}
 use Rattle.rh_rule.specs.Core.{Core, Ruled}
 use Rattle.rh_rule.specs.Rest.{AllRest}
-use Rattle.rh_rule.specs.Wipes.{AreWiping, Rules, ShareOut, TableStarts, WipeBegins, WipeEnds, WipeStores, Wiped, row_total, wiping_view}
+use Rattle.rh_rule.specs.Wipes.{AreWiping, Begins, Rules, ShareOut, TableStarts, WipeBegins, WipeEnds, WipeStores, Wiped, row_total, wiping_view}
 use Rattle.rh_rule.proofs.WritesKept.{own_index}
 
 -- ---- a table whose row words are 0
@@ -209,6 +209,15 @@ module _ (z : Shape) (words cells : List ℕ) (keep : ℕ → View) (some_one : 
       (λ c lt. w.same c lt ∙ ap (λ (l : List ℕ). get_or l c 0) t.1)
       w.plain (λ i lt. w.zeros i (subst (λ (x : ℕ). i < x) (sym t.2) lt)) w.shared w.worker (λ v lt. refl)
 
+  begins_so : AreWiping z keep cells (row_total z) → Rules z words keep → Begins z words (λ v. round_view cells (keep v))
+  begins_so wiping rules =
+      let t = only_wiped (row_total z) wiping rules in
+      let w = t.0 in record {
+        sized = w.sized;
+        cells = λ v c lt inside. w.same c inside ∙ ap (λ (l : List ℕ). get_or l c 0) t.1;
+        rows = λ i lt. w.zeros i (subst (λ (x : ℕ). i < x) (sym t.2) lt);
+      }
+
 pub wipe_begins : WipeBegins
 wipe_begins w z words cells keep some_one rest core same = begins z words cells keep some_one w rest core same
 
@@ -217,6 +226,10 @@ wipe_stores z words cells keep n some_one inside wiping rules = stores_on z word
 
 pub wipe_ends : WipeEnds
 wipe_ends z words cells keep shape some_one wiping rules = ends_so z words cells keep some_one wiping rules
+
+pub wiped_begins : (z : Shape) (words cells : List ℕ) (keep : ℕ → View) → 0 < z.workers → AreWiping z keep cells (row_total z) → Rules z words keep
+    → Begins z words (λ v. round_view cells (keep v))
+wiped_begins z words cells keep some_one wiping rules = begins_so z words cells keep some_one wiping rules
 
 -- ---- the start
 
@@ -238,15 +251,28 @@ back_at : (xs ys : List ℕ) (i : ℕ) → get_or (xs ++ ys) (length xs + i) 0 �
 back_at [] ys i = ap (λ (u : ℕ). get_or ys u 0) (zero-add i)
 back_at (x ∷ xs) ys i = ap (λ (u : ℕ). get_or ((x ∷ xs) ++ ys) u 0) (let z : length (x ∷ xs) + i ≡ suc (length xs + i) = omega arith in z) ∙ back_at xs ys i
 
+module _ (z : Shape) (cells : List ℕ) (long : length cells ≡ cell_count z) where
+  abbrev first_words : List ℕ
+  first_words = cells ++ replicate {A = ℕ} (row_total z + 1) 0
+
+  behind : (i : ℕ) → get_or first_words (cell_count z + i) 0 ≡ 0
+  behind i = ap (λ (u : ℕ). get_or first_words (u + i) 0) (sym long) ∙ back_at cells (replicate {A = ℕ} (row_total z + 1) 0) i ∙ zeros_at (row_total z + 1) i
+
+  front : (c : ℕ) → c < cell_count z → get_or first_words c 0 ≡ get_or cells c 0
+  front c lt = front_at cells (replicate {A = ℕ} (row_total z + 1) 0) c (let l : length cells ≡ cell_count z = long in omega arith)
+
+  pub start_begins : Begins z first_words (new_view cells)
+  start_begins = record {
+    sized = let a = length-append cells (replicate {A = ℕ} (row_total z + 1) 0) in let b = zeros_long (row_total z + 1) in let l : length cells ≡ cell_count z = long in omega arith;
+    cells = λ v c lt inside. front c inside;
+    rows = λ i lt. behind i;
+  }
+
 pub table_starts : TableStarts
 table_starts z cells shape long plain =
-    let n : ℕ = row_total z + 1 in
-    let words : List ℕ = cells ++ replicate {A = ℕ} n 0 in
-    let behind : (i : ℕ) → get_or words (cell_count z + i) 0 ≡ 0 = λ i. ap (λ (u : ℕ). get_or words (u + i) 0) (sym long) ∙ back_at cells (replicate {A = ℕ} n 0) i ∙ zeros_at n i in
-    let counter : word_at z words part.Counter ≡ 0 = behind (row_total z) in
-    let sized : length words ≡ word_count z = (let a = length-append cells (replicate {A = ℕ} n 0) in let b = zeros_long n in let l : length cells ≡ cell_count z = long in omega arith) in
-    let front : (c : ℕ) → c < cell_count z → get_or words c 0 ≡ get_or cells c 0 = λ c lt. front_at cells (replicate {A = ℕ} n 0) c (let l : length cells ≡ cell_count z = long in omega arith) in
-    fresh z words cells (new_view cells) (new_view cells) sized front (λ c lt. ap (λ (u : ℕ). tag_of u) (front c lt) ∙ plain c lt) (λ i lt. behind i)
+    let begins = start_begins z cells long in
+    let counter : word_at z (first_words z cells long) part.Counter ≡ 0 = behind z cells long (row_total z) in
+    fresh z (first_words z cells long) cells (new_view cells) (new_view cells) begins.sized (front z cells long) (λ c lt. ap (λ (u : ℕ). tag_of u) (front z cells long c lt) ∙ plain c lt) begins.rows
     record {
       claims = λ v. [];
       kept = λ v lt. refl;

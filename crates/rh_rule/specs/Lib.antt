@@ -4,4 +4,5 @@ pub mod Core
 pub mod Sound
 pub mod Rest
 pub mod Wipes
+pub mod Traces
 pub mod Seats

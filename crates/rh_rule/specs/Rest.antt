@@ -46,6 +46,15 @@ pub record Told (w : World) (z : Shape) (keep : ℕ → View) (side : ℕ → Si
   -- and each act is of a worker of the table
   pub workers : (i : ℕ) → i < w.act_count → (w.act i).worker < z.workers
 
+-- What the rule tells at a moment at which this is kept of a worker.
+pub record IsTold (z : Shape) (v : View) : Type 0 where
+  pub w : World
+  pub keep : ℕ → View
+  pub side : ℕ → Side
+  pub told : Told w z keep side
+  pub within : v.worker < z.workers
+  pub is : keep v.worker ≡ v
+
 abbrev pub TableTells : Type 0
 TableTells = (w : World) (z : Shape) (words : List ℕ) (keep : ℕ → View) → (core : Core w z words keep) → Told w z keep core.side
 

@@ -27,6 +27,10 @@
 //! - `RowRule`, `starts`, `steps_are_allowed`, `views_split_and_join`, `all_may_wipe`,
 //!   `close_sees`: the same as the rule of a table of `atomic_table`. It may start; its seats may
 //!   make each allowed step, and may be split and joined.
+//! - A table keeps of each worker the trace of its steps: the word that each touched, what it found
+//!   there and what it left. Only an atomic step changes it. All traces of a round are parts of one
+//!   order of steps, from the opening cells to the words that stand: `Round` of `RuleHolds`.
+//! - `looks_are_allowed`: a seat may look at a word of its own rows, which is no step.
 //! - The seat of all workers may wipe such a table. `close_sees` says what it knows at a wipe and
 //!   at the close.
 #![tactic(auto)]
@@ -36,5 +40,7 @@ mod rule;
 mod seats;
 
 pub use laws::{a_wipe_keeps, each_step_keeps, rests, table_starts, tells, workers_rely};
-pub use rule::{RowRule, TableKey};
-pub use seats::{all_may_wipe, close_sees, starts, steps_are_allowed, views_split_and_join};
+pub use rule::{RowRule, Sitter, TableKey};
+pub use seats::{
+    all_may_wipe, close_sees, looks_are_allowed, starts, steps_are_allowed, views_split_and_join,
+};

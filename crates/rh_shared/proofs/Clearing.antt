@@ -4,11 +4,11 @@ use Rattle.std.proofs.lemmas.List.{length-map}
 use mathlib.Core.Option.{some}
 use lib.ListN.{get_elem?}
 use Rattle.atomic_table.specs.Table.{Allows, Me}
-use Rattle.rh_words.specs.declared.known.Known.{Known}
+use Rattle.rh_rule.specs.declared.rule.Sitter.{Sitter}
 use Rattle.rh_words.specs.declared.shape.Shape.{Shape}
 use Rattle.rh_words.specs.Parts.{IsShape, cell_count}
 use Rattle.rh_words.specs.View.{View, round_view}
-use Rattle.rh_rule.specs.Seats.{AreMade, Begun, RuleHolds, InView, IsWiping, NoSlot, Spans, WipeSteps, all_views, known}
+use Rattle.rh_rule.specs.Seats.{AreMade, Begun, RuleHolds, InView, IsWiping, NoSlot, Spans, WipeSteps, all_views, sitter}
 use Rattle.rh_rule.specs.Wipes.{row_total, wiping_view}
 use Rattle.rh_rule.proofs.SeatsKept.{all_may_wipe, of_map}
 use Rattle.rh_shared.specs.Crews.{IsFresh, IsQuiet}
@@ -17,43 +17,43 @@ use Rattle.rh_shared.proofs.Crews.{IsHalf}
 
 -- ---- views that are changed alike
 
-all_same : (f g : View → View) (vs : List Known) → ((r : ℕ) (s : Known) → get_elem? vs r ≡ some s → f s.view ≡ g s.view) → all_views f vs ≡ all_views g vs
+all_same : (f g : View → View) (vs : List Sitter) → ((r : ℕ) (s : Sitter) → get_elem? vs r ≡ some s → f s.view ≡ g s.view) → all_views f vs ≡ all_views g vs
 all_same f g [] same = refl
 all_same f g (x ∷ xs) same =
     let head = same 0 x refl in
     let rest = all_same f g xs (λ r s e. same (suc r) s e) in
-    λ i. known (head i) ∷ rest i
+    λ i. sitter (head i) [] ∷ rest i
 
-all_twice : (f g h : View → View) → ((v : View) → f (g v) ≡ h v) → (vs : List Known) → all_views f (all_views g vs) ≡ all_views h vs
+all_twice : (f g h : View → View) → ((v : View) → f (g v) ≡ h v) → (vs : List Sitter) → all_views f (all_views g vs) ≡ all_views h vs
 all_twice f g h same [] = refl
 all_twice f g h same (x ∷ xs) =
     let head = same x.view in
     let rest = all_twice f g h same xs in
-    λ i. known (head i) ∷ rest i
+    λ i. sitter (head i) [] ∷ rest i
 
-pub in_views : (P : View → Type 0) (f : View → View) → ((v : View) → P (f v)) → (vs : List Known) → InView P (all_views f vs)
-in_views P f each vs r s e = let h = of_map (λ k. known (f k.view)) vs r s e in subst (λ (k : Known). P k.view) (sym h.2) (each h.0.view)
+pub in_views : (P : View → Type 0) (f : View → View) → ((v : View) → P (f v)) → (vs : List Sitter) → InView P (all_views f vs)
+in_views P f each vs r s e = let h = of_map (λ k. sitter (f k.view) []) vs r s e in subst (λ (k : Sitter). P k.view) (sym h.2) (each h.0.view)
 
-pub spans_views : (f : View → View) → ((v : View) → (f v).worker ≡ v.worker) → (vs : List Known) (first count : ℕ) → Spans vs first count → Spans (all_views f vs) first count
+pub spans_views : (f : View → View) → ((v : View) → (f v).worker ≡ v.worker) → (vs : List Sitter) (first count : ℕ) → Spans vs first count → Spans (all_views f vs) first count
 spans_views f same vs first count s = record {
-  long = length-map vs (λ k. known (f k.view)) ∙ s.long;
-  each = λ r k e. let h = of_map (λ k. known (f k.view)) vs r k e in ap (λ (k : Known). k.view.worker) h.2 ∙ same h.0.view ∙ s.each r h.0 h.1;
+  long = length-map vs (λ k. sitter (f k.view) []) ∙ s.long;
+  each = λ r k e. let h = of_map (λ k. sitter (f k.view) []) vs r k e in ap (λ (k : Sitter). k.view.worker) h.2 ∙ same h.0.view ∙ s.each r h.0 h.1;
 }
 
 -- ---- the steps
 
-weaker : (z : Shape) (slots id i : ℕ) (me : Me NoSlot (List Known)) (f : ℕ → ℕ) (then more : Me NoSlot (List Known) → Type 0) → ((m : Me NoSlot (List Known)) → then m → more m)
+weaker : (z : Shape) (slots id i : ℕ) (me : Me NoSlot (List Sitter)) (f : ℕ → ℕ) (then more : Me NoSlot (List Sitter) → Type 0) → ((m : Me NoSlot (List Sitter)) → then m → more m)
     → Allows {S = NoSlot} (RuleHolds z) slots id me i f (λ word. then) → Allows {S = NoSlot} (RuleHolds z) slots id me i f (λ word. more)
 weaker z slots id i me f then more to a st h long is less = let r = a st h long is less in (r.0, r.1, r.2, r.3, to _ r.4)
 
-module _ (z : Shape) (slots id : ℕ) (me : Me NoSlot (List Known)) (shape : IsShape z) (empty : me.1 ≡ []) (some_one : 0 < z.workers) (all : Spans me.0 0 z.workers) where
-  abbrev vs : List Known
+module _ (z : Shape) (slots id : ℕ) (me : Me NoSlot (List Sitter)) (shape : IsShape z) (empty : me.1 ≡ []) (some_one : 0 < z.workers) (all : Spans me.0 0 z.workers) where
+  abbrev vs : List Sitter
   vs = me.0
 
   may : WipeSteps z slots id vs
   may = all_may_wipe z slots id vs shape some_one all
 
-  of_me : (i : ℕ) (f : ℕ → ℕ) (then : Me NoSlot (List Known) → Type 0) → Allows {S = NoSlot} (RuleHolds z) slots id (vs, []) i f (λ word. then) → Allows {S = NoSlot} (RuleHolds z) slots id me i f (λ word. then)
+  of_me : (i : ℕ) (f : ℕ → ℕ) (then : Me NoSlot (List Sitter) → Type 0) → Allows {S = NoSlot} (RuleHolds z) slots id (vs, []) i f (λ word. then) → Allows {S = NoSlot} (RuleHolds z) slots id me i f (λ word. then)
   of_me i f then a = subst (λ l. Allows {S = NoSlot} (RuleHolds z) slots id (vs, l) i f (λ word. then)) (sym empty) a
 
   pub may_begin : InView IsQuiet vs → Allows {S = NoSlot} (RuleHolds z) slots id me 0 (λ n. n) (λ word. Begun z vs)
@@ -83,21 +83,21 @@ module _ (z : Shape) (slots id : ℕ) (me : Me NoSlot (List Known)) (shape : IsS
 
 -- ---- from the start to the end
 
-pub cleared_on : (vs us : List Known) (cells : List ℕ) (n : ℕ) → us ≡ all_views (wiping_view cells n) vs → all_views (with_cleared (n + 1)) us ≡ all_views (wiping_view cells (n + 1)) vs
+pub cleared_on : (vs us : List Sitter) (cells : List ℕ) (n : ℕ) → us ≡ all_views (wiping_view cells n) vs → all_views (with_cleared (n + 1)) us ≡ all_views (wiping_view cells (n + 1)) vs
 cleared_on vs us cells n is = ap (all_views (with_cleared (n + 1))) is ∙ all_twice (with_cleared (n + 1)) (wiping_view cells n) (wiping_view cells (n + 1)) (λ v. refl) vs
 
-pub finished : (z : Shape) (vs us : List Known) (m : AreMade z vs) (n : ℕ) → us ≡ all_views (wiping_view m.cells n) vs → IsWiped z vs (all_views renewed us)
+pub finished : (z : Shape) (vs us : List Sitter) (m : AreMade z vs) (n : ℕ) → us ≡ all_views (wiping_view m.cells n) vs → IsWiped z vs (all_views renewed us)
 finished z vs us m n is = record { made = m; views = ap (all_views renewed) is ∙ all_twice renewed (wiping_view m.cells n) (round_view m.cells) (λ v. refl) vs }
 
 -- the seat in the midst of a wipe
-pub wiping_spans : (vs us : List Known) (cells : List ℕ) (n first count : ℕ) → us ≡ all_views (wiping_view cells n) vs → Spans vs first count → Spans us first count
-wiping_spans vs us cells n first count is s = subst (λ (l : List Known). Spans l first count) (sym is) (spans_views (wiping_view cells n) (λ v. refl) vs first count s)
+pub wiping_spans : (vs us : List Sitter) (cells : List ℕ) (n first count : ℕ) → us ≡ all_views (wiping_view cells n) vs → Spans vs first count → Spans us first count
+wiping_spans vs us cells n first count is s = subst (λ (l : List Sitter). Spans l first count) (sym is) (spans_views (wiping_view cells n) (λ v. refl) vs first count s)
 
-pub are_wiping : (vs us : List Known) (cells : List ℕ) (n : ℕ) → us ≡ all_views (wiping_view cells n) vs → InView (IsWiping cells n) us
-are_wiping vs us cells n is = subst (λ (l : List Known). InView (IsWiping cells n) l) (sym is) (in_views (IsWiping cells n) (wiping_view cells n) (λ v. refl) vs)
+pub are_wiping : (vs us : List Sitter) (cells : List ℕ) (n : ℕ) → us ≡ all_views (wiping_view cells n) vs → InView (IsWiping cells n) us
+are_wiping vs us cells n is = subst (λ (l : List Sitter). InView (IsWiping cells n) l) (sym is) (in_views (IsWiping cells n) (wiping_view cells n) (λ v. refl) vs)
 
-pub wiped_half : (z : Shape) (vs us : List Known) (first count : ℕ) → IsWiped z vs us → Spans vs first count → IsHalf us first count
-wiped_half z vs us first count w s = subst (λ (l : List Known). IsHalf l first count) (sym w.views) record {
+pub wiped_half : (z : Shape) (vs us : List Sitter) (first count : ℕ) → IsWiped z vs us → Spans vs first count → IsHalf IsFresh us first count
+wiped_half z vs us first count w s = subst (λ (l : List Sitter). IsHalf IsFresh l first count) (sym w.views) record {
   spans = spans_views (round_view w.made.cells) (λ v. refl) vs first count s;
-  fresh = in_views IsFresh (round_view w.made.cells) (λ v. refl) vs;
+  each = in_views IsFresh (round_view w.made.cells) (λ v. refl) vs;
 }

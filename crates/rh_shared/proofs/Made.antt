@@ -8,7 +8,7 @@ use Rattle.atomic_table.specs.Table.{State, opening}
 use Rattle.rh_world.proofs.Updated.{same_nat}
 use Rattle.rh_tagword.specs.Word.{IsValue, is_plain, plain_number, tag_of}
 use Rattle.rh_tagword.proofs.PlainWords.{value_said, value_there}
-use Rattle.rh_words.specs.declared.known.Known.{Known}
+use Rattle.rh_rule.specs.declared.rule.Sitter.{Sitter}
 use Rattle.rh_words.specs.declared.shape.Shape.{Shape}
 use Rattle.rh_words.specs.Parts.{IsShape, cell_count, word_count}
 use Rattle.rh_words.specs.View.{View, new_view}
@@ -37,16 +37,16 @@ opens z cells plain all kept n m shape size plain_is n_is m_is all_is kept_is =
     subst (λ (ws : List ℕ). RuleHolds {S = NoSlot} z (opening {S = NoSlot} all [] (first_view z ws))) (sym kept_is)
     (subst (λ (ws : List ℕ). RuleHolds {S = NoSlot} z (opening {S = NoSlot} ws [] (first_view z plain))) (sym whole) (starts z plain [] shape long are_plain))
 
-pub made_half : (z : Shape) (plain : List ℕ) (us : List Known) → us ≡ first_view z plain → IsHalf us 0 z.workers
-made_half z plain us is = subst (λ (l : List Known). IsHalf l 0 z.workers) (sym is) record {
+pub made_half : (z : Shape) (plain : List ℕ) (us : List Sitter) → us ≡ first_view z plain → IsHalf IsFresh us 0 z.workers
+made_half z plain us is = subst (λ (l : List Sitter). IsHalf IsFresh l 0 z.workers) (sym is) record {
   spans = record {
     long = new_long plain 0 z.workers;
-    each = λ r s e. ap (λ (k : Known). k.view.worker) (new_at plain 0 z.workers r s e);
+    each = λ r s e. ap (λ (k : Sitter). k.view.worker) (new_at plain 0 z.workers r s e);
   };
-  fresh = λ r s e. subst (λ (k : Known). IsFresh k.view) (sym (new_at plain 0 z.workers r s e)) refl;
+  each = λ r s e. subst (λ (k : Sitter). IsFresh k.view) (sym (new_at plain 0 z.workers r s e)) refl;
 }
 
-pub made_head : (z : Shape) (plain : List ℕ) (us : List Known) → 0 < z.workers → us ≡ first_view z plain → new_view plain 0 ≡ head_of us
+pub made_head : (z : Shape) (plain : List ℕ) (us : List Sitter) → 0 < z.workers → us ≡ first_view z plain → new_view plain 0 ≡ head_of us
 made_head z plain us more is = sym (ap head_of is ∙ first_head z.workers more)
   where
     first_head : (n : ℕ) → 0 < n → head_of (new_views plain 0 n) ≡ new_view plain 0
@@ -61,16 +61,15 @@ get_from (x ∷ xs) zero a e = some-injective x a e
 get_from (x ∷ xs) (suc i) a e = get_from xs i a e
 
 -- where all workers are quiet, these are the cells
-closes : (z y : Shape) (id : ℕ) (vs : List Known) (st : State NoSlot (List Known)) → y ≡ z → 0 < z.workers → Spans vs 0 z.workers → RuleHolds {S = NoSlot} y st → get_elem? st.views id ≡ some vs
+closes : (z y : Shape) (id : ℕ) (vs : List Sitter) (st : State NoSlot (List Sitter)) → y ≡ z → 0 < z.workers → Spans vs 0 z.workers → RuleHolds {S = NoSlot} y st → get_elem? st.views id ≡ some vs
     → InView IsQuiet vs → (m : AreMade z vs) × (m.cells ≡ take (cell_count z) st.words) × (cell_count z ≤ length st.words)
 closes z y id vs st same some_one all holds at quiet =
     let sees = close_sees z id vs st some_one all (subst (λ (x : Shape). RuleHolds {S = NoSlot} x st) same holds) at (λ r s e. (quiet r s e).still) in
-    let keep = sees.0 in
-    let ruled = sees.1 in
-    let of_view = sees.2 in
+    let keep = sees.keep in
+    let ruled = sees.ruled in
     let each : (P : View → Type 0) → InView P vs → (v : ℕ) → v < z.workers → P (keep v) = λ P h v inside.
     let it = item_at vs v (let l = all.long in omega (arith, l, inside)) in
-    subst P (sym (of_view v it.0 it.1)) (h v it.0 it.1) in
+    subst P (sym (sees.of_view v it.0 it.1)) (h v it.0 it.1) in
     let rest : AllRest z keep = record { still = λ v inside. (each IsQuiet quiet v inside).still; rest = λ v inside. (each IsQuiet quiet v inside).rest } in
     let r = rests ruled.0 z st.words keep ruled.1 rest in
     let sized : length st.words ≡ word_count z = ruled.1.represents.sized in
@@ -90,19 +89,22 @@ closes z y id vs st same some_one all holds at quiet =
           plain = λ c inside. ap (λ (n : ℕ). tag_of n) (sym (front c inside)) ∙ r.plain c inside;
           acts = r.acts;
         };
-        of_view = of_view;
+        of_view = sees.of_view;
+        traces = sees.traces;
+        round = sees.round;
+        of_trace = sees.of_trace;
       },
       refl,
       omega (arith, sized),
     )
 
-pub closes_with : (z y : Shape) (id : ℕ) (vs : List Known) (st : State NoSlot (List Known)) (words : List ℕ) → y ≡ z → 0 < z.workers → Spans vs 0 z.workers → RuleHolds {S = NoSlot} y st
+pub closes_with : (z y : Shape) (id : ℕ) (vs : List Sitter) (st : State NoSlot (List Sitter)) (words : List ℕ) → y ≡ z → 0 < z.workers → Spans vs 0 z.workers → RuleHolds {S = NoSlot} y st
     → get_elem? st.views id ≡ some vs → InView IsQuiet vs → st.words ≡ words → (m : AreMade z vs) × (m.cells ≡ take (cell_count z) words) × (cell_count z ≤ length words)
 closes_with z y id vs st words same some_one all holds at quiet is =
     let r = closes z y id vs st same some_one all holds at quiet in
     (r.0, subst (λ (ws : List ℕ). r.0.cells ≡ take (cell_count z) ws) is r.1, subst (λ (ws : List ℕ). cell_count z ≤ length ws) is r.2)
 
-module _ (z : Shape) (vs : List Known) (words : List ℕ) (m : AreMade z vs) (front : m.cells ≡ take (cell_count z) words) where
+module _ (z : Shape) (vs : List Sitter) (words : List ℕ) (m : AreMade z vs) (front : m.cells ≡ take (cell_count z) words) where
   pub front_plain : (c : ℕ) → c < cell_count z → IsPlain (get_or words c 0)
   front_plain c inside = subst (λ (n : ℕ). IsPlain n) (ap (λ (l : List ℕ). get_or l c 0) front ∙ get_or-take (cell_count z) words c 0 inside) (m.rested.plain c inside)
 

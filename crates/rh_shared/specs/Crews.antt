@@ -1,10 +1,13 @@
 -- Seats of several workers.
 use Rattle.std.specs.Prelude.{◌≡◌, ℕ, ◌+◌, ◌≤◌, None, List, [], ◌∷◌, ◌++◌, take, drop}
 use Rattle.rh_world.specs.Sides.{AtRest}
-use Rattle.rh_words.specs.declared.known.Known.{Known}
+use Rattle.rh_rule.specs.declared.rule.Sitter.{Sitter}
+use Rattle.rh_words.specs.declared.shape.Shape.{Shape}
 use Rattle.rh_words.specs.View.{View, new_view, round_view}
+use Rattle.rh_rule.specs.Sound.{Sound}
 use Rattle.rh_shared.specs.declared.seat.Seat.{Seat}
 use Rattle.rh_shared.specs.declared.table.Table.{Table}
+use Rattle.rh_shared.specs.Rests.{IsRested}
 
 -- the seat is at the table, and its workers are of it
 pub record SitsAt (t : Table) (s : Seat) : Type 0 where
@@ -18,17 +21,30 @@ pub record HasAll (t : Table) (s : Seat) : Type 0 where
   pub count : s.count ≡ t.shape.workers
 
 -- what is kept of its workers
-abbrev pub views_of : Seat → List Known
+abbrev pub views_of : Seat → List Sitter
 views_of s = s.inner.me.0
 
 -- what is kept of the first of them
-abbrev pub head_of : List Known → View
+abbrev pub head_of : List Sitter → View
 head_of [] = new_view [] 0
 head_of (k ∷ ks) = k.view
 
 -- the worker did nothing since the table was made or wiped, but for Claims
 abbrev pub IsFresh : View → Type 0
 IsFresh v = v ≡ round_view v.opening v
+
+-- it has opened no descriptor and placed no mark
+pub record CountsNone (v : View) : Type 0 where
+  pub number : v.next_number ≡ 0
+  pub control : v.control ≡ 0
+  pub marks : v.marks_used ≡ 0
+
+-- the worker used no row since the table was made or wiped, but may have read
+pub record UsedNoRow (z : Shape) (v : View) : Type 0 where
+  pub still : v.wiping ≡ None
+  pub sound : Sound z v
+  pub rested : IsRested v
+  pub counts : CountsNone v
 
 -- nothing of the worker is open or owed, and no wipe is under way
 pub record IsQuiet (v : View) : Type 0 where

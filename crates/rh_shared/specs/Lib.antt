@@ -1,3 +1,4 @@
+pub mod Traces
 pub mod Sits
 pub mod Seats
 pub mod Rests

@@ -2,7 +2,7 @@
 
 ghost use Rattle.std.specs.Prelude.{◌≡◌};
 
-use crate::steps::{count, exchange, load, swap};
+use crate::steps::{count, exchange, load, look, swap};
 use crate::table::{Inner, Table};
 use rh_steps::Steps;
 use rh_words::{Effect, Part, Reading, Request, Shape, Side};
@@ -16,13 +16,13 @@ pub struct OnTable<'a> {
 }
 
 impl<'a> Steps for OnTable<'a> {
-    ghost use Rattle.rh_shared.specs.Sits.{Sits, Stays};
+    ghost use Rattle.rh_shared.specs.Sits.{Sits, Steps};
 
     ghost shows = { Sits };
 
     ghost serves = { Sits };
 
-    ghost made = { λ z s t v word then next. Stays t then };
+    ghost made = { λ z s t v word then next. Steps z s t v word then next };
 
     #[inline(always)]
     fn make(&mut self, shape: &Shape, side: &mut Side, request: Request) -> u64 {
@@ -40,6 +40,6 @@ impl<'a> Steps for OnTable<'a> {
     #[inline(always)]
     fn own_word(&mut self, shape: &Shape, side: &Side, part: Part) -> u64 {
         let at = shape.index(part);
-        load::<Brand>(self, side, Request::Read(Reading::Word(at)), at)
+        look::<Brand>(self, side, Request::Read(Reading::Word(at)), at)
     }
 }

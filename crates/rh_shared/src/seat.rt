@@ -1,7 +1,8 @@
 //! The seats of a table.
 
 ghost use Rattle.std.specs.Prelude.{◌≡◌, ◌<◌, [], ◌∷◌};
-ghost use Rattle.rh_rule.specs.Seats.{Spans, known};
+ghost use Rattle.rh_rule.specs.Seats.{Spans, sitter};
+ghost use Rattle.rh_shared.specs.Traces.{trace_in};
 
 use crate::table::Inner;
 use rh_words::{Piece, Ref, Side};
@@ -26,7 +27,7 @@ pub struct Seat {
     pub ghost some: { 0 < count },
     pub ghost spans: { Spans inner.me.0 side.worker count },
     pub ghost empty: { inner.me.1 ≡ [] },
-    pub ghost alone: { count ≡ 1 → inner.me ≡ (known side.known.view ∷ [], []) },
+    pub ghost alone: { count ≡ 1 → inner.me ≡ (sitter side.known.view (trace_in inner.me.0) ∷ [], []) },
 }
 
 /// The state of nobody, which stands in the seat of more than one worker, of whom this is the first.

@@ -1,13 +1,14 @@
 //! Seats of several workers, which are cut and joined.
 
 ghost use Rattle.std.specs.Prelude.{◌≡◌, ◌+◌, ◌<◌, ◌++◌, [], ℕ, take, drop};
-ghost use Rattle.rh_shared.specs.Crews.{SitsAt, IsCut, IsFresh, IsJoined, IsQuiet, head_of, views_of};
+ghost use Rattle.rh_shared.specs.Crews.{SitsAt, CountsNone, IsCut, IsFresh, IsJoined, IsQuiet, UsedNoRow, head_of, views_of};
 ghost use Rattle.rh_shared.specs.Rests.{SeatRests};
 ghost use Rattle.rh_rule.specs.Seats.{InView};
 
 use crate::seat::{Seat, unused_side};
 use crate::table::{Inner, Table};
 use atomic_table::{Join, Split};
+use rh_rule::Sitter;
 use rh_words::{First, Known, Side};
 use std::collections::LinkedList;
 use std::marker::{Brand, PhantomData};
@@ -27,7 +28,7 @@ struct Halves<B> {
     of: PhantomData<B>,
 }
 
-impl<B: Point> Split<LinkedList<Known>> for Halves<B> {
+impl<B: Point> Split<LinkedList<Sitter>> for Halves<B> {
     ghost left = { λ vs. take B.at vs };
 
     ghost right = { λ vs. drop B.at vs };
@@ -35,7 +36,7 @@ impl<B: Point> Split<LinkedList<Known>> for Halves<B> {
 
 struct Glue;
 
-impl Join<LinkedList<Known>> for Glue {
+impl Join<LinkedList<Sitter>> for Glue {
     ghost both = { λ vs us. vs ++ us };
 
     ghost spent = { [] };
@@ -48,9 +49,9 @@ impl First<Inner> for Head {
     ghost first = { λ seat. head_of seat.me.0 };
 }
 
-/// The state of the first worker of a seat, which has done nothing yet.
-pub(crate) fn fresh_side(worker: usize, seat: &Inner) -> Side
-    requires fresh { IsFresh (head_of seat.now.me.0) }
+/// The state of the first worker of a seat, which has used no row yet.
+pub(crate) fn first_side(worker: usize, seat: &Inner) -> Side
+    requires counts { CountsNone (head_of seat.now.me.0) }
     requires worker { (head_of seat.now.me.0).worker ≡ worker }
     ensures worker { result.worker ≡ worker }
     ensures known { result.known.view ≡ head_of seat.now.me.0 }
@@ -73,16 +74,19 @@ fn cut<B: Point>(table: &Table, seat: &mut Inner, _at: usize) -> Inner
     table.inner.shared.split_seat::<Halves<B>>(seat)
 }
 
-/// Gives the workers from `at` on a seat of their own. None of them has done anything since the table
-/// was made or wiped, so that each may begin as the only worker of a seat.
+/// Gives the workers from `at` on a seat of their own. None of them has used a row since the table was
+/// made or wiped, so that each may begin as the only worker of a seat, whose counts are 0.
 pub fn split(table: &Table, seat: &mut Seat, at: usize) -> Seat
     requires here { SitsAt table.now seat.old }
     requires within { (seat.old.side.worker < at) × (at < seat.old.side.worker + seat.old.count) }
-    requires fresh { InView IsFresh (views_of seat.old) }
+    requires rows { InView (UsedNoRow table.now.shape) (views_of seat.old) }
     ensures left { SitsAt table.now seat.new }
     ensures right { SitsAt table.now result }
     ensures cut { IsCut seat.old seat.new result at }
-    ensures still_fresh { InView IsFresh (views_of seat.new) × InView IsFresh (views_of result) }
+    ensures rows { InView (UsedNoRow table.now.shape) (views_of seat.new)
+        × InView (UsedNoRow table.now.shape) (views_of result) }
+    ensures still_fresh { InView IsFresh (views_of seat.old) →
+        InView IsFresh (views_of seat.new) × InView IsFresh (views_of result) }
     ensures left_rests { seat.new.count ≡ 1 → SeatRests table.now seat.new }
     ensures right_rests { result.count ≡ 1 → SeatRests table.now result }
 {
@@ -90,12 +94,12 @@ pub fn split(table: &Table, seat: &mut Seat, at: usize) -> Seat
     let kept = at - first;
     let inner = cut::<Brand>(table, &mut seat.inner, kept);
     let right = Seat {
-        side: fresh_side(at, &inner),
+        side: first_side(at, &inner),
         inner,
         count: seat.count - kept,
         placed: None,
     };
-    seat.side = fresh_side(first, &seat.inner);
+    seat.side = first_side(first, &seat.inner);
     seat.count = kept;
     right
 }

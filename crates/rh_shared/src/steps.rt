@@ -3,12 +3,12 @@
 
 ghost use Rattle.std.specs.Prelude.{◌+◌, ◌%◌, ◌^◌};
 ghost use Rattle.rh_words.specs.Steps.{swapped};
-ghost use Rattle.rh_rule.specs.Seats.{StepTells};
-ghost use Rattle.rh_shared.specs.Sits.{Ready, Stays};
+ghost use Rattle.rh_shared.specs.Sits.{IsReading, Looks, Ready, Stays, Tells};
 
 use crate::on_table::OnTable;
 use atomic_table::Play;
-use rh_words::{Known, Request, Side};
+use rh_rule::Sitter;
+use rh_words::{Request, Side};
 use std::collections::LinkedList;
 use std::marker::{Brand, PhantomData};
 
@@ -42,18 +42,38 @@ struct Making<B> {
     of: PhantomData<B>,
 }
 
-impl<B: Makes> Play<(), LinkedList<Known>> for Making<B> {
-    ghost then = { λ _ _ word me. StepTells B.shape B.view B.step word me };
+impl<B: Makes> Play<(), LinkedList<Sitter>> for Making<B> {
+    ghost then = { λ _ was word me. Tells B.shape B.view B.step was word me };
 }
 
 #[inline(always)]
 pub(crate) fn load<B: Makes>(here: &mut OnTable<'_>, _side: &Side, _ask: Request, at: usize) -> u64
     requires { Ready here.old B.shape B.view B.step at (λ n. n) }
     ensures stays { Stays here.old here.new }
-    ensures tells { StepTells B.shape B.view B.step result here.new.seat.now.me }
+    ensures tells { Tells B.shape B.view B.step here.old.seat.now.me result here.new.seat.now.me }
 {
     let shared = &here.table.inner.shared;
     shared.load::<Making<B>>(&mut *here.seat, at)
+}
+
+struct Looking<B> {
+    of: PhantomData<B>,
+}
+
+impl<B: Makes> Play<(), LinkedList<Sitter>> for Looking<B> {
+    ghost then = { λ _ was word me. Looks B.shape B.view B.step was word me };
+}
+
+/// A look at a word, which is no step: the trace stays as it is.
+#[inline(always)]
+pub(crate) fn look<B: Makes>(here: &mut OnTable<'_>, _side: &Side, _ask: Request, at: usize) -> u64
+    requires reads { IsReading B.step }
+    requires ready { Ready here.old B.shape B.view B.step at (λ n. n) }
+    ensures stays { Stays here.old here.new }
+    ensures looks { Looks B.shape B.view B.step here.old.seat.now.me result here.new.seat.now.me }
+{
+    let shared = &here.table.inner.shared;
+    shared.load::<Looking<B>>(&mut *here.seat, at)
 }
 
 /// A swap and no store, since only a swap tells what it found: so each step is told alike.
@@ -67,7 +87,7 @@ pub(crate) fn exchange<B: Makes>(
 ) -> u64
     requires { Ready here.old B.shape B.view B.step at (λ _. new) }
     ensures stays { Stays here.old here.new }
-    ensures tells { StepTells B.shape B.view B.step result here.new.seat.now.me }
+    ensures tells { Tells B.shape B.view B.step here.old.seat.now.me result here.new.seat.now.me }
 {
     let shared = &here.table.inner.shared;
     shared.swap::<Making<B>>(&mut *here.seat, at, new)
@@ -84,7 +104,7 @@ pub(crate) fn swap<B: Makes>(
 ) -> u64
     requires { Ready here.old B.shape B.view B.step at (swapped old new) }
     ensures stays { Stays here.old here.new }
-    ensures tells { StepTells B.shape B.view B.step result here.new.seat.now.me }
+    ensures tells { Tells B.shape B.view B.step here.old.seat.now.me result here.new.seat.now.me }
 {
     let shared = &here.table.inner.shared;
     shared.compare_exchange::<Making<B>>(&mut *here.seat, at, old, new)
@@ -94,7 +114,7 @@ pub(crate) fn swap<B: Makes>(
 pub(crate) fn count<B: Makes>(here: &mut OnTable<'_>, _side: &Side, _ask: Request, at: usize) -> u64
     requires { Ready here.old B.shape B.view B.step at (λ n. (n + 1) % 2 ^ 64) }
     ensures stays { Stays here.old here.new }
-    ensures tells { StepTells B.shape B.view B.step result here.new.seat.now.me }
+    ensures tells { Tells B.shape B.view B.step here.old.seat.now.me result here.new.seat.now.me }
 {
     let shared = &here.table.inner.shared;
     shared.fetch_add::<Making<B>>(&mut *here.seat, at, 1)

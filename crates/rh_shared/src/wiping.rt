@@ -3,17 +3,17 @@
 ghost use Rattle.std.specs.Prelude.{◌≡◌, ◌+◌, ◌<◌, [], ℕ, List};
 ghost use Rattle.atomic_table.specs.Table.{Allows};
 ghost use Rattle.rh_words.specs.Parts.{word_count};
-ghost use Rattle.rh_shared.specs.Crews.{HasAll, IsFresh, IsQuiet, views_of};
+ghost use Rattle.rh_shared.specs.Crews.{HasAll, IsFresh, IsQuiet, UsedNoRow, views_of};
 ghost use Rattle.rh_shared.specs.Ends.{IsWiped, renewed, with_cleared};
 ghost use Rattle.rh_shared.specs.Rests.{SeatRests};
 ghost use Rattle.rh_rule.specs.Seats.{Begun, RuleHolds, InView, IsWiping, NoSlot, Spans, all_views};
 ghost use Rattle.rh_rule.specs.Wipes.{row_total};
 
 use crate::seat::Seat;
-use crate::seats::fresh_side;
+use crate::seats::first_side;
 use crate::table::{Inner, Table};
 use atomic_table::Play;
-use rh_words::Known;
+use rh_rule::Sitter;
 use std::collections::LinkedList;
 use std::marker::{Brand, PhantomData};
 
@@ -21,10 +21,10 @@ use std::marker::{Brand, PhantomData};
 trait Tells {
     ghost use Rattle.std.specs.Prelude.{List};
     ghost use Rattle.atomic_table.specs.Table.{Me};
-    ghost use Rattle.rh_words.specs.declared.known.Known.{Known};
+    ghost use Rattle.rh_rule.specs.declared.rule.Sitter.{Sitter};
     ghost use Rattle.rh_rule.specs.Seats.{NoSlot};
 
-    ghost tells: { Me NoSlot (List Known) → Type 0 };
+    ghost tells: { Me NoSlot (List Sitter) → Type 0 };
 }
 
 impl Tells for Brand {
@@ -35,7 +35,7 @@ struct Telling<B> {
     of: PhantomData<B>,
 }
 
-impl<B: Tells> Play<(), LinkedList<Known>> for Telling<B> {
+impl<B: Tells> Play<(), LinkedList<Sitter>> for Telling<B> {
     ghost then = { λ _ _ word me. B.tells me };
 }
 
@@ -46,10 +46,11 @@ pub fn wipe(table: &Table, seat: &mut Seat)
     ensures all { HasAll table.now seat.new }
     ensures wiped { IsWiped table.now.shape (views_of seat.old) (views_of seat.new) }
     ensures fresh { InView IsFresh (views_of seat.new) }
+    ensures rows { InView (UsedNoRow table.now.shape) (views_of seat.new) }
     ensures rests { seat.new.count ≡ 1 → SeatRests table.now seat.new }
 {
     wipe_rows(table, &mut seat.inner);
-    seat.side = fresh_side(0, &seat.inner);
+    seat.side = first_side(0, &seat.inner);
 }
 
 fn wipe_rows(table: &Table, seat: &mut Inner)

@@ -3,7 +3,7 @@
 ghost use Rattle.rh_words.specs.Parts.{IsShape, cell_count};
 ghost use Rattle.rh_words.specs.Steps.{AreEntries, IsKnown};
 ghost use Rattle.rh_words.specs.Words.{ref_of};
-ghost use Rattle.rh_shared.specs.Crews.{HasAll, SitsAt, IsFresh, IsQuiet, views_of};
+ghost use Rattle.rh_shared.specs.Crews.{HasAll, SitsAt, IsQuiet, UsedNoRow, views_of};
 ghost use Rattle.rh_shared.specs.Rests.{SeatRests};
 ghost use Rattle.rh_shared.specs.Seats.{view_of};
 ghost use Rattle.rh_rule.specs.Seats.{InView};
@@ -28,7 +28,7 @@ pub fn make(alloc: Global, shape: Shape, cells: &[u64]) -> Result<(Table, Seat),
 pub fn split(table: &Table, seat: &mut Seat, at: usize) -> Seat
     requires here { SitsAt table.now seat.old }
     requires within { (seat.old.side.worker < at) × (at < seat.old.side.worker + seat.old.count) }
-    requires fresh { InView IsFresh (views_of seat.old) }
+    requires rows { InView (UsedNoRow table.now.shape) (views_of seat.old) }
 {
     rh_kcas::split(table, seat, at)
 }

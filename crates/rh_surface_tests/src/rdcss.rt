@@ -4,7 +4,7 @@ ghost use Rattle.rh_words.specs.Parts.{cell_count};
 ghost use Rattle.rh_words.specs.Steps.{IsDesc};
 ghost use Rattle.rh_words.specs.Words.{ref_of};
 ghost use Rattle.rh_shared.specs.Seats.{IsHere, view_of};
-ghost use Rattle.rh_rdcss.specs.Placing.{MayPlace};
+ghost use Rattle.rh_rdcss.specs.Placing.{HasEntry, MayPlace};
 ghost use Rattle.rh_rdcss.specs.Settling.{Recalls};
 ghost use Rattle.rh_steps.specs.Relies.{Knows};
 ghost use Rattle.rh_world.specs.Facts.Fact.{found};
@@ -18,9 +18,25 @@ use rh_tagword::State;
 pub fn place(table: &Table, seat: &mut Seat, desc: Ref, entry: usize) -> Placed
     requires here { IsHere table.now seat.old }
     requires knows { Knows table.now.shape (view_of seat.old) }
-    requires may { MayPlace table.now.shape (view_of seat.old) desc }
+    requires entry { HasEntry table.now.shape (view_of seat.old) desc entry }
 {
     rh_rdcss::place(table, seat, desc, entry)
+}
+
+pub fn count_entries(table: &Table, seat: &mut Seat, desc: Ref) -> Option<usize>
+    requires here { IsHere table.now seat.old }
+    requires knows { Knows table.now.shape (view_of seat.old) }
+    requires may { MayPlace table.now.shape (view_of seat.old) desc }
+{
+    rh_rdcss::count_entries(table, seat, desc)
+}
+
+/// What became of a mark, by its four answers.
+pub fn is_mine(placed: Placed) -> bool {
+    match placed {
+        Placed::Mine => true,
+        Placed::Found(_) | Placed::Passed | Placed::Spent => false,
+    }
 }
 
 pub fn settle(table: &Table, seat: &mut Seat, cell: usize, mark: Ref) -> Option<u64>

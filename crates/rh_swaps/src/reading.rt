@@ -9,7 +9,7 @@ ghost use Rattle.rh_shared.specs.Rests.{SeatRests};
 ghost use Rattle.rh_swaps.specs.Swaps.{HasReadCell};
 ghost use Rattle.rh_shared.specs.Seats.{IsSame, view_of};
 ghost use Rattle.rh_shared.specs.Sits.{Sits, Stays};
-ghost use Rattle.rh_rule.specs.Rest.{made};
+ghost use Rattle.rh_rule.specs.Rest.{IsTold, made};
 ghost use Rattle.rh_steps.specs.Relies.{Trusts};
 
 use rh_helping::{Machine, Sight, Watch};
@@ -26,6 +26,7 @@ pub fn read<R: Wait>(rt: &R, table: &Table, seat: &mut Seat, cell: usize) -> Opt
     ensures same { IsSame seat.old seat.new }
     ensures acts { made (view_of seat.new) ≡ made (view_of seat.old) }
     ensures reads { HasReadCell table.now.shape cell (view_of seat.old) (view_of seat.new) result }
+    ensures told { IsTold table.now.shape (view_of seat.new) }
 {
     let mut here = OnTable {
         table,
@@ -49,6 +50,7 @@ fn look<R: Wait>(
     ensures trusts { Trusts Sits shape.now here.new side.new.known.view }
     ensures clear { IsClear side.new.known.view }
     ensures stays { Stays here.old here.new }
+    ensures told { IsTold shape.now side.new.known.view }
     ensures reads { HasReadCell shape.now cell side.old.known.view side.new.known.view result }
 {
     let mut machine = Machine::about(Ref {
@@ -80,6 +82,7 @@ fn look_on_copy<R: Wait>(
     ensures trusts { Trusts Sits shape.now here.new side.new.known.view }
     ensures clear { IsClear side.new.known.view }
     ensures stays { Stays here.old here.new }
+    ensures told { IsTold shape.now side.new.known.view }
     ensures reads { HasReadCell shape.now cell side.old.known.view side.new.known.view result }
 {
     let mut machine = *machine;
@@ -104,6 +107,7 @@ fn look_on<R: Wait>(
     ensures trusts { Trusts Sits shape.now here.new side.new.known.view }
     ensures clear { IsClear side.new.known.view }
     ensures stays { Stays here.old here.new }
+    ensures told { IsTold shape.now side.new.known.view }
     ensures reads { HasReadCell shape.now cell side.old.known.view side.new.known.view result }
 {
     let mut watch = watch;

@@ -1,6 +1,7 @@
 //! An own K-CAS: its descriptor is opened, and carried out.
 
-ghost use Rattle.std.specs.Prelude.{◌≡◌, Some};
+ghost use Rattle.std.specs.Prelude.{◌≡◌, ◌⊎◌, Some};
+ghost use Rattle.rh_rule.specs.Rest.{IsTold};
 ghost use Rattle.rh_words.specs.Steps.{AreEntries};
 ghost use Rattle.rh_steps.specs.Own.{KnowsOwn, OwesNothing};
 ghost use Rattle.rh_helping.specs.Goal.{opened_by, own_of};
@@ -33,12 +34,14 @@ pub enum Outcome {
 /// Changes the cells of the entries from their old words to their new ones, all in one act, or none.
 /// Where no number is left for a descriptor, or no mark, it makes no step: its descriptor would be
 /// withdrawn all the same. Later it is `Spent` only where the last mark was used up on the way.
+/// Once a step was made, `told` has what the rule tells of all acts then.
 pub fn kcas<R: Wait>(rt: &R, table: &Table, seat: &mut Seat, entries: &[Entry]) -> Outcome
     requires rests { SeatRests table.now seat.old }
     requires entries { AreEntries table.now.shape entries.now }
     ensures rests { SeatRests table.now seat.new }
     ensures same { IsSame seat.old seat.new }
     ensures swaps { Swaps table.now.shape entries.now (view_of seat.old) (view_of seat.new) result }
+    ensures told { (seat.new ≡ seat.old) ⊎ IsTold table.now.shape (view_of seat.new) }
 {
     let shape = table.shape;
     if shape.rooms.descriptors <= seat.side.next_number
@@ -92,6 +95,7 @@ pub fn carry_out<R: Wait>(
     requires owes { OwesNothing side.old.known.view }
     ensures trusts { Trusts Sits shape.now here.new side.new.known.view }
     ensures stays { Stays here.old here.new }
+    ensures told { IsTold shape.now side.new.known.view }
     ensures carries { HasCarriedOut side.old.known.view (own_of own.entry) side.new.known.view result }
 {
     let mut machine = Machine::about(Ref {
@@ -126,6 +130,7 @@ fn carry_on_copy<R: Wait>(
     requires stands { Stands shape.now side.old.known.view (work_of machine.now) }
     ensures trusts { Trusts Sits shape.now here.new side.new.known.view }
     ensures stays { Stays here.old here.new }
+    ensures told { IsTold shape.now side.new.known.view }
     ensures carries { HasCarriedOut side.old.known.view (own_of own.entry) side.new.known.view result }
 {
     let apart = *shape;
@@ -148,6 +153,7 @@ fn carry_on<R: Wait>(
     requires stands { Stands shape.now side.old.known.view (work_of machine.old) }
     ensures trusts { Trusts Sits shape.now here.new side.new.known.view }
     ensures stays { Stays here.old here.new }
+    ensures told { IsTold shape.now side.new.known.view }
     ensures carries { HasCarriedOut side.old.known.view (own_of own.entry) side.new.known.view result }
 {
     for _ in rt.forever() {

@@ -18,10 +18,10 @@ use Rattle.rh_tagword.specs.Word.{IsValue, plain_number}
 use Rattle.rh_acts.specs.Workers.{LeavesRoom}
 use Rattle.rh_acts.proofs.ActLemmas.{contains_none}
 use Rattle.rh_acts.proofs.FoldLemmas.{added_len, removed_len}
-use Rattle.rh_words.specs.declared.known.Known.{Known}
+use Rattle.rh_rule.specs.declared.rule.Sitter.{Sitter}
 use Rattle.rh_words.specs.Parts.{cell_count}
 use Rattle.rh_words.specs.View.{new_view}
-use Rattle.rh_rule.specs.Seats.{InView, first_view, known}
+use Rattle.rh_rule.specs.Seats.{InView, first_view, sitter}
 use Rattle.rh_rule.proofs.SeatsKept.{new_at, there}
 use Rattle.rh_shared.specs.declared.table.Table.{Table}
 use Rattle.rh_world.specs.World.{In}
@@ -71,8 +71,8 @@ few_changed Ask b S keys small room changes = absurd (changes refl)
 -- ---- the start
 
 module _ (t : Table) (kind : Kind) (positions : ℕ) (cells keys : List ℕ) (c : Crew) (all : HasAll t c.seat) (fresh : InView IsFresh (views_of c.seat)) (views : views_of c.seat ≡ first_view t.shape (map plain_number cells)) (new : AreNew t.shape kind positions c.hands) (list : t.shape.keys ≡ length keys) (keys_are : All IsKey keys) where
-  view_is : (r : ℕ) (s : Known) → get_elem? (views_of c.seat) r ≡ some s → s ≡ known (new_view (map plain_number cells) r)
-  view_is r s e = new_at (map plain_number cells) 0 t.shape.workers r s (subst (λ (l : List Known). get_elem? l r ≡ some s) views e) ∙ (λ i. known (new_view (map plain_number cells) (zero-add r i)))
+  view_is : (r : ℕ) (s : Sitter) → get_elem? (views_of c.seat) r ≡ some s → s ≡ sitter (new_view (map plain_number cells) r) []
+  view_is r s e = new_at (map plain_number cells) 0 t.shape.workers r s (subst (λ (l : List Sitter). get_elem? l r ≡ some s) views e) ∙ (λ i. sitter (new_view (map plain_number cells) (zero-add r i)) [])
 
   new_hand : (r : ℕ) (h : Hand) → get_elem? c.hands r ≡ some h → IsNew t.shape kind positions h
   new_hand r h at = subst (IsNew t.shape kind positions) (at_or c.hands r h h at) (new.each r h (there c.hands r h at))
@@ -86,7 +86,7 @@ module _ (t : Table) (kind : Kind) (positions : ℕ) (cells keys : List ℕ) (c 
         room = n.room;
         within = λ has. absurd (true≢false (sym has ∙ n.no_key));
         claims = record {
-          below = λ _ m i. absurd (subst (λ (k : Known). In m k.view.side.claims) (view_is r s e) i);
+          below = λ _ m i. absurd (subst (λ (k : Sitter). In m k.view.side.claims) (view_is r s e) i);
           ended = λ ended. absurd (true≢false (sym ended ∙ n.to_claim));
         };
       };
@@ -106,7 +106,7 @@ module _ (t : Table) (kind : Kind) (positions : ℕ) (cells keys : List ℕ) (c 
     stands = λ r s h e f.
         let n = new_hand r h f in
         let less : r < t.shape.workers = let l = there c.hands r h f in let w = new.long in omega (arith, l, w) in
-        subst (λ (k : Known). HandStands t.shape keys (past_of positions run k.view.worker) h k.view) (sym (view_is r s e)) (record {
+        subst (λ (k : Sitter). HandStands t.shape keys (past_of positions run k.view.worker) h k.view) (sym (view_is r s e)) (record {
           kind_is = n.kind_is;
           answers = [];
           doing = subst (λ (k : Kind). ProgressInvariant t.shape k (progress_by keys (past_of positions run r) (new_view (map plain_number cells) r) [])) (sym n.kind_is) (run.doing r less);

@@ -7,11 +7,11 @@ use Rattle.std.proofs.lemmas.Bool.Decides.{nat_tests}
 use Rattle.std.proofs.lemmas.List.{length-drop}
 use mathlib.Core.Option.{some, some-injective}
 use lib.ListN.{get_elem?}
-use Rattle.rh_words.specs.declared.known.Known.{Known}
+use Rattle.rh_rule.specs.declared.rule.Sitter.{Sitter}
 use Rattle.rh_words.specs.View.{View}
-use Rattle.rh_rule.specs.Seats.{InView, known}
+use Rattle.rh_rule.specs.Seats.{InView, sitter}
 use Rattle.rh_rule.proofs.SeatsKept.{at_append, at_drop, at_take, one_at, there}
-use Rattle.rh_shared.specs.Seats.{view_of}
+use Rattle.rh_shared.specs.Seats.{trace_of, view_of}
 use Rattle.rh_shared.specs.declared.seat.Seat.{Seat}
 use Rattle.rh_shared.specs.declared.table.Table.{Table}
 use Rattle.rh_shared.specs.Crews.{SitsAt, IsCut, IsFresh, IsJoined, IsQuiet, views_of}
@@ -22,13 +22,13 @@ use Rattle.rh_threads.specs.declared.hand.Hand.{Hand}
 
 -- ---- pairs of views and hands
 
-pairs_left : (P : View → Hand → Type 0) (vs : List Known) (hs : List Hand) (n : ℕ) → InPairs P vs hs → InPairs P (take n vs) (take n hs)
+pairs_left : (P : View → Hand → Type 0) (vs : List Sitter) (hs : List Hand) (n : ℕ) → InPairs P vs hs → InPairs P (take n vs) (take n hs)
 pairs_left P vs hs n each r s h e f = each r s h (at_take n vs r s e).1 (at_take n hs r h f).1
 
-pairs_right : (P : View → Hand → Type 0) (vs : List Known) (hs : List Hand) (n : ℕ) → InPairs P vs hs → InPairs P (drop n vs) (drop n hs)
+pairs_right : (P : View → Hand → Type 0) (vs : List Sitter) (hs : List Hand) (n : ℕ) → InPairs P vs hs → InPairs P (drop n vs) (drop n hs)
 pairs_right P vs hs n each r s h e f = each (r + n) s h (at_drop n vs r s e) (at_drop n hs r h f)
 
-pairs_both : (P : View → Hand → Type 0) (vs us : List Known) (hs gs : List Hand) → length vs ≡ length hs → InPairs P vs hs → InPairs P us gs → InPairs P (vs ++ us) (hs ++ gs)
+pairs_both : (P : View → Hand → Type 0) (vs us : List Sitter) (hs gs : List Hand) → length vs ≡ length hs → InPairs P vs hs → InPairs P us gs → InPairs P (vs ++ us) (hs ++ gs)
 pairs_both P vs us hs gs long first second r s h e f = ⊎_elim
     (λ (here : get_elem? vs r ≡ some s). ⊎_elim
     (λ (mine : get_elem? hs r ≡ some h). first r s h here mine)
@@ -41,7 +41,7 @@ pairs_both P vs us hs gs long first second r s h e f = ⊎_elim
     (at_append hs gs r h f))
     (at_append vs us r s e)
 
-view_both : (P : View → Type 0) (vs us : List Known) → InView P vs → InView P us → InView P (vs ++ us)
+view_both : (P : View → Type 0) (vs us : List Sitter) → InView P vs → InView P us → InView P (vs ++ us)
 view_both P vs us first second r s e = ⊎_elim (λ here. first r s here) (λ later. second later.0 s later.2) (at_append vs us r s e)
 
 -- ---- halves
@@ -69,7 +69,7 @@ module _ (t : Table) (keys : List ℕ) (c left right : Crew) (can : CanWork t ke
   }
     where
       of_left : (P : View → Hand → Type 0) → InPairs P (views_of c.seat) c.hands → InPairs P (views_of left.seat) left.hands
-      of_left P each = subst (λ (hs : List Hand). InPairs P (views_of left.seat) hs) (sym cut.left_hands) (subst (λ (vs : List Known). InPairs P vs (take left.seat.count c.hands)) (sym cut.seats.left_views) (pairs_left P (views_of c.seat) c.hands left.seat.count each))
+      of_left P each = subst (λ (hs : List Hand). InPairs P (views_of left.seat) hs) (sym cut.left_hands) (subst (λ (vs : List Sitter). InPairs P vs (take left.seat.count c.hands)) (sym cut.seats.left_views) (pairs_left P (views_of c.seat) c.hands left.seat.count each))
 
   pub half_can_right : SitsAt t right.seat → InView IsFresh (views_of right.seat) → CanWork t keys right
   half_can_right here fresh = record {
@@ -84,7 +84,7 @@ module _ (t : Table) (keys : List ℕ) (c left right : Crew) (can : CanWork t ke
   }
     where
       of_right : (P : View → Hand → Type 0) → InPairs P (views_of c.seat) c.hands → InPairs P (views_of right.seat) right.hands
-      of_right P each = subst (λ (hs : List Hand). InPairs P (views_of right.seat) hs) (sym cut.right_hands) (subst (λ (vs : List Known). InPairs P vs (drop left.seat.count c.hands)) (sym cut.seats.right_views) (pairs_right P (views_of c.seat) c.hands left.seat.count each))
+      of_right P each = subst (λ (hs : List Hand). InPairs P (views_of right.seat) hs) (sym cut.right_hands) (subst (λ (vs : List Sitter). InPairs P vs (drop left.seat.count c.hands)) (sym cut.seats.right_views) (pairs_right P (views_of c.seat) c.hands left.seat.count each))
 
   -- both halves have worked
   pub all_worked : (l r both : Crew) → HaveWorked t keys left l → HaveWorked t keys right r → SitsAt t both.seat → IsJoined l.seat r.seat both.seat → both.hands ≡ l.hands ++ r.hands → HaveWorked t keys c both
@@ -100,12 +100,12 @@ module _ (t : Table) (keys : List ℕ) (c left right : Crew) (can : CanWork t ke
     count = let j = joined.count in let x = a.count in let y = b.count in let m = cut.seats.middle in let e = cut.seats.end in omega (arith, j, x, y, m, e);
     quiet = subst (InView IsQuiet) (sym joined.views) (view_both IsQuiet (views_of l.seat) (views_of r.seat) a.quiet b.quiet);
     stands = λ past was. of_both (λ v h. HandStands t.shape keys (past v.worker) h v)
-        (a.stands past (subst (λ (hs : List Hand). AllStand t.shape keys past (views_of left.seat) hs) (sym cut.left_hands) (subst (λ (vs : List Known). AllStand t.shape keys past vs (take left.seat.count c.hands)) (sym cut.seats.left_views) (pairs_left (λ v h. HandStands t.shape keys (past v.worker) h v) (views_of c.seat) c.hands left.seat.count was))))
-        (b.stands past (subst (λ (hs : List Hand). AllStand t.shape keys past (views_of right.seat) hs) (sym cut.right_hands) (subst (λ (vs : List Known). AllStand t.shape keys past vs (drop left.seat.count c.hands)) (sym cut.seats.right_views) (pairs_right (λ v h. HandStands t.shape keys (past v.worker) h v) (views_of c.seat) c.hands left.seat.count was))));
+        (a.stands past (subst (λ (hs : List Hand). AllStand t.shape keys past (views_of left.seat) hs) (sym cut.left_hands) (subst (λ (vs : List Sitter). AllStand t.shape keys past vs (take left.seat.count c.hands)) (sym cut.seats.left_views) (pairs_left (λ v h. HandStands t.shape keys (past v.worker) h v) (views_of c.seat) c.hands left.seat.count was))))
+        (b.stands past (subst (λ (hs : List Hand). AllStand t.shape keys past (views_of right.seat) hs) (sym cut.right_hands) (subst (λ (vs : List Sitter). AllStand t.shape keys past vs (drop left.seat.count c.hands)) (sym cut.seats.right_views) (pairs_right (λ v h. HandStands t.shape keys (past v.worker) h v) (views_of c.seat) c.hands left.seat.count was))));
   }
     where
       of_both : (P : View → Hand → Type 0) → InPairs P (views_of l.seat) l.hands → InPairs P (views_of r.seat) r.hands → InPairs P (views_of both.seat) both.hands
-      of_both P x y = subst (λ (hs : List Hand). InPairs P (views_of both.seat) hs) (sym hands) (subst (λ (vs : List Known). InPairs P vs (l.hands ++ r.hands)) (sym joined.views)
+      of_both P x y = subst (λ (hs : List Hand). InPairs P (views_of both.seat) hs) (sym hands) (subst (λ (vs : List Sitter). InPairs P vs (l.hands ++ r.hands)) (sym joined.views)
           (pairs_both P (views_of l.seat) (views_of r.seat) l.hands r.hands (l.seat.spans.long ∙ sym a.crew.long) x y))
 
 -- the first of the second half may have a thread, and so may the others of each half
@@ -121,11 +121,11 @@ may_start_all allows first half at rest total middle end left one right w after 
 
 -- ---- one worker
 
-pub alone_views : (s : Seat) → s.count ≡ 1 → views_of s ≡ known (view_of s) ∷ []
+pub alone_views : (s : Seat) → s.count ≡ 1 → views_of s ≡ sitter (view_of s) (trace_of s) ∷ []
 alone_views s one = ap (λ x. x.0) (s.alone one)
 
-pub alone_at : (s : Seat) → s.count ≡ 1 → get_elem? (views_of s) 0 ≡ some (known (view_of s))
-alone_at s one = ap (λ (l : List Known). get_elem? l 0) (alone_views s one)
+pub alone_at : (s : Seat) → s.count ≡ 1 → get_elem? (views_of s) 0 ≡ some (sitter (view_of s) (trace_of s))
+alone_at s one = ap (λ (l : List Sitter). get_elem? l 0) (alone_views s one)
 
 pub first_at : (hs : List Hand) (h : Hand) → 0 < length hs → h ≡ get_or hs 0 h → get_elem? hs 0 ≡ some h
 first_at [] h some_one is = absurd (omega (arith, some_one))
@@ -148,22 +148,22 @@ module _ (t : Table) (keys : List ℕ) (c : Crew) (one : c.seat.count ≡ 1) (ca
     };
     first = same;
     count = alone ∙ sym one;
-    quiet = λ r s e. subst (λ (k : Known). IsQuiet k.view) (here_is r s e).1 quiet;
+    quiet = λ r s e. subst (λ (k : Sitter). IsQuiet k.view) (here_is r s e).1 quiet;
     stands = λ past was. each (λ v h. HandStands t.shape keys (past v.worker) h v)
-        (stands (past (view_of seat).worker) (subst (λ (w : ℕ). HandStands t.shape keys (past w) hand (view_of c.seat)) (sym whose) (was 0 (known (view_of c.seat)) hand (alone_at c.seat one) at)));
+        (stands (past (view_of seat).worker) (subst (λ (w : ℕ). HandStands t.shape keys (past w) hand (view_of c.seat)) (sym whose) (was 0 (sitter (view_of c.seat) (trace_of c.seat)) hand (alone_at c.seat one) at)));
   }
     where
       whose : (view_of seat).worker ≡ (view_of c.seat).worker
       whose = seat.side.same_worker ∙ same ∙ sym c.seat.side.same_worker
 
-      here_is : (r : ℕ) (s : Known) → get_elem? (views_of seat) r ≡ some s → (r ≡ 0) × (known (view_of seat) ≡ s)
-      here_is r s e = one_at (known (view_of seat)) s r (subst (λ (l : List Known). get_elem? l r ≡ some s) (alone_views seat alone) e)
+      here_is : (r : ℕ) (s : Sitter) → get_elem? (views_of seat) r ≡ some s → (r ≡ 0) × (sitter (view_of seat) (trace_of seat) ≡ s)
+      here_is r s e = one_at (sitter (view_of seat) (trace_of seat)) s r (subst (λ (l : List Sitter). get_elem? l r ≡ some s) (alone_views seat alone) e)
 
       each : (P : View → Hand → Type 0) → P (view_of seat) next → InPairs P (views_of seat) (set c.hands 0 next)
       each P p r s h e f =
           let q = here_is r s e in
           let less : 0 < length c.hands = let l = can.crew.long in omega (arith, l, one) in
           let is_next : next ≡ h = set_first c.hands next h less (subst (λ (i : ℕ). get_elem? (set c.hands 0 next) i ≡ some h) q.0 f) in
-          subst (λ (g : Hand). P s.view g) is_next (subst (λ (k : Known). P k.view next) q.1 p)
+          subst (λ (g : Hand). P s.view g) is_next (subst (λ (k : Sitter). P k.view next) q.1 p)
 
 -- ---- results

@@ -15,7 +15,7 @@ use Rattle.rh_tagword.specs.Word.{plain_number}
 use Rattle.rh_acts.specs.Shared.{IsSharedOut}
 use Rattle.rh_acts.specs.Workers.{LeavesRoom, how_many}
 use Rattle.rh_ledger.specs.Tally.{tally_by}
-use Rattle.rh_words.specs.declared.known.Known.{Known}
+use Rattle.rh_rule.specs.declared.rule.Sitter.{Sitter}
 use Rattle.rh_words.specs.Parts.{cell_count}
 use Rattle.rh_run.specs.History.{value_of}
 use Rattle.rh_rule.specs.Seats.{AreMade, Spans}
@@ -42,7 +42,7 @@ at_or (x ∷ xs) (suc i) a d e = at_or xs i a d e
 value_back : (value : ℕ) → value_of (plain_number value) ≡ value
 value_back value = omega arith
 
-module _ (ph : Phase) (vs : List Known) (hs : List Hand) (values : List ℕ) (some_one : 0 < ph.shape.workers) (spans : Spans vs 0 ph.shape.workers) (long : length hs ≡ ph.shape.workers) (comes : Comes ph vs hs) (leaves : Leaves ph.shape vs values) (list : ph.shape.keys ≡ length ph.keys) (finished : All IsFinished hs) (hands : InPairs (λ v h. IsHand ph.shape ph.keys h v) vs hs) (layout : Layout ph.opening ph.shape.bits (keys_of ph.opening)) (room : LeavesRoom ph.kind ph.shape.bits (keys_of ph.opening) ph.keys) where
+module _ (ph : Phase) (vs : List Sitter) (hs : List Hand) (values : List ℕ) (some_one : 0 < ph.shape.workers) (spans : Spans vs 0 ph.shape.workers) (long : length hs ≡ ph.shape.workers) (comes : Comes ph vs hs) (leaves : Leaves ph.shape vs values) (list : ph.shape.keys ≡ length ph.keys) (finished : All IsFinished hs) (hands : InPairs (λ v h. IsHand ph.shape ph.keys h v) vs hs) (layout : Layout ph.opening ph.shape.bits (keys_of ph.opening)) (room : LeavesRoom ph.kind ph.shape.bits (keys_of ph.opening) ph.keys) where
   abbrev m : AreMade ph.shape vs
   m = leaves.made
 

@@ -5,10 +5,10 @@ use lib.ListN.{get_elem?}
 use Rattle.rh_ledger.specs.declared.tally.Kind.{Kind}
 use Rattle.rh_world.specs.World.{updated}
 use Rattle.rh_world.proofs.Updated.{same_nat, updated_else, updated_here}
-use Rattle.rh_words.specs.declared.known.Known.{Known}
+use Rattle.rh_rule.specs.declared.rule.Sitter.{Sitter}
 use Rattle.rh_words.specs.Parts.{IsShape}
 use Rattle.rh_words.specs.View.{View, round_view}
-use Rattle.rh_rule.specs.Seats.{AreMade, Spans, all_views, known}
+use Rattle.rh_rule.specs.Seats.{AreMade, Spans, all_views, sitter}
 use Rattle.rh_rule.proofs.SeatsKept.{item_at, of_map, there}
 use Rattle.rh_run.specs.Run.{ProgressInvariant, RunInvariant}
 use Rattle.rh_run.specs.Words.{IsWiped}
@@ -46,7 +46,7 @@ pub record Gathered (ph : Phase) (words : List ℕ) (keep : ℕ → View) (hs : 
   pub run : RunInvariant (run_of ph words keep (λ v. keys_done ph.keys (answers v)) (λ v. told_of (answers v)))
   pub each : (v : ℕ) → v < ph.shape.workers → AnsweredBy ph keep hs v (answers v)
 
-module _ (ph : Phase) (vs : List Known) (hs : List Hand) (some_one : 0 < ph.shape.workers) (spans : Spans vs 0 ph.shape.workers) (long : length hs ≡ ph.shape.workers) (comes : Comes ph vs hs) (m : AreMade ph.shape vs) where
+module _ (ph : Phase) (vs : List Sitter) (hs : List Hand) (some_one : 0 < ph.shape.workers) (spans : Spans vs 0 ph.shape.workers) (long : length hs ≡ ph.shape.workers) (comes : Comes ph vs hs) (m : AreMade ph.shape vs) where
   abbrev past : ℕ → Past
   past = past_of ph.positions comes.run
 
@@ -89,7 +89,7 @@ module _ (ph : Phase) (vs : List Known) (hs : List Hand) (some_one : 0 < ph.shap
   }
 
   -- the next round begins where they are
-  pub comes_on : IsShape ph.shape → (us : List Known) → us ≡ all_views (round_view m.cells) vs → Comes ph us hs
+  pub comes_on : IsShape ph.shape → (us : List Sitter) → us ≡ all_views (round_view m.cells) vs → Comes ph us hs
   comes_on shape us is = record {
     words = then;
     keep = λ v. round_view m.cells (m.keep v);
@@ -97,13 +97,13 @@ module _ (ph : Phase) (vs : List Known) (hs : List Hand) (some_one : 0 < ph.shap
     told = λ v. told_of (gathered.answers v);
     run = run;
     stands = λ r s h e f.
-        let old = of_map (λ k. known (round_view m.cells k.view)) vs r s (subst (λ (l : List Known). get_elem? l r ≡ some s) is e) in
+        let old = of_map (λ k. sitter (round_view m.cells k.view) []) vs r s (subst (λ (l : List Sitter). get_elem? l r ≡ some s) is e) in
         let less : r < ph.shape.workers = let l = there hs r h f in omega (arith, l, long) in
         let by = gathered.each r less in
         let same : by.hand ≡ h = some-injective by.hand h (sym by.at ∙ f) in
         let whose : old.0.view.worker ≡ r = spans.each r old.0 old.1 ∙ zero-add r in
         let view : m.keep r ≡ old.0.view = m.of_view r old.0 old.1 in
-        subst (λ (k : Known). HandStands ph.shape ph.keys (past_of ph.positions run k.view.worker) h k.view) (sym old.2)
+        subst (λ (k : Sitter). HandStands ph.shape ph.keys (past_of ph.positions run k.view.worker) h k.view) (sym old.2)
         (subst (λ (x : View). HandStands ph.shape ph.keys (past_of ph.positions run x.worker) h (round_view m.cells x)) view
         (subst (λ (w : ℕ). HandStands ph.shape ph.keys (past_of ph.positions run w) h (round_view m.cells (m.keep r))) (sym (ap (λ (x : View). x.worker) view ∙ whose))
         (subst (λ (g : Hand). HandStands ph.shape ph.keys (past_of ph.positions run r) g (round_view m.cells (m.keep r))) same (record {

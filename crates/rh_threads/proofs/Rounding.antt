@@ -1,11 +1,11 @@
 -- One round after the other.
-use Rattle.std.proofs.Common.{◌≡◌, ℕ, ◌<◌, List, sym, ◌∙◌, subst, arith}
+use Rattle.std.proofs.Common.{◌≡◌, ℕ, ◌<◌, List, sym, ◌∙◌, subst, arith, []}
 use mathlib.Core.Option.{some}
 use lib.ListN.{get_elem?}
 use Rattle.rh_ledger.specs.declared.tally.Kind.{Kind}
-use Rattle.rh_words.specs.declared.known.Known.{Known}
+use Rattle.rh_rule.specs.declared.rule.Sitter.{Sitter}
 use Rattle.rh_words.specs.View.{View, round_view}
-use Rattle.rh_rule.specs.Seats.{InView, Spans, known}
+use Rattle.rh_rule.specs.Seats.{InView, Spans, sitter}
 use Rattle.rh_rule.proofs.SeatsKept.{of_map}
 use Rattle.rh_shared.specs.declared.seat.Seat.{Seat}
 use Rattle.rh_shared.specs.declared.table.Table.{Table}
@@ -39,8 +39,8 @@ module _ (t : Table) (keys : List ℕ) (c then : Crew) (all : HasAll t c.seat) (
   module _ (seat : Seat) (again : HasAll t seat) (wiped : IsWiped t.shape (views_of then.seat) (views_of seat)) (fresh : InView IsFresh (views_of seat)) where
     each : (P Q : View → Hand → Type 0) → ((v : View) (h : Hand) → P v h → Q (round_view wiped.made.cells v) h) → InPairs P (views_of then.seat) then.hands → InPairs Q (views_of seat) then.hands
     each P Q on was r s h e f =
-        let old = of_map (λ k. known (round_view wiped.made.cells k.view)) (views_of then.seat) r s (subst (λ (l : List Known). get_elem? l r ≡ some s) wiped.views e) in
-        subst (λ (k : Known). Q k.view h) (sym old.2) (on old.0.view h (was r old.0 h old.1 f))
+        let old = of_map (λ k. sitter (round_view wiped.made.cells k.view) []) (views_of then.seat) r s (subst (λ (l : List Sitter). get_elem? l r ≡ some s) wiped.views e) in
+        subst (λ (k : Sitter). Q k.view h) (sym old.2) (on old.0.view h (was r old.0 h old.1 f))
 
     pub wiped_can : CanWork t keys (record { seat = seat; hands = then.hands })
     wiped_can = record {

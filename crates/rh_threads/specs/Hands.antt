@@ -8,7 +8,7 @@ use Rattle.rh_world.specs.World.{In}
 use Rattle.rh_acts.specs.Act.{Act}
 use Rattle.rh_acts.specs.Done.{Kept}
 use Rattle.rh_acts.specs.Workers.{how_many}
-use Rattle.rh_words.specs.declared.known.Known.{Known}
+use Rattle.rh_rule.specs.declared.rule.Sitter.{Sitter}
 use Rattle.rh_words.specs.declared.shape.Shape.{Shape}
 use Rattle.rh_words.specs.View.{View}
 use Rattle.rh_run.specs.Claimed.{FoundEnd, claimed}
@@ -89,9 +89,9 @@ pub record HandStands (z : Shape) (keys : List ℕ) (past : Past) (h : Hand) (v 
 
 -- ---- all hands of a seat, whose view has the worker of each
 
-abbrev pub InPairs : (View → Hand → Type 0) → List Known → List Hand → Type 0
-InPairs P vs hs = (r : ℕ) (s : Known) (h : Hand) → get_elem? vs r ≡ some s → get_elem? hs r ≡ some h → P s.view h
+abbrev pub InPairs : (View → Hand → Type 0) → List Sitter → List Hand → Type 0
+InPairs P vs hs = (r : ℕ) (s : Sitter) (h : Hand) → get_elem? vs r ≡ some s → get_elem? hs r ≡ some h → P s.view h
 
 -- Each worker has come as far as its hand says, over these pasts.
-abbrev pub AllStand : Shape → (keys : List ℕ) → (past : ℕ → Past) → List Known → List Hand → Type 0
+abbrev pub AllStand : Shape → (keys : List ℕ) → (past : ℕ → Past) → List Sitter → List Hand → Type 0
 AllStand z keys past vs hs = InPairs (λ v h. HandStands z keys (past v.worker) h v) vs hs

@@ -2,7 +2,7 @@
 use Rattle.std.specs.Prelude.{ℕ, ◌+◌, ◌||◌, Bool, false, All, List, [], ◌∷◌, slice_index_or}
 use Rattle.rh_ledger.specs.declared.tally.Kind.{Kind}
 use Rattle.rh_acts.specs.Workers.{own}
-use Rattle.rh_words.specs.declared.known.Known.{Known}
+use Rattle.rh_rule.specs.declared.rule.Sitter.{Sitter}
 use Rattle.rh_words.specs.declared.shape.Shape.{Shape}
 use Rattle.rh_words.specs.View.{View}
 use Rattle.rh_shared.specs.Crews.{HasAll, IsQuiet, views_of}
@@ -44,7 +44,7 @@ abbrev pub past_of : {r : Run} → (positions : ℕ) → RunInvariant r → (v :
 past_of {r = r} positions run v = record { kind = r.kind; positions = positions; opening = (r.keep v).opening; acts = own v run.before; reads = run.reads v }
 
 -- At the start of the round there was a run of this phase. From it on each worker has come as far as its hand says.
-pub record Comes (ph : Phase) (vs : List Known) (hs : List Hand) : Type 0 where
+pub record Comes (ph : Phase) (vs : List Sitter) (hs : List Hand) : Type 0 where
   pub words : List ℕ
   pub keep : ℕ → View
   pub done : ℕ → List ℕ

@@ -122,6 +122,7 @@ one_order w side r = record {
   made = r.acts.made;
   succeeded = r.acts.succeeded;
   once = acts_once w side r.acts;
+  ordered = r.acts.ordered;
   meets = λ i h e l. cells_are w side r i (omega arith) (w.target (w.act i) e) ∙ (r.acts.takes i h).olds e l;
   now = λ c. subst (λ (u : ℕ). IsLogical w c u) (sym (cells_are w side r w.act_count (omega arith) c)) (r.acts.now c);
   own = λ v opened falling all. own_acts_are w side v opened r.acts falling all;

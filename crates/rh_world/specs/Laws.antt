@@ -57,6 +57,7 @@ pub record OneOrder (w : World) : Type 0 where
   pub made : (d : Ref) → w.control d ≡ succeeded → (i : ℕ) × (i < w.act_count) × (w.act i ≡ d)
   pub succeeded : (i : ℕ) → i < w.act_count → w.control (w.act i) ≡ succeeded
   pub once : (i j : ℕ) → i < w.act_count → j < w.act_count → w.act i ≡ w.act j → i ≡ j
+  pub ordered : (i j : ℕ) → i < j → j < w.act_count → (w.act i).worker ≡ (w.act j).worker → (w.act i).number < (w.act j).number
   pub meets : (i : ℕ) → i < w.act_count → MeetsOlds w (w.act i) (cells_after w i)
   pub now : (c : ℕ) → IsLogical w c (cells_after w w.act_count c)
   pub own : (v : ℕ) (opened : List ℕ) → IsFalling opened → ((n : ℕ) → IsOpened (w.control (record { worker = v; number = n })) → In n opened)

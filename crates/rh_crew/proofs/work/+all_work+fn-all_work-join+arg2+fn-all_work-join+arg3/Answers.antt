@@ -2,6 +2,7 @@ use Rattle.std.proofs.Common.{◌≡◌, ◌∙◌, sym, subst, arith}
 use Rattle.std.proofs.lemmas.Bool.Decides.{nat_tests}
 use Rattle.rh_rule.specs.Seats.{InView}
 use Rattle.rh_shared.specs.Crews.{IsQuiet}
+use Rattle.rh_shared.proofs.Crews.{fresh_rows}
 use Rattle.rh_crew.proofs.Seats.{alone_rests, both_quiet}
 use Rattle.rh_crew.proofs.work.+all_work+fn-all_work-join+arg2+fn-all_work-join+arg3.Goals as goal
 
@@ -9,6 +10,9 @@ pub work-requires : goal.work-requires
 work-requires g t c =
     let one : c.args.seat.count ≡ 1 = grind (arith, nat_tests) in
     record { rests = alone_rests c.args.table.now c.args.seat c.requires.here c.requires.fresh one }
+
+pub split-second-requires-clause-rows : goal.split-second-requires-clause-rows
+split-second-requires-clause-rows g t c = fresh_rows c.args.table.now.shape _ c.requires.fresh
 
 pub returns : goal.returns
 returns g t c =

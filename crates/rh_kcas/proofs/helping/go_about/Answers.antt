@@ -25,7 +25,7 @@ loop-preserved-in-On g c =
       own = c.in-On.ensures.leads.0;
       stands = c.in-On.ensures.leads.1;
       known = known_sub _ _ m.facts _ h.known;
-      stays = stays_on _ _ _ h.stays m.steps;
+      stays = stays_on _ _ _ h.stays m.steps.stays;
       noted = noted_on _ _ _ h.noted (made_notes _ _ _ _ _ _ m);
     }
 
@@ -51,7 +51,7 @@ loop-preserved g c =
       own = k.clear.own;
       stands = subst (λ (w : Work). Stands c.args.shape.now c.state.new.side.known.view w) (sym c.go_about.ensures) (k.clear.owes, known);
       known = known;
-      stays = stays_on _ _ _ (stays_on _ _ _ h.stays m.steps) k.stays;
+      stays = stays_on _ _ _ (stays_on _ _ _ h.stays m.steps.stays) k.stays;
       noted = noted_on _ _ _ (noted_on _ _ _ h.noted (made_notes _ _ _ _ _ _ m)) k.facts;
     }
 

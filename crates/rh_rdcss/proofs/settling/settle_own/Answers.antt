@@ -5,7 +5,7 @@ use Rattle.rh_words.specs.Steps.Step.{settles}
 use Rattle.rh_words.specs.Words.{ref_of}
 use Rattle.rh_helping.specs.Settling.{IsFound}
 use Rattle.rh_helping.proofs.Marks.{may_read_control}
-use Rattle.rh_shared.specs.Seats.{view_of}
+use Rattle.rh_shared.specs.Seats.{sitter_of}
 use Rattle.rh_rdcss.specs.Calls.{Learned}
 use Rattle.rh_rdcss.specs.Settling.{old_of}
 use Rattle.rh_rdcss.proofs.MarksMet.{own_settled, own_settles}
@@ -27,12 +27,12 @@ pub returns-clause-settled : goal.returns-clause-settled
 returns-clause-settled c mine =
     let z = c.args.table.now.shape in
     let own = c.args.own in
-    own_settled z c.args.cell own (view_of c.args.seat.now) c.make.result (view_of c.make.new.seat)
+    own_settled z c.args.cell own (sitter_of c.args.seat.now) c.make.result (sitter_of c.make.new.seat)
     (record {
       said = c.make-word.result;
-      between = view_of c.make-word.new.seat;
+      between = sitter_of c.make-word.new.seat;
       control = c.make-word.ensures.learned;
-      swap = subst (λ (to : Option ℕ). Learned z (settles (ref_of own.mark) c.args.cell (ref_of own.piece.desc) own.piece.entry to) (view_of c.make-word.new.seat) c.make.result (view_of c.make.new.seat))
+      swap = subst (λ (to : Option ℕ). Learned z (settles (ref_of own.mark) c.args.cell (ref_of own.piece.desc) own.piece.entry to) (sitter_of c.make-word.new.seat) c.make.result (sitter_of c.make.new.seat))
           (c.old-old.ensures ∙ ap old_of c.own_target-to.ensures) c.make.ensures.learned;
     })
     mine

@@ -1,7 +1,8 @@
 use Rattle.std.proofs.Common.{ℕ, ap, ◌∙◌, sym, subst}
 use Rattle.rh_words.specs.View.{new_view}
 use Rattle.rh_rule.specs.Seats.{Spans}
-use Rattle.rh_shared.proofs.Crews.{half_alone}
+use Rattle.rh_shared.specs.Crews.{IsFresh}
+use Rattle.rh_shared.proofs.Crews.{fresh_rows, half_alone}
 use Rattle.rh_shared.proofs.Made.{made_half, made_head, opens}
 use Rattle.rh_shared.proofs.ends.make.Goals as goal
 
@@ -20,8 +21,11 @@ invariant_of-result-2 c =
       some = c.requires.some;
       spans = subst (λ (w : ℕ). Spans c.in_ok-inner.seat.me.0 w z.workers) (sym c.new-side.ensures.worker) half.spans;
       empty = ap (λ x. x.1) me;
-      alone = λ one. λ i. (half_alone _ _ _ half c.new-side.result.known.view is one i, ap (λ x. x.1) me i);
+      alone = λ one. λ i. (half_alone IsFresh _ _ _ half c.new-side.result.known.view is one i, ap (λ x. x.1) me i);
     }
 
 pub returns-clause-fresh : goal.returns-clause-fresh
-returns-clause-fresh c = (made_half c.args.shape c.of.result.value.items c.in_ok-inner.seat.me.0 (ap (λ x. x.0) c.in_ok-inner.ensures.4)).fresh
+returns-clause-fresh c = (made_half c.args.shape c.of.result.value.items c.in_ok-inner.seat.me.0 (ap (λ x. x.0) c.in_ok-inner.ensures.4)).each
+
+pub returns-clause-rows : goal.returns-clause-rows
+returns-clause-rows c = fresh_rows c.args.shape _ (made_half c.args.shape c.of.result.value.items c.in_ok-inner.seat.me.0 (ap (λ x. x.0) c.in_ok-inner.ensures.4)).each

@@ -14,7 +14,7 @@ returns-in-Spent-clause-reads g c =
     none_seen c.args.shape.now c.args.cell c.args.side.now.known.view c.look.new.side.known.view (made_notes _ _ _ _ _ _ e.made) e.leads.1
 
 pub returns-in-On-clause-stays : goal.returns-in-On-clause-stays
-returns-in-On-clause-stays g c = stays_on _ _ _ c.in-On.ensures.made.steps c.look_on_copy.ensures.stays
+returns-in-On-clause-stays g c = stays_on _ _ _ c.in-On.ensures.made.steps.stays c.look_on_copy.ensures.stays
 
 pub returns-in-On-clause-reads : goal.returns-in-On-clause-reads
 returns-in-On-clause-reads g c =

@@ -17,7 +17,7 @@ loop-preserved g c =
     let m = c.in-On.ensures.made in record {
       trusts = m.trusts;
       looking = c.in-On.ensures.leads;
-      stays = stays_on _ _ _ h.stays m.steps;
+      stays = stays_on _ _ _ h.stays m.steps.stays;
       noted = noted_on _ _ _ h.noted (made_notes _ _ _ _ _ _ m);
     }
 

@@ -21,7 +21,7 @@ loop-preserved g c =
       trusts = m.trusts;
       own = c.in-On.ensures.leads.0;
       stands = c.in-On.ensures.leads.1;
-      stays = stays_on _ _ _ h.stays m.steps;
+      stays = stays_on _ _ _ h.stays m.steps.stays;
       noted = noted_on _ _ _ h.noted (made_notes _ _ _ _ _ _ m);
     }
 

@@ -36,7 +36,7 @@ loop-preserved g c =
       trusts = m.trusts;
       own = l.0;
       stands = l.1;
-      stays = stays_on _ _ _ h.stays m.steps;
+      stays = stays_on _ _ _ h.stays m.steps.stays;
       noted = noted_on _ _ _ h.noted (made_notes _ _ _ _ _ _ m);
     }
 

@@ -16,7 +16,7 @@ loop-next-preserved c =
       trusts = m.trusts;
       may = l.0;
       is = l.1;
-      stays = stays_on _ _ _ h.stays m.steps;
+      stays = stays_on _ _ _ h.stays m.steps.stays;
       noted = noted_on _ _ _ h.noted (made_notes _ _ _ _ _ _ m);
     }
 

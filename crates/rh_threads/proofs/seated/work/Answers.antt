@@ -1,7 +1,7 @@
 use Rattle.std.proofs.Common.{◌≡◌, ◌<◌, length, ap, subst, sym, arith}
 use Rattle.std.specs.Prelude.{IfSome, slice_index_or}
-use Rattle.rh_shared.specs.Seats.{view_of}
-use Rattle.rh_rule.specs.Seats.{known}
+use Rattle.rh_shared.specs.Seats.{trace_of, view_of}
+use Rattle.rh_rule.specs.Seats.{sitter}
 use Rattle.rh_shared.specs.Crews.{IsFresh, head_of}
 use Rattle.rh_shared.proofs.Crews.{fresh_rests}
 use Rattle.rh_threads.proofs.Crews.{alone_at, alone_views, first_at, one_worked}
@@ -12,12 +12,12 @@ do_keys-requires-clause-rests g c =
     let seat = c.args.crew.seat in
     let can = c.requires.can in
     let head = ap head_of (sym (alone_views seat c.requires.one)) in
-    fresh_rests c.args.table.now seat can.crew.here c.requires.one head (subst IsFresh head (can.fresh 0 (known (view_of seat)) (alone_at seat c.requires.one)))
+    fresh_rests c.args.table.now seat can.crew.here c.requires.one head (subst IsFresh head (can.fresh 0 (sitter (view_of seat) (trace_of seat)) (alone_at seat c.requires.one)))
 
 pub do_keys-requires-clause-hand : goal.do_keys-requires-clause-hand
 do_keys-requires-clause-hand g c =
     let one : 0 < length c.args.crew.hands = (let l = c.requires.can.crew.long in let o = c.requires.one in omega (arith, l, o)) in
-    c.requires.can.crew.hands 0 (known (view_of c.args.crew.seat)) c.unwrap-hand.result.now (alone_at c.args.crew.seat c.requires.one)
+    c.requires.can.crew.hands 0 (sitter (view_of c.args.crew.seat) (trace_of c.args.crew.seat)) c.unwrap-hand.result.now (alone_at c.args.crew.seat c.requires.one)
     (first_at c.args.crew.hands c.unwrap-hand.result.now one (subst (λ o. IfSome o (λ x. x.now ≡ slice_index_or c.args.crew.hands 0 x.now)) c.unwrap-hand.ensures c.front_mut.ensures.value))
 
 pub returns : goal.returns
