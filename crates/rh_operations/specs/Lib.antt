@@ -4,4 +4,5 @@ pub mod Found
 pub mod Refusals
 pub mod Leaves
 pub mod KeyLists
+pub mod Sets
 pub mod Operations

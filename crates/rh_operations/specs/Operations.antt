@@ -16,6 +16,7 @@ use Rattle.rh_operations.specs.declared.cause.Cause.{Cause}
 use Rattle.rh_operations.specs.declared.operations.Flips.{Flips}
 use Rattle.rh_operations.specs.Found.{count_again, keys_again, keys_found}
 use Rattle.rh_bytes.specs.Input.{◌>>=◌}
+use Rattle.rh_operations.specs.Sets.{flipped_by, kept}
 use Rattle.rh_operations.specs.Size.{size_for}
 
 -- the bytes are the snapshot of a table: they spell a layout of its keys that has a free cell
@@ -43,7 +44,7 @@ Changed Ask keys old new told = ⊥
 -- of the keys that were held, those of the list were kept
 pub record Kept (keys : List ℕ) (old new : Held) (found : ℕ) : Type 0 where
   pub size : size_for MIN_BITS (length (chosen Present old.keys keys)) ≡ Ok new.bits
-  pub held : new.keys ≡ set_after Insert set.empty (chosen Present old.keys keys)
+  pub held : new.keys ≡ kept old.keys keys
   pub counted : found ≡ length (chosen Present old.keys keys)
 
 -- how many keys a table is to hold while the list is flipped, its positions counted
@@ -55,7 +56,7 @@ flipped_most S keys = set.len (set_after Remove S keys) + length (chosen Absent 
 pub record Flipped (first second : List ℕ) (old new : Held) (told : Flips) : Type 0 where
   pub as_many : length (chosen Absent old.keys second) ≡ length (chosen Absent old.keys first)
   pub size : size_for old.bits (flipped_most old.keys first) ≡ Ok new.bits
-  pub held : new.keys ≡ set_after Insert (set_after Remove old.keys first) (chosen Absent old.keys second)
+  pub held : new.keys ≡ flipped_by old.keys first second
   pub removed : told.removed ≡ tally_of Remove old.keys first
   pub added : told.added ≡ tally_of Insert (set_after Remove old.keys first) (chosen Absent old.keys second)
 

@@ -1,40 +1,18 @@
 -- Sets and lists of which those keys are kept that pass a test, such as those of one part.
 use Rattle.std.proofs.Common.{◌≡◌, ◌∙◌, ap, sym, refl, ℕ, Bool, true, false, List, [], ◌∷◌, inl, inr}
-use Rattle.std.specs.Prelude.{filter, nat_eq, not, ◌&&◌, ◌||◌}
+use Rattle.std.specs.Prelude.{filter, not, ◌&&◌, ◌||◌, ◌==◌}
 use Rattle.std.proofs.lemmas.Bool.{cases_Bool, eqb-true}
-use Rattle.std.specs.Cmp.{nat_cmp_total, unsigned_tied}
-use Rattle.std.specs.Ordering.{is_eq, nat_cmp}
-use Rattle.std.specs.declared.cmp.Ordering.TheVariants.{Equal}
+use Rattle.std.specs.Ordering.{nat_cmp}
 use Rattle.std.specs.FinSet as set
-use Rattle.std.specs.FinSet.{contains, contains-empty, contains-insert, contains-remove, contains-retain, nat_cmp-IsAntisymmetric}
+use Rattle.std.specs.FinSet.{contains, contains-empty}
 use Rattle.rh_layout.specs.Layout.{Keys}
 use Rattle.rh_ledger.specs.declared.tally.Kind.TheVariants.{Insert, Remove}
 use Rattle.rh_ledger.specs.Phase.{set_after}
 use Rattle.rh_runner.specs.declared.choice.Chosen.{Chosen}
 use Rattle.rh_runner.specs.declared.choice.Chosen.TheVariants.{Absent, Present}
 use Rattle.rh_runner.specs.Lists.{chosen, is_chosen}
-use Rattle.rh_part_laws.specs.Sets.{flipped, kept}
-
-one_key : (q x : ℕ) → nat_cmp q x ≡ Equal → x ≡ q
-one_key q x tie = sym (eqb-true q x (sym (unsigned_tied q x) ∙ ap is_eq tie))
-
-put : (S : Keys) (k q : ℕ) → contains (set.insert S k) q ≡ (nat_eq q k || contains S q)
-put S k q = contains-insert nat_cmp_total S k q ∙ (λ i. unsigned_tied q k i || contains S q)
-
-out : (S : Keys) (k q : ℕ) → contains (set.remove S k) q ≡ (not (nat_eq q k) && contains S q)
-out S k q = contains-remove nat_cmp_total S k q ∙ (λ i. not (unsigned_tied q k i) && contains S q)
-
-pub same : (S T : Keys) → ((q : ℕ) → contains S q ≡ contains T q) → S ≡ T
-same S T h = set.same_set nat_cmp_total nat_cmp-IsAntisymmetric S T h
-
-pub or_and : (e c p : Bool) → (e ≡ true → p ≡ true) → ((e || c) && p) ≡ (e || (c && p))
-or_and true c p h = h refl
-or_and false c p h = refl
-
-pub or_none : (e c p : Bool) → (e ≡ true → p ≡ false) → ((e || c) && p) ≡ (c && p)
-or_none true true p h = refl
-or_none true false p h = h refl
-or_none false c p h = refl
+use Rattle.rh_operations.specs.Sets.{flipped, kept}
+use Rattle.rh_combine.proofs.Meaning.{holds, or_and, or_none, out, put, same}
 
 not_and : (e c p : Bool) → ((not e && c) && p) ≡ (not e && (c && p))
 not_and true c p = refl
@@ -53,35 +31,32 @@ abbrev nothing : Keys
 nothing = set.empty
 
 module _ (passes : ℕ → Bool) where
-  pub holds : (S : Keys) (q : ℕ) → contains (set.retain S passes) q ≡ (contains S q && passes q)
-  holds S q = contains-retain S passes q (λ x tie. ap passes (one_key q x tie))
-
   -- ---- one key more, and one less
 
   module _ (S : Keys) (k : ℕ) where
     more_passes : passes k ≡ true → set.retain (set.insert S k) passes ≡ set.insert (set.retain S passes) k
     more_passes let_in = same _ _ (λ q.
-        holds (set.insert S k) q ∙ ap (λ b. b && passes q) (put S k q)
-        ∙ or_and (nat_eq q k) (contains S q) (passes q) (λ is. ap passes (eqb-true q k is) ∙ let_in)
-        ∙ sym (put (set.retain S passes) k q ∙ ap (λ b. nat_eq q k || b) (holds S q)))
+        holds passes (set.insert S k) q ∙ ap (λ b. b && passes q) (put S k q)
+        ∙ or_and (k == q) (contains S q) (passes q) (λ is. ap passes (sym (eqb-true k q is)) ∙ let_in)
+        ∙ sym (put (set.retain S passes) k q ∙ ap (λ b. k == q || b) (holds passes S q)))
 
     more_stopped : passes k ≡ false → set.retain (set.insert S k) passes ≡ set.retain S passes
     more_stopped left_out = same _ _ (λ q.
-        holds (set.insert S k) q ∙ ap (λ b. b && passes q) (put S k q)
-        ∙ or_none (nat_eq q k) (contains S q) (passes q) (λ is. ap passes (eqb-true q k is) ∙ left_out)
-        ∙ sym (holds S q))
+        holds passes (set.insert S k) q ∙ ap (λ b. b && passes q) (put S k q)
+        ∙ or_none (k == q) (contains S q) (passes q) (λ is. ap passes (sym (eqb-true k q is)) ∙ left_out)
+        ∙ sym (holds passes S q))
 
     less_passes : set.retain (set.remove S k) passes ≡ set.remove (set.retain S passes) k
     less_passes = same _ _ (λ q.
-        holds (set.remove S k) q ∙ ap (λ b. b && passes q) (out S k q)
-        ∙ not_and (nat_eq q k) (contains S q) (passes q)
-        ∙ sym (out (set.retain S passes) k q ∙ ap (λ b. not (nat_eq q k) && b) (holds S q)))
+        holds passes (set.remove S k) q ∙ ap (λ b. b && passes q) (out S k q)
+        ∙ not_and (k == q) (contains S q) (passes q)
+        ∙ sym (out (set.retain S passes) k q ∙ ap (λ b. not (k == q) && b) (holds passes S q)))
 
     less_stopped : passes k ≡ false → set.retain (set.remove S k) passes ≡ set.retain S passes
     less_stopped left_out = same _ _ (λ q.
-        holds (set.remove S k) q ∙ ap (λ b. b && passes q) (out S k q)
-        ∙ not_none (nat_eq q k) (contains S q) (passes q) (λ is. ap passes (eqb-true q k is) ∙ left_out)
-        ∙ sym (holds S q))
+        holds passes (set.remove S k) q ∙ ap (λ b. b && passes q) (out S k q)
+        ∙ not_none (k == q) (contains S q) (passes q) (λ is. ap passes (sym (eqb-true k q is)) ∙ left_out)
+        ∙ sym (holds passes S q))
 
   -- ---- all keys of a list
 
@@ -108,7 +83,7 @@ module _ (passes : ℕ → Bool) where
       let others = still_chosen which S keys in
       elim (cases_Bool (passes k)) [
         | inl let_in ↦
-            let there : contains (set.retain S passes) k ≡ contains S k = holds S k ∙ ap (λ b. contains S k && b) let_in ∙ and_true (contains S k) in
+            let there : contains (set.retain S passes) k ≡ contains S k = holds passes S k ∙ ap (λ b. contains S k && b) let_in ∙ and_true (contains S k) in
             elim (cases_Bool (is_chosen which (contains S k))) [
               | inl chosen_too ↦ rw (let_in, there, chosen_too, let_in) (ap (λ l. k ∷ l) others)
               | inr passed_over ↦ rw (let_in, there, passed_over) others
@@ -120,8 +95,8 @@ module _ (passes : ℕ → Bool) where
             ]
       ]
 
-  none_held : set.retain nothing passes ≡ nothing
-  none_held = same _ _ (λ q. holds nothing q ∙ ap (λ b. b && passes q) (contains-empty nat_cmp q) ∙ sym (contains-empty nat_cmp q))
+  pub none_held : set.retain nothing passes ≡ nothing
+  none_held = same _ _ (λ q. holds passes nothing q ∙ ap (λ b. b && passes q) (contains-empty nat_cmp q) ∙ sym (contains-empty nat_cmp q))
 
   pub kept_only : (S : Keys) (keys : List ℕ) → set.retain (kept S keys) passes ≡ kept (set.retain S passes) (filter passes keys)
   kept_only S keys =

@@ -20,7 +20,7 @@ unfoldable pub made_by : ScriptState → List Numbered → Made
 made_by w [] = (w, [])
 made_by w (step ∷ steps) = made_further w (outcome_of w step.instruction) (λ v. made_by v steps)
 
-line_ok : (line : ℕ) (outcome : Outcome) (done : ScriptState × Account) → outcome_at line outcome ≡ Ok done → outcome ≡ Ok done
+pub line_ok : (line : ℕ) (outcome : Outcome) (done : ScriptState × Account) → outcome_at line outcome ≡ Ok done → outcome ≡ Ok done
 line_ok line (Ok done') done is = ap (λ (r : Result (ScriptState × Account) RunFault). unline r) is
   where
     unline : Result (ScriptState × Account) RunFault → Outcome

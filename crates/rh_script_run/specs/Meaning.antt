@@ -26,6 +26,7 @@ use Rattle.rh_operations.specs.declared.cause.Cause.TheVariants as causes
 use Rattle.rh_operations.specs.declared.cause.Cause.TheVariants.{Missing}
 use Rattle.rh_operations.specs.Found.{keys_or_cause, table_or_cause}
 use Rattle.rh_bytes.specs.Input.{◌>>=◌}
+use Rattle.rh_operations.specs.Sets.{flipped, kept}
 use Rattle.rh_operations.specs.Size.{size_for}
 use Rattle.rh_script_run.specs.declared.fault.RunFault.{RunFault}
 use Rattle.rh_script_run.specs.Files.{File, FileMap, Bytes, Sealed, given_files, with_snapshot}
@@ -91,7 +92,7 @@ asks w name keys = Ok (w, Asked name (looked_up w.held keys))
 abbrev pub keeps : ScriptState → (name keys : List ℕ) → Outcome
 keeps w name keys =
     let found = chosen Present w.held keys in
-    let held = set_after Insert set.empty found in
+    let held = kept w.held keys in
     size_for MIN_BITS (length found)
     >>= (λ bits. Ok (record w { held = held; bits = bits }, Kept name (length keys) (length found) (set.len held) bits))
 
@@ -100,7 +101,7 @@ abbrev pub flips : ScriptState → (name keys : List ℕ) → Outcome
 flips w name keys =
     let others = chosen Absent w.held keys in
     let left = set_after Remove w.held keys in
-    let held = set_after Insert left others in
+    let held = flipped w.held keys in
     size_for w.bits (set.len left + length others)
     >>= (λ bits. Ok (record w { held = held; bits = bits }, Flipped name (length keys) (tally_of Remove w.held keys).removed (tally_of Insert left others).added (set.len held) bits))
 

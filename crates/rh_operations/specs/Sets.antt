@@ -1,4 +1,4 @@
--- What commands make of a set and a list.
+-- What `keep` and `flip` make of a set and a list.
 use Rattle.std.specs.Prelude.{ℕ, List}
 use Rattle.std.specs.FinSet as set
 use Rattle.rh_layout.specs.Layout.{Keys}
@@ -11,6 +11,10 @@ use Rattle.rh_runner.specs.Lists.{chosen}
 abbrev pub kept : Keys → List ℕ → Keys
 kept S keys = set_after Insert set.empty (chosen Present S keys)
 
+-- without the keys of a first reading of a list, and with those of a second one that were not held
+abbrev pub flipped_by : Keys → (first second : List ℕ) → Keys
+flipped_by S first second = set_after Insert (set_after Remove S first) (chosen Absent S second)
+
 -- without the keys of the list that were held, and with the others
 abbrev pub flipped : Keys → List ℕ → Keys
-flipped S keys = set_after Insert (set_after Remove S keys) (chosen Absent S keys)
+flipped S keys = flipped_by S keys keys
