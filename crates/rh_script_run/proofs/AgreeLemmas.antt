@@ -14,7 +14,7 @@ use Rattle.rh_script_run.proofs.MadeLemmas.{Made}
 use Rattle.rh_script_run.proofs.MeantLemmas.{meant}
 use Rattle.rh_script_run.proofs.FrontLemmas.{front_in, one_ahead, told_of}
 
-pub runs_agree : (files : Files) (steps : List Numbered) (old new old' new' : Environment) (r r' : Result Report RunFault) → Ends files steps old new r → Ends files steps old' new' r' → EndsByItself old.failures new.failures r → EndsByItself old'.failures new'.failures r' → (r ≡ r') × (new.files ≡ new'.files) × AppendSame old.text new.text old'.text new'.text
+pub runs_agree : (files : Files) (steps : List Numbered) (old new old' new' : Environment) (r r' : Result Report RunFault) → Ends files steps old new r → Ends files steps old' new' r' → EndsByItself steps old new r → EndsByItself steps old' new' r' → (r ≡ r') × (new.files ≡ new'.files) × AppendSame old.text new.text old'.text new'.text
 runs_agree files steps old new old' new' r r' ends ends' itself itself' =
     let m = meant files steps old new r ends itself in
     let n = meant files steps old' new' r' ends' itself' in
@@ -34,7 +34,7 @@ module _ (files : Files) (steps : List Numbered) (old new old' new' : Environmen
         | inr ahead ↦ (t.text, t.written, front_in u.said ahead.0 u.text t.text old'.text new'.text u.says (subst (λ l. SaysAll l t.text) ahead.1 t.says) u.written)
       ]
 
-  pub front_of_whole : EndsByItself old.failures new.failures r → AppendFrontOf old.text new.text old'.text new'.text
+  pub front_of_whole : EndsByItself steps old new r → AppendFrontOf old.text new.text old'.text new'.text
   front_of_whole itself =
       let m = meant files steps old new r ends itself in
       let u = told_of files steps old' new' r' ends' in

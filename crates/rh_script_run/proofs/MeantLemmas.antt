@@ -1,10 +1,15 @@
 -- A run that nothing from outside ended has what its script means.
-use Rattle.std.proofs.Common.{◌≡◌, ◌∙◌, ap, sym, subst, refl, ℕ, inl, inr, List, [], append-nil, Option, Result, Ok, Err}
+use Rattle.std.proofs.Common.{◌≡◌, ◌∙◌, ap, sym, subst, refl, ℕ, inl, inr, List, [], ◌∷◌, ◌++◌, append-nil, Option, Some, None, Result, Ok, Err}
+use Rattle.std.proofs.lemmas.List.Elements.{All-head, All-tail}
+use Rattle.std.specs.Prelude.{All}
 use Rattle.std.specs.Io.KnownBytes.{Appends}
 use Rattle.std.proofs.KnownBytes.{Appends-trans}
 use Rattle.rh_bytes.specs.Counting.{Rose}
 use Rattle.rh_key_files.specs.declared.fault.KeyFault.TheVariants as key_faults
 use Rattle.rh_snapshot.specs.declared.fault.SnapFault.TheVariants as snap_faults
+use Rattle.rh_snapshot.specs.declared.version.Version.TheVariants.{Second}
+use Rattle.rh_snapshot.specs.Snapshot.{snap_spelling}
+use Rattle.rh_bytes.specs.Input.{◌>>=◌}
 use Rattle.rh_script.specs.Instruction.{Instruction, Numbered, Use, Add, Drop, Ask, Keep, Flip, Save, Clear, Dump, Snapshot, Restore}
 use Rattle.rh_shelf.specs.Shelf.{Files}
 use Rattle.rh_operations.specs.declared.cause.Cause.{Cause}
@@ -12,43 +17,49 @@ use Rattle.rh_operations.specs.declared.cause.Cause.TheVariants as causes
 use Rattle.rh_operations.specs.Refusals.{ListFails, MemoryFails, PhaseFails, PutFails, RestoreFails}
 use Rattle.rh_script_run.specs.declared.fault.RunFault.{RunFault}
 use Rattle.rh_script_run.specs.declared.report.Report.{Report}
-use Rattle.rh_script_run.specs.Agree.{EndsByItself, IsFound, result_of}
+use Rattle.rh_script_run.specs.Agree.{EndsByItself, IsFound, ReadsNone, ReadsNoneAt, result_of}
 use Rattle.rh_script_run.specs.Ends.{Done, Ends, EndsBy, LeavesFiles, LeavesOthers, NotBegun, SaysAll, Stopped, step_in}
 use Rattle.rh_script_run.specs.Environment.{Environment}
-use Rattle.rh_script_run.specs.Files.{FileMap, HasFiles}
-use Rattle.rh_script_run.specs.Meaning.{ScriptState, meaning, outcome_of, start}
+use Rattle.rh_script_run.specs.Files.{Bytes, File, FileMap, HasFiles, IsFile, Sealed}
+use Rattle.rh_script_run.specs.Meaning.{Outcome, ScriptState, keys_at_path, meaning, outcome_of, start, table_at}
 use Rattle.rh_script_run.specs.Outside.{IsOutside}
 use Rattle.rh_script_run.proofs.MadeLemmas.{Made, made_all, made_by, made_to, refused_at}
 
--- ---- a cause that was found is none from outside
+-- ---- a cause that was found is none from outside, but that of a file that is not there
 
-module _ (failed : Type 0) where
-  memory_found : (cause : Cause) → IsFound failed cause → MemoryFails cause → ⊥
+module _ (failed lacks : Type 0) where
+  -- the file is not there, whether the shelf failed or not
+  abbrev IsLack : Cause → Type 0
+  IsLack cause = (cause ≡ causes.Missing) × lacks
+
+  memory_found : (cause : Cause) → IsFound failed lacks cause → MemoryFails cause → IsLack cause
   memory_found causes.Memory found out = absurd found
   memory_found cause found out = absurd out
 
-  list_found : (cause : Cause) → IsFound failed cause → ListFails failed cause → ⊥
+  list_found : (cause : Cause) → IsFound failed lacks cause → ListFails failed cause → IsLack cause
   list_found causes.Memory found out = absurd found
-  list_found (causes.Keys key_faults.Read) found out = found refl
-  list_found causes.Missing found out = found out
+  list_found (causes.Keys key_faults.Read) found out = absurd (found refl)
+  list_found causes.Missing (inl fine) out = absurd (fine out)
+  list_found causes.Missing (inr none) out = (refl, none)
   list_found cause found out = absurd out
 
-  phase_found : (refused : Type 0) (cause : Cause) → IsFound failed cause → PhaseFails failed refused cause → ⊥
+  phase_found : (refused : Type 0) (cause : Cause) → IsFound failed lacks cause → PhaseFails failed refused cause → IsLack cause
   phase_found refused causes.NoThread found out = absurd found
   phase_found refused cause found out = list_found cause found out
 
-  put_found : (cause : Cause) → IsFound failed cause → PutFails failed cause → ⊥
+  put_found : (cause : Cause) → IsFound failed lacks cause → PutFails failed cause → IsLack cause
   put_found causes.Memory found out = absurd found
   put_found causes.Put found out = absurd found
   put_found cause found out = absurd out
 
-  restore_found : (cause : Cause) → IsFound failed cause → RestoreFails failed cause → ⊥
+  restore_found : (cause : Cause) → IsFound failed lacks cause → RestoreFails failed cause → IsLack cause
   restore_found causes.Memory found out = absurd found
-  restore_found (causes.Snap snap_faults.Read) found out = found refl
-  restore_found causes.Missing found out = found out
+  restore_found (causes.Snap snap_faults.Read) found out = absurd (found refl)
+  restore_found causes.Missing (inl fine) out = absurd (fine out)
+  restore_found causes.Missing (inr none) out = (refl, none)
   restore_found cause found out = absurd out
 
-  not_outside : (refused : Type 0) (said : Instruction) (cause : Cause) → IsFound failed cause → IsOutside said failed refused cause → ⊥
+  not_outside : (refused : Type 0) (said : Instruction) (cause : Cause) → IsFound failed lacks cause → IsOutside said failed refused cause → IsLack cause
   not_outside refused (Use name path) cause found out = list_found cause found out
   not_outside refused (Add name) cause found out = phase_found refused cause found out
   not_outside refused (Drop name) cause found out = phase_found refused cause found out
@@ -60,6 +71,28 @@ module _ (failed : Type 0) where
   not_outside refused Dump cause found out = absurd out
   not_outside refused (Snapshot path) cause found out = put_found cause found out
   not_outside refused (Restore path) cause found out = restore_found cause found out
+
+-- ---- a file that is not there
+
+no_file : (file : Option File) (found : Option (List ℕ)) → IsFile file found → found ≡ None → file ≡ None
+no_file None found is none = refl
+no_file (Some (Bytes bytes)) found is none = let both : Some bytes ≡ None = sym is ∙ none in absurd cc
+no_file (Some (Sealed table)) found is none = let both : Some (snap_spelling Second table.bits is.0) ≡ None = sym is.3 ∙ none in absurd cc
+
+then_missing : {Y : Type 0} (r : Result Y Cause) (make : Y → Outcome) → r ≡ Err causes.Missing → (r >>= make) ≡ Err causes.Missing
+then_missing r make is = ap (λ x. x >>= make) is
+
+not_there : (said : Instruction) (w : ScriptState) (now : Option Files) → LeavesOthers said w.files now → ReadsNone now said → outcome_of w said ≡ Err causes.Missing
+unfolding outcome_of
+not_there (Use name path) w None left none = absurd none
+not_there (Use name path) w (Some now) left none = then_missing (keys_at_path (w.files path)) _ (ap keys_at_path (no_file (w.files path) (now path) (left path) none))
+not_there (Restore path) w None left none = absurd none
+not_there (Restore path) w (Some now) left none = then_missing (table_at (w.files path)) _ (ap table_at (no_file (w.files path) (now path) (left path) none))
+not_there said w now left none = absurd none
+
+at_step : (P : Numbered → Type 0) (before after : List Numbered) (step : Numbered) → All P (before ++ step ∷ after) → P step
+at_step P [] after step all = All-head P step after all
+at_step P (s ∷ before) after step all = at_step P before after step (All-tail P s (before ++ step ∷ after) all)
 
 -- ---- a run that nothing from outside ended
 
@@ -95,14 +128,26 @@ files_left said w before after found cause is left = others_left said w found af
 pub then_none : (a b c : Option (List ℕ)) (text : List ℕ) → Appends a b text → Appends b c [] → Appends a c text
 then_none a b c text so_far none = subst (Appends a c) (append-nil text) (Appends-trans a b c text [] so_far none)
 
-module _ (files : Files) (steps : List Numbered) (old new : Environment) (fault : RunFault) (s : Stopped files steps old new fault) (found : IsFound (Rose old.failures new.failures) fault.cause) where
-  found_here : IsFound (Rose s.middle.failures new.failures) fault.cause
-  found_here = subst (λ n. IsFound (Rose n new.failures) fault.cause) (sym s.fine) found
+module _ (files : Files) (steps : List Numbered) (old new : Environment) (fault : RunFault) (s : Stopped files steps old new fault) (found : IsFound (Rose old.failures new.failures) (ReadsNoneAt new.files fault.line steps) fault.cause) where
+  abbrev lacks : Type 0
+  lacks = ReadsNoneAt new.files fault.line steps
+
+  found_here : IsFound (Rose s.middle.failures new.failures) lacks fault.cause
+  found_here = subst (λ n. IsFound (Rose n new.failures) lacks fault.cause) (sym s.fine) found
+
+  missing_here : fault.cause ≡ causes.Missing → lacks → outcome_of s.world s.step.instruction ≡ Err fault.cause
+  missing_here is none =
+      let left = subst (LeavesFiles (step_in s.world s.step.instruction s.middle new) s.world.files) is s.files_now in
+      let reads = at_step (λ step. step.line ≡ fault.line → ReadsNone new.files step.instruction) s.before s.after s.step in
+      let there = not_there s.step.instruction s.world new.files left (reads (subst (ReadsNoneAt new.files fault.line) s.parts none) (sym s.line)) in
+      subst (λ (cause : Cause). outcome_of s.world s.step.instruction ≡ Err cause) (sym is) there
 
   refusal : EndsBy (step_in s.world s.step.instruction s.middle new) fault.cause → (outcome_of s.world s.step.instruction ≡ Err fault.cause) × Appends s.middle.text new.text []
   refusal (inl (none, inl is)) = (is, none)
-  refusal (inl (none, inr out)) = absurd (not_outside (Rose s.middle.failures new.failures) _ s.step.instruction fault.cause found_here out)
-  refusal (inr written) = absurd (subst (IsFound (Rose old.failures new.failures)) written.0 found)
+  refusal (inl (none, inr out)) =
+      let its = not_outside (Rose s.middle.failures new.failures) lacks _ s.step.instruction fault.cause found_here out in
+      (missing_here its.0 its.1, none)
+  refusal (inr written) = absurd (subst (IsFound (Rose old.failures new.failures) lacks) written.0 found)
 
   stopped_meant : Meant files steps old new (Err fault)
   stopped_meant =
@@ -119,13 +164,13 @@ module _ (files : Files) (steps : List Numbered) (old new : Environment) (fault 
         has = files_left s.step.instruction s.world s.middle new s.world.files fault.cause its.0 s.files_now;
       }
 
-not_begun : (files : Files) (old new : Environment) (fault : RunFault) → NotBegun files old new fault → IsFound (Rose old.failures new.failures) fault.cause → ⊥
-not_begun files old new fault none found = subst (λ (f : RunFault). IsFound (Rose old.failures new.failures) f.cause) none.0 found
+not_begun : (files : Files) (steps : List Numbered) (old new : Environment) (fault : RunFault) → NotBegun files old new fault → EndsByItself steps old new (Err fault) → ⊥
+not_begun files steps old new fault none found = subst (λ (f : RunFault). EndsByItself steps old new (Err f)) none.0 found
 
-pub meant : (files : Files) (steps : List Numbered) (old new : Environment) (r : Result Report RunFault) → Ends files steps old new r → EndsByItself old.failures new.failures r → Meant files steps old new r
+pub meant : (files : Files) (steps : List Numbered) (old new : Environment) (r : Result Report RunFault) → Ends files steps old new r → EndsByItself steps old new r → Meant files steps old new r
 meant files steps old new (Ok report) ends itself = done_meant files steps old new report ends
-meant files steps old new (Err fault) (inl none) itself = absurd (not_begun files old new fault none itself)
+meant files steps old new (Err fault) (inl none) itself = absurd (not_begun files steps old new fault none itself)
 meant files steps old new (Err fault) (inr stopped) itself = stopped_meant files steps old new fault stopped itself
 
-pub ends_as_meant : (files : Files) (steps : List Numbered) (old new : Environment) (r : Result Report RunFault) → Ends files steps old new r → EndsByItself old.failures new.failures r → r ≡ result_of steps (meaning (start files) steps)
+pub ends_as_meant : (files : Files) (steps : List Numbered) (old new : Environment) (r : Result Report RunFault) → Ends files steps old new r → EndsByItself steps old new r → r ≡ result_of steps (meaning (start files) steps)
 ends_as_meant files steps old new r ends itself = (meant files steps old new r ends itself).result

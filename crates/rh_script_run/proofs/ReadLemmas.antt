@@ -132,7 +132,7 @@ stays_same files files' f g (Some now) None same has has' = absurd has'
 stays_same files files' f g (Some now) (Some now') same has has' =
     λ path at. one_found (g path) (now path) (now' path) (subst (λ file. IsFile file (now path)) (same path at) (has path)) (has' path)
 
-pub only_what_is_read : (files files' : Files) (steps : List Numbered) (old new old' new' : Environment) (r r' : Result Report RunFault) → AllReadWhere (IsSameAt files files') steps → Ends files steps old new r → Ends files' steps old' new' r' → EndsByItself old.failures new.failures r → EndsByItself old'.failures new'.failures r' → (r ≡ r') × StaysSame files files' new.files new'.files × AppendSame old.text new.text old'.text new'.text
+pub only_what_is_read : (files files' : Files) (steps : List Numbered) (old new old' new' : Environment) (r r' : Result Report RunFault) → AllReadWhere (IsSameAt files files') steps → Ends files steps old new r → Ends files' steps old' new' r' → EndsByItself steps old new r → EndsByItself steps old' new' r' → (r ≡ r') × StaysSame files files' new.files new'.files × AppendSame old.text new.text old'.text new'.text
 only_what_is_read files files' steps old new old' new' r r' reads ends ends' itself itself' =
     let m = meant files steps old new r ends itself in
     let n = meant files' steps old' new' r' ends' itself' in

@@ -1,33 +1,45 @@
 -- What two runs of one script have in common.
-use Rattle.std.specs.Prelude.{◌≡◌, ◌≢◌, ℕ, List, [], ◌∷◌, length, Option, Some, Result, Ok, Err}
+use Rattle.std.specs.Prelude.{◌≡◌, ◌≢◌, ℕ, ◌⊎◌, List, [], ◌∷◌, length, All, Option, Some, Result, Ok, Err}
 use Rattle.std.specs.FinSet as set
 use Rattle.std.specs.Io.KnownBytes.{Appends}
 use Rattle.rh_bytes.specs.Counting.{AppendsFront, Rose}
 use Rattle.rh_key_files.specs.declared.fault.KeyFault.TheVariants as key_faults
 use Rattle.rh_snapshot.specs.declared.fault.SnapFault.TheVariants as snap_faults
 use Rattle.rh_script.specs.Instruction.{Instruction, Numbered, Use, Restore}
-use Rattle.rh_shelf.specs.Shelf.{Files}
+use Rattle.rh_shelf.specs.Shelf.{Files, Lacks}
 use Rattle.rh_report.specs.Account.{Account}
 use Rattle.rh_operations.specs.declared.cause.Cause.{Cause}
 use Rattle.rh_operations.specs.declared.cause.Cause.TheVariants.{Missing, Keys, Snap, TooLarge}
 use Rattle.rh_script_run.specs.declared.fault.RunFault.{RunFault}
 use Rattle.rh_script_run.specs.declared.report.Report.{Report}
+use Rattle.rh_script_run.specs.Environment.{Environment}
 use Rattle.rh_script_run.specs.Meaning.{ScriptState}
 
--- A cause that can only have been found in the script and the files. `failed` says that the shelf failed.
--- A shelf that failed answers `Missing` as one does that has no such file, so names of causes alone do not tell.
-abbrev pub IsFound : (failed : Type 0) → Cause → Type 0
-IsFound failed Missing = failed → ⊥
-IsFound failed (Keys fault) = fault ≢ key_faults.Read
-IsFound failed (Snap fault) = fault ≢ snap_faults.Read
-IsFound failed TooLarge = Unit {0}
-IsFound failed _ = ⊥
+-- the file that an instruction reads is known not to be there
+abbrev pub ReadsNone : (now : Option Files) → Instruction → Type 0
+ReadsNone now (Use name path) = Lacks now path
+ReadsNone now (Restore path) = Lacks now path
+ReadsNone now _ = ⊥
 
--- Nothing from outside ended the run, in which the failures of its shelf went from one count to another: all steps were
--- carried out, or what was found refused one.
-abbrev pub EndsByItself : (failures failures' : ℕ) → Result Report RunFault → Type 0
-EndsByItself failures failures' (Ok report) = Unit {0}
-EndsByItself failures failures' (Err fault) = IsFound (Rose failures failures') fault.cause
+-- so it is of what stands on this line
+abbrev pub ReadsNoneAt : (now : Option Files) → (line : ℕ) → List Numbered → Type 0
+ReadsNoneAt now line steps = All (λ step. step.line ≡ line → ReadsNone now step.instruction) steps
+
+-- A cause that can only have been found in the script and the files. `failed` says that the shelf failed, and `lacks` that it
+-- is known not to have the file.
+-- A shelf that failed answers `Missing` as one does that has no such file, so names of causes alone do not tell. Nor does its
+-- count of failures where it is the greatest: then the files do.
+abbrev pub IsFound : (failed lacks : Type 0) → Cause → Type 0
+IsFound failed lacks Missing = (failed → ⊥) ⊎ lacks
+IsFound failed lacks (Keys fault) = fault ≢ key_faults.Read
+IsFound failed lacks (Snap fault) = fault ≢ snap_faults.Read
+IsFound failed lacks TooLarge = Unit {0}
+IsFound failed lacks _ = ⊥
+
+-- Nothing from outside ended the run of these steps: all of them were carried out, or what was found refused one.
+abbrev pub EndsByItself : List Numbered → (old new : Environment) → Result Report RunFault → Type 0
+EndsByItself steps old new (Ok report) = Unit {0}
+EndsByItself steps old new (Err fault) = IsFound (Rose old.failures new.failures) (ReadsNoneAt new.files fault.line steps) fault.cause
 
 -- one text was appended to both, where they are known
 -- (what the two were before may differ)

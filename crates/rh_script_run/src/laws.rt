@@ -17,7 +17,7 @@ pub fn runs_agree()
     ensures { (files : Files) (steps : List Numbered) (old new old' new' : Environment)
         (r r' : Result Report RunFault) →
         Ends files steps old new r → Ends files steps old' new' r' →
-        EndsByItself old.failures new.failures r → EndsByItself old'.failures new'.failures r' →
+        EndsByItself steps old new r → EndsByItself steps old' new' r' →
         (r ≡ r') × (new.files ≡ new'.files) × AppendSame old.text new.text old'.text new'.text }
 {}
 
@@ -25,7 +25,7 @@ pub fn runs_agree()
 pub fn ends_as_meant()
     ensures { (files : Files) (steps : List Numbered) (old new : Environment)
         (r : Result Report RunFault) → Ends files steps old new r →
-        EndsByItself old.failures new.failures r →
+        EndsByItself steps old new r →
         r ≡ result_of steps (meaning (start files) steps) }
 {}
 
@@ -39,7 +39,7 @@ pub fn texts_agree()
     ensures whole { (files : Files) (steps : List Numbered) (old new old' new' : Environment)
         (r r' : Result Report RunFault) →
         Ends files steps old new r → Ends files steps old' new' r' →
-        EndsByItself old.failures new.failures r →
+        EndsByItself steps old new r →
         AppendFrontOf old.text new.text old'.text new'.text }
 {}
 
@@ -50,7 +50,7 @@ pub fn only_what_is_read_matters()
     ensures { (files files' : Files) (steps : List Numbered) (old new old' new' : Environment)
         (r r' : Result Report RunFault) → AllReadWhere (IsSameAt files files') steps →
         Ends files steps old new r → Ends files' steps old' new' r' →
-        EndsByItself old.failures new.failures r → EndsByItself old'.failures new'.failures r' →
+        EndsByItself steps old new r → EndsByItself steps old' new' r' →
         (r ≡ r') × StaysSame files files' new.files new'.files ×
         AppendSame old.text new.text old'.text new'.text }
 {}

@@ -22,7 +22,8 @@
 //!   `restore`, one of a key file for those with a list. `Missing` goes with those that fetch, a
 //!   refused thread with those that run a phase, and want of memory with all but `dump`.
 //! - `Missing`, `Put` and `Write` come only where the file is not there or the device's count of
-//!   failures rose. `NoThread` comes only where the runner counted a refused start.
+//!   failures rose. `NoThread` comes only where the runner counted a refused start. A count that is
+//!   the greatest stays, and then tells nothing.
 //! - The files are those that the carried out commands made: what `snapshot` put spells the one
 //!   layout of the table's keys. Where a `snapshot` was refused, its path alone is in doubt.
 //! - All this holds for every runner, for every shelf whose readers tell their bytes, and for every
@@ -30,7 +31,8 @@
 //! - Where `run` answers `Ok`, no failure of the shelf or the writer and no refused start was
 //!   counted meanwhile.
 //! - `runs_agree`: two runs of one script over the same files that both end by themselves have one
-//!   result, leave the same files, and append the same text.
+//!   result, leave the same files, and append the same text. A run that ends by `Missing` does so by
+//!   itself where the shelf counted no failure, or is known not to have the file.
 //! - `run_twice`: calls `run` twice, with shelves, runners and writers of their own, and promises
 //!   the same of both results.
 //! - `ends_as_meant`: the result of a run that ends by itself is that of the script's meaning.

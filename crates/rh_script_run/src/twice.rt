@@ -57,8 +57,16 @@ pub fn run_twice<
         (N2.refused_starts other_runner.new) (W2.contents (inner_of other_writer.new))) result.1 }
     ensures agree { (files : Files) → S.files shelf.old ≡ Some files →
         S2.files other_shelf.old ≡ Some files →
-        EndsByItself (S.failures shelf.old) (S.failures shelf.new) result.0 →
-        EndsByItself (S2.failures other_shelf.old) (S2.failures other_shelf.new) result.1 →
+        EndsByItself (steps_of script.now)
+        (environment (S.files shelf.old) (S.failures shelf.old) (N.refused_starts runner.old)
+        (W.contents (inner_of writer.old)))
+        (environment (S.files shelf.new) (S.failures shelf.new) (N.refused_starts runner.new)
+        (W.contents (inner_of writer.new))) result.0 →
+        EndsByItself (steps_of script.now)
+        (environment (S2.files other_shelf.old) (S2.failures other_shelf.old)
+        (N2.refused_starts other_runner.old) (W2.contents (inner_of other_writer.old)))
+        (environment (S2.files other_shelf.new) (S2.failures other_shelf.new)
+        (N2.refused_starts other_runner.new) (W2.contents (inner_of other_writer.new))) result.1 →
         (result.0 ≡ result.1) × (S.files shelf.new ≡ S2.files other_shelf.new) ×
         AppendSame (W.contents (inner_of writer.old)) (W.contents (inner_of writer.new))
         (W2.contents (inner_of other_writer.old)) (W2.contents (inner_of other_writer.new)) }
