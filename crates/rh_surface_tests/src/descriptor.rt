@@ -106,3 +106,34 @@ pub fn claim_key(shape: &Shape, words: &mut [u64], side: &mut Side) -> u64
 {
     rh_descriptor::claim_key(shape, words, side)
 }
+
+pub fn variants(kind: StepKind) {
+    match kind {
+        StepKind::Write
+        | StepKind::Open
+        | StepKind::Read
+        | StepKind::Place
+        | StepKind::Settle
+        | StepKind::Decide
+        | StepKind::Release
+        | StepKind::Claim => {}
+    }
+}
+
+pub fn fields(bits: u32, workers: usize, number: u64, cell: usize) -> (Shape, Entry) {
+    let shape = Shape {
+        bits,
+        workers,
+        keys: number,
+        rooms: Rooms {
+            descriptors: number,
+            marks: number,
+        },
+    };
+    let entry = Entry {
+        cell,
+        old: number,
+        new: number,
+    };
+    (shape, entry)
+}

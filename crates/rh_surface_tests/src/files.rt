@@ -76,3 +76,39 @@ pub fn faulty_reader_new<T: AsBytes>(bytes: T, fails_at: u64) -> FaultyReader<T>
 pub fn faulty_writer_new(alloc: Global, fails_at: u64, refusal: Refusal) -> FaultyWriter {
     FaultyWriter::new(alloc, fails_at, refusal)
 }
+
+pub fn variants(keys: KeyFault, snapshot: SnapFault, write: WriteFault) {
+    match keys {
+        KeyFault::NotKeys
+        | KeyFault::Short
+        | KeyFault::TooMany
+        | KeyFault::Long
+        | KeyFault::Read
+        | KeyFault::Memory => {}
+        KeyFault::BadKey { index } => {
+            let _: u64 = index;
+        }
+    }
+    match snapshot {
+        SnapFault::NotSnapshot
+        | SnapFault::Short
+        | SnapFault::BadBits
+        | SnapFault::Damaged
+        | SnapFault::NotALayout
+        | SnapFault::Long
+        | SnapFault::Read
+        | SnapFault::Memory => {}
+    }
+    match write {
+        WriteFault::Write => {}
+    }
+}
+
+pub fn fields(bits: u32, count: u64, cells: Vec<u64>, seal: [u8; 32]) -> Snapshot {
+    Snapshot {
+        bits,
+        count,
+        cells,
+        seal,
+    }
+}

@@ -85,3 +85,12 @@ pub fn claim(table: &Table, seat: &mut Seat) -> Option<u64>
 {
     rh_kcas::claim(table, seat)
 }
+
+pub fn variants(outcome: Outcome) {
+    match outcome {
+        Outcome::Done | Outcome::Spent => {}
+        Outcome::Failed { entry } => {
+            let _: usize = entry;
+        }
+    }
+}

@@ -145,3 +145,9 @@ pub fn starts_allowed<S: Starts>(starts: &S, worker: usize) -> bool {
 pub fn all_start() -> AllStart {
     AllStart
 }
+
+pub fn variants(fault: PhaseFault) {
+    match fault {
+        PhaseFault::Memory | PhaseFault::NoThread => {}
+    }
+}

@@ -11,8 +11,8 @@ ghost use Rattle.rh_threads.specs.Made.{IsWorkers};
 use rh_files::Counted;
 use rh_ledger::{Kind, Tally};
 use rh_planner::{
-    FaultyShelf, MemShelf, PhaseFault, Plan, Report, RunFault, Runner, Script, ScriptFault, Shelf,
-    ShelfFailure, ShelfFault, Single, Threads,
+    Cause, FaultyShelf, KeyFault, MemShelf, PhaseFault, Plan, Report, RunFault, Runner, Script,
+    ScriptFault, ScriptFaultKind, Shelf, ShelfFailure, ShelfFault, Single, SnapFault, Threads,
 };
 use std::alloc::{AllocError, Global};
 use std::io::Write;
@@ -105,4 +105,54 @@ pub fn shelf_put<S: Shelf>(
     bytes: &[u8],
 ) -> Result<(), ShelfFault> {
     shelf.put(alloc, path, bytes)
+}
+
+pub fn variants(kind: ScriptFaultKind, fault: ShelfFault, cause: Cause) {
+    match kind {
+        ScriptFaultKind::TooLong
+        | ScriptFaultKind::BadCommand
+        | ScriptFaultKind::BadName
+        | ScriptFaultKind::Unknown
+        | ScriptFaultKind::Twice
+        | ScriptFaultKind::Memory => {}
+    }
+    match fault {
+        ShelfFault::Missing | ShelfFault::Write | ShelfFault::Memory => {}
+    }
+    match cause {
+        Cause::Keys(fault) => {
+            let _: KeyFault = fault;
+        }
+        Cause::Snap(fault) => {
+            let _: SnapFault = fault;
+        }
+        Cause::Missing
+        | Cause::Changed
+        | Cause::TooLarge
+        | Cause::Memory
+        | Cause::NoThread
+        | Cause::Put
+        | Cause::Write => {}
+    }
+}
+
+pub fn fields(
+    kind: ScriptFaultKind,
+    cause: Cause,
+    number: u64,
+    bits: u32,
+) -> (ScriptFault, RunFault, Report) {
+    let report = Report {
+        commands: number,
+        held: number,
+        bits,
+    };
+    (
+        ScriptFault { line: number, kind },
+        RunFault {
+            line: number,
+            cause,
+        },
+        report,
+    )
 }

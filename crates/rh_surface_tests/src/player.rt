@@ -7,7 +7,9 @@ ghost use Rattle.std.specs.Prelude.{length, ◌<◌, ◌≡◌};
 use rh_descriptor::Rooms;
 use rh_files::Counted;
 use rh_ledger::{Kind, Tally};
-use rh_player::{Play, PlayFault, PlayRunFault, PlayTextFault, Player, Turn};
+use rh_player::{
+    Play, PlayFault, PlayRunFault, PlayTextFault, PlayTextKind, Player, StepKind, Turn,
+};
 use rh_tagword::Word;
 use std::alloc::Global;
 use std::io::{Read, Write};
@@ -106,4 +108,33 @@ pub fn run_play<R: Read, W: Write>(
     writer: &mut Counted<W>,
 ) -> Result<(), PlayRunFault> {
     rh_player::run_play(alloc, reader, writer)
+}
+
+pub fn variants(turn: Turn, fault: PlayFault, run: PlayRunFault) {
+    match turn {
+        Turn::Did(kind) => {
+            let _: StepKind = kind;
+        }
+        Turn::Finished | Turn::Spent | Turn::NoSuchWorker => {}
+    }
+    match fault {
+        PlayFault::NotALayout
+        | PlayFault::NoRoom
+        | PlayFault::BadWorkers
+        | PlayFault::BadKey
+        | PlayFault::Memory => {}
+    }
+    match run {
+        PlayRunFault::Read | PlayRunFault::Memory | PlayRunFault::Write => {}
+        PlayRunFault::Text(text) => match text.kind {
+            PlayTextKind::BadLine | PlayTextKind::TooLong | PlayTextKind::Memory => {}
+        },
+        PlayRunFault::Start(start) => {
+            let _: PlayFault = start;
+        }
+    }
+}
+
+pub fn fields(line: u64, kind: PlayTextKind) -> PlayTextFault {
+    PlayTextFault { line, kind }
 }

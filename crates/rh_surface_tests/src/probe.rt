@@ -32,3 +32,15 @@ pub fn find(bits: u32, cells: &[u64], key: u64) -> Option<usize>
 {
     rh_probe::find(bits, cells, key)
 }
+
+pub fn variants(look: Look) {
+    match look {
+        Look::Here(offset) => {
+            let _: usize = offset;
+        }
+        Look::Goes(offset) => {
+            let _: usize = offset;
+        }
+        Look::More => {}
+    }
+}

@@ -24,3 +24,21 @@ pub fn pack_control(serial: u64, state: State) -> u64
 pub fn unpack_control(number: u64) -> Option<(u64, State)> {
     rh_tagword::unpack_control(number)
 }
+
+pub fn variants(word: Word, state: State) {
+    match word {
+        Word::Empty => {}
+        Word::Key(key) => {
+            let _: u64 = key;
+        }
+        Word::Mark { worker, number } | Word::Desc { worker, number } => {
+            let _: (u64, u64) = (worker, number);
+        }
+    }
+    match state {
+        State::Unused | State::Undecided | State::Succeeded | State::Withdrawn => {}
+        State::Failed { decider } => {
+            let _: u64 = decider;
+        }
+    }
+}
