@@ -1,6 +1,8 @@
+use crate::own::{Counting, OneFile};
 use crate::{edit, files, grow, layout, ledger, planner, player, probe, tagword};
 use rh_files::Counted;
 use rh_ledger::Tally;
+use rh_planner::Report;
 use rh_probe::Look;
 use std::io::Cursor;
 use std::test::*;
@@ -27,5 +29,27 @@ fn the_calls_are_those_of_the_public_crates(rt: HostRuntime) -> Result<(), Fail>
     assert!(rt; files::read_keys(alloc, &mut Counted::new(Cursor::new(b"RHK"))).is_err());
     assert!(rt; player::parse_play(alloc, b"play ask\n").is_err());
     assert!(rt; planner::parse(alloc, b"dump\n").is_ok());
+    Ok(())
+}
+
+// A script over a shelf of the caller's own, by a runner of its own.
+#[test]
+fn a_caller_brings_a_shelf_and_a_runner(rt: HostRuntime) -> Result<(), Fail> {
+    let alloc = rt.alloc();
+    let script = planner::parse(alloc, b"use a a.keys\nadd a\ndump\n")?;
+    let bytes = b"RHK2\0\0\0\0\0\0\0\x01\0\0\0\0\0\0\0\x05".to_vec(alloc)?;
+    let mut shelf = OneFile { bytes, failures: 0 };
+    let mut runner = Counting { phases: 0 };
+    let mut writer = Counted::new(Vec::new(alloc));
+    let report = planner::run(&rt, alloc, &script, &mut shelf, &mut runner, &mut writer)?;
+    let expected = Report {
+        commands: 3,
+        held: 1,
+        bits: 3,
+    };
+    assert_eq!(rt; report, expected);
+    assert!(rt; runner.phases > 0);
+    let told = "use a 1\nadd a read 1 added 1 held 1 bits 3\ntable 3 1\n0 5 0\nend\n";
+    assert_eq!(rt; writer.into_inner().as_slice(), told.as_bytes());
     Ok(())
 }

@@ -3,7 +3,8 @@
 //! and some calls have none here. What the calls promise is held where they stand.
 //!
 //! `variants` matches enums by their variants and no other, and `fields` builds structs: so a variant or
-//! a field more is seen, and one less.
+//! a field more is seen, and one less. `own` has what a caller implements itself, with no more than its
+//! trait asks for.
 #![tactic(auto)]
 
 #[cfg(test)]
@@ -15,6 +16,7 @@ pub mod grow;
 pub mod kcas;
 pub mod layout;
 pub mod ledger;
+pub mod own;
 pub mod phase;
 pub mod planner;
 pub mod player;

@@ -11,7 +11,7 @@ ghost use Rattle.std.specs.Prelude.{All, length, ◌+◌, ◌<◌, ◌^◌, ◌�
 use rh_descriptor::{Entry, Rooms};
 use rh_kcas::{Seat, Table};
 use rh_ledger::{Kind, Tally};
-use rh_phase::{AllStart, Gate, OpenGate, PhaseFault, Starts};
+use rh_phase::{Gate, PhaseFault, Starts};
 use std::alloc::Global;
 use std::sync::Wait;
 use std::thread::Threads;
@@ -115,35 +115,6 @@ pub fn ask_with<R: Threads + Wait + Sync, G: Gate + Sync, S: Starts + Sync>(
     requires rooms { IsRooms bits rooms }
 {
     rh_phase::ask_with(rt, alloc, workers, bits, cells, keys, gate, starts, rooms)
-}
-
-/// A caller's gate, and its own choice of the threads that may start.
-pub struct Watch;
-
-impl Gate for Watch {
-    fn before(&self, _worker: usize, _done: usize) {}
-
-    fn after(
-        &self,
-        _table: &Table,
-        _seat: &Seat,
-        _bits: u32,
-        _kind: Kind,
-        _key: u64,
-        _answer: bool,
-    ) {}
-}
-
-pub fn open_gate() -> OpenGate {
-    OpenGate
-}
-
-pub fn starts_allowed<S: Starts>(starts: &S, worker: usize) -> bool {
-    starts.allowed(worker)
-}
-
-pub fn all_start() -> AllStart {
-    AllStart
 }
 
 pub fn variants(fault: PhaseFault) {
