@@ -1,10 +1,11 @@
 //! Edits, and the set of one worker.
 
 ghost use Rattle.rh_layout.specs.Key.{IsBits, IsKey};
-ghost use Rattle.rh_layout.specs.Layout.{IsLayout, keys_of};
+ghost use Rattle.rh_layout.specs.Layout.{HasFree, HasTwoFree, IsLayout};
 ghost use Rattle.std.specs.FinSet as set;
 ghost use Rattle.std.specs.Prelude.{length, ◌+◌, ◌<◌, ◌^◌, ◌≡◌};
 
+use crate::layout::has_room;
 use rh_edit::SeqSet;
 use std::alloc::{AllocError, Global};
 
@@ -26,16 +27,18 @@ pub fn remove_news(seen: &[u64], at: usize, news: &mut [u64])
 pub fn insert(bits: u32, cells: &mut [u64], key: u64) -> bool
     requires layout { IsLayout bits cells.old }
     requires key { IsKey key }
-    requires room { set.len (keys_of cells.old) + 1 < 2 ^ bits }
+    requires free { HasTwoFree cells.old }
 {
+    has_room(bits, cells);
     rh_edit::insert(bits, cells, key)
 }
 
 pub fn remove(bits: u32, cells: &mut [u64], key: u64) -> bool
     requires layout { IsLayout bits cells.old }
     requires key { IsKey key }
-    requires room { set.len (keys_of cells.old) < 2 ^ bits }
+    requires free { HasFree cells.old }
 {
+    has_room(bits, cells);
     rh_edit::remove(bits, cells, key)
 }
 

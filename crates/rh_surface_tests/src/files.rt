@@ -1,9 +1,9 @@
 //! Key files, dumps, snapshots and test devices.
 
-ghost use Rattle.rh_layout.specs.Layout.{IsLayout, keys_of};
-ghost use Rattle.std.specs.FinSet as set;
-ghost use Rattle.std.specs.Prelude.{length, ◌<◌, ◌^◌};
+ghost use Rattle.rh_layout.specs.Layout.{HasFree, IsLayout};
+ghost use Rattle.std.specs.Prelude.{length, ◌<◌};
 
+use crate::layout::has_room;
 use rh_files::{
     Counted, FaultyReader, FaultyWriter, KeyFault, KeyStream, Refusal, SnapFault, Snapshot,
     WriteFault,
@@ -32,8 +32,9 @@ pub fn write_snapshot(
     out: &mut Vec<u8>,
 ) -> Result<(), AllocError>
     requires layout { IsLayout bits cells.now }
-    requires free { set.len (keys_of cells.now) < 2 ^ bits }
+    requires free { HasFree cells.now }
 {
+    has_room(bits, cells);
     rh_files::write_snapshot(_alloc, bits, cells, out)
 }
 

@@ -1,7 +1,9 @@
 //! Homes, distances and layouts.
 
 ghost use Rattle.rh_layout.specs.Key.{IsBits};
-ghost use Rattle.std.specs.Prelude.{◌<◌, ◌^◌};
+ghost use Rattle.rh_layout.specs.Layout.{HasFree, HasTwoFree, IsLayout, keys_of};
+ghost use Rattle.std.specs.FinSet as set;
+ghost use Rattle.std.specs.Prelude.{◌+◌, ◌<◌, ◌^◌};
 
 pub fn home(bits: u32, key: u64) -> usize
     requires { IsBits bits }
@@ -32,5 +34,15 @@ pub fn one_layout(bits: u32, first: &[u64], second: &[u64]) {
 }
 
 pub fn has_free(bits: u32, cells: &[u64]) {
+    rh_layout::has_free(bits, cells);
+}
+
+/// Of cells that were seen to be empty: how many keys a layout with them has at most, as the calls that
+/// need a free cell ask for it.
+pub fn has_room(bits: u32, cells: &[u64])
+    requires { IsLayout bits cells.now }
+    ensures one { HasFree cells.now → set.len (keys_of cells.now) < 2 ^ bits }
+    ensures two { HasTwoFree cells.now → set.len (keys_of cells.now) + 1 < 2 ^ bits }
+{
     rh_layout::has_free(bits, cells);
 }

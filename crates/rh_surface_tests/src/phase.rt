@@ -2,12 +2,12 @@
 
 ghost use Rattle.rh_shared.specs.Rests.{SeatRests};
 ghost use Rattle.rh_layout.specs.Key.{IsKey};
-ghost use Rattle.rh_layout.specs.Layout.{IsLayout, keys_of};
-ghost use Rattle.rh_ledger.specs.Phase.{most_added};
+ghost use Rattle.rh_layout.specs.Layout.{HasFree, IsLayout, keys_of};
 ghost use Rattle.rh_threads.specs.Made.{IsRooms, IsWorkers};
 ghost use Rattle.std.specs.FinSet as set;
 ghost use Rattle.std.specs.Prelude.{All, length, ◌+◌, ◌<◌, ◌^◌, ◌≡◌, ◌≢◌};
 
+use crate::layout::has_room;
 use rh_descriptor::{Entry, Rooms};
 use rh_kcas::{Seat, Table};
 use rh_ledger::{Kind, Tally};
@@ -51,8 +51,10 @@ pub fn change<R: Threads + Wait + Sync, G: Gate + Sync>(
     requires kind { kind ≢ Kind.Ask }
     requires keys { All IsKey keys.now }
     requires layout { IsLayout bits cells.old.items }
-    requires room { set.len (keys_of cells.old.items) + most_added kind keys.now < 2 ^ bits }
+    requires room { kind ≡ Kind.Insert → set.len (keys_of cells.old.items) + length keys.now < 2 ^ bits }
+    requires free { kind ≡ Kind.Remove → HasFree cells.old.items }
 {
+    has_room(bits, cells);
     rh_phase::change(rt, alloc, workers, kind, bits, cells, keys, gate)
 }
 
@@ -68,8 +70,9 @@ pub fn ask<R: Threads + Wait + Sync, G: Gate + Sync>(
     requires workers { IsWorkers workers }
     requires keys { All IsKey keys.now }
     requires layout { IsLayout bits cells.now }
-    requires room { set.len (keys_of cells.now) < 2 ^ bits }
+    requires free { HasFree cells.now }
 {
+    has_room(bits, cells);
     rh_phase::ask(rt, alloc, workers, bits, cells, keys, gate)
 }
 
@@ -89,9 +92,11 @@ pub fn change_with<R: Threads + Wait + Sync, G: Gate + Sync, S: Starts + Sync>(
     requires kind { kind ≢ Kind.Ask }
     requires keys { All IsKey keys.now }
     requires layout { IsLayout bits cells.old.items }
-    requires room { set.len (keys_of cells.old.items) + most_added kind keys.now < 2 ^ bits }
+    requires room { kind ≡ Kind.Insert → set.len (keys_of cells.old.items) + length keys.now < 2 ^ bits }
+    requires free { kind ≡ Kind.Remove → HasFree cells.old.items }
     requires rooms { IsRooms bits rooms }
 {
+    has_room(bits, cells);
     rh_phase::change_with(
         rt, alloc, workers, kind, bits, cells, keys, gate, starts, rooms,
     )
@@ -111,9 +116,10 @@ pub fn ask_with<R: Threads + Wait + Sync, G: Gate + Sync, S: Starts + Sync>(
     requires workers { IsWorkers workers }
     requires keys { All IsKey keys.now }
     requires layout { IsLayout bits cells.now }
-    requires room { set.len (keys_of cells.now) < 2 ^ bits }
+    requires free { HasFree cells.now }
     requires rooms { IsRooms bits rooms }
 {
+    has_room(bits, cells);
     rh_phase::ask_with(rt, alloc, workers, bits, cells, keys, gate, starts, rooms)
 }
 

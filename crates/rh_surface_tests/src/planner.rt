@@ -1,13 +1,12 @@
 //! Scripts.
 
 ghost use Rattle.std.specs.FinSet as set;
-ghost use Rattle.std.specs.Prelude.{All, ◌+◌, ◌<◌, ◌^◌, ◌≢◌};
-ghost use Rattle.std.specs.Thread.{IsSync};
+ghost use Rattle.std.specs.Prelude.{All, length, ◌+◌, ◌<◌, ◌^◌, ◌≡◌, ◌≢◌};
 ghost use Rattle.rh_layout.specs.Key.{IsKey};
-ghost use Rattle.rh_layout.specs.Layout.{IsLayout, keys_of};
-ghost use Rattle.rh_ledger.specs.Phase.{most_added};
+ghost use Rattle.rh_layout.specs.Layout.{HasFree, IsLayout, keys_of};
 ghost use Rattle.rh_threads.specs.Made.{IsWorkers};
 
+use crate::layout::has_room;
 use rh_files::Counted;
 use rh_ledger::{Kind, Tally};
 use rh_planner::{
@@ -61,12 +60,13 @@ pub fn runner_change<N: Runner, R: thread::Threads + Wait + Sync>(
     cells: &mut Vec<u64>,
     keys: &[u64],
 ) -> Result<Tally, PhaseFault>
-    requires shared { IsSync R.row }
     requires kind { kind ≢ Kind.Ask }
     requires keys { All IsKey keys.now }
     requires layout { IsLayout bits cells.old.items }
-    requires room { set.len (keys_of cells.old.items) + most_added kind keys.now < 2 ^ bits }
+    requires room { kind ≡ Kind.Insert → set.len (keys_of cells.old.items) + length keys.now < 2 ^ bits }
+    requires free { kind ≡ Kind.Remove → HasFree cells.old.items }
 {
+    has_room(bits, cells);
     runner.change(rt, alloc, kind, bits, cells, keys)
 }
 
@@ -78,11 +78,11 @@ pub fn runner_ask<N: Runner, R: thread::Threads + Wait + Sync>(
     cells: &[u64],
     keys: &[u64],
 ) -> Result<Vec<bool>, PhaseFault>
-    requires shared { IsSync R.row }
     requires keys { All IsKey keys.now }
     requires layout { IsLayout bits cells.now }
-    requires room { set.len (keys_of cells.now) < 2 ^ bits }
+    requires free { HasFree cells.now }
 {
+    has_room(bits, cells);
     runner.ask(rt, alloc, bits, cells, keys)
 }
 

@@ -1,10 +1,10 @@
 //! Scans.
 
 ghost use Rattle.rh_layout.specs.Key.{IsBits, IsKey};
-ghost use Rattle.rh_layout.specs.Layout.{IsLayout, keys_of};
-ghost use Rattle.std.specs.FinSet as set;
+ghost use Rattle.rh_layout.specs.Layout.{HasFree, IsLayout};
 ghost use Rattle.std.specs.Prelude.{◌<◌, ◌^◌};
 
+use crate::layout::has_room;
 use rh_probe::Look;
 
 pub fn look(bits: u32, key: u64, seen: &[u64]) -> Look
@@ -28,8 +28,9 @@ pub fn stop_after(bits: u32, cell: usize, seen: &[u64], i: usize) -> Option<usiz
 pub fn find(bits: u32, cells: &[u64], key: u64) -> Option<usize>
     requires layout { IsLayout bits cells.now }
     requires key { IsKey key }
-    requires room { set.len (keys_of cells.now) < 2 ^ bits }
+    requires free { HasFree cells.now }
 {
+    has_room(bits, cells);
     rh_probe::find(bits, cells, key)
 }
 
