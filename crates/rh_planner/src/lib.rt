@@ -20,7 +20,9 @@
 pub use rh_faulty::{FaultyShelf, ShelfFailure};
 pub use rh_key_files::{Counted, KeyFault, WriteFault, write_keys};
 pub use rh_runner::{PhaseFault, Runner, Single};
-pub use rh_script::{Command, Plan, Script, ScriptFault, ScriptFaultKind, parse, plan};
+pub use rh_script::{
+    Command, Plan, PlannedStep, Script, ScriptFault, ScriptFaultKind, Step, Task, parse, plan,
+};
 pub use rh_script_run::{
     Cause, Report, RunFault, ends_as_meant, only_what_is_read_matters, run, run_twice, runs_agree,
     texts_agree,

@@ -6,6 +6,7 @@ ghost use Rattle.rh_words.specs.Steps.Step.{claims, decides, opens, places, read
 ghost use Rattle.rh_words.specs.Words.{control_of, ref_of};
 ghost use Rattle.std.specs.Prelude.{length, option_map, ◌≡◌};
 
+pub use rh_descriptor::{RowRule, a_wipe_keeps, each_step_keeps};
 use rh_descriptor::{Entry, Part, Piece, Reading, Ref, Rooms, Shape, Side, StepKind};
 use rh_tagword::State;
 

@@ -10,8 +10,9 @@ use crate::layout::has_room;
 use rh_files::Counted;
 use rh_ledger::{Kind, Tally};
 use rh_planner::{
-    Cause, FaultyShelf, KeyFault, MemShelf, PhaseFault, Plan, Report, RunFault, Runner, Script,
-    ScriptFault, ScriptFaultKind, Shelf, ShelfFailure, ShelfFault, Single, SnapFault, Threads,
+    Cause, Command, FaultyShelf, KeyFault, MemShelf, PhaseFault, Plan, PlannedStep, Report,
+    RunFault, Runner, Script, ScriptFault, ScriptFaultKind, Shelf, ShelfFailure, ShelfFault,
+    Single, SnapFault, Step, Task, Threads,
 };
 use std::alloc::{AllocError, Global};
 use std::io::Write;
@@ -24,6 +25,14 @@ pub fn parse(alloc: Global, text: &[u8]) -> Result<Script, ScriptFault> {
 
 pub fn plan(alloc: Global, script: &Script) -> Result<Plan<'_>, AllocError> {
     rh_planner::plan(alloc, script)
+}
+
+pub fn script_steps(script: &Script) -> &[Step] {
+    script.steps()
+}
+
+pub fn plan_steps<'a>(plan: &'a Plan<'a>) -> &'a [PlannedStep<'a>] {
+    plan.steps()
 }
 
 pub fn threads_new(workers: usize) -> Threads
@@ -105,6 +114,40 @@ pub fn shelf_put<S: Shelf>(
     bytes: &[u8],
 ) -> Result<(), ShelfFault> {
     shelf.put(alloc, path, bytes)
+}
+
+pub fn commands(step: &Step, planned: PlannedStep<'_>) -> (u64, u64) {
+    match &step.command {
+        Command::Use { name: _, path: _ }
+        | Command::Add { name: _ }
+        | Command::Drop { name: _ }
+        | Command::Ask { name: _ }
+        | Command::Keep { name: _ }
+        | Command::Flip { name: _ }
+        | Command::Save { name: _ }
+        | Command::Clear
+        | Command::Dump
+        | Command::Snapshot { path: _ }
+        | Command::Restore { path: _ } => {}
+    }
+    match planned.task {
+        Task::Use {
+            list: _,
+            name: _,
+            path: _,
+        }
+        | Task::Add { list: _, name: _ }
+        | Task::Drop { list: _, name: _ }
+        | Task::Ask { list: _, name: _ }
+        | Task::Keep { list: _, name: _ }
+        | Task::Flip { list: _, name: _ }
+        | Task::Save { list: _, name: _ }
+        | Task::Clear
+        | Task::Dump
+        | Task::Snapshot { path: _ }
+        | Task::Restore { path: _ } => {}
+    }
+    (step.line, planned.line)
 }
 
 pub fn variants(kind: ScriptFaultKind, fault: ShelfFault, cause: Cause) {

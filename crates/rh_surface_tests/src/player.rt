@@ -8,7 +8,8 @@ use rh_descriptor::Rooms;
 use rh_files::Counted;
 use rh_ledger::{Kind, Tally};
 use rh_player::{
-    Play, PlayFault, PlayRunFault, PlayTextFault, PlayTextKind, Player, StepKind, Turn,
+    Bits, Order, Play, PlayFault, PlayRooms, PlayRunFault, PlayTextFault, PlayTextKind, Player,
+    StepKind, Touched, Turn, Work,
 };
 use rh_tagword::Word;
 use std::alloc::Global;
@@ -64,6 +65,10 @@ pub fn player_share_with_rooms(
 
 pub fn player_turn(player: &mut Player, worker: usize) -> Turn {
     player.turn(worker)
+}
+
+pub fn player_trace(player: &mut Player, worker: usize) -> (Turn, Option<Touched>) {
+    player.trace(worker)
 }
 
 pub fn player_next_round(player: &mut Player) -> bool {
@@ -137,4 +142,22 @@ pub fn variants(turn: Turn, fault: PlayFault, run: PlayRunFault) {
 
 pub fn fields(line: u64, kind: PlayTextKind) -> PlayTextFault {
     PlayTextFault { line, kind }
+}
+
+pub fn play(
+    kind: Kind,
+    bits: Bits,
+    held: Vec<u64>,
+    rooms: PlayRooms,
+    work: Work,
+    schedule: Vec<Order>,
+) -> Play {
+    Play {
+        kind,
+        bits,
+        held,
+        rooms: Some(rooms),
+        work,
+        schedule,
+    }
 }
