@@ -97,6 +97,8 @@ fn a_refused_list_leaves_the_table(rt: HostRuntime) -> Result<(), Fail> {
         shelf.put(rt.alloc(), "k", bytes)?;
         let source = Source::Path("k");
         let list = KeyList { source, count };
+        let used = use_file(rt.alloc(), &mut shelf, "k").err();
+        assert_eq!(rt; used, Some(Cause::Keys(fault)));
         assert_refused(&rt, &mut shelf, &list, Cause::Keys(fault))?;
     }
     Ok(())

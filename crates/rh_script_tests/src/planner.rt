@@ -234,27 +234,46 @@ fn answers_stand_64_on_a_line(rt: HostRuntime) -> Result<(), Fail> {
     Ok(())
 }
 
-// Files that are refused: their bytes after the magic, and why.
+// Key files that are refused, and why: the last ones name two keys, and have 15 bytes of them, 17, or
+// both.
 const REFUSED: &[(&[u8], KeyFault)] = &[
     (b"RHK", KeyFault::Short),
     (b"RHKX", KeyFault::NotKeys),
     (b"RHK2\0\0\0\0\0\x0f\x42\x41", KeyFault::TooMany),
     (b"RHK2\0\0\0\0\0\0\0\0\0", KeyFault::Long),
     (
+        b"RHK1\0\0\0\0\0\0\0\x02\0\0\0\0\0\0\0\x01\0\0\0\0\0\0\0",
+        KeyFault::Short,
+    ),
+    (
+        b"RHK1\0\0\0\0\0\0\0\x02\0\0\0\0\0\0\0\x01\0\0\0\0\0\0\0\x09\0",
+        KeyFault::Long,
+    ),
+    (
         b"RHK1\0\0\0\0\0\0\0\x02\0\0\0\0\0\0\0\x01\0\0\0\0\0\0\0\0",
         KeyFault::BadKey { index: 1 },
     ),
 ];
 
+// A run ends where a file is refused, so the table is looked at in the snapshot that was put before, and
+// none is put after it.
 #[test]
 fn files_that_are_refused(rt: HostRuntime) -> Result<(), Fail> {
     for &(bytes, fault) in REFUSED {
         let mut shelf = three_files(rt.alloc())?;
         shelf.put(rt.alloc(), "x", bytes)?;
-        let told = run_over(&rt, &mut shelf, "use a a.keys\n\nuse x x\ndump\n")?;
+        let script = "use a a.keys\nadd a\n\nsnapshot s\nuse x x\nclear\nsnapshot t\n";
+        let told = run_over(&rt, &mut shelf, script)?;
+        let before = "use a 3\nadd a read 3 added 3 held 3 bits 3\nsnapshot s held 3 bits 3\n";
         let cause = Cause::Keys(fault);
+        let end = RunFault { line: 5, cause };
+        assert_told(&rt, &told, before.as_bytes(), Some(end), &fault);
+
+        let told = run_over(&rt, &mut shelf, "restore s\ndump\nrestore t\n")?;
+        let table = "restore s held 3 bits 3\ntable 3 3\n4 1 0\n5 9 1\n6 17 2\nend\n";
+        let cause = Cause::Missing;
         let end = RunFault { line: 3, cause };
-        assert_told(&rt, &told, b"use a 3\n", Some(end), &fault);
+        assert_told(&rt, &told, table.as_bytes(), Some(end), &fault);
     }
     let told = run_over(&rt, &mut MemShelf::new(rt.alloc()), "use a x\n")?;
     let cause = Cause::Missing;
