@@ -21,5 +21,6 @@ pub mod phase;
 pub mod planner;
 pub mod player;
 pub mod probe;
+pub mod programs;
 pub mod rdcss;
 pub mod tagword;
