@@ -31,14 +31,6 @@ pub fn count_entries(table: &Table, seat: &mut Seat, desc: Ref) -> Option<usize>
     rh_rdcss::count_entries(table, seat, desc)
 }
 
-/// What became of a mark, by its four answers.
-pub fn is_mine(placed: Placed) -> bool {
-    match placed {
-        Placed::Mine => true,
-        Placed::Found(_) | Placed::Passed | Placed::Spent => false,
-    }
-}
-
 pub fn settle(table: &Table, seat: &mut Seat, cell: usize, mark: Ref) -> Option<u64>
     requires here { IsHere table.now seat.old }
     requires knows { Knows table.now.shape (view_of seat.old) }
@@ -62,4 +54,13 @@ pub fn status(table: &Table, seat: &mut Seat, desc: Ref) -> Option<State>
     requires desc { IsDesc table.now.shape (ref_of desc) }
 {
     rh_rdcss::status(table, seat, desc)
+}
+
+pub fn variants(placed: Placed) {
+    match placed {
+        Placed::Mine | Placed::Passed | Placed::Spent => {}
+        Placed::Found(word) => {
+            let _: u64 = word;
+        }
+    }
 }
