@@ -1,5 +1,6 @@
 -- What is drawn of a play that was read and recorded.
-use Rattle.std.proofs.Common.{◌≡◌, ℕ, ◌<◌, List, Option, None, sym, ap, ◌∙◌, subst}
+use Rattle.std.proofs.Common.{◌≡◌, ℕ, ◌<◌, List, Option, None, Err, sym, ap, ◌∙◌, subst}
+use Rattle.std.specs.Prelude.{IsErrOf}
 use Rattle.rh_words.specs.declared.shape.Shape.{Shape}
 use Rattle.rh_svg.specs.Markup.{render}
 use Rattle.rh_draw.specs.Picture.{picture}
@@ -13,7 +14,22 @@ use Rattle.rh_play_run.specs.declared.draw_fault.DrawFault.TheVariants as draw
 use Rattle.rh_play_run.specs.declared.fault.PlayRunFault.{PlayRunFault}
 use Rattle.rh_play_run.specs.declared.fault.PlayRunFault.TheVariants.{Read, Text, Start, Memory, Write}
 use Rattle.rh_play_run.specs.Drawing.{IsDrawnOf, IsRecorded, IsUndrawn, IsWindow}
-use Rattle.rh_play_run.specs.Run.{IsPlayRead, IsUnplayed}
+use Rattle.rh_play_run.specs.Run.{IsPlayRead, IsUnplayed, SaysGoodPlay}
+use Rattle.rh_play_run.proofs.Begun.{can_begin}
+
+-- want of memory, told of a play, is told where it is drawn
+pub play_memory : (X Y : Type 0) (fault : PlayRunFault) → IsErrOf {T = X} (Err (draw.Play fault)) (draw.Play Memory) → IsErrOf {T = Y} (Err fault) Memory
+play_memory X Y fault memory =
+    let same : fault ≡ Memory = cc in
+    ap (λ (f : PlayRunFault). Err f) same
+
+pub good_play : (X : Type 0) (bytes : Option (List ℕ)) (play : Play) (fault : PlayRunFault) → IsPlayRead bytes play → IsUnplayed play fault → IsErrOf {T = X} (Err (draw.Play fault)) (draw.Play Memory) → SaysGoodPlay bytes
+good_play X bytes play fault read why memory =
+    let same : fault ≡ Memory = cc in
+    (play, read, subst (IsUnplayed play) same why)
+
+pub good_run : (bytes : Option (List ℕ)) (play : Play) (table : Shape) (cells : List ℕ) (records : List Record) → IsPlayRead bytes play → IsRecorded play table cells records → SaysGoodPlay bytes
+good_run bytes play table cells records read run = (play, read, can_begin play run.first run.begins)
 
 module _ (bytes : Option (List ℕ)) (from : ℕ) (steps : Option ℕ) (play : Play) (read : IsPlayRead bytes play) where
   pub undrawn : (fault : PlayRunFault) → IsUnplayed play fault → IsUndrawn bytes from steps (draw.Play fault)

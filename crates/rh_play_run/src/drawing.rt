@@ -1,6 +1,7 @@
 //! A play, drawn.
 
-ghost use Rattle.std.specs.Prelude.{◌≡◌, ◌≢◌, ◌+◌, ◌<◌, ◌≤◌, Err, IfErr, IfOk, IfSome, IsErrOf, None};
+ghost use Rattle.std.specs.Prelude.{◌≡◌, ◌≢◌, ◌+◌, ◌<◌, ◌≤◌, ◌⊎◌, Err, IfErr, IfOk, IfSome, IsErrOf};
+ghost use Rattle.std.specs.Prelude.{None};
 ghost use Rattle.rh_bytes.specs.Counting.{Rose, failures_of, inner_of};
 ghost use Rattle.rh_bytes.specs.Taking.{TakesAtMost};
 ghost use Rattle.rh_draw.specs.Records.{count_from};
@@ -9,7 +10,7 @@ ghost use Rattle.rh_play.specs.declared.limits.TheConstants.{MAX_TEXT_BYTES};
 ghost use Rattle.rh_play_run.specs.Beginning.{IsBlank};
 ghost use Rattle.rh_play_run.specs.Devices.{ReadsPlay, WritesLast};
 ghost use Rattle.rh_play_run.specs.Drawing.{Draws, IsDrawnOf, IsRecorded, IsUndrawn, IsWindow};
-ghost use Rattle.rh_play_run.specs.Run.{IsUnplayed};
+ghost use Rattle.rh_play_run.specs.Run.{IsUnplayed, SaysGoodPlay};
 
 use crate::beginning::{begin, blank_cells, cells_in};
 use crate::draw_fault::DrawFault;
@@ -48,6 +49,8 @@ pub fn draw_play<R: Read, W: Write>(
     requires { IfSome steps (λ n. n ≤ MAX_STEPS) }
     ensures draws { Draws from steps (R.remaining (inner_of reader.old))
         (W.contents (inner_of writer.old)) (W.contents (inner_of writer.new)) result }
+    ensures memory { IsErrOf result (DrawFault.Play PlayRunFault.Memory) →
+        (reader.new ≡ reader.old) ⊎ SaysGoodPlay (R.remaining (inner_of reader.old)) }
     ensures reads { ReadsPlay (DrawFault.Play PlayRunFault.Read) (R.remaining (inner_of reader.old))
         (R.remaining (inner_of reader.new)) (failures_of reader.old) (failures_of reader.new) result }
     ensures writes { WritesLast (DrawFault.Play PlayRunFault.Write) writer.old writer.new result }
@@ -68,6 +71,8 @@ fn drawn<R: Read>(
     ensures drawn { IfOk result (λ picture.
         IsDrawnOf (R.remaining (inner_of reader.old)) from steps picture.items) }
     ensures refused { IfErr result (IsUndrawn (R.remaining (inner_of reader.old)) from steps) }
+    ensures memory { IsErrOf result (DrawFault.Play PlayRunFault.Memory) →
+        (reader.new ≡ reader.old) ⊎ SaysGoodPlay (R.remaining (inner_of reader.old)) }
     ensures taken { TakesAtMost (R.remaining (inner_of reader.old))
         (R.remaining (inner_of reader.new)) (MAX_TEXT_BYTES + 1) }
     ensures read { IsErrOf result (DrawFault.Play PlayRunFault.Read) →

@@ -76,7 +76,7 @@ fn picture(alloc: Global, end: u64, window: Window) -> Result<Vec<u8>, AllocErro
 }
 
 /// How often the text has this piece.
-fn occurrences(text: &[u8], piece: &str) -> u64 {
+pub(crate) fn occurrences(text: &[u8], piece: &str) -> u64 {
     let mut count: u64 = 0;
     for start in 0..text.len() {
         if text[start..].starts_with(piece.as_bytes()) {

@@ -91,7 +91,7 @@ const CLAIMED: &str = "turn 1 1 claim\nturn 0 1 claim\nuntil 1 decide decide\nra
 rest finished\ntable 3 2\n4 1 0\n5 9 1\nend\nread 2 added 2 removed 0 found 0\nfinished\n";
 
 // The order is printed without leading zeros, and a question is answered.
-const QUESTIONS: (&str, &str) = (
+pub(crate) const QUESTIONS: (&str, &str) = (
     "play ask\nbits 3\nheld 17 1 9\nwork 9 2\nturn 00 0003\nuntil 00 write\n",
     "turn 0 3 read\nuntil 0 write finished\n\
 table 3 3\n4 1 0\n5 9 1\n6 17 2\nend\nread 2 added 0 removed 0 found 1\nfinished\n",
@@ -123,7 +123,7 @@ fn a_play_prints_its_text(rt: HostRuntime) -> Result<(), Fail> {
 const SEVENTEEN: &str = "play ask\nbits 3\nheld\nwork\nwork\nwork\nwork\nwork\nwork\nwork\nwork\n\
 work\nwork\nwork\nwork\nwork\nwork\nwork\nwork\nwork 4611686018427387903\n";
 
-const NOT_BEGUN: &[(&str, PlayFault)] = &[
+pub(crate) const NOT_BEGUN: &[(&str, PlayFault)] = &[
     // A key held, one too many of them, and both.
     (
         "play ask\nbits 3\nheld 4611686018427387903\nwork\n",
@@ -172,7 +172,11 @@ fn a_play_that_cannot_begin_writes_nothing(rt: HostRuntime) {
     }
 }
 
-const NOT_PLAYS: &[(&str, u64)] = &[("", 1), ("play insert\nbits 2\n", 2), ("# held\nplay\n", 2)];
+pub(crate) const NOT_PLAYS: &[(&str, u64)] = &[
+    ("", 1),
+    ("play insert\nbits 2\n", 2),
+    ("# held\nplay\n", 2),
+];
 
 #[test]
 fn another_text_writes_nothing(rt: HostRuntime) -> Result<(), Fail> {
@@ -201,7 +205,7 @@ fn another_text_writes_nothing(rt: HostRuntime) -> Result<(), Fail> {
 // The first worker removes key 9 so many times from a table that does not hold it; the others have no
 // key. The seven keys that are held have home 3, so each time the worker reads the cells from 4 on to
 // the empty cell 2, and its K-CAS names these seven: 7 + 11 * 7 + 5 steps.
-fn many_removals(
+pub(crate) fn many_removals(
     alloc: Global,
     count: usize,
     others: usize,

@@ -1,6 +1,23 @@
+use Rattle.std.proofs.Common.{inl, inr}
 use Rattle.std.proofs.lemmas.Result.{err_from_is_err_and}
-use Rattle.rh_play_run.proofs.Drawn.{drawn, too_many, undrawn}
+use Rattle.rh_play_run.proofs.Drawn.{drawn, good_play, good_run, play_memory, too_many, undrawn}
 use Rattle.rh_play_run.proofs.drawing.drawn.Goals as goal
+
+pub returns-in_err-play-clause-memory : goal.returns-in_err-play-clause-memory
+returns-in_err-play-clause-memory g c =
+    let fault = err_from_is_err_and c.from_residual-in_err-play.result c.from_residual-in_err-play.ensures.1 in
+    rw (fault.1, fault.2) (λ memory. inl (c.in_err-play.ensures.memory (play_memory _ _ c.in_err-play.field-0.0 memory)))
+
+pub returns-in_err-recorded-clause-memory : goal.returns-in_err-recorded-clause-memory
+returns-in_err-recorded-clause-memory g c =
+    let fault = err_from_is_err_and c.from_residual-in_err-recorded.result c.from_residual-in_err-recorded.ensures.1 in
+    rw (fault.1, fault.2) (λ memory. inr (good_play _ _ c.in_ok-play.play c.in_err-recorded.field-0.0 c.in_ok-play.ensures.read c.in_err-recorded.ensures.refused memory))
+
+pub returns-in_err-window-clause-memory : goal.returns-in_err-window-clause-memory
+returns-in_err-window-clause-memory g c = λ memory. inr (good_run _ c.in_ok-play.play _ _ _ c.in_ok-play.ensures.read c.in_ok-recorded.ensures.recorded)
+
+pub returns-in_err-draw-clause-memory : goal.returns-in_err-draw-clause-memory
+returns-in_err-draw-clause-memory g c = λ memory. inr (good_run _ c.in_ok-play.play _ _ _ c.in_ok-play.ensures.read c.in_ok-recorded.ensures.recorded)
 
 pub returns-in_err-recorded-clause-refused : goal.returns-in_err-recorded-clause-refused
 returns-in_err-recorded-clause-refused g c =
