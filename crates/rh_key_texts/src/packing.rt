@@ -2,7 +2,7 @@
 
 ghost use Rattle.std.specs.Prelude.{◌≡◌, ◌≢◌, Err, IfErr, IsErrOf, OnOk};
 ghost use Rattle.rh_bytes.specs.Counting.{Rose, failures_of, inner_of};
-ghost use Rattle.rh_numbers.specs.Reading.{TakesToFault};
+ghost use Rattle.rh_numbers.specs.Reading.{TakesFewParts, TakesToFault};
 ghost use Rattle.rh_key_texts.specs.Pack.{Packs};
 
 use rh_bytes::{Counted, WriteFault};
@@ -47,8 +47,8 @@ impl From<WriteFault> for PackFault {
 /// Reads a text of numbers, and writes the key file of exactly these, in their order.
 ///
 /// The text is read to its end before a byte is written. Only the reading takes memory, and
-/// `Text(Memory)` comes only where a growth was refused. Each number is a write of its own, so give
-/// it a writer with a buffer; the reading needs none.
+/// `Text(Memory)` comes only where a growth was refused, before a part of the text was read. Each
+/// number is a write of its own, so give it a writer with a buffer; the reading needs none.
 pub fn pack<R: Read, W: Write>(
     alloc: Global,
     reader: &mut Counted<R>,
@@ -59,6 +59,8 @@ pub fn pack<R: Read, W: Write>(
     ensures untouched { IfErr result (λ fault. fault ≢ PackFault.Write → writer.new ≡ writer.old) }
     ensures takes { IfErr result (λ fault. fault ≢ PackFault.Write →
         TakesToFault (R.remaining (inner_of reader.old)) (R.remaining (inner_of reader.new))) }
+    ensures memory { IsErrOf result (PackFault.Text TextFault.Memory) →
+        TakesFewParts (R.remaining (inner_of reader.old)) (R.remaining (inner_of reader.new)) }
     ensures read { IsErrOf result (PackFault.Text TextFault.Read) →
         Rose (failures_of reader.old) (failures_of reader.new) }
     ensures write { IsErrOf result PackFault.Write →

@@ -61,7 +61,7 @@ then_begins keys (given, None) line rest (more, is) =
 then_begins keys (given, Some e) line rest (more, is) = (more, is)
 
 pub stops_then : (e : TextFault) (keys : List ℕ) (said : Said) (line : ℕ) (rest : List ℕ) → Stops e keys said → Stops e keys (said >>= (λ later. said_from later line Start rest))
-stops_then faults.Memory keys said line rest h = then_begins keys said line rest h
+stops_then faults.Memory keys said line rest h = absurd h
 stops_then faults.Read keys said line rest h = absurd h
 stops_then TooLong keys said line rest h = absurd h
 stops_then (NotAKey bad) keys said line rest h = ap (λ s. s >>= (λ later. said_from later line Start rest)) h

@@ -1,6 +1,6 @@
 -- A text that is read in parts.
 use Rattle.std.proofs.Common.{◌≡◌, Bool, true, false, ℕ, zero, suc, ◌+◌, ◌<◌, ◌≤◌, List, [], ◌∷◌, ◌++◌, length, take, drop, get_or, Option, Some, None, Result, Ok, Err, refl, sym, ap, subst, ◌∙◌, arith, append-nil, length-append}
-use Rattle.std.specs.Prelude.{MatchOption, ◌≢◌}
+use Rattle.std.specs.Prelude.{IsErrOf, MatchOption}
 use Rattle.std.specs.Io.KnownBytes.{Consumes, IsAtEnd}
 use Rattle.rh_layout.specs.declared.limits.TheConstants.{MAX_KEYS}
 use Rattle.rh_numbers.specs.declared.fault.TextFault.{TextFault}
@@ -9,7 +9,7 @@ use Rattle.rh_numbers.specs.declared.fault.TextFault.TheVariants.{NotAKey, OutOf
 use Rattle.rh_numbers.specs.declared.limits.TheConstants.{MAX_BYTES, PART_BYTES}
 use Rattle.rh_numbers.specs.declared.line_so_far.LineSoFar.{LineSoFar}
 use Rattle.rh_numbers.specs.declared.reading.Reading.{Reading}
-use Rattle.rh_numbers.specs.Parts.{PartGives, keys_read, said_by}
+use Rattle.rh_numbers.specs.Parts.{LeadsOn, PartGives, keys_read, line_reached, said_by, so_far_of}
 use Rattle.rh_numbers.specs.Reading.{TextFails, ReadsText, Said, Stops, said_from, text_said, with_line}
 use Rattle.rh_numbers.proofs.Fronts.{all_said, the_fault, too_many_said}
 
@@ -59,9 +59,25 @@ pub stops_if_known : (left : Option (List ℕ)) (part before after : List ℕ) (
 stops_if_known None part before after line so_far e stops = tt
 stops_if_known (Some rest) part before after line so_far e stops = stops rest
 
+-- a fault that was found in the bytes of a part
+pub part_stops : (part : List ℕ) (left : Option (List ℕ)) (old new : Reading) (e : TextFault) (keys : List ℕ) (said : Said) → Stops e keys said
+    → MatchOption left (Unit {0}) (λ rest. Stops e (keys_read new) (said_by old (part ++ rest))) → PartGives part left old new (Err e)
+part_stops part left old new faults.Memory keys said found known = absurd found
+part_stops part left old new faults.Read keys said found known = absurd found
+part_stops part left old new TooLong keys said found known = absurd found
+part_stops part left old new TooMany keys said found known = known
+part_stops part left old new (NotAKey line) keys said found known = known
+part_stops part left old new (OutOfRange line) keys said found known = known
+
+-- where memory was refused nothing was taken
+pub nothing_taken : {X : Type 0} (part : List ℕ) (left : Option (List ℕ)) (old new : Reading) (e : TextFault) → IsErrOf {T = X} (Err e) faults.Memory → PartGives part left old new (Err e) → (part ≡ []) × LeadsOn part old new
+nothing_taken part left old new e memory gives =
+    let same : e ≡ faults.Memory = cc in
+    subst (λ f. PartGives part left old new (Err f)) same gives
+
 -- what a part gives where the text goes on, and where it ends
 pub whole_part : (part : List ℕ) (left : Option (List ℕ)) (old new : Reading) (on : Bool) → on ≡ true → PartGives part left old new (Ok on)
-    → (length part ≡ PART_BYTES) × ((rest : List ℕ) → said_by old (part ++ rest) ≡ said_by new rest)
+    → (length part ≡ PART_BYTES) × LeadsOn part old new
 whole_part part left old new true is gives = gives
 whole_part part left old new false is gives = absurd cc
 
@@ -72,7 +88,7 @@ last_part part left old new false is gives = gives
 -- ---- a text of at most a million keys
 
 stops : (e : TextFault) (bytes keys : List ℕ) (said : Said) → text_said bytes ≡ said → length keys ≤ MAX_KEYS → Stops e keys said → TextFails e bytes
-stops faults.Memory bytes keys said is few h = tt
+stops faults.Memory bytes keys said is few h = absurd h
 stops faults.Read bytes keys said is few h = absurd h
 stops TooLong bytes keys said is few h = absurd h
 stops (NotAKey line) bytes keys said is few h = the_fault (text_said bytes) keys (NotAKey line) (is ∙ h) few
@@ -80,11 +96,12 @@ stops (OutOfRange line) bytes keys said is few h = the_fault (text_said bytes) k
 stops TooMany bytes keys said is few (full, key, more, h) =
     too_many_said (text_said bytes) (keys ++ (key ∷ more)) ([], ap (λ s. s.0) is ∙ h ∙ sym (append-nil (keys ++ (key ∷ more)))) (omega (arith, full, length-append keys (key ∷ more)))
 
-unread : {X : Type 0} (a c : Option (List ℕ)) (view : X → List ℕ) → ReadsText a c view (Err faults.Read)
-unread None c view = tt
-unread (Some bytes) c view = tt
+-- a fault that says nothing of the bytes
+silent : {X : Type 0} (a c : Option (List ℕ)) (view : X → List ℕ) (e : TextFault) → ((bytes : List ℕ) → TextFails e bytes) → ReadsText a c view (Err e)
+silent None c view e says = tt
+silent (Some bytes) c view e says = says bytes
 
--- the fault of a part, which is no failed read
+-- a fault that was found in a part
 found : {X : Type 0} (a b c : Option (List ℕ)) (n : ℕ) (part keys after : List ℕ) (line : ℕ) (so_far : LineSoFar) (view : X → List ℕ) (e : TextFault) → GoesOn a b n keys line so_far → Consumes b c part
     → length after ≤ MAX_KEYS → MatchOption c (Unit {0}) (λ rest. Stops e after (said_from keys line so_far (part ++ rest))) → ReadsText a c view (Err e)
 found None b c n part keys after line so_far view e h read few stop = tt
@@ -93,14 +110,14 @@ found (Some bytes) (Some rest) None n part keys after line so_far view e h read 
 found (Some bytes) (Some rest) (Some more) n part keys after line so_far view e h read few stop =
     stops e bytes after (said_from keys line so_far (part ++ more)) (h.0 ∙ ap (said_from keys line so_far) read) few stop
 
-pub refused : {X : Type 0} (a b c : Option (List ℕ)) (n : ℕ) (part keys after : List ℕ) (line : ℕ) (so_far : LineSoFar) (view : X → List ℕ) (e : TextFault) → GoesOn a b n keys line so_far → Consumes b c part
-    → length after ≤ MAX_KEYS → (e ≢ faults.Read → MatchOption c (Unit {0}) (λ rest. Stops e after (said_from keys line so_far (part ++ rest)))) → ReadsText a c view (Err e)
-refused a b c n part keys after line so_far view faults.Read h read few stop = unread a c view
-refused a b c n part keys after line so_far view faults.Memory h read few stop = found a b c n part keys after line so_far view faults.Memory h read few (stop (λ is. absurd cc))
-refused a b c n part keys after line so_far view TooLong h read few stop = found a b c n part keys after line so_far view TooLong h read few (stop (λ is. absurd cc))
-refused a b c n part keys after line so_far view TooMany h read few stop = found a b c n part keys after line so_far view TooMany h read few (stop (λ is. absurd cc))
-refused a b c n part keys after line so_far view (NotAKey bad) h read few stop = found a b c n part keys after line so_far view (NotAKey bad) h read few (stop (λ is. absurd cc))
-refused a b c n part keys after line so_far view (OutOfRange bad) h read few stop = found a b c n part keys after line so_far view (OutOfRange bad) h read few (stop (λ is. absurd cc))
+pub refused : {X : Type 0} (a b c : Option (List ℕ)) (n : ℕ) (part : List ℕ) (old new : Reading) (view : X → List ℕ) (e : TextFault) → GoesOn a b n (keys_read old) (line_reached old) (so_far_of old) → Consumes b c part
+    → length (keys_read new) ≤ MAX_KEYS → PartGives part c old new (Err e) → ReadsText a c view (Err e)
+refused a b c n part old new view faults.Read h read few gives = silent a c view faults.Read (λ bytes. tt)
+refused a b c n part old new view faults.Memory h read few gives = silent a c view faults.Memory (λ bytes. tt)
+refused a b c n part old new view TooLong h read few gives = found a b c n part (keys_read old) (keys_read new) (line_reached old) (so_far_of old) view TooLong h read few gives
+refused a b c n part old new view TooMany h read few gives = found a b c n part (keys_read old) (keys_read new) (line_reached old) (so_far_of old) view TooMany h read few gives
+refused a b c n part old new view (NotAKey bad) h read few gives = found a b c n part (keys_read old) (keys_read new) (line_reached old) (so_far_of old) view (NotAKey bad) h read few gives
+refused a b c n part old new view (OutOfRange bad) h read few gives = found a b c n part (keys_read old) (keys_read new) (line_reached old) (so_far_of old) view (OutOfRange bad) h read few gives
 
 pub finished : {X : Type 0} (a b c : Option (List ℕ)) (n : ℕ) (part keys : List ℕ) (line : ℕ) (so_far : LineSoFar) (view : X → List ℕ) (x : X) → GoesOn a b n keys line so_far → Consumes b c part → IsAtEnd c
     → length (view x) ≤ MAX_KEYS → said_from keys line so_far part ≡ (view x, None) → ReadsText a c view (Ok x)

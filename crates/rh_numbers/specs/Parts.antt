@@ -1,8 +1,8 @@
 -- A text that is read in parts.
-use Rattle.std.specs.Prelude.{◌≡◌, ◌≢◌, ℕ, ◌≤◌, Bool, true, false, List, ◌++◌, length, Option, None, MatchOption, Result, Ok, Err}
+use Rattle.std.specs.Prelude.{◌≡◌, ℕ, ◌≤◌, Bool, true, false, List, [], ◌++◌, length, Option, None, MatchOption, Result, Ok, Err}
 use Rattle.std.specs.Io.KnownBytes.{Consumes, IsAtEnd}
 use Rattle.rh_numbers.specs.declared.fault.TextFault.{TextFault}
-use Rattle.rh_numbers.specs.declared.fault.TextFault.TheVariants.{Read}
+use Rattle.rh_numbers.specs.declared.fault.TextFault.TheVariants.{Memory, Read}
 use Rattle.rh_numbers.specs.declared.limits.TheConstants.{PART_BYTES}
 use Rattle.rh_numbers.specs.declared.line_so_far.LineSoFar.{LineSoFar}
 use Rattle.rh_numbers.specs.declared.reading.Reading.{Reading}
@@ -22,12 +22,18 @@ so_far_of reading = reading.so_far
 abbrev pub said_by : Reading → List ℕ → Said
 said_by reading bytes = said_from reading.keys.items reading.line reading.so_far bytes
 
--- What came of a part. True says that the text may go on; then that was a whole part. Of bytes that are not known, and of a
--- failed read, nothing is told.
+-- The part holds no fault: whatever comes behind it goes on from the new reading.
+abbrev pub LeadsOn : (part : List ℕ) (old new : Reading) → Type 0
+LeadsOn part old new = (rest : List ℕ) → said_by old (part ++ rest) ≡ said_by new rest
+
+-- What came of a part. True says that the text may go on; then that was a whole part. Where memory was refused nothing was read.
+-- Of bytes that are not known, and of a failed read, nothing is told.
 abbrev pub PartGives : (part : List ℕ) (left : Option (List ℕ)) (old new : Reading) → Result Bool TextFault → Type 0
-PartGives part left old new (Ok true) = (length part ≡ PART_BYTES) × ((rest : List ℕ) → said_by old (part ++ rest) ≡ said_by new rest)
+PartGives part left old new (Ok true) = (length part ≡ PART_BYTES) × LeadsOn part old new
 PartGives part left old new (Ok false) = IsAtEnd left × (said_by old part ≡ (keys_read new, None))
-PartGives part left old new (Err e) = e ≢ Read → MatchOption left (Unit {0}) (λ rest. Stops e (keys_read new) (said_by old (part ++ rest)))
+PartGives part left old new (Err Memory) = (part ≡ []) × LeadsOn part old new
+PartGives part left old new (Err Read) = Unit {0}
+PartGives part left old new (Err e) = MatchOption left (Unit {0}) (λ rest. Stops e (keys_read new) (said_by old (part ++ rest)))
 
 -- A part was taken of the bytes, and this came of it.
 pub record ReadsPart (bytes left : Option (List ℕ)) (old new : Reading) (r : Result Bool TextFault) : Type 0 where

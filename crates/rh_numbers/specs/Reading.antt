@@ -83,10 +83,9 @@ limited said = if nat_lt MAX_KEYS (length said.0) then Err TooMany else if_no_fa
 abbrev pub text_keys : List ℕ → Result (List ℕ) TextFault
 text_keys text = limited (text_said text)
 
--- What is said stops at this fault, after these keys. Want of memory and the limit come before another key; the bytes alone
--- give no other fault.
+-- What is said stops at this fault, after these keys. The limit comes before another key; the bytes alone give no other fault.
 abbrev pub Stops : TextFault → (keys : List ℕ) → Said → Type 0
-Stops faults.Memory keys said = (more : List ℕ) × (said.0 ≡ keys ++ more)
+Stops faults.Memory keys said = ⊥
 Stops faults.Read keys said = ⊥
 Stops TooLong keys said = ⊥
 Stops (NotAKey line) keys said = said ≡ (keys, Some (NotAKey line))
@@ -95,7 +94,8 @@ Stops TooMany keys said = (MAX_KEYS ≤ length keys) × (key : ℕ) × (more : L
 
 -- ---- what is said of a reader's bytes
 
--- A failed read and want of memory say nothing of the bytes, and a text that is too long may have faults too.
+-- A failed read and want of memory say nothing of the bytes behind those that were taken (of these `TakesFewParts` speaks), and a
+-- text that is too long may have faults too.
 abbrev pub TextFails : TextFault → List ℕ → Type 0
 TextFails faults.Read bytes = Unit {0}
 TextFails faults.Memory bytes = Unit {0}
@@ -133,3 +133,17 @@ pub record TakesToFault (old new : Option (List ℕ)) : Type 0 where
   pub taken : Consumes old new (before ++ last)
   pub short : length last ≤ PART_BYTES
   pub no_fault : HoldNoFault before
+
+-- The bytes that were taken hold no fault, and say these keys.
+pub record TakesGood (old new : Option (List ℕ)) (keys : List ℕ) : Type 0 where
+  pub taken : List ℕ
+  pub consumed : Consumes old new taken
+  pub no_fault : SayOnly taken keys
+
+-- And they are whole parts.
+abbrev pub TakesGoodParts : (old new : Option (List ℕ)) (keys : List ℕ) → Type 0
+TakesGoodParts old new keys = (good : TakesGood old new keys) × (count : ℕ) × (length good.taken ≡ PART_BYTES * count)
+
+-- Whole parts were taken, which hold no fault, nor too many keys.
+abbrev pub TakesFewParts : (old new : Option (List ℕ)) → Type 0
+TakesFewParts old new = (keys : List ℕ) × (length keys ≤ MAX_KEYS) × TakesGoodParts old new keys

@@ -4,7 +4,7 @@ ghost use Rattle.std.specs.Prelude.{◌≡◌};
 ghost use Rattle.rh_numbers.specs.declared.fault.TextFault.TheVariants.{Memory};
 
 use rh_layout::MAX_KEYS;
-use std::alloc::{AllocError, AllocFailed};
+use std::alloc::AllocError;
 use thiserror::Error;
 
 /// Why a text of numbers could not be read. Lines are numbered from 1.
@@ -26,10 +26,10 @@ pub enum TextFault {
     Memory,
 }
 
-impl<T: Drop> From<AllocFailed<T>> for TextFault {
+impl From<AllocError> for TextFault {
     ghost from_gives = { λ _ fault. fault ≡ Memory };
 
-    fn from(_error: AllocFailed<T>) -> TextFault {
+    fn from(_error: AllocError) -> TextFault {
         TextFault::Memory
     }
 }

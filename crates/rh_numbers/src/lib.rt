@@ -8,11 +8,12 @@
 //!   refused by the first fault of their first faulty line, with its number.
 //! - `Read` comes only where the reader's count of failures rose, and `text too long` only of a
 //!   text of 2^63 bytes or more.
-//! - Where a text is refused, for want of memory too, all that was taken but for a last part of at
-//!   most 8,192 bytes holds no fault.
+//! - Where a text is refused, all that was taken but for a last part of at most 8,192 bytes holds no
+//!   fault. Want of memory is told only before such a part is read: then nothing that was taken holds
+//!   a fault.
 //! - `Reading::read_part`: of the next 8,192 bytes the keys were added, in order, up to the first
 //!   fault, and the line goes on after the part. So texts of any length are read by whoever clears
-//!   the keys. `new`, `keys` and `clear` are exact.
+//!   the keys. Where memory is refused nothing is read. `new`, `keys` and `clear` are exact.
 //! - `read_chunk`: a chunk of a text, cut at any byte, is read to its keys and to how it ends, whatever
 //!   stands before it and comes after it. So texts are read by several workers.
 //! - `write_numbers`: the text of the numbers, one a line, or a front of it where the writer

@@ -1,6 +1,7 @@
 //! A text on the way: what was read of it, and how it goes on.
 
 ghost use Rattle.std.specs.Prelude.{◌≤◌, length, All};
+ghost use Rattle.std.specs.Vec.{vec_capacity};
 ghost use Rattle.rh_layout.specs.Key.{IsKey};
 ghost use Rattle.rh_layout.specs.declared.limits.TheConstants.{MAX_KEYS};
 
@@ -76,6 +77,9 @@ impl Reading {
     /// Reads the next 8,192 bytes and adds their keys to those that are held, up to the first fault,
     /// and tells whether the text may go on. Where it ends, so does its last line.
     ///
+    /// Room for as many keys as such bytes may say is taken before they are read, so that no fault of
+    /// a text is told as want of memory.
+    ///
     /// `TooMany` says that `MAX_KEYS` are held and one more came; whoever clears them before each
     /// part never meets it.
     pub fn read_part<R: Read>(&mut self, reader: &mut Counted<R>) -> Result<bool, TextFault>
@@ -92,6 +96,7 @@ impl Reading {
         ensures fine { result ≢ Err TextFault.Read →
             failures_of reader.new ≡ failures_of reader.old }
     {
+        self.keys.reserve(PART_BYTES + 1)?;
         let mut part = [0; PART_BYTES];
         let Some(n) = fill(reader, &mut part) else {
             return Err(TextFault::Read);
@@ -106,8 +111,10 @@ impl Reading {
 
     /// Reads the next bytes.
     fn read(&mut self, bytes: &[u8]) -> Result<(), TextFault>
-        requires { self.old.line + length bytes.now < 2 ^ 64 }
+        requires few { self.old.line + length bytes.now < 2 ^ 64 }
+        requires room { length self.old.keys.items + length bytes.now ≤ vec_capacity self.old.keys }
         ensures line { OnOk result (self.new.line ≤ self.old.line + length bytes.now) }
+        ensures room { vec_capacity self.new.keys ≡ vec_capacity self.old.keys }
         ensures many { length self.new.keys.items ≤ length self.old.keys.items + length bytes.now }
         ensures full { IsErrOf result TextFault.TooMany → length self.new.keys.items ≡ MAX_KEYS }
         ensures read { MatchResult result
@@ -124,8 +131,10 @@ impl Reading {
 
     #[tactic(auto, unfolding(crate::specs::Reading::said_from))]
     fn step(&mut self, b: u8) -> Result<(), TextFault>
-        requires { self.old.line + 1 < 2 ^ 64 }
+        requires few { self.old.line + 1 < 2 ^ 64 }
+        requires room { length self.old.keys.items < vec_capacity self.old.keys }
         ensures line { OnOk result (self.new.line ≤ self.old.line + 1) }
+        ensures room { vec_capacity self.new.keys ≡ vec_capacity self.old.keys }
         ensures many { length self.new.keys.items ≤ length self.old.keys.items + 1 }
         ensures full { IsErrOf result TextFault.TooMany → length self.new.keys.items ≡ MAX_KEYS }
         ensures read { MatchResult result
@@ -145,7 +154,9 @@ impl Reading {
 
     /// Takes what the line said, which ends here.
     fn end_line(&mut self) -> Result<(), TextFault>
+        requires { length self.old.keys.items < vec_capacity self.old.keys }
         ensures line { self.new.line ≡ self.old.line }
+        ensures room { vec_capacity self.new.keys ≡ vec_capacity self.old.keys }
         ensures many { length self.new.keys.items ≤ length self.old.keys.items + 1 }
         ensures full { IsErrOf result TextFault.TooMany → length self.new.keys.items ≡ MAX_KEYS }
         ensures keys { MatchResult result
@@ -163,7 +174,9 @@ impl Reading {
     }
 
     fn take(&mut self, n: u64) -> Result<(), TextFault>
+        requires { length self.old.keys.items < vec_capacity self.old.keys }
         ensures line { self.new.line ≡ self.old.line }
+        ensures room { vec_capacity self.new.keys ≡ vec_capacity self.old.keys }
         ensures many { length self.new.keys.items ≤ length self.old.keys.items + 1 }
         ensures full { IsErrOf result TextFault.TooMany → length self.new.keys.items ≡ MAX_KEYS }
         ensures keys { MatchResult result
@@ -177,7 +190,7 @@ impl Reading {
         if self.keys.len() as u64 >= MAX_KEYS {
             return Err(TextFault::TooMany);
         }
-        self.keys.push(n)?;
+        self.keys.push_reserved(n);
         Ok(())
     }
 }

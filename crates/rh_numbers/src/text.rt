@@ -4,7 +4,7 @@ ghost use Rattle.std.specs.Prelude.{◌≡◌, ◌≢◌, ◌≤◌, length, All
 ghost use Rattle.rh_layout.specs.Key.{IsKey};
 ghost use Rattle.rh_layout.specs.declared.limits.TheConstants.{MAX_KEYS};
 ghost use Rattle.rh_bytes.specs.Counting.{Rose, failures_of, inner_of};
-ghost use Rattle.rh_numbers.specs.Reading.{IsTextReadFrom, ReadsText, TakesToFault};
+ghost use Rattle.rh_numbers.specs.Reading.{IsTextReadFrom, ReadsText, TakesFewParts, TakesToFault};
 
 use crate::fault::TextFault;
 use crate::limits::MAX_READS;
@@ -14,7 +14,7 @@ use std::alloc::Global;
 use std::io::Read;
 
 /// The keys of a text, in its order. No line is kept in memory: only the keys take some, and
-/// `Memory` comes only where a growth was refused.
+/// `Memory` comes only where a growth was refused. That is so before a part of the text is read.
 pub fn read_numbers<R: Read>(alloc: Global, reader: &mut Counted<R>) -> Result<Vec<u64>, TextFault>
     ensures known { ReadsText (R.remaining (inner_of reader.old)) (R.remaining (inner_of reader.new))
         (λ v. v.items) result }
@@ -24,6 +24,8 @@ pub fn read_numbers<R: Read>(alloc: Global, reader: &mut Counted<R>) -> Result<V
     ensures few { IfOk result (λ v. length v.items ≤ MAX_KEYS) }
     ensures takes { OnErr result (TakesToFault (R.remaining (inner_of reader.old))
         (R.remaining (inner_of reader.new))) }
+    ensures memory { IsErrOf result TextFault.Memory →
+        TakesFewParts (R.remaining (inner_of reader.old)) (R.remaining (inner_of reader.new)) }
     ensures read { IsErrOf result TextFault.Read →
         Rose (failures_of reader.old) (failures_of reader.new) }
     ensures fine { result ≢ Err TextFault.Read → failures_of reader.new ≡ failures_of reader.old }

@@ -1,5 +1,5 @@
 -- A text that is split, part of the text after part.
-use Rattle.std.proofs.Common.{◌≡◌, ◌≢◌, Bool, true, false, ℕ, ◌+◌, ◌≤◌, List, [], ◌∷◌, ◌++◌, Option, Some, None, Result, Ok, Err, refl, sym, ap, subst, ◌∙◌, arith, append_assoc, append-nil}
+use Rattle.std.proofs.Common.{◌≡◌, ◌≢◌, Bool, true, false, ℕ, ◌+◌, ◌*◌, ◌≤◌, List, [], ◌∷◌, ◌++◌, Option, Some, None, Result, Ok, Err, refl, sym, ap, subst, ◌∙◌, arith, append_assoc, append-nil}
 use Rattle.std.proofs.KnownBytes.{Consumes-nil, Consumes-trans}
 use Rattle.rh_numbers.specs.declared.fault.TextFault.{TextFault}
 use Rattle.rh_numbers.specs.declared.fault.TextFault.TheVariants as faults
@@ -11,7 +11,7 @@ use Rattle.rh_numbers.specs.Reading.{Said, Stops, said_from, text_said}
 use Rattle.rh_numbers.proofs.Fronts.{Begins, begins, behind, said_behind}
 use Rattle.rh_numbers.proofs.Meaning.{any_text_read}
 use Rattle.rh_numbers.proofs.Parts.{GoesOn, goes_on}
-use Rattle.rh_numbers.proofs.Taken.{Fresh, fresh_after}
+use Rattle.rh_numbers.proofs.Taken.{Fresh, fresh_after, taken_parts}
 use Rattle.rh_parts.specs.Parts.{part_of}
 use Rattle.rh_splitting.specs.declared.fault.SplitFault.{SplitFault}
 use Rattle.rh_splitting.specs.declared.fault.SplitFault.TheVariants as faults_of
@@ -37,7 +37,7 @@ begins_behind : (given keys : List ℕ) (said : Said) → Begins keys said → B
 begins_behind given keys said (more, is) = (more, ap (λ l. given ++ l) is ∙ sym (append_assoc given keys more))
 
 stops_begins : (e : TextFault) (keys : List ℕ) (said : Said) → Stops e keys said → Begins keys said
-stops_begins faults.Memory keys said h = h
+stops_begins faults.Memory keys said h = absurd h
 stops_begins faults.Read keys said h = absurd h
 stops_begins faults.TooLong keys said h = absurd h
 stops_begins (faults.NotAKey line) keys said h = ([], ap (λ s. s.0) h ∙ sym (append-nil keys))
@@ -51,11 +51,11 @@ part_begins part rest old new (Ok false) gives unread =
     let whole : part ++ rest ≡ part = ap (λ l. part ++ l) gives.0 ∙ append-nil part in
     ([], ap (λ s. s.0) (ap (said_by old) whole ∙ gives.1) ∙ sym (append-nil (keys_read new)))
 part_begins part rest old new (Err faults.Read) gives unread = subst (λ k. Begins k (said_by old (part ++ rest))) (sym (unread refl)) ((said_by old (part ++ rest)).0, refl)
-part_begins part rest old new (Err faults.Memory) gives unread = stops_begins faults.Memory (keys_read new) (said_by old (part ++ rest)) (gives (λ is. absurd cc))
-part_begins part rest old new (Err faults.TooLong) gives unread = stops_begins faults.TooLong (keys_read new) (said_by old (part ++ rest)) (gives (λ is. absurd cc))
-part_begins part rest old new (Err faults.TooMany) gives unread = stops_begins faults.TooMany (keys_read new) (said_by old (part ++ rest)) (gives (λ is. absurd cc))
-part_begins part rest old new (Err (faults.NotAKey line)) gives unread = stops_begins (faults.NotAKey line) (keys_read new) (said_by old (part ++ rest)) (gives (λ is. absurd cc))
-part_begins part rest old new (Err (faults.OutOfRange line)) gives unread = stops_begins (faults.OutOfRange line) (keys_read new) (said_by old (part ++ rest)) (gives (λ is. absurd cc))
+part_begins part rest old new (Err faults.Memory) gives unread = subst (Begins (keys_read new)) (sym (gives.1 rest)) (begins (keys_read new) (line_reached new) (so_far_of new) rest)
+part_begins part rest old new (Err faults.TooLong) gives unread = stops_begins faults.TooLong (keys_read new) (said_by old (part ++ rest)) gives
+part_begins part rest old new (Err faults.TooMany) gives unread = stops_begins faults.TooMany (keys_read new) (said_by old (part ++ rest)) gives
+part_begins part rest old new (Err (faults.NotAKey line)) gives unread = stops_begins (faults.NotAKey line) (keys_read new) (said_by old (part ++ rest)) gives
+part_begins part rest old new (Err (faults.OutOfRange line)) gives unread = stops_begins (faults.OutOfRange line) (keys_read new) (said_by old (part ++ rest)) gives
 
 pub part_first : (bytes before left : Option (List ℕ)) (n : ℕ) (given : List ℕ) (old new : Reading) (r : Result Bool TextFault) → GoesOn bytes before n given (line_reached old) (so_far_of old) → keys_read old ≡ []
     → ReadsPart before left old new r → (r ≡ Err faults.Read → keys_read new ≡ []) → SayFirst bytes (given ++ keys_read new)
@@ -93,42 +93,46 @@ text_goes_on bytes before left n given old new false is goes none reads = absurd
 text_goes_on bytes before left n given old new true is goes none reads =
     goes_on bytes before left n PART_BYTES reads.part given (given ++ keys_read new) (line_reached old) (line_reached new) (so_far_of old) (so_far_of new) goes reads.taken reads.gives.0 (goes_behind given reads.part old new none reads.gives.1)
 
-pub still_fresh : (bytes before left : Option (List ℕ)) (given : List ℕ) (old new : Reading) (r : Bool) → r ≡ true → Fresh bytes before given (line_reached old) (so_far_of old) → keys_read old ≡ []
-    → ReadsPart before left old new (Ok r) → Fresh bytes left (given ++ keys_read new) (line_reached new) (so_far_of new)
-still_fresh bytes before left given old new false is fresh none reads = absurd cc
-still_fresh bytes before left given old new true is fresh none reads =
-    fresh_after bytes before left reads.part given (given ++ keys_read new) (line_reached old) (line_reached new) (so_far_of old) (so_far_of new) fresh reads.taken (goes_behind given reads.part old new none reads.gives.1)
+pub still_fresh : (bytes before left : Option (List ℕ)) (n : ℕ) (given : List ℕ) (old new : Reading) (r : Bool) → r ≡ true → Fresh bytes before n given (line_reached old) (so_far_of old) → keys_read old ≡ []
+    → ReadsPart before left old new (Ok r) → Fresh bytes left (n + PART_BYTES) (given ++ keys_read new) (line_reached new) (so_far_of new)
+still_fresh bytes before left n given old new false is fresh none reads = absurd cc
+still_fresh bytes before left n given old new true is fresh none reads =
+    fresh_after bytes before left n PART_BYTES reads.part given (given ++ keys_read new) (line_reached old) (line_reached new) (so_far_of old) (so_far_of new) fresh reads.taken reads.gives.0 (goes_behind given reads.part old new none reads.gives.1)
 
 -- a fault that says where the text stops
 stops_there : (bytes rest given : List ℕ) (old new : Reading) (e : TextFault) → text_said bytes ≡ behind given (said_by old rest) → said_by old rest ≡ (keys_read new, Some e) → text_said bytes ≡ (given ++ keys_read new, Some e)
 stops_there bytes rest given old new e here is = here ∙ ap (behind given) is
 
-then_fault : (bytes rest given : List ℕ) (old new : Reading) (e : TextFault) → text_said bytes ≡ behind given (said_by old rest) → e ≢ faults.TooMany → e ≢ faults.TooLong
-    → SayFirst (Some bytes) (given ++ keys_read new) → (e ≢ faults.Read → Stops e (keys_read new) (said_by old rest)) → SayThen (Some bytes) (given ++ keys_read new) e
-then_fault bytes rest given old new faults.Memory here many long first stops = first
-then_fault bytes rest given old new faults.Read here many long first stops = first
-then_fault bytes rest given old new faults.TooLong here many long first stops = absurd (long refl)
-then_fault bytes rest given old new faults.TooMany here many long first stops = absurd (many refl)
-then_fault bytes rest given old new (faults.NotAKey line) here many long first stops = stops_there bytes rest given old new (faults.NotAKey line) here (stops (λ is. absurd cc))
-then_fault bytes rest given old new (faults.OutOfRange line) here many long first stops = stops_there bytes rest given old new (faults.OutOfRange line) here (stops (λ is. absurd cc))
+pub text_stops : (bytes before left : Option (List ℕ)) (count : ℕ) (given : List ℕ) (old new : Reading) (e : TextFault) → GoesOn bytes before (PART_BYTES * count) given (line_reached old) (so_far_of old)
+    → Fresh bytes before (PART_BYTES * count) given (line_reached old) (so_far_of old) → keys_read old ≡ [] → ReadsPart before left old new (Err e) → e ≢ faults.TooMany → e ≢ faults.TooLong
+    → SayFirst bytes (given ++ keys_read new) → SayThen bytes left (given ++ keys_read new) e
+text_stops None before left count given old new e goes fresh none reads many long first = tt
+text_stops (Some bytes) None left count given old new e goes fresh none reads many long first = absurd goes
+text_stops (Some bytes) (Some rest) None count given old new e goes fresh none reads many long first = absurd reads.taken
+text_stops (Some bytes) (Some rest) (Some more) count given old new e goes fresh none reads many long first =
+    then_fault e reads.part reads.taken reads.gives many long
+  where
+    here : (part : List ℕ) → rest ≡ part ++ more → text_said bytes ≡ behind given (said_by old (part ++ more))
+    here part taken = goes.0 ∙ ap (said_from given (line_reached old) (so_far_of old)) taken ∙ behind_given given (part ++ more) old none
 
-pub text_stops : (bytes before left : Option (List ℕ)) (n : ℕ) (given : List ℕ) (old new : Reading) (e : TextFault) → GoesOn bytes before n given (line_reached old) (so_far_of old) → keys_read old ≡ []
-    → ReadsPart before left old new (Err e) → e ≢ faults.TooMany → e ≢ faults.TooLong → SayFirst bytes (given ++ keys_read new) → SayThen bytes (given ++ keys_read new) e
-text_stops None before left n given old new e goes none reads many long first = tt
-text_stops (Some bytes) None left n given old new e goes none reads many long first = absurd goes
-text_stops (Some bytes) (Some rest) None n given old new e goes none reads many long first = absurd reads.taken
-text_stops (Some bytes) (Some rest) (Some more) n given old new e goes none reads many long first =
-    then_fault bytes (reads.part ++ more) given old new e (goes.0 ∙ ap (said_from given (line_reached old) (so_far_of old)) reads.taken ∙ behind_given given (reads.part ++ more) old none) many long first reads.gives
+    then_fault : (e : TextFault) (part : List ℕ) → rest ≡ part ++ more → PartGives part (Some more) old new (Err e) → e ≢ faults.TooMany → e ≢ faults.TooLong → SayThen (Some bytes) (Some more) (given ++ keys_read new) e
+    then_fault faults.Memory part taken gives many long =
+        taken_parts (Some bytes) (Some rest) (Some more) count part given (given ++ keys_read new) (line_reached old) (line_reached new) (so_far_of old) (so_far_of new) fresh taken gives.0 (goes_behind given part old new none gives.1)
+    then_fault faults.Read part taken gives many long = first
+    then_fault faults.TooLong part taken gives many long = absurd (long refl)
+    then_fault faults.TooMany part taken gives many long = absurd (many refl)
+    then_fault (faults.NotAKey line) part taken gives many long = stops_there bytes (part ++ more) given old new (faults.NotAKey line) (here part taken) gives
+    then_fault (faults.OutOfRange line) part taken gives many long = stops_there bytes (part ++ more) given old new (faults.OutOfRange line) (here part taken) gives
 
-pub text_too_long : (bytes left : Option (List ℕ)) (n : ℕ) (given : List ℕ) (line : ℕ) (so_far : LineSoFar) → GoesOn bytes left n given line so_far → MAX_BYTES ≤ n → SayThen bytes given faults.TooLong
+pub text_too_long : (bytes left : Option (List ℕ)) (n : ℕ) (given : List ℕ) (line : ℕ) (so_far : LineSoFar) → GoesOn bytes left n given line so_far → MAX_BYTES ≤ n → SayThen bytes left given faults.TooLong
 text_too_long None left n given line so_far goes long = tt
 text_too_long (Some bytes) None n given line so_far goes long = absurd goes
 text_too_long (Some bytes) (Some rest) n given line so_far goes long = (omega (arith, goes.1, long), subst (Begins given) (sym goes.0) (begins given line so_far rest))
 
 -- ---- how much of it was taken
 
-pub takes_part : (bytes before left : Option (List ℕ)) (given : List ℕ) (old new : Reading) (r : Result Bool TextFault) → Fresh bytes before given (line_reached old) (so_far_of old) → ReadsPart before left old new r → TakesText bytes left
-takes_part bytes before left given old new r (front, taken, on) reads = record {
+pub takes_part : (bytes before left : Option (List ℕ)) (n : ℕ) (given : List ℕ) (old new : Reading) (r : Result Bool TextFault) → Fresh bytes before n given (line_reached old) (so_far_of old) → ReadsPart before left old new r → TakesText bytes left
+takes_part bytes before left n given old new r (front, taken, count, on) reads = record {
   before = front;
   last = reads.part;
   taken = Consumes-trans bytes before left front reads.part taken reads.taken;
@@ -137,8 +141,8 @@ takes_part bytes before left given old new r (front, taken, on) reads = record {
   no_fault = (line_reached old, so_far_of old, on);
 }
 
-pub takes_all : (bytes left : Option (List ℕ)) (given : List ℕ) (line : ℕ) (so_far : LineSoFar) → Fresh bytes left given line so_far → TakesText bytes left
-takes_all bytes left given line so_far (front, taken, on) = record {
+pub takes_all : (bytes left : Option (List ℕ)) (n : ℕ) (given : List ℕ) (line : ℕ) (so_far : LineSoFar) → Fresh bytes left n given line so_far → TakesText bytes left
+takes_all bytes left n given line so_far (front, taken, count, on) = record {
   before = front;
   last = [];
   taken = Consumes-trans bytes left left front [] taken (Consumes-nil left);

@@ -6,7 +6,7 @@ use Rattle.rh_key_files.specs.Reading as files
 use Rattle.rh_key_files.specs.declared.fault.KeyFault.{KeyFault}
 use Rattle.rh_key_files.specs.declared.fault.KeyFault.TheVariants as key_faults
 use Rattle.rh_numbers.specs.Grammar.{IsText}
-use Rattle.rh_numbers.specs.Reading.{SayOnly, text_said}
+use Rattle.rh_numbers.specs.Reading.{SayOnly, TakesGoodParts, text_said}
 use Rattle.rh_numbers.specs.declared.fault.TextFault.{TextFault}
 use Rattle.rh_numbers.specs.declared.fault.TextFault.TheVariants as faults
 use Rattle.rh_numbers.specs.declared.limits.TheConstants.{MAX_BYTES, PART_BYTES}
@@ -50,20 +50,21 @@ abbrev pub SayFirst : Option (List ℕ) → List ℕ → Type 0
 SayFirst None keys = Unit {0}
 SayFirst (Some bytes) keys = (more : List ℕ) × ((text_said bytes).0 ≡ keys ++ more)
 
--- Known bytes say these keys, and then comes this fault. A failed read and want of memory may come at any key.
-abbrev pub SayThen : Option (List ℕ) → List ℕ → TextFault → Type 0
-SayThen None keys fault = Unit {0}
-SayThen (Some bytes) keys faults.Read = SayFirst (Some bytes) keys
-SayThen (Some bytes) keys faults.Memory = SayFirst (Some bytes) keys
-SayThen (Some bytes) keys faults.TooLong = (MAX_BYTES ≤ length bytes) × SayFirst (Some bytes) keys
-SayThen (Some bytes) keys faults.TooMany = ⊥
-SayThen (Some bytes) keys fault = text_said bytes ≡ (keys, Some fault)
+-- Known bytes say these keys, and then comes this fault. A failed read may come at any key. Want of memory comes before a part
+-- is read, so that the keys are those of the bytes that were taken.
+abbrev pub SayThen : (bytes left : Option (List ℕ)) → List ℕ → TextFault → Type 0
+SayThen None left keys fault = Unit {0}
+SayThen (Some bytes) left keys faults.Read = SayFirst (Some bytes) keys
+SayThen (Some bytes) left keys faults.Memory = TakesGoodParts (Some bytes) left keys
+SayThen (Some bytes) left keys faults.TooLong = (MAX_BYTES ≤ length bytes) × SayFirst (Some bytes) keys
+SayThen (Some bytes) left keys faults.TooMany = ⊥
+SayThen (Some bytes) left keys fault = text_said bytes ≡ (keys, Some fault)
 
 -- The bytes were a text of keys, and each part was given its keys; or the first fault of the text, which comes after those that
 -- the parts were given, or the first key that its part did not take.
 abbrev pub Splits : {W X : Type 0} (bytes left : Option (List ℕ)) (contents : W → Option (List ℕ)) (old new : List (Part W)) → Result X SplitFault → Type 0
 Splits bytes left contents old new (Ok x) = (keys : List ℕ) × IsTextFrom bytes left keys × EachGot contents old new keys
-Splits bytes left contents old new (Err (Text fault)) = (keys : List ℕ) × SayThen bytes keys fault × EachGot contents old new keys
+Splits bytes left contents old new (Err (Text fault)) = (keys : List ℕ) × SayThen bytes left keys fault × EachGot contents old new keys
 Splits bytes left contents old new (Err (TooMany part)) =
     (front : List ℕ) × (key : ℕ) × SayFirst bytes (front ++ (key ∷ [])) × (part_of (length old) key ≡ part) × EachGot contents old new front × IsFull new part
 Splits bytes left contents old new (Err (Write part)) =

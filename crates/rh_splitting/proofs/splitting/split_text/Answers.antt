@@ -23,7 +23,7 @@ returns-in_err-split_keys-clause-split g c =
 
 pub returns-in_err-split_keys-clause-takes : goal.returns-in_err-split_keys-clause-takes
 returns-in_err-split_keys-clause-takes g c =
-    takes_part _ _ _ _ c.loop.reading c.read_part-outcome.new.self c.read_part-outcome.result c.loop.invariant.going.2 c.read_part-outcome.ensures.part
+    takes_part _ _ _ (8192 * c.loop.counter) _ c.loop.reading c.read_part-outcome.new.self c.read_part-outcome.result c.loop.invariant.going.2 c.read_part-outcome.ensures.part
 
 pub returns-in_err-outcome-clause-split : goal.returns-in_err-outcome-clause-split
 returns-in_err-outcome-clause-split g c =
@@ -36,13 +36,13 @@ returns-in_err-outcome-clause-split g c =
     part_first start _ _ (8192 * c.loop.counter) given.0 c.loop.reading next c.read_part-outcome.result given.1 c.loop.invariant.none c.read_part-outcome.ensures.part (search rules) in
     rw (p.1, p.2) (
       given.0 ++ keys_read next,
-      text_stops start _ _ (8192 * c.loop.counter) given.0 c.loop.reading next e given.1 c.loop.invariant.none c.in_err-outcome.ensures.part (search rules) (search rules) first,
+      text_stops start _ _ c.loop.counter given.0 c.loop.reading next e given.1 given.2 c.loop.invariant.none c.in_err-outcome.ensures.part (search rules) (search rules) first,
       both_given _ c.args.parts.now c.loop.parts c.split_keys.new.parts given.0 (keys_read next) given.3 (search rules),
     )
 
 pub returns-in_err-outcome-clause-takes : goal.returns-in_err-outcome-clause-takes
 returns-in_err-outcome-clause-takes g c =
-    takes_part _ _ _ _ c.loop.reading c.read_part-outcome.new.self c.read_part-outcome.result c.loop.invariant.going.2 c.read_part-outcome.ensures.part
+    takes_part _ _ _ (8192 * c.loop.counter) _ c.loop.reading c.read_part-outcome.new.self c.read_part-outcome.result c.loop.invariant.going.2 c.read_part-outcome.ensures.part
 
 pub returns-then-not-branch-clause-split : goal.returns-then-not-branch-clause-split
 returns-then-not-branch-clause-split g c =
@@ -55,7 +55,7 @@ returns-then-not-branch-clause-split g c =
 
 pub returns-then-not-branch-clause-takes : goal.returns-then-not-branch-clause-takes
 returns-then-not-branch-clause-takes g c =
-    takes_part _ _ _ _ c.loop.reading c.read_part-outcome.new.self c.read_part-outcome.result c.loop.invariant.going.2 c.read_part-outcome.ensures.part
+    takes_part _ _ _ (8192 * c.loop.counter) _ c.loop.reading c.read_part-outcome.new.self c.read_part-outcome.result c.loop.invariant.going.2 c.read_part-outcome.ensures.part
 
 pub loop-preserved : goal.loop-preserved
 loop-preserved g c =
@@ -65,7 +65,7 @@ loop-preserved g c =
     let next = c.read_part-outcome.new.self in
     let keys = given.0 ++ keys_read next in
     let goes = text_goes_on start _ now (8192 * c.loop.counter) given.0 c.loop.reading next c.in_ok-outcome.field-0 (search rules) given.1 c.loop.invariant.none c.in_ok-outcome.ensures.part in
-    let fresh = still_fresh start _ now given.0 c.loop.reading next c.in_ok-outcome.field-0 (search rules) given.2 c.loop.invariant.none c.in_ok-outcome.ensures.part in
+    let fresh = still_fresh start _ now (8192 * c.loop.counter) given.0 c.loop.reading next c.in_ok-outcome.field-0 (search rules) given.2 c.loop.invariant.none c.in_ok-outcome.ensures.part in
     let place : 8192 * c.loop.counter + PART_BYTES ≡ 8192 * (c.loop.counter + 1) = omega arith in
     record {
       going = (
@@ -73,8 +73,9 @@ loop-preserved g c =
         subst (λ n. GoesOn start now n keys (line_reached c.clear.new.self) (so_far_of c.clear.new.self)) place
             (subst (λ l. GoesOn start now (8192 * c.loop.counter + PART_BYTES) keys l (so_far_of c.clear.new.self)) (sym c.clear.ensures.line)
             (subst (λ s. GoesOn start now (8192 * c.loop.counter + PART_BYTES) keys (line_reached next) s) (sym c.clear.ensures.so_far) goes)),
-        subst (λ l. Fresh start now keys l (so_far_of c.clear.new.self)) (sym c.clear.ensures.line)
-            (subst (λ s. Fresh start now keys (line_reached next) s) (sym c.clear.ensures.so_far) fresh),
+        subst (λ n. Fresh start now n keys (line_reached c.clear.new.self) (so_far_of c.clear.new.self)) place
+            (subst (λ l. Fresh start now (8192 * c.loop.counter + PART_BYTES) keys l (so_far_of c.clear.new.self)) (sym c.clear.ensures.line)
+            (subst (λ s. Fresh start now (8192 * c.loop.counter + PART_BYTES) keys (line_reached next) s) (sym c.clear.ensures.so_far) fresh)),
         both_given _ c.args.parts.now c.loop.parts c.split_keys.new.parts given.0 (keys_read next) given.3 (search rules),
       );
       none = c.clear.ensures.keys;
@@ -89,4 +90,4 @@ returns-clause-split g c =
     (given.0, text_too_long _ _ (8192 * c.loop.counter) given.0 _ _ given.1 whole, given.3)
 
 pub returns-clause-takes : goal.returns-clause-takes
-returns-clause-takes g c = takes_all _ _ c.loop.invariant.going.0 _ _ c.loop.invariant.going.2
+returns-clause-takes g c = takes_all _ _ (8192 * c.loop.counter) c.loop.invariant.going.0 _ _ c.loop.invariant.going.2

@@ -10,7 +10,7 @@ abbrev pub invariant-loop : goal.invariant-loop
 invariant-loop g l = record {
   going : (keys : List ℕ)
       × GoesOn (g.R.Read.remaining (inner_of l.fn.reader)) (g.R.Read.remaining (inner_of l.reader)) (8192 * l.counter) keys (line_reached l.reading) (so_far_of l.reading)
-      × Fresh (g.R.Read.remaining (inner_of l.fn.reader)) (g.R.Read.remaining (inner_of l.reader)) keys (line_reached l.reading) (so_far_of l.reading)
+      × Fresh (g.R.Read.remaining (inner_of l.fn.reader)) (g.R.Read.remaining (inner_of l.reader)) (8192 * l.counter) keys (line_reached l.reading) (so_far_of l.reading)
       × EachGot g.W.Write.contents l.fn.parts l.parts keys;
   none : keys_read l.reading ≡ [];
   line : line_reached l.reading ≤ 1 + 8192 * l.counter;
