@@ -158,6 +158,28 @@ fn each_read_fails(rt: HostRuntime) -> Result<(), Fail> {
     Ok(())
 }
 
+// The first read gives all of these bytes, and the second one fails.
+const BEFORE_A_FAILED_READ: &[(&[u8], TextFault)] = &[
+    (b"1\nx\n", TextFault::NotAKey { line: 2 }),
+    (b"4611686018427387903\n1", TextFault::OutOfRange { line: 1 }),
+    (b"1\nx", TextFault::Read),
+    (b"1\n4611686018427387903", TextFault::Read),
+    (b"1\n2\n", TextFault::Read),
+];
+
+#[test]
+fn whole_lines_before_a_failed_read_are_tested(rt: HostRuntime) {
+    for &(text, fault) in BEFORE_A_FAILED_READ {
+        let mut reader = Counted::new(FaultyReader::new(text, 2));
+        assert_eq!(rt;
+            read_numbers(rt.alloc(), &mut reader).err(),
+            Some(fault),
+            "{text:?}"
+        );
+        assert_eq!(rt; reader.failures(), 1);
+    }
+}
+
 const WRITTEN: &[u64] = &[17, 0, 4611686018427387902, 17];
 
 const WRITTEN_TEXT: &[u8] = b"17\n0\n4611686018427387902\n17\n";

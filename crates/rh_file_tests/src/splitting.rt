@@ -152,6 +152,24 @@ fn each_read_fails(rt: HostRuntime) {
     }
 }
 
+// The keys before a failed read are given to their parts, and a bad line before it is told.
+#[test]
+fn whole_lines_before_a_failed_read_are_split(rt: HostRuntime) {
+    for (text, fault) in [
+        (b"5\n0\n7".as_slice(), TextFault::Read),
+        (b"5\n0\nx\n7", TextFault::NotAKey { line: 3 }),
+    ] {
+        let mut parts = in_memory(rt.alloc(), 3);
+        let mut reader = Counted::new(FaultyReader::new(text, 2));
+        let outcome = split_text(rt.alloc(), &mut reader, &mut parts);
+        assert_eq!(rt; outcome, Err(SplitFault::Text(fault)));
+        assert_eq!(rt; reader.failures(), 1);
+        for (part, count) in parts.iter().zip([1, 0, 0, 1]) {
+            assert_eq!(rt; part.count(), count);
+        }
+    }
+}
+
 // The last part writes three keys.
 #[test]
 fn each_write_fails(rt: HostRuntime) {

@@ -20,6 +20,11 @@ Packs bytes left old new (Ok x) = (keys : List ℕ) × IsTextReadFrom bytes left
 Packs bytes left old new (Err Write) = (keys : List ℕ) × IsTextReadFrom bytes left keys × AppendsFront old new (spelling Second keys)
 Packs bytes left old new (Err (Text fault)) = IsFirstTextFault bytes fault
 
+-- the fault that was found in the text, if one was
+abbrev pub fault_in_text : {X : Type 0} → Result X PackFault → Option TextFault
+fault_in_text (Err (Text fault)) = Some fault
+fault_in_text r = None
+
 -- the answer where all went well
 abbrev pub packed : Result (Unit {0}) PackFault
 packed = Ok tt

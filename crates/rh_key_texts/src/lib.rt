@@ -6,8 +6,8 @@
 //!
 //! - `pack`: where it answers `Ok`, the bytes read were a text of some keys, and the writer grew by
 //!   the key file of exactly these. On `Write` it grew by a front of that file, on a refused text
-//!   by nothing, and the fault is the first in the text. Want of memory is told only where nothing that
-//!   was taken holds a fault.
+//!   by nothing, and the fault is the first in the text. Want of memory and a failed read are told only
+//!   where nothing that was taken holds a fault.
 //! - `list_keys`, `list_snapshot`: the same of a key file of any number of keys and their text, in order,
 //!   and of a snapshot and the text of its keys in rising order.
 //! - Of these, `Read` and `Write` come only where the device's count of failures rose. The lists take

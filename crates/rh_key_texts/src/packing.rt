@@ -1,9 +1,9 @@
 //! The command `pack`: a text of numbers becomes a key file.
 
-ghost use Rattle.std.specs.Prelude.{◌≡◌, ◌≢◌, Err, IfErr, IsErrOf, OnOk};
+ghost use Rattle.std.specs.Prelude.{◌≡◌, ◌≢◌, IfErr, IsErrOf, OnOk};
 ghost use Rattle.rh_bytes.specs.Counting.{Rose, failures_of, inner_of};
-ghost use Rattle.rh_numbers.specs.Reading.{TakesFewParts, TakesToFault};
-ghost use Rattle.rh_key_texts.specs.Pack.{Packs};
+ghost use Rattle.rh_numbers.specs.Reading.{NoReadFailed, TakesFew, TakesFewParts, TakesToFault};
+ghost use Rattle.rh_key_texts.specs.Pack.{Packs, fault_in_text};
 
 use rh_bytes::{Counted, WriteFault};
 use rh_key_files::write_keys;
@@ -59,6 +59,8 @@ pub fn pack<R: Read, W: Write>(
     ensures untouched { IfErr result (λ fault. fault ≢ PackFault.Write → writer.new ≡ writer.old) }
     ensures takes { IfErr result (λ fault. fault ≢ PackFault.Write →
         TakesToFault (R.remaining (inner_of reader.old)) (R.remaining (inner_of reader.new))) }
+    ensures tested { IsErrOf result (PackFault.Text TextFault.Read) →
+        TakesFew (R.remaining (inner_of reader.old)) (R.remaining (inner_of reader.new)) }
     ensures memory { IsErrOf result (PackFault.Text TextFault.Memory) →
         TakesFewParts (R.remaining (inner_of reader.old)) (R.remaining (inner_of reader.new)) }
     ensures read { IsErrOf result (PackFault.Text TextFault.Read) →
@@ -66,7 +68,7 @@ pub fn pack<R: Read, W: Write>(
     ensures write { IsErrOf result PackFault.Write →
         Rose (failures_of writer.old) (failures_of writer.new) }
     ensures written { OnOk result (failures_of writer.new ≡ failures_of writer.old) }
-    ensures fine { result ≢ Err (PackFault.Text TextFault.Read) →
+    ensures fine { NoReadFailed (fault_in_text result) →
         failures_of reader.new ≡ failures_of reader.old }
 {
     let keys = read_numbers(alloc, reader)?;

@@ -10,7 +10,8 @@ use Rattle.rh_numbers.specs.declared.limits.TheConstants.{MAX_BYTES, PART_BYTES}
 use Rattle.rh_numbers.specs.declared.line_so_far.LineSoFar.{LineSoFar}
 use Rattle.rh_numbers.specs.declared.reading.Reading.{Reading}
 use Rattle.rh_numbers.specs.Parts.{LeadsOn, PartGives, keys_read, line_reached, said_by, so_far_of}
-use Rattle.rh_numbers.specs.Reading.{TextFails, ReadsText, Said, Stops, said_from, text_said, with_line}
+use Rattle.rh_bytes.specs.Input.{fault_of}
+use Rattle.rh_numbers.specs.Reading.{NoReadFailed, TextFails, ReadsText, Said, Stops, said_from, text_said, with_line}
 use Rattle.rh_numbers.proofs.Fronts.{all_said, the_fault, too_many_said}
 
 -- the byte at a position, with what stands before and after it
@@ -73,6 +74,12 @@ part_stops part left old new (OutOfRange line) keys said found known = known
 pub nothing_taken : {X : Type 0} (part : List ℕ) (left : Option (List ℕ)) (old new : Reading) (e : TextFault) → IsErrOf {T = X} (Err e) faults.Memory → PartGives part left old new (Err e) → (part ≡ []) × LeadsOn part old new
 nothing_taken part left old new e memory gives =
     let same : e ≡ faults.Memory = cc in
+    subst (λ f. PartGives part left old new (Err f)) same gives
+
+-- before a failed read nothing was wrong
+pub good_before : {X : Type 0} (part : List ℕ) (left : Option (List ℕ)) (old new : Reading) (e : TextFault) → IsErrOf {T = X} (Err e) faults.Read → PartGives part left old new (Err e) → LeadsOn part old new
+good_before part left old new e read gives =
+    let same : e ≡ faults.Read = cc in
     subst (λ f. PartGives part left old new (Err f)) same gives
 
 -- what a part gives where the text goes on, and where it ends
@@ -144,3 +151,15 @@ pub is_no_limit : {X : Type 0} (e : TextFault) (keys : List ℕ) (said : Said) (
 is_no_limit e keys said r is h long =
     let same : e ≡ TooLong = cc in
     subst (λ e. Stops e keys said) same h
+
+-- A fault in the bytes may stand before a failed read.
+no_silence : (e : TextFault) (keys : List ℕ) (said : Said) → Stops e keys said → NoReadFailed (Some e) → ⊥
+no_silence faults.Memory keys said h fine = h
+no_silence faults.Read keys said h fine = fine
+no_silence TooLong keys said h fine = h
+no_silence TooMany keys said h fine = fine
+no_silence (NotAKey line) keys said h fine = fine
+no_silence (OutOfRange line) keys said h fine = fine
+
+pub before_failure : {X : Type 0} (e : TextFault) (keys : List ℕ) (said : Said) (r : Result X TextFault) → r ≡ Err e → Stops e keys said → NoReadFailed (fault_of r) → ⊥
+before_failure e keys said r is h fine = no_silence e keys said h (subst (λ r. NoReadFailed (fault_of r)) is fine)

@@ -5,7 +5,7 @@ use Rattle.std.proofs.KnownBytes.{Consumes-nil, Consumes-trans}
 use Rattle.rh_layout.specs.declared.limits.TheConstants.{MAX_KEYS}
 use Rattle.rh_numbers.specs.declared.line_so_far.LineSoFar.{LineSoFar}
 use Rattle.rh_numbers.specs.declared.limits.TheConstants.{PART_BYTES}
-use Rattle.rh_numbers.specs.Reading.{TakesGoodParts, TakesToFault, said_from, text_said}
+use Rattle.rh_numbers.specs.Reading.{TakesGood, TakesGoodParts, TakesToFault, said_from, text_said}
 
 -- Whatever comes after these bytes, reading goes on from here.
 abbrev pub ReadsOn : (before keys : List ℕ) (line : ℕ) → LineSoFar → Type 0
@@ -35,6 +35,12 @@ taken_to_fault a b c n part keys line so_far (before, taken, long, on) many read
 -- all that may be read was read
 pub taken_to_limit : (a b : Option (List ℕ)) (n : ℕ) (keys : List ℕ) (line : ℕ) (so_far : LineSoFar) → Fresh a b n keys line so_far → length keys ≤ MAX_KEYS → TakesToFault a b
 taken_to_limit a b n keys line so_far fresh many = taken_to_fault a b b n [] keys line so_far fresh many (Consumes-nil b) (omega arith)
+
+pub taken_good : (a b c : Option (List ℕ)) (n : ℕ) (part keys later : List ℕ) (line next : ℕ) (so_far then : LineSoFar) → Fresh a b n keys line so_far → Consumes b c part
+    → ((rest : List ℕ) → said_from keys line so_far (part ++ rest) ≡ said_from later next then rest) → TakesGood a c later
+taken_good a b c n part keys later line next so_far then fresh read step =
+    let after = fresh_after a b c n (length part) part keys later line next so_far then fresh read refl step in
+    record { taken = after.0; consumed = after.1; no_fault = (next, then, after.3) }
 
 -- nothing was taken behind the whole parts
 pub taken_parts : (a b c : Option (List ℕ)) (count : ℕ) (part keys later : List ℕ) (line next : ℕ) (so_far then : LineSoFar) → Fresh a b (PART_BYTES * count) keys line so_far → Consumes b c part → part ≡ []

@@ -27,12 +27,12 @@ abbrev pub LeadsOn : (part : List ℕ) (old new : Reading) → Type 0
 LeadsOn part old new = (rest : List ℕ) → said_by old (part ++ rest) ≡ said_by new rest
 
 -- What came of a part. True says that the text may go on; then that was a whole part. Where memory was refused nothing was read.
--- Of bytes that are not known, and of a failed read, nothing is told.
+-- Where a read failed, what came before that holds no fault. Of bytes that are not known nothing else is told.
 abbrev pub PartGives : (part : List ℕ) (left : Option (List ℕ)) (old new : Reading) → Result Bool TextFault → Type 0
 PartGives part left old new (Ok true) = (length part ≡ PART_BYTES) × LeadsOn part old new
 PartGives part left old new (Ok false) = IsAtEnd left × (said_by old part ≡ (keys_read new, None))
 PartGives part left old new (Err Memory) = (part ≡ []) × LeadsOn part old new
-PartGives part left old new (Err Read) = Unit {0}
+PartGives part left old new (Err Read) = LeadsOn part old new
 PartGives part left old new (Err e) = MatchOption left (Unit {0}) (λ rest. Stops e (keys_read new) (said_by old (part ++ rest)))
 
 -- A part was taken of the bytes, and this came of it.

@@ -94,8 +94,8 @@ Stops TooMany keys said = (MAX_KEYS ≤ length keys) × (key : ℕ) × (more : L
 
 -- ---- what is said of a reader's bytes
 
--- A failed read and want of memory say nothing of the bytes behind those that were taken (of these `TakesFewParts` speaks), and a
--- text that is too long may have faults too.
+-- A failed read and want of memory say nothing of the bytes behind those that were taken (of these `TakesFew` and `TakesFewParts`
+-- speak), and a text that is too long may have faults too.
 abbrev pub TextFails : TextFault → List ℕ → Type 0
 TextFails faults.Read bytes = Unit {0}
 TextFails faults.Memory bytes = Unit {0}
@@ -116,6 +116,13 @@ abbrev pub IsTextReadFrom : Option (List ℕ) → Option (List ℕ) → List ℕ
 IsTextReadFrom None new keys = Unit {0}
 IsTextReadFrom (Some bytes) None keys = ⊥
 IsTextReadFrom (Some bytes) (Some rest) keys = IsKeyText bytes keys × (rest ≡ [])
+
+-- What a call tells says that no read failed. A bad line and a key too many do not: they may stand before a failed read.
+abbrev pub NoReadFailed : Option TextFault → Type 0
+NoReadFailed None = Unit {0}
+NoReadFailed (Some faults.Memory) = Unit {0}
+NoReadFailed (Some TooLong) = Unit {0}
+NoReadFailed (Some fault) = ⊥
 
 -- These bytes say these keys, and reading goes on after them, whatever comes: they hold no fault.
 abbrev pub SayOnly : (bytes keys : List ℕ) → Type 0
@@ -144,6 +151,10 @@ pub record TakesGood (old new : Option (List ℕ)) (keys : List ℕ) : Type 0 wh
 abbrev pub TakesGoodParts : (old new : Option (List ℕ)) (keys : List ℕ) → Type 0
 TakesGoodParts old new keys = (good : TakesGood old new keys) × (count : ℕ) × (length good.taken ≡ PART_BYTES * count)
 
--- Whole parts were taken, which hold no fault, nor too many keys.
+-- The bytes that were taken hold no fault, nor too many keys.
+abbrev pub TakesFew : (old new : Option (List ℕ)) → Type 0
+TakesFew old new = (keys : List ℕ) × (length keys ≤ MAX_KEYS) × TakesGood old new keys
+
+-- And they are whole parts.
 abbrev pub TakesFewParts : (old new : Option (List ℕ)) → Type 0
 TakesFewParts old new = (keys : List ℕ) × (length keys ≤ MAX_KEYS) × TakesGoodParts old new keys

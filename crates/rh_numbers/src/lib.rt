@@ -9,8 +9,8 @@
 //! - `Read` comes only where the reader's count of failures rose, and `text too long` only of a
 //!   text of 2^63 bytes or more.
 //! - Where a text is refused, all that was taken but for a last part of at most 8,192 bytes holds no
-//!   fault. Want of memory is told only before such a part is read: then nothing that was taken holds
-//!   a fault.
+//!   fault. Want of memory is told only before such a part is read, and a failed read only behind good
+//!   lines: then nothing that was taken holds a fault.
 //! - `Reading::read_part`: of the next 8,192 bytes the keys were added, in order, up to the first
 //!   fault, and the line goes on after the part. So texts of any length are read by whoever clears
 //!   the keys. Where memory is refused nothing is read. `new`, `keys` and `clear` are exact.

@@ -8,7 +8,7 @@ ghost use Rattle.rh_layout.specs.declared.limits.TheConstants.{MAX_KEYS};
 use crate::fault::TextFault;
 use crate::limits::PART_BYTES;
 use crate::line_so_far::LineSoFar;
-use rh_bytes::{Counted, fill};
+use rh_bytes::{Counted, Filled, fill_front};
 use rh_layout::{MAX_KEY, MAX_KEYS};
 use std::alloc::Global;
 use std::io::Read;
@@ -28,11 +28,12 @@ pub struct Reading {
 }
 
 impl Reading {
-    ghost use Rattle.std.specs.Prelude.{◌≡◌, ◌≢◌, ◌≤◌, ◌<◌, ◌+◌, ◌^◌, ℕ, List, [], ◌∷◌, ◌++◌};
-    ghost use Rattle.std.specs.Prelude.{IsErrOf, MatchResult, None, OnOk, Err};
+    ghost use Rattle.std.specs.Prelude.{◌≡◌, ◌≤◌, ◌<◌, ◌+◌, ◌^◌, ℕ, List, [], ◌∷◌, ◌++◌};
+    ghost use Rattle.std.specs.Prelude.{IsErrOf, MatchResult, None, OnOk};
     ghost use Rattle.rh_bytes.specs.Counting.{Rose, failures_of, inner_of};
+    ghost use Rattle.rh_bytes.specs.Input.{fault_of};
     ghost use Rattle.rh_numbers.specs.Parts.{ReadsPart, keys_read, line_reached, said_by, so_far_of};
-    ghost use Rattle.rh_numbers.specs.Reading.{Stops, with_key, with_line};
+    ghost use Rattle.rh_numbers.specs.Reading.{NoReadFailed, Stops, with_key, with_line};
     ghost use Rattle.rh_numbers.specs.declared.limits.TheConstants.{PART_BYTES};
 
     /// Nothing was read yet.
@@ -77,6 +78,7 @@ impl Reading {
     /// Reads the next 8,192 bytes and adds their keys to those that are held, up to the first fault,
     /// and tells whether the text may go on. Where it ends, so does its last line.
     ///
+    /// Where a read fails, the lines that came whole before that are taken first.
     /// Room for as many keys as such bytes may say is taken before they are read, so that no fault of
     /// a text is told as want of memory.
     ///
@@ -89,20 +91,20 @@ impl Reading {
         ensures line { OnOk result (line_reached self.new ≤ line_reached self.old + PART_BYTES) }
         ensures many { length (keys_read self.new) ≤ length (keys_read self.old) + PART_BYTES + 1 }
         ensures full { IsErrOf result TextFault.TooMany → length (keys_read self.new) ≡ MAX_KEYS }
-        ensures unread { IsErrOf result TextFault.Read → keys_read self.new ≡ keys_read self.old }
         ensures not_too_long { IsErrOf result TextFault.TooLong → ⊥ }
         ensures read { IsErrOf result TextFault.Read →
             Rose (failures_of reader.old) (failures_of reader.new) }
-        ensures fine { result ≢ Err TextFault.Read →
+        ensures fine { NoReadFailed (fault_of result) →
             failures_of reader.new ≡ failures_of reader.old }
     {
         self.keys.reserve(PART_BYTES + 1)?;
         let mut part = [0; PART_BYTES];
-        let Some(n) = fill(reader, &mut part) else {
+        let Filled { count, failed } = fill_front(reader, &mut part);
+        self.read(&part[..count])?;
+        if failed {
             return Err(TextFault::Read);
-        };
-        self.read(&part[..n])?;
-        if n < PART_BYTES {
+        }
+        if count < PART_BYTES {
             self.end_line()?;
             return Ok(false);
         }

@@ -1,10 +1,12 @@
 //! A whole text of numbers.
 
-ghost use Rattle.std.specs.Prelude.{◌≡◌, ◌≢◌, ◌≤◌, length, All, Err, IfOk, IsErrOf, OnErr};
+ghost use Rattle.std.specs.Prelude.{◌≡◌, ◌≤◌, length, All, IfOk, IsErrOf, OnErr};
 ghost use Rattle.rh_layout.specs.Key.{IsKey};
 ghost use Rattle.rh_layout.specs.declared.limits.TheConstants.{MAX_KEYS};
 ghost use Rattle.rh_bytes.specs.Counting.{Rose, failures_of, inner_of};
-ghost use Rattle.rh_numbers.specs.Reading.{IsTextReadFrom, ReadsText, TakesFewParts, TakesToFault};
+ghost use Rattle.rh_bytes.specs.Input.{fault_of};
+ghost use Rattle.rh_numbers.specs.Reading.{IsTextReadFrom, NoReadFailed, ReadsText};
+ghost use Rattle.rh_numbers.specs.Reading.{TakesFew, TakesFewParts, TakesToFault};
 
 use crate::fault::TextFault;
 use crate::limits::MAX_READS;
@@ -24,11 +26,13 @@ pub fn read_numbers<R: Read>(alloc: Global, reader: &mut Counted<R>) -> Result<V
     ensures few { IfOk result (λ v. length v.items ≤ MAX_KEYS) }
     ensures takes { OnErr result (TakesToFault (R.remaining (inner_of reader.old))
         (R.remaining (inner_of reader.new))) }
+    ensures tested { IsErrOf result TextFault.Read →
+        TakesFew (R.remaining (inner_of reader.old)) (R.remaining (inner_of reader.new)) }
     ensures memory { IsErrOf result TextFault.Memory →
         TakesFewParts (R.remaining (inner_of reader.old)) (R.remaining (inner_of reader.new)) }
     ensures read { IsErrOf result TextFault.Read →
         Rose (failures_of reader.old) (failures_of reader.new) }
-    ensures fine { result ≢ Err TextFault.Read → failures_of reader.new ≡ failures_of reader.old }
+    ensures fine { NoReadFailed (fault_of result) → failures_of reader.new ≡ failures_of reader.old }
 {
     let mut reading = Reading::new(alloc);
     for _ in 0..MAX_READS {

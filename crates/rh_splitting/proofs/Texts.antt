@@ -11,7 +11,7 @@ use Rattle.rh_numbers.specs.Reading.{Said, Stops, said_from, text_said}
 use Rattle.rh_numbers.proofs.Fronts.{Begins, begins, behind, said_behind}
 use Rattle.rh_numbers.proofs.Meaning.{any_text_read}
 use Rattle.rh_numbers.proofs.Parts.{GoesOn, goes_on}
-use Rattle.rh_numbers.proofs.Taken.{Fresh, fresh_after, taken_parts}
+use Rattle.rh_numbers.proofs.Taken.{Fresh, fresh_after, taken_good, taken_parts}
 use Rattle.rh_parts.specs.Parts.{part_of}
 use Rattle.rh_splitting.specs.declared.fault.SplitFault.{SplitFault}
 use Rattle.rh_splitting.specs.declared.fault.SplitFault.TheVariants as faults_of
@@ -45,26 +45,26 @@ stops_begins (faults.OutOfRange line) keys said h = ([], ap (λ s. s.0) h ∙ sy
 stops_begins faults.TooMany keys said (full, key, more, is) = (key ∷ more, is)
 
 -- the keys of a part are said first behind those before it, whatever came of it
-part_begins : (part rest : List ℕ) (old new : Reading) (r : Result Bool TextFault) → PartGives part (Some rest) old new r → (r ≡ Err faults.Read → keys_read new ≡ []) → Begins (keys_read new) (said_by old (part ++ rest))
-part_begins part rest old new (Ok true) gives unread = subst (Begins (keys_read new)) (sym (gives.1 rest)) (begins (keys_read new) (line_reached new) (so_far_of new) rest)
-part_begins part rest old new (Ok false) gives unread =
+part_begins : (part rest : List ℕ) (old new : Reading) (r : Result Bool TextFault) → PartGives part (Some rest) old new r → Begins (keys_read new) (said_by old (part ++ rest))
+part_begins part rest old new (Ok true) gives = subst (Begins (keys_read new)) (sym (gives.1 rest)) (begins (keys_read new) (line_reached new) (so_far_of new) rest)
+part_begins part rest old new (Ok false) gives =
     let whole : part ++ rest ≡ part = ap (λ l. part ++ l) gives.0 ∙ append-nil part in
     ([], ap (λ s. s.0) (ap (said_by old) whole ∙ gives.1) ∙ sym (append-nil (keys_read new)))
-part_begins part rest old new (Err faults.Read) gives unread = subst (λ k. Begins k (said_by old (part ++ rest))) (sym (unread refl)) ((said_by old (part ++ rest)).0, refl)
-part_begins part rest old new (Err faults.Memory) gives unread = subst (Begins (keys_read new)) (sym (gives.1 rest)) (begins (keys_read new) (line_reached new) (so_far_of new) rest)
-part_begins part rest old new (Err faults.TooLong) gives unread = stops_begins faults.TooLong (keys_read new) (said_by old (part ++ rest)) gives
-part_begins part rest old new (Err faults.TooMany) gives unread = stops_begins faults.TooMany (keys_read new) (said_by old (part ++ rest)) gives
-part_begins part rest old new (Err (faults.NotAKey line)) gives unread = stops_begins (faults.NotAKey line) (keys_read new) (said_by old (part ++ rest)) gives
-part_begins part rest old new (Err (faults.OutOfRange line)) gives unread = stops_begins (faults.OutOfRange line) (keys_read new) (said_by old (part ++ rest)) gives
+part_begins part rest old new (Err faults.Read) gives = subst (Begins (keys_read new)) (sym (gives rest)) (begins (keys_read new) (line_reached new) (so_far_of new) rest)
+part_begins part rest old new (Err faults.Memory) gives = subst (Begins (keys_read new)) (sym (gives.1 rest)) (begins (keys_read new) (line_reached new) (so_far_of new) rest)
+part_begins part rest old new (Err faults.TooLong) gives = stops_begins faults.TooLong (keys_read new) (said_by old (part ++ rest)) gives
+part_begins part rest old new (Err faults.TooMany) gives = stops_begins faults.TooMany (keys_read new) (said_by old (part ++ rest)) gives
+part_begins part rest old new (Err (faults.NotAKey line)) gives = stops_begins (faults.NotAKey line) (keys_read new) (said_by old (part ++ rest)) gives
+part_begins part rest old new (Err (faults.OutOfRange line)) gives = stops_begins (faults.OutOfRange line) (keys_read new) (said_by old (part ++ rest)) gives
 
 pub part_first : (bytes before left : Option (List ℕ)) (n : ℕ) (given : List ℕ) (old new : Reading) (r : Result Bool TextFault) → GoesOn bytes before n given (line_reached old) (so_far_of old) → keys_read old ≡ []
-    → ReadsPart before left old new r → (r ≡ Err faults.Read → keys_read new ≡ []) → SayFirst bytes (given ++ keys_read new)
-part_first None before left n given old new r goes none reads unread = tt
-part_first (Some bytes) None left n given old new r goes none reads unread = absurd goes
-part_first (Some bytes) (Some rest) None n given old new r goes none reads unread = absurd reads.taken
-part_first (Some bytes) (Some rest) (Some more) n given old new r goes none reads unread =
+    → ReadsPart before left old new r → SayFirst bytes (given ++ keys_read new)
+part_first None before left n given old new r goes none reads = tt
+part_first (Some bytes) None left n given old new r goes none reads = absurd goes
+part_first (Some bytes) (Some rest) None n given old new r goes none reads = absurd reads.taken
+part_first (Some bytes) (Some rest) (Some more) n given old new r goes none reads =
     let here : text_said bytes ≡ behind given (said_by old (reads.part ++ more)) = goes.0 ∙ ap (said_from given (line_reached old) (so_far_of old)) reads.taken ∙ behind_given given (reads.part ++ more) old none in
-    subst (Begins (given ++ keys_read new)) (sym here) (begins_behind given (keys_read new) (said_by old (reads.part ++ more)) (part_begins reads.part more old new r reads.gives unread))
+    subst (Begins (given ++ keys_read new)) (sym here) (begins_behind given (keys_read new) (said_by old (reads.part ++ more)) (part_begins reads.part more old new r reads.gives))
 
 -- of what is said first a front is said first
 pub first_of_them : (bytes : Option (List ℕ)) (given keys front : List ℕ) (key : ℕ) (more : List ℕ) → keys ≡ front ++ (key ∷ more) → SayFirst bytes (given ++ keys) → SayFirst bytes ((given ++ front) ++ (key ∷ []))
@@ -104,12 +104,11 @@ stops_there : (bytes rest given : List ℕ) (old new : Reading) (e : TextFault) 
 stops_there bytes rest given old new e here is = here ∙ ap (behind given) is
 
 pub text_stops : (bytes before left : Option (List ℕ)) (count : ℕ) (given : List ℕ) (old new : Reading) (e : TextFault) → GoesOn bytes before (PART_BYTES * count) given (line_reached old) (so_far_of old)
-    → Fresh bytes before (PART_BYTES * count) given (line_reached old) (so_far_of old) → keys_read old ≡ [] → ReadsPart before left old new (Err e) → e ≢ faults.TooMany → e ≢ faults.TooLong
-    → SayFirst bytes (given ++ keys_read new) → SayThen bytes left (given ++ keys_read new) e
-text_stops None before left count given old new e goes fresh none reads many long first = tt
-text_stops (Some bytes) None left count given old new e goes fresh none reads many long first = absurd goes
-text_stops (Some bytes) (Some rest) None count given old new e goes fresh none reads many long first = absurd reads.taken
-text_stops (Some bytes) (Some rest) (Some more) count given old new e goes fresh none reads many long first =
+    → Fresh bytes before (PART_BYTES * count) given (line_reached old) (so_far_of old) → keys_read old ≡ [] → ReadsPart before left old new (Err e) → e ≢ faults.TooMany → e ≢ faults.TooLong → SayThen bytes left (given ++ keys_read new) e
+text_stops None before left count given old new e goes fresh none reads many long = tt
+text_stops (Some bytes) None left count given old new e goes fresh none reads many long = absurd goes
+text_stops (Some bytes) (Some rest) None count given old new e goes fresh none reads many long = absurd reads.taken
+text_stops (Some bytes) (Some rest) (Some more) count given old new e goes fresh none reads many long =
     then_fault e reads.part reads.taken reads.gives many long
   where
     here : (part : List ℕ) → rest ≡ part ++ more → text_said bytes ≡ behind given (said_by old (part ++ more))
@@ -118,7 +117,8 @@ text_stops (Some bytes) (Some rest) (Some more) count given old new e goes fresh
     then_fault : (e : TextFault) (part : List ℕ) → rest ≡ part ++ more → PartGives part (Some more) old new (Err e) → e ≢ faults.TooMany → e ≢ faults.TooLong → SayThen (Some bytes) (Some more) (given ++ keys_read new) e
     then_fault faults.Memory part taken gives many long =
         taken_parts (Some bytes) (Some rest) (Some more) count part given (given ++ keys_read new) (line_reached old) (line_reached new) (so_far_of old) (so_far_of new) fresh taken gives.0 (goes_behind given part old new none gives.1)
-    then_fault faults.Read part taken gives many long = first
+    then_fault faults.Read part taken gives many long =
+        taken_good (Some bytes) (Some rest) (Some more) (PART_BYTES * count) part given (given ++ keys_read new) (line_reached old) (line_reached new) (so_far_of old) (so_far_of new) fresh taken (goes_behind given part old new none gives)
     then_fault faults.TooLong part taken gives many long = absurd (long refl)
     then_fault faults.TooMany part taken gives many long = absurd (many refl)
     then_fault (faults.NotAKey line) part taken gives many long = stops_there bytes (part ++ more) given old new (faults.NotAKey line) (here part taken) gives

@@ -6,7 +6,7 @@ use Rattle.rh_key_files.specs.Reading as files
 use Rattle.rh_key_files.specs.declared.fault.KeyFault.{KeyFault}
 use Rattle.rh_key_files.specs.declared.fault.KeyFault.TheVariants as key_faults
 use Rattle.rh_numbers.specs.Grammar.{IsText}
-use Rattle.rh_numbers.specs.Reading.{SayOnly, TakesGoodParts, text_said}
+use Rattle.rh_numbers.specs.Reading.{SayOnly, TakesGood, TakesGoodParts, text_said}
 use Rattle.rh_numbers.specs.declared.fault.TextFault.{TextFault}
 use Rattle.rh_numbers.specs.declared.fault.TextFault.TheVariants as faults
 use Rattle.rh_numbers.specs.declared.limits.TheConstants.{MAX_BYTES, PART_BYTES}
@@ -50,11 +50,11 @@ abbrev pub SayFirst : Option (List ℕ) → List ℕ → Type 0
 SayFirst None keys = Unit {0}
 SayFirst (Some bytes) keys = (more : List ℕ) × ((text_said bytes).0 ≡ keys ++ more)
 
--- Known bytes say these keys, and then comes this fault. A failed read may come at any key. Want of memory comes before a part
--- is read, so that the keys are those of the bytes that were taken.
+-- Known bytes say these keys, and then comes this fault. Before a failed read, and before want of memory, which comes between two
+-- parts, the keys are those of the bytes that were taken.
 abbrev pub SayThen : (bytes left : Option (List ℕ)) → List ℕ → TextFault → Type 0
 SayThen None left keys fault = Unit {0}
-SayThen (Some bytes) left keys faults.Read = SayFirst (Some bytes) keys
+SayThen (Some bytes) left keys faults.Read = TakesGood (Some bytes) left keys
 SayThen (Some bytes) left keys faults.Memory = TakesGoodParts (Some bytes) left keys
 SayThen (Some bytes) left keys faults.TooLong = (MAX_BYTES ≤ length bytes) × SayFirst (Some bytes) keys
 SayThen (Some bytes) left keys faults.TooMany = ⊥
@@ -70,6 +70,14 @@ Splits bytes left contents old new (Err (TooMany part)) =
 Splits bytes left contents old new (Err (Write part)) =
     (front : List ℕ) × (key : ℕ) × SayFirst bytes (front ++ (key ∷ [])) × (part_of (length old) key ≡ part) × FailedAt old new part
 Splits bytes left contents old new (Err (Keys fault)) = ⊥
+
+-- What a call tells says that no read failed. A bad line, a part that is full and a failed write do not: they may come before a
+-- failed read.
+abbrev pub NoReadFailed : {X : Type 0} → Result X SplitFault → Type 0
+NoReadFailed (Ok x) = Unit {0}
+NoReadFailed (Err (Text faults.Memory)) = Unit {0}
+NoReadFailed (Err (Text faults.TooLong)) = Unit {0}
+NoReadFailed (Err fault) = ⊥
 
 -- Of the bytes that were taken those before the last part of them hold no fault.
 pub record TakesText (old new : Option (List ℕ)) : Type 0 where

@@ -11,7 +11,8 @@
 //!   key whose part has as many as it takes, or a key whose write failed. That last part's count of
 //!   failures rose.
 //! - All that was taken but for a last part of at most 8,192 bytes holds no fault. Want of memory is
-//!   told only before such a part is read: then the parts were given the keys of all that was taken.
+//!   told only before such a part is read, and a failed read only behind good lines: then the parts
+//!   were given the keys of all that was taken.
 //! - `split_file`: the same of a key file, of which a refused one gives no part a key.
 //!   `split_keys`: of keys in memory. `split_source`: of either.
 //! - `try_source`: its fault is that the input cannot be read, of which nothing was taken.

@@ -1,10 +1,11 @@
 //! A list of keys is split into parts.
 
-ghost use Rattle.std.specs.Prelude.{◌≡◌, ◌≢◌, ◌<◌, ◌≤◌, Err, IfErr, IsErrOf, length};
+ghost use Rattle.std.specs.Prelude.{◌≡◌, ◌<◌, ◌≤◌, IsErrOf, length};
 ghost use Rattle.rh_bytes.specs.Counting.{Rose, failures_of, inner_of};
 ghost use Rattle.rh_parts.specs.declared.part.TheConstants.{MAX_PARTS};
 ghost use Rattle.rh_key_files.specs.Limits.{NoReadFailed, TakesOfFile};
 ghost use Rattle.rh_key_files.specs.Reading.{BeginsWithHeader};
+ghost use Rattle.rh_splitting.specs.Splitting as splits;
 ghost use Rattle.rh_splitting.specs.Splitting.{Puts, Splits, SplitsFile, TakesText, fault_in_file};
 
 use crate::fault::SplitFault;
@@ -33,8 +34,7 @@ pub fn split_text<R: Read, W: Write>(
     ensures not_too_many { IsErrOf result (SplitFault.Text TextFault.TooMany) → ⊥ }
     ensures read { IsErrOf result (SplitFault.Text TextFault.Read) →
         Rose (failures_of reader.old) (failures_of reader.new) }
-    ensures fine { result ≢ Err (SplitFault.Text TextFault.Read) →
-        failures_of reader.new ≡ failures_of reader.old }
+    ensures fine { splits.NoReadFailed result → failures_of reader.new ≡ failures_of reader.old }
 {
     let mut reading = Reading::new(alloc);
     for _ in 0..MAX_READS {

@@ -3,8 +3,8 @@ use Rattle.std.proofs.lemmas.Result.{err_from_is_err_and}
 use Rattle.rh_numbers.specs.declared.limits.TheConstants.{PART_BYTES}
 use Rattle.rh_numbers.specs.Parts.{keys_read, line_reached, so_far_of}
 use Rattle.rh_numbers.proofs.Meaning.{read_from}
-use Rattle.rh_numbers.proofs.Parts.{GoesOn, finished, goes_on, nothing_taken, refused, whole_part, last_part}
-use Rattle.rh_numbers.proofs.Taken.{Fresh, fresh_after, taken_parts, taken_to_fault}
+use Rattle.rh_numbers.proofs.Parts.{GoesOn, finished, goes_on, good_before, nothing_taken, refused, whole_part, last_part}
+use Rattle.rh_numbers.proofs.Taken.{Fresh, fresh_after, taken_good, taken_parts, taken_to_fault}
 use Rattle.rh_numbers.proofs.text.read_numbers.Goals as goal
 
 pub returns-in_err-read_part-clause-known : goal.returns-in_err-read_part-clause-known
@@ -18,6 +18,14 @@ returns-in_err-read_part-clause-takes g c =
     let p = err_from_is_err_and c.from_residual.result c.from_residual.ensures.1 in
     let part = c.read_part.ensures.part in
     rw p.1 (taken_to_fault _ _ _ _ part.part _ _ _ c.loop.invariant.fresh (search rules) part.taken part.short)
+
+pub returns-in_err-read_part-clause-tested : goal.returns-in_err-read_part-clause-tested
+returns-in_err-read_part-clause-tested g c =
+    let p = err_from_is_err_and c.from_residual.result c.from_residual.ensures.1 in
+    let part = c.in_err-read_part.ensures.part in
+    rw (p.1, p.2) (λ read.
+    let good = good_before part.part (g.R.Read.remaining c.read_part.new.reader.inner) c.loop.reading c.read_part.new.self c.in_err-read_part.field-0.0 read part.gives in
+    (keys_read c.read_part.new.self, search rules, taken_good _ _ _ (8192 * c.loop.counter) part.part _ _ _ _ _ _ c.loop.invariant.fresh part.taken good))
 
 pub returns-in_err-read_part-clause-memory : goal.returns-in_err-read_part-clause-memory
 returns-in_err-read_part-clause-memory g c =

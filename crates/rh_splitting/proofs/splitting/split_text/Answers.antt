@@ -17,7 +17,7 @@ returns-in_err-split_keys-clause-split g c =
     let given = c.loop.invariant.going in
     let next = c.read_part-outcome.new.self in
     let first : SayFirst start (given.0 ++ keys_read next) =
-    part_first start _ _ (8192 * c.loop.counter) given.0 c.loop.reading next c.read_part-outcome.result given.1 c.loop.invariant.none c.read_part-outcome.ensures.part (search rules) in
+    part_first start _ _ (8192 * c.loop.counter) given.0 c.loop.reading next c.read_part-outcome.result given.1 c.loop.invariant.none c.read_part-outcome.ensures.part in
     let puts : Puts {X = Unit {0}} g.W.Write.contents c.loop.parts c.split_keys.new.parts (keys_read next) (Err c.in_err-split_keys.field-0.0) = search rules in
     rw (p.1, p.2) (refused_key (Unit {0}) start (g.R.Read.remaining (inner_of c.read_part-outcome.new.reader)) g.W.Write.contents c.args.parts.now c.loop.parts c.split_keys.new.parts given.0 (keys_read next) c.in_err-split_keys.field-0.0 given.3 first puts)
 
@@ -32,11 +32,9 @@ returns-in_err-outcome-clause-split g c =
     let given = c.loop.invariant.going in
     let next = c.read_part-outcome.new.self in
     let e = c.in_err-outcome.field-0.0 in
-    let first : SayFirst start (given.0 ++ keys_read next) =
-    part_first start _ _ (8192 * c.loop.counter) given.0 c.loop.reading next c.read_part-outcome.result given.1 c.loop.invariant.none c.read_part-outcome.ensures.part (search rules) in
     rw (p.1, p.2) (
       given.0 ++ keys_read next,
-      text_stops start _ _ c.loop.counter given.0 c.loop.reading next e given.1 given.2 c.loop.invariant.none c.in_err-outcome.ensures.part (search rules) (search rules) first,
+      text_stops start _ _ c.loop.counter given.0 c.loop.reading next e given.1 given.2 c.loop.invariant.none c.in_err-outcome.ensures.part (search rules) (search rules),
       both_given _ c.args.parts.now c.loop.parts c.split_keys.new.parts given.0 (keys_read next) given.3 (search rules),
     )
 
