@@ -229,10 +229,3 @@ fn a_fault_can_be_printed(rt: HostRuntime) -> Result<(), Fail> {
     }
     Ok(())
 }
-
-#[test]
-fn the_length_of_a_text_has_this_limit(rt: HostRuntime) {
-    assert_eq!(rt; MAX_BYTES, 9_223_372_036_854_775_808);
-    assert_eq!(rt; PART_BYTES, 8_192);
-    assert_eq!(rt; MAX_READS, 1_125_899_906_842_624);
-}

@@ -1,9 +1,10 @@
 //! The laws of texts of numbers, as functions that do nothing.
 
-ghost use Rattle.std.specs.Prelude.{◌≡◌, ◌≤◌, ◌<◌, ◌+◌, ◌++◌, ℕ, List, [], ◌∷◌, All, Err, None, Ok, Some, length};
+ghost use Rattle.std.specs.Prelude.{◌≡◌, ◌≤◌, ◌<◌, ◌+◌, ◌^◌, ◌++◌, ℕ, List, [], ◌∷◌, All, Err, None, Ok, Some, length};
 ghost use Rattle.rh_layout.specs.Key.{IsKey};
 ghost use Rattle.rh_layout.specs.declared.limits.TheConstants.{MAX_KEY, MAX_KEYS};
 ghost use Rattle.rh_numbers.specs.declared.fault.TextFault.TheVariants.{NotAKey, OutOfRange, TooMany};
+ghost use Rattle.rh_numbers.specs.declared.limits.TheConstants.{MAX_BYTES, MAX_READS, PART_BYTES};
 ghost use Rattle.rh_numbers.specs.Chunks.{feeds, then_said};
 ghost use Rattle.rh_numbers.specs.Grammar.{ComesTo, IsKeyText, IsText, Says};
 ghost use Rattle.rh_numbers.specs.Reading.{text_keys, text_said};
@@ -53,4 +54,10 @@ pub fn any_length(text: &[u8], keys: &[u64])
 pub fn text_in_chunks(front: &[u8], rest: &[u8])
     ensures { text_said (front.now ++ 10 ∷ rest.now)
         ≡ then_said (feeds front.now + 1) (text_said (front.now ++ 10 ∷ [])) (text_said rest.now) }
+{}
+
+/// The numbers of texts: how many bytes are too many, and how many are read at once, how often.
+pub fn fixed_numbers()
+    ensures longest { MAX_BYTES ≡ 2 ^ 63 }
+    ensures parts { (PART_BYTES ≡ 8192) × (MAX_READS ≡ 2 ^ 50) }
 {}

@@ -26,6 +26,7 @@
 //! - `any_length`: both laws hold of texts of any length, without that limit.
 //! - `text_in_chunks`: a text whose front is whole lines says what the front says, and then what the
 //!   rest says, so many lines later.
+//! - `fixed_numbers`: a text of 2^63 bytes is too long, and it is read in parts of 8,192.
 #![tactic(auto)]
 
 mod chunk;
@@ -40,7 +41,7 @@ mod writing;
 
 pub use chunk::{Chunk, ChunkEnd, read_chunk};
 pub use fault::TextFault;
-pub use laws::{any_length, first_fault, one_meaning, text_in_chunks};
+pub use laws::{any_length, first_fault, fixed_numbers, one_meaning, text_in_chunks};
 pub use limits::{MAX_BYTES, MAX_READS, PART_BYTES};
 pub use line_so_far::{BadLine, LineSoFar};
 pub use reading::Reading;
