@@ -1,7 +1,9 @@
+ghost use Rattle.std.specs.Prelude.{None};
+
 use crate::files::THREE_KEYS;
 use rh_faulty::{FaultyReader, FaultyWriter, Refusal};
 use rh_key_files::*;
-use std::io::{Read, Write};
+use std::io::{self, ErrorKind, Read, Write};
 use std::test::*;
 
 // What the reader still gives once it is asked again.
@@ -61,4 +63,37 @@ fn each_failure_is_handed_on_and_counted(rt: HostRuntime) {
         assert_eq!(rt; writer.failures(), 1);
         assert_eq!(rt; writer.get_ref().text(), b"abab".as_slice());
     }
+}
+
+// A writer whose first flush fails.
+struct Flushed {
+    flushes: u64,
+}
+
+impl Write for Flushed {
+    ghost contents = { λ _. None };
+
+    fn write(&mut self, buf: &[u8]) -> io::Result<usize> {
+        Ok(buf.len())
+    }
+
+    fn flush(&mut self) -> io::Result<()> {
+        self.flushes = self.flushes.saturating_add(1);
+        if self.flushes == 1 {
+            return Err(io::Error::from(ErrorKind::Interrupted));
+        }
+        Ok(())
+    }
+}
+
+#[test]
+fn a_refused_flush_is_handed_on_and_counted(rt: HostRuntime) {
+    let mut writer = Counted::new(Flushed { flushes: 0 });
+    assert!(rt; writer.flush().is_err());
+    assert_eq!(rt; writer.failures(), 1);
+    assert_eq!(rt; writer.get_ref().flushes, 1);
+    assert!(rt; writer.flush().is_ok());
+    assert_eq!(rt; writer.failures(), 1);
+    assert_eq!(rt; writer.get_ref().flushes, 2);
+    let Flushed { flushes: _ } = writer.into_inner();
 }
