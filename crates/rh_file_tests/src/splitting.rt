@@ -186,6 +186,20 @@ fn each_write_fails(rt: HostRuntime) {
                 outcome.err(),
                 (n < 4).then_some(SplitFault::Write { part: 3 })
             );
+            // The first key is one of the last part, and those of the others come between that and its second.
+            let [first, second, third, last] = parts;
+            for (part, got) in [
+                (first, PARTS[0].0),
+                (second, PARTS[1].0),
+                (third, PARTS[2].0),
+            ] {
+                let writer = part.into_writer().into_inner();
+                assert_eq!(rt; writer.text(), if n > 1 { got } else { b"".as_slice() });
+            }
+            assert_eq!(rt; last.count(), n - 1);
+            let writer = last.into_writer().into_inner();
+            assert!(rt; PARTS[3].0.starts_with(writer.text()));
+            assert_eq!(rt; writer.text().len() as u64, 8 * (n - 1));
         }
     }
 }

@@ -1,5 +1,5 @@
 -- What each part was given of a list, key after key and list after list.
-use Rattle.std.proofs.Common.{◌≡◌, ◌≢◌, ℕ, zero, suc, ◌+◌, ◌<◌, List, [], ◌∷◌, ◌++◌, length, take, drop, get_or, Option, Some, inl, inr, refl, sym, ap, subst, ◌∙◌, arith, length-append, length-set}
+use Rattle.std.proofs.Common.{◌≡◌, ◌≢◌, ℕ, zero, suc, ◌+◌, ◌<◌, List, [], ◌∷◌, ◌++◌, length, take, drop, get_or, Option, Some, inl, inr, refl, sym, ap, subst, ◌∙◌, arith, append_assoc, append-nil, length-append, length-set}
 use Rattle.std.specs.Prelude.{All, nat_eq, slice_get, slice_set}
 use Rattle.std.specs.Io.KnownBytes.{Appends}
 use Rattle.std.proofs.KnownBytes.{Appends-nil, Appends-trans}
@@ -15,8 +15,7 @@ use Rattle.rh_key_files.specs.KeyFile.{IsKeyIn, spelled_keys}
 use Rattle.rh_key_files.specs.declared.version.Version.TheVariants.{Second}
 use Rattle.rh_parts.specs.Parts.{in_part, part_of, stands_in}
 use Rattle.rh_splitting.specs.declared.part.Part.{Part}
-use Rattle.rh_splitting.specs.Parts.{EachGot, Got, IsFull, limit_of, part_count, writer_of}
-use Rattle.rh_splitting.specs.Splitting.{FailedAt}
+use Rattle.rh_splitting.specs.Parts.{EachGot, EachGotButOne, Got, GotButOne, IsFull, limit_of, part_count, writer_of}
 
 -- ---- one part
 
@@ -108,14 +107,55 @@ still_given contents first parts place old new keys given there same =
 pub is_full : {W : Type 0} (parts : List (Part W)) (place : ℕ) (old new : Part W) → slice_get parts place ≡ Some old → new ≡ old → part_count old ≡ limit_of old → IsFull (slice_set parts place new) place
 is_full parts place old new there same full = (new, set_here parts place new (slice_get_within parts place old there), ap part_count same ∙ full ∙ ap limit_of (sym same))
 
--- a write failed after these keys
-pub failed_after : {W : Type 0} (contents : W → Option (List ℕ)) (first mid last : List (Part W)) (place : ℕ) (keys : List ℕ) → EachGot contents first mid keys → FailedAt mid last place → FailedAt first last place
-failed_after contents first mid last place keys given (before, after, was, now, rose) =
-    let start = at_place first place (omega (arith, slice_get_within mid place before was, given.many)) in
-    (start.0, after, start.1, now, subst (λ n. Rose n (failures_of (writer_of after))) ((given.each place start.0 before start.1 was).fine) rose)
+-- a write failed, after these keys
+got_then : {W : Type 0} (contents : W → Option (List ℕ)) (a b c : Part W) (xs ys : List ℕ) (key : ℕ) → Got contents a b xs → GotButOne contents b c ys key → GotButOne contents a c (xs ++ ys) key
+got_then contents a b c xs ys key first then =
+    let cut = take then.bytes (spelled_keys (key ∷ [])) in
+    let joined : spelled_keys xs ++ (spelled_keys ys ++ cut) ≡ spelled_keys (xs ++ ys) ++ cut =
+    sym (append_assoc (spelled_keys xs) (spelled_keys ys) cut) ∙ ap (λ (l : List ℕ). l ++ cut) (sym (flat_map-append eight_bytes xs ys)) in
+    record {
+      bytes = then.bytes;
+      written = subst (Appends (contents (inner_of (writer_of a))) (contents (inner_of (writer_of c)))) joined (Appends-trans _ _ _ (spelled_keys xs) (spelled_keys ys ++ cut) first.written then.written);
+      counted = omega (arith, first.counted, then.counted, length-append xs ys);
+      failed = subst (λ n. Rose n (failures_of (writer_of c))) first.fine then.failed;
+      same_limit = then.same_limit ∙ first.same_limit;
+    }
 
-pub failed_here : {W : Type 0} (parts : List (Part W)) (place : ℕ) (old new : Part W) → slice_get parts place ≡ Some old → Rose (failures_of (writer_of old)) (failures_of (writer_of new)) → FailedAt parts (slice_set parts place new) place
-failed_here parts place old new there rose = (old, new, there, set_here parts place new (slice_get_within parts place old there), rose)
+pub failed_after : {W : Type 0} (contents : W → Option (List ℕ)) (a b c : List (Part W)) (place key : ℕ) (xs ys : List ℕ) → EachGot contents a b xs → EachGotButOne contents b c ys key place → EachGotButOne contents a c (xs ++ ys) key place
+failed_after contents a b c place key xs ys first then = record {
+  many = then.many ∙ first.many;
+  others = λ other before after not is later.
+      let mid = at_place b other (omega (arith, slice_get_within a other before is, first.many)) in
+      subst (Got contents before after) (sym (filter-append (stands_in (length a) other) xs ys))
+      (got_both contents before mid.0 after (in_part (length a) other xs) (in_part (length a) other ys) (first.each other before mid.0 is mid.1)
+      (subst (λ n. Got contents mid.0 after (in_part n other ys)) first.many (then.others other mid.0 after not mid.1 later)));
+  failed =
+      let mid = then.failed.0 in
+      let last = then.failed.1 in
+      let start = at_place a place (omega (arith, slice_get_within b place mid then.failed.2, first.many)) in (
+        start.0,
+        last,
+        start.1,
+        then.failed.3,
+        subst (λ l. GotButOne contents start.0 last l key) (sym (filter-append (stands_in (length a) place) xs ys))
+            (got_then contents start.0 mid last (in_part (length a) place xs) (in_part (length a) place ys) key (first.each place start.0 mid start.1 then.failed.2)
+            (subst (λ n. GotButOne contents mid last (in_part n place ys) key) first.many then.failed.4)),
+      );
+}
+
+pub failed_here : {W : Type 0} (contents : W → Option (List ℕ)) (parts : List (Part W)) (place key : ℕ) (old new : Part W) → slice_get parts place ≡ Some old → GotButOne contents old new [] key
+    → EachGotButOne contents parts (slice_set parts place new) [] key place
+failed_here contents parts place key old new there cut = record {
+  many = length-set parts place new;
+  others = λ other before after not was now.
+      let same : before ≡ after = same_some before after (sym was ∙ sym (set_elsewhere parts place other new (λ is. not (sym is))) ∙ now) in
+      subst (λ p. Got contents before p []) same (got_none contents before);
+  failed = (old, new, there, set_here parts place new (slice_get_within parts place old there), cut);
+}
+
+-- the write of the key behind these failed
+pub failed_behind : {W : Type 0} (contents : W → Option (List ℕ)) (a b c : List (Part W)) (place key : ℕ) (keys : List ℕ) → EachGot contents a b keys → EachGotButOne contents b c [] key place → EachGotButOne contents a c keys key place
+failed_behind contents a b c place key keys first then = subst (λ l. EachGotButOne contents a c l key place) (append-nil keys) (failed_after contents a b c place key keys [] first then)
 
 -- ---- the place of a key in a list
 

@@ -160,4 +160,4 @@ refused_key X bytes left contents first mid last given keys (faults_of.Keys faul
 refused_key X bytes left contents first mid last given keys (faults_of.TooMany part) got say (front, key, stands, place, each, full) =
     (given ++ front, key, first_of_them bytes given keys front key stands.0 stands.1 say, ap (λ n. part_of n key) (sym got.many) ∙ place, both_given contents first mid last given front got each, full)
 refused_key X bytes left contents first mid last given keys (faults_of.Write part) got say (front, key, stands, place, failed) =
-    (given ++ front, key, first_of_them bytes given keys front key stands.0 stands.1 say, ap (λ n. part_of n key) (sym got.many) ∙ place, failed_after contents first mid last part given got failed)
+    (given ++ front, key, first_of_them bytes given keys front key stands.0 stands.1 say, ap (λ n. part_of n key) (sym got.many) ∙ place, failed_after contents first mid last part key given front got failed)

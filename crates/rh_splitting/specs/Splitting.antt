@@ -1,7 +1,6 @@
 -- What becomes of a list that is split.
-use Rattle.std.specs.Prelude.{◌≡◌, ℕ, ◌≤◌, List, [], ◌∷◌, ◌++◌, length, Option, Some, None, Result, Ok, Err, slice_get}
+use Rattle.std.specs.Prelude.{◌≡◌, ℕ, ◌≤◌, List, [], ◌∷◌, ◌++◌, length, Option, Some, None, Result, Ok, Err}
 use Rattle.std.specs.Io.KnownBytes.{Consumes}
-use Rattle.rh_bytes.specs.Counting.{Rose, failures_of}
 use Rattle.rh_key_files.specs.Reading as files
 use Rattle.rh_key_files.specs.declared.fault.KeyFault.{KeyFault}
 use Rattle.rh_key_files.specs.declared.fault.KeyFault.TheVariants as key_faults
@@ -16,24 +15,19 @@ use Rattle.rh_splitting.specs.declared.fault.SplitFault.TheVariants.{Keys, Text,
 use Rattle.rh_splitting.specs.declared.part.Part.{Part}
 use Rattle.rh_splitting.specs.declared.source.Source.{Source}
 use Rattle.rh_splitting.specs.declared.source.Source.TheVariants as sources
-use Rattle.rh_splitting.specs.Parts.{EachGot, IsFull, writer_of}
-
--- a write of the part of this number failed
-abbrev pub FailedAt : {W : Type 0} → (old new : List (Part W)) → ℕ → Type 0
-FailedAt {W} old new part = (before after : Part W) × (slice_get old part ≡ Some before) × (slice_get new part ≡ Some after)
-    × Rose (failures_of (writer_of before)) (failures_of (writer_of after))
+use Rattle.rh_splitting.specs.Parts.{EachGot, EachGotButOne, IsFull}
 
 -- A part of a list: these keys, this one, and others after it.
 abbrev pub Stands : (keys front : List ℕ) (key : ℕ) → Type 0
 Stands keys front key = (more : List ℕ) × (keys ≡ front ++ (key ∷ more))
 
--- Each part was given its keys; or the first key for which its part had no room, or whose write failed.
+-- Each part was given its keys; or those before the first key for which its part had no room, or whose write failed.
 abbrev pub Puts : {W X : Type 0} (contents : W → Option (List ℕ)) (old new : List (Part W)) (keys : List ℕ) → Result X SplitFault → Type 0
 Puts contents old new keys (Ok x) = EachGot contents old new keys
 Puts contents old new keys (Err (TooMany part)) =
     (front : List ℕ) × (key : ℕ) × Stands keys front key × (part_of (length old) key ≡ part) × EachGot contents old new front × IsFull new part
 Puts contents old new keys (Err (Write part)) =
-    (front : List ℕ) × (key : ℕ) × Stands keys front key × (part_of (length old) key ≡ part) × FailedAt old new part
+    (front : List ℕ) × (key : ℕ) × Stands keys front key × (part_of (length old) key ≡ part) × EachGotButOne contents old new front key part
 Puts contents old new keys (Err (Text fault)) = ⊥
 Puts contents old new keys (Err (Keys fault)) = ⊥
 
@@ -68,7 +62,7 @@ Splits bytes left contents old new (Err (Text fault)) = (keys : List ℕ) × Say
 Splits bytes left contents old new (Err (TooMany part)) =
     (front : List ℕ) × (key : ℕ) × SayFirst bytes (front ++ (key ∷ [])) × (part_of (length old) key ≡ part) × EachGot contents old new front × IsFull new part
 Splits bytes left contents old new (Err (Write part)) =
-    (front : List ℕ) × (key : ℕ) × SayFirst bytes (front ++ (key ∷ [])) × (part_of (length old) key ≡ part) × FailedAt old new part
+    (front : List ℕ) × (key : ℕ) × SayFirst bytes (front ++ (key ∷ [])) × (part_of (length old) key ≡ part) × EachGotButOne contents old new front key part
 Splits bytes left contents old new (Err (Keys fault)) = ⊥
 
 -- What a call tells says that no read failed. A bad line, a part that is full and a failed write do not: they may come before a

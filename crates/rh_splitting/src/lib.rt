@@ -8,8 +8,8 @@
 //!   Each part was given exactly those that stand in it, in the order of the text. They were
 //!   written one after the other as in a key file, and counted.
 //! - Else the parts were given the keys before the fault: the first fault of the text, the first
-//!   key whose part has as many as it takes, or a key whose write failed. That last part's count of
-//!   failures rose.
+//!   key whose part has as many as it takes, or a key whose write failed. That last part got no more
+//!   than a front of the key, and its count of failures rose.
 //! - All that was taken but for a last part of at most 8,192 bytes holds no fault. Want of memory is
 //!   told only before such a part is read, and a failed read only behind good lines: then the parts
 //!   were given the keys of all that was taken.

@@ -63,11 +63,11 @@ impl<W> Part<W> {
 impl<W: Write> Part<W> {
     ghost use Rattle.std.specs.Prelude.{◌≡◌, [], ◌∷◌, IfOk, IsErrOf, OnOk};
     ghost use Rattle.std.specs.Io.KnownBytes.{Appends};
-    ghost use Rattle.rh_bytes.specs.Counting.{Rose, failures_of, inner_of};
+    ghost use Rattle.rh_bytes.specs.Counting.{failures_of, inner_of};
     ghost use Rattle.rh_key_files.specs.KeyFile.{header};
     ghost use Rattle.rh_key_files.specs.declared.version.Version.TheVariants.{Second};
     ghost use Rattle.rh_layout.specs.declared.limits.TheConstants.{MAX_KEYS};
-    ghost use Rattle.rh_splitting.specs.Parts.{Got, limit_of, part_count, writer_of};
+    ghost use Rattle.rh_splitting.specs.Parts.{Got, GotButOne, limit_of, part_count, writer_of};
 
     /// A part that was given no key, with room for the header of its key file, which says how many it
     /// takes.
@@ -91,7 +91,7 @@ impl<W: Write> Part<W> {
         ensures full { IsErrOf result PartFault.Full → part_count self.old ≡ limit_of self.old }
         ensures unchanged { IsErrOf result PartFault.Full → self.new ≡ self.old }
         ensures write { IsErrOf result PartFault.Write →
-            Rose (failures_of (writer_of self.old)) (failures_of (writer_of self.new)) }
+            GotButOne W.contents self.old self.new [] key }
     {
         let Part {
             writer,

@@ -3,7 +3,7 @@ use Rattle.std.proofs.lemmas.Option.{slice_get_read}
 use Rattle.std.specs.Prelude.{slice_get}
 use Rattle.rh_parts.specs.Parts.{part_of}
 use Rattle.rh_splitting.specs.Parts.{EachGot}
-use Rattle.rh_splitting.proofs.Given.{both_given, failed_after, failed_here, is_full, key_at, one_given, one_more, still_given}
+use Rattle.rh_splitting.proofs.Given.{both_given, failed_behind, failed_here, is_full, key_at, one_given, one_more, still_given}
 use Rattle.rh_splitting.proofs.splitting.split_keys.Goals as goal
 
 pub returns-in-Err-Full : goal.returns-in-Err-Full
@@ -32,7 +32,7 @@ returns-in-Err-Write g c =
       get_or keys i 0,
       (drop (suc i) keys, key_at keys i inside),
       place,
-      failed_after _ _ c.loop-key.parts _ _ _ c.loop-key.invariant.given (failed_here c.loop-key.parts _ _ _ there (search rules)),
+      failed_behind _ _ c.loop-key.parts _ _ (get_or keys i 0) _ c.loop-key.invariant.given (failed_here _ c.loop-key.parts _ _ _ _ there (search rules)),
     )
 
 pub loop-key-preserved : goal.loop-key-preserved
