@@ -1,5 +1,5 @@
 -- The picture that is drawn of a play.
-use Rattle.std.specs.Prelude.{◌≡◌, ℕ, ◌<◌, ◌≤◌, List, length, take, Option, Some, None, Result, Ok, Err}
+use Rattle.std.specs.Prelude.{◌≡◌, ℕ, ◌<◌, ◌≤◌, max, List, length, take, Option, Some, None, Result, Ok, Err}
 use Rattle.std.specs.Io.KnownBytes.{Appends}
 use Rattle.rh_words.specs.declared.shape.Shape.{Shape}
 use Rattle.rh_words.specs.Parts.{IsShape, cell_count}
@@ -34,10 +34,14 @@ pub record IsRecorded (play : Play) (z : Shape) (cells : List ℕ) (records : Li
   pub cells_are : cells ≡ take (cell_count z) first.words
   pub records_are : records ≡ recorded Records 0 pieces
 
+-- the first step from this number on: steps are numbered from 1
+abbrev pub first_step : ℕ → ℕ
+first_step from = max from 1
+
 -- So many steps from this number on, or all from it on, which are not too many.
 abbrev pub IsWindow : (from : ℕ) → (steps : Option ℕ) → List Record → Window → Type 0
-IsWindow from (Some n) records window = (window ≡ record { from = from; steps = n }) × (n ≤ MAX_STEPS)
-IsWindow from None records window = (window ≡ record { from = from; steps = count_from from records }) × (count_from from records ≤ MAX_STEPS)
+IsWindow from (Some n) records window = (window ≡ record { from = first_step from; steps = n }) × (n ≤ MAX_STEPS)
+IsWindow from None records window = (window ≡ record { from = first_step from; steps = count_from from records }) × (count_from from records ≤ MAX_STEPS)
 
 -- The text is the picture of these steps of the play.
 pub record IsDrawn (play : Play) (from : ℕ) (steps : Option ℕ) (text : List ℕ) : Type 0 where

@@ -36,7 +36,8 @@ struct Recorded {
 }
 
 /// Reads the text of a play, runs the play, and writes the picture of its steps, an SVG: of so many of
-/// them from this number on, or of all from it on, where they are no more than `MAX_STEPS`.
+/// them from this number on, or of all from it on, where they are no more than `MAX_STEPS`. Steps are
+/// numbered from 1.
 ///
 /// All memory is taken before the first byte is written, and all is written at once.
 pub fn draw_play<R: Read, W: Write>(
@@ -129,5 +130,6 @@ fn window(records: &[Record], from: u64, steps: Option<u64>) -> Result<Window, D
     if steps > MAX_STEPS {
         return Err(DrawFault::TooMany);
     }
-    Ok(Window { from, steps })
+    let first = from.max(1);
+    Ok(Window { from: first, steps })
 }

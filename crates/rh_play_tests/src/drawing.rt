@@ -52,7 +52,8 @@ fn a_play_is_drawn_once(rt: HostRuntime) -> Result<(), Fail> {
 
 // The number of the first step, how many are chosen, and which of the reads are drawn.
 const WINDOWS: &[(u64, Option<u64>, [u64; 3])] = &[
-    (1, None, [1, 1, 1]),
+    (0, None, [1, 1, 1]),
+    (0, Some(1), [1, 0, 0]),
     (2, None, [0, 1, 1]),
     (4, None, [0, 0, 0]),
     (1, Some(2), [1, 1, 0]),
