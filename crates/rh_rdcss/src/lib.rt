@@ -36,7 +36,7 @@
 //!   also where it is stale. A swap is always made, and no own mark is unsettled then.
 //! - Each call makes just the steps that are named here, in this order, and what it answers is the
 //!   word that the step found: the table keeps the trace of them.
-//! - The own mark that a seat keeps stays until another one is placed.
+//! - The own mark that a seat keeps stays in each call but `place`.
 #![tactic(auto)]
 
 mod calls;
