@@ -5,6 +5,7 @@
 -- Interrupted: keys of which a failed read cut the rest off.
 -- Batches: keys one after the other, and batches of keys one after the other.
 -- Next: the next batch, or the end.
+-- Blame: the reader of a stream that told a failed read.
 -- Coming: what is still to come of a stream of keys.
 -- Whole: a whole key file, read by its header, its keys and its end.
 -- BehindMagic: a key file of any number of keys, read behind its magic in pieces.
@@ -27,4 +28,5 @@ pub mod PieceBounds
 pub mod LongFile
 pub mod Grammar
 pub mod Written
+pub mod Blame
 pub mod Coming

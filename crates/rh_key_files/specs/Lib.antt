@@ -2,5 +2,6 @@ pub mod KeyFile
 pub mod Reading
 pub mod Limits
 pub mod Source
+pub mod State
 pub mod Stream
 pub mod HeldKeys

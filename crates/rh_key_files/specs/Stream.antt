@@ -78,12 +78,6 @@ coming_in (Failed e) read = Some (Err e)
 abbrev pub coming_of : {R : Type 0} → (R → Option (List ℕ)) → KeyStream R → Coming
 coming_of remaining s = coming_in (state_of s) (option_map (keys_to_end (version_of s) (taken_of s) (left_of s)) (remaining (inner_of (reader_of s))))
 
--- the fault that it told
-abbrev pub told_in : State → Option KeyFault
-told_in Open = None
-told_in Ended = None
-told_in (Failed e) = Some e
-
 -- how many keys are to come, where n would be in an open stream
 abbrev pub left_in : State → ℕ → ℕ
 left_in Open n = n

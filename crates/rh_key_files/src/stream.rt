@@ -1,9 +1,11 @@
 //! The keys of a key file, read in batches.
 
-ghost use Rattle.std.specs.Prelude.{◌≤◌, ◌≢◌};
-ghost use Rattle.rh_key_files.specs.declared.fault.KeyFault.TheVariants.{Memory};
+ghost use Rattle.std.specs.Prelude.{◌≡◌, ◌≤◌, ◌≢◌, Some};
+ghost use Rattle.rh_bytes.specs.Counting.{failures_of};
+ghost use Rattle.rh_key_files.specs.declared.fault.KeyFault.TheVariants.{Memory, Read as ReadFailed};
 ghost use Rattle.rh_layout.specs.declared.limits.TheConstants.{MAX_KEYS};
 ghost use Rattle.rh_key_files.specs.declared.stream.State.TheVariants.{Failed};
+ghost use Rattle.rh_key_files.specs.State.{told_in};
 
 use crate::batch::read_batch;
 use crate::fault::KeyFault;
@@ -32,10 +34,12 @@ pub struct KeyStream<'a, R> {
     ghost within: { taken ≤ count },
     ghost few: { count ≤ MAX_KEYS },
     ghost no_memory: { state ≢ Failed Memory },
+    ghost blamed: { told_in state ≡ Some ReadFailed → failures_of reader.now ≢ 0 },
 }
 
 impl<R: Read> KeyStream<'_, R> {
     ghost use Rattle.std.specs.Prelude.{◌≡◌, ◌≢◌, ◌⊎◌, ◌<◌, ◌+◌, min, length, IfOk, IsErrOf, Err};
+    ghost use Rattle.rh_key_files.specs.State.{told_in};
     ghost use Rattle.std.specs.Prelude.{All, take, drop};
     ghost use Rattle.rh_layout.specs.Key.{IsKey};
     ghost use Rattle.rh_bytes.specs.Counting.{Rose, failures_of, inner_of};
@@ -45,6 +49,15 @@ impl<R: Read> KeyStream<'_, R> {
     ghost use Rattle.rh_key_files.specs.Reading.{CutShort, ReadsKeys, front_of, batch_at};
     ghost use Rattle.rh_key_files.specs.Stream.{reader_of, lender_of, header_of, version_of, count_of};
     ghost use Rattle.rh_key_files.specs.Stream.{taken_of, left_of, state_of, state_after, answer_again};
+
+    /// The reader that it took on loan. It has failed where the stream told so.
+    pub fn reader(&self) -> &Counted<R>
+        ensures value { result.now ≡ reader_of self.now }
+        ensures blamed { told_in (state_of self.now) ≡ Some KeyFault.Read →
+            failures_of result.now ≢ 0 }
+    {
+        self.reader
+    }
 
     /// The header's number of keys.
     pub fn count(&self) -> u64
@@ -121,7 +134,8 @@ impl<R: Read> KeyStream<'_, R> {
 }
 
 impl<R: Read> KeySource for KeyStream<'_, R> {
-    ghost use Rattle.rh_key_files.specs.Stream.{coming_of, left_in, left_of, state_of, told_in};
+    ghost use Rattle.rh_key_files.specs.State.{told_in};
+    ghost use Rattle.rh_key_files.specs.Stream.{coming_of, left_in, left_of, state_of};
 
     ghost coming = { coming_of R.remaining };
 

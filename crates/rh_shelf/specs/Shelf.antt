@@ -1,7 +1,8 @@
 -- What is known of a shelf: the bytes of its paths.
-use Rattle.std.specs.Prelude.{◌≡◌, ◌≢◌, ℕ, List, Option, Some, None, option_map}
+use Rattle.std.specs.Prelude.{◌≡◌, ◌≢◌, ℕ, Bool, true, false, List, Option, Some, None, option_map}
 use Rattle.std.specs.Str.{bytes_eq}
 use Rattle.std.specs.Map.{update}
+use Rattle.rh_bytes.specs.Counting.{Rose, last_count}
 
 -- the bytes of each path that there is
 abbrev pub Files : Type 0
@@ -29,3 +30,19 @@ Puts old new path bytes = new ≡ option_map (λ files. with_file files path byt
 abbrev pub InDoubt : Option Files → Option Files → (path : List ℕ) → Type 0
 InDoubt None new path = new ≡ None
 InDoubt (Some files) new path = (now : Files) × (new ≡ Some now) × ((other : List ℕ) → other ≢ path → now other ≡ files other)
+
+-- What is known of a shelf at one moment: the files, where they are known, how often it failed to give or to take one, and how many
+-- readers it was shown of which a read failed. The counts stop at the greatest number.
+pub record ShelfState : Type 0 where
+  pub files : Option Files
+  pub failures : ℕ
+  pub failed_reads : ℕ
+
+-- it counts one failed read more where one is told, and else as many as before
+abbrev pub CountsReads : (told : Bool) → (old new : ShelfState) → Type 0
+CountsReads true old new = Rose old.failed_reads new.failed_reads
+CountsReads false old new = new.failed_reads ≡ old.failed_reads
+
+-- of one that counts no failed reads: that count is at its end
+abbrev pub uncounted : {S : Type 0} → (S → Option Files) → (S → ℕ) → S → ShelfState
+uncounted files failures s = record { files = files s; failures = failures s; failed_reads = last_count }

@@ -8,12 +8,16 @@
 //! - `FileShelf` is real files, of which no contract tells the bytes. Each answer that a file could
 //!   not be opened or written has raised its count, and an answer without a fault leaves it.
 //! - Want of memory raises the count of either.
+//! - `CountedShelf` counts the readers that it is shown of which a read failed, and nothing else. Each
+//!   `Shelf` may stand in its place (`Lender`), as one that counts none.
 #![tactic(auto)]
 
 mod file;
+mod lender;
 mod memory;
 mod shelf;
 
 pub use file::FileShelf;
+pub use lender::{CountedShelf, Lender};
 pub use memory::MemShelf;
 pub use shelf::{Shelf, ShelfFault};
