@@ -6,6 +6,7 @@
 -- Taking: how many bytes calls take together.
 -- Spelled: bytes and the numbers that they spell.
 -- Writing: texts written one after another.
+-- Filling: a buffer of which a part was filled.
 
 pub mod Taking
 pub mod Spelled
@@ -13,3 +14,4 @@ pub mod Reading
 pub mod Parsed
 pub mod Told
 pub mod Writing
+pub mod Filling

@@ -1,9 +1,11 @@
--- SizeLemmas: the size of a table, as a number that is enough and least, and as a function.
--- AgainLemmas: a list that is read again: its keys, or why it is refused.
--- OperationLemmas: room in a table after a phase, and why an operation is refused.
+-- Standing: what a list whose file is known gives.
+-- Refusing: why nothing was made of a list.
+-- Making: what is made of a set by keys.
 -- SavedLemmas: a list in memory.
+-- SizeLemmas: the size of a table.
 
-pub mod SizeLemmas
-pub mod AgainLemmas
-pub mod OperationLemmas
+pub mod Standing
+pub mod Refusing
+pub mod Making
 pub mod SavedLemmas
+pub mod SizeLemmas

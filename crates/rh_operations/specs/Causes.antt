@@ -7,7 +7,7 @@ use Rattle.rh_runner.specs.declared.runner.PhaseFault.TheVariants as phase_fault
 use Rattle.rh_runner.specs.declared.fault.ListFault.{ListFault}
 use Rattle.rh_runner.specs.declared.fault.ListFault.TheVariants as list_faults
 use Rattle.rh_operations.specs.declared.cause.Cause.{Cause}
-use Rattle.rh_operations.specs.declared.cause.Cause.TheVariants.{Keys, Snap, Changed, Memory, NoThread}
+use Rattle.rh_operations.specs.declared.cause.Cause.TheVariants.{Keys, Snap, Memory, NoThread}
 
 abbrev pub of_keys : KeyFault → Cause
 of_keys key_faults.Memory = Memory
@@ -19,6 +19,5 @@ of_snapshot fault = Snap fault
 
 abbrev pub of_list : ListFault → Cause
 of_list (list_faults.Keys fault) = of_keys fault
-of_list list_faults.Changed = Changed
 of_list (list_faults.Phase phase_faults.Memory) = Memory
 of_list (list_faults.Phase phase_faults.NoThread) = NoThread

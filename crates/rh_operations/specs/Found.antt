@@ -47,7 +47,3 @@ still noted count = if count == noted then Ok count else Err Changed
 -- the number that the header says, which has to be the noted one
 abbrev pub count_again : (noted : ℕ) → Option (List ℕ) → Result ℕ Cause
 count_again noted found = header_count found >>= still noted
-
--- after that, the keys
-abbrev pub keys_again : (noted : ℕ) → Option (List ℕ) → Result (List ℕ) Cause
-keys_again noted found = count_again noted found >>= (λ _. keys_found found)

@@ -1,16 +1,27 @@
 -- What an operation leaves of a shelf and of a runner.
-use Rattle.std.specs.Prelude.{◌≡◌, ◌≢◌, ℕ, Option, None, Result, OnOk, IfErr}
+use Rattle.std.specs.Prelude.{◌≡◌, ◌≢◌, ℕ, None, Result, OnOk, IfErr}
 use Rattle.rh_bytes.specs.Counting.{Rose}
-use Rattle.rh_shelf.specs.Shelf.{Files}
+use Rattle.rh_key_files.specs.declared.fault.KeyFault.TheVariants as faults
+use Rattle.rh_snapshot.specs.declared.fault.SnapFault.TheVariants as snap_faults
+use Rattle.rh_shelf.specs.Shelf.{ShelfState}
 use Rattle.rh_operations.specs.declared.cause.Cause.{Cause}
-use Rattle.rh_operations.specs.declared.cause.Cause.TheVariants.{Missing, NoThread, Put}
+use Rattle.rh_operations.specs.declared.cause.Cause.TheVariants.{Missing, Keys, Snap, NoThread, Put}
 
--- What an operation that puts no file leaves of a shelf: it gives the same files; it did not fail where the operation was
--- carried out; and where its files are not known, it failed if one was missing.
-pub record KeepsShelf {X : Type 0} (files files' : Option Files) (failures failures' : ℕ) (r : Result X Cause) : Type 0 where
-  pub same_files : files' ≡ files
-  pub fine : OnOk r (failures' ≡ failures)
-  pub missing : IfErr r (λ cause. cause ≡ Missing → files ≡ None → Rose failures failures')
+-- a read of a file failed
+abbrev pub IsRead : Cause → Type 0
+IsRead (Keys faults.Read) = Unit {0}
+IsRead (Snap snap_faults.Read) = Unit {0}
+IsRead _ = ⊥
+
+-- What an operation that puts no file leaves of a shelf: it gives the same files; nothing failed where the operation was
+-- carried out; where its files are not known, it failed if one was missing; and a read failed where that is the cause, and
+-- none is counted else.
+pub record KeepsShelf {X : Type 0} (old new : ShelfState) (r : Result X Cause) : Type 0 where
+  pub same_files : new.files ≡ old.files
+  pub fine : OnOk r (new ≡ old)
+  pub missing : IfErr r (λ cause. cause ≡ Missing → old.files ≡ None → Rose old.failures new.failures)
+  pub read : IfErr r (λ cause. IsRead cause → Rose old.failed_reads new.failed_reads)
+  pub others : IfErr r (λ cause. (IsRead cause → ⊥) → new.failed_reads ≡ old.failed_reads)
   pub not_put : IfErr r (λ cause. cause ≡ Put → ⊥)
 
 -- What an operation leaves of a runner: a thread was refused where that is the cause, and none was refused else.

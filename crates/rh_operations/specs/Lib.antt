@@ -5,4 +5,5 @@ pub mod Refusals
 pub mod Leaves
 pub mod KeyLists
 pub mod Sets
-pub mod Operations
+pub mod Actions
+pub mod Snapshots

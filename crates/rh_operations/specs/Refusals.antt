@@ -1,24 +1,19 @@
--- Why an operation is refused: by what was found, or by a cause from outside. `failed` says that the shelf failed, and
--- `refused` that the start of a thread was refused.
-use Rattle.std.specs.Prelude.{◌≡◌, ◌≢◌, ℕ, ◌⊎◌, List, length, Result, Ok, Err, IsOk}
+-- Why an operation is refused: by what was found, or by a cause from outside. `failed` says that the shelf failed, `read` that a
+-- read of a file failed, and `refused` that the start of a thread was refused.
+use Rattle.std.specs.Prelude.{◌≡◌, ℕ, ◌⊎◌, List, Option, Some, Result, Ok, Err, IsOk}
+use Rattle.rh_key_files.specs.declared.fault.KeyFault.{KeyFault}
 use Rattle.rh_key_files.specs.declared.fault.KeyFault.TheVariants as faults
 use Rattle.rh_snapshot.specs.declared.fault.SnapFault.TheVariants as snap_faults
 use Rattle.rh_key_files.specs.Source.{Coming}
 use Rattle.rh_runner.specs.declared.fault.ListFault.{ListFault}
-use Rattle.rh_runner.specs.Lists.{Refused}
+use Rattle.rh_runner.specs.Lists.{Refused, Took}
 use Rattle.rh_operations.specs.Causes.{of_list}
 use Rattle.rh_operations.specs.declared.cause.Cause.{Cause}
-use Rattle.rh_operations.specs.declared.cause.Cause.TheVariants.{Missing, Keys, Snap, Changed, Memory, NoThread, Put}
+use Rattle.rh_operations.specs.declared.cause.Cause.TheVariants.{Missing, Keys, Snap, TooLarge, Memory, NoThread, Put, Write}
 
 -- a cause that was found, or one from outside
 abbrev pub RefusedBy : {Y : Type 0} → Result Y Cause → (outside : Cause → Type 0) → Cause → Type 0
 RefusedBy said outside cause = (said ≡ Err cause) ⊎ outside cause
-
--- A list that was chosen from before is read again: `Changed` comes also where it is not one of which as many positions
--- are chosen.
-abbrev pub RefusedAgain : Result (List ℕ) Cause → (chosen : List ℕ → List ℕ) → (many : ℕ) → (outside : Cause → Type 0) → Cause → Type 0
-RefusedAgain said chosen many outside cause =
-    RefusedBy said outside cause ⊎ ((cause ≡ Changed) × ((keys : List ℕ) → said ≡ Ok keys → length (chosen keys) ≢ many))
 
 -- ---- the causes from outside
 
@@ -33,16 +28,16 @@ WantedAfter found failed Memory = failed ⊎ IsOk found
 WantedAfter found failed cause = Unit {0}
 
 -- A list was not read: memory ran out, a read failed, or the shelf failed to give its file.
-abbrev pub ListFails : (failed : Type 0) → Cause → Type 0
-ListFails failed Memory = Unit {0}
-ListFails failed (Keys faults.Read) = Unit {0}
-ListFails failed Missing = failed
-ListFails failed _ = ⊥
+abbrev pub ListFails : (failed read : Type 0) → Cause → Type 0
+ListFails failed read Memory = Unit {0}
+ListFails failed read (Keys faults.Read) = read
+ListFails failed read Missing = failed
+ListFails failed read _ = ⊥
 
 -- So it was, or the phase over it was refused a thread.
-abbrev pub PhaseFails : (failed refused : Type 0) → Cause → Type 0
-PhaseFails failed refused NoThread = refused
-PhaseFails failed refused cause = ListFails failed cause
+abbrev pub PhaseFails : (failed read refused : Type 0) → Cause → Type 0
+PhaseFails failed read refused NoThread = refused
+PhaseFails failed read refused cause = ListFails failed read cause
 
 -- A snapshot was not put: memory ran out, or the shelf failed to take it.
 abbrev pub PutFails : (failed : Type 0) → Cause → Type 0
@@ -51,15 +46,41 @@ PutFails failed Put = failed
 PutFails failed _ = ⊥
 
 -- A snapshot was not read: memory ran out, a read failed, or the shelf failed to give its file.
-abbrev pub RestoreFails : (failed : Type 0) → Cause → Type 0
-RestoreFails failed Memory = Unit {0}
-RestoreFails failed (Snap snap_faults.Read) = Unit {0}
-RestoreFails failed Missing = failed
-RestoreFails failed _ = ⊥
+abbrev pub RestoreFails : (failed read : Type 0) → Cause → Type 0
+RestoreFails failed read Memory = Unit {0}
+RestoreFails failed read (Snap snap_faults.Read) = read
+RestoreFails failed read Missing = failed
+RestoreFails failed read _ = ⊥
 
--- Keys that come in batches were not gone through: there is no table of a size for them, or no memory for it, or a
--- fault of theirs or of a phase came after that.
-abbrev pub RefusedAt : (size : Result ℕ Cause) → Coming → (starts starts' : ℕ) → Cause → Type 0
-RefusedAt size coming starts starts' cause =
-    RefusedBy size MemoryFails cause
-    ⊎ ((bits : ℕ) × (size ≡ Ok bits) × (fault : ListFault) × (cause ≡ of_list fault) × Refused coming starts starts' fault)
+-- ---- keys that come in batches
+
+-- They were not gone through: a fault of theirs came, or one of a phase.
+abbrev pub FaultOn : Coming → (starts starts' : ℕ) → Cause → Type 0
+FaultOn coming n m cause = (fault : ListFault) × (cause ≡ of_list fault) × Refused coming n m fault
+
+-- Nothing was made of them: there is no table of a size for them; or after that they were not gone through, or memory ran out; or
+-- nothing can be made of those that came.
+abbrev pub RefusedOn : {X : Type 0} → (room : Result ℕ Cause) → (make : List ℕ → Result X Cause) → Coming → (left starts starts' : ℕ) → Cause → Type 0
+RefusedOn room make coming left n m cause =
+    (room ≡ Err cause)
+    ⊎ ((bits : ℕ) × (room ≡ Ok bits) × (FaultOn coming n m cause ⊎ ((list : List ℕ) × Took coming left list × (make list ≡ Err cause))))
+
+-- a cause that keys and phases can have
+abbrev pub IsOfKeys : Cause → Type 0
+IsOfKeys Missing = ⊥
+IsOfKeys (Snap fault) = ⊥
+IsOfKeys Put = ⊥
+IsOfKeys Write = ⊥
+IsOfKeys _ = Unit {0}
+
+-- one that a phase over keys in memory can have, or the want of a table for them
+abbrev pub IsOfPhase : Cause → Type 0
+IsOfPhase TooLarge = Unit {0}
+IsOfPhase Memory = Unit {0}
+IsOfPhase NoThread = Unit {0}
+IsOfPhase _ = ⊥
+
+-- a fault of the keys is the one that their source told
+abbrev pub TellsKeys : (told : Option KeyFault) → Cause → Type 0
+TellsKeys told (Keys fault) = told ≡ Some fault
+TellsKeys told cause = Unit {0}

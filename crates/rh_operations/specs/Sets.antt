@@ -4,17 +4,13 @@ use Rattle.std.specs.FinSet as set
 use Rattle.rh_layout.specs.Layout.{Keys}
 use Rattle.rh_ledger.specs.Phase.{set_after}
 use Rattle.rh_ledger.specs.declared.tally.Kind.TheVariants.{Insert, Remove}
-use Rattle.rh_runner.specs.declared.choice.Chosen.TheVariants.{Absent, Present}
+use Rattle.rh_runner.specs.declared.chosen.Chosen.TheVariants.{Absent, Present}
 use Rattle.rh_runner.specs.Lists.{chosen}
 
 -- of the keys that are held those of the list
 abbrev pub kept : Keys → List ℕ → Keys
 kept S keys = set_after Insert set.empty (chosen Present S keys)
 
--- without the keys of a first reading of a list, and with those of a second one that were not held
-abbrev pub flipped_by : Keys → (first second : List ℕ) → Keys
-flipped_by S first second = set_after Insert (set_after Remove S first) (chosen Absent S second)
-
 -- without the keys of the list that were held, and with the others
 abbrev pub flipped : Keys → List ℕ → Keys
-flipped S keys = flipped_by S keys keys
+flipped S keys = set_after Insert (set_after Remove S keys) (chosen Absent S keys)

@@ -22,7 +22,7 @@ pub enum Cause {
     /// The snapshot is refused, or could not be read. Never want of memory.
     #[error(transparent)]
     Snap(SnapFault),
-    /// The list has another number of keys than before, or of those that are chosen.
+    /// The list has another number of keys than before.
     #[error("key file has changed")]
     Changed,
     /// No table is large enough.
@@ -66,10 +66,19 @@ impl From<ListFault> for Cause {
     fn from(fault: ListFault) -> Cause {
         match fault {
             ListFault::Keys(fault) => Cause::from(fault),
-            ListFault::Changed => Cause::Changed,
             ListFault::Phase(PhaseFault::Memory) => Cause::Memory,
             ListFault::Phase(PhaseFault::NoThread) => Cause::NoThread,
         }
+    }
+}
+
+impl From<PhaseFault> for Cause {
+    ghost use Rattle.rh_runner.specs.declared.fault.ListFault.TheVariants.{Phase};
+
+    ghost from_gives = { λ fault cause. cause ≡ of_list (Phase fault) };
+
+    fn from(fault: PhaseFault) -> Cause {
+        Cause::from(ListFault::Phase(fault))
     }
 }
 

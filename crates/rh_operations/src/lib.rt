@@ -5,17 +5,18 @@
 //!
 //! Proved:
 //!
-//! - `add`, `drop_keys`, `ask`, `keep`, `flip`: what becomes of the set that is held, what was
-//!   counted and what was answered. These are functions of the set and of the keys that the list
-//!   gave, for every runner. A refused operation leaves the set as it was.
-//! - An operation is refused by the first of: its file's header, another count, for `add` the size,
-//!   then the rest. `keep` and `flip` find the size after all of their first reading.
+//! - `operate`: what an action (`add`, `drop`, `keep`, `flip`, `ask`) makes of the table that is held, and
+//!   what there is to tell. That is a function of the table and of the keys that the list gave
+//!   (`means` of `specs/Actions.antt`), for every runner. A refused action leaves the set as it was.
+//! - An action is refused by the first of: its file's header, another count, for `add` the size, then
+//!   the keys; `keep` and `flip` find the size after all keys.
 //! - `use_file`: how many keys a key file has, of which all were read. `saved`: a key file in
 //!   memory of the held keys in rising order.
 //! - `put_snapshot`, `restored`: the bytes spell the one layout of the table, or are read back to
 //!   it.
-//! - Any other cause comes from outside: want of memory, a failed read, a shelf or a runner that
-//!   counted its own failure. Each clause names those that its operation can meet.
+//! - Any other cause comes from outside: want of memory, or a shelf, a reader or a runner that failed,
+//!   which was counted. A failed read is told of a file only where the shelf was shown a reader of which
+//!   one failed, and with any other cause it was shown none.
 //! - Want of memory is told only where the shelf counted a failure, or the file was found to have
 //!   as many keys as before. For `add` a table is then large enough, too. Of `use_file` it is told
 //!   only where the shelf counted one. A refused start is told as that and as nothing else.
@@ -23,16 +24,19 @@
 //!   by one.
 #![tactic(auto)]
 
+mod action;
 mod cause;
 mod key_lists;
 mod laws;
 mod opening;
 mod operations;
+mod sets;
 mod size;
 mod snapshots;
 
+pub use action::{Action, Done};
 pub use cause::Cause;
 pub use key_lists::{KeyList, Source};
 pub use laws::one_size;
-pub use operations::{Flips, add, ask, drop_keys, flip, keep, saved, use_file};
+pub use operations::{operate, saved, use_file};
 pub use snapshots::{put_snapshot, restored};

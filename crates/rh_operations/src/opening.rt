@@ -1,40 +1,39 @@
-//! Opening a list at its beginning.
+//! Opening files of a shelf.
 
-ghost use Rattle.std.specs.Prelude.{◌≡◌, ◌⊎◌, ℕ, List, Some, Ok, IfOk, IfErr, OnOk};
-ghost use Rattle.rh_bytes.specs.Counting.{Rose, inner_of};
-ghost use Rattle.rh_key_files.specs.Source.{ComesFrom};
-ghost use Rattle.rh_key_files.specs.Stream.{coming_of, left_in, left_of, state_of};
+ghost use Rattle.std.specs.Prelude.{◌≡◌, ◌≢◌, ◌⊎◌, Some, IfOk, IfErr};
+ghost use Rattle.rh_bytes.specs.Counting.{Rose, failures_of, inner_of};
 ghost use Rattle.rh_shelf.specs.Shelf.{Files, Finds, Lacks};
-ghost use Rattle.rh_operations.specs.Leaves.{KeepsShelf};
-ghost use Rattle.rh_operations.specs.Refusals.{RefusedBy};
-ghost use Rattle.rh_operations.specs.Found.{count_again, header_count};
-ghost use Rattle.rh_operations.specs.KeyLists.{Opens, source_bytes, bytes_left};
-ghost use Rattle.rh_operations.specs.Refusals.{ListFails};
+ghost use Rattle.rh_operations.specs.Found.{header_count};
+ghost use Rattle.rh_operations.specs.KeyLists.{Opens, bytes_left, source_bytes};
+ghost use Rattle.rh_operations.specs.Leaves.{IsRead, KeepsShelf};
+ghost use Rattle.rh_operations.specs.Refusals.{ListFails, RefusedBy};
 
 use crate::cause::Cause;
 use crate::key_lists::{KeyList, ListReader, Source};
 use rh_bytes::Counted;
-use rh_key_files::{KeyStream, open_keys};
-use rh_shelf::{Shelf, ShelfFault};
+use rh_key_files::KeyFault;
+use rh_shelf::{Lender, ShelfFault};
+use rh_snapshot::SnapFault;
 use std::alloc::Global;
-use std::io::Read;
 
 /// A reader of the file at the path.
-pub(crate) fn fetched<S: Shelf>(
+pub(crate) fn open_file<S: Lender>(
     alloc: Global,
     shelf: &mut S,
     path: &str,
 ) -> Result<S::Reader, Cause>
-    ensures found { IfOk result (λ r. Finds (S.files shelf.old) path.now (S.Reader.remaining r)) }
+    ensures opened { IfOk result (λ r.
+        Finds (S.state shelf.old).files path.now (S.Reader.remaining r)) }
     ensures refused { IfErr result (λ cause. (cause ≡ Cause.Memory) ⊎ ((cause ≡ Cause.Missing)
-        × (Lacks (S.files shelf.old) path.now
-        ⊎ Rose (S.failures shelf.old) (S.failures shelf.new)))) }
+        × (Lacks (S.state shelf.old).files path.now
+        ⊎ Rose (S.state shelf.old).failures (S.state shelf.new).failures))) }
     ensures memory { IfErr result (λ cause. cause ≡ Cause.Memory →
-        Rose (S.failures shelf.old) (S.failures shelf.new)) }
-    ensures fine { OnOk result (S.failures shelf.new ≡ S.failures shelf.old) }
-    ensures same_files { S.files shelf.new ≡ S.files shelf.old }
+        Rose (S.state shelf.old).failures (S.state shelf.new).failures) }
+    ensures shelf { KeepsShelf (S.state shelf.old) (S.state shelf.new) result }
+    ensures no_thread { IfErr result (λ cause. cause ≡ Cause.NoThread → ⊥) }
+    ensures no_write { IfErr result (λ cause. cause ≡ Cause.Write → ⊥) }
 {
-    match shelf.fetch(alloc, path) {
+    match shelf.lend(alloc, path) {
         Ok(reader) => Ok(reader),
         Err(ShelfFault::Missing) => Err(Cause::Missing),
         Err(ShelfFault::Memory) => Err(Cause::Memory),
@@ -42,51 +41,42 @@ pub(crate) fn fetched<S: Shelf>(
     }
 }
 
-/// A reader of the list's file.
-pub(crate) fn open_list<'a, S: Shelf>(
+/// A reader of the list's file, which has not failed yet.
+pub(crate) fn open_list<'a, S: Lender>(
     alloc: Global,
     shelf: &mut S,
     list: &'a KeyList<'_>,
 ) -> Result<Counted<ListReader<'a, S::Reader>>, Cause>
-    ensures opened { IfOk result (λ r. Opens (S.files shelf.old) list.now.source
+    ensures opened { IfOk result (λ r. Opens (S.state shelf.old).files list.now.source
         (bytes_left S.Reader.remaining (inner_of r))) }
-    ensures refused { (files : Files) → S.files shelf.old ≡ Some files → IfErr result
+    ensures fresh { IfOk result (λ r. failures_of r ≡ 0) }
+    ensures refused { (files : Files) → (S.state shelf.old).files ≡ Some files → IfErr result
         (RefusedBy (header_count (source_bytes files list.now.source))
-        (ListFails (Rose (S.failures shelf.old) (S.failures shelf.new)))) }
+        (ListFails (Rose (S.state shelf.old).failures (S.state shelf.new).failures) ⊥)) }
     ensures memory { IfErr result (λ cause. cause ≡ Cause.Memory →
-        Rose (S.failures shelf.old) (S.failures shelf.new)) }
-    ensures shelf { KeepsShelf (S.files shelf.old) (S.files shelf.new) (S.failures shelf.old)
-        (S.failures shelf.new) result }
+        Rose (S.state shelf.old).failures (S.state shelf.new).failures) }
+    ensures shelf { KeepsShelf (S.state shelf.old) (S.state shelf.new) result }
     ensures no_thread { IfErr result (λ cause. cause ≡ Cause.NoThread → ⊥) }
     ensures no_write { IfErr result (λ cause. cause ≡ Cause.Write → ⊥) }
 {
     Ok(Counted::new(match &list.source {
-        Source::Path(path) => ListReader::File(fetched(alloc, shelf, path)?),
+        Source::Path(path) => ListReader::File(open_file(alloc, shelf, path)?),
         Source::Memory(bytes) => ListReader::Memory(bytes),
     }))
 }
 
-/// The keys of a list that had so many. `Changed`: its file has another number of keys now.
-pub(crate) fn keys_again<R: Read>(
-    reader: &mut Counted<R>,
-    count: u64,
-) -> Result<KeyStream<'_, R>, Cause>
-    ensures coming { IfOk result (λ s.
-        ComesFrom (R.remaining (inner_of reader.old)) (coming_of R.remaining s)) }
-    ensures left { IfOk result (λ s. left_in (state_of s) (left_of s) ≡ count) }
-    ensures again { (bytes : List ℕ) → R.remaining (inner_of reader.old) ≡ Some bytes →
-        OnOk result (count_again count (Some bytes) ≡ Ok count) }
-    ensures refused { (bytes : List ℕ) → R.remaining (inner_of reader.old) ≡ Some bytes →
-        IfErr result (RefusedBy (count_again count (Some bytes)) (ListFails ⊥)) }
-    ensures no_memory { IfErr result (λ cause. cause ≡ Cause.Memory → ⊥) }
-    ensures not_missing { IfErr result (λ cause. cause ≡ Cause.Missing → ⊥) }
-    ensures no_thread { IfErr result (λ cause. cause ≡ Cause.NoThread → ⊥) }
-    ensures not_put { IfErr result (λ cause. cause ≡ Cause.Put → ⊥) }
-    ensures no_write { IfErr result (λ cause. cause ≡ Cause.Write → ⊥) }
+/// Shows the shelf a reader of which a failed read is the cause, and hands the cause on.
+pub(crate) fn blame_reader<S: Lender, R>(shelf: &mut S, reader: &Counted<R>, cause: Cause) -> Cause
+    requires { IsRead cause → failures_of reader.now ≢ 0 }
+    ensures same_cause { result ≡ cause }
+    ensures read { IsRead cause →
+        Rose (S.state shelf.old).failed_reads (S.state shelf.new).failed_reads }
+    ensures others { (IsRead cause → ⊥) → S.state shelf.new ≡ S.state shelf.old }
+    ensures same_failures { (S.state shelf.new).failures ≡ (S.state shelf.old).failures }
+    ensures same_files { (S.state shelf.new).files ≡ (S.state shelf.old).files }
 {
-    let keys = open_keys(reader)?;
-    if keys.count() != count {
-        return Err(Cause::Changed);
+    if let Cause::Keys(KeyFault::Read) | Cause::Snap(SnapFault::Read) = cause {
+        shelf.blame(reader);
     }
-    Ok(keys)
+    cause
 }

@@ -3,16 +3,13 @@
 ghost use Rattle.std.specs.Prelude.{◌≡◌, ◌+◌, ◌^◌, ◌<◌, Ok, IsOk, IfOk, IfErr};
 ghost use Rattle.std.specs.FinSet as finset;
 ghost use Rattle.rh_layout.specs.Layout.{IsLayout, keys_of};
-ghost use Rattle.rh_runner.specs.Lists.{may_add};
-ghost use Rattle.rh_operations.specs.Operations.{size_with};
 ghost use Rattle.rh_operations.specs.Size.{size_for};
-ghost use Rattle.rh_operations.specs.Refusals.{RefusedBy};
+ghost use Rattle.rh_operations.specs.Refusals.{IsOfPhase, RefusedBy};
 ghost use Rattle.rh_operations.specs.Refusals.{MemoryFails};
 
 use crate::cause::Cause;
 use rh_edit::SeqSet;
 use rh_grow::{bits_for, grow};
-use rh_ledger::Kind;
 use rh_runner::Scratch;
 use std::alloc::{AllocError, Global};
 
@@ -28,8 +25,8 @@ pub(crate) fn grown(alloc: Global, set: &SeqSet, more: u64) -> Result<Scratch, C
         (RefusedBy (size_for set.now.bits (finset.len set.now.keys + more)) MemoryFails) }
     ensures memory { IfErr result (λ cause. cause ≡ Cause.Memory →
         IsOk (size_for set.now.bits (finset.len set.now.keys + more))) }
+    ensures own { IfErr result IsOfPhase }
     ensures no_thread { IfErr result (λ cause. cause ≡ Cause.NoThread → ⊥) }
-    ensures no_write { IfErr result (λ cause. cause ≡ Cause.Write → ⊥) }
 {
     let Some(size) = bits_for(set.bits(), set.len() as u64, more) else {
         return Err(Cause::TooLarge);
@@ -39,31 +36,6 @@ pub(crate) fn grown(alloc: Global, set: &SeqSet, more: u64) -> Result<Scratch, C
     }
     let cells = grow(alloc, set.bits(), set.cells(), size)?;
     Ok(Scratch { bits: size, cells })
-}
-
-/// A copy of the set's table for a change by `many` keys.
-pub(crate) fn scratch_for(
-    alloc: Global,
-    kind: Kind,
-    set: &SeqSet,
-    many: u64,
-) -> Result<Scratch, Cause>
-    ensures size { IfOk result (λ t. size_with kind set.now many ≡ Ok t.bits) }
-    ensures layout { IfOk result (λ t. IsLayout t.bits t.cells.items) }
-    ensures keys { IfOk result (λ t. keys_of t.cells.items ≡ set.now.keys) }
-    ensures room { IfOk result (λ t. finset.len set.now.keys + may_add kind many < 2 ^ t.bits) }
-    ensures refused { IfErr result (RefusedBy (size_with kind set.now many) MemoryFails) }
-    ensures memory { IfErr result (λ cause. cause ≡ Cause.Memory →
-        IsOk (size_with kind set.now many)) }
-    ensures not_missing { IfErr result (λ cause. cause ≡ Cause.Missing → ⊥) }
-    ensures no_thread { IfErr result (λ cause. cause ≡ Cause.NoThread → ⊥) }
-    ensures not_put { IfErr result (λ cause. cause ≡ Cause.Put → ⊥) }
-    ensures no_write { IfErr result (λ cause. cause ≡ Cause.Write → ⊥) }
-{
-    match kind {
-        Kind::Insert => grown(alloc, set, many),
-        Kind::Remove | Kind::Ask => Ok(copied(alloc, set)?),
-    }
 }
 
 /// A copy of the set's table as it is.

@@ -3,36 +3,37 @@
 ghost use Rattle.std.specs.Prelude.{◌≡◌, ℕ, List, Some, Ok, IfErr, IfOk, OnErr, OnOk};
 ghost use Rattle.rh_bytes.specs.Counting.{Rose};
 ghost use Rattle.rh_shelf.specs.Shelf.{Files, InDoubt, Puts};
-ghost use Rattle.rh_operations.specs.Operations.{IsSnapshotOf};
+ghost use Rattle.rh_operations.specs.Snapshots.{IsSnapshotOf};
 ghost use Rattle.rh_operations.specs.Leaves.{KeepsShelf};
 ghost use Rattle.rh_operations.specs.Refusals.{RefusedBy};
 ghost use Rattle.rh_operations.specs.Found.{table_found};
 ghost use Rattle.rh_operations.specs.Refusals.{PutFails, RestoreFails};
 
 use crate::cause::Cause;
-use crate::opening::fetched;
+use crate::opening::{blame_reader, open_file};
 use rh_bytes::Counted;
 use rh_edit::SeqSet;
-use rh_shelf::{Shelf, ShelfFault};
+use rh_shelf::{Lender, ShelfFault};
 use rh_snapshot::{read_snapshot, write_snapshot};
 use std::alloc::Global;
 
 /// Puts a snapshot of the set's table under the path.
-pub fn put_snapshot<S: Shelf>(
+pub fn put_snapshot<S: Lender>(
     alloc: Global,
     shelf: &mut S,
     path: &str,
     set: &SeqSet,
 ) -> Result<(), Cause>
     ensures put { OnOk result ((bytes : List ℕ) × IsSnapshotOf set.now bytes
-        × Puts (S.files shelf.old) (S.files shelf.new) path.now bytes) }
-    ensures doubt { OnErr result (InDoubt (S.files shelf.old) (S.files shelf.new) path.now) }
+        × Puts (S.state shelf.old).files (S.state shelf.new).files path.now bytes) }
+    ensures doubt { OnErr result (InDoubt (S.state shelf.old).files (S.state shelf.new).files path.now) }
     ensures refused { IfErr result
-        (PutFails (Rose (S.failures shelf.old) (S.failures shelf.new))) }
-    ensures fine { OnOk result (S.failures shelf.new ≡ S.failures shelf.old) }
+        (PutFails (Rose (S.state shelf.old).failures (S.state shelf.new).failures)) }
+    ensures fine { OnOk result ((S.state shelf.new).failures ≡ (S.state shelf.old).failures) }
+    ensures same_reads { (S.state shelf.new).failed_reads ≡ (S.state shelf.old).failed_reads }
 {
     let bytes = sealed(alloc, set)?;
-    match shelf.put(alloc, path, &bytes) {
+    match shelf.store(alloc, path, &bytes) {
         Ok(()) => Ok(()),
         Err(ShelfFault::Write) => Err(Cause::Put),
         Err(ShelfFault::Memory) => Err(Cause::Memory),
@@ -51,18 +52,20 @@ fn sealed(alloc: Global, set: &SeqSet) -> Result<Vec<u8>, Cause>
 }
 
 /// The table of the snapshot at the path.
-pub fn restored<S: Shelf>(alloc: Global, shelf: &mut S, path: &str) -> Result<SeqSet, Cause>
-    ensures restored { (files : Files) → S.files shelf.old ≡ Some files →
+pub fn restored<S: Lender>(alloc: Global, shelf: &mut S, path: &str) -> Result<SeqSet, Cause>
+    ensures restored { (files : Files) → (S.state shelf.old).files ≡ Some files →
         IfOk result (λ set. table_found (files path.now) ≡ Ok set) }
-    ensures refused { (files : Files) → S.files shelf.old ≡ Some files → IfErr result
+    ensures refused { (files : Files) → (S.state shelf.old).files ≡ Some files → IfErr result
         (RefusedBy (table_found (files path.now))
-        (RestoreFails (Rose (S.failures shelf.old) (S.failures shelf.new)))) }
-    ensures shelf { KeepsShelf (S.files shelf.old) (S.files shelf.new) (S.failures shelf.old)
-        (S.failures shelf.new) result }
+        (RestoreFails (Rose (S.state shelf.old).failures (S.state shelf.new).failures)
+        (Rose (S.state shelf.old).failed_reads (S.state shelf.new).failed_reads))) }
+    ensures shelf { KeepsShelf (S.state shelf.old) (S.state shelf.new) result }
     ensures no_thread { IfErr result (λ cause. cause ≡ Cause.NoThread → ⊥) }
     ensures no_write { IfErr result (λ cause. cause ≡ Cause.Write → ⊥) }
 {
-    let mut reader = Counted::new(fetched(alloc, shelf, path)?);
-    let snapshot = read_snapshot(alloc, &mut reader)?;
-    Ok(SeqSet::from_cells(snapshot.bits, snapshot.cells))
+    let mut reader = Counted::new(open_file(alloc, shelf, path)?);
+    match read_snapshot(alloc, &mut reader) {
+        Ok(snapshot) => Ok(SeqSet::from_cells(snapshot.bits, snapshot.cells)),
+        Err(fault) => Err(blame_reader(shelf, &reader, Cause::from(fault))),
+    }
 }

@@ -8,8 +8,8 @@ use Rattle.std.specs.FinSet.{contains, contains-empty}
 use Rattle.rh_layout.specs.Layout.{Keys}
 use Rattle.rh_ledger.specs.declared.tally.Kind.TheVariants.{Insert, Remove}
 use Rattle.rh_ledger.specs.Phase.{set_after}
-use Rattle.rh_runner.specs.declared.choice.Chosen.{Chosen}
-use Rattle.rh_runner.specs.declared.choice.Chosen.TheVariants.{Absent, Present}
+use Rattle.rh_runner.specs.declared.chosen.Chosen.{Chosen}
+use Rattle.rh_runner.specs.declared.chosen.Chosen.TheVariants.{Absent, Present}
 use Rattle.rh_runner.specs.Lists.{chosen, is_chosen}
 use Rattle.rh_operations.specs.Sets.{flipped, kept}
 use Rattle.rh_combine.proofs.Meaning.{holds, or_and, or_none, out, put, same}

@@ -12,6 +12,9 @@
 //! let report = run(rt, alloc, &script, &mut shelf, &mut Threads::new(4), &mut writer)?;
 //! ```
 //!
+//! `run` takes any `Shelf`. In a `CountedShelf` it counts the failed reads of the shelf's files too, and then
+//! tells one only where there was one (`Lender`).
+//!
 //! It hands on what `rh_script`, `rh_script_run`, `rh_runner`, `Threads` of `rh_threads` and `rh_shelf`
 //! do, with their contracts. With these go `write_keys` of `rh_key_files` and the shelf of `rh_faulty`
 //! that fails once. The program `rh_example` carries out a script so, by one worker and by four.
@@ -27,6 +30,6 @@ pub use rh_script_run::{
     Cause, Report, RunFault, ends_as_meant, only_what_is_read_matters, run, run_twice, runs_agree,
     texts_agree,
 };
-pub use rh_shelf::{FileShelf, MemShelf, Shelf, ShelfFault};
+pub use rh_shelf::{CountedShelf, FileShelf, Lender, MemShelf, Shelf, ShelfFault};
 pub use rh_snapshot::SnapFault;
 pub use rh_threads::Threads;

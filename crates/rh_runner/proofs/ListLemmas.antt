@@ -93,15 +93,6 @@ look_ups_more S done batch found answers more so_far next joined =
     ∙ ap (λ (l : List Bool). looked_up S done ++ l) next
     ∙ sym (map-append (contains S) done batch)
 
-read-tally : (kind : Kind) (S : Keys) (keys : List ℕ) → (tally_of kind S keys).read ≡ length keys
-read-tally kind S [] = refl
-read-tally Insert S (k ∷ keys) = omega (arith, read-tally Insert (set_with Insert S k) keys)
-read-tally Remove S (k ∷ keys) = omega (arith, read-tally Remove (set_with Remove S k) keys)
-read-tally Ask S (k ∷ keys) = omega (arith, read-tally Ask (set_with Ask S k) keys)
-
-pub read_of : {kind : Kind} {bits : ℕ} {keys old new : List ℕ} {t : Tally} → Ran kind bits keys old new t → t.read ≡ length keys
-read_of {kind} {bits} {keys} {old} ran = ap (λ (t : Tally). t.read) ran.tally ∙ read-tally kind (keys_of old) keys
-
 -- ---- no count is greater than the number of keys
 
 cond-le_one : (b : Bool) → (cond b 1 0 ≤ 1) × (cond b 0 1 ≤ 1)

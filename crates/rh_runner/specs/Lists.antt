@@ -1,5 +1,5 @@
 -- Phases over whole lists of keys, which come in batches.
-use Rattle.std.specs.Prelude.{◌≡◌, ◌≢◌, ◌<◌, ℕ, List, length, All, Bool, not, Option, Some, Ok}
+use Rattle.std.specs.Prelude.{◌≡◌, ℕ, List, length, All, Bool, not, Option, Some}
 use Rattle.std.specs.List.{filter}
 use Rattle.std.specs.FinSet.{contains}
 use Rattle.rh_layout.specs.Key.{IsKey}
@@ -11,9 +11,8 @@ use Rattle.rh_ledger.specs.declared.tally.Kind.{Kind}
 use Rattle.rh_ledger.specs.declared.tally.Kind.TheVariants.{Insert, Remove, Ask}
 use Rattle.rh_ledger.specs.declared.tally.Tally.{Tally}
 use Rattle.rh_ledger.specs.Phase.{set_after, tally_of}
-use Rattle.rh_runner.specs.declared.choice.Choice.{Choice}
-use Rattle.rh_runner.specs.declared.choice.Chosen.{Chosen}
-use Rattle.rh_runner.specs.declared.choice.Chosen.TheVariants.{Present, Absent}
+use Rattle.rh_runner.specs.declared.chosen.Chosen.{Chosen}
+use Rattle.rh_runner.specs.declared.chosen.Chosen.TheVariants.{Present, Absent}
 use Rattle.rh_runner.specs.declared.runner.PhaseFault.{PhaseFault}
 use Rattle.rh_runner.specs.declared.runner.PhaseFault.TheVariants.{Memory, NoThread}
 use Rattle.rh_runner.specs.declared.fault.ListFault.{ListFault}
@@ -46,9 +45,6 @@ is_chosen Absent held = not held
 abbrev pub chosen : Chosen → Keys → List ℕ → List ℕ
 chosen which S list = filter (λ k. is_chosen which (contains S k)) list
 
-abbrev pub by_choice : Choice → List ℕ → List ℕ
-by_choice choice list = chosen choice.chosen choice.set.now.keys list
-
 -- Why a phase was not carried out: memory ran out, or the start of a thread was refused, which the runner counted.
 abbrev pub RefusedPhase : (starts starts' : ℕ) → PhaseFault → Type 0
 RefusedPhase n m Memory = Unit {0}
@@ -57,24 +53,9 @@ RefusedPhase n m NoThread = Rose n m
 -- A fault of the keys is the one that their source told, and with any other it told none.
 abbrev pub TellsKeyFault : (told told' : Option KeyFault) → ListFault → Type 0
 TellsKeyFault before after (faults.Keys e) = after ≡ Some e
-TellsKeyFault before after faults.Changed = after ≡ before
 TellsKeyFault before after (faults.Phase e) = after ≡ before
 
--- Why a list was not gone through: a fault of its keys was to come, or its phase failed. No list is found changed.
+-- Why a list was not gone through: a fault of its keys was to come, or its phase failed.
 abbrev pub Refused : Coming → (starts starts' : ℕ) → ListFault → Type 0
 Refused coming n m (faults.Keys e) = FaultComes coming e
-Refused coming n m faults.Changed = ⊥
 Refused coming n m (faults.Phase e) = RefusedPhase n m e
-
--- Why a batch was not taken: more of its places are chosen than are left, or its phase failed.
-abbrev pub RefusedBatch : (left many : ℕ) → (starts starts' : ℕ) → ListFault → Type 0
-RefusedBatch left many n m (faults.Keys e) = ⊥
-RefusedBatch left many n m faults.Changed = left < many
-RefusedBatch left many n m (faults.Phase e) = RefusedPhase n m e
-
--- As `Refused`, but a list may be found changed: only one of which more or fewer places are chosen.
-abbrev pub RefusedFor : Coming → Choice → (starts starts' : ℕ) → ListFault → Type 0
-RefusedFor coming choice n m (faults.Keys e) = FaultComes coming e
-RefusedFor coming choice n m faults.Changed =
-    (list : List ℕ) → coming ≡ Some (Ok list) → length (by_choice choice list) ≢ choice.many
-RefusedFor coming choice n m (faults.Phase e) = RefusedPhase n m e

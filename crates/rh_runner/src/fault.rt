@@ -10,9 +10,6 @@ use thiserror::Error;
 pub enum ListFault {
     #[error(transparent)]
     Keys(KeyFault),
-    /// Another reading of the list found another number of keys, or of chosen keys, than before.
-    #[error("key file has changed")]
-    Changed,
     #[error(transparent)]
     Phase(PhaseFault),
 }

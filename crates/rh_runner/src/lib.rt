@@ -11,13 +11,13 @@
 //! - A runner counts the starts of threads that were refused. It tells of one only where that count
 //!   rose and its workers are more than one; where it tells want of memory, the count is as it was.
 //! - `Single` does it with one worker, and its count stays 0.
-//! - `change_all`, `ask_all`, `insert_chosen`, `remove_and_count_absent` and
-//!   `read_through`: a list that comes in batches is gone through as the whole list.
+//! - `change_all`, `ask_all`, `read_through` and `take_all`: a list that comes in batches is gone
+//!   through as the whole list.
+//! - `choose`: of a list the keys that a set holds, or the others.
 //! - A fault of the keys is the one that their source told, and where another is told, the source
 //!   told none. A start that was refused is told as that.
 #![tactic(auto)]
 
-mod choice;
 mod chosen;
 mod fault;
 mod lists;
@@ -25,10 +25,9 @@ mod runner;
 mod scratch;
 mod single;
 
-pub use choice::{Choice, Chosen};
-pub use chosen::{Removed, insert_chosen, remove_and_count_absent};
+pub use chosen::{Chosen, choose};
 pub use fault::ListFault;
-pub use lists::{BATCH, LOOK_UPS, PHASE, ask_all, change_all, read_through};
+pub use lists::{BATCH, LOOK_UPS, PHASE, ask_all, change_all, read_through, take_all};
 pub use runner::{PhaseFault, Runner};
 pub use scratch::Scratch;
 pub use single::Single;

@@ -49,6 +49,24 @@ pub fn read_through<K: KeySource>(keys: &mut K) -> Result<(), KeyFault>
     Ok(())
 }
 
+/// Puts all keys of a list into a buffer that has just room for them.
+pub fn take_all<K: KeySource>(keys: &mut K, list: &mut [u64]) -> Result<(), KeyFault>
+    requires { length list.old ≡ K.left_of keys.old }
+    ensures took { OnOk result (Took (K.coming keys.old) (K.left_of keys.old) list.new) }
+    ensures long { length list.new ≡ length list.old }
+    ensures refused { IfErr result (FaultComes (K.coming keys.old)) }
+    ensures told { IfErr result (λ e. K.told_by keys.new ≡ Some e) }
+    ensures fine { OnOk result (K.told_by keys.new ≡ K.told_by keys.old) }
+{
+    let mut taken = 0;
+    while taken < list.len() {
+        taken += keys.next_keys(&mut list[taken..])?;
+    }
+    // Behind them the list ends.
+    keys.next_keys(&mut [0])?;
+    Ok(())
+}
+
 /// Inserts or removes all keys of a list. On a fault the table may hold some of the changes.
 pub fn change_all<T: Threads + Wait + Sync, N: Runner, K: KeySource>(
     rt: &T,

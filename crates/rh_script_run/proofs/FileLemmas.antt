@@ -23,7 +23,7 @@ use Rattle.rh_shelf.specs.Shelf.{Files, Puts, with_file}
 use Rattle.rh_operations.specs.declared.key_lists.KeyList.{KeyList}
 use Rattle.rh_operations.specs.declared.key_lists.Source.{Source}
 use Rattle.rh_operations.specs.declared.key_lists.Source.TheVariants.{Path, Memory}
-use Rattle.rh_operations.specs.Operations.{IsSnapshotOf}
+use Rattle.rh_operations.specs.Snapshots.{IsSnapshotOf}
 use Rattle.rh_operations.specs.Found.{keys_found, table_found}
 use Rattle.rh_script_run.specs.Files.{Bytes, File, FileMap, HasFiles, IsFile, Sealed, with_snapshot}
 use Rattle.rh_operations.specs.KeyLists.{Stands, source_bytes as bytes_in, path_of, paths_of}

@@ -27,39 +27,39 @@ use Rattle.rh_script_run.proofs.MadeLemmas.{Made, made_all, made_by, made_to, re
 
 -- ---- a cause that was found is none from outside, but that of a file that is not there
 
-module _ (failed lacks : Type 0) where
+module _ (failed read lacks : Type 0) where
   -- the file is not there, whether the shelf failed or not
   abbrev IsLack : Cause → Type 0
   IsLack cause = (cause ≡ causes.Missing) × lacks
 
-  memory_found : (cause : Cause) → IsFound failed lacks cause → MemoryFails cause → IsLack cause
+  memory_found : (cause : Cause) → IsFound failed read lacks cause → MemoryFails cause → IsLack cause
   memory_found causes.Memory found out = absurd found
   memory_found cause found out = absurd out
 
-  list_found : (cause : Cause) → IsFound failed lacks cause → ListFails failed cause → IsLack cause
+  list_found : (cause : Cause) → IsFound failed read lacks cause → ListFails failed read cause → IsLack cause
   list_found causes.Memory found out = absurd found
-  list_found (causes.Keys key_faults.Read) found out = absurd (found refl)
+  list_found (causes.Keys key_faults.Read) found out = absurd (found refl out)
   list_found causes.Missing (inl fine) out = absurd (fine out)
   list_found causes.Missing (inr none) out = (refl, none)
   list_found cause found out = absurd out
 
-  phase_found : (refused : Type 0) (cause : Cause) → IsFound failed lacks cause → PhaseFails failed refused cause → IsLack cause
+  phase_found : (refused : Type 0) (cause : Cause) → IsFound failed read lacks cause → PhaseFails failed read refused cause → IsLack cause
   phase_found refused causes.NoThread found out = absurd found
   phase_found refused cause found out = list_found cause found out
 
-  put_found : (cause : Cause) → IsFound failed lacks cause → PutFails failed cause → IsLack cause
+  put_found : (cause : Cause) → IsFound failed read lacks cause → PutFails failed cause → IsLack cause
   put_found causes.Memory found out = absurd found
   put_found causes.Put found out = absurd found
   put_found cause found out = absurd out
 
-  restore_found : (cause : Cause) → IsFound failed lacks cause → RestoreFails failed cause → IsLack cause
+  restore_found : (cause : Cause) → IsFound failed read lacks cause → RestoreFails failed read cause → IsLack cause
   restore_found causes.Memory found out = absurd found
-  restore_found (causes.Snap snap_faults.Read) found out = absurd (found refl)
+  restore_found (causes.Snap snap_faults.Read) found out = absurd (found refl out)
   restore_found causes.Missing (inl fine) out = absurd (fine out)
   restore_found causes.Missing (inr none) out = (refl, none)
   restore_found cause found out = absurd out
 
-  not_outside : (refused : Type 0) (said : Instruction) (cause : Cause) → IsFound failed lacks cause → IsOutside said failed refused cause → IsLack cause
+  not_outside : (refused : Type 0) (said : Instruction) (cause : Cause) → IsFound failed read lacks cause → IsOutside said failed read refused cause → IsLack cause
   not_outside refused (Use name path) cause found out = list_found cause found out
   not_outside refused (Add name) cause found out = phase_found refused cause found out
   not_outside refused (Drop name) cause found out = phase_found refused cause found out
@@ -128,12 +128,14 @@ files_left said w before after found cause is left = others_left said w found af
 pub then_none : (a b c : Option (List ℕ)) (text : List ℕ) → Appends a b text → Appends b c [] → Appends a c text
 then_none a b c text so_far none = subst (Appends a c) (append-nil text) (Appends-trans a b c text [] so_far none)
 
-module _ (files : Files) (steps : List Numbered) (old new : Environment) (fault : RunFault) (s : Stopped files steps old new fault) (found : IsFound (Rose old.failures new.failures) (ReadsNoneAt new.files fault.line steps) fault.cause) where
+module _ (files : Files) (steps : List Numbered) (old new : Environment) (fault : RunFault) (s : Stopped files steps old new fault) (found : IsFound (Rose old.failures new.failures) (Rose old.failed_reads new.failed_reads) (ReadsNoneAt new.files fault.line steps) fault.cause) where
   abbrev lacks : Type 0
   lacks = ReadsNoneAt new.files fault.line steps
 
-  found_here : IsFound (Rose s.middle.failures new.failures) lacks fault.cause
-  found_here = subst (λ n. IsFound (Rose n new.failures) lacks fault.cause) (sym s.fine) found
+  found_here : IsFound (Rose s.middle.failures new.failures) (Rose s.middle.failed_reads new.failed_reads) lacks fault.cause
+  found_here =
+      subst (λ n. IsFound (Rose n new.failures) (Rose s.middle.failed_reads new.failed_reads) lacks fault.cause) (sym s.fine)
+      (subst (λ n. IsFound (Rose old.failures new.failures) (Rose n new.failed_reads) lacks fault.cause) (sym s.read) found)
 
   missing_here : fault.cause ≡ causes.Missing → lacks → outcome_of s.world s.step.instruction ≡ Err fault.cause
   missing_here is none =
@@ -145,9 +147,9 @@ module _ (files : Files) (steps : List Numbered) (old new : Environment) (fault 
   refusal : EndsBy (step_in s.world s.step.instruction s.middle new) fault.cause → (outcome_of s.world s.step.instruction ≡ Err fault.cause) × Appends s.middle.text new.text []
   refusal (inl (none, inl is)) = (is, none)
   refusal (inl (none, inr out)) =
-      let its = not_outside (Rose s.middle.failures new.failures) lacks _ s.step.instruction fault.cause found_here out in
+      let its = not_outside (Rose s.middle.failures new.failures) (Rose s.middle.failed_reads new.failed_reads) lacks _ s.step.instruction fault.cause found_here out in
       (missing_here its.0 its.1, none)
-  refusal (inr written) = absurd (subst (IsFound (Rose old.failures new.failures) lacks) written.0 found)
+  refusal (inr written) = absurd (subst (IsFound (Rose old.failures new.failures) (Rose old.failed_reads new.failed_reads) lacks) written.0 found)
 
   stopped_meant : Meant files steps old new (Err fault)
   stopped_meant =

@@ -8,7 +8,7 @@ use Rattle.rh_layout.specs.declared.limits.TheConstants.{MIN_BITS}
 use Rattle.rh_edit.specs.Held.{Held}
 use Rattle.rh_ledger.specs.declared.tally.Kind.TheVariants.{Insert, Remove}
 use Rattle.rh_ledger.specs.Phase.{set_after, tally_of}
-use Rattle.rh_runner.specs.declared.choice.Chosen.TheVariants.{Absent, Present}
+use Rattle.rh_runner.specs.declared.chosen.Chosen.TheVariants.{Absent, Present}
 use Rattle.rh_runner.specs.Lists.{chosen}
 use Rattle.rh_script.specs.Instruction.{Instruction, Numbered, Use, Add, Drop, Ask, Keep, Flip, Save, Clear, Dump, Snapshot, Restore}
 use Rattle.rh_shelf.specs.Shelf.{Files}

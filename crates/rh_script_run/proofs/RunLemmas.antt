@@ -262,10 +262,10 @@ module _ (files : Files) (steps : List Numbered) (i : ℕ) (step : PlannedStep) 
       let its_paths = subst (λ said. paths_of next.lists ≡ paths_of now.lists ++ file_of said) here.said paths in
       subst (λ l. Reached files l old next) (sym here.more) (reached_more files (take i steps) here.numbered old now next so_far its its_paths)
 
-  pub stops_here : (new : Environment) (cause : Cause) → now.environment.failures ≡ old.failures → now.environment.refused_starts ≡ old.refused_starts
+  pub stops_here : (new : Environment) (cause : Cause) → now.environment.failures ≡ old.failures → now.environment.failed_reads ≡ old.failed_reads → now.environment.refused_starts ≡ old.refused_starts
       → EndsBy (step_in world_here (task_as step.task).0 now.environment new) cause × LeavesFiles (step_in world_here (task_as step.task).0 now.environment new) so_far.done.made cause
       → Stopped files steps old new (record { line = step.line; cause = cause })
-  stops_here new cause fine started ends = record {
+  stops_here new cause fine read started ends = record {
     before = take i steps;
     step = here.numbered;
     after = drop (i + 1) steps;
@@ -279,6 +279,7 @@ module _ (files : Files) (steps : List Numbered) (i : ℕ) (step : PlannedStep) 
     middle = now.environment;
     written = so_far.done.written;
     fine = fine;
+    read = read;
     started = started;
     ends = subst (λ said. EndsBy (step_in world_here said now.environment new) cause) here.said ends.0;
     files_now = subst (λ said. LeavesFiles (step_in world_here said now.environment new) so_far.done.made cause) here.said ends.1;
@@ -292,8 +293,8 @@ all_carried_out files items steps i old now planned ended so_far =
 pub steps_of_plan : (planned : List Planned) (steps : List Numbered) → planned ≡ plan_of steps → length planned ≡ length steps
 steps_of_plan planned steps is = ap length is ∙ planned_long [] steps
 
-pub all_done : (files : Files) (steps : List Numbered) (set : Held) (old new : Environment) (commands held bits : ℕ) → CarriedOut files steps set old new → commands ≡ length steps → held ≡ finset.len set.keys → bits ≡ set.bits → new.failures ≡ old.failures → new.refused_starts ≡ old.refused_starts → Done files steps old new (record { commands = commands; held = held; bits = bits })
-all_done files steps set old new commands held bits carried many held_is bits_is fine started = record {
+pub all_done : (files : Files) (steps : List Numbered) (set : Held) (old new : Environment) (commands held bits : ℕ) → CarriedOut files steps set old new → commands ≡ length steps → held ≡ finset.len set.keys → bits ≡ set.bits → new.failures ≡ old.failures → new.failed_reads ≡ old.failed_reads → new.refused_starts ≡ old.refused_starts → Done files steps old new (record { commands = commands; held = held; bits = bits })
+all_done files steps set old new commands held bits carried many held_is bits_is fine read started = record {
   world = world_of set carried.named carried.made;
   accounts = carried.accounts;
   text = carried.text;
@@ -303,5 +304,6 @@ all_done files steps set old new commands held bits carried many held_is bits_is
   files_now = carried.has;
   told = λ i. record { commands = many i; held = held_is i; bits = bits_is i };
   fine = fine;
+  read = read;
   started = started;
 }

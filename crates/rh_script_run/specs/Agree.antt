@@ -1,5 +1,5 @@
 -- What two runs of one script have in common.
-use Rattle.std.specs.Prelude.{◌≡◌, ◌≢◌, ℕ, ◌⊎◌, List, [], ◌∷◌, length, All, Option, Some, Result, Ok, Err}
+use Rattle.std.specs.Prelude.{◌≡◌, ℕ, ◌⊎◌, List, [], ◌∷◌, length, All, Option, Some, Result, Ok, Err}
 use Rattle.std.specs.FinSet as set
 use Rattle.std.specs.Io.KnownBytes.{Appends}
 use Rattle.rh_bytes.specs.Counting.{AppendsFront, Rose}
@@ -25,21 +25,22 @@ ReadsNone now _ = ⊥
 abbrev pub ReadsNoneAt : (now : Option Files) → (line : ℕ) → List Numbered → Type 0
 ReadsNoneAt now line steps = All (λ step. step.line ≡ line → ReadsNone now step.instruction) steps
 
--- A cause that can only have been found in the script and the files. `failed` says that the shelf failed, and `lacks` that it
--- is known not to have the file.
+-- A cause that can only have been found in the script and the files. `failed` says that the shelf failed, `read` that a read of
+-- one of its files failed, and `lacks` that it is known not to have the file.
 -- A shelf that failed answers `Missing` as one does that has no such file, so names of causes alone do not tell. Nor does its
 -- count of failures where it is the greatest: then the files do.
-abbrev pub IsFound : (failed lacks : Type 0) → Cause → Type 0
-IsFound failed lacks Missing = (failed → ⊥) ⊎ lacks
-IsFound failed lacks (Keys fault) = fault ≢ key_faults.Read
-IsFound failed lacks (Snap fault) = fault ≢ snap_faults.Read
-IsFound failed lacks TooLarge = Unit {0}
-IsFound failed lacks _ = ⊥
+abbrev pub IsFound : (failed read lacks : Type 0) → Cause → Type 0
+IsFound failed read lacks Missing = (failed → ⊥) ⊎ lacks
+IsFound failed read lacks (Keys fault) = fault ≡ key_faults.Read → read → ⊥
+IsFound failed read lacks (Snap fault) = fault ≡ snap_faults.Read → read → ⊥
+IsFound failed read lacks TooLarge = Unit {0}
+IsFound failed read lacks _ = ⊥
 
 -- Nothing from outside ended the run of these steps: all of them were carried out, or what was found refused one.
 abbrev pub EndsByItself : List Numbered → (old new : Environment) → Result Report RunFault → Type 0
 EndsByItself steps old new (Ok report) = Unit {0}
-EndsByItself steps old new (Err fault) = IsFound (Rose old.failures new.failures) (ReadsNoneAt new.files fault.line steps) fault.cause
+EndsByItself steps old new (Err fault) =
+    IsFound (Rose old.failures new.failures) (Rose old.failed_reads new.failed_reads) (ReadsNoneAt new.files fault.line steps) fault.cause
 
 -- one text was appended to both, where they are known
 -- (what the two were before may differ)

@@ -4,10 +4,11 @@ use Rattle.std.specs.FinSet as set
 use Rattle.std.specs.Io.KnownBytes.{Appends}
 use Rattle.rh_bytes.specs.Counting.{AppendsFront, Rose}
 use Rattle.rh_script.specs.Instruction.{Instruction, Numbered, Snapshot}
-use Rattle.rh_shelf.specs.Shelf.{Files}
+use Rattle.rh_shelf.specs.Shelf.{Files, ShelfState}
 use Rattle.rh_report.specs.Account.{Account, Says}
 use Rattle.rh_operations.specs.declared.cause.Cause.{Cause}
 use Rattle.rh_operations.specs.declared.cause.Cause.TheVariants.{Missing, Memory, Put, Write}
+use Rattle.rh_operations.specs.Leaves.{IsRead}
 use Rattle.rh_operations.specs.Refusals.{RefusedBy}
 use Rattle.rh_script_run.specs.declared.fault.RunFault.{RunFault}
 use Rattle.rh_script_run.specs.declared.report.Report.{Report}
@@ -21,12 +22,20 @@ abbrev pub SaysAll : List Account → List ℕ → Type 0
 SaysAll [] text = text ≡ []
 SaysAll (account ∷ accounts) text = (first : List ℕ) × (rest : List ℕ) × Says account first × SaysAll accounts rest × (text ≡ first ++ rest)
 
--- What any command leaves of a shelf. It failed where it did not take a file.
-pub record LeavesShelf {X : Type 0} (files files' : Option Files) (failures failures' : ℕ) (r : Result X Cause) : Type 0 where
-  pub still_unknown : files ≡ None → files' ≡ None
-  pub fine : OnOk r (failures' ≡ failures)
-  pub missing : IfErr r (λ cause. cause ≡ Missing → files ≡ None → Rose failures failures')
-  pub put : IfErr r (λ cause. cause ≡ Put → Rose failures failures')
+-- What any command leaves of a shelf. It failed where it did not take a file, and a read failed where that is the cause.
+pub record LeavesShelf {X : Type 0} (old new : ShelfState) (r : Result X Cause) : Type 0 where
+  pub still_unknown : old.files ≡ None → new.files ≡ None
+  pub fine : OnOk r (new.failures ≡ old.failures)
+  pub missing : IfErr r (λ cause. cause ≡ Missing → old.files ≡ None → Rose old.failures new.failures)
+  pub put : IfErr r (λ cause. cause ≡ Put → Rose old.failures new.failures)
+  pub read : IfErr r (λ cause. IsRead cause → Rose old.failed_reads new.failed_reads)
+  pub others : IfErr r (λ cause. (IsRead cause → ⊥) → new.failed_reads ≡ old.failed_reads)
+  pub none_read : OnOk r (new.failed_reads ≡ old.failed_reads)
+
+-- the cause of a run that ended early
+abbrev pub cause_of : {X : Type 0} → Result X RunFault → Result X Cause
+cause_of (Ok x) = Ok x
+cause_of (Err fault) = Err fault.cause
 
 -- What a command leaves of a writer: no write failed where it was carried out, and one did where that is the cause.
 pub record KeepsWriter {X : Type 0} (failures failures' : ℕ) (r : Result X Cause) : Type 0 where
@@ -52,10 +61,14 @@ pub record Step : Type 0 where
 abbrev pub step_in : ScriptState → Instruction → (before after : Environment) → Step
 step_in world said before after = record { said = said; outcome = outcome_of world said; before = before; after = after }
 
--- the cause comes from outside, where the shelf failed or a thread was refused meanwhile
+-- the cause comes from outside, by what failed meanwhile
 abbrev pub IsMet : Step → Cause → Type 0
 IsMet step cause =
-    IsOutside step.said (Rose step.before.failures step.after.failures) (Rose step.before.refused_starts step.after.refused_starts) cause
+    IsOutside step.said
+    (Rose step.before.failures step.after.failures)
+    (Rose step.before.failed_reads step.after.failed_reads)
+    (Rose step.before.refused_starts step.after.refused_starts)
+    cause
 
 -- A command was refused and told nothing; or its account could not be written whole.
 abbrev pub EndsBy : Step → Cause → Type 0
@@ -86,6 +99,7 @@ pub record Done (files : Files) (steps : List Numbered) (old new : Environment) 
   pub files_now : HasFiles world.files new.files
   pub told : report ≡ record { commands = length steps; held = set.len world.held; bits = world.bits }
   pub fine : new.failures ≡ old.failures
+  pub read : new.failed_reads ≡ old.failed_reads
   pub started : new.refused_starts ≡ old.refused_starts
 
 -- The steps before one were carried out, and at that one the run ended with its line: by the cause that the meaning
@@ -105,6 +119,7 @@ pub record Stopped (files : Files) (steps : List Numbered) (old new : Environmen
   pub middle : Environment
   pub written : Appends old.text middle.text text
   pub fine : middle.failures ≡ old.failures
+  pub read : middle.failed_reads ≡ old.failed_reads
   pub started : middle.refused_starts ≡ old.refused_starts
   pub ends : EndsBy (step_in world step.instruction middle new) fault.cause
   pub files_now : LeavesFiles (step_in world step.instruction middle new) world.files fault.cause

@@ -14,7 +14,7 @@ use Rattle.rh_ledger.specs.Phase.{set_after, tally_of, looked_up}
 use Rattle.rh_key_files.specs.declared.fault.KeyFault.TheVariants.{NotKeys}
 use Rattle.rh_key_files.specs.Source.{keys_of_file}
 use Rattle.rh_snapshot.specs.Reading.{file_table}
-use Rattle.rh_runner.specs.declared.choice.Chosen.TheVariants.{Absent, Present}
+use Rattle.rh_runner.specs.declared.chosen.Chosen.TheVariants.{Absent, Present}
 use Rattle.rh_runner.specs.Lists.{chosen}
 use Rattle.rh_script.specs.Instruction.{Instruction, Numbered}
 use Rattle.rh_script.specs.Instruction as instructions

@@ -1,16 +1,17 @@
 //! The run of a script.
 
-ghost use Rattle.std.specs.Prelude.{◌≡◌, List, None, Some, IfOk, IfErr, OnOk};
+ghost use Rattle.std.specs.Prelude.{◌≡◌, List, Some, IfOk};
 ghost use Rattle.std.specs.FinSet as finset;
 ghost use Rattle.rh_layout.specs.declared.limits.TheConstants.{MIN_BITS};
-ghost use Rattle.rh_bytes.specs.Counting.{Rose, failures_of, inner_of};
+ghost use Rattle.rh_bytes.specs.Counting.{failures_of, inner_of};
 ghost use Rattle.rh_script.specs.Instruction.{Numbered};
 ghost use Rattle.rh_script.specs.Names.{SnapshotsAreNew};
 ghost use Rattle.rh_script.specs.Plan.{plan_of};
 ghost use Rattle.rh_script.specs.Script.{steps_of};
 ghost use Rattle.rh_script.specs.Tasks.{planned_of};
+ghost use Rattle.rh_operations.specs.Leaves.{KeepsRunner};
 ghost use Rattle.rh_shelf.specs.Shelf.{Files};
-ghost use Rattle.rh_script_run.specs.Ends.{Ends};
+ghost use Rattle.rh_script_run.specs.Ends.{Ends, KeepsWriter, LeavesShelf, cause_of};
 ghost use Rattle.rh_script_run.specs.Environment.{environment};
 ghost use Rattle.rh_script_run.specs.Reached.{AllEnds};
 
@@ -23,7 +24,7 @@ use rh_layout::MIN_BITS;
 use rh_operations::Cause;
 use rh_runner::Runner;
 use rh_script::{Plan, Script, plan};
-use rh_shelf::Shelf;
+use rh_shelf::Lender;
 use std::alloc::{AllocError, Global};
 use std::io::Write;
 use std::sync::Wait;
@@ -39,7 +40,7 @@ use std::thread::Threads;
 ///
 /// Each text is a few writes, so give it a writer with a buffer. A run may wait for ever where its
 /// runner does.
-pub fn run<T: Threads + Wait + Sync, S: Shelf, N: Runner, W: Write>(
+pub fn run<T: Threads + Wait + Sync, S: Lender, N: Runner, W: Write>(
     rt: &T,
     alloc: Global,
     script: &Script,
@@ -47,23 +48,17 @@ pub fn run<T: Threads + Wait + Sync, S: Shelf, N: Runner, W: Write>(
     runner: &mut N,
     writer: &mut Counted<W>,
 ) -> Result<Report, RunFault>
-    ensures meant { (files : Files) → S.files shelf.old ≡ Some files →
+    ensures meant { (files : Files) → (S.state shelf.old).files ≡ Some files →
         Ends files (steps_of script.now)
-        (environment (S.files shelf.old) (S.failures shelf.old) (N.refused_starts runner.old)
+        (environment (S.state shelf.old) (N.refused_starts runner.old)
         (W.contents (inner_of writer.old)))
-        (environment (S.files shelf.new) (S.failures shelf.new) (N.refused_starts runner.new)
+        (environment (S.state shelf.new) (N.refused_starts runner.new)
         (W.contents (inner_of writer.new))) result }
-    ensures missing { IfErr result (λ fault. fault.cause ≡ Cause.Missing →
-        S.files shelf.old ≡ None → Rose (S.failures shelf.old) (S.failures shelf.new)) }
-    ensures put { IfErr result (λ fault. fault.cause ≡ Cause.Put →
-        Rose (S.failures shelf.old) (S.failures shelf.new)) }
-    ensures thread { IfErr result (λ fault. fault.cause ≡ Cause.NoThread →
-        Rose (N.refused_starts runner.old) (N.refused_starts runner.new)) }
-    ensures write { IfErr result (λ fault. fault.cause ≡ Cause.Write →
-        Rose (failures_of writer.old) (failures_of writer.new)) }
-    ensures shelf_fine { OnOk result (S.failures shelf.new ≡ S.failures shelf.old) }
-    ensures starts_fine { OnOk result (N.refused_starts runner.new ≡ N.refused_starts runner.old) }
-    ensures writes_fine { OnOk result (failures_of writer.new ≡ failures_of writer.old) }
+    ensures shelf { LeavesShelf (S.state shelf.old) (S.state shelf.new) (cause_of result) }
+    ensures runner { KeepsRunner (N.refused_starts runner.old) (N.refused_starts runner.new)
+        (cause_of result) }
+    ensures writer { KeepsWriter (failures_of writer.old) (failures_of writer.new)
+        (cause_of result) }
 {
     let Ok((plan, empty)) = begin(alloc, script) else {
         let (line, cause) = (0, Cause::Memory);
@@ -90,7 +85,7 @@ fn begin(alloc: Global, script: &Script) -> Result<(Plan<'_>, SeqSet), AllocErro
 }
 
 /// Carries out the steps of a plan, from an empty set on, and gives the set that they made.
-fn carry_out_all<T: Threads + Wait + Sync, S: Shelf, N: Runner, W: Write>(
+fn carry_out_all<T: Threads + Wait + Sync, S: Lender, N: Runner, W: Write>(
     rt: &T,
     alloc: Global,
     shelf: &mut S,
@@ -102,24 +97,18 @@ fn carry_out_all<T: Threads + Wait + Sync, S: Shelf, N: Runner, W: Write>(
     requires planned { (steps : List Numbered) × (planned_of plan.now ≡ plan_of steps) }
     requires keys { set.keys ≡ finset.empty }
     requires bits { set.bits ≡ MIN_BITS }
-    ensures meant { (files : Files) (steps : List Numbered) → S.files shelf.old ≡ Some files →
+    ensures meant { (files : Files) (steps : List Numbered) → (S.state shelf.old).files ≡ Some files →
         planned_of plan.now ≡ plan_of steps → SnapshotsAreNew steps →
         AllEnds files steps
-        (environment (S.files shelf.old) (S.failures shelf.old) (N.refused_starts runner.old)
+        (environment (S.state shelf.old) (N.refused_starts runner.old)
         (W.contents (inner_of writer.old)))
-        (environment (S.files shelf.new) (S.failures shelf.new) (N.refused_starts runner.new)
+        (environment (S.state shelf.new) (N.refused_starts runner.new)
         (W.contents (inner_of writer.new))) result }
-    ensures missing { IfErr result (λ fault. fault.cause ≡ Cause.Missing →
-        S.files shelf.old ≡ None → Rose (S.failures shelf.old) (S.failures shelf.new)) }
-    ensures put { IfErr result (λ fault. fault.cause ≡ Cause.Put →
-        Rose (S.failures shelf.old) (S.failures shelf.new)) }
-    ensures thread { IfErr result (λ fault. fault.cause ≡ Cause.NoThread →
-        Rose (N.refused_starts runner.old) (N.refused_starts runner.new)) }
-    ensures write { IfErr result (λ fault. fault.cause ≡ Cause.Write →
-        Rose (failures_of writer.old) (failures_of writer.new)) }
-    ensures shelf_fine { OnOk result (S.failures shelf.new ≡ S.failures shelf.old) }
-    ensures starts_fine { OnOk result (N.refused_starts runner.new ≡ N.refused_starts runner.old) }
-    ensures writes_fine { OnOk result (failures_of writer.new ≡ failures_of writer.old) }
+    ensures shelf { LeavesShelf (S.state shelf.old) (S.state shelf.new) (cause_of result) }
+    ensures runner { KeepsRunner (N.refused_starts runner.old) (N.refused_starts runner.new)
+        (cause_of result) }
+    ensures writer { KeepsWriter (failures_of writer.old) (failures_of writer.new)
+        (cause_of result) }
 {
     let mut lists = Vec::new(alloc);
     for step in plan.steps() {

@@ -7,16 +7,16 @@ ghost use Rattle.rh_bytes.specs.Counting.{Rose};
 ghost use Rattle.rh_script.specs.Instruction.{Snapshot};
 ghost use Rattle.rh_script.specs.Names.{is_given};
 ghost use Rattle.rh_shelf.specs.Shelf.{Files};
-ghost use Rattle.rh_report.specs.Account.{change_as};
 ghost use Rattle.rh_operations.specs.declared.key_lists.KeyList.{KeyList};
+ghost use Rattle.rh_operations.specs.Actions.{telling};
 ghost use Rattle.rh_operations.specs.KeyLists.{Stands, paths_of};
 ghost use Rattle.rh_operations.specs.Leaves.{KeepsRunner, KeepsShelf};
 ghost use Rattle.rh_operations.specs.Refusals.{ListFails, MemoryFails, PhaseFails, PutFails};
 ghost use Rattle.rh_operations.specs.Refusals.{RestoreFails};
-ghost use Rattle.rh_script_run.specs.Actions.{changes};
+ghost use Rattle.rh_script_run.specs.Actions.{account_of, outcome_by};
 ghost use Rattle.rh_script_run.specs.Ends.{LeavesShelf};
 ghost use Rattle.rh_script_run.specs.Files.{FileMap, HasFiles};
-ghost use Rattle.rh_script_run.specs.Meaning.{asks, clears, restores, saves, snapshots, uses};
+ghost use Rattle.rh_script_run.specs.Meaning.{clears, restores, saves, snapshots, uses};
 ghost use Rattle.rh_script_run.specs.Steps.{ListsStand, Makes, MakesLists, MakesState, Named, world_of};
 ghost use Rattle.rh_script_run.specs.Told.{report_table, told_as};
 
@@ -24,31 +24,17 @@ use crate::told::Told;
 use rh_edit::SeqSet;
 use rh_layout::MIN_BITS;
 use rh_operations::{
-    Cause, KeyList, Source, add, ask, drop_keys, flip, keep, put_snapshot, restored, saved,
-    use_file,
+    Action, Cause, Done, KeyList, Source, operate, put_snapshot, restored, saved, use_file,
 };
-use rh_report::{Account, Change, Table};
+use rh_report::{Account, Table};
 use rh_runner::Runner;
-use rh_shelf::Shelf;
+use rh_shelf::Lender;
 use std::alloc::Global;
 use std::sync::Wait;
 use std::thread::Threads;
 
-/// How a command changes the keys that are held by those of its list.
-#[derive(Clone, Copy)]
-pub(crate) enum Action {
-    /// The keys of the list are held too.
-    Add,
-    /// They are held no more.
-    Drop,
-    /// Of the keys that are held, those of the list stay.
-    Keep,
-    /// Those that are held are held no more, and the others are.
-    Flip,
-}
-
-/// `add`, `drop`, `keep` or `flip`.
-pub(crate) fn change_step<'a, T: Threads + Wait + Sync, S: Shelf, N: Runner>(
+/// A command on the keys of a list.
+pub(crate) fn list_step<'a, T: Threads + Wait + Sync, S: Lender, N: Runner>(
     rt: &T,
     alloc: Global,
     shelf: &mut S,
@@ -59,50 +45,40 @@ pub(crate) fn change_step<'a, T: Threads + Wait + Sync, S: Shelf, N: Runner>(
     action: Action,
 ) -> Result<Told<'a>, Cause>
     ensures made { (lists : Named) (files : FileMap) (keys : List ℕ) →
-        Stands (S.files shelf.old) list.now keys →
-        Makes (changes action (world_of set.old lists files) name.now keys)
-        (PhaseFails (Rose (S.failures shelf.old) (S.failures shelf.new))
+        Stands (S.state shelf.old).files list.now keys →
+        Makes (outcome_by action (world_of set.old lists files) name.now keys)
+        (PhaseFails (Rose (S.state shelf.old).failures (S.state shelf.new).failures)
+        (Rose (S.state shelf.old).failed_reads (S.state shelf.new).failed_reads)
         (Rose (N.refused_starts runner.old) (N.refused_starts runner.new)))
         (world_of set.new lists files) set.new result }
     ensures unchanged { OnErr result (set.new ≡ set.old) }
-    ensures shelf { KeepsShelf (S.files shelf.old) (S.files shelf.new) (S.failures shelf.old)
-        (S.failures shelf.new) result }
+    ensures shelf { KeepsShelf (S.state shelf.old) (S.state shelf.new) result }
     ensures runner { KeepsRunner (N.refused_starts runner.old) (N.refused_starts runner.new)
         result }
     ensures no_write { IfErr result (λ cause. cause ≡ Cause.Write → ⊥) }
 {
-    match action {
-        Action::Add => {
-            let tally = add(rt, alloc, shelf, runner, set, list)?;
-            Ok(changed(set, list, name, Change::Added(tally.added)))
-        }
-        Action::Drop => {
-            let tally = drop_keys(rt, alloc, shelf, runner, set, list)?;
-            Ok(changed(set, list, name, Change::Dropped(tally.removed)))
-        }
-        Action::Keep => {
-            let found = keep(rt, alloc, shelf, runner, set, list)?;
-            Ok(changed(set, list, name, Change::Kept(found)))
-        }
-        Action::Flip => {
-            let flips = flip(rt, alloc, shelf, runner, set, list)?;
-            let (removed, added) = (flips.removed.removed, flips.added.added);
-            Ok(changed(set, list, name, Change::Flipped { removed, added }))
-        }
-    }
+    let done = operate(rt, alloc, shelf, runner, set, list, action)?;
+    Ok(told_of(set, list, name, done))
 }
 
-fn changed<'a>(set: &SeqSet, list: &KeyList<'_>, name: &'a str, change: Change) -> Told<'a>
-    ensures { told_as set.now result ≡ change_as name.now list.now.count change (report_table set.now) }
+/// What a command on a list, which left this set, has to report.
+fn told_of<'a>(set: &SeqSet, list: &KeyList<'_>, name: &'a str, done: Done) -> Told<'a>
+    ensures { told_as set.now result
+        ≡ account_of name.now list.now.count set.now (telling done) }
 {
-    let read = list.count;
-    let table = table_of(set);
-    Told::Line(Account::Changed {
-        name,
-        read,
-        change,
-        table,
-    })
+    match done {
+        Done::Changed(change) => {
+            let read = list.count;
+            let table = table_of(set);
+            Told::Line(Account::Changed {
+                name,
+                read,
+                change,
+                table,
+            })
+        }
+        Done::Asked(answers) => Told::Answers { name, answers },
+    }
 }
 
 fn table_of(set: &SeqSet) -> Table
@@ -113,34 +89,8 @@ fn table_of(set: &SeqSet) -> Table
     Table { held, bits }
 }
 
-/// `ask`: the keys of the list are looked up.
-pub(crate) fn ask_step<'a, T: Threads + Wait + Sync, S: Shelf, N: Runner>(
-    rt: &T,
-    alloc: Global,
-    shelf: &mut S,
-    runner: &mut N,
-    set: &SeqSet,
-    list: &KeyList<'_>,
-    name: &'a str,
-) -> Result<Told<'a>, Cause>
-    ensures made { (lists : Named) (files : FileMap) (keys : List ℕ) →
-        Stands (S.files shelf.old) list.now keys →
-        Makes (asks (world_of set.now lists files) name.now keys)
-        (PhaseFails (Rose (S.failures shelf.old) (S.failures shelf.new))
-        (Rose (N.refused_starts runner.old) (N.refused_starts runner.new)))
-        (world_of set.now lists files) set.now result }
-    ensures shelf { KeepsShelf (S.files shelf.old) (S.files shelf.new) (S.failures shelf.old)
-        (S.failures shelf.new) result }
-    ensures runner { KeepsRunner (N.refused_starts runner.old) (N.refused_starts runner.new)
-        result }
-    ensures no_write { IfErr result (λ cause. cause ≡ Cause.Write → ⊥) }
-{
-    let answers = ask(rt, alloc, shelf, runner, set, list)?;
-    Ok(Told::Answers { name, answers })
-}
-
 /// `use`: the file at the path becomes a list.
-pub(crate) fn use_step<'a, S: Shelf>(
+pub(crate) fn use_step<'a, S: Lender>(
     alloc: Global,
     shelf: &mut S,
     lists: &mut Vec<KeyList<'a>>,
@@ -148,15 +98,15 @@ pub(crate) fn use_step<'a, S: Shelf>(
     path: &'a str,
 ) -> Result<Told<'a>, Cause>
     ensures made { (set : Held) (named : Named) (files : FileMap) →
-        HasFiles files (S.files shelf.old) → ListsStand (S.files shelf.old) lists.old.items named →
+        HasFiles files (S.state shelf.old).files → ListsStand (S.state shelf.old).files lists.old.items named →
         MakesLists (uses (world_of set named files) name.now path.now)
-        (ListFails (Rose (S.failures shelf.old) (S.failures shelf.new)))
-        files (S.files shelf.old) set lists.new.items result }
+        (ListFails (Rose (S.state shelf.old).failures (S.state shelf.new).failures)
+        (Rose (S.state shelf.old).failed_reads (S.state shelf.new).failed_reads))
+        files (S.state shelf.old).files set lists.new.items result }
     ensures more { OnOk result (length lists.new.items ≡ length lists.old.items + 1) }
     ensures paths { OnOk result
         (paths_of lists.new.items ≡ paths_of lists.old.items ++ path.now ∷ []) }
-    ensures shelf { KeepsShelf (S.files shelf.old) (S.files shelf.new) (S.failures shelf.old)
-        (S.failures shelf.new) result }
+    ensures shelf { KeepsShelf (S.state shelf.old) (S.state shelf.new) result }
     ensures no_thread { IfErr result (λ cause. cause ≡ Cause.NoThread → ⊥) }
     ensures no_write { IfErr result (λ cause. cause ≡ Cause.Write → ⊥) }
 {
@@ -204,20 +154,19 @@ pub(crate) fn clear_step<'a>(alloc: Global, set: &mut SeqSet) -> Result<Told<'a>
 }
 
 /// `snapshot`: a snapshot of the table is put under the path.
-pub(crate) fn snapshot_step<'a, S: Shelf>(
+pub(crate) fn snapshot_step<'a, S: Lender>(
     alloc: Global,
     shelf: &mut S,
     set: &SeqSet,
     path: &'a str,
 ) -> Result<Told<'a>, Cause>
     ensures made { (lists : List KeyList) (named : Named) (files : FileMap) →
-        HasFiles files (S.files shelf.old) → ListsStand (S.files shelf.old) lists named →
+        HasFiles files (S.state shelf.old).files → ListsStand (S.state shelf.old).files lists named →
         is_given path.now (paths_of lists) ≡ false →
         MakesState (Snapshot path.now) (snapshots (world_of set.now named files) path.now)
-        (PutFails (Rose (S.failures shelf.old) (S.failures shelf.new)))
-        files (S.files shelf.new) set.now lists result }
-    ensures shelf { LeavesShelf (S.files shelf.old) (S.files shelf.new) (S.failures shelf.old)
-        (S.failures shelf.new) result }
+        (PutFails (Rose (S.state shelf.old).failures (S.state shelf.new).failures))
+        files (S.state shelf.new).files set.now lists result }
+    ensures shelf { LeavesShelf (S.state shelf.old) (S.state shelf.new) result }
     ensures no_thread { IfErr result (λ cause. cause ≡ Cause.NoThread → ⊥) }
     ensures no_write { IfErr result (λ cause. cause ≡ Cause.Write → ⊥) }
 {
@@ -227,19 +176,19 @@ pub(crate) fn snapshot_step<'a, S: Shelf>(
 }
 
 /// `restore`: the table is that of the snapshot at the path.
-pub(crate) fn restore_step<'a, S: Shelf>(
+pub(crate) fn restore_step<'a, S: Lender>(
     alloc: Global,
     shelf: &mut S,
     set: &mut SeqSet,
     path: &'a str,
 ) -> Result<Told<'a>, Cause>
-    ensures made { (lists : Named) (files : FileMap) → HasFiles files (S.files shelf.old) →
+    ensures made { (lists : Named) (files : FileMap) → HasFiles files (S.state shelf.old).files →
         Makes (restores (world_of set.old lists files) path.now)
-        (RestoreFails (Rose (S.failures shelf.old) (S.failures shelf.new)))
+        (RestoreFails (Rose (S.state shelf.old).failures (S.state shelf.new).failures)
+        (Rose (S.state shelf.old).failed_reads (S.state shelf.new).failed_reads))
         (world_of set.new lists files) set.new result }
     ensures unchanged { OnErr result (set.new ≡ set.old) }
-    ensures shelf { KeepsShelf (S.files shelf.old) (S.files shelf.new) (S.failures shelf.old)
-        (S.failures shelf.new) result }
+    ensures shelf { KeepsShelf (S.state shelf.old) (S.state shelf.new) result }
     ensures no_thread { IfErr result (λ cause. cause ≡ Cause.NoThread → ⊥) }
     ensures no_write { IfErr result (λ cause. cause ≡ Cause.Write → ⊥) }
 {

@@ -15,23 +15,21 @@ ghost use Rattle.rh_script_run.specs.Outside.{IsOutside};
 ghost use Rattle.rh_script_run.specs.Steps.{HasList, IsApart, ListsStand, MakesState, Named};
 ghost use Rattle.rh_script_run.specs.Steps.{StateEnds, names_of, world_of};
 
-use crate::steps::{
-    Action, ask_step, change_step, clear_step, restore_step, save_step, snapshot_step, use_step,
-};
+use crate::steps::{clear_step, list_step, restore_step, save_step, snapshot_step, use_step};
 use crate::told::{Told, tell};
 use rh_bytes::Counted;
 use rh_edit::SeqSet;
-use rh_operations::{Cause, KeyList};
+use rh_operations::{Action, Cause, KeyList};
 use rh_runner::Runner;
 use rh_script::Task;
-use rh_shelf::Shelf;
+use rh_shelf::Lender;
 use std::alloc::Global;
 use std::io::Write;
 use std::sync::Wait;
 use std::thread::Threads;
 
 /// Carries a task out and writes its report.
-pub(crate) fn carry_out<'a, T: Threads + Wait + Sync, S: Shelf, N: Runner, W: Write>(
+pub(crate) fn carry_out<'a, T: Threads + Wait + Sync, S: Lender, N: Runner, W: Write>(
     rt: &T,
     alloc: Global,
     shelf: &mut S,
@@ -42,22 +40,21 @@ pub(crate) fn carry_out<'a, T: Threads + Wait + Sync, S: Shelf, N: Runner, W: Wr
     task: &Task<'a>,
 ) -> Result<(), Cause>
     requires { HasList task.now (length lists.old.items) }
-    ensures step { (named : Named) (files : FileMap) → HasFiles files (S.files shelf.old) →
-        ListsStand (S.files shelf.old) lists.old.items named →
+    ensures step { (named : Named) (files : FileMap) → HasFiles files (S.state shelf.old).files →
+        ListsStand (S.state shelf.old).files lists.old.items named →
         number_after (names_of named) (task_as task.now).0 ≡ (task_as task.now).1 →
         IsApart task.now lists.old.items →
         StateEnds (step_in (world_of set.old named files) (task_as task.now).0
-        (environment (S.files shelf.old) (S.failures shelf.old) (N.refused_starts runner.old)
+        (environment (S.state shelf.old) (N.refused_starts runner.old)
         (W.contents (inner_of writer.old)))
-        (environment (S.files shelf.new) (S.failures shelf.new) (N.refused_starts runner.new)
+        (environment (S.state shelf.new) (N.refused_starts runner.new)
         (W.contents (inner_of writer.new)))) files set.new lists.new.items result }
     ensures lists { OnOk result (length lists.new.items
         ≡ length lists.old.items + length (given_by (task_as task.now).0)) }
     ensures paths { OnOk result (paths_of lists.new.items
         ≡ paths_of lists.old.items ++ file_of (task_as task.now).0) }
     ensures unchanged { IfErr result (λ cause. cause ≢ Cause.Write → set.new ≡ set.old) }
-    ensures shelf { LeavesShelf (S.files shelf.old) (S.files shelf.new) (S.failures shelf.old)
-        (S.failures shelf.new) result }
+    ensures shelf { LeavesShelf (S.state shelf.old) (S.state shelf.new) result }
     ensures runner { KeepsRunner (N.refused_starts runner.old) (N.refused_starts runner.new)
         result }
     ensures writer { KeepsWriter (failures_of writer.old) (failures_of writer.new) result }
@@ -68,8 +65,8 @@ pub(crate) fn carry_out<'a, T: Threads + Wait + Sync, S: Shelf, N: Runner, W: Wr
 }
 
 /// Carries a task out, and answers what it has to report.
-#[tactic(auto, unfolding(crate::specs::Meaning::outcome_of, rh_script::specs::Plan::number_after))]
-fn act<'a, T: Threads + Wait + Sync, S: Shelf, N: Runner>(
+#[tactic(auto, using(crate::proofs::StepLemmas::leaves_kept), unfolding(crate::specs::Meaning::outcome_of, rh_script::specs::Plan::number_after))]
+fn act<'a, T: Threads + Wait + Sync, S: Lender, N: Runner>(
     rt: &T,
     alloc: Global,
     shelf: &mut S,
@@ -79,22 +76,22 @@ fn act<'a, T: Threads + Wait + Sync, S: Shelf, N: Runner>(
     task: &Task<'a>,
 ) -> Result<Told<'a>, Cause>
     requires { HasList task.now (length lists.old.items) }
-    ensures made { (named : Named) (files : FileMap) → HasFiles files (S.files shelf.old) →
-        ListsStand (S.files shelf.old) lists.old.items named →
+    ensures made { (named : Named) (files : FileMap) → HasFiles files (S.state shelf.old).files →
+        ListsStand (S.state shelf.old).files lists.old.items named →
         number_after (names_of named) (task_as task.now).0 ≡ (task_as task.now).1 →
         IsApart task.now lists.old.items →
         MakesState (task_as task.now).0
         (outcome_of (world_of set.old named files) (task_as task.now).0)
-        (IsOutside (task_as task.now).0 (Rose (S.failures shelf.old) (S.failures shelf.new))
+        (IsOutside (task_as task.now).0 (Rose (S.state shelf.old).failures (S.state shelf.new).failures)
+        (Rose (S.state shelf.old).failed_reads (S.state shelf.new).failed_reads)
         (Rose (N.refused_starts runner.old) (N.refused_starts runner.new)))
-        files (S.files shelf.new) set.new lists.new.items result }
+        files (S.state shelf.new).files set.new lists.new.items result }
     ensures lists { OnOk result (length lists.new.items
         ≡ length lists.old.items + length (given_by (task_as task.now).0)) }
     ensures paths { OnOk result (paths_of lists.new.items
         ≡ paths_of lists.old.items ++ file_of (task_as task.now).0) }
     ensures unchanged { OnErr result (set.new ≡ set.old) }
-    ensures shelf { LeavesShelf (S.files shelf.old) (S.files shelf.new) (S.failures shelf.old)
-        (S.failures shelf.new) result }
+    ensures shelf { LeavesShelf (S.state shelf.old) (S.state shelf.new) result }
     ensures runner { KeepsRunner (N.refused_starts runner.old) (N.refused_starts runner.new)
         result }
     ensures no_write { IfErr result (λ cause. cause ≡ Cause.Write → ⊥) }
@@ -103,20 +100,23 @@ fn act<'a, T: Threads + Wait + Sync, S: Shelf, N: Runner>(
         Task::Use { name, path, .. } => use_step(alloc, shelf, lists, name, path),
         Task::Add { list, name } => {
             let list = &lists[list];
-            change_step(rt, alloc, shelf, runner, set, list, name, Action::Add)
+            list_step(rt, alloc, shelf, runner, set, list, name, Action::Add)
         }
         Task::Drop { list, name } => {
             let list = &lists[list];
-            change_step(rt, alloc, shelf, runner, set, list, name, Action::Drop)
+            list_step(rt, alloc, shelf, runner, set, list, name, Action::Drop)
         }
-        Task::Ask { list, name } => ask_step(rt, alloc, shelf, runner, set, &lists[list], name),
+        Task::Ask { list, name } => {
+            let list = &lists[list];
+            list_step(rt, alloc, shelf, runner, set, list, name, Action::Ask)
+        }
         Task::Keep { list, name } => {
             let list = &lists[list];
-            change_step(rt, alloc, shelf, runner, set, list, name, Action::Keep)
+            list_step(rt, alloc, shelf, runner, set, list, name, Action::Keep)
         }
         Task::Flip { list, name } => {
             let list = &lists[list];
-            change_step(rt, alloc, shelf, runner, set, list, name, Action::Flip)
+            list_step(rt, alloc, shelf, runner, set, list, name, Action::Flip)
         }
         Task::Save { name, .. } => save_step(alloc, set, lists, name),
         Task::Clear => clear_step(alloc, set),

@@ -14,7 +14,7 @@ use crate::running::run;
 use rh_bytes::Counted;
 use rh_runner::Runner;
 use rh_script::Script;
-use rh_shelf::Shelf;
+use rh_shelf::Lender;
 use std::alloc::Global;
 use std::io::Write;
 use std::sync::Wait;
@@ -26,10 +26,10 @@ use std::thread::Threads;
 /// both writers were given the same text, whoever carries out the phases.
 pub fn run_twice<
     T: Threads + Wait + Sync,
-    S: Shelf,
+    S: Lender,
     N: Runner,
     W: Write,
-    S2: Shelf,
+    S2: Lender,
     N2: Runner,
     W2: Write,
 >(
@@ -43,31 +43,31 @@ pub fn run_twice<
     other_runner: &mut N2,
     other_writer: &mut Counted<W2>,
 ) -> (Result<Report, RunFault>, Result<Report, RunFault>)
-    ensures first { (files : Files) → S.files shelf.old ≡ Some files →
+    ensures first { (files : Files) → (S.state shelf.old).files ≡ Some files →
         Ends files (steps_of script.now)
-        (environment (S.files shelf.old) (S.failures shelf.old) (N.refused_starts runner.old)
+        (environment (S.state shelf.old) (N.refused_starts runner.old)
         (W.contents (inner_of writer.old)))
-        (environment (S.files shelf.new) (S.failures shelf.new) (N.refused_starts runner.new)
+        (environment (S.state shelf.new) (N.refused_starts runner.new)
         (W.contents (inner_of writer.new))) result.0 }
-    ensures second { (files : Files) → S2.files other_shelf.old ≡ Some files →
+    ensures second { (files : Files) → (S2.state other_shelf.old).files ≡ Some files →
         Ends files (steps_of script.now)
-        (environment (S2.files other_shelf.old) (S2.failures other_shelf.old)
-        (N2.refused_starts other_runner.old) (W2.contents (inner_of other_writer.old)))
-        (environment (S2.files other_shelf.new) (S2.failures other_shelf.new)
-        (N2.refused_starts other_runner.new) (W2.contents (inner_of other_writer.new))) result.1 }
-    ensures agree { (files : Files) → S.files shelf.old ≡ Some files →
-        S2.files other_shelf.old ≡ Some files →
+        (environment (S2.state other_shelf.old) (N2.refused_starts other_runner.old)
+        (W2.contents (inner_of other_writer.old)))
+        (environment (S2.state other_shelf.new) (N2.refused_starts other_runner.new)
+        (W2.contents (inner_of other_writer.new))) result.1 }
+    ensures agree { (files : Files) → (S.state shelf.old).files ≡ Some files →
+        (S2.state other_shelf.old).files ≡ Some files →
         EndsByItself (steps_of script.now)
-        (environment (S.files shelf.old) (S.failures shelf.old) (N.refused_starts runner.old)
+        (environment (S.state shelf.old) (N.refused_starts runner.old)
         (W.contents (inner_of writer.old)))
-        (environment (S.files shelf.new) (S.failures shelf.new) (N.refused_starts runner.new)
+        (environment (S.state shelf.new) (N.refused_starts runner.new)
         (W.contents (inner_of writer.new))) result.0 →
         EndsByItself (steps_of script.now)
-        (environment (S2.files other_shelf.old) (S2.failures other_shelf.old)
-        (N2.refused_starts other_runner.old) (W2.contents (inner_of other_writer.old)))
-        (environment (S2.files other_shelf.new) (S2.failures other_shelf.new)
-        (N2.refused_starts other_runner.new) (W2.contents (inner_of other_writer.new))) result.1 →
-        (result.0 ≡ result.1) × (S.files shelf.new ≡ S2.files other_shelf.new) ×
+        (environment (S2.state other_shelf.old) (N2.refused_starts other_runner.old)
+        (W2.contents (inner_of other_writer.old)))
+        (environment (S2.state other_shelf.new) (N2.refused_starts other_runner.new)
+        (W2.contents (inner_of other_writer.new))) result.1 →
+        (result.0 ≡ result.1) × ((S.state shelf.new).files ≡ (S2.state other_shelf.new).files) ×
         AppendSame (W.contents (inner_of writer.old)) (W.contents (inner_of writer.new))
         (W2.contents (inner_of other_writer.old)) (W2.contents (inner_of other_writer.new)) }
 {

@@ -8,33 +8,24 @@ use std::sync::Wait;
 use std::test::*;
 use std::thread::Threads;
 
-// What a list changes a table by.
-#[derive(Clone, Copy, Debug)]
-enum Change {
-    Add,
-    Drop,
-    Keep,
-    Flip,
+// Why the action on this table by this list is refused.
+fn refused(
+    rt: &(impl Threads + Wait + Sync + AllocGlobal),
+    shelf: &mut MemShelf,
+    set: &mut SeqSet,
+    list: &KeyList<'_>,
+    action: Action,
+) -> Option<Cause> {
+    operate(rt, rt.alloc(), shelf, &mut Single, set, list, action).err()
 }
 
-impl Change {
-    // Why the change of this table by this list is refused.
-    fn refused(
-        self,
-        rt: &(impl Threads + Wait + Sync + AllocGlobal),
-        shelf: &mut MemShelf,
-        set: &mut SeqSet,
-        list: &KeyList<'_>,
-    ) -> Option<Cause> {
-        let (alloc, runner) = (rt.alloc(), &mut Single);
-        match self {
-            Change::Add => add(rt, alloc, shelf, runner, set, list).err(),
-            Change::Drop => drop_keys(rt, alloc, shelf, runner, set, list).err(),
-            Change::Keep => keep(rt, alloc, shelf, runner, set, list).err(),
-            Change::Flip => flip(rt, alloc, shelf, runner, set, list).err(),
-        }
-    }
-}
+const ACTIONS: &[(Action, &str)] = &[
+    (Action::Add, "add"),
+    (Action::Drop, "drop"),
+    (Action::Keep, "keep"),
+    (Action::Flip, "flip"),
+    (Action::Ask, "ask"),
+];
 
 // Key files that are refused: the count that they name, their bytes, and why. The last ones begin
 // with a key that is good.
@@ -69,20 +60,20 @@ const REFUSED: &[(u64, &[u8], KeyFault)] = &[
     ),
 ];
 
-// The table of 1, 9 and 17 is as it was after each change by this list, which is refused so.
+// The table of 1, 9 and 17 is as it was after each action on this list, which is refused so.
 fn assert_refused(
     rt: &(impl Threads + Wait + Sync + Abort + AllocGlobal),
     shelf: &mut MemShelf,
     list: &KeyList<'_>,
     cause: Cause,
 ) -> Result<(), Fail> {
-    for change in [Change::Add, Change::Drop, Change::Keep, Change::Flip] {
+    for (action, name) in ACTIONS {
         let mut set = SeqSet::from_keys(rt.alloc(), 3, &[1, 9, 17])?;
-        let told = change.refused(rt, shelf, &mut set, list);
-        assert_eq!(rt; told, Some(cause), "{change:?}");
-        assert_eq!(rt; set.bits(), 3, "{change:?} by {cause:?}");
+        let told = refused(rt, shelf, &mut set, list, *action);
+        assert_eq!(rt; told, Some(cause), "{name}");
+        assert_eq!(rt; set.bits(), 3, "{name} by {cause:?}");
         let cells = [0, 0, 0, 0, 2, 10, 18, 0];
-        assert_eq!(rt; set.cells(), cells.as_slice(), "{change:?} by {cause:?}");
+        assert_eq!(rt; set.cells(), cells.as_slice(), "{name} by {cause:?}");
     }
     Ok(())
 }

@@ -2,7 +2,7 @@ use rh_key_files::{Counted, KeyFault, write_keys};
 use rh_runner::Single;
 use rh_script::parse;
 use rh_script_run::*;
-use rh_shelf::{MemShelf, Shelf, ShelfFault};
+use rh_shelf::{CountedShelf, Lender, MemShelf, Shelf, ShelfFault};
 use rh_snapshot::SnapFault;
 use std::alloc::Global;
 use std::fmt::Debug;
@@ -70,7 +70,7 @@ type Told = (Vec<u8>, Result<Report, RunFault>);
 // What a script tells over these files, and how it ends.
 fn run_over(
     rt: &(impl Threads + Wait + Sync + AllocGlobal),
-    shelf: &mut impl Shelf,
+    shelf: &mut impl Lender,
     script: &str,
 ) -> Result<Told, Fail> {
     let script = parse(rt.alloc(), script.as_bytes())?;

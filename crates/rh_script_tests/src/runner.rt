@@ -74,42 +74,6 @@ fn look_up(
     Ok(ask_all(rt, alloc, runner, bits, cells, list))
 }
 
-// Inserts the keys of a list that are chosen by the table of 1, 9 and 17, which an earlier reading
-// found to be so many.
-fn insert(
-    rt: &(impl Threads + Wait + Sync + Abort + AllocGlobal),
-    chosen: Chosen,
-    many: u64,
-    held: &[u64],
-    list: &mut impl KeySource,
-) -> Result<Changed, Fail> {
-    let set = table_of(rt, held)?;
-    assert!(rt; set.bits() == BITS && set.len() < 10 && many <= 200_000);
-    let cells = set.into_cells();
-    let mut scratch = Scratch { bits: BITS, cells };
-    let three = three_keys(rt.alloc())?;
-    let set = &three;
-    let choice = Choice { chosen, set, many };
-    let told = insert_chosen(rt, rt.alloc(), &mut Single, &choice, &mut scratch, list);
-    Ok((told, scratch.cells))
-}
-
-// Removes the keys of a list, and counts those that another set does not hold.
-fn remove(
-    rt: &(impl Threads + Wait + Sync + Abort + AllocGlobal),
-    old: &[u64],
-    held: &[u64],
-    list: &mut impl KeySource,
-) -> Result<(Result<Removed, ListFault>, Vec<u64>), Fail> {
-    let old = table_of(rt, old)?;
-    let set = table_of(rt, held)?;
-    assert!(rt; set.bits() == BITS);
-    let cells = set.into_cells();
-    let mut scratch = Scratch { bits: BITS, cells };
-    let told = remove_and_count_absent(rt, rt.alloc(), &mut Single, &old, &mut scratch, list);
-    Ok((told, scratch.cells))
-}
-
 // The cells are those of the table of these keys.
 fn assert_holds(rt: &(impl Abort + AllocGlobal), cells: &[u64], keys: &[u64]) -> Result<(), Fail> {
     assert!(rt; cells == table_of(rt, keys)?.cells());
@@ -151,72 +115,33 @@ fn a_long_list_is_read_through(rt: HostRuntime) -> Result<(), Fail> {
     Ok(())
 }
 
-const CHANGED: Result<Tally, ListFault> = Err(ListFault::Changed);
-
-// How many of the long list an earlier reading found, and what comes of it.
-const MANY_CHOICES: &[(u64, Result<Tally, ListFault>)] = &[
-    (199_996, CHANGED),
-    (
-        199_997,
-        Ok(Tally {
-            read: 199_997,
-            added: 199_997,
-            ..NOTHING
-        }),
-    ),
-    (199_998, CHANGED),
-];
-
 #[test]
-fn chosen_keys_of_a_long_list(rt: HostRuntime) -> Result<(), Fail> {
-    let keys = many_keys(rt.alloc())?;
-    for &(many, told) in MANY_CHOICES {
-        let (found, _) = insert(&rt, Chosen::Absent, many, &[], &mut list_of(&rt, &keys))?;
-        assert_eq!(rt; found, told);
+fn a_list_is_taken_whole(rt: HostRuntime) -> Result<(), Fail> {
+    let many = many_keys(rt.alloc())?;
+    for keys in [many.as_slice(), &[9, 3, 3, 17], &[]] {
+        let mut list = list_of(&rt, keys);
+        let mut taken = vec![in rt.alloc(); 0; list.left() as usize]?;
+        assert_eq!(rt; take_all(&mut list, &mut taken), Ok(()));
+        assert!(rt; taken.as_slice() == keys);
     }
     Ok(())
 }
 
-// Each row: which keys are chosen, how many an earlier reading found, and what comes of the list 9, 3, 3,
-// 17 in the table of 1, 9 and 17.
-const FEW_CHOICES: &[(Chosen, u64, Result<Tally, ListFault>)] = &[
-    (Chosen::Absent, 1, CHANGED),
-    (
-        Chosen::Absent,
-        2,
-        Ok(Tally {
-            read: 2,
-            added: 1,
-            ..NOTHING
-        }),
-    ),
-    (Chosen::Absent, 3, CHANGED),
-    (Chosen::Present, 2, Ok(Tally { read: 2, ..NOTHING })),
-    (Chosen::Present, 0, CHANGED),
+// Which keys of 9, 3, 3 and 17 are chosen by what was found of each, at the front of the list.
+const CHOSEN: &[(Chosen, [bool; 4], &[u64])] = &[
+    (Chosen::Present, [true, false, false, true], &[9, 17]),
+    (Chosen::Absent, [true, false, false, true], &[3, 3]),
+    (Chosen::Present, [false; 4], &[]),
+    (Chosen::Absent, [false; 4], &[9, 3, 3, 17]),
 ];
 
 #[test]
-fn chosen_keys_of_a_short_list(rt: HostRuntime) -> Result<(), Fail> {
-    for &(chosen, many, told) in FEW_CHOICES {
-        let mut list = list_of(&rt, &[9, 3, 3, 17]);
-        let (found, _) = insert(&rt, chosen, many, &[1, 9, 17], &mut list)?;
-        assert_eq!(rt; found, told);
+fn keys_of_a_list_are_chosen(rt: HostRuntime) {
+    for (which, found, chosen) in CHOSEN {
+        let mut keys = [9, 3, 3, 17];
+        let many = choose(*which, found, &mut keys);
+        assert_eq!(rt; &keys[..many], *chosen);
     }
-    Ok(())
-}
-
-#[test]
-fn keys_are_removed_and_the_absent_counted(rt: HostRuntime) -> Result<(), Fail> {
-    let mut list = list_of(&rt, &[9, 3, 3, 9]);
-    let (told, cells) = remove(&rt, &[1, 9, 17], &[1, 9, 17, 3], &mut list)?;
-    let tally = Tally {
-        read: 4,
-        removed: 2,
-        ..NOTHING
-    };
-    let absent = 2;
-    assert_eq!(rt; told, Ok(Removed { tally, absent }));
-    assert_holds(&rt, &cells, &[1, 17])
 }
 
 // It is refused memory for each change, and the start of a thread for each look-up.

@@ -9,7 +9,7 @@ use rh_cli::{ProgramFault, Status, buffered_writer, open, write_out};
 use rh_runner::Runner;
 use rh_script::{MAX_LINE_BYTES, MAX_LINES, parse};
 use rh_script_run::run;
-use rh_shelf::FileShelf;
+use rh_shelf::{CountedShelf, FileShelf};
 use std::alloc::Global;
 use std::fs::Files;
 use std::io::{self, Read};
@@ -35,7 +35,7 @@ pub fn run_by<N: Runner>(
     let script = parse(rt.alloc(), &text)?;
     let output = buffered_writer(rt.alloc(), io::writer(rt))?;
     let mut writer = Counted::new(output);
-    let mut shelf = FileShelf::new(rt);
+    let mut shelf = CountedShelf::new(FileShelf::new(rt));
     let told = run(rt, rt.alloc(), &script, &mut shelf, runner, &mut writer);
     // What the commands before a fault told is written too.
     let written = write_out(&mut writer.into_inner());

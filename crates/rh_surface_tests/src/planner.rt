@@ -10,9 +10,9 @@ use crate::layout::has_room;
 use rh_files::Counted;
 use rh_ledger::{Kind, Tally};
 use rh_planner::{
-    Cause, Command, FaultyShelf, KeyFault, MemShelf, PhaseFault, Plan, PlannedStep, Report,
-    RunFault, Runner, Script, ScriptFault, ScriptFaultKind, Shelf, ShelfFailure, ShelfFault,
-    Single, SnapFault, Step, Task, Threads,
+    Cause, Command, CountedShelf, FaultyShelf, KeyFault, MemShelf, PhaseFault, Plan, PlannedStep,
+    Report, RunFault, Runner, Script, ScriptFault, ScriptFaultKind, Shelf, ShelfFailure,
+    ShelfFault, Single, SnapFault, Step, Task, Threads,
 };
 use std::alloc::{AllocError, Global};
 use std::io::Write;
@@ -54,6 +54,26 @@ pub fn run<T: thread::Threads + Wait + Sync, S: Shelf, N: Runner, W: Write>(
     writer: &mut Counted<W>,
 ) -> Result<Report, RunFault> {
     rh_planner::run(rt, alloc, script, shelf, runner, writer)
+}
+
+/// The same over a shelf of which the failed reads are counted.
+pub fn run_counted<T: thread::Threads + Wait + Sync, S: Shelf, N: Runner, W: Write>(
+    rt: &T,
+    alloc: Global,
+    script: &Script,
+    shelf: &mut CountedShelf<S>,
+    runner: &mut N,
+    writer: &mut Counted<W>,
+) -> Result<Report, RunFault> {
+    rh_planner::run(rt, alloc, script, shelf, runner, writer)
+}
+
+pub fn counted_shelf_new<S: Shelf>(shelf: S) -> CountedShelf<S> {
+    CountedShelf::new(shelf)
+}
+
+pub fn failed_reads<S: Shelf>(shelf: &CountedShelf<S>) -> u64 {
+    shelf.failed_reads()
 }
 
 pub fn faulty_shelf_new(shelf: MemShelf, failure: ShelfFailure) -> FaultyShelf {

@@ -50,18 +50,12 @@ const FIVE: &[u8] = b"RHK2\0\0\0\0\0\0\0\x01\0\0\0\0\0\0\0\x05";
 
 const FIVE_TWICE: &[u8] = b"RHK2\0\0\0\0\0\0\0\x02\0\0\0\0\0\0\0\x05\0\0\0\0\0\0\0\x05";
 
-const FIVE_SIX: &[u8] = b"RHK2\0\0\0\0\0\0\0\x02\0\0\0\0\0\0\0\x05\0\0\0\0\0\0\0\x06";
-
-const SIX_SEVEN: &[u8] = b"RHK2\0\0\0\0\0\0\0\x02\0\0\0\0\0\0\0\x06\0\0\0\0\0\0\0\x07";
-
 // The second key is out of range.
 const FIVE_BAD: &[u8] = b"RHK1\0\0\0\0\0\0\0\x02\0\0\0\0\0\0\0\x05\0\0\0\0\0\0\0\0";
 
 const NO_LIST: &[u8] = b"RHKX";
 
 const NOT_KEYS: Cause = Cause::Keys(KeyFault::NotKeys);
-
-const BAD_KEY: Cause = Cause::Keys(KeyFault::BadKey { index: 1 });
 
 // What a list of the key 5 alone gives at the next fetch, and the cause: the header comes first,
 // then the count, then the keys.
@@ -102,38 +96,33 @@ fn a_long_list_that_changes(rt: HostRuntime) -> Result<(), Fail> {
     ends_at(&rt, &files, "use k k.keys\nadd k\n", "use k 10000\n", end)
 }
 
-// The key 5 is held. The files of the first reading and of the second, and how they end: more
-// places that are found, fewer, another count, or a fault.
-const KEPT: &[(&[u8], &[u8], Cause)] = &[
-    (FIVE_BAD, FIVE_TWICE, BAD_KEY),
-    (FIVE_SIX, FIVE_TWICE, Cause::Changed),
-    (FIVE_TWICE, FIVE_SIX, Cause::Changed),
-    (FIVE_TWICE, FIVE, Cause::Changed),
-    (FIVE_TWICE, FIVE_BAD, BAD_KEY),
-    (FIVE_TWICE, NO_LIST, NOT_KEYS),
-];
-
-const FLIPPED: &[(&[u8], &[u8], Cause)] = &[
-    (FIVE_BAD, FIVE_SIX, BAD_KEY),
-    (FIVE_SIX, SIX_SEVEN, Cause::Changed),
-    (FIVE_SIX, FIVE_TWICE, Cause::Changed),
-    (FIVE_SIX, FIVE, Cause::Changed),
-    (FIVE_TWICE, FIVE_BAD, BAD_KEY),
-    (FIVE_SIX, NO_LIST, NOT_KEYS),
-];
-
+// Each command opens its list once.
 #[test]
-fn a_list_that_changes_between_two_readings(rt: HostRuntime) -> Result<(), Fail> {
-    let told = "use k 2\nadd k read 2 added 1 held 1 bits 3\n";
-    for (script, readings) in [
-        ("use k k\nadd k\nkeep k\n", KEPT),
-        ("use k k\nadd k\nflip k\n", FLIPPED),
+fn a_list_is_fetched_once_by_each_command(rt: HostRuntime) -> Result<(), Fail> {
+    for (script, told) in [
+        (
+            "use k k\nadd k\n",
+            "use k 2\nadd k read 2 added 1 held 1 bits 3\n",
+        ),
+        (
+            "use k k\ndrop k\n",
+            "use k 2\ndrop k read 2 removed 0 held 0 bits 3\n",
+        ),
+        ("use k k\nask k\n", "use k 2\nask k read 2 found 0\n00\n"),
+        (
+            "use k k\nkeep k\n",
+            "use k 2\nkeep k read 2 found 0 held 0 bits 3\n",
+        ),
+        (
+            "use k k\nflip k\n",
+            "use k 2\nflip k read 2 removed 0 added 1 held 1 bits 3\n",
+        ),
     ] {
-        for &(first, second, cause) in readings {
-            let files = [FIVE_TWICE, FIVE_TWICE, first, second];
-            let end = RunFault { line: 3, cause };
-            ends_at(&rt, &files, script, told, end)?;
-        }
+        let files: &[&[u8]] = &[FIVE_TWICE, FIVE_TWICE];
+        let mut shelf = ChangingShelf { files, fetched: 0 };
+        let ran = run_over(&rt, &mut shelf, script)?;
+        assert_told(&rt, &ran, told.as_bytes(), None, &script);
+        assert_eq!(rt; shelf.fetched, 2, "{script}");
     }
     Ok(())
 }
@@ -170,8 +159,8 @@ fn a_list_that_is_too_long_to_be_added(rt: HostRuntime) -> Result<(), Fail> {
     Ok(())
 }
 
-// `keep` and `flip` count places, of which these lists have too many; that comes after each fault of
-// their first reading.
+// `keep` and `flip` count places, of which these lists have too many; that comes after each fault of the
+// list.
 #[test]
 fn a_list_that_has_too_many_places(rt: HostRuntime) -> Result<(), Fail> {
     let told = "use s 1\nadd s read 1 added 1 held 1 bits 3\nuse k 196609\n";

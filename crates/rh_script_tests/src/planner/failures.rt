@@ -43,8 +43,7 @@ impl Asked {
     }
 }
 
-// Scripts, what each line tells, and what the lines ask of the shelf in turn; `flip` and `keep`
-// fetch twice.
+// Scripts, what each line tells, and what the lines ask of the shelf in turn.
 const SCRIPTS: &[(&str, &[&str], &[(u64, Asked)])] = &[
     (
         SCRIPT,
@@ -56,10 +55,7 @@ const SCRIPTS: &[(&str, &[&str], &[(u64, Asked)])] = &[
             (4, Asked::List),
             (5, Asked::List),
             (6, Asked::List),
-            (6, Asked::List),
             (7, Asked::List),
-            (7, Asked::List),
-            (8, Asked::List),
             (8, Asked::List),
         ],
     ),
@@ -91,7 +87,8 @@ const SCRIPTS: &[(&str, &[&str], &[(u64, Asked)])] = &[
     ),
 ];
 
-// How a script ends over a shelf that fails so, at this line by this cause.
+// How a script ends over a shelf that fails so, at this line by this cause. A failed read is counted, and
+// nothing else is.
 fn fails_at(
     rt: &(impl Threads + Wait + Sync + Abort + AllocGlobal),
     script: &str,
@@ -99,12 +96,15 @@ fn fails_at(
     failure: ShelfFailure,
     end: RunFault,
 ) -> Result<(), Fail> {
-    let mut shelf = FaultyShelf::new(three_files(rt.alloc())?, failure);
+    let faulty = FaultyShelf::new(three_files(rt.alloc())?, failure);
+    let mut shelf = CountedShelf::new(faulty);
     let ran = run_over(rt, &mut shelf, script)?;
     let before = told_before(rt.alloc(), told, end.line)?;
     assert_told(rt, &ran, &before, Some(end), &failure);
+    let is_read = matches!(failure, ShelfFailure::Read { .. });
+    assert_eq!(rt; shelf.failed_reads(), u64::from(is_read), "{failure:?}");
     if end.cause == Cause::Put {
-        let found = shelf.fetch(rt.alloc(), "s").err();
+        let found = shelf.lend(rt.alloc(), "s").err();
         assert_eq!(rt; found, Some(ShelfFault::Missing));
     }
     Ok(())

@@ -73,20 +73,10 @@ fn one_worker_inserts_4096_keys_at_a_time(rt: HostRuntime) -> Result<(), Fail> {
 }
 
 #[test]
-fn one_worker_inserts_the_chosen_of_4096_keys(rt: HostRuntime) -> Result<(), Fail> {
-    let keys = many_keys(rt.alloc())?;
-    let mut list = watched(&rt, &keys);
-    let (told, _) = insert(&rt, Chosen::Absent, 199_997, &[], &mut list)?;
-    assert!(rt; told.is_ok());
-    assert_eq!(rt; list.longest, 4_096);
-    Ok(())
-}
-
-#[test]
 fn one_worker_removes_4096_keys_at_a_time(rt: HostRuntime) -> Result<(), Fail> {
     let keys = many_keys(rt.alloc())?;
     let mut list = watched(&rt, &keys);
-    let (told, _) = remove(&rt, &[], &[9], &mut list)?;
+    let (told, _) = change(&rt, &mut Single, Kind::Remove, &[9], &mut list)?;
     assert!(rt; told.is_ok());
     assert_eq!(rt; list.longest, 4_096);
     Ok(())

@@ -9,5 +9,5 @@ use Rattle.rh_runner.proofs.chosen.choose.Given as goal
 abbrev pub invariant-loop-i : goal.invariant-loop-i
 invariant-loop-i l = record {
   behind : l.n ≤ l.i;
-  moved : (S : Keys) → l.found ≡ looked_up S l.fn.batch → FiltersInPlace (λ k. is_chosen l.which (contains S k)) l.fn.batch l.batch l.n l.i;
+  moved : (S : Keys) → l.found ≡ looked_up S l.fn.keys → FiltersInPlace (λ k. is_chosen l.which (contains S k)) l.fn.keys l.keys l.n l.i;
 }

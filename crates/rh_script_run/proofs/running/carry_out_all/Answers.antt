@@ -1,5 +1,6 @@
 use Rattle.std.proofs.Common.{◌∙◌, ap, refl, length, take}
 use Rattle.rh_script.specs.Names.{names_in}
+use Rattle.rh_script_run.proofs.StepLemmas.{leaves_later}
 use Rattle.rh_script_run.proofs.RunLemmas.{all_carried_out, goes_on, has_list, is_apart, its_number, more_lists, reached_start, step_at, stops_here}
 use Rattle.rh_script_run.proofs.running.carry_out_all.Goals as goal
 
@@ -15,6 +16,7 @@ unfolding names_in
 loop-step-init g c = record {
   still_unknown = λ unknown. unknown;
   fine = refl;
+  read = refl;
   started = refl;
   written = refl;
   many = λ steps planned. ap length c.new-lists.ensures.items;
@@ -28,7 +30,7 @@ returns-in-Err-clause-meant g c files steps known planned fresh =
     let so_far = c.loop-step.invariant.reached files steps known planned fresh in
     let apart = is_apart c.loop-step.lists.items steps i _ fresh here so_far.paths in
     let ends = c.in-Err.ensures.step so_far.done.named so_far.done.made so_far.done.has so_far.stand (its_number files steps i _ _ _ here so_far) apart in
-    stops_here files steps i _ _ _ here so_far _ _ c.loop-step.invariant.fine c.loop-step.invariant.started ends
+    stops_here files steps i _ _ _ here so_far _ _ c.loop-step.invariant.fine c.loop-step.invariant.read c.loop-step.invariant.started ends
 
 pub loop-step-preserved : goal.loop-step-preserved
 loop-step-preserved g c =
@@ -36,6 +38,7 @@ loop-step-preserved g c =
     record {
       still_unknown = λ unknown. c.in_default.ensures.shelf.still_unknown (c.loop-step.invariant.still_unknown unknown);
       fine = c.in_default.ensures.shelf.fine ∙ c.loop-step.invariant.fine;
+      read = c.in_default.ensures.shelf.none_read ∙ c.loop-step.invariant.read;
       started = c.in_default.ensures.runner.fine ∙ c.loop-step.invariant.started;
       written = c.in_default.ensures.writer.fine ∙ c.loop-step.invariant.written;
       many = λ steps planned.
@@ -52,3 +55,7 @@ loop-step-preserved g c =
 pub returns-clause-meant : goal.returns-clause-meant
 returns-clause-meant g c files steps known planned fresh =
     all_carried_out files c.steps-step-items.result.now steps c.loop-step.step-index _ _ (c.steps-step-items.ensures ∙ planned) c.loop-step-test.false (c.loop-step.invariant.reached files steps known planned fresh)
+
+pub returns-in-Err-clause-shelf : goal.returns-in-Err-clause-shelf
+returns-in-Err-clause-shelf g c =
+    leaves_later (g.S.Lender.state c.args.shelf.now) (g.S.Lender.state c.loop-step.shelf) _ c.in-Err.cause c.loop-step.invariant.still_unknown c.loop-step.invariant.fine c.loop-step.invariant.read c.in-Err.ensures.shelf

@@ -10,15 +10,16 @@ use Rattle.rh_script_run.proofs.running.carry_out_all.Given as goal
 
 abbrev pub invariant-loop-step : goal.invariant-loop-step
 invariant-loop-step g l = record {
-  still_unknown : g.S.Shelf.files l.fn.shelf ≡ None → g.S.Shelf.files l.shelf ≡ None;
-  fine : g.S.Shelf.failures l.shelf ≡ g.S.Shelf.failures l.fn.shelf;
+  still_unknown : (g.S.Lender.state l.fn.shelf).files ≡ None → (g.S.Lender.state l.shelf).files ≡ None;
+  fine : (g.S.Lender.state l.shelf).failures ≡ (g.S.Lender.state l.fn.shelf).failures;
+  read : (g.S.Lender.state l.shelf).failed_reads ≡ (g.S.Lender.state l.fn.shelf).failed_reads;
   started : g.N.Runner.refused_starts l.runner ≡ g.N.Runner.refused_starts l.fn.runner;
   written : l.writer.failures ≡ l.fn.writer.failures;
   many : (steps : List Numbered) → planned_of l.fn.plan ≡ plan_of steps → length l.lists.items ≡ length (names_in (take l.step-index steps));
-  reached : (files : Files) (steps : List Numbered) → g.S.Shelf.files l.fn.shelf ≡ Some files → planned_of l.fn.plan ≡ plan_of steps → SnapshotsAreNew steps
-      → Reached files (take l.step-index steps) (environment (g.S.Shelf.files l.fn.shelf) (g.S.Shelf.failures l.fn.shelf) (g.N.Runner.refused_starts l.fn.runner) (g.W.Write.contents l.fn.writer.inner)) (record {
+  reached : (files : Files) (steps : List Numbered) → (g.S.Lender.state l.fn.shelf).files ≡ Some files → planned_of l.fn.plan ≡ plan_of steps → SnapshotsAreNew steps
+      → Reached files (take l.step-index steps) (environment (g.S.Lender.state l.fn.shelf) (g.N.Runner.refused_starts l.fn.runner) (g.W.Write.contents l.fn.writer.inner)) (record {
         set = l.set;
         lists = l.lists.items;
-        environment = environment (g.S.Shelf.files l.shelf) (g.S.Shelf.failures l.shelf) (g.N.Runner.refused_starts l.runner) (g.W.Write.contents l.writer.inner);
+        environment = environment (g.S.Lender.state l.shelf) (g.N.Runner.refused_starts l.runner) (g.W.Write.contents l.writer.inner);
       });
 }

@@ -12,15 +12,15 @@ use Rattle.rh_script_run.proofs.steps.use_step.Goals as goal
 pub returns-in_err-count-clause-made : goal.returns-in_err-count-clause-made
 returns-in_err-count-clause-made g c set named files has stand =
     let p = err_from_is_err_and c.from_residual.result c.from_residual.ensures.1 in
-    let known = known_files files (g.S.Shelf.files c.args.shelf.now) has in
-    let same = same_keys files (g.S.Shelf.files c.args.shelf.now) known.0 known.1 has c.args.path.now in
+    let known = known_files files (g.S.Lender.state c.args.shelf.now).files has in
+    let same = same_keys files (g.S.Lender.state c.args.shelf.now).files known.0 known.1 has c.args.path.now in
     rw (p.1, p.2) (found_refused _ _ _ _ same (c.in_err-count.ensures.refused known.0 known.1))
 
 pub returns-clause-made : goal.returns-clause-made
 returns-clause-made g c set named files has stand =
     let name = c.args.name.now in
     let path = c.args.path.now in
-    let before = g.S.Shelf.files c.args.shelf.now in
+    let before = (g.S.Lender.state c.args.shelf.now).files in
     let known = known_files files before has in
     let same = same_keys files before known.0 known.1 has path in
     let used = c.in_ok-count.ensures.used known.0 known.1 in

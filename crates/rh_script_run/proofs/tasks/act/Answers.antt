@@ -16,40 +16,40 @@ unfolding number_after outcome_of
 returns-in-Add-clause-made g c named files has stand = rw c.in-Add.is (λ number apart.
     let name = c.in-Add.name.now in
     let here = list_at c.args.lists.now.items named _ name c.in-Add.list c.index-list.result.now stand number c.index-list.ensures in
-    lists_stay (Add name) tt _ _ files _ _ c.change_step.ensures.shelf.same_files has _ c.args.lists.now.items named _ (c.change_step.ensures.made named files (list_of name named) here) stand)
+    lists_stay (Add name) tt _ _ files _ _ c.list_step.ensures.shelf.same_files has _ c.args.lists.now.items named _ (c.list_step.ensures.made named files (list_of name named) here) stand)
 
 pub returns-in-Drop-clause-made : goal.returns-in-Drop-clause-made
 unfolding number_after outcome_of
 returns-in-Drop-clause-made g c named files has stand = rw c.in-Drop.is (λ number apart.
     let name = c.in-Drop.name.now in
     let here = list_at c.args.lists.now.items named _ name c.in-Drop.list c.index-list-in-Drop.result.now stand number c.index-list-in-Drop.ensures in
-    lists_stay (Drop name) tt _ _ files _ _ c.change_step-in-Drop.ensures.shelf.same_files has _ c.args.lists.now.items named _ (c.change_step-in-Drop.ensures.made named files (list_of name named) here) stand)
+    lists_stay (Drop name) tt _ _ files _ _ c.list_step-in-Drop.ensures.shelf.same_files has _ c.args.lists.now.items named _ (c.list_step-in-Drop.ensures.made named files (list_of name named) here) stand)
 
 pub returns-in-Ask-clause-made : goal.returns-in-Ask-clause-made
 unfolding number_after outcome_of
 returns-in-Ask-clause-made g c named files has stand = rw c.in-Ask.is (λ number apart.
     let name = c.in-Ask.name.now in
-    let here = list_at c.args.lists.now.items named _ name c.in-Ask.list c.index.result.now stand number c.index.ensures in
-    lists_stay (Ask name) tt _ _ files _ _ c.ask_step.ensures.shelf.same_files has _ c.args.lists.now.items named _ (c.ask_step.ensures.made named files (list_of name named) here) stand)
+    let here = list_at c.args.lists.now.items named _ name c.in-Ask.list c.index-list-in-Ask.result.now stand number c.index-list-in-Ask.ensures in
+    lists_stay (Ask name) tt _ _ files _ _ c.list_step-in-Ask.ensures.shelf.same_files has _ c.args.lists.now.items named _ (c.list_step-in-Ask.ensures.made named files (list_of name named) here) stand)
 
 pub returns-in-Keep-clause-made : goal.returns-in-Keep-clause-made
 unfolding number_after outcome_of
 returns-in-Keep-clause-made g c named files has stand = rw c.in-Keep.is (λ number apart.
     let name = c.in-Keep.name.now in
     let here = list_at c.args.lists.now.items named _ name c.in-Keep.list c.index-list-in-Keep.result.now stand number c.index-list-in-Keep.ensures in
-    lists_stay (Keep name) tt _ _ files _ _ c.change_step-in-Keep.ensures.shelf.same_files has _ c.args.lists.now.items named _ (c.change_step-in-Keep.ensures.made named files (list_of name named) here) stand)
+    lists_stay (Keep name) tt _ _ files _ _ c.list_step-in-Keep.ensures.shelf.same_files has _ c.args.lists.now.items named _ (c.list_step-in-Keep.ensures.made named files (list_of name named) here) stand)
 
 pub returns-in-Flip-clause-made : goal.returns-in-Flip-clause-made
 unfolding number_after outcome_of
 returns-in-Flip-clause-made g c named files has stand = rw c.in-Flip.is (λ number apart.
     let name = c.in-Flip.name.now in
     let here = list_at c.args.lists.now.items named _ name c.in-Flip.list c.index-list-in-Flip.result.now stand number c.index-list-in-Flip.ensures in
-    lists_stay (Flip name) tt _ _ files _ _ c.change_step-in-Flip.ensures.shelf.same_files has _ c.args.lists.now.items named _ (c.change_step-in-Flip.ensures.made named files (list_of name named) here) stand)
+    lists_stay (Flip name) tt _ _ files _ _ c.list_step-in-Flip.ensures.shelf.same_files has _ c.args.lists.now.items named _ (c.list_step-in-Flip.ensures.made named files (list_of name named) here) stand)
 
 pub returns-in-Save-clause-made : goal.returns-in-Save-clause-made
 unfolding number_after outcome_of
 returns-in-Save-clause-made g c named files has stand = rw c.in-Save.is (λ number apart.
-    let known = known_files files (g.S.Shelf.files c.args.shelf.now) has in
+    let known = known_files files (g.S.Lender.state c.args.shelf.now).files has in
     plain_state (Save c.in-Save.name.now) tt _ _ files _ _ refl has _ _ _ (c.save_step.ensures.made named files _ known.0 known.1 stand))
 
 pub returns-in-Clear-clause-made : goal.returns-in-Clear-clause-made

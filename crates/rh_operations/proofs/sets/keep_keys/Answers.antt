@@ -1,0 +1,55 @@
+use Rattle.std.proofs.Common.{◌≡◌, ◌∙◌, ◌+◌, ap, arith, length, length-take-le, refl, subst, sym, take}
+use Rattle.std.proofs.lemmas.List.Elements.{All-filter}
+use Rattle.std.proofs.lemmas.Result.{err_from_is_err_and}
+use Rattle.std.specs.Prelude.{All}
+use Rattle.std.specs.FinSet as set
+use Rattle.rh_layout.specs.Key.{IsKey}
+use Rattle.rh_ledger.specs.Phase.{looked_up, set_after}
+use Rattle.rh_ledger.specs.declared.tally.Kind.TheVariants.{Insert}
+use Rattle.rh_report.specs.declared.lines.Change.TheVariants.{Kept}
+use Rattle.rh_runner.specs.declared.chosen.Chosen.TheVariants.{Present}
+use Rattle.rh_runner.specs.Lists.{chosen}
+use Rattle.rh_operations.specs.Actions.{Changed, keeps, table}
+use Rattle.rh_operations.specs.Sets.{kept}
+use Rattle.rh_operations.specs.Size.{size_for}
+use Rattle.rh_operations.proofs.Making.{nothing_held, sized}
+use Rattle.rh_operations.proofs.Refusing.{no_memory, not_made}
+use Rattle.rh_operations.proofs.sets.keep_keys.Goals as goal
+
+pub returns-in_err-empty-clause-refused : goal.returns-in_err-empty-clause-refused
+returns-in_err-empty-clause-refused g c =
+    let p = err_from_is_err_and c.from_residual-in_err-empty.result c.from_residual-in_err-empty.ensures.1 in
+    rw p.1 (no_memory _ _ _ _ _ _ _ p.2)
+
+pub with_keys-requires-after_bounds : goal.with_keys-requires-after_bounds
+with_keys-requires-after_bounds g c κs within =
+    let S = c.args.set.now.keys in
+    let value = c.as_mut_slice-list.ensures.value in
+    let looked = c.deref.ensures.value ∙ c.in_ok-taken.ensures.found ∙ ap (looked_up S) (sym value) in
+    let chose = c.choose-many.ensures.moved S looked ∙ ap (chosen Present S) value in
+    subst (All IsKey) (sym chose) (All-filter _ IsKey c.in_ok-taken.taken.items c.in_ok-taken.ensures.took.in_range)
+
+pub returns-in_err-kept-clause-refused : goal.returns-in_err-kept-clause-refused
+returns-in_err-kept-clause-refused g c =
+    let p = err_from_is_err_and c.from_residual-in_err-kept.result c.from_residual-in_err-kept.ensures.1 in
+    let S = c.args.set.now.keys in
+    let value = c.as_mut_slice-list.ensures.value in
+    let looked = c.deref.ensures.value ∙ c.in_ok-taken.ensures.found ∙ ap (looked_up S) (sym value) in
+    let chose = c.choose-many.ensures.moved S looked ∙ ap (chosen Present S) value in
+    let many : set.len c.in_ok-empty.empty.keys + length (take c.choose-many.result c.choose-many.new.keys) ≡ length (chosen Present S c.in_ok-taken.taken.items) =
+    omega (arith, nothing_held c.in_ok-empty.empty.keys c.in_ok-empty.ensures.keys, ap length chose) in
+    rw (p.1, p.2) (not_made c.args.set.now.bits (keeps c.args.set.now) _ _ _ _ c.in_ok-taken.taken.items _ _ _ _ _ c.in_ok-taken.ensures.took (λ i. size_for (c.in_ok-empty.ensures.bits i) (many i)) refl c.in_ok-taken.ensures.runner.fine c.in_err-kept.ensures.refused)
+
+pub returns-clause-done : goal.returns-clause-done
+returns-clause-done g c =
+    let S = c.args.set.now.keys in
+    let keys = c.in_ok-taken.taken.items in
+    let value = c.as_mut_slice-list.ensures.value in
+    let looked = c.deref.ensures.value ∙ c.in_ok-taken.ensures.found ∙ ap (looked_up S) (sym value) in
+    let chose = c.choose-many.ensures.moved S looked ∙ ap (chosen Present S) value in
+    let many : set.len c.in_ok-empty.empty.keys + length (take c.choose-many.result c.choose-many.new.keys) ≡ length (chosen Present S keys) =
+    omega (arith, nothing_held c.in_ok-empty.empty.keys c.in_ok-empty.ensures.keys, ap length chose) in
+    let found : c.choose-many.result ≡ length (chosen Present S keys) = sym (length-take-le _ _ c.choose-many.ensures.few) ∙ ap length chose in
+    let held : c.in_ok-kept.kept.keys ≡ kept S keys = c.in_ok-kept.ensures.held ∙ (λ i. set_after Insert (c.in_ok-empty.ensures.keys i) (chose i)) in
+    let bits = c.in_ok-kept.kept.bits in
+    (keys, c.in_ok-taken.ensures.took, sized _ bits _ _ (sym (λ i. size_for (c.in_ok-empty.ensures.bits i) (many i)) ∙ c.in_ok-kept.ensures.size) (λ i. (table bits (sym held i), Changed (Kept (sym found i)))))

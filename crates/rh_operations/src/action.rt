@@ -1,0 +1,26 @@
+//! What a command does with the keys of its list.
+
+use rh_report::Change;
+
+/// What becomes of the held keys by those of a list.
+#[derive(Clone, Copy)]
+pub enum Action {
+    /// The keys of the list are held too.
+    Add,
+    /// They are held no more.
+    Drop,
+    /// Of the keys that are held, those of the list stay.
+    Keep,
+    /// Those that are held are held no more, and the others are.
+    Flip,
+    /// Nothing: they are looked up.
+    Ask,
+}
+
+/// What there is to tell of it.
+#[derive(Drop)]
+pub enum Done {
+    Changed(Change),
+    /// Of each position of the list, whether its key is held.
+    Asked(Vec<bool>),
+}
