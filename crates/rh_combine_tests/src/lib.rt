@@ -1,10 +1,12 @@
-//! Tests of what comes of lists, by one worker and by several, from outside.
+//! Tests of what comes of lists, by one worker and by several, and of lists at paths, from outside.
 //!
 //! They stand apart from the code, so that each crate is proved once, and not once more with its tests.
 #![tactic(auto)]
 
 #[cfg(test)]
 mod long;
+#[cfg(test)]
+mod paths;
 #[cfg(test)]
 mod rows;
 #[cfg(test)]

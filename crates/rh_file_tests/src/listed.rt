@@ -3,7 +3,7 @@
 use rh_faulty::{FaultyShelf, FaultyWriter, Refusal, ShelfFailure};
 use rh_key_files::{Counted, KeyFault};
 use rh_key_texts::*;
-use rh_shelf::{MemShelf, Shelf, ShelfFault};
+use rh_shelf::{CountedShelf, Lender, MemShelf, Shelf, ShelfFault};
 use rh_snapshot::SnapFault;
 use std::alloc::Global;
 use std::test::*;
@@ -37,7 +37,7 @@ fn paths(alloc: Global, names: &[&str]) -> Result<Vec<String>, Fail> {
 }
 
 // What is written of these files, and how it ends.
-fn listed<S: Shelf>(
+fn listed<S: Lender>(
     alloc: Global,
     shelf: &mut S,
     names: &[&str],
@@ -109,19 +109,39 @@ fn the_first_file_that_is_refused_is_told(rt: HostRuntime) -> Result<(), Fail> {
 fn each_call_and_each_read_fails(rt: HostRuntime) -> Result<(), Fail> {
     for n in 1..3u64 {
         let failure = ShelfFailure::Call(n);
-        let mut faulty = FaultyShelf::new(shelf(rt.alloc())?, failure);
+        let mut faulty = CountedShelf::new(FaultyShelf::new(shelf(rt.alloc())?, failure));
         let told = listed(rt.alloc(), &mut faulty, &["four", "three"], Form::Keys)?;
         let fault = FileFault::Shelf(ShelfFault::Missing);
         let index = if n == 1 { 0 } else { 1 };
         assert_eq!(rt; told.1, Some(FaultAt { index, fault }));
+        assert_eq!(rt; faulty.failed_reads(), 0);
     }
     for n in 1..5u64 {
         let failure = ShelfFailure::Read { reader: 2, read: n };
-        let mut faulty = FaultyShelf::new(shelf(rt.alloc())?, failure);
+        let mut faulty = CountedShelf::new(FaultyShelf::new(shelf(rt.alloc())?, failure));
         let told = listed(rt.alloc(), &mut faulty, &["four", "three"], Form::Keys)?;
         let fault = FileFault::Keys(KeyFault::Read);
         assert_eq!(rt; told.0.as_slice(), b"4\n".as_slice());
         assert_eq!(rt; told.1, Some(FaultAt { index: 1, fault }));
+        assert_eq!(rt; faulty.failed_reads(), 1);
+    }
+    let failure = ShelfFailure::Read { reader: 1, read: 1 };
+    let mut faulty = CountedShelf::new(FaultyShelf::new(shelf(rt.alloc())?, failure));
+    let told = listed(rt.alloc(), &mut faulty, &["four"], Form::Snapshot)?;
+    let fault = FileFault::Snap(SnapFault::Read);
+    assert_eq!(rt; told.1, Some(FaultAt { index: 0, fault }));
+    assert_eq!(rt; faulty.failed_reads(), 1);
+    Ok(())
+}
+
+// No read of it failed.
+#[test]
+fn a_file_that_is_refused_is_no_failed_read(rt: HostRuntime) -> Result<(), Fail> {
+    let mut counted = CountedShelf::new(shelf(rt.alloc())?);
+    for &(name, form, fault) in REFUSALS {
+        let told = listed(rt.alloc(), &mut counted, &[name], form)?;
+        assert_eq!(rt; told.1, Some(FaultAt { index: 0, fault }), "{name}");
+        assert_eq!(rt; counted.failed_reads(), 0, "{name}");
     }
     Ok(())
 }

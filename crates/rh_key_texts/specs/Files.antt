@@ -1,13 +1,15 @@
 -- What the listing of several files writes, and why it stops.
-use Rattle.std.specs.Prelude.{◌≡◌, ℕ, List, [], ◌∷◌, take, slice_get, Option, Some, Result, Ok, Err}
+use Rattle.std.specs.Prelude.{◌≡◌, ℕ, Bool, true, false, List, [], ◌∷◌, take, slice_get, Option, Some, Result, Ok, Err}
 use Rattle.std.specs.List.{flat_map}
 use Rattle.std.specs.Io.KnownBytes.{Appends}
 use Rattle.rh_layout.specs.Layout.{keys_of}
 use Rattle.rh_edit.specs.Rising.{rising_keys}
 use Rattle.rh_bytes.specs.Counting.{AppendsFront}
 use Rattle.rh_key_files.specs.Reading as keys
+use Rattle.rh_key_files.specs.declared.fault.KeyFault.TheVariants as key_faults
 use Rattle.rh_shelf.specs.Shelf.{Files, Finds, Lacks}
 use Rattle.rh_snapshot.specs.Reading as snapshots
+use Rattle.rh_snapshot.specs.declared.fault.SnapFault.TheVariants as snap_faults
 use Rattle.rh_snapshot.specs.Snapshot.{Table}
 use Rattle.rh_numbers.specs.Writing.{text_of}
 use Rattle.rh_key_texts.specs.declared.files.FileFault.{FileFault}
@@ -66,3 +68,9 @@ ListsFiles files form paths old new (Err e) =
 -- the files are known not to have the path at this place
 abbrev pub LacksAt : Option Files → List (List ℕ) → (index : ℕ) → Type 0
 LacksAt files paths index = (path : List ℕ) × (slice_get paths index ≡ Some path) × Lacks files path
+
+-- the fault tells a failed read
+abbrev pub tells_failed_read : FileFault → Bool
+tells_failed_read (Keys key_faults.Read) = true
+tells_failed_read (Snap snap_faults.Read) = true
+tells_failed_read fault = false

@@ -1,18 +1,19 @@
 //! The command `list` of several files, one after the other.
 
-ghost use Rattle.std.specs.Prelude.{◌≡◌, ◌≢◌, ◌<◌, ◌⊎◌, length, map, string_bytes, IfErr, IsErrOf, OnOk};
+ghost use Rattle.std.specs.Prelude.{◌≡◌, ◌≢◌, ◌<◌, ◌⊎◌, ℕ, List, Option, length, map, string_bytes, IfErr, IsErrOf, OnOk, true};
 ghost use Rattle.rh_bytes.specs.Counting.{Rose, failures_of, inner_of};
-ghost use Rattle.rh_shelf.specs.Shelf.{Lacks};
-ghost use Rattle.rh_key_texts.specs.Files.{LacksAt, ListsFile, ListsFiles};
+ghost use Rattle.rh_shelf.specs.Shelf.{CountsReads, Files, Finds, Lacks};
+ghost use Rattle.rh_shelf.specs.declared.shelf.ShelfFault.{ShelfFault as InShelf};
+ghost use Rattle.rh_key_texts.specs.Files.{LacksAt, ListsFile, ListsFiles, tells_failed_read};
 
 use crate::listing::{ListFault, list_keys};
 use crate::snapshot::{HeldFault, list_snapshot};
 use rh_bytes::Counted;
 use rh_key_files::KeyFault;
-use rh_shelf::{Shelf, ShelfFault};
+use rh_shelf::{Lender, ShelfFault};
 use rh_snapshot::SnapFault;
 use std::alloc::Global;
-use std::io::Write;
+use std::io::{Read, Write};
 use thiserror::Error;
 
 /// What is in a file that is listed.
@@ -88,24 +89,26 @@ pub struct FaultAt {
 ///
 /// Each file is read to its end before a byte of it is written, and `Memory` comes only where a growth
 /// was refused. Each number is a write of its own, so give it a writer with a buffer.
-pub fn list_files<S: Shelf, W: Write>(
+pub fn list_files<S: Lender, W: Write>(
     alloc: Global,
     shelf: &mut S,
     paths: &[String],
     form: Form,
     writer: &mut Counted<W>,
 ) -> Result<(), FaultAt>
-    ensures listed { ListsFiles (S.files shelf.old) form (map string_bytes paths.now)
+    ensures listed { ListsFiles (S.state shelf.old).files form (map string_bytes paths.now)
         (W.contents (inner_of writer.old)) (W.contents (inner_of writer.new)) result }
     ensures inside { IfErr result (λ e. e.index < length paths.now) }
-    ensures same_files { S.files shelf.new ≡ S.files shelf.old }
+    ensures same_files { (S.state shelf.new).files ≡ (S.state shelf.old).files }
     ensures missing { IfErr result (λ e. e.fault ≡ FileFault.Shelf ShelfFault.Missing →
-        LacksAt (S.files shelf.old) (map string_bytes paths.now) e.index
-        ⊎ Rose (S.failures shelf.old) (S.failures shelf.new)) }
+        LacksAt (S.state shelf.old).files (map string_bytes paths.now) e.index
+        ⊎ Rose (S.state shelf.old).failures (S.state shelf.new).failures) }
     ensures memory { IfErr result (λ e. e.fault ≡ FileFault.Shelf ShelfFault.Memory →
-        Rose (S.failures shelf.old) (S.failures shelf.new)) }
+        Rose (S.state shelf.old).failures (S.state shelf.new).failures) }
     ensures no_shelf_write { IfErr result (λ e. e.fault ≢ FileFault.Shelf ShelfFault.Write) }
-    ensures fine { OnOk result (S.failures shelf.new ≡ S.failures shelf.old) }
+    ensures read { IfErr result (λ e.
+        CountsReads (tells_failed_read e.fault) (S.state shelf.old) (S.state shelf.new)) }
+    ensures fine { OnOk result (S.state shelf.new ≡ S.state shelf.old) }
     ensures write { IfErr result (λ e. e.fault ≡ FileFault.Write →
         Rose (failures_of writer.old) (failures_of writer.new)) }
     ensures written { OnOk result (failures_of writer.new ≡ failures_of writer.old) }
@@ -119,31 +122,61 @@ pub fn list_files<S: Shelf, W: Write>(
 }
 
 /// Lists the file at the path.
-fn list_file<S: Shelf, W: Write>(
+fn list_file<S: Lender, W: Write>(
     alloc: Global,
     shelf: &mut S,
     path: &str,
     form: Form,
     writer: &mut Counted<W>,
 ) -> Result<(), FileFault>
-    ensures listed { ListsFile (S.files shelf.old) path.now form
+    ensures listed { ListsFile (S.state shelf.old).files path.now form
         (W.contents (inner_of writer.old)) (W.contents (inner_of writer.new)) result }
     ensures untouched { IfErr result (λ fault. fault ≢ FileFault.Write → writer.new ≡ writer.old) }
     ensures missing { IsErrOf result (FileFault.Shelf ShelfFault.Missing) →
-        Lacks (S.files shelf.old) path.now ⊎ Rose (S.failures shelf.old) (S.failures shelf.new) }
+        Lacks (S.state shelf.old).files path.now
+        ⊎ Rose (S.state shelf.old).failures (S.state shelf.new).failures }
     ensures memory { IsErrOf result (FileFault.Shelf ShelfFault.Memory) →
-        Rose (S.failures shelf.old) (S.failures shelf.new) }
+        Rose (S.state shelf.old).failures (S.state shelf.new).failures }
     ensures no_shelf_write { IsErrOf result (FileFault.Shelf ShelfFault.Write) → ⊥ }
-    ensures fine { OnOk result (S.failures shelf.new ≡ S.failures shelf.old) }
-    ensures same_files { S.files shelf.new ≡ S.files shelf.old }
+    ensures read { IfErr result (λ fault.
+        CountsReads (tells_failed_read fault) (S.state shelf.old) (S.state shelf.new)) }
+    ensures fine { OnOk result (S.state shelf.new ≡ S.state shelf.old) }
+    ensures same_files { (S.state shelf.new).files ≡ (S.state shelf.old).files }
     ensures write { IsErrOf result FileFault.Write →
         Rose (failures_of writer.old) (failures_of writer.new) }
     ensures written { OnOk result (failures_of writer.new ≡ failures_of writer.old) }
 {
-    let mut reader = Counted::new(shelf.fetch(alloc, path)?);
+    let mut reader = Counted::new(shelf.lend(alloc, path)?);
+    let listed = list_form(alloc, form, &mut reader, writer);
+    // Behind another fault a read may have failed too, but it is not told.
+    if let Err(FileFault::Keys(KeyFault::Read) | FileFault::Snap(SnapFault::Read)) = listed {
+        shelf.blame(&reader);
+    }
+    listed
+}
+
+/// Lists the file that the reader gives.
+fn list_form<R: Read, W: Write>(
+    alloc: Global,
+    form: Form,
+    reader: &mut Counted<R>,
+    writer: &mut Counted<W>,
+) -> Result<(), FileFault>
+    ensures listed { (files : Option Files) (path : List ℕ) →
+        Finds files path (R.remaining (inner_of reader.old)) →
+        ListsFile files path form
+        (W.contents (inner_of writer.old)) (W.contents (inner_of writer.new)) result }
+    ensures untouched { IfErr result (λ fault. fault ≢ FileFault.Write → writer.new ≡ writer.old) }
+    ensures no_shelf { (fault : InShelf) → IsErrOf result (FileFault.Shelf fault) → ⊥ }
+    ensures read { IfErr result (λ fault. tells_failed_read fault ≡ true →
+        Rose (failures_of reader.old) (failures_of reader.new)) }
+    ensures write { IsErrOf result FileFault.Write →
+        Rose (failures_of writer.old) (failures_of writer.new) }
+    ensures written { OnOk result (failures_of writer.new ≡ failures_of writer.old) }
+{
     match form {
-        Form::Keys => list_keys(alloc, &mut reader, writer)?,
-        Form::Snapshot => list_snapshot(alloc, &mut reader, writer)?,
+        Form::Keys => list_keys(alloc, reader, writer)?,
+        Form::Snapshot => list_snapshot(alloc, reader, writer)?,
     }
     Ok(())
 }

@@ -14,7 +14,8 @@
 //!   no more of their reader than their answer rests on, and a refused `pack` at most 8,192 bytes more.
 //! - `list_files`: of files at paths, the texts of each one's keys were written, one after the
 //!   other. Else those of the files before `index`, and of that one nothing, or a front on `Write`;
-//!   its fault is the first in its bytes.
+//!   its fault is the first in its bytes. A failed read is told only where the shelf was shown the
+//!   reader of one, and else it was shown none.
 //! - `listed_again`: what was packed from a text of keys is listed as a text of the same keys.
 //!   `packed_again`: what was listed of a key file of the second version is packed to the same
 //!   bytes.

@@ -7,7 +7,7 @@ use rh_bytes::Counted;
 use rh_cli::{Outlet, ProgramFault, Status, between, buffered_writer, write_out};
 use rh_key_files::KeyFault;
 use rh_key_texts::{FaultAt, FileFault, Form, list_files, list_keys, list_snapshot, pack};
-use rh_shelf::{FileShelf, ShelfFault};
+use rh_shelf::{CountedShelf, FileShelf, ShelfFault};
 use rh_snapshot::SnapFault;
 use std::fs::Files;
 use std::io::Write;
@@ -49,7 +49,7 @@ pub fn list_paths<W: Write>(
     form: Form,
 ) -> Result<Status, Fault> {
     let output = buffered_writer(rt.alloc(), outlet)?;
-    let mut shelf = FileShelf::new(rt);
+    let mut shelf = CountedShelf::new(FileShelf::new(rt));
     let mut writer = Counted::new(output);
     let listed = list_files(rt.alloc(), &mut shelf, &paths, form, &mut writer);
     // What was listed of the files before one that is refused is written all the same.

@@ -19,7 +19,7 @@ use rh_combine_workers::{CombineFault, Form, write_combined};
 use rh_key_files::write_header;
 use rh_list_files::{CommandFault, read_paths};
 use rh_numbers::write_numbers;
-use rh_shelf::Shelf;
+use rh_shelf::Lender;
 use std::alloc::Global;
 use std::io::{Read, Write};
 use std::thread::Threads;
@@ -37,7 +37,7 @@ pub struct Job<'a> {
 
 /// Reads the lists at these paths, and writes what comes of them. Nothing is written before all are read.
 /// Each write is a large one, so that no buffer is wanted.
-pub fn combine_files<T: Threads + Sync, S: Shelf, I: Read, W: Write, P: Progress>(
+pub fn combine_files<T: Threads + Sync, S: Lender, I: Read, W: Write, P: Progress>(
     rt: &T,
     alloc: Global,
     job: &Job<'_>,
@@ -47,16 +47,16 @@ pub fn combine_files<T: Threads + Sync, S: Shelf, I: Read, W: Write, P: Progress
     progress: &mut P,
 ) -> Result<(), CommandFault>
     requires { (0 < job.now.workers) × (job.now.workers ≤ 64) }
-    ensures ends { Ends job.now.how job.now.output (S.files shelf.old)
+    ensures ends { Ends job.now.how job.now.output (S.state shelf.old).files
         (map string_bytes job.now.paths.now)
         (I.remaining (inner_of input.old)) (I.remaining (inner_of input.new))
         (W.contents (inner_of writer.old)) (W.contents (inner_of writer.new)) result }
     ensures inside { IfErr result (IsInside (length job.now.paths.now)) }
-    ensures same_files { S.files shelf.new ≡ S.files shelf.old }
-    ensures blamed { IfErr result (Blames (S.files shelf.old) (map string_bytes job.now.paths.now)
-        (Rose (S.failures shelf.old) (S.failures shelf.new)) (Rose (failures_of input.old) (failures_of input.new))
+    ensures same_files { (S.state shelf.new).files ≡ (S.state shelf.old).files }
+    ensures blamed { IfErr result (Blames (S.state shelf.old) (S.state shelf.new)
+        (map string_bytes job.now.paths.now) (Rose (failures_of input.old) (failures_of input.new))
         (Rose (failures_of writer.old) (failures_of writer.new))) }
-    ensures fine { OnOk result ((S.failures shelf.new ≡ S.failures shelf.old)
+    ensures fine { OnOk result ((S.state shelf.new ≡ S.state shelf.old)
         × (failures_of input.new ≡ failures_of input.old) × (failures_of writer.new ≡ failures_of writer.old)) }
 {
     let lists = read_paths(rt, alloc, job.workers, shelf, job.paths, input, progress)?;

@@ -1,11 +1,12 @@
 -- The lists that a command reads: what their bytes say, and the first fault in them.
 use Rattle.std.specs.Prelude.{◌≡◌, ◌⊎◌, ℕ, Bool, true, false, List, [], ◌∷◌, codes, Option, Some, None, Result, Ok, Err}
 use Rattle.std.specs.Str.{bytes_eq}
+use Rattle.rh_bytes.specs.Counting.{Rose}
 use Rattle.rh_bytes.specs.Input.{Unless}
 use Rattle.rh_key_files.specs.declared.fault.KeyFault.TheVariants as keys
 use Rattle.rh_numbers.specs.declared.fault.TextFault.TheVariants as texts
 use Rattle.rh_numbers.specs.declared.limits.TheConstants.{MAX_BYTES}
-use Rattle.rh_shelf.specs.Shelf.{Files, Finds, Lacks}
+use Rattle.rh_shelf.specs.Shelf.{CountsReads, Files, Finds, Lacks, ShelfState}
 use Rattle.rh_shelf.specs.declared.shelf.ShelfFault.{ShelfFault}
 use Rattle.rh_shelf.specs.declared.shelf.ShelfFault.TheVariants.{Missing, Memory, Write}
 use Rattle.rh_lists.specs.Lists.{HasBytes, is_silent, keys_of, list_said}
@@ -70,15 +71,22 @@ BlamesShelf files path ShelfFailed Missing = Lacks files path ⊎ ShelfFailed
 BlamesShelf files path ShelfFailed Memory = ShelfFailed
 BlamesShelf files path ShelfFailed Write = ⊥
 
--- A failed read is told of the input only where it failed. What becomes of a file's reader nobody sees.
-abbrev pub BlamesBy : (input : Bool) → Option Files → (path : List ℕ) → (ShelfFailed InputFailed : Type 0) → FileFault → Type 0
-BlamesBy true files path ShelfFailed InputFailed (InList fault) = (fault ≡ Text texts.Read) ⊎ (fault ≡ Keys keys.Read) → InputFailed
-BlamesBy true files path ShelfFailed InputFailed (Shelf fault) = ⊥
-BlamesBy false files path ShelfFailed InputFailed (InList fault) = Unit {0}
-BlamesBy false files path ShelfFailed InputFailed (Shelf fault) = BlamesShelf files path ShelfFailed fault
+-- the fault tells a failed read
+abbrev pub tells_failed_read : ListFault → Bool
+tells_failed_read (Text texts.Read) = true
+tells_failed_read (Keys keys.Read) = true
+tells_failed_read fault = false
 
-abbrev pub BlamesAt : Option Files → (path : List ℕ) → (ShelfFailed InputFailed : Type 0) → FileFault → Type 0
-BlamesAt files path ShelfFailed InputFailed fault = BlamesBy (is_input path) files path ShelfFailed InputFailed fault
+-- A failed read is told of the input only where one of it failed, and of a file only where the shelf counts one more. With any other
+-- fault, and of the input, it counts as many as before.
+abbrev pub BlamesBy : (input : Bool) → (old new : ShelfState) → (path : List ℕ) → (InputFailed : Type 0) → FileFault → Type 0
+BlamesBy true old new path InputFailed (InList fault) = (tells_failed_read fault ≡ true → InputFailed) × CountsReads false old new
+BlamesBy true old new path InputFailed (Shelf fault) = ⊥
+BlamesBy false old new path InputFailed (InList fault) = CountsReads (tells_failed_read fault) old new
+BlamesBy false old new path InputFailed (Shelf fault) = BlamesShelf old.files path (Rose old.failures new.failures) fault × CountsReads false old new
+
+abbrev pub BlamesAt : (old new : ShelfState) → (path : List ℕ) → (InputFailed : Type 0) → FileFault → Type 0
+BlamesAt old new path InputFailed fault = BlamesBy (is_input path) old new path InputFailed fault
 
 -- ---- the list of a file, read
 

@@ -1,6 +1,6 @@
 -- The lists of several paths, read one after the other.
-use Rattle.std.specs.Prelude.{◌≡◌, ◌<◌, ℕ, List, take, slice_get, Option, Some, Result, Ok, Err}
-use Rattle.rh_shelf.specs.Shelf.{Files}
+use Rattle.std.specs.Prelude.{◌≡◌, ◌<◌, ℕ, false, List, take, slice_get, Option, Some, Result, Ok, Err}
+use Rattle.rh_shelf.specs.Shelf.{CountsReads, Files, ShelfState}
 use Rattle.rh_list_files.specs.Lists.{BlamesAt, GiveEach, HasFault}
 use Rattle.rh_list_files.specs.declared.fault.CommandFault.{CommandFault}
 use Rattle.rh_list_files.specs.declared.fault.CommandFault.TheVariants as faults
@@ -13,12 +13,12 @@ ReadsAll view files paths input left (Err (faults.List index fault)) =
     × GiveEach files (take index paths) input mid lists × HasFault files path mid fault
 ReadsAll view files paths input left (Err fault) = Unit {0}
 
--- What a command blames for its fault: the file at that place, or the device that failed.
-abbrev pub Blames : Option Files → (paths : List (List ℕ)) → (ShelfFailed InputFailed WriterFailed : Type 0) → CommandFault → Type 0
-Blames files paths ShelfFailed InputFailed WriterFailed (faults.List index fault) =
-    (path : List ℕ) × (slice_get paths index ≡ Some path) × BlamesAt files path ShelfFailed InputFailed fault
-Blames files paths ShelfFailed InputFailed WriterFailed faults.Write = WriterFailed
-Blames files paths ShelfFailed InputFailed WriterFailed faults.Memory = Unit {0}
+-- What a command blames for its fault: the file at that place, or the device that failed. No failed read is told but of a list.
+abbrev pub Blames : (old new : ShelfState) → (paths : List (List ℕ)) → (InputFailed WriterFailed : Type 0) → CommandFault → Type 0
+Blames old new paths InputFailed WriterFailed (faults.List index fault) =
+    (path : List ℕ) × (slice_get paths index ≡ Some path) × BlamesAt old new path InputFailed fault
+Blames old new paths InputFailed WriterFailed faults.Write = WriterFailed × CountsReads false old new
+Blames old new paths InputFailed WriterFailed faults.Memory = CountsReads false old new
 
 -- the fault names one of so many lists, if it names one
 abbrev pub IsInside : ℕ → CommandFault → Type 0

@@ -5,13 +5,15 @@ ghost use Rattle.std.specs.List.{flat_map};
 ghost use Rattle.rh_bytes.specs.Counting.{Rose, failures_of, inner_of};
 ghost use Rattle.rh_layout.specs.Key.{IsKey};
 ghost use Rattle.rh_lists.specs.Lists.{keys_of};
-ghost use Rattle.rh_list_files.specs.Lists.{BlamesAt, BlamesBy, GiveEach, Gives, HasFault, IsReadAt};
+ghost use Rattle.rh_list_files.specs.Lists.{BlamesAt, BlamesBy, GiveEach, Gives, HasFault, IsReadAt, tells_failed_read};
 ghost use Rattle.rh_list_files.specs.Reading.{Blames, IsInside, ReadsAll};
 
 use crate::fault::{CommandFault, FileFault};
 use rh_bytes::{Counted, Progress};
-use rh_lists::{KeyList, read_list};
-use rh_shelf::Shelf;
+use rh_key_files::KeyFault;
+use rh_lists::{KeyList, ListFault, read_list};
+use rh_numbers::TextFault;
+use rh_shelf::Lender;
 use std::alloc::Global;
 use std::io::Read;
 use std::thread::Threads;
@@ -20,7 +22,7 @@ use std::thread::Threads;
 pub const INPUT: &str = "-";
 
 /// Reads the list in the file at the path.
-fn read_file<T: Threads + Sync, S: Shelf, P: Progress>(
+fn read_file<T: Threads + Sync, S: Lender, P: Progress>(
     rt: &T,
     alloc: Global,
     workers: usize,
@@ -29,19 +31,37 @@ fn read_file<T: Threads + Sync, S: Shelf, P: Progress>(
     progress: &mut P,
 ) -> Result<KeyList, FileFault>
     requires { 0 < workers }
-    ensures read { IsReadAt (S.files shelf.old) path.now result }
-    ensures blamed { IfErr result (BlamesBy false (S.files shelf.old) path.now
-        (Rose (S.failures shelf.old) (S.failures shelf.new)) ⊥) }
-    ensures fine { OnOk result (S.failures shelf.new ≡ S.failures shelf.old) }
-    ensures same_files { S.files shelf.new ≡ S.files shelf.old }
+    ensures read { IsReadAt (S.state shelf.old).files path.now result }
+    ensures blamed { IfErr result
+        (BlamesBy false (S.state shelf.old) (S.state shelf.new) path.now ⊥) }
+    ensures fine { OnOk result (S.state shelf.new ≡ S.state shelf.old) }
+    ensures same_files { (S.state shelf.new).files ≡ (S.state shelf.old).files }
 {
-    let mut reader = Counted::new(shelf.fetch(alloc, path)?);
-    let list = read_list(rt, alloc, workers, &mut reader, progress)?;
-    Ok(list)
+    let mut reader = Counted::new(shelf.lend(alloc, path)?);
+    match read_list(rt, alloc, workers, &mut reader, progress) {
+        Ok(list) => Ok(list),
+        Err(fault) => {
+            // Behind another fault a read may have failed too, but it is not told.
+            if is_failed_read(fault) {
+                shelf.blame(&reader);
+            }
+            Err(FileFault::List(fault))
+        }
+    }
+}
+
+/// Whether the fault tells a failed read.
+fn is_failed_read(fault: ListFault) -> bool
+    ensures { result ≡ tells_failed_read fault }
+{
+    matches!(
+        fault,
+        ListFault::Text(TextFault::Read) | ListFault::Keys(KeyFault::Read),
+    )
 }
 
 /// Reads the list at the path, or on the input.
-fn read_path<T: Threads + Sync, S: Shelf, I: Read, P: Progress>(
+fn read_path<T: Threads + Sync, S: Lender, I: Read, P: Progress>(
     rt: &T,
     alloc: Global,
     workers: usize,
@@ -52,14 +72,14 @@ fn read_path<T: Threads + Sync, S: Shelf, I: Read, P: Progress>(
 ) -> Result<KeyList, FileFault>
     requires { 0 < workers }
     ensures read { MatchResult result
-        (λ list. Gives (S.files shelf.old) path.now (I.remaining (inner_of input.old))
+        (λ list. Gives (S.state shelf.old).files path.now (I.remaining (inner_of input.old))
         (I.remaining (inner_of input.new)) (keys_of list))
-        (HasFault (S.files shelf.old) path.now (I.remaining (inner_of input.old))) }
-    ensures blamed { IfErr result (BlamesAt (S.files shelf.old) path.now
-        (Rose (S.failures shelf.old) (S.failures shelf.new)) (Rose (failures_of input.old) (failures_of input.new))) }
-    ensures fine { OnOk result ((S.failures shelf.new ≡ S.failures shelf.old)
+        (HasFault (S.state shelf.old).files path.now (I.remaining (inner_of input.old))) }
+    ensures blamed { IfErr result (BlamesAt (S.state shelf.old) (S.state shelf.new) path.now
+        (Rose (failures_of input.old) (failures_of input.new))) }
+    ensures fine { OnOk result ((S.state shelf.new ≡ S.state shelf.old)
         × (failures_of input.new ≡ failures_of input.old)) }
-    ensures same_files { S.files shelf.new ≡ S.files shelf.old }
+    ensures same_files { (S.state shelf.new).files ≡ (S.state shelf.old).files }
 {
     if path == INPUT {
         let list = read_list(rt, alloc, workers, input, progress)?;
@@ -70,7 +90,7 @@ fn read_path<T: Threads + Sync, S: Shelf, I: Read, P: Progress>(
 
 /// Reads the lists at these paths, one after the other, up to the first that has a fault. Each is given
 /// in pieces. `-` is standard input, which is read once: what another `-` finds is nothing.
-pub fn read_paths<T: Threads + Sync, S: Shelf, I: Read, P: Progress>(
+pub fn read_paths<T: Threads + Sync, S: Lender, I: Read, P: Progress>(
     rt: &T,
     alloc: Global,
     workers: usize,
@@ -80,15 +100,15 @@ pub fn read_paths<T: Threads + Sync, S: Shelf, I: Read, P: Progress>(
     progress: &mut P,
 ) -> Result<Vec<Vec<Vec<u64>>>, CommandFault>
     requires { 0 < workers }
-    ensures read { ReadsAll (λ lists. map (λ l. flat_map (λ k. k.items) l.items) lists.items) (S.files shelf.old) (map string_bytes paths.now)
+    ensures read { ReadsAll (λ lists. map (λ l. flat_map (λ k. k.items) l.items) lists.items) (S.state shelf.old).files (map string_bytes paths.now)
         (I.remaining (inner_of input.old)) (I.remaining (inner_of input.new)) result }
     ensures keys { IfOk result (λ lists. All (λ l. All (λ k. All IsKey k.items) l.items) lists.items) }
     ensures inside { IfErr result (IsInside (length paths.now)) }
-    ensures blamed { IfErr result (Blames (S.files shelf.old) (map string_bytes paths.now)
-        (Rose (S.failures shelf.old) (S.failures shelf.new)) (Rose (failures_of input.old) (failures_of input.new)) ⊥) }
-    ensures fine { OnOk result ((S.failures shelf.new ≡ S.failures shelf.old)
+    ensures blamed { IfErr result (Blames (S.state shelf.old) (S.state shelf.new) (map string_bytes paths.now)
+        (Rose (failures_of input.old) (failures_of input.new)) ⊥) }
+    ensures fine { OnOk result ((S.state shelf.new ≡ S.state shelf.old)
         × (failures_of input.new ≡ failures_of input.old)) }
-    ensures same_files { S.files shelf.new ≡ S.files shelf.old }
+    ensures same_files { (S.state shelf.new).files ≡ (S.state shelf.old).files }
 {
     let mut lists = Vec::new(alloc);
     for index in 0..paths.len() {

@@ -9,7 +9,7 @@ use rh_combine::How;
 use rh_key_commands::line::Combination;
 use rh_keys_program::{Fault, Line, bytes_of, times_named, told, workers_of};
 use rh_list_commands::{Job, Output, combine_files};
-use rh_shelf::FileShelf;
+use rh_shelf::{CountedShelf, FileShelf};
 use std::fs::Files;
 use std::io::Write;
 use std::thread::Threads;
@@ -39,7 +39,7 @@ pub fn combine<W: Write + Drop>(
         return Err(Fault::InputTwice);
     }
     let mut line = Line::new(rt, asked.on_terminal, bytes_of(rt, &asked.files));
-    let mut shelf = FileShelf::new(rt);
+    let mut shelf = CountedShelf::new(FileShelf::new(rt));
     let mut input = Counted::new(rt.reader());
     let mut writer = Counted::new(writer);
     let job = Job {

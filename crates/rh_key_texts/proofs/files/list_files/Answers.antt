@@ -25,9 +25,8 @@ pub loop-index-preserved : goal.loop-index-preserved
 loop-index-preserved g c =
     let at = text_at string_bytes c.args.paths.now c.loop-index.index c.index-paths-index.result (search rules) c.index-paths-index.is in
     record {
-      same_files = search rules;
       fine = search rules;
-      listed = subst (λ p. ListsEach (g.S.Shelf.files c.args.shelf.now) c.args.form p (g.W.Write.contents (inner_of c.args.writer.now)) (g.W.Write.contents (inner_of c.list_file.new.writer))) (sym (up_to (map string_bytes c.args.paths.now) c.loop-index.index _ at))
-          (lists_one_more (g.S.Shelf.files c.args.shelf.now) c.args.form _ (string_bytes c.index-paths-index.result) _ (g.W.Write.contents (inner_of c.loop-index.writer)) (g.W.Write.contents (inner_of c.list_file.new.writer)) c.loop-index.invariant.listed (search rules));
+      listed = subst (λ p. ListsEach (g.S.Lender.state c.args.shelf.now).files c.args.form p (g.W.Write.contents (inner_of c.args.writer.now)) (g.W.Write.contents (inner_of c.list_file.new.writer))) (sym (up_to (map string_bytes c.args.paths.now) c.loop-index.index _ at))
+          (lists_one_more (g.S.Lender.state c.args.shelf.now).files c.args.form _ (string_bytes c.index-paths-index.result) _ (g.W.Write.contents (inner_of c.loop-index.writer)) (g.W.Write.contents (inner_of c.list_file.new.writer)) c.loop-index.invariant.listed (search rules));
       written = search rules;
     }

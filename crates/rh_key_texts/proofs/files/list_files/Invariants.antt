@@ -5,8 +5,7 @@ use Rattle.rh_key_texts.proofs.files.list_files.Given as goal
 
 abbrev pub invariant-loop-index : goal.invariant-loop-index
 invariant-loop-index g l = record {
-  same_files : g.S.Shelf.files l.shelf ≡ g.S.Shelf.files l.fn.shelf;
-  fine : g.S.Shelf.failures l.shelf ≡ g.S.Shelf.failures l.fn.shelf;
-  listed : ListsEach (g.S.Shelf.files l.fn.shelf) l.fn.form (take l.index (map string_bytes l.paths)) (g.W.Write.contents (inner_of l.fn.writer)) (g.W.Write.contents (inner_of l.writer));
+  fine : g.S.Lender.state l.shelf ≡ g.S.Lender.state l.fn.shelf;
+  listed : ListsEach (g.S.Lender.state l.fn.shelf).files l.fn.form (take l.index (map string_bytes l.paths)) (g.W.Write.contents (inner_of l.fn.writer)) (g.W.Write.contents (inner_of l.writer));
   written : failures_of l.writer ≡ failures_of l.fn.writer;
 }

@@ -11,14 +11,14 @@ pub loop-index-preserved : goal.loop-index-preserved
 loop-index-preserved g c =
     let paths = map string_bytes c.args.paths.now in
     let index = c.loop-index.index in
-    let files = g.S.Shelf.files c.args.shelf.now in
+    let files = (g.S.Lender.state c.args.shelf.now).files in
     let start = g.I.Read.remaining (inner_of c.args.input.now) in
     let mid = g.I.Read.remaining (inner_of c.loop-index.input) in
     let end = g.I.Read.remaining (inner_of c.read_path.new.input) in
     let path = string_bytes c.index-paths-index.result in
     let before = map (λ x. flat_map (λ k. k.items) x.items) c.loop-index.lists.items in
     let numbers = keys_of c.in-Ok.list in
-    let gives = subst (λ f. Gives f path mid end numbers) c.loop-index.invariant.same_files (subst (λ p. Gives (g.S.Shelf.files c.loop-index.shelf) p mid end numbers) c.deref.ensures c.in-Ok.ensures.read) in
+    let gives = subst (λ s. Gives s.files path mid end numbers) c.loop-index.invariant.shelf_fine (subst (λ p. Gives (g.S.Lender.state c.loop-index.shelf).files p mid end numbers) c.deref.ensures c.in-Ok.ensures.read) in
     let more = one_more files (take index paths) path start mid end before numbers c.loop-index.invariant.given gives in
     let lists = ap (map (λ x. flat_map (λ k. k.items) x.items)) c.in-Ok-push.ensures.items ∙ map-append (λ x. flat_map (λ k. k.items) x.items) c.loop-index.lists.items (c.into_pieces.result ∷ [])
     ∙ ap (λ k. before ++ k ∷ []) c.into_pieces.ensures.keys in
@@ -26,7 +26,6 @@ loop-index-preserved g c =
       given = subst (λ p. GiveEach files p start end (map (λ x. flat_map (λ k. k.items) x.items) c.push.new.self.items)) (sym (next_path string_bytes c.args.paths.now index c.index-paths-index.result (search rules) c.index-paths-index.is))
           (subst (λ l. GiveEach files (take index paths ++ path ∷ []) start end l) (sym lists) more);
       keys = search rules;
-      same_files = search rules;
       shelf_fine = search rules;
       input_fine = search rules;
     }

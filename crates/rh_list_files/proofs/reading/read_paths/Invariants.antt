@@ -8,9 +8,8 @@ use Rattle.rh_list_files.proofs.reading.read_paths.Given as goal
 
 abbrev pub invariant-loop-index : goal.invariant-loop-index
 invariant-loop-index g l = record {
-  given : GiveEach (g.S.Shelf.files l.fn.shelf) (take l.index (map string_bytes l.paths)) (g.I.Read.remaining (inner_of l.fn.input)) (g.I.Read.remaining (inner_of l.input)) (map (λ x. flat_map (λ k. k.items) x.items) l.lists.items);
+  given : GiveEach (g.S.Lender.state l.fn.shelf).files (take l.index (map string_bytes l.paths)) (g.I.Read.remaining (inner_of l.fn.input)) (g.I.Read.remaining (inner_of l.input)) (map (λ x. flat_map (λ k. k.items) x.items) l.lists.items);
   keys : All (λ x. All (λ k. All IsKey k.items) x.items) l.lists.items;
-  same_files : g.S.Shelf.files l.shelf ≡ g.S.Shelf.files l.fn.shelf;
-  shelf_fine : g.S.Shelf.failures l.shelf ≡ g.S.Shelf.failures l.fn.shelf;
+  shelf_fine : g.S.Lender.state l.shelf ≡ g.S.Lender.state l.fn.shelf;
   input_fine : failures_of l.input ≡ failures_of l.fn.input;
 }
