@@ -1,5 +1,5 @@
--- Which cells have a column: those that a step of the window changes.
-use Rattle.std.proofs.Common.{◌≡◌, ◌≢◌, ℕ, ◌<◌, ◌==◌, ◌||◌, Bool, true, false, if◌then◌else◌, List, [], ◌∷◌, ◌++◌, length, get_or, set, replicate, refl, sym, arith}
+-- Which cells have a column: those that are listed as changed by the steps of the window.
+use Rattle.std.proofs.Common.{◌≡◌, ◌≢◌, ℕ, ◌<◌, ◌==◌, ◌||◌, Bool, true, false, if◌then◌else◌, List, [], ◌∷◌, ◌++◌, length, get_or, set, replicate, slice_index, refl, sym, arith}
 use Rattle.std.proofs.lemmas.Grind.{common_steps, get_or-set_at}
 use Rattle.std.proofs.lemmas.Bool.Decides.{nat_tests}
 use Rattle.std.proofs.lemmas.List.{get_or-replicate, get_or-set_other, length-set}
@@ -7,18 +7,26 @@ use Rattle.std.specs.List.{list_any}
 use Rattle.rh_words.specs.declared.shape.Shape.{Shape}
 use Rattle.rh_draw.specs.Changes.{changed_cells, set_all}
 use Rattle.rh_draw.specs.Columns.{flagged, flags_after}
-use Rattle.rh_draw.specs.Laws.{ColumnsAreChanges, changes_in}
+use Rattle.rh_draw.specs.Picture.{plan}
 use Rattle.rh_draw.specs.Records.{is_drawn}
 use Rattle.rh_draw.specs.Words.{all_words, words_after}
 use Rattle.rh_draw.specs.declared.records.Record.{Record}
 use Rattle.rh_draw.specs.declared.records.Record.TheVariants.{Step, Round}
 use Rattle.rh_draw.specs.declared.records.Window.{Window}
 
+-- the cells that are listed as changed by the steps of the window, step by step
+abbrev pub changes_in : Shape → Window → (words : List ℕ) → List Record → List ℕ
+changes_in z window words [] = []
+changes_in z window words (Round next ∷ more) = changes_in z window words more
+changes_in z window words (Step step ∷ more) =
+    (if is_drawn window step.number then changed_cells z words step.touched else [])
+    ++ changes_in z window (words_after z words step.touched) more
+
 set_all-append : (list one other : List ℕ) (word : ℕ) → set_all list (one ++ other) word ≡ set_all (set_all list one word) other word
 set_all-append list [] other word = refl
 set_all-append list (place ∷ more) other word = set_all-append (set list place word) more other word
 
--- the flags are those of all cells that the steps change
+-- the flags are those of all that are listed
 flags-changes : (z : Shape) (window : Window) (words flags : List ℕ) (given : List Record) →
     flags_after z window words flags given ≡ set_all flags (changes_in z window words given) 1
 flags-changes z window words flags [] = refl
@@ -55,8 +63,11 @@ index-set_all list (place ∷ more) cell lt =
     rw (index-set_all (set list place 1) more cell within, one_place list place cell (place == cell) refl lt)
     (either (place == cell) (list_any (λ changed. changed == cell) more) (get_or list cell 0))
 
-pub columns_are_changes : ColumnsAreChanges
-columns_are_changes z cells given window cell lt =
+-- the flag of a cell tells whether it is listed
+pub flag-changes : (z : Shape) (cells : List ℕ) (given : List Record) (window : Window) (cell : ℕ) → cell < length cells →
+    slice_index (plan z cells given window).flags cell
+    ≡ (if list_any (λ changed. changed == cell) (changes_in z window (all_words z cells) given) then 1 else 0)
+flag-changes z cells given window cell lt =
     let none : List ℕ = replicate (length cells) 0 in
     let within : cell < length none = grind (arith, common_steps) in
     let empty : get_or none cell 0 ≡ 0 = get_or-replicate (length cells) cell 0 0 lt in

@@ -1,14 +1,13 @@
 -- Which marks and which columns a picture has.
-use Rattle.std.specs.Prelude.{◌≡◌, ℕ, ◌<◌, ◌==◌, if◌then◌else◌, List, [], ◌∷◌, ◌++◌, length, slice_index}
-use Rattle.std.specs.List.{flat_map, list_any}
+use Rattle.std.specs.Prelude.{◌≡◌, ℕ, ◌<◌, ◌⊎◌, if◌then◌else◌, List, [], ◌∷◌, ◌++◌, length, slice_index}
+use Rattle.std.specs.List.{flat_map}
 use Rattle.rh_words.specs.declared.shape.Shape.{Shape}
-use Rattle.rh_draw.specs.Changes.{changed_cells}
+use Rattle.rh_draw.specs.Changing.{IsChanged, opening}
 use Rattle.rh_draw.specs.Frame.{fixed}
 use Rattle.rh_svg.specs.Markup.{Content, Nothing, Text, Element}
 use Rattle.rh_draw.specs.Picture.{picture, plan}
 use Rattle.rh_draw.specs.Places.{lane_x, moment_of, moment_y}
 use Rattle.rh_draw.specs.Records.{is_drawn}
-use Rattle.rh_draw.specs.Words.{all_words, words_after}
 use Rattle.rh_draw.specs.declared.records.Record.{Record}
 use Rattle.rh_draw.specs.declared.records.Record.TheVariants.{Step, Round}
 use Rattle.rh_draw.specs.declared.records.Window.{Window}
@@ -47,17 +46,9 @@ MarksAreSteps =
     (z : Shape) (cells : List ℕ) (given : List Record) (window : Window) →
     marks_in (picture z cells given window) ≡ marks_in fixed ++ flat_map (mark_of window) given
 
--- the cells that the steps of the window change, step by step
-abbrev pub changes_in : Shape → Window → (words : List ℕ) → List Record → List ℕ
-changes_in z window words [] = []
-changes_in z window words (Round next ∷ more) = changes_in z window words more
-changes_in z window words (Step step ∷ more) =
-    (if is_drawn window step.number then changed_cells z words step.touched else [])
-    ++ changes_in z window (words_after z words step.touched) more
-
--- A cell has a column exactly where a step of the window changes it.
+-- A cell is changed in the window, and its flag is 1: it has a column; or it is not, and its flag is 0.
 abbrev pub ColumnsAreChanges : Type 0
 ColumnsAreChanges =
     (z : Shape) (cells : List ℕ) (given : List Record) (window : Window) (cell : ℕ) → cell < length cells →
-    slice_index (plan z cells given window).flags cell
-    ≡ (if list_any (λ changed. changed == cell) (changes_in z window (all_words z cells) given) then 1 else 0)
+    (IsChanged z (opening z cells) given window cell × (slice_index (plan z cells given window).flags cell ≡ 1))
+    ⊎ (¬ IsChanged z (opening z cells) given window cell × (slice_index (plan z cells given window).flags cell ≡ 0))

@@ -1,5 +1,6 @@
 pub mod Boxes
 pub mod Changes
+pub mod Changing
 pub mod Columns
 pub mod Frame
 pub mod History

@@ -11,8 +11,9 @@ pub fn marks_are_steps()
     ensures { MarksAreSteps }
 {}
 
-/// A cell has a column exactly where a step of the window changes its word or its value.
-#[tactic(auto, using(crate::proofs::ColumnLemmas::columns_are_changes))]
+/// A cell has a column exactly where a step of the window changes its word or its value: it left
+/// another word in it, or a descriptor succeeded at it that has an entry with another word for it.
+#[tactic(auto, using(crate::proofs::ChangingLemmas::columns_are_changes))]
 pub fn columns_are_changes()
     ensures { ColumnsAreChanges }
 {}
