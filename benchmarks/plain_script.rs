@@ -1,4 +1,4 @@
-// What three scripts do, as a plain program without proofs, to measure beside: `add`, `ask` and `flip` of key files
+// What four scripts do, as a plain program without proofs, to measure beside: `add`, `ask`, `keep` and `flip` of key files
 // in one Robin Hood table. It keeps each list in memory, and reads each file once.
 use std::fs;
 use std::io::{self, BufWriter, Write};
@@ -114,6 +114,20 @@ fn main() -> io::Result<()> {
             output.write_all(&digits)?;
             output.write_all(b"\n")?;
         }
+    }
+    if words[1] == "keep" {
+        let found: Vec<u64> = list.iter().copied().filter(|key| table.place(*key).1).collect();
+        let mut table = Table::new(3).grown(found.len() as u64);
+        found.iter().for_each(|key| {
+            table.insert(*key);
+        });
+        let (held, bits) = (table.held, table.bits);
+        writeln!(
+            output,
+            "keep k read {} found {} held {held} bits {bits}",
+            list.len(),
+            found.len()
+        )?;
     }
     if words[1] == "flip" {
         let others: Vec<u64> = list.iter().copied().filter(|key| !table.place(*key).1).collect();
