@@ -1,5 +1,5 @@
 -- Files that are listed one after the other.
-use Rattle.std.proofs.Common.{◌≡◌, ℕ, ◌+◌, ◌<◌, List, [], ◌∷◌, ◌++◌, length, take, get_or, map, option_map, slice_get, Option, Some, Err, Ok, refl, sym, ap, subst, ◌∙◌, append-nil}
+use Rattle.std.proofs.Common.{◌≡◌, ◌≢◌, ℕ, ◌+◌, ◌<◌, List, [], ◌∷◌, ◌++◌, length, take, get_or, map, option_map, slice_get, Option, Some, Err, Ok, refl, sym, ap, subst, ◌∙◌, append-nil}
 use Rattle.std.proofs.lemmas.List.{take_more}
 use Rattle.std.proofs.lemmas.Option.{get_or_from_slice_get, slice_get-map, slice_get_read, slice_get_within}
 use Rattle.std.specs.List.{flat_map}
@@ -18,15 +18,15 @@ use Rattle.rh_key_texts.specs.Files.{Has, HaveEach, ListsEach, ListsFile, of_hel
 use Rattle.rh_key_texts.specs.List.{Lists, ListsHeld}
 
 -- what the listing of the bytes says is so of the file
-pub keys_stop : (files : Option Files) (path : List ℕ) (form : Form) (bytes left old new : Option (List ℕ)) (fault : ListFault) → form ≡ forms.Keys → Finds files path bytes
+pub keys_stop : (files : Option Files) (path : List ℕ) (form : Form) (bytes left old new : Option (List ℕ)) (fault : ListFault) → form ≡ forms.Keys → Finds files path bytes → (fault ≢ list.Write → new ≡ old)
     → Lists {X = Unit {0}} bytes left old new (Err fault) → ListsFile {X = Unit {0}} files path form old new (Err (of_list fault))
-keys_stop files path form bytes left old new (list.Keys fault) is finds told = (is, bytes, finds, told)
-keys_stop files path form bytes left old new list.Write is finds told = rw is (told.0, (bytes, left, finds, told.1), told.2)
+keys_stop files path form bytes left old new (list.Keys fault) is finds same told = (same (λ write. absurd cc), is, bytes, finds, told)
+keys_stop files path form bytes left old new list.Write is finds same told = rw is (told.0, (bytes, left, finds, told.1), told.2)
 
-pub held_stops : (files : Option Files) (path : List ℕ) (form : Form) (bytes left old new : Option (List ℕ)) (fault : HeldFault) → form ≡ forms.Snapshot → Finds files path bytes
+pub held_stops : (files : Option Files) (path : List ℕ) (form : Form) (bytes left old new : Option (List ℕ)) (fault : HeldFault) → form ≡ forms.Snapshot → Finds files path bytes → (fault ≢ held.Write → new ≡ old)
     → ListsHeld {X = Unit {0}} bytes left old new (Err fault) → ListsFile {X = Unit {0}} files path form old new (Err (of_held fault))
-held_stops files path form bytes left old new (held.Snap fault) is finds told = (is, bytes, finds, told)
-held_stops files path form bytes left old new held.Write is finds told = rw is (_, (bytes, left, finds, (told.0, told.1, refl)), told.2)
+held_stops files path form bytes left old new (held.Snap fault) is finds same told = (same (λ write. absurd cc), is, bytes, finds, told)
+held_stops files path form bytes left old new held.Write is finds same told = rw is (_, (bytes, left, finds, (told.0, told.1, refl)), told.2)
 
 pub keys_end : (files : Option Files) (path : List ℕ) (form : Form) (bytes left old new : Option (List ℕ)) → form ≡ forms.Keys → Finds files path bytes
     → Lists {X = Unit {0}} bytes left old new (Ok tt) → ListsFile {X = Unit {0}} files path form old new (Ok tt)
