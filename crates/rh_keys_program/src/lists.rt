@@ -1,8 +1,10 @@
 //! What a command on lists asks of the system, and what is told of its faults.
 
-ghost use Rattle.std.specs.Prelude.{◌≡◌, ◌<◌, ◌≤◌, min, vec_len};
+ghost use Rattle.std.specs.Prelude.{◌≡◌, ◌<◌, ◌≤◌, map, min, string_bytes, vec_len};
+ghost use Rattle.std.specs.List.{count_by};
+ghost use Rattle.rh_list_files.specs.Lists.{is_input};
 ghost use Rattle.rh_list_files.specs.Reading.{IsInside};
-ghost use Rattle.rh_keys_program.specs.Endings.{ending_by, ending_by_command};
+ghost use Rattle.rh_keys_program.specs.Endings.{NamesList, ending_by, ending_by_command};
 
 use crate::status::{Fault, Reason};
 use rh_cli::ProgramFault;
@@ -32,7 +34,9 @@ pub fn workers_of(rt: &impl Threads, asked: usize) -> usize
 }
 
 /// How often standard input is named.
-pub fn times_named(paths: &[String]) -> usize {
+pub fn times_named(paths: &[String]) -> usize
+    ensures { result ≡ count_by is_input (map string_bytes paths.now) }
+{
     paths.iter().filter(|path| path.as_str() == INPUT).count()
 }
 
@@ -54,7 +58,8 @@ pub fn bytes_of(files: &impl Files, paths: &[String]) -> Option<u64> {
 /// The fault, with the path of its file. Want of memory and a failed write are no faults of a file.
 pub fn told(files: &impl Files, mut paths: Vec<String>, fault: CommandFault) -> Fault
     requires { IsInside (vec_len paths) fault }
-    ensures { ending_by result ≡ ending_by_command fault }
+    ensures ending { ending_by result ≡ ending_by_command fault }
+    ensures names { NamesList (map string_bytes paths.items) fault result }
 {
     match fault {
         CommandFault::Write => Fault::Program(ProgramFault::Write),

@@ -3,7 +3,7 @@
 ghost use Rattle.std.specs.Prelude.{◌≡◌, ◌≤◌, ◌<◌, IfOk, Ok, length, true};
 ghost use Rattle.rh_parts.specs.declared.part.TheConstants.{MAX_PARTS};
 ghost use Rattle.rh_splitting.specs.Name.{is_name};
-ghost use Rattle.rh_keys_program.specs.Endings.{ending_by};
+ghost use Rattle.rh_keys_program.specs.Endings.{AsksMore, ending_by};
 
 use crate::status::Fault;
 use rh_bytes::Counted;
@@ -72,7 +72,8 @@ pub fn split_streams(
 /// The fault of a part that is too full, of so many. Where the size of the input asks for more parts, it
 /// says how many: only the repeats of a key all go to one part.
 fn too_full(files: &impl Files, source: Source, part: u64, parts: u64) -> Fault
-    ensures { ending_by result ≡ Status.Refused }
+    ensures ending { ending_by result ≡ Status.Refused }
+    ensures more { AsksMore part parts result }
 {
     match size_of_input(files) {
         Some(bytes) if parts_chosen(source, bytes) > parts => Fault::TooFull {

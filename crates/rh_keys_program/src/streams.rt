@@ -1,6 +1,7 @@
 //! The commands `pack` and `list`, between real files and streams.
 
-ghost use Rattle.std.specs.Prelude.{◌<◌, length};
+ghost use Rattle.std.specs.Prelude.{◌≡◌, ◌<◌, length, map, string_bytes};
+ghost use Rattle.rh_keys_program.specs.Endings.{NamesAt, ending_by, ending_by_file};
 
 use crate::status::Fault;
 use rh_bytes::Counted;
@@ -66,6 +67,8 @@ pub fn list_paths<W: Write>(
 /// The fault, with the path of its file. Want of memory and a failed write are no faults of the file.
 fn file_fault(mut paths: Vec<String>, fault: &FaultAt) -> Fault
     requires { fault.now.index < length paths.items }
+    ensures ending { ending_by result ≡ ending_by_file fault.now.fault }
+    ensures names { NamesAt (map string_bytes paths.items) fault.now.index result }
 {
     match fault.fault {
         FileFault::Write => Fault::Program(ProgramFault::Write),
