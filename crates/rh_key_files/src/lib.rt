@@ -15,8 +15,8 @@
 //! - `read_keys`, `open_keys`, `KeyStream`: a key file is read to its list, in one piece or in
 //!   batches. Other bytes are refused by the first fault in them, unless a read fails first, or
 //!   memory for the keys of a good header.
-//! - A key out of range that was read whole before a failed read is told, and not that read. Where
-//!   a stream tells `Read`, the bytes that it took hold no fault but their early end.
+//! - A stream tells a key out of range that was read whole before a failed read, and not that read:
+//!   where it tells `Read`, the bytes that it took hold no fault but their early end.
 //! - After its end or a fault a stream answers the same and reads nothing. It never tells want of
 //!   memory.
 //! - Of a reader whose bytes are known each takes no more than its answer rests on, and never more
