@@ -1,6 +1,6 @@
 //! The calls of one worker at a table.
 
-ghost use Rattle.std.specs.Prelude.{◌≡◌, ◌<◌, ℕ, IfSome, None};
+ghost use Rattle.std.specs.Prelude.{◌≡◌, ◌≢◌, ◌<◌, ℕ, IfSome, None};
 ghost use Rattle.rh_world.specs.World.{In};
 ghost use Rattle.rh_world.specs.Facts.Fact.{found};
 ghost use Rattle.rh_words.specs.Parts.{cell_count};
@@ -8,7 +8,7 @@ ghost use Rattle.rh_words.specs.Steps.{IsDesc};
 ghost use Rattle.rh_words.specs.Steps.Step.{reads};
 ghost use Rattle.rh_words.specs.Words.{cell_in, ref_of};
 ghost use Rattle.rh_steps.specs.Relies.{Knows};
-ghost use Rattle.rh_shared.specs.Seats.{IsHere, IsSame, sitter_of, view_of};
+ghost use Rattle.rh_shared.specs.Seats.{IsHere, IsSame, SitsSame, sitter_of, view_of};
 ghost use Rattle.rh_rdcss.specs.Calls.{HasStatus, Learned, Meets, SeenAs, StillKnows};
 ghost use Rattle.rh_rdcss.specs.Placing.{HasEntry, IsMine, LengthSays, MayPlace, Places};
 ghost use Rattle.rh_rdcss.specs.Settling.{IsOwnUnsettled, Recalls, SettlesMark};
@@ -42,7 +42,6 @@ pub fn peek_cell(table: &Table, seat: &mut Seat, cell: usize) -> u64
     requires knows { Knows table.now.shape (view_of seat.old) }
     requires cell { cell < cell_count table.now.shape }
     ensures same { IsSame seat.old seat.new }
-    ensures placed { seat.new.placed ≡ seat.old.placed }
     ensures read { Learned table.now.shape (reads (Reading.Cell cell)) (sitter_of seat.old) result (sitter_of seat.new) }
     ensures still { StillKnows (view_of seat.old) (view_of seat.new) }
     ensures meets { Meets cell (cell_in result) (view_of seat.new).side.facts }
@@ -58,7 +57,6 @@ pub fn status(table: &Table, seat: &mut Seat, desc: Ref) -> Option<State>
     requires knows { Knows table.now.shape (view_of seat.old) }
     requires desc { IsDesc table.now.shape (ref_of desc) }
     ensures same { IsSame seat.old seat.new }
-    ensures placed { seat.new.placed ≡ seat.old.placed }
     ensures read { HasStatus table.now.shape desc (sitter_of seat.old) result (sitter_of seat.new) }
     ensures still { StillKnows (view_of seat.old) (view_of seat.new) }
     ensures seen { SeenAs (ref_of desc) result (view_of seat.new).side.facts }
@@ -76,7 +74,6 @@ pub fn count_entries(table: &Table, seat: &mut Seat, desc: Ref) -> Option<usize>
     requires knows { Knows table.now.shape (view_of seat.old) }
     requires may { MayPlace table.now.shape (view_of seat.old) desc }
     ensures same { IsSame seat.old seat.new }
-    ensures placed { seat.new.placed ≡ seat.old.placed }
     ensures knows { Knows table.now.shape (view_of seat.new) }
     ensures says { LengthSays table.now.shape desc result (sitter_of seat.old) (sitter_of seat.new) }
     ensures entries { IfSome result (λ size. (e : ℕ) → e < size →
@@ -98,10 +95,11 @@ pub fn place(table: &Table, seat: &mut Seat, desc: Ref, entry: usize) -> Placed
     requires here { IsHere table.now seat.old }
     requires knows { Knows table.now.shape (view_of seat.old) }
     requires entry { HasEntry table.now.shape (view_of seat.old) desc entry }
-    ensures same { IsSame seat.old seat.new }
+    ensures same { SitsSame seat.old seat.new }
     ensures knows { Knows table.now.shape (view_of seat.new) }
     ensures places { Places table.now.shape desc entry (sitter_of seat.old) result (sitter_of seat.new) }
     ensures mine { result ≡ Mine → IsMine desc entry seat.new }
+    ensures others { result ≢ Mine → seat.new.placed ≡ seat.old.placed }
 {
     if seat.side.marks_used >= table.shape.rooms.marks {
         return Placed::Spent;
@@ -126,7 +124,6 @@ pub fn settle(table: &Table, seat: &mut Seat, cell: usize, mark: Ref) -> Option<
     requires found { In (found (ref_of mark) cell) (view_of seat.old).side.facts }
     requires own { mark.worker ≡ (view_of seat.old).worker → Recalls (view_of seat.old) mark seat.old.placed }
     ensures same { IsSame seat.old seat.new }
-    ensures placed { seat.new.placed ≡ seat.old.placed }
     ensures knows { Knows table.now.shape (view_of seat.new) }
     ensures settles { SettlesMark table.now.shape cell mark seat.old.placed (sitter_of seat.old) result (sitter_of seat.new) }
     ensures settled { IsOwnUnsettled (view_of seat.old) mark → (view_of seat.new).side.unsettled ≡ None }

@@ -36,7 +36,8 @@
 //!   also where it is stale. A swap is always made, and no own mark is unsettled then.
 //! - Each call makes just the steps that are named here, in this order, and what it answers is the
 //!   word that the step found: the table keeps the trace of them.
-//! - The own mark that a seat keeps stays in each call but `place`.
+//! - The own mark that a seat keeps stays in each call but where `place` puts the next one, and in those
+//!   of `rh_kcas` too.
 #![tactic(auto)]
 
 mod calls;

@@ -1,8 +1,8 @@
 //! Placing a mark.
 
-ghost use Rattle.std.specs.Prelude.{◌≡◌, ◌<◌};
+ghost use Rattle.std.specs.Prelude.{◌≡◌, ◌≢◌, ◌<◌};
 ghost use Rattle.rh_steps.specs.Relies.{Knows};
-ghost use Rattle.rh_shared.specs.Seats.{IsHere, IsSame, sitter_of, view_of};
+ghost use Rattle.rh_shared.specs.Seats.{IsHere, IsSame, SitsSame, sitter_of, view_of};
 ghost use Rattle.rh_rdcss.specs.Placing.{EntrySays, HasEntry, IsMine, KnowsPiece, Tried, TriedSo};
 ghost use Rattle.rh_rdcss.specs.declared.calls.Placed.TheVariants.{Mine};
 
@@ -44,10 +44,11 @@ pub(crate) fn place_there(table: &Table, seat: &mut Seat, piece: Piece, old: u64
     requires knows { Knows table.now.shape (view_of seat.old) }
     requires knows_it { KnowsPiece table.now.shape (view_of seat.old) piece old }
     requires left { seat.old.side.marks_used < table.now.shape.rooms.marks }
-    ensures same { IsSame seat.old seat.new }
+    ensures same { SitsSame seat.old seat.new }
     ensures knows { Knows table.now.shape (view_of seat.new) }
     ensures tried { TriedSo table.now.shape piece old (sitter_of seat.old) result (sitter_of seat.new) }
     ensures mine { result ≡ Mine → IsMine piece.desc piece.entry seat.new }
+    ensures others { result ≢ Mine → seat.new.placed ≡ seat.old.placed }
 {
     let mark = Ref {
         worker: seat.side.worker,

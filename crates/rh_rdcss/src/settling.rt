@@ -46,7 +46,6 @@ pub(crate) fn settle_own(table: &Table, seat: &mut Seat, cell: usize, own: OwnMa
     requires found { In (found (ref_of own.mark) cell) (view_of seat.old).side.facts }
     requires facts { NotesMark (view_of seat.old) own }
     ensures same { IsSame seat.old seat.new }
-    ensures placed { seat.new.placed ≡ seat.old.placed }
     ensures knows { Knows table.now.shape (view_of seat.new) }
     ensures settles { SettlesOwn table.now.shape cell own (sitter_of seat.old) result (sitter_of seat.new) }
     ensures settled { IsOwnUnsettled (view_of seat.old) own.mark → (view_of seat.new).side.unsettled ≡ None }
@@ -81,7 +80,6 @@ pub(crate) fn settle_met(table: &Table, seat: &mut Seat, cell: usize, mark: Ref)
     requires knows { Knows table.now.shape (view_of seat.old) }
     requires found { In (found (ref_of mark) cell) (view_of seat.old).side.facts }
     ensures same { IsSame seat.old seat.new }
-    ensures placed { seat.new.placed ≡ seat.old.placed }
     ensures knows { Knows table.now.shape (view_of seat.new) }
     ensures settles { SettlesMet table.now.shape mark cell (sitter_of seat.old) result (sitter_of seat.new) }
 {
@@ -99,7 +97,6 @@ pub(crate) fn read_row(table: &Table, seat: &mut Seat, mark: Ref, cell: usize) -
     requires knows { Knows table.now.shape (view_of seat.old) }
     requires found { In (found (ref_of mark) cell) (view_of seat.old).side.facts }
     ensures same { IsSame seat.old seat.new }
-    ensures placed { seat.new.placed ≡ seat.old.placed }
     ensures says { RowSays table.now.shape mark cell result (sitter_of seat.old) (sitter_of seat.new) }
 {
     let named = make(table, seat, Request::Read(Reading::MarkDesc(mark)));
@@ -123,7 +120,6 @@ pub(crate) fn judge(table: &Table, seat: &mut Seat, mark: Ref, piece: Piece) -> 
     requires knows { Knows table.now.shape (view_of seat.old) }
     requires met { IsFound (view_of seat.old) mark piece }
     ensures same { IsSame seat.old seat.new }
-    ensures placed { seat.new.placed ≡ seat.old.placed }
     ensures judged { Judged table.now.shape mark piece (sitter_of seat.old) result (sitter_of seat.new) }
 {
     let Piece { desc, entry, cell } = piece;

@@ -57,6 +57,7 @@ pub record IsCut (s left right : Seat) (at : ℕ) : Type 0 where
   pub middle : s.side.worker + left.count ≡ at
   pub second : right.side.worker ≡ at
   pub end : at + right.count ≡ s.side.worker + s.count
+  pub unmarked : (left.placed ≡ None) × (right.placed ≡ None)
   pub left_views : views_of left ≡ take left.count (views_of s)
   pub right_views : views_of right ≡ drop left.count (views_of s)
 
@@ -64,4 +65,5 @@ pub record IsCut (s left right : Seat) (at : ℕ) : Type 0 where
 pub record IsJoined (left right both : Seat) : Type 0 where
   pub first : both.side.worker ≡ left.side.worker
   pub count : both.count ≡ left.count + right.count
+  pub unmarked : both.placed ≡ None
   pub views : views_of both ≡ views_of left ++ views_of right

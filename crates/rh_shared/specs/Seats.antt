@@ -25,8 +25,14 @@ pub record IsHere (t : Table) (s : Seat) : Type 0 where
   pub alone : s.count ≡ 1
 
 -- it is the same seat at the same table, of the same workers
-pub record IsSame (s then : Seat) : Type 0 where
+pub record SitsSame (s then : Seat) : Type 0 where
   pub table : then.inner.table_id ≡ s.inner.table_id
   pub id : then.inner.id ≡ s.inner.id
   pub worker : then.side.worker ≡ s.side.worker
   pub count : then.count ≡ s.count
+
+-- and it keeps the same own mark
+pub record IsSame (s then : Seat) : Type 0 where
+  pub sits : SitsSame s then
+  pub open sits use *
+  pub placed : then.placed ≡ s.placed

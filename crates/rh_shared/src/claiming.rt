@@ -3,7 +3,7 @@
 ghost use Rattle.std.specs.Prelude.{◌<◌, ℕ};
 ghost use Rattle.rh_shared.specs.Rests.{SeatRests};
 ghost use Rattle.rh_shared.specs.Claims.{ClaimsOne};
-ghost use Rattle.rh_shared.specs.Seats.{IsSame, view_of};
+ghost use Rattle.rh_shared.specs.Seats.{IsSame, sitter_of, view_of};
 ghost use Rattle.rh_world.specs.World.{In};
 
 use crate::on_table::OnTable;
@@ -18,7 +18,7 @@ pub fn claim(table: &Table, seat: &mut Seat) -> Option<u64>
     requires keys { (n : ℕ) → In n (view_of seat.old).side.claims → n < table.now.shape.keys }
     ensures rests { SeatRests table.now seat.new }
     ensures same { IsSame seat.old seat.new }
-    ensures claims { ClaimsOne table.now.shape (view_of seat.old) (view_of seat.new) result }
+    ensures claims { ClaimsOne table.now.shape (sitter_of seat.old) (sitter_of seat.new) result }
 {
     let mut here = OnTable {
         table,

@@ -1,6 +1,6 @@
 //! How a table is made, and what it leaves.
 
-ghost use Rattle.std.specs.Prelude.{◌≡◌, ◌<◌, IfOk, ℕ, List, length, map, slice_index};
+ghost use Rattle.std.specs.Prelude.{◌≡◌, ◌<◌, IfOk, ℕ, List, None, length, map, slice_index};
 ghost use Rattle.rh_words.specs.Parts.{IsShape, cell_count};
 ghost use Rattle.rh_shared.specs.Crews.{HasAll, IsFresh, IsQuiet, UsedNoRow, views_of};
 ghost use Rattle.rh_shared.specs.Ends.{Leaves};
@@ -27,6 +27,7 @@ pub fn make(alloc: Global, shape: Shape, cells: &[u64]) -> Result<(Table, Seat),
     ensures shape { IfOk result (λ r. r.0.shape ≡ shape) }
     ensures all { IfOk result (λ r. HasAll r.0 r.1) }
     ensures views { IfOk result (λ r. views_of r.1 ≡ first_view shape (map plain_number cells.now)) }
+    ensures unmarked { IfOk result (λ r. r.1.placed ≡ None) }
     ensures fresh { IfOk result (λ r. InView IsFresh (views_of r.1)) }
     ensures rows { IfOk result (λ r. InView (UsedNoRow r.0.shape) (views_of r.1)) }
     ensures rests { IfOk result (λ r. r.1.count ≡ 1 → SeatRests r.0 r.1) }

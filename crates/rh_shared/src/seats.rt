@@ -101,6 +101,7 @@ pub fn split(table: &Table, seat: &mut Seat, at: usize) -> Seat
     };
     seat.side = first_side(first, &seat.inner);
     seat.count = kept;
+    seat.placed = None;
     right
 }
 
@@ -124,4 +125,5 @@ pub fn join(table: &Table, seat: &mut Seat, other: Seat)
     table.inner.shared.join_seat::<Glue>(&mut seat.inner, inner);
     seat.side = unused_side(seat.side.worker);
     seat.count += count;
+    seat.placed = None;
 }

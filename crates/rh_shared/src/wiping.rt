@@ -1,6 +1,6 @@
 //! A wipe by the seat of all workers: their rows are unused again, and the cells as they were.
 
-ghost use Rattle.std.specs.Prelude.{◌≡◌, ◌+◌, ◌<◌, [], ℕ, List};
+ghost use Rattle.std.specs.Prelude.{◌≡◌, ◌+◌, ◌<◌, [], ℕ, List, None};
 ghost use Rattle.atomic_table.specs.Table.{Allows};
 ghost use Rattle.rh_words.specs.Parts.{word_count};
 ghost use Rattle.rh_shared.specs.Crews.{HasAll, IsFresh, IsQuiet, UsedNoRow, views_of};
@@ -45,12 +45,14 @@ pub fn wipe(table: &Table, seat: &mut Seat)
     requires rest { InView IsQuiet (views_of seat.old) }
     ensures all { HasAll table.now seat.new }
     ensures wiped { IsWiped table.now.shape (views_of seat.old) (views_of seat.new) }
+    ensures unmarked { seat.new.placed ≡ None }
     ensures fresh { InView IsFresh (views_of seat.new) }
     ensures rows { InView (UsedNoRow table.now.shape) (views_of seat.new) }
     ensures rests { seat.new.count ≡ 1 → SeatRests table.now seat.new }
 {
     wipe_rows(table, &mut seat.inner);
     seat.side = first_side(0, &seat.inner);
+    seat.placed = None;
 }
 
 fn wipe_rows(table: &Table, seat: &mut Inner)

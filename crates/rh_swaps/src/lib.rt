@@ -10,7 +10,8 @@
 //!   `Failed` and `Spent` they are as before.
 //! - `Failed` names one of the entries: a descriptor of just these entries, opened in this call, is
 //!   noted as failed there. `Spent` comes only where no number was left for a descriptor, or none
-//!   is left for a mark. A call that opened a descriptor took one number.
+//!   is left for a mark. A call that opened a descriptor took one number. Where neither was left when
+//!   it was called, the seat is as it was: no step was made.
 //! - `read`: a plain word that is kept as read of this cell, after all reads before, with the
 //!   number of the worker's next descriptor. None is answered only where no mark is left.
 //! - After each of these the worker is at rest, and its own acts are the same but for a K-CAS that is

@@ -9,7 +9,8 @@ ghost use Rattle.rh_helping.specs.Machine.{work_of};
 ghost use Rattle.rh_helping.specs.Opening.{MayOpen, next_own};
 ghost use Rattle.rh_helping.specs.Work.{Stands};
 ghost use Rattle.rh_shared.specs.Rests.{SeatRests};
-ghost use Rattle.rh_swaps.specs.Swaps.{HasCarriedOut, HasOpened, Swaps};
+ghost use Rattle.rh_swaps.specs.Swaps.{HasCarriedOut, HasNoRoom, HasOpened, Swaps};
+ghost use Rattle.rh_swaps.specs.declared.swapping.Outcome.TheVariants.{Spent};
 ghost use Rattle.rh_shared.specs.Seats.{IsSame, view_of};
 ghost use Rattle.rh_shared.specs.Sits.{Sits, Stays};
 ghost use Rattle.rh_steps.specs.Relies.{Trusts};
@@ -40,6 +41,8 @@ pub fn kcas<R: Wait>(rt: &R, table: &Table, seat: &mut Seat, entries: &[Entry]) 
     requires entries { AreEntries table.now.shape entries.now }
     ensures rests { SeatRests table.now seat.new }
     ensures same { IsSame seat.old seat.new }
+    ensures full { HasNoRoom table.now.shape (view_of seat.old) (view_of seat.old) →
+        (seat.new ≡ seat.old) × (result ≡ Spent) }
     ensures swaps { Swaps table.now.shape entries.now (view_of seat.old) (view_of seat.new) result }
     ensures told { (seat.new ≡ seat.old) ⊎ IsTold table.now.shape (view_of seat.new) }
 {
