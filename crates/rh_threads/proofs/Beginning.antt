@@ -112,6 +112,7 @@ module _ (t : Table) (kind : Kind) (positions : ℕ) (cells keys : List ℕ) (c 
           doing = subst (λ (k : Kind). ProgressInvariant t.shape k (progress_by keys (past_of positions run r) (new_view (map plain_number cells) r) [])) (sym n.kind_is) (run.doing r less);
           answered = record {
             claimed_are = ap (λ (b : Bool). left_over b h.position) (sym n.no_key);
+            done_are = n.none_done;
             counts = n.unchanged;
             marks = λ p inside. ((λ is. absurd (true≢false (sym is ∙ unmarked h n p inside))), (λ has. absurd (contains_none (answer p true) has)));
           };

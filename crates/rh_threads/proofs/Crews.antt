@@ -16,7 +16,7 @@ use Rattle.rh_shared.specs.declared.seat.Seat.{Seat}
 use Rattle.rh_shared.specs.declared.table.Table.{Table}
 use Rattle.rh_shared.specs.Crews.{SitsAt, IsCut, IsFresh, IsJoined, IsQuiet, views_of}
 use Rattle.rh_threads.specs.Crew.{AllMayStart, AreHalves, CanWork, HaveWorked}
-use Rattle.rh_threads.specs.Hands.{AllStand, InPairs, IsHand, Past, HandStands}
+use Rattle.rh_threads.specs.Hands.{AllStand, HasStopped, InPairs, IsHand, Past, HandStands}
 use Rattle.rh_threads.specs.declared.crew.Crew.{Crew}
 use Rattle.rh_threads.specs.declared.hand.Hand.{Hand}
 
@@ -99,6 +99,7 @@ module _ (t : Table) (keys : List ℕ) (c left right : Crew) (can : CanWork t ke
     first = joined.first ∙ a.first ∙ cut.seats.first;
     count = let j = joined.count in let x = a.count in let y = b.count in let m = cut.seats.middle in let e = cut.seats.end in omega (arith, j, x, y, m, e);
     quiet = subst (InView IsQuiet) (sym joined.views) (view_both IsQuiet (views_of l.seat) (views_of r.seat) a.quiet b.quiet);
+    stopped = of_both (λ v h. HasStopped t.shape h v) a.stopped b.stopped;
     stands = λ past was. of_both (λ v h. HandStands t.shape keys (past v.worker) h v)
         (a.stands past (subst (λ (hs : List Hand). AllStand t.shape keys past (views_of left.seat) hs) (sym cut.left_hands) (subst (λ (vs : List Sitter). AllStand t.shape keys past vs (take left.seat.count c.hands)) (sym cut.seats.left_views) (pairs_left (λ v h. HandStands t.shape keys (past v.worker) h v) (views_of c.seat) c.hands left.seat.count was))))
         (b.stands past (subst (λ (hs : List Hand). AllStand t.shape keys past (views_of right.seat) hs) (sym cut.right_hands) (subst (λ (vs : List Sitter). AllStand t.shape keys past vs (drop left.seat.count c.hands)) (sym cut.seats.right_views) (pairs_right (λ v h. HandStands t.shape keys (past v.worker) h v) (views_of c.seat) c.hands left.seat.count was))));
@@ -136,9 +137,9 @@ set_first [] h g some_one at = absurd (omega (arith, some_one))
 set_first (x ∷ xs) h g some_one at = some-injective h g at
 
 module _ (t : Table) (keys : List ℕ) (c : Crew) (one : c.seat.count ≡ 1) (can : CanWork t keys c) (seat : Seat) (hand next : Hand) (at : get_elem? c.hands 0 ≡ some hand) where
-  pub one_worked : SitsAt t seat → seat.count ≡ 1 → seat.side.worker ≡ c.seat.side.worker → IsQuiet (view_of seat) → IsHand t.shape keys next (view_of seat)
+  pub one_worked : SitsAt t seat → seat.count ≡ 1 → seat.side.worker ≡ c.seat.side.worker → IsQuiet (view_of seat) → IsHand t.shape keys next (view_of seat) → HasStopped t.shape next (view_of seat)
       → ((past : Past) → HandStands t.shape keys past hand (view_of c.seat) → HandStands t.shape keys past next (view_of seat)) → HaveWorked t keys c (record { seat = seat; hands = set c.hands 0 next })
-  one_worked here alone same quiet is stands = record {
+  one_worked here alone same quiet is why stands = record {
     crew = record {
       here = here;
       long = length-set c.hands 0 next ∙ can.crew.long ∙ one ∙ sym alone;
@@ -149,6 +150,7 @@ module _ (t : Table) (keys : List ℕ) (c : Crew) (one : c.seat.count ≡ 1) (ca
     first = same;
     count = alone ∙ sym one;
     quiet = λ r s e. subst (λ (k : Sitter). IsQuiet k.view) (here_is r s e).1 quiet;
+    stopped = each (λ v h. HasStopped t.shape h v) why;
     stands = λ past was. each (λ v h. HandStands t.shape keys (past v.worker) h v)
         (stands (past (view_of seat).worker) (subst (λ (w : ℕ). HandStands t.shape keys (past w) hand (view_of c.seat)) (sym whose) (was 0 (sitter (view_of c.seat) (trace_of c.seat)) hand (alone_at c.seat one) at)));
   }

@@ -110,7 +110,7 @@ module _ (ph : Phase) (vs : List Sitter) (hs : List Hand) (some_one : 0 < ph.sha
           kind_is = by.kind_is;
           answers = gathered.answers r;
           doing = subst (λ (k : Kind). ProgressInvariant ph.shape k (progress_by ph.keys (past_of ph.positions run r) (round_view m.cells (m.keep r)) (gathered.answers r))) (sym by.kind_is) (run.doing r less);
-          answered = record { claimed_are = by.answered.claimed_are; counts = by.answered.counts; marks = by.answered.marks };
+          answered = record { claimed_are = by.answered.claimed_are; done_are = by.answered.done_are; counts = by.answered.counts; marks = by.answered.marks };
           opening = refl;
           long = by.long;
         }))));

@@ -88,10 +88,13 @@ orderly_more v next d o rest is opened number = record {
 -- ---- one call after the other
 
 pub same_first : (s : Seat) → IsSame s s
-same_first s = record { table = refl; id = refl; worker = refl; count = refl }
+same_first s = record { sits = record { table = refl; id = refl; worker = refl; count = refl }; placed = refl }
 
 pub same_on : (s t u : Seat) → IsSame s t → IsSame t u → IsSame s u
-same_on s t u a b = record { table = b.table ∙ a.table; id = b.id ∙ a.id; worker = b.worker ∙ a.worker; count = b.count ∙ a.count }
+same_on s t u a b = record {
+  sits = record { table = b.table ∙ a.table; id = b.id ∙ a.id; worker = b.worker ∙ a.worker; count = b.count ∙ a.count };
+  placed = b.placed ∙ a.placed;
+}
 
 furthers_on : (z : Shape) (kind : Kind) (k : ℕ) (u v w : View) (answer : Option Bool) → Furthers z kind k u v None → Furthers z kind k v w answer → Furthers z kind k u w answer
 furthers_on z kind k u v w answer a b p among is = b p among (a p among is)

@@ -1,6 +1,7 @@
 -- A hand is what one worker of a phase has done. The proofs go from the calls for one key to a worker's hand, from the
 -- hands to a round, and from round to round to what the phase makes.
 -- Keying: what the calls of a worker that rests make of the key that it is at.
+-- Scanning: a scan goes on where the cells that it saw decide nothing.
 -- Claiming: a worker claims its next key.
 -- Standing: a worker comes as far as its hand says.
 -- Crews: crews that are cut and glued, and what their workers have done.
@@ -15,6 +16,7 @@
 -- Slices: a list that was written whole, by a slice of it.
 
 pub mod Keying
+mod Scanning
 mod Claiming
 mod Standing
 mod Crews

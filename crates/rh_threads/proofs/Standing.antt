@@ -4,7 +4,7 @@ use mathlib.Core.List.{reverse-cons}
 use Rattle.std.specs.Prelude.{◌-◌, ◌^◌, ◌↔◌, nat_lt, count_by, slice_index, slice_index_or}
 use Rattle.std.specs.List.{Contains}
 use Rattle.std.proofs.lemmas.Bool.Decides.{nat_tests}
-use Rattle.std.proofs.lemmas.List.{append-nil, get_or-set_other, get_or-set_same, map_push}
+use Rattle.std.proofs.lemmas.List.{append-nil, length_push, get_or-set_other, get_or-set_same, map_push}
 use Rattle.std.proofs.lemmas.List.Elements.{Contains-append_cases, Contains-append_left, Contains-append_right}
 use Rattle.std.proofs.lemmas.List.Sums.{sum_by_push}
 use Rattle.rh_ledger.specs.declared.tally.Kind.{Kind}
@@ -100,13 +100,14 @@ module _ (z : Shape) (keys : List ℕ) (past : Past) (h then : Hand) (v next : V
 
   -- with nothing done
   stands_with : then.kind ≡ h.kind → ProgressInvariant z h.kind (so_far next) → next.opening ≡ v.opening
-      → claimed z next ≡ positions_of was.answers ++ left_over then.has_key then.position → then.changed ≡ h.changed → then.found.items ≡ h.found.items → HandStands z keys past then next
-  stands_with kind doing opening claims changed found = record {
+      → claimed z next ≡ positions_of was.answers ++ left_over then.has_key then.position → then.done ≡ h.done → then.changed ≡ h.changed → then.found.items ≡ h.found.items → HandStands z keys past then next
+  stands_with kind doing opening claims done changed found = record {
     kind_is = kind ∙ was.kind_is;
     answers = was.answers;
     doing = of_kind then.kind (so_far next) kind doing;
     answered = record {
       claimed_are = claims;
+      done_are = done ∙ was.answered.done_are;
       counts = changed ∙ was.answered.counts;
       marks = subst (λ (l : List Bool). (p : ℕ) → p < length l → (slice_index_or l p false ≡ true) ↔ Contains was.answers (answer p true)) (sym found) was.answered.marks;
     };
@@ -114,14 +115,8 @@ module _ (z : Shape) (keys : List ℕ) (past : Past) (h then : Hand) (v next : V
     long = ap length found ∙ was.long;
   }
 
-  pub stands_still : then.kind ≡ h.kind → next ≡ v → left_over then.has_key then.position ≡ left_over h.has_key h.position → then.changed ≡ h.changed → then.found.items ≡ h.found.items → HandStands z keys past then next
-  stands_still kind same left changed found = stands_with kind
-      (subst (λ (x : View). ProgressInvariant z h.kind (so_far x)) (sym same) was.doing)
-      (ap (λ (x : View). x.opening) same)
-      (ap (claimed z) same ∙ was.answered.claimed_are ∙ ap (λ (l : List ℕ). positions_of was.answers ++ l) (sym left)) changed found
-
   -- a position was claimed, or the end of the list
-  module _ (word : ℕ) (allowed : Allowed z v Step.claims) (view_is : next ≡ noted z v Step.claims word) (sound : Sound z next) (kind : then.kind ≡ h.kind) (no_key : h.has_key ≡ false) (changed : then.changed ≡ h.changed) (found : then.found.items ≡ h.found.items) where
+  module _ (word : ℕ) (allowed : Allowed z v Step.claims) (view_is : next ≡ noted z v Step.claims word) (sound : Sound z next) (kind : then.kind ≡ h.kind) (no_key : h.has_key ≡ false) (done : then.done ≡ h.done) (changed : then.changed ≡ h.changed) (found : then.found.items ≡ h.found.items) where
     claims_are : next.side.claims ≡ word ∷ v.side.claims
     claims_are = ap (λ (x : View). x.side.claims) view_is
 
@@ -133,25 +128,25 @@ module _ (z : Shape) (keys : List ℕ) (past : Past) (h then : Hand) (v next : V
 
     pub stands_claimed : word < z.keys → left_over then.has_key then.position ≡ word ∷ [] → HandStands z keys past then next
     stands_claimed inside left = stands_with kind doing_then (ap (λ (x : View). x.opening) view_is)
-        (one_more z v next word claims_are inside ∙ ap (λ (l : List ℕ). l ++ word ∷ []) none_left ∙ ap (λ (l : List ℕ). positions_of was.answers ++ l) (sym left)) changed found
+        (one_more z v next word claims_are inside ∙ ap (λ (l : List ℕ). l ++ word ∷ []) none_left ∙ ap (λ (l : List ℕ). positions_of was.answers ++ l) (sym left)) done changed found
 
     pub stands_ended : z.keys ≤ word → left_over then.has_key then.position ≡ [] → HandStands z keys past then next
     stands_ended beyond left = stands_with kind doing_then (ap (λ (x : View). x.opening) view_is)
-        (no_more z v next word claims_are beyond ∙ none_left ∙ sym (append-nil (positions_of was.answers)) ∙ ap (λ (l : List ℕ). positions_of was.answers ++ l) (sym left)) changed found
+        (no_more z v next word claims_are beyond ∙ none_left ∙ sym (append-nil (positions_of was.answers)) ∙ ap (λ (l : List ℕ). positions_of was.answers ++ l) (sym left)) done changed found
 
   -- the steps for its key were made
   module _ (key : ℕ) (among : Contains keys key) (is : slice_index keys h.position ≡ key) (kind : then.kind ≡ h.kind) (claims : next.side.claims ≡ v.side.claims) (opening : next.opening ≡ v.opening) (has : h.has_key ≡ true) where
     left : left_over h.has_key h.position ≡ h.position ∷ []
     left = ap (λ (b : Bool). left_over b h.position) has
 
-    pub stands_left : Furthers z h.kind key v next None → left_over then.has_key then.position ≡ h.position ∷ [] → then.changed ≡ h.changed → then.found.items ≡ h.found.items → HandStands z keys past then next
-    stands_left furthers leaves changed found = stands_with kind
+    pub stands_left : Furthers z h.kind key v next None → left_over then.has_key then.position ≡ h.position ∷ [] → then.done ≡ h.done → then.changed ≡ h.changed → then.found.items ≡ h.found.items → HandStands z keys past then next
+    stands_left furthers leaves done changed found = stands_with kind
         (furthers (so_far v) among was.doing) opening
-        (same_claimed z v next claims ∙ was.answered.claimed_are ∙ ap (λ (l : List ℕ). positions_of was.answers ++ l) (left ∙ sym leaves)) changed found
+        (same_claimed z v next claims ∙ was.answered.claimed_are ∙ ap (λ (l : List ℕ). positions_of was.answers ++ l) (left ∙ sym leaves)) done changed found
 
-    pub stands_done : (told : Bool) → Furthers z h.kind key v next (Some told) → then.has_key ≡ false → then.changed ≡ cond told (min (h.changed + 1) (2 ^ 64 - 1)) h.changed
+    pub stands_done : (told : Bool) → Furthers z h.kind key v next (Some told) → then.has_key ≡ false → then.done ≡ min (h.done + 1) (2 ^ 64 - 1) → then.changed ≡ cond told (min (h.changed + 1) (2 ^ 64 - 1)) h.changed
         → then.found.items ≡ cond told (set h.found.items h.position true) h.found.items → HandStands z keys past then next
-    stands_done told furthers no_key changed found = record {
+    stands_done told furthers no_key done changed found = record {
       kind_is = kind ∙ was.kind_is;
       answers = answers;
       doing = of_kind then.kind (progress_by keys past next answers) kind
@@ -161,6 +156,7 @@ module _ (z : Shape) (keys : List ℕ) (past : Past) (h then : Hand) (v next : V
       answered = record {
         claimed_are = same_claimed z v next claims ∙ was.answered.claimed_are ∙ ap (λ (l : List ℕ). positions_of was.answers ++ l) left ∙ sym (map_push (λ (a : Answer). a.position) was.answers (answer h.position told))
             ∙ sym (append-nil (positions_of answers)) ∙ ap (λ (b : Bool). positions_of answers ++ left_over b then.position) (sym no_key);
+        done_are = let m = length_push was.answers (answer h.position told) in let w = was.answered.done_are in omega (arith, m, w, done);
         counts = counts_more was.answers h.position h.changed then.changed told was.answered.counts changed;
         marks = subst (λ (l : List Bool). (p : ℕ) → p < length l → (slice_index_or l p false ≡ true) ↔ Contains answers (answer p true)) (sym found)
             (λ p inside. let l : p < length h.found.items = let m = marked_long h.found.items h.position told in omega (arith, inside, m) in marks_more h.found.items was.answers h.position told p l (was.answered.marks p l));

@@ -1,10 +1,11 @@
 -- Workers of a phase with their seat, who fork in halves and join again.
-use Rattle.std.specs.Prelude.{◌≡◌, ℕ, ◌+◌, ◌<◌, true, false, List, All, Bool, length, take, drop}
+use Rattle.std.specs.Prelude.{◌≡◌, ℕ, ◌+◌, ◌<◌, true, false, min, List, All, Bool, length, take, drop}
+use Rattle.rh_bytes.specs.Counting.{last_count}
 use Rattle.rh_layout.specs.Key.{IsKey}
 use Rattle.rh_shared.specs.Crews.{SitsAt, IsCut, IsFresh, IsQuiet, views_of}
 use Rattle.rh_shared.specs.declared.table.Table.{Table}
 use Rattle.rh_rule.specs.Seats.{InView}
-use Rattle.rh_threads.specs.Hands.{AllStand, InPairs, IsHand, Past}
+use Rattle.rh_threads.specs.Hands.{AllStand, HasStopped, InPairs, IsHand, Past}
 use Rattle.rh_threads.specs.declared.crew.Crew.{Crew}
 use Rattle.rh_runner.specs.declared.runner.PhaseFault.{PhaseFault}
 use Rattle.rh_runner.specs.declared.runner.PhaseFault.TheVariants.{Memory, NoThread}
@@ -26,12 +27,13 @@ pub record CanWork (t : Table) (keys : List ℕ) (c : Crew) : Type 0 where
   pub crew : IsCrew t keys c
   pub fresh : InView IsFresh (views_of c.seat)
 
--- They worked and are at rest. Whatever each had done of the list, it has come as far as its hand says.
+-- They worked until each had stopped, and are at rest. Whatever each had done of the list, it has come as far as its hand says.
 pub record HaveWorked (t : Table) (keys : List ℕ) (c then : Crew) : Type 0 where
   pub crew : IsCrew t keys then
   pub first : then.seat.side.worker ≡ c.seat.side.worker
   pub count : then.seat.count ≡ c.seat.count
   pub quiet : InView IsQuiet (views_of then.seat)
+  pub stopped : InPairs (λ v h. HasStopped t.shape h v) (views_of then.seat) then.hands
   pub stands : (past : ℕ → Past) → AllStand t.shape keys past (views_of c.seat) c.hands → AllStand t.shape keys past (views_of then.seat) then.hands
 
 -- the first workers and the others
@@ -47,10 +49,10 @@ AllMayStart allows first count = (w : ℕ) → first < w → w < first + count �
 abbrev pub OthersMayStart : (allows : ℕ → Bool) → Crew → Type 0
 OthersMayStart allows c = AllMayStart allows c.seat.side.worker c.seat.count
 
--- Why they did not: one is not allowed to start, or the system refused a thread.
+-- Why they did not: one is not allowed to start, or the system refused the thread of one that is.
 abbrev pub RefusedBy : (allows : ℕ → Bool) → Refused → Type 0
 RefusedBy allows (NotAllowed worker) = allows worker ≡ false
-RefusedBy allows NotStarted = Unit {0}
+RefusedBy allows (NotStarted worker) = allows worker ≡ true
 
 -- Why a phase was not carried out: for want of memory, or one of several workers was refused a thread.
 abbrev pub IsFault : (allows : ℕ → Bool) → (workers : ℕ) → Fault → Type 0
@@ -61,3 +63,8 @@ IsFault allows workers (faults.Refused why) = (1 < workers) × RefusedBy allows 
 abbrev pub told_as : Fault → PhaseFault
 told_as faults.Memory = Memory
 told_as (faults.Refused why) = NoThread
+
+-- how many starts were refused then, up to the greatest number
+abbrev pub refused_with : Fault → (before : ℕ) → ℕ
+refused_with faults.Memory before = before
+refused_with (faults.Refused why) before = min (before + 1) last_count

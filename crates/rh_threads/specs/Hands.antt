@@ -1,5 +1,5 @@
 -- What the workers of a phase have done of a list that they share.
-use Rattle.std.specs.Prelude.{◌≡◌, ℕ, ◌-◌, ◌^◌, ◌<◌, ◌↔◌, Bool, cond, true, false, min, List, [], ◌∷◌, ◌++◌, length, map, slice_index, slice_index_or}
+use Rattle.std.specs.Prelude.{◌≡◌, ℕ, ◌-◌, ◌^◌, ◌<◌, ◌⊎◌, ◌↔◌, Bool, cond, true, false, min, List, [], ◌∷◌, ◌++◌, length, map, slice_index, slice_index_or}
 use Rattle.std.specs.List.{Contains}
 use mathlib.Core.Option.{some}
 use lib.ListN.{get_elem?}
@@ -13,6 +13,7 @@ use Rattle.rh_words.specs.declared.shape.Shape.{Shape}
 use Rattle.rh_words.specs.View.{View}
 use Rattle.rh_run.specs.Claimed.{FoundEnd, claimed}
 use Rattle.rh_run.specs.Run.{Progress, ProgressInvariant}
+use Rattle.rh_worker.specs.Worker.{HasNoRoom}
 use Rattle.rh_threads.specs.Buffer.{HasBufferRoom}
 use Rattle.rh_threads.specs.declared.hand.Hand.{Hand}
 
@@ -33,6 +34,10 @@ pub record IsHand (z : Shape) (keys : List ℕ) (h : Hand) (v : View) : Type 0 w
 pub record IsFinished (h : Hand) : Type 0 where
   pub no_key : h.has_key ≡ false
   pub ended : h.ended ≡ true
+
+-- why it does no more in this round: all is done, or a room of it is used up
+abbrev pub HasStopped : Shape → Hand → View → Type 0
+HasStopped z h v = IsFinished h ⊎ HasNoRoom z v
 
 -- ---- what it did
 
@@ -58,9 +63,10 @@ abbrev pub left_over : (has_key : Bool) (position : ℕ) → List ℕ
 left_over has_key p = cond has_key (p ∷ []) []
 
 -- The positions that it claimed are those of its answers, in their order, and then that of the key that it has to do. It counts the
--- answers that are true, up to the greatest number, and has marked their positions.
+-- answers, and those that are true, up to the greatest number, and has marked the positions of these.
 pub record Answered (z : Shape) (h : Hand) (v : View) (answers : List Answer) : Type 0 where
   pub claimed_are : claimed z v ≡ positions_of answers ++ left_over h.has_key h.position
+  pub done_are : h.done ≡ min (length answers) (2 ^ 64 - 1)
   pub counts : h.changed ≡ min (how_many (told_of answers)) (2 ^ 64 - 1)
   pub marks : (p : ℕ) → p < length h.found.items → (slice_index_or h.found.items p false ≡ true) ↔ Contains answers (answer p true)
 

@@ -1,5 +1,5 @@
 -- How a worker does one key.
-use Rattle.std.specs.Prelude.{◌≡◌, ℕ, ◌≤◌, ◌⊎◌, Option, None, Some, Bool, List, [], ◌∷◌, ◌++◌}
+use Rattle.std.specs.Prelude.{suc, ◌≡◌, ℕ, ◌≤◌, ◌⊎◌, Option, None, Some, Bool, List, [], ◌∷◌, ◌++◌, length}
 use Rattle.std.specs.List.{Contains}
 use Rattle.rh_layout.specs.declared.entry.Entry.{Entry}
 use Rattle.rh_ledger.specs.declared.tally.Kind.{Kind}
@@ -14,8 +14,8 @@ use Rattle.rh_shared.specs.declared.seat.Seat.{Seat}
 use Rattle.rh_shared.specs.declared.table.Table.{Table}
 use Rattle.rh_run.specs.Laws.{furthered}
 use Rattle.rh_run.specs.Run.{Progress, ProgressInvariant}
-use Rattle.rh_worker.specs.Deciding.{IsPlan}
-use Rattle.rh_worker.specs.Reading.{IsToldAnew}
+use Rattle.rh_worker.specs.Deciding.{IsLeftOpenBy, IsPlan}
+use Rattle.rh_worker.specs.Reading.{HasScanned, IsToldAnew}
 use Rattle.rh_worker.specs.Worker.{HasNoRoom}
 use Rattle.rh_threads.specs.declared.key.Scanned.{Scanned}
 use Rattle.rh_threads.specs.declared.key.Scanned.TheVariants as scanned
@@ -61,12 +61,19 @@ pub record IsUndone (z : Shape) (kind : Kind) (k : ℕ) (v next : View) : Type 0
   pub opening : next.opening ≡ v.opening
   pub furthers : Furthers z kind k v next None
 
--- what a scan leads to
-abbrev pub ScanSpec : Shape → Kind → (k : ℕ) → (v next : View) → List Entry → Scanned → Type 0
-ScanSpec z kind k v next entries (scanned.Done told) = IsToldAnew z (kept_of z v) next kind k told × IsTold kind z.bits (kept_of z next) k told
-ScanSpec z kind k v next entries (scanned.Acts p) = IsPlan kind z.bits k entries p
-ScanSpec z kind k v next entries scanned.Longer = Unit {0}
-ScanSpec z kind k v next entries scanned.Spent = z.rooms.marks ≤ next.marks_used
+-- so many cells were read in turn from the key's home on, and they do not decide
+pub record LeavesOpen (z : Shape) (kind : Kind) (k count : ℕ) (v next : View) : Type 0 where
+  pub seen : List ℕ
+  pub long : length seen ≡ count
+  pub read : HasScanned z (kept_of z v) next k seen count
+  pub open_by : IsLeftOpenBy kind z.bits k seen []
+
+-- what a scan leads to, with room for so many cells
+abbrev pub ScanSpec : Shape → Kind → (k room : ℕ) → (v next : View) → List Entry → Scanned → Type 0
+ScanSpec z kind k room v next entries (scanned.Done told) = IsToldAnew z (kept_of z v) next kind k told × IsTold kind z.bits (kept_of z next) k told
+ScanSpec z kind k room v next entries (scanned.Acts p) = IsPlan kind z.bits k entries p
+ScanSpec z kind k room v next entries scanned.Longer = LeavesOpen z kind k room v next
+ScanSpec z kind k room v next entries scanned.Spent = z.rooms.marks ≤ next.marks_used
 
 -- it did the key, as one of those that it has to do
 pub record IsDoneSo (z : Shape) (kind : Kind) (k : ℕ) (v next : View) (told : Bool) : Type 0 where
@@ -75,9 +82,9 @@ pub record IsDoneSo (z : Shape) (kind : Kind) (k : ℕ) (v next : View) (told : 
   pub furthers : Furthers z kind k v next (Some told)
   pub so : KeySpec z kind k v next told
 
--- what came of a try
-abbrev pub IsTriedSo : Shape → Kind → (k : ℕ) → (v next : View) → Tried → Type 0
-IsTriedSo z kind k v next (tried.Done told) = IsDoneSo z kind k v next told
-IsTriedSo z kind k v next tried.Again = IsUndone z kind k v next
-IsTriedSo z kind k v next tried.Longer = IsUndone z kind k v next
-IsTriedSo z kind k v next tried.Spent = IsUndone z kind k v next × HasNoRoom z next
+-- What came of a try, with room for so many cells. Each that is made again has used up a number of a descriptor.
+abbrev pub IsTriedSo : Shape → Kind → (k room : ℕ) → (v next : View) → Tried → Type 0
+IsTriedSo z kind k room v next (tried.Done told) = IsDoneSo z kind k v next told
+IsTriedSo z kind k room v next tried.Again = IsUndone z kind k v next × (next.next_number ≡ suc v.next_number)
+IsTriedSo z kind k room v next tried.Longer = IsUndone z kind k v next × (next.next_number ≡ v.next_number) × LeavesOpen z kind k room v next
+IsTriedSo z kind k room v next tried.Spent = IsUndone z kind k v next × HasNoRoom z next

@@ -1,3 +1,4 @@
+pub mod Scanning
 pub mod Keys
 pub mod Buffer
 pub mod Hands

@@ -38,6 +38,7 @@ pub record IsNew (z : Shape) (kind : Kind) (positions : ℕ) (h : Hand) : Type 0
   pub kind_is : h.kind ≡ kind
   pub room : HasBufferRoom z.bits h.buffer
   pub to_claim : h.ended ≡ false
+  pub none_done : h.done ≡ 0
   pub unchanged : h.changed ≡ 0
   pub unmarked : h.found.items ≡ replicate positions false
 

@@ -1,8 +1,8 @@
 //! Room for what a worker sees of the table.
 
-ghost use Rattle.std.specs.Prelude.{IfOk};
+ghost use Rattle.std.specs.Prelude.{◌≡◌, ◌*◌, ◌^◌, ◌<◌, IfOk, length, min};
 ghost use Rattle.rh_layout.specs.Key.{IsBits};
-ghost use Rattle.rh_threads.specs.Buffer.{HasBufferRoom};
+ghost use Rattle.rh_threads.specs.Buffer.{HasBufferRoom, HasCapacity};
 
 use rh_layout::Entry;
 use std::alloc::{AllocError, Global};
@@ -49,7 +49,8 @@ impl Buffer {
     pub(crate) fn use_more(&mut self, bits: u32)
         requires bits { IsBits bits }
         requires room { HasBufferRoom bits self.old }
-        ensures { HasBufferRoom bits self.new }
+        ensures room { HasBufferRoom bits self.new }
+        ensures twice { length self.new.seen.items ≡ min (2 * length self.old.seen.items) (2 ^ bits) }
     {
         let cells = self.seen.len().saturating_mul(2);
         self.use_first(bits, cells);
@@ -58,8 +59,10 @@ impl Buffer {
     /// Has so many in use, as far as there is room. It takes no memory.
     fn use_first(&mut self, bits: u32, cells: usize)
         requires bits { IsBits bits }
-        requires room { HasBufferRoom bits self.old }
-        ensures { HasBufferRoom bits self.new }
+        requires capacity { HasCapacity bits self.old }
+        requires some { 0 < cells }
+        ensures room { HasBufferRoom bits self.new }
+        ensures used { length self.new.seen.items ≡ min cells (2 ^ bits) }
     {
         let cells = cells.min(1 << bits);
         // (there is room for them)

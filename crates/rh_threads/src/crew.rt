@@ -1,6 +1,6 @@
 //! The workers of a phase in threads, whose start may be refused.
 
-ghost use Rattle.std.specs.Prelude.{◌≡◌, ◌+◌, ◌<◌, ◌++◌, IfErr, IfOk, OnErr, OnOk, length};
+ghost use Rattle.std.specs.Prelude.{◌≡◌, ◌+◌, ◌<◌, ◌++◌, IfErr, IfOk, OnErr, OnOk, length, true};
 ghost use Rattle.std.specs.Thread.{IsSync};
 ghost use Rattle.rh_shared.specs.Crews.{SitsAt, IsJoined, IsQuiet, views_of};
 ghost use Rattle.rh_rule.specs.Seats.{InView};
@@ -46,8 +46,8 @@ impl Starts for AllStart {
 pub enum Refused {
     /// The half whose first worker this is may have none.
     NotAllowed { worker: usize },
-    /// The system refused it.
-    NotStarted,
+    /// The system refused that of this half.
+    NotStarted { worker: usize },
 }
 
 /// Workers of a phase that follow one another, and their seat. The list is cut and glued without
@@ -155,7 +155,7 @@ pub(crate) fn run<R: Threads + Wait + Sync, G: Gate + Sync, S: Starts + Sync>(
         thread::scope_env(),
         rt,
         move |scope| -> Result<(Crew, Crew), Refused>
-            requires { IsSync R.row × IsSync G.row × IsSync S.row × CanWork table.now keys.now left × CanWork table.now keys.now right }
+            requires { IsSync R.row × IsSync G.row × IsSync S.row × CanWork table.now keys.now left × CanWork table.now keys.now right × (S.allows starts.now at ≡ true) }
             ensures { IfOk result (λ r. HaveWorked table.entry.now keys.entry.now left r.0 × HaveWorked table.entry.now keys.entry.now right r.1) × OnOk result (OthersMayStart (S.allows starts.entry.now) left × OthersMayStart (S.allows starts.entry.now) right) × IfErr result (RefusedBy (S.allows starts.entry.now)) }
         {
             let promise = HalfOf {
@@ -177,7 +177,7 @@ pub(crate) fn run<R: Threads + Wait + Sync, G: Gate + Sync, S: Starts + Sync>(
                     let theirs = child.join(rt);
                     Ok((mine?, theirs?))
                 }
-                Err(_) => Err(Refused::NotStarted),
+                Err(_) => Err(Refused::NotStarted { worker: at }),
             }
         },
     )?;

@@ -1,12 +1,12 @@
 //! The keys of one worker, each to its end.
 
-ghost use Rattle.std.specs.Prelude.{◌≡◌, ◌<◌, All, IfNone, IfSome, IsTrue, false, length, slice_index, true};
+ghost use Rattle.std.specs.Prelude.{◌≡◌, ◌<◌, All, IfNone, IfSome, IsFalse, IsTrue, false, length, slice_index, true};
 ghost use Rattle.rh_layout.specs.Key.{IsKey};
 ghost use Rattle.rh_run.specs.History.{own_acts_of};
 ghost use Rattle.rh_shared.specs.Rests.{SeatRests};
 ghost use Rattle.rh_ledger.specs.declared.tally.Kind.{Kind};
 ghost use Rattle.rh_threads.specs.Buffer.{HasBufferRoom};
-ghost use Rattle.rh_threads.specs.Hands.{IsHand, Past, HandStands};
+ghost use Rattle.rh_threads.specs.Hands.{HasStopped, IsFinished, IsHand, Past, HandStands};
 ghost use Rattle.rh_threads.specs.Keys.{Furthers, IsTriedSo, KeySpec};
 ghost use Rattle.rh_shared.specs.Seats.{IsSame, view_of};
 ghost use Rattle.rh_worker.specs.Worker.{HasNoRoom};
@@ -35,6 +35,7 @@ pub(crate) fn do_keys<R: Wait, G: Gate>(
     ensures rests { SeatRests table.now seat.new }
     ensures same { IsSame seat.old seat.new }
     ensures hand { IsHand table.now.shape keys.now hand.new (view_of seat.new) }
+    ensures stopped { HasStopped table.now.shape hand.new (view_of seat.new) }
     ensures stands { (past : Past) → HandStands table.now.shape keys.now past hand.old (view_of seat.old) →
         HandStands table.now.shape keys.now past hand.new (view_of seat.new) }
 {
@@ -71,6 +72,7 @@ fn next_key<G: Gate>(
     ensures same { IsSame seat.old seat.new }
     ensures hand { IsHand table.now.shape keys.now hand.new (view_of seat.new) }
     ensures has_key { IsTrue result → hand.new.has_key ≡ true }
+    ensures finished { IsFalse result → IsFinished hand.new }
     ensures stands { (past : Past) → HandStands table.now.shape keys.now past hand.old (view_of seat.old) →
         HandStands table.now.shape keys.now past hand.new (view_of seat.new) }
 {
@@ -138,7 +140,9 @@ fn try_in_buffer<R: Wait>(
     ensures rests { SeatRests table.now seat.new }
     ensures same { IsSame seat.old seat.new }
     ensures room { HasBufferRoom table.now.shape.bits buffer.new }
-    ensures tries { IsTriedSo table.now.shape kind key (view_of seat.old) (view_of seat.new) result }
+    ensures used { length buffer.new.seen.items ≡ length buffer.old.seen.items }
+    ensures tries { IsTriedSo table.now.shape kind key (length buffer.old.seen.items)
+        (view_of seat.old) (view_of seat.new) result }
 {
     let bits = table.shape.bits;
     let seen = buffer.seen.as_mut_slice();

@@ -42,6 +42,7 @@ impl Hand {
         ensures buffer { self.new.buffer ≡ self.old.buffer }
         ensures no_key { self.new.has_key ≡ false }
         ensures ended { self.new.ended ≡ self.old.ended }
+        ensures done { self.new.done ≡ min (self.old.done + 1) (2 ^ 64 - 1) }
         ensures changed { self.new.changed ≡
             cond told (min (self.old.changed + 1) (2 ^ 64 - 1)) self.old.changed }
         ensures found { self.new.found.items ≡

@@ -1,9 +1,10 @@
 //! One key, done by one worker at a table that others change too.
 
-ghost use Rattle.std.specs.Prelude.{◌≡◌, ◌^◌, ◌<◌, ◌≤◌, length};
+ghost use Rattle.std.specs.Prelude.{◌≡◌, ◌↔◌, ◌^◌, ◌<◌, ◌≤◌, length, false};
 ghost use Rattle.rh_layout.specs.Key.{IsBits, IsKey};
 ghost use Rattle.rh_shared.specs.Rests.{SeatRests};
 ghost use Rattle.rh_threads.specs.Keys.{IsTriedSo, IsUndone, ScanSpec};
+ghost use Rattle.rh_threads.specs.Scanning.{IsPassed};
 ghost use Rattle.rh_shared.specs.Seats.{IsSame, view_of};
 
 use rh_layout::{Entry, beats, home, key_in};
@@ -48,7 +49,8 @@ pub fn try_key<R: Wait>(
     requires entries { length entries.old ≡ length seen.old }
     ensures rests { SeatRests table.now seat.new }
     ensures same { IsSame seat.old seat.new }
-    ensures tries { IsTriedSo table.now.shape kind key (view_of seat.old) (view_of seat.new) result }
+    ensures tries { IsTriedSo table.now.shape kind key (length seen.old) (view_of seat.old)
+        (view_of seat.new) result }
 {
     match scan(rt, table, seat, bits, kind, key, seen, news, entries) {
         Scanned::Done(told) => Tried::Done(told),
@@ -97,8 +99,9 @@ fn scan<R: Wait>(
     ensures rests { SeatRests table.now seat.new }
     ensures same { IsSame seat.old seat.new }
     ensures undone { IsUndone table.now.shape kind key (view_of seat.old) (view_of seat.new) }
-    ensures scans { ScanSpec table.now.shape kind key (view_of seat.old) (view_of seat.new)
-        entries.new result }
+    ensures unopened { (view_of seat.new).next_number ≡ (view_of seat.old).next_number }
+    ensures scans { ScanSpec table.now.shape kind key (length seen.old) (view_of seat.old)
+        (view_of seat.new) entries.new result }
 {
     let cells = table.shape.cells();
     let first = home(bits, key);
@@ -128,6 +131,7 @@ fn scan<R: Wait>(
 fn may_decide(kind: Kind, bits: u32, key: u64, cell: usize, value: u64, is_placed: bool) -> bool
     requires bits { IsBits bits }
     requires cell { cell < 2 ^ bits }
+    ensures { result ≡ false ↔ IsPassed is_placed kind bits key cell value }
 {
     if !is_placed {
         return match key_in(value) {

@@ -1,10 +1,8 @@
 //! Phases of scripts, each by several workers.
 
 ghost use Rattle.std.specs.Prelude.{◌≡◌};
-ghost use Rattle.rh_bytes.specs.Counting.{Rose};
+ghost use Rattle.rh_threads.specs.Crew.{refused_with, told_as};
 ghost use Rattle.rh_threads.specs.Made.{IsWorkers};
-ghost use Rattle.rh_threads.specs.declared.crew.Refused.{Refused};
-ghost use Rattle.rh_threads.specs.declared.fault.Fault.TheVariants as faults;
 
 use crate::crew::AllStart;
 use crate::fault::Fault;
@@ -44,10 +42,8 @@ impl Threads {
     /// What is told of the fault. A start that was refused is counted.
     fn told(&mut self, fault: Fault) -> PhaseFault
         ensures workers { self.new.workers ≡ self.old.workers }
-        ensures no_thread { result ≡ PhaseFault.NoThread → (why : Refused)
-            × (fault ≡ faults.Refused why) × Rose self.old.refused_starts self.new.refused_starts }
-        ensures memory { result ≡ PhaseFault.Memory →
-            self.new.refused_starts ≡ self.old.refused_starts }
+        ensures told { result ≡ told_as fault }
+        ensures counted { self.new.refused_starts ≡ refused_with fault self.old.refused_starts }
     {
         if let Fault::Refused(_) = fault {
             self.refused_starts = self.refused_starts.saturating_add(1);

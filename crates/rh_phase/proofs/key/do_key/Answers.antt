@@ -1,6 +1,8 @@
-use Rattle.std.proofs.Common.{rules, ⊎_elim, subst}
+use Rattle.std.proofs.Common.{rules, ⊎_elim, length, subst}
 use Rattle.rh_shared.specs.Seats.{view_of}
 use Rattle.rh_threads.specs.Keys.{IsTriedSo}
+use Rattle.rh_threads.specs.declared.key.Tried.{Tried}
+use Rattle.rh_threads.specs.declared.key.Tried.TheVariants.{Again, Longer}
 use Rattle.rh_threads.proofs.Keying.{done_on, same_on, undone_on}
 use Rattle.rh_phase.proofs.key.do_key.Goals as goal
 
@@ -17,11 +19,12 @@ loop-preserved g c =
     let k = c.args.key in
     let v = view_of c.loop.seat in
     let next = view_of c.try_key.new.seat in
+    let tried = λ (t : Tried). IsTriedSo z kind k (length c.loop.seen) v next t in
     record {
       rests = e.rests;
       same = same_on c.args.seat.now c.loop.seat c.try_key.new.seat h.same e.same;
       undone = undone_on z kind k (view_of c.args.seat.now) v next h.undone
-          (⊎_elim (λ is. subst (IsTriedSo z kind k v next) is e.tries) (λ is. subst (IsTriedSo z kind k v next) is e.tries) c.in-Again.is);
+          (⊎_elim (λ is. let t : tried Again = subst tried is e.tries in t.0) (λ is. let t : tried Longer = subst tried is e.tries in t.0) c.in-Again.is);
       seen = search rules;
       news = search rules;
       entries = search rules;

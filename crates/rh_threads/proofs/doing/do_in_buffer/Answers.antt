@@ -13,7 +13,7 @@ loop-preserved-in-Again g c =
     record {
       rests = e.rests;
       same = same_on c.args.seat.now c.loop.seat c.try_in_buffer.new.seat h.same e.same;
-      undone = undone_on c.args.table.now.shape c.args.kind c.args.key (view_of c.args.seat.now) (view_of c.loop.seat) (view_of c.try_in_buffer.new.seat) h.undone e.tries;
+      undone = undone_on c.args.table.now.shape c.args.kind c.args.key (view_of c.args.seat.now) (view_of c.loop.seat) (view_of c.try_in_buffer.new.seat) h.undone e.tries.0;
       room = e.room;
     }
 
@@ -24,6 +24,6 @@ loop-preserved g c =
     record {
       rests = e.rests;
       same = same_on c.args.seat.now c.loop.seat c.try_in_buffer.new.seat h.same e.same;
-      undone = undone_on c.args.table.now.shape c.args.kind c.args.key (view_of c.args.seat.now) (view_of c.loop.seat) (view_of c.try_in_buffer.new.seat) h.undone e.tries;
-      room = c.use_more.ensures;
+      undone = undone_on c.args.table.now.shape c.args.kind c.args.key (view_of c.args.seat.now) (view_of c.loop.seat) (view_of c.try_in_buffer.new.seat) h.undone e.tries.0;
+      room = c.use_more.ensures.room;
     }

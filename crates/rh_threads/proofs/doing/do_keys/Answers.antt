@@ -29,7 +29,7 @@ loop-preserved g c =
       };
       stands = λ past was. stands_done z keys past n then (view_of c.next_key.new.seat) (view_of c.do_in_buffer.new.seat) (next.stands past (h.stands past was)) key
           (among keys n.position key (next.hand.within has) refl) refl c.count.ensures.kind e.claims e.opening has c.in-Some-do_in_buffer.told e.furthers
-          c.count.ensures.no_key c.count.ensures.changed c.count.ensures.found;
+          c.count.ensures.no_key c.count.ensures.done c.count.ensures.changed c.count.ensures.found;
     }
 
 pub returns-in-None-do_in_buffer-clause-hand : goal.returns-in-None-do_in_buffer-clause-hand
@@ -53,4 +53,4 @@ returns-in-None-do_in_buffer-clause-stands g c past was =
     let has : n.has_key ≡ true = c.if-not-next_key.ensures.has_key refl in
     let key = slice_index keys n.position in
     stands_left z keys past n _ (view_of c.next_key.new.seat) (view_of c.do_in_buffer.new.seat) (next.stands past (c.loop.invariant.stands past was)) key
-    (among keys n.position key (next.hand.within has) refl) refl refl e.claims e.opening has e.furthers (ap (λ (b : Bool). left_over b n.position) has) refl refl
+    (among keys n.position key (next.hand.within has) refl) refl refl e.claims e.opening has e.furthers (ap (λ (b : Bool). left_over b n.position) has) refl refl refl

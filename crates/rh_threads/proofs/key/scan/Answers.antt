@@ -1,4 +1,5 @@
-use Rattle.std.proofs.Common.{suc, ◌≡◌, ◌+◌, ◌≤◌, ◌<◌, ◌^◌, ℕ, None, length, length-set, rules, subst, sym, ◌∙◌, set, take, arith}
+use Rattle.std.proofs.Common.{suc, ◌≡◌, ◌+◌, ◌≤◌, ◌<◌, ◌^◌, ℕ, Bool, None, List, length, length-set, true≢false, rules, subst, sym, ◌∙◌, set, take, arith}
+use Rattle.std.proofs.lemmas.List.{take_all}
 use Rattle.rh_layout.specs.Order.{home_of}
 use Rattle.rh_layout.specs.Round.{cell_ahead}
 use Rattle.rh_tagword.proofs.PlainWords.{value_said}
@@ -10,6 +11,9 @@ use Rattle.rh_worker.specs.Reading.{HasScanned}
 use Rattle.rh_worker.specs.declared.deciding.Decision.TheVariants.{Done}
 use Rattle.rh_worker.proofs.Keeping.{value_read}
 use Rattle.rh_threads.proofs.Keying.{cell_read, scan_tells, one_value, same_on, undone_on, undone_read}
+use Rattle.rh_threads.specs.Scanning.{AllArePassed, IsPassed}
+use Rattle.rh_threads.proofs.Scanning.{goes_on, is_open, is_placed_then}
+use Rattle.rh_threads.proofs.key.scan.Goals.{else-may_decide, then-may_decide+in-More}
 use Rattle.rh_threads.proofs.key.scan.Goals as goal
 
 pub returns-in_default-clause-undone : goal.returns-in_default-clause-undone
@@ -56,6 +60,22 @@ returns-in-Done-clause-scans g c =
     (subst (HasScanned z before (view_of c.read.new.seat) k now) next read)
     (subst (λ (b : ℕ). Decides c.args.kind b k (take (n + 1) now) c.decide.new.entries (Done c.in-Done.told)) (sym c.requires.bits) c.in-Done.ensures)
 
+pub returns-clause-scans : goal.returns-clause-scans
+returns-clause-scans g c =
+    let z = c.args.table.now.shape in
+    let l = c.loop-count in
+    let h = l.invariant in
+    let k = c.args.key in
+    let all : l.count ≡ length c.args.seen.now = (let t = c.loop-count-test.false in let w = h.within in let s = h.seen in omega (arith, t, w, s)) in
+    record {
+      seen = l.seen;
+      long = h.seen;
+      read = subst (HasScanned z (kept_of z (view_of c.args.seat.now)) (view_of l.seat) k l.seen) all h.read;
+      open_by = is_open l.is_placed c.args.kind z.bits k l.seen
+          (subst (λ (seen : List ℕ). AllArePassed l.is_placed c.args.kind z.bits k seen) (take_all l.count l.seen (let s = h.seen in omega (arith, all, s)))
+          (subst (λ (b : ℕ). AllArePassed l.is_placed c.args.kind b k (take l.count l.seen)) (sym c.requires.bits) h.passed));
+    }
+
 pub loop-count-preserved : goal.loop-count-preserved
 loop-count-preserved g c =
     let z = c.args.table.now.shape in
@@ -71,10 +91,23 @@ loop-count-preserved g c =
     let within : n < length l.seen = (let t = c.loop-count-test.true in let s = h.seen in omega (arith, t, s)) in
     let read = cell_read z k before (view_of l.seat) (view_of c.read.new.seat) l.seen n c.cell_after-cell.result c.in-Some.word c.unwrap-value.result e.reads.seen_is (value_read c.in-Some.word c.unwrap-value.result said) (search rules) at within h.read in
     let next : suc n ≡ n + 1 = omega arith in
+    let b = c.args.bits in
+    let kind = c.args.kind in
+    let here : c.cell_after-cell.result ≡ cell_ahead (2 ^ b) (home_of b k) n = subst (λ (m : ℕ). c.cell_after-cell.result ≡ cell_ahead (2 ^ m) (home_of m k) n) c.requires.bits at in
+    let passed = λ (is : Bool). AllArePassed is kind b k (take (n + 1) now) in
     record {
       within = let t = c.loop-count-test.true in omega (arith, t);
       rests = e.rests;
       same = same_on c.args.seat.now l.seat c.read.new.seat h.same e.same;
+      unopened = e.reads.next_number ∙ h.unopened;
+      passed = elim c.if-may_decide.branch [
+        | then-may_decide+in-More w ↦ subst passed (sym w.is_placed-is)
+            (is_placed_then b k l.seen n c.unwrap-value.result within l.is_placed kind w.decide.new.entries h.passed
+            (λ it. true≢false (sym w.if-may_decide.true ∙ c.may_decide.ensures.1 (subst (λ (m : ℕ). IsPassed l.is_placed kind b k m c.unwrap-value.result) (sym here) it))) w.in-More.ensures)
+        | else-may_decide w ↦ subst passed (sym w.is_placed-is)
+            (goes_on b k l.seen n c.unwrap-value.result within l.is_placed kind h.passed
+            (subst (λ (m : ℕ). IsPassed l.is_placed kind b k m c.unwrap-value.result) here (c.may_decide.ensures.0 w.if-may_decide.false)))
+      ];
       undone = undone_on z c.args.kind k (view_of c.args.seat.now) (view_of l.seat) (view_of c.read.new.seat) h.undone
           (undone_read z c.args.kind k (view_of l.seat) (view_of c.read.new.seat) h.rests.rested e.rests.rested c.cell_after-cell.result _ (search rules) e.acts e.reads);
       read = subst (HasScanned z before (view_of c.read.new.seat) k now) next read;

@@ -1,4 +1,4 @@
-use Rattle.std.proofs.Common.{◌≡◌, ◌<◌, ◌≤◌, ℕ, length}
+use Rattle.std.proofs.Common.{◌≡◌, ◌<◌, ◌≤◌, ℕ, length, take}
 use Rattle.std.specs.Prelude.{slice_index}
 use Rattle.rh_tagword.specs.Word.{IsValue}
 use Rattle.rh_run.specs.History.{kept_of}
@@ -6,6 +6,7 @@ use Rattle.rh_shared.specs.Rests.{SeatRests}
 use Rattle.rh_shared.specs.Seats.{IsSame, view_of}
 use Rattle.rh_worker.specs.Reading.{HasScanned}
 use Rattle.rh_threads.specs.Keys.{IsUndone}
+use Rattle.rh_threads.specs.Scanning.{AllArePassed}
 use Rattle.rh_threads.proofs.key.scan.Given as goal
 
 abbrev pub invariant-loop-count : goal.invariant-loop-count
@@ -13,8 +14,10 @@ invariant-loop-count g l = record {
   within : l.count ≤ length l.fn.seen;
   rests : SeatRests l.table l.seat;
   same : IsSame l.fn.seat l.seat;
+  unopened : (view_of l.seat).next_number ≡ (view_of l.fn.seat).next_number;
   undone : IsUndone l.table.shape l.kind l.key (view_of l.fn.seat) (view_of l.seat);
   read : HasScanned l.table.shape (kept_of l.table.shape (view_of l.fn.seat)) (view_of l.seat) l.key l.seen l.count;
+  passed : AllArePassed l.is_placed l.kind l.bits l.key (take l.count l.seen);
   values : (p : ℕ) → p < l.count → IsValue (slice_index l.seen p);
   seen : length l.seen ≡ length l.fn.seen;
   news : length l.news ≡ length l.fn.news;
