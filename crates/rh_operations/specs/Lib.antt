@@ -6,4 +6,5 @@ pub mod Leaves
 pub mod KeyLists
 pub mod Sets
 pub mod Actions
+pub mod Acts
 pub mod Snapshots

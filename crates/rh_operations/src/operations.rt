@@ -4,14 +4,13 @@ ghost use Rattle.std.specs.Prelude.{◌≡◌, ℕ, List, [], Some, Ok, IfOk, If
 ghost use Rattle.std.specs.FinSet as finset;
 ghost use Rattle.rh_bytes.specs.Counting.{Rose};
 ghost use Rattle.rh_edit.specs.Rising.{rising_keys};
-ghost use Rattle.rh_runner.specs.Lists.{Took};
 ghost use Rattle.rh_shelf.specs.Shelf.{Files};
 ghost use Rattle.rh_operations.specs.Actions.{made_of, means, room_at, room_found, telling};
+ghost use Rattle.rh_operations.specs.Acts.{Acts};
 ghost use Rattle.rh_operations.specs.Found.{keys_found};
 ghost use Rattle.rh_operations.specs.KeyLists.{Gave, Stands, path_of, source_bytes};
 ghost use Rattle.rh_operations.specs.Leaves.{KeepsRunner, KeepsShelf};
-ghost use Rattle.rh_operations.specs.Refusals.{IsOfKeys, ListFails, PhaseFails, RefusedBy, RefusedOn};
-ghost use Rattle.rh_operations.specs.Refusals.{TellsKeys, WantedAfter};
+ghost use Rattle.rh_operations.specs.Refusals.{ListFails, PhaseFails, RefusedBy, WantedAfter};
 
 use crate::action::{Action, Done};
 use crate::cause::Cause;
@@ -104,17 +103,9 @@ fn act<T: Threads + Wait + Sync, N: Runner, K: KeySource>(
     action: Action,
 ) -> Result<Done, Cause>
     ensures again { OnOk result (K.left_of keys.old ≡ noted) }
-    ensures done { IfOk result (λ done. (list : List ℕ)
-        × Took (K.coming keys.old) (K.left_of keys.old) list
-        × (means action set.old list ≡ Ok (set.new, telling done))) }
-    ensures refused { IfErr result (RefusedOn (room_at action set.old noted (K.left_of keys.old))
-        (means action set.old) (K.coming keys.old) (K.left_of keys.old)
-        (N.refused_starts runner.old) (N.refused_starts runner.new)) }
-    ensures unchanged { OnErr result (set.new ≡ set.old) }
-    ensures told { IfErr result (TellsKeys (K.told_by keys.new)) }
-    ensures own { IfErr result IsOfKeys }
-    ensures runner { KeepsRunner (N.refused_starts runner.old) (N.refused_starts runner.new)
-        result }
+    ensures acts { Acts (means action set.old) (room_at action set.old noted (K.left_of keys.old))
+        set.old set.new (K.coming keys.old) (K.left_of keys.old) (K.told_by keys.new)
+        (N.refused_starts runner.old) (N.refused_starts runner.new) result }
 {
     if keys.left() != noted {
         return Err(Cause::Changed);

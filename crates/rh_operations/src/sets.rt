@@ -1,7 +1,7 @@
 //! What is made of a set by keys: of a slice, or that come in batches. All of it is worked out on a copy, so
 //! that a refused command leaves the set as it was.
 
-ghost use Rattle.std.specs.Prelude.{◌≡◌, ◌+◌, ◌^◌, ◌<◌, List, ℕ, All, Ok, IfErr, IfOk, OnErr, length};
+ghost use Rattle.std.specs.Prelude.{◌≡◌, ◌+◌, All, Ok, IfErr, IfOk, length};
 ghost use Rattle.std.specs.FinSet as finset;
 ghost use Rattle.rh_bytes.specs.Counting.{Rose};
 ghost use Rattle.rh_layout.specs.Key.{IsKey};
@@ -9,9 +9,11 @@ ghost use Rattle.rh_layout.specs.Layout.{keys_of};
 ghost use Rattle.rh_ledger.specs.Phase.{looked_up, set_after, tally_of};
 ghost use Rattle.rh_ledger.specs.declared.tally.Kind.TheVariants.{Insert, Remove};
 ghost use Rattle.rh_runner.specs.Lists.{Took};
-ghost use Rattle.rh_operations.specs.Actions.{adds, asks, drops, flips, keeps, telling};
+ghost use Rattle.rh_operations.specs.Actions.{means, room_for};
+ghost use Rattle.rh_operations.specs.Acts.{Acts};
+ghost use Rattle.rh_operations.specs.declared.action.Action.TheVariants.{Add, Drop, Keep, Flip, Ask};
 ghost use Rattle.rh_operations.specs.Leaves.{KeepsRunner};
-ghost use Rattle.rh_operations.specs.Refusals.{FaultOn, IsOfKeys, IsOfPhase, PhaseFails, RefusedBy, RefusedOn, TellsKeys};
+ghost use Rattle.rh_operations.specs.Refusals.{FaultOn, IsOfKeys, IsOfPhase, PhaseFails, RefusedBy, TellsKeys};
 ghost use Rattle.rh_operations.specs.Size.{size_for};
 
 use crate::action::Done;
@@ -108,18 +110,9 @@ pub(crate) fn add_keys<T: Threads + Wait + Sync, N: Runner, K: KeySource>(
     set: &mut SeqSet,
     keys: &mut K,
 ) -> Result<Done, Cause>
-    ensures done { IfOk result (λ done. (list : List ℕ)
-        × Took (K.coming keys.old) (K.left_of keys.old) list
-        × (adds set.old list ≡ Ok (set.new, telling done))) }
-    ensures refused { IfErr result
-        (RefusedOn (size_for set.old.bits (finset.len set.old.keys + K.left_of keys.old))
-        (adds set.old) (K.coming keys.old) (K.left_of keys.old)
-        (N.refused_starts runner.old) (N.refused_starts runner.new)) }
-    ensures unchanged { OnErr result (set.new ≡ set.old) }
-    ensures told { IfErr result (TellsKeys (K.told_by keys.new)) }
-    ensures own { IfErr result IsOfKeys }
-    ensures runner { KeepsRunner (N.refused_starts runner.old) (N.refused_starts runner.new)
-        result }
+    ensures { Acts (means Add set.old) (room_for Add set.old (K.left_of keys.old)) set.old set.new
+        (K.coming keys.old) (K.left_of keys.old) (K.told_by keys.new)
+        (N.refused_starts runner.old) (N.refused_starts runner.new) result }
 {
     let mut scratch = grown(alloc, set, keys.left())?;
     let tally = change_all(rt, alloc, runner, Kind::Insert, &mut scratch, keys)?;
@@ -135,17 +128,9 @@ pub(crate) fn drop_keys<T: Threads + Wait + Sync, N: Runner, K: KeySource>(
     set: &mut SeqSet,
     keys: &mut K,
 ) -> Result<Done, Cause>
-    ensures done { IfOk result (λ done. (list : List ℕ)
-        × Took (K.coming keys.old) (K.left_of keys.old) list
-        × (drops set.old list ≡ Ok (set.new, telling done))) }
-    ensures refused { IfErr result (RefusedOn (Ok set.old.bits)
-        (drops set.old) (K.coming keys.old) (K.left_of keys.old)
-        (N.refused_starts runner.old) (N.refused_starts runner.new)) }
-    ensures unchanged { OnErr result (set.new ≡ set.old) }
-    ensures told { IfErr result (TellsKeys (K.told_by keys.new)) }
-    ensures own { IfErr result IsOfKeys }
-    ensures runner { KeepsRunner (N.refused_starts runner.old) (N.refused_starts runner.new)
-        result }
+    ensures { Acts (means Drop set.old) (room_for Drop set.old (K.left_of keys.old)) set.old set.new
+        (K.coming keys.old) (K.left_of keys.old) (K.told_by keys.new)
+        (N.refused_starts runner.old) (N.refused_starts runner.new) result }
 {
     let mut scratch = copied(alloc, set)?;
     let tally = change_all(rt, alloc, runner, Kind::Remove, &mut scratch, keys)?;
@@ -162,17 +147,9 @@ pub(crate) fn keep_keys<T: Threads + Wait + Sync, N: Runner, K: KeySource>(
     set: &mut SeqSet,
     keys: &mut K,
 ) -> Result<Done, Cause>
-    ensures done { IfOk result (λ done. (list : List ℕ)
-        × Took (K.coming keys.old) (K.left_of keys.old) list
-        × (keeps set.old list ≡ Ok (set.new, telling done))) }
-    ensures refused { IfErr result (RefusedOn (Ok set.old.bits)
-        (keeps set.old) (K.coming keys.old) (K.left_of keys.old)
-        (N.refused_starts runner.old) (N.refused_starts runner.new)) }
-    ensures unchanged { OnErr result (set.new ≡ set.old) }
-    ensures told { IfErr result (TellsKeys (K.told_by keys.new)) }
-    ensures own { IfErr result IsOfKeys }
-    ensures runner { KeepsRunner (N.refused_starts runner.old) (N.refused_starts runner.new)
-        result }
+    ensures { Acts (means Keep set.old) (room_for Keep set.old (K.left_of keys.old)) set.old set.new
+        (K.coming keys.old) (K.left_of keys.old) (K.told_by keys.new)
+        (N.refused_starts runner.old) (N.refused_starts runner.new) result }
 {
     let (mut taken, found) = look_through(rt, alloc, runner, set, keys)?;
     let list = taken.as_mut_slice();
@@ -192,17 +169,9 @@ pub(crate) fn flip_keys<T: Threads + Wait + Sync, N: Runner, K: KeySource>(
     set: &mut SeqSet,
     keys: &mut K,
 ) -> Result<Done, Cause>
-    ensures done { IfOk result (λ done. (list : List ℕ)
-        × Took (K.coming keys.old) (K.left_of keys.old) list
-        × (flips set.old list ≡ Ok (set.new, telling done))) }
-    ensures refused { IfErr result (RefusedOn (Ok set.old.bits)
-        (flips set.old) (K.coming keys.old) (K.left_of keys.old)
-        (N.refused_starts runner.old) (N.refused_starts runner.new)) }
-    ensures unchanged { OnErr result (set.new ≡ set.old) }
-    ensures told { IfErr result (TellsKeys (K.told_by keys.new)) }
-    ensures own { IfErr result IsOfKeys }
-    ensures runner { KeepsRunner (N.refused_starts runner.old) (N.refused_starts runner.new)
-        result }
+    ensures { Acts (means Flip set.old) (room_for Flip set.old (K.left_of keys.old)) set.old set.new
+        (K.coming keys.old) (K.left_of keys.old) (K.told_by keys.new)
+        (N.refused_starts runner.old) (N.refused_starts runner.new) result }
 {
     let (mut taken, found) = look_through(rt, alloc, runner, set, keys)?;
     let list = taken.as_mut_slice();
@@ -222,16 +191,9 @@ pub(crate) fn ask_keys<T: Threads + Wait + Sync, N: Runner, K: KeySource>(
     set: &SeqSet,
     keys: &mut K,
 ) -> Result<Done, Cause>
-    ensures done { IfOk result (λ done. (list : List ℕ)
-        × Took (K.coming keys.old) (K.left_of keys.old) list
-        × (asks set.now list ≡ Ok (set.now, telling done))) }
-    ensures refused { IfErr result (RefusedOn (Ok set.now.bits)
-        (asks set.now) (K.coming keys.old) (K.left_of keys.old)
-        (N.refused_starts runner.old) (N.refused_starts runner.new)) }
-    ensures told { IfErr result (TellsKeys (K.told_by keys.new)) }
-    ensures own { IfErr result IsOfKeys }
-    ensures runner { KeepsRunner (N.refused_starts runner.old) (N.refused_starts runner.new)
-        result }
+    ensures { Acts (means Ask set.now) (room_for Ask set.now (K.left_of keys.old)) set.now set.now
+        (K.coming keys.old) (K.left_of keys.old) (K.told_by keys.new)
+        (N.refused_starts runner.old) (N.refused_starts runner.new) result }
 {
     Ok(Done::Asked(ask_all(rt, alloc, runner, set.bits(), set.cells(), keys)?))
 }

@@ -1,4 +1,4 @@
-use Rattle.std.proofs.Common.{◌+◌, ◌^◌, ◌<◌, ap, arith, length, subst}
+use Rattle.std.proofs.Common.{rules, ◌+◌, ◌^◌, ◌<◌, ap, arith, length, subst}
 use Rattle.std.proofs.lemmas.Result.{err_from_is_err_and}
 use Rattle.std.specs.FinSet as set
 use Rattle.rh_layout.specs.Layout.{keys_of}
@@ -17,12 +17,19 @@ from_cells-requires-clause-free g c =
     omega (arith, done.1.long, c.left.ensures, c.in_ok-scratch.ensures.room, ap (λ S. set.len S) c.in_ok-scratch.ensures.keys) in
     rw c.in_ok-tally.ensures.bits (free_after_adding c.in_ok-scratch.scratch.bits done.0 old c.change_all.new.scratch.cells.items c.in_ok-tally.tally done.2 room)
 
-pub returns-in_err-scratch-clause-refused : goal.returns-in_err-scratch-clause-refused
-returns-in_err-scratch-clause-refused g c =
+pub returns-in_err-scratch : goal.returns-in_err-scratch
+returns-in_err-scratch g c =
     let p = err_from_is_err_and c.from_residual.result c.from_residual.ensures.1 in
     let t = c.args.set.now in
     let coming = g.K.KeySource.coming c.args.keys.now in
     let left = g.K.KeySource.left_of c.args.keys.now in
     let starts = g.N.Runner.refused_starts c.args.runner.now in
-    rw (p.1, p.2) (subst (λ many. RefusedOn (size_for t.bits (set.len t.keys + many)) (adds t) coming left starts starts c.in_err-scratch.field-0.0) c.left.ensures
-    (room_refused (size_for t.bits (set.len t.keys + c.left.result)) (adds t) coming left starts starts _ c.in_err-scratch.ensures.refused c.in_err-scratch.ensures.memory))
+    record {
+      done = search rules;
+      refused = rw (p.1, p.2) (subst (λ many. RefusedOn (size_for t.bits (set.len t.keys + many)) (adds t) coming left starts starts c.in_err-scratch.field-0.0) c.left.ensures
+          (room_refused (size_for t.bits (set.len t.keys + c.left.result)) (adds t) coming left starts starts _ c.in_err-scratch.ensures.refused c.in_err-scratch.ensures.memory));
+      unchanged = search rules;
+      told = search rules;
+      own = search rules;
+      runner = search rules;
+    }

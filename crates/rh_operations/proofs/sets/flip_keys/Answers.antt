@@ -1,4 +1,4 @@
-use Rattle.std.proofs.Common.{◌≡◌, ◌∙◌, ◌+◌, ap, length, refl, subst, sym}
+use Rattle.std.proofs.Common.{rules, ◌≡◌, ◌∙◌, ◌+◌, ap, length, refl, subst, sym}
 use Rattle.std.proofs.lemmas.List.Elements.{All-filter}
 use Rattle.std.proofs.lemmas.Result.{err_from_is_err_and}
 use Rattle.std.specs.Prelude.{All}
@@ -16,10 +16,17 @@ use Rattle.rh_operations.proofs.Making.{sized}
 use Rattle.rh_operations.proofs.Refusing.{not_made, phase_failed}
 use Rattle.rh_operations.proofs.sets.flip_keys.Goals as goal
 
-pub returns-in_err-rest-clause-refused : goal.returns-in_err-rest-clause-refused
-returns-in_err-rest-clause-refused g c =
+pub returns-in_err-rest : goal.returns-in_err-rest
+returns-in_err-rest g c =
     let p = err_from_is_err_and c.from_residual-in_err-rest.result c.from_residual-in_err-rest.ensures.1 in
-    rw (p.1, p.2) (phase_failed _ _ _ _ _ _ _ _ c.in_ok-taken.ensures.runner.fine c.in_err-rest.ensures.refused)
+    record {
+      done = search rules;
+      refused = rw (p.1, p.2) (phase_failed _ _ _ _ _ _ _ _ c.in_ok-taken.ensures.runner.fine c.in_err-rest.ensures.refused);
+      unchanged = search rules;
+      told = search rules;
+      own = search rules;
+      runner = search rules;
+    }
 
 pub with_keys-requires-after_bounds : goal.with_keys-requires-after_bounds
 with_keys-requires-after_bounds g c κs within =
@@ -29,18 +36,25 @@ with_keys-requires-after_bounds g c κs within =
     let chose = c.choose-many.ensures.moved S looked ∙ ap (chosen Absent S) value in
     subst (All IsKey) (sym chose) (All-filter _ IsKey c.in_ok-taken.taken.items c.in_ok-taken.ensures.took.in_range)
 
-pub returns-in_err-flipped-clause-refused : goal.returns-in_err-flipped-clause-refused
-returns-in_err-flipped-clause-refused g c =
+pub returns-in_err-flipped : goal.returns-in_err-flipped
+returns-in_err-flipped g c =
     let p = err_from_is_err_and c.from_residual-in_err-flipped.result c.from_residual-in_err-flipped.ensures.1 in
     let S = c.args.set.now.keys in
     let value = c.as_mut_slice-list.ensures.value in
     let looked = c.deref.ensures.value ∙ c.in_ok-taken.ensures.found ∙ ap (looked_up S) (sym value) in
     let chose = c.choose-many.ensures.moved S looked ∙ ap (chosen Absent S) value in
     let left = c.in_ok-rest.ensures.held ∙ ap (set_after Remove S) value in
-    rw (p.1, p.2) (not_made c.args.set.now.bits (flips c.args.set.now) _ _ _ _ c.in_ok-taken.taken.items _ _ _ _ _ c.in_ok-taken.ensures.took (λ i. size_for (c.in_ok-rest.ensures.size i) (set.len (left i) + length (chose i))) refl (c.in_ok-rest.ensures.runner.fine ∙ c.in_ok-taken.ensures.runner.fine) c.in_err-flipped.ensures.refused)
+    record {
+      done = search rules;
+      refused = rw (p.1, p.2) (not_made c.args.set.now.bits (flips c.args.set.now) _ _ _ _ c.in_ok-taken.taken.items _ _ _ _ _ c.in_ok-taken.ensures.took (λ i. size_for (c.in_ok-rest.ensures.size i) (set.len (left i) + length (chose i))) refl (c.in_ok-rest.ensures.runner.fine ∙ c.in_ok-taken.ensures.runner.fine) c.in_err-flipped.ensures.refused);
+      unchanged = search rules;
+      told = search rules;
+      own = search rules;
+      runner = search rules;
+    }
 
-pub returns-clause-done : goal.returns-clause-done
-returns-clause-done g c =
+pub returns : goal.returns
+returns g c =
     let S = c.args.set.now.keys in
     let keys = c.in_ok-taken.taken.items in
     let value = c.as_mut_slice-list.ensures.value in
@@ -52,4 +66,11 @@ returns-clause-done g c =
     let dropped : c.in_ok-rest.dropped ≡ tally_of Remove S keys = c.in_ok-rest.ensures.tally ∙ ap (tally_of Remove S) value in
     let added : c.in_ok-flipped.added ≡ tally_of Insert (set_after Remove S keys) (chosen Absent S keys) = c.in_ok-flipped.ensures.tally ∙ (λ i. tally_of Insert (left i) (chose i)) in
     let bits = c.in_ok-flipped.flipped.bits in
-    (keys, c.in_ok-taken.ensures.took, sized _ bits _ _ (sym size ∙ c.in_ok-flipped.ensures.size) (λ i. (table bits (sym held i), Changed (Flipped (sym dropped i).removed (sym added i).added))))
+    record {
+      done = (keys, c.in_ok-taken.ensures.took, sized _ bits _ _ (sym size ∙ c.in_ok-flipped.ensures.size) (λ i. (table bits (sym held i), Changed (Flipped (sym dropped i).removed (sym added i).added))));
+      refused = search rules;
+      unchanged = search rules;
+      told = search rules;
+      own = search rules;
+      runner = search rules;
+    }

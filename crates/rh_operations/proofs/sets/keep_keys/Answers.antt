@@ -1,4 +1,4 @@
-use Rattle.std.proofs.Common.{◌≡◌, ◌∙◌, ◌+◌, ap, arith, length, length-take-le, refl, subst, sym, take}
+use Rattle.std.proofs.Common.{rules, ◌≡◌, ◌∙◌, ◌+◌, ap, arith, length, length-take-le, refl, subst, sym, take}
 use Rattle.std.proofs.lemmas.List.Elements.{All-filter}
 use Rattle.std.proofs.lemmas.Result.{err_from_is_err_and}
 use Rattle.std.specs.Prelude.{All}
@@ -16,10 +16,17 @@ use Rattle.rh_operations.proofs.Making.{nothing_held, sized}
 use Rattle.rh_operations.proofs.Refusing.{no_memory, not_made}
 use Rattle.rh_operations.proofs.sets.keep_keys.Goals as goal
 
-pub returns-in_err-empty-clause-refused : goal.returns-in_err-empty-clause-refused
-returns-in_err-empty-clause-refused g c =
+pub returns-in_err-empty : goal.returns-in_err-empty
+returns-in_err-empty g c =
     let p = err_from_is_err_and c.from_residual-in_err-empty.result c.from_residual-in_err-empty.ensures.1 in
-    rw p.1 (no_memory _ _ _ _ _ _ _ p.2)
+    record {
+      done = search rules;
+      refused = rw p.1 (no_memory _ _ _ _ _ _ _ p.2);
+      unchanged = search rules;
+      told = search rules;
+      own = search rules;
+      runner = search rules;
+    }
 
 pub with_keys-requires-after_bounds : goal.with_keys-requires-after_bounds
 with_keys-requires-after_bounds g c κs within =
@@ -29,8 +36,8 @@ with_keys-requires-after_bounds g c κs within =
     let chose = c.choose-many.ensures.moved S looked ∙ ap (chosen Present S) value in
     subst (All IsKey) (sym chose) (All-filter _ IsKey c.in_ok-taken.taken.items c.in_ok-taken.ensures.took.in_range)
 
-pub returns-in_err-kept-clause-refused : goal.returns-in_err-kept-clause-refused
-returns-in_err-kept-clause-refused g c =
+pub returns-in_err-kept : goal.returns-in_err-kept
+returns-in_err-kept g c =
     let p = err_from_is_err_and c.from_residual-in_err-kept.result c.from_residual-in_err-kept.ensures.1 in
     let S = c.args.set.now.keys in
     let value = c.as_mut_slice-list.ensures.value in
@@ -38,10 +45,17 @@ returns-in_err-kept-clause-refused g c =
     let chose = c.choose-many.ensures.moved S looked ∙ ap (chosen Present S) value in
     let many : set.len c.in_ok-empty.empty.keys + length (take c.choose-many.result c.choose-many.new.keys) ≡ length (chosen Present S c.in_ok-taken.taken.items) =
     omega (arith, nothing_held c.in_ok-empty.empty.keys c.in_ok-empty.ensures.keys, ap length chose) in
-    rw (p.1, p.2) (not_made c.args.set.now.bits (keeps c.args.set.now) _ _ _ _ c.in_ok-taken.taken.items _ _ _ _ _ c.in_ok-taken.ensures.took (λ i. size_for (c.in_ok-empty.ensures.bits i) (many i)) refl c.in_ok-taken.ensures.runner.fine c.in_err-kept.ensures.refused)
+    record {
+      done = search rules;
+      refused = rw (p.1, p.2) (not_made c.args.set.now.bits (keeps c.args.set.now) _ _ _ _ c.in_ok-taken.taken.items _ _ _ _ _ c.in_ok-taken.ensures.took (λ i. size_for (c.in_ok-empty.ensures.bits i) (many i)) refl c.in_ok-taken.ensures.runner.fine c.in_err-kept.ensures.refused);
+      unchanged = search rules;
+      told = search rules;
+      own = search rules;
+      runner = search rules;
+    }
 
-pub returns-clause-done : goal.returns-clause-done
-returns-clause-done g c =
+pub returns : goal.returns
+returns g c =
     let S = c.args.set.now.keys in
     let keys = c.in_ok-taken.taken.items in
     let value = c.as_mut_slice-list.ensures.value in
@@ -52,4 +66,11 @@ returns-clause-done g c =
     let found : c.choose-many.result ≡ length (chosen Present S keys) = sym (length-take-le _ _ c.choose-many.ensures.few) ∙ ap length chose in
     let held : c.in_ok-kept.kept.keys ≡ kept S keys = c.in_ok-kept.ensures.held ∙ (λ i. set_after Insert (c.in_ok-empty.ensures.keys i) (chose i)) in
     let bits = c.in_ok-kept.kept.bits in
-    (keys, c.in_ok-taken.ensures.took, sized _ bits _ _ (sym (λ i. size_for (c.in_ok-empty.ensures.bits i) (many i)) ∙ c.in_ok-kept.ensures.size) (λ i. (table bits (sym held i), Changed (Kept (sym found i)))))
+    record {
+      done = (keys, c.in_ok-taken.ensures.took, sized _ bits _ _ (sym (λ i. size_for (c.in_ok-empty.ensures.bits i) (many i)) ∙ c.in_ok-kept.ensures.size) (λ i. (table bits (sym held i), Changed (Kept (sym found i)))));
+      refused = search rules;
+      unchanged = search rules;
+      told = search rules;
+      own = search rules;
+      runner = search rules;
+    }
