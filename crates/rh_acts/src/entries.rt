@@ -98,8 +98,8 @@ fn write_entries(bits: u32, first: usize, olds: &[u64], news: &[u64], entries: &
     }
 }
 
-/// The entry of the `turn`-th cell of a front that begins at cell `first`. Where the front goes round
-/// the end of the table, its last cells come first.
+/// The entry of the `turn`-th cell of a front that begins at cell `first`. Where the front goes
+/// round the end of the table, its last cells come first.
 #[tactic(auto, using(std::proofs::lemmas::Nat::one_shl))]
 fn entry_at(bits: u32, first: usize, olds: &[u64], news: &[u64], turn: usize) -> Entry
     requires bits { IsBits bits }

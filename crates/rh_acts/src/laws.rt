@@ -25,8 +25,9 @@ pub fn lists_of_acts()
     ensures reads { ReadsStayTrue }
 {}
 
-/// In a phase that inserts, or removes, the cells are at every moment the layout of the set that the
-/// acts so far have made, and the acts count how it changed: they are a phase over their own keys.
+/// In a phase that inserts, or removes, the cells are at every moment the layout of the set that
+/// the acts so far have made, and the acts count how it changed: they are a phase over their own
+/// keys.
 pub fn at_every_moment()
     ensures insert { InsertionsGrow }
     ensures remove { RemovalsShrink }
@@ -40,15 +41,16 @@ pub fn finished_phase()
     ensures answers { AnswersAreLookUps }
 {}
 
-/// Lists that are done in two rounds are the whole lists, and a list whose positions the workers claim
-/// is the one list.
+/// Lists that are done in two rounds are the whole lists, and a list whose positions the workers
+/// claim is the one list.
 pub fn rounds_and_shares()
     ensures rounds { RoundsAreOnePhase }
     ensures shares { SharedListIsOneList }
 {}
 
-/// What a worker has done of its list grows key by key, and stays done when more was read. Of as many
-/// keys it is told that they were added or removed as there are acts of it that changed a cell.
+/// What a worker has done of its list grows key by key, and stays done when more was read. Of as
+/// many keys it is told that they were added or removed as there are acts of it that changed a
+/// cell.
 pub fn done_keys()
     ensures one_more { OneMoreIsDone }
     ensures more_read { MoreIsRead }

@@ -1,4 +1,5 @@
-//! Command lines: the program before its commands, its arguments, and what `clap` finds in the words.
+//! Command lines: the program before its commands, its arguments, and what `clap` finds in the
+//! words.
 
 ghost use Rattle.std.specs.Prelude.{◌≡◌, [], map, IfOk, IfErr, IsOkAnd, false, true};
 ghost use Rattle.clap.specs.Simple.{new_app};
@@ -31,7 +32,8 @@ pub fn program_command<'a>(
         .bin_name(name)
 }
 
-/// A command of this name that takes nothing yet, with the texts that `-h` and `--help` print of it.
+/// A command of this name that takes nothing yet, with the texts that `-h` and `--help` print of
+/// it.
 pub fn described<'a>(
     alloc: Global,
     name: &'a str,

@@ -64,7 +64,8 @@ fn some_keys(alloc: Global, lists: &[Vec<Vec<u64>>], step: usize) -> Result<Vec<
     Ok(sample)
 }
 
-/// The key of the sample at this place, or the border before it, if that is greater; no more than `to`.
+/// The key of the sample at this place, or the border before it, if that is greater; no more than
+/// `to`.
 fn next_border(sample: &[u64], at: usize, last: u64, to: u64) -> u64
     requires { last ≤ to }
     ensures no_less { last ≤ result }
@@ -95,8 +96,8 @@ fn borders_at(alloc: Global, sample: &[u64], parts: usize) -> Result<Vec<u64>, A
     Ok(borders)
 }
 
-/// Borders for the keys of the lists, of which there are so many, by a sample of them: about as many keys
-/// stand between two as between two others. Nothing else depends on which they are.
+/// Borders for the keys of the lists, of which there are so many, by a sample of them: about as
+/// many keys stand between two as between two others. Nothing else depends on which they are.
 pub(crate) fn borders(
     alloc: Global,
     lists: &[Vec<Vec<u64>>],

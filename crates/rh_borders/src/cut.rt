@@ -38,7 +38,8 @@ fn numbers_of(alloc: Global, borders: &[u64], keys: &[u64]) -> Result<Vec<u16>, 
     ensures len { IfOk result (λ v. length v.items ≡ length keys.now) }
     ensures inside { IfOk result (λ v. All (λ n. n + 1 < length borders.now) v.items) }
     ensures part { IfOk result (λ v. (i p : ℕ) → i < length keys.now → p + 1 < length borders.now →
-        stands (slice_index borders.now p) (slice_index borders.now (p + 1)) (slice_index keys.now i)
+        stands (slice_index borders.now p) (slice_index borders.now (p + 1))
+        (slice_index keys.now i)
         ≡ (slice_index v.items i == p)) }
 {
     let mut numbers = Vec::with_capacity(alloc, keys.len())?;

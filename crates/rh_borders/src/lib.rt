@@ -7,13 +7,13 @@
 //! for part in 0..cut.parts() { .. }
 //! ```
 //!
-//! A list is given in pieces, as they are read. By a sample of all keys borders are chosen, between which
-//! about as many keys stand as between others: so one key far away gives no part all others. The pieces
-//! are cut there, side by side.
+//! A list is given in pieces, as they are read. By a sample of all keys borders are chosen, between
+//! which about as many keys stand as between others: so one key far away gives no part all others.
+//! The pieces are cut there, side by side.
 //!
-//! Proved: each part of each list has exactly what the list has between the two borders, in its order, and
-//! each key stands in one part. The number of workers stands nowhere in it. That the parts are about equally
-//! large is measured and not proved.
+//! Proved: each part of each list has exactly what the list has between the two borders, in its
+//! order, and each key stands in one part. The number of workers stands nowhere in it. That the
+//! parts are about equally large is measured and not proved.
 #![tactic(auto)]
 
 mod borders;

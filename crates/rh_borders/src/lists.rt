@@ -48,8 +48,8 @@ fn cut_each(alloc: Global, borders: &[u64], pieces: &[Vec<u64>]) -> Result<Vec<P
     Ok(cut)
 }
 
-/// The same by so many workers: each half of them cuts about half of the pieces, while the caller waits.
-/// Where no thread can be started, one half is cut after the other.
+/// The same by so many workers: each half of them cuts about half of the pieces, while the caller
+/// waits. Where no thread can be started, one half is cut after the other.
 #[cycle(halves)]
 fn cut_pieces<T: Threads + Sync>(
     rt: &T,
@@ -78,12 +78,14 @@ fn cut_pieces<T: Threads + Sync>(
     let theirs = move || -> Result<Vec<Parts>, AllocError>
         requires { IsSync T.row × (0 < first) × AreBorders borders.now
             × (length borders.now ≤ MOST_PARTS + 1) × All (λ k. All IsKey k.items) front.now }
-        ensures { IfOk result (λ v. IsCut borders.entry.now (flat_map (λ k. k.items) front.entry.now) v.items) }
+        ensures { IfOk result
+            (λ v. IsCut borders.entry.now (flat_map (λ k. k.items) front.entry.now) v.items) }
     { cut_pieces(rt, alloc, first, borders, front) };
     let ours = move || -> Result<Vec<Parts>, AllocError>
         requires { IsSync T.row × (0 < others) × AreBorders borders.now
             × (length borders.now ≤ MOST_PARTS + 1) × All (λ k. All IsKey k.items) back.now }
-        ensures { IfOk result (λ v. IsCut borders.entry.now (flat_map (λ k. k.items) back.entry.now) v.items) }
+        ensures { IfOk result
+            (λ v. IsCut borders.entry.now (flat_map (λ k. k.items) back.entry.now) v.items) }
     { cut_pieces(rt, alloc, others, borders, back) };
     let (before, behind) = both(rt, theirs, ours);
     let mut cut = before?;

@@ -12,14 +12,15 @@ use std::io::{Read, Write};
 
 /// How far a buffer was filled.
 pub struct Filled {
-    /// How many bytes were read: fewer than there is room for where the input ended or a read failed.
+    /// How many bytes were read: fewer than there is room for where the input ended or a read
+    /// failed.
     pub count: usize,
     /// Whether it was a failed read that ended it.
     pub failed: bool,
 }
 
-/// Reads until the buffer is full, the input ends or a read fails. Any error of the reader is a failed
-/// read, an interruption too; nothing is read after one.
+/// Reads until the buffer is full, the input ends or a read fails. Any error of the reader is a
+/// failed read, an interruption too; nothing is read after one.
 pub fn fill_front<R: Read>(reader: &mut Counted<R>, buf: &mut [u8]) -> Filled
     ensures bound { result.count ≤ length buf.new }
     ensures bytes { Consumes (R.remaining (inner_of reader.old)) (R.remaining (inner_of reader.new))

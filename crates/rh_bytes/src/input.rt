@@ -1,5 +1,5 @@
-//! Bytes, numbers and the end of a binary file, read one after the other. What is wrong is told as a
-//! fault of that file, which the caller names: `read_bytes::<_, KeyFault>(reader, &mut four)?`.
+//! Bytes, numbers and the end of a binary file, read one after the other. What is wrong is told as
+//! a fault of that file, which the caller names: `read_bytes::<_, KeyFault>(reader, &mut four)?`.
 
 ghost use Rattle.std.specs.Prelude.{◌≡◌, ◌≢◌, ℕ, Bool, [], length, Err, IsErrOf};
 ghost use Rattle.rh_bytes.specs.Counting.{Rose, failures_of, inner_of};

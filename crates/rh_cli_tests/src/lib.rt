@@ -1,6 +1,7 @@
 //! Tests of the command lines, from outside.
 //!
-//! They stand apart from the code, so that each crate is proved once, and not once more with its tests.
+//! They stand apart from the code, so that each crate is proved once, and not once more with its
+//! tests.
 #![tactic(auto)]
 
 #[cfg(test)]

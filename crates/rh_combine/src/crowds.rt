@@ -1,7 +1,7 @@
 //! Keys that crowd about few homes.
 //!
-//! A Robin Hood table of keys with one home is a list: each search goes through half of them. Nothing but
-//! time depends on what is said here of such keys.
+//! A Robin Hood table of keys with one home is a list: each search goes through half of them.
+//! Nothing but time depends on what is said here of such keys.
 
 use rh_layout::home;
 
@@ -13,7 +13,8 @@ const REGION_BITS: u32 = 6;
 
 const REGIONS: usize = 1 << REGION_BITS;
 
-/// More keys of the sample than this in one region are a crowd. Of keys as they come a region has eight.
+/// More keys of the sample than this in one region are a crowd. Of keys as they come a region has
+/// eight.
 const CROWD: u32 = 32;
 
 /// Whether some of the keys crowd in a region of homes.

@@ -5,7 +5,8 @@ ghost use Rattle.rh_combine.specs.Grid.{IsGrid, edge, in_part, is_at, stands_in}
 
 use std::alloc::{AllocError, Global};
 
-/// A range of keys, `from` up to before `to`, that is cut in parts of 2 to the power of `shift` keys.
+/// A range of keys, `from` up to before `to`, that is cut in parts of 2 to the power of `shift`
+/// keys.
 #[derive(Clone, Copy)]
 pub(crate) struct Grid {
     pub(crate) from: u64,
@@ -37,8 +38,8 @@ impl Grid {
     }
 }
 
-/// How many keys of a list stand in each part. So much room is taken for them at once; no more depends
-/// on it.
+/// How many keys of a list stand in each part. So much room is taken for them at once; no more
+/// depends on it.
 fn counted(alloc: Global, grid: &Grid, keys: &[u64]) -> Result<Vec<usize>, AllocError>
     requires { IsGrid grid.now }
     ensures { IfOk result (λ v. vec_len v ≡ grid.now.parts) }

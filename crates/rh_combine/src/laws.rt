@@ -7,17 +7,19 @@ ghost use Rattle.rh_layout.specs.Range.{within};
 ghost use Rattle.rh_combine.specs.Combine.{AllWithin, answer, has, meant, stands_by};
 ghost use Rattle.rh_combine.specs.declared.how.How.{How as Made};
 
-/// Which numbers come of lists: the rising list of those that stand in each list, in one list or more, in
-/// the first and no other one, or in an odd number of lists.
+/// Which numbers come of lists: the rising list of those that stand in each list, in one list or
+/// more, in the first and no other one, or in an odd number of lists.
 pub fn members()
     ensures held { (how : Made) (lists : List (List ℕ)) (k : ℕ) →
         contains (meant how lists) k ≡ stands_by how lists k }
     ensures listed { (how : Made) (lists : List (List ℕ)) (k : ℕ) →
         has (answer how lists) k ≡ stands_by how lists k }
-    ensures rising { (how : Made) (lists : List (List ℕ)) → IsStrictlyIncreasing (answer how lists) }
+    ensures rising { (how : Made) (lists : List (List ℕ)) →
+        IsStrictlyIncreasing (answer how lists) }
 {}
 
-/// What comes of the lists' numbers of a range are those numbers of that range that come of the lists.
+/// What comes of the lists' numbers of a range are those numbers of that range that come of the
+/// lists.
 pub fn range_of_lists(from: u64, to: u64)
     ensures { (how : Made) (lists : List (List ℕ)) →
         answer how (map (within from to) lists) ≡ within from to (answer how lists) }

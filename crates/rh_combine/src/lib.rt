@@ -1,5 +1,5 @@
-//! What comes of lists of numbers: what all of them have, what one or another has, what only the first
-//! has, or what an odd number of them has.
+//! What comes of lists of numbers: what all of them have, what one or another has, what only the
+//! first has, or what an odd number of them has.
 //!
 //! `rh_combine_workers` stands on it, for lists that several workers share.
 //!
@@ -10,19 +10,19 @@
 //! combined(alloc, How::Xor, &[&[1, 9], &[9, 9, 4]])?          // 1, 4
 //! ```
 //!
-//! Lists of more than some 24,000 numbers are cut into ranges, and these again, until the numbers of a
-//! range fit one small table.
+//! Lists of more than some 24,000 numbers are cut into ranges, and these again, until the numbers
+//! of a range fit one small table.
 //!
 //! Proved:
 //!
-//! - `combined`: the rising list of what the lists mean by sets: intersection, union, difference, or
-//!   what is in one set and not in both, list after list.
-//! - `members`: a number is in it exactly where it stands in each list, in one or more, in the first
-//!   and no other one, or in an odd number of them; and the list rises.
-//! - `range_of_lists`: what comes of the lists' numbers of a range are those numbers of the range that
-//!   come of the lists. `ranges_join`: two ranges, one after the other, give both. `all_in_range`: a
-//!   range that has all numbers gives all. So lists may be cut at any borders, and each range worked
-//!   out by itself.
+//! - `combined`: the rising list of what the lists mean by sets: intersection, union, difference,
+//!   or what is in one set and not in both, list after list.
+//! - `members`: a number is in it exactly where it stands in each list, in one or more, in the
+//!   first and no other one, or in an odd number of them; and the list rises.
+//! - `range_of_lists`: what comes of the lists' numbers of a range are those numbers of the range
+//!   that come of the lists. `ranges_join`: two ranges, one after the other, give both.
+//!   `all_in_range`: a range that has all numbers gives all. So lists may be cut at any borders,
+//!   and each range worked out by itself.
 #![tactic(auto)]
 
 mod crowds;

@@ -29,13 +29,15 @@ const NARROW_BITS: u32 = 15;
 /// About how many keys a part shall have.
 const IN_A_PART: usize = 16_384;
 
-/// The same where so many keys crowd about few homes: a part has no more than `FEW` then, nearly always.
+/// The same where so many keys crowd about few homes: a part has no more than `FEW` then, nearly
+/// always.
 const IN_A_CROWDED_PART: usize = 128;
 
 /// The most parts that a range is cut in at a time.
 const MOST_PARTS: u64 = 512;
 
-/// How many keys there are in all lists, where they are no more than a table takes; else any number above.
+/// How many keys there are in all lists, where they are no more than a table takes; else any number
+/// above.
 fn total(lists: &[&[u64]]) -> usize
     ensures { result ≤ IN_A_TABLE → sum_by (λ l. length l.now) lists.now ≡ result }
 {
@@ -198,9 +200,9 @@ fn of_lists(
     Ok(out)
 }
 
-/// The numbers that come of the lists, each once, in rising order. The lists may be of any length, with
-/// repeats, in any order. `AllocError` comes only for want of memory: beside the answer it takes some 8
-/// bytes a key for parts of the lists, at each of a few levels.
+/// The numbers that come of the lists, each once, in rising order. The lists may be of any length,
+/// with repeats, in any order. `AllocError` comes only for want of memory: beside the answer it
+/// takes some 8 bytes a key for parts of the lists, at each of a few levels.
 pub fn combined(alloc: Global, how: How, lists: &[&[u64]]) -> Result<Vec<u64>, AllocError>
     requires { All (λ l. All IsKey l.now) lists.now }
     ensures { IfOk result (λ v. v.items ≡ answer how (map (λ l. l.now) lists.now)) }

@@ -62,8 +62,8 @@ fn flip(set: &mut SeqSet, key: u64)
     }
 }
 
-/// Takes those keys of a list out that the set has, and adds the others: each once, however often the list
-/// has it.
+/// Takes those keys of a list out that the set has, and adds the others: each once, however often
+/// the list has it.
 fn flip_all(alloc: Global, set: &mut SeqSet, keys: &[u64]) -> Result<(), AllocError>
     requires keys { All IsKey keys.now }
     requires room { HasRoom set.old.bits set.old.keys keys.now }

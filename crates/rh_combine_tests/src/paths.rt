@@ -13,7 +13,8 @@ use std::alloc::Global;
 use std::test::*;
 use std::thread::Threads;
 
-// Two texts, the key file of 17, 1 and 9, and three files that are refused, the last for a key that is too great.
+// Two texts, the key file of 17, 1 and 9, and three files that are refused, the last for a key that
+// is too great.
 const FILES: &[(&str, &[u8])] = &[
     ("few", b"1\n9\n"),
     ("more", b"9\n17\n"),
@@ -61,7 +62,8 @@ const SHORT: FileFault = FileFault::List(ListFault::Keys(KeyFault::Short));
 
 const GREAT: FileFault = FileFault::List(ListFault::Keys(KeyFault::BadKey { index: 0 }));
 
-// The second list, which read or call fails, the fault that is told, and how many failed reads are counted.
+// The second list, which read or call fails, the fault that is told, and how many failed reads are
+// counted.
 const FAULTS: &[(&str, ShelfFailure, FileFault, u64)] = &[
     ("lost", NEVER, MISSING, 0),
     ("bad", NEVER, BAD, 0),

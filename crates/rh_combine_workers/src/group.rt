@@ -50,8 +50,8 @@ fn group_at(
     })
 }
 
-/// What the workers make of as many groups of so many parts, from the first part on. Where no thread can
-/// be started the caller does its work.
+/// What the workers make of as many groups of so many parts, from the first part on. Where no
+/// thread can be started the caller does its work.
 pub(crate) fn groups<T: Threads + Sync>(
     rt: &T,
     alloc: Global,

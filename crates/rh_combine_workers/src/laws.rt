@@ -5,8 +5,9 @@ ghost use Rattle.rh_combine.specs.declared.how.How.{How as Made};
 ghost use Rattle.rh_combine_workers.specs.Written.{IsWritten};
 ghost use Rattle.rh_combine_workers.specs.declared.form.Form.{Form as Shape};
 
-/// Two runs over the same lists that end well wrote the same text and counted as many numbers, whatever
-/// numbers of workers they had, however the lists were cut into pieces, and whatever was written before.
+/// Two runs over the same lists that end well wrote the same text and counted as many numbers,
+/// whatever numbers of workers they had, however the lists were cut into pieces, and whatever was
+/// written before.
 pub fn workers_agree()
     ensures { (how : Made) (form : Shape) (lists : List (List ℕ))
         (first first_new second second_new : List ℕ) (m n : ℕ) →

@@ -1,5 +1,5 @@
-//! What comes of lists of numbers, by several workers: what all lists have, what one or another has, what
-//! only the first has, or what an odd number of them has.
+//! What comes of lists of numbers, by several workers: what all lists have, what one or another
+//! has, what only the first has, or what an odd number of them has.
 //!
 //! `rh_list_commands` stands on it.
 //!
@@ -8,17 +8,17 @@
 //! write_combined(rt, alloc, 4, How::Union, Form::Lines, lists, &mut writer, &mut progress)?
 //! ```
 //!
-//! A list is given in pieces, as they are read. The lists are cut into parts at borders (`rh_borders`), so that
-//! each part is worked out by itself, by `rh_combine`. Groups of consecutive parts are worked out side by side,
-//! and written in their order.
+//! A list is given in pieces, as they are read. The lists are cut into parts at borders
+//! (`rh_borders`), so that each part is worked out by itself, by `rh_combine`. Groups of
+//! consecutive parts are worked out side by side, and written in their order.
 //!
 //! Proved:
 //!
-//! - `combine`: the rising list of what the lists mean (`rh_combine`). The number of workers and the
-//!   pieces stand nowhere in it.
-//! - `write_combined`: its numbers were written in their form, or, on a fault, a front of them. It answers
-//!   how many they are. `Write` comes only where the writer's count of failures rose, and else that did
-//!   not rise.
+//! - `combine`: the rising list of what the lists mean (`rh_combine`). The number of workers and
+//!   the pieces stand nowhere in it.
+//! - `write_combined`: its numbers were written in their form, or, on a fault, a front of them. It
+//!   answers how many they are. `Write` comes only where the writer's count of failures rose, and
+//!   else that did not rise.
 //! - `workers_agree`: two such runs that end well wrote the same.
 #![tactic(auto)]
 

@@ -33,8 +33,8 @@ fn share_at(
     of_parts(alloc, how, cut, from, to)
 }
 
-/// What each worker makes of as many parts as the others. Where no thread can be started the caller does
-/// its work.
+/// What each worker makes of as many parts as the others. Where no thread can be started the caller
+/// does its work.
 fn shares<T: Threads + Sync>(
     rt: &T,
     alloc: Global,
@@ -77,10 +77,10 @@ fn joined(alloc: Global, shares: &[Vec<u64>]) -> Result<Vec<u64>, AllocError>
     Ok(all)
 }
 
-/// The numbers that come of the lists, each once, in rising order. Each list is given in pieces, whose keys
-/// are the list's, one piece after the other, in any order. The answer depends neither on the number of
-/// workers nor on the pieces. `AllocError` comes only for want of memory; where no thread can be started
-/// the caller does its work.
+/// The numbers that come of the lists, each once, in rising order. Each list is given in pieces,
+/// whose keys are the list's, one piece after the other, in any order. The answer depends neither
+/// on the number of workers nor on the pieces. `AllocError` comes only for want of memory; where no
+/// thread can be started the caller does its work.
 pub fn combine<T: Threads + Sync>(
     rt: &T,
     alloc: Global,

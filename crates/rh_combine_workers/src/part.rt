@@ -9,7 +9,8 @@ use rh_borders::{CutLists, Parts};
 use rh_combine::{How, combined};
 use std::alloc::{AllocError, Global};
 
-/// How many keys of a list stand in a part. So much room is taken for them at once; no more depends on it.
+/// How many keys of a list stand in a part. So much room is taken for them at once; no more depends
+/// on it.
 fn count(pieces: &[Parts], part: usize) -> usize
     requires { All (λ parts. part < length parts) pieces.now }
 {

@@ -123,14 +123,14 @@ fn write_rounds<T: Threads + Sync, W: Write, P: Progress>(
     Ok(count)
 }
 
-/// Writes the numbers that come of the lists, each once, in rising order, and answers how many they are.
-/// Each list is given in pieces, whose keys are the list's, one piece after the other, in any order. What
-/// is written depends neither on the number of workers nor on the pieces. But small pieces leave the
-/// workers little to share: 100,000 keys or so are a good size.
+/// Writes the numbers that come of the lists, each once, in rising order, and answers how many they
+/// are. Each list is given in pieces, whose keys are the list's, one piece after the other, in any
+/// order. What is written depends neither on the number of workers nor on the pieces. But small
+/// pieces leave the workers little to share: 100,000 keys or so are a good size.
 ///
-/// It takes at most some 24 bytes for each number of the lists, and a round's groups beside that. Where no
-/// thread can be started the caller does its work. Progress is told once a round. On a fault a front of
-/// the text was written.
+/// It takes at most some 24 bytes for each number of the lists, and a round's groups beside that.
+/// Where no thread can be started the caller does its work. Progress is told once a round. On a
+/// fault a front of the text was written.
 pub fn write_combined<T: Threads + Sync, W: Write, P: Progress>(
     rt: &T,
     alloc: Global,

@@ -88,7 +88,8 @@ pub fn dump_keys<R: Read, W: Write>(
     ensures write { IsErrOf result DumpFault.Write →
         Rose (failures_of writer.old) (failures_of writer.new) }
     ensures written { OnOk result (failures_of writer.new ≡ failures_of writer.old) }
-    ensures fine { NoReadFailed (dump_fault_in result) → failures_of reader.new ≡ failures_of reader.old }
+    ensures fine { NoReadFailed (dump_fault_in result) →
+        failures_of reader.new ≡ failures_of reader.old }
 {
     let keys = read_keys(alloc, reader)?;
     let Some(bits) = bits_for(MIN_BITS, 0, keys.len() as u64) else {

@@ -1,12 +1,12 @@
-//! The command line of `rhset`, and its commands that need no script: the dump of a key file and the
-//! check of a snapshot.
+//! The command line of `rhset`, and its commands that need no script: the dump of a key file and
+//! the check of a snapshot.
 //!
 //! `rhset` and `rh_set_program` stand on it.
 //!
 //! Proved, of the command line:
 //!
-//! - `line::line`: the command is the one that the words name, by the rules of `clap`, with what they
-//!   give. It is refused exactly by the kinds of fault that those rules give.
+//! - `line::line`: the command is the one that the words name, by the rules of `clap`, with what
+//!   they give. It is refused exactly by the kinds of fault that those rules give.
 //! - `fixed_numbers`: at most 16 workers are taken.
 //!
 //! Proved, for every reader and writer whose bytes are known:

@@ -45,11 +45,13 @@ pub fn all_work<R: Threads + Sync, T: Send, W: Work<R, T> + Sync>(
     let ((others, theirs), (mut all, ours)) = thread::join(
         rt,
         || -> (Seat, T)
-            requires { IsSync R.row × IsSync W.row × SitsAt table.now second × InView IsFresh (views_of second) }
+            requires { IsSync R.row × IsSync W.row × SitsAt table.now second
+                × InView IsFresh (views_of second) }
             ensures { HaveWorked table.entry.now second result.0 }
         { all_work(rt, table, second, work) },
         || -> (Seat, T)
-            requires { IsSync R.row × IsSync W.row × SitsAt table.now first × InView IsFresh (views_of first) }
+            requires { IsSync R.row × IsSync W.row × SitsAt table.now first
+                × InView IsFresh (views_of first) }
             ensures { HaveWorked table.entry.now first result.0 }
         { all_work(rt, table, first, work) },
     );
@@ -74,8 +76,8 @@ pub fn round<R: Threads + Sync, T: Send, W: Work<R, T> + Sync>(
     (all, told)
 }
 
-/// One round of the first so many workers of the table, while the others rest: they do their work, then
-/// the rows are wiped.
+/// One round of the first so many workers of the table, while the others rest: they do their work,
+/// then the rows are wiped.
 pub fn round_of<R: Threads + Sync, T: Send, W: Work<R, T> + Sync>(
     rt: &R,
     table: &Table,

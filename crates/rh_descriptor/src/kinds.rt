@@ -14,7 +14,8 @@ pub fn write_word(shape: &Shape, words: &mut [u64], side: &mut Side, part: Part,
     requires shape { IsShape shape.now }
     requires sized { length words.old ≡ word_count shape.now }
     requires allowed { Allowed shape.now side.old.known.view (writes part word) }
-    ensures { Makes shape.now (writes part word) words.old side.old.known.view words.new side.new.known.view }
+    ensures { Makes shape.now
+        (writes part word) words.old side.old.known.view words.new side.new.known.view }
 {
     make_step(shape, words, side, Request::Write { part, word });
 }
@@ -24,7 +25,8 @@ pub fn open_desc(shape: &Shape, words: &mut [u64], side: &mut Side, entries: usi
     requires shape { IsShape shape.now }
     requires sized { length words.old ≡ word_count shape.now }
     requires allowed { Allowed shape.now side.old.known.view (opens entries) }
-    ensures { Makes shape.now (opens entries) words.old side.old.known.view words.new side.new.known.view }
+    ensures { Makes shape.now
+        (opens entries) words.old side.old.known.view words.new side.new.known.view }
 {
     make_step(shape, words, side, Request::Open { entries });
 }
@@ -34,23 +36,27 @@ pub fn read_word(shape: &Shape, words: &mut [u64], side: &mut Side, reading: Rea
     requires shape { IsShape shape.now }
     requires sized { length words.old ≡ word_count shape.now }
     requires allowed { Allowed shape.now side.old.known.view (reads reading) }
-    ensures { StepsTo shape.now (reads reading) words.old side.old.known.view result words.new side.new.known.view }
+    ensures { StepsTo shape.now (reads reading) words.old side.old.known.view result words.new
+        side.new.known.view }
 {
     make_step(shape, words, side, Request::Read(reading))
 }
 
-/// Swaps a cell from the old value of an entry to the next own mark. Answers the word that stood there.
+/// Swaps a cell from the old value of an entry to the next own mark. Answers the word that stood
+/// there.
 pub fn place_mark(shape: &Shape, words: &mut [u64], side: &mut Side, piece: Piece, old: u64) -> u64
     requires shape { IsShape shape.now }
     requires sized { length words.old ≡ word_count shape.now }
-    requires allowed { Allowed shape.now side.old.known.view (places (ref_of piece.desc) piece.entry piece.cell old) }
+    requires allowed { Allowed shape.now side.old.known.view
+        (places (ref_of piece.desc) piece.entry piece.cell old) }
     ensures { StepsTo shape.now (places (ref_of piece.desc) piece.entry piece.cell old)
         words.old side.old.known.view result words.new side.new.known.view }
 {
     make_step(shape, words, side, Request::Place { piece, old })
 }
 
-/// Swaps a cell from a mark to its descriptor, or to this old value. Answers the word that stood there.
+/// Swaps a cell from a mark to its descriptor, or to this old value. Answers the word that stood
+/// there.
 pub fn settle_mark(
     shape: &Shape,
     words: &mut [u64],
@@ -61,14 +67,17 @@ pub fn settle_mark(
 ) -> u64
     requires shape { IsShape shape.now }
     requires sized { length words.old ≡ word_count shape.now }
-    requires allowed { Allowed shape.now side.old.known.view (settles (ref_of mark) piece.cell (ref_of piece.desc) piece.entry old) }
-    ensures { StepsTo shape.now (settles (ref_of mark) piece.cell (ref_of piece.desc) piece.entry old)
+    requires allowed { Allowed shape.now side.old.known.view
+        (settles (ref_of mark) piece.cell (ref_of piece.desc) piece.entry old) }
+    ensures { StepsTo shape.now
+        (settles (ref_of mark) piece.cell (ref_of piece.desc) piece.entry old)
         words.old side.old.known.view result words.new side.new.known.view }
 {
     make_step(shape, words, side, Request::Settle { mark, piece, old })
 }
 
-/// Swaps the control of a descriptor from undecided to this state. Answers the word that stood there.
+/// Swaps the control of a descriptor from undecided to this state. Answers the word that stood
+/// there.
 pub fn decide_desc(
     shape: &Shape,
     words: &mut [u64],
@@ -78,7 +87,8 @@ pub fn decide_desc(
 ) -> u64
     requires shape { IsShape shape.now }
     requires sized { length words.old ≡ word_count shape.now }
-    requires allowed { Allowed shape.now side.old.known.view (decides (ref_of desc) (control_of state)) }
+    requires allowed { Allowed shape.now side.old.known.view
+        (decides (ref_of desc) (control_of state)) }
     ensures { StepsTo shape.now (decides (ref_of desc) (control_of state))
         words.old side.old.known.view result words.new side.new.known.view }
 {
@@ -99,7 +109,8 @@ pub fn release_cell(
     requires sized { length words.old ≡ word_count shape.now }
     requires allowed { Allowed shape.now side.old.known.view
         (releases (ref_of piece.desc) piece.entry piece.cell (option_map control_of state) value) }
-    ensures { StepsTo shape.now (releases (ref_of piece.desc) piece.entry piece.cell (option_map control_of state) value)
+    ensures { StepsTo shape.now
+        (releases (ref_of piece.desc) piece.entry piece.cell (option_map control_of state) value)
         words.old side.old.known.view result words.new side.new.known.view }
 {
     make_step(
@@ -114,12 +125,14 @@ pub fn release_cell(
     )
 }
 
-/// Takes the next position of the list of keys, by an increment of the counter. Answers the position.
+/// Takes the next position of the list of keys, by an increment of the counter. Answers the
+/// position.
 pub fn claim_key(shape: &Shape, words: &mut [u64], side: &mut Side) -> u64
     requires shape { IsShape shape.now }
     requires sized { length words.old ≡ word_count shape.now }
     requires allowed { Allowed shape.now side.old.known.view claims }
-    ensures { StepsTo shape.now claims words.old side.old.known.view result words.new side.new.known.view }
+    ensures { StepsTo shape.now claims words.old side.old.known.view result words.new
+        side.new.known.view }
 {
     make_step(shape, words, side, Request::Claim)
 }

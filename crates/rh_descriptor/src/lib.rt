@@ -1,8 +1,8 @@
-//! The words of a table that several workers share, and each kind of step of one worker as a call on a
-//! slice of such words.
+//! The words of a table that several workers share, and each kind of step of one worker as a call
+//! on a slice of such words.
 //!
-//! A public crate: it hands on `rh_words`, on which the crates of the shared table stand, and of `rh_rule`
-//! the rule that each step keeps. It adds the calls, which none of these needs.
+//! A public crate: it hands on `rh_words`, on which the crates of the shared table stand, and of
+//! `rh_rule` the rule that each step keeps. It adds the calls, which none of these needs.
 //!
 //! ```text
 //! let shape = Shape { bits: 3, workers: 2, keys: 0, rooms: Rooms::usual() };
@@ -18,7 +18,8 @@
 //! - `write_word`, `open_desc`, `read_word`, `place_mark`, `settle_mark`, `decide_desc`,
 //!   `release_cell` and `claim_key`: on the condition of its kind, just this step, the word that it
 //!   found, and what is kept of the worker after it.
-//! - `each_step_keeps`, `a_wipe_keeps`: each allowed step of any worker keeps `RowRule`, and so does a wipe.
+//! - `each_step_keeps`, `a_wipe_keeps`: each allowed step of any worker keeps `RowRule`, and so
+//!   does a wipe.
 //! - What is handed on else: see the heads of `rh_words` and `rh_rule`.
 #![tactic(auto)]
 

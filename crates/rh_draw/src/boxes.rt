@@ -63,7 +63,8 @@ pub(crate) fn draw_box(
 fn draw_value(canvas: &mut Canvas, x: u64, y: u64, word: u64, value: u64) -> Result<(), AllocError>
     requires x { x < 2 ^ 32 }
     requires y { y < 2 ^ 32 }
-    ensures { DrawsAfter canvas.old.out.items canvas.new.out.items (value_label x y word value) result }
+    ensures { DrawsAfter canvas.old.out.items canvas.new.out.items
+        (value_label x y word value) result }
 {
     if word == value {
         return Ok(());

@@ -30,7 +30,8 @@ impl Canvas {
 
     /// An element that holds a word and a number.
     pub(crate) fn count(&mut self, tag: Tag, word: &[u8], number: u64) -> Result<(), AllocError>
-        ensures { DrawsAfter self.old.out.items self.new.out.items (labelled tag (word.now ++ decimal number)) result }
+        ensures { DrawsAfter self.old.out.items self.new.out.items
+            (labelled tag (word.now ++ decimal number)) result }
     {
         let mut buffer = Buffer::new();
         let number = buffer.format(number).as_bytes();
@@ -41,7 +42,8 @@ impl Canvas {
 
     /// An element that holds what a cell's word says.
     pub(crate) fn say_word(&mut self, tag: Tag, word: u64) -> Result<(), AllocError>
-        ensures { DrawsAfter self.old.out.items self.new.out.items (labelled tag (held_text word (word_in word))) result }
+        ensures { DrawsAfter self.old.out.items self.new.out.items
+            (labelled tag (held_text word (word_in word))) result }
     {
         self.line.clear();
         push_word(&mut self.line, Part::Cell(0), word)?;
@@ -50,7 +52,8 @@ impl Canvas {
 
     /// An element that holds the text of a step.
     pub(crate) fn say_step(&mut self, tag: Tag, step: &Traced) -> Result<(), AllocError>
-        ensures { DrawsAfter self.old.out.items self.new.out.items (labelled tag (step_text step.now)) result }
+        ensures { DrawsAfter self.old.out.items self.new.out.items
+            (labelled tag (step_text step.now)) result }
     {
         self.line.clear();
         push_step_text(&mut self.line, step)?;

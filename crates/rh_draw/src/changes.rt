@@ -76,8 +76,8 @@ pub(crate) fn list_changes(
     Ok(())
 }
 
-// The cells that a worker's entries change, in order. (An entry whose two words are the same asks for a
-// value, and leaves it.)
+// The cells that a worker's entries change, in order. (An entry whose two words are the same asks
+// for a value, and leaves it.)
 fn list_entries(
     shape: &Shape,
     words: &[u64],
@@ -86,7 +86,8 @@ fn list_entries(
 ) -> Result<(), AllocError>
     requires { IsShape shape.now }
     ensures { OnOk result (cells.new.items ≡
-        cells.old.items ++ entry_cells shape.now words.now worker (entry_count shape.now words.now worker)) }
+        cells.old.items ++ entry_cells shape.now words.now worker
+        (entry_count shape.now words.now worker)) }
 {
     for entry in 0..entry_count(shape, words, worker) {
         let old = word_at(shape, words, Part::EntryOld { worker, entry });
@@ -120,7 +121,8 @@ pub(crate) fn follow_values(shape: &Shape, words: &[u64], values: &mut [u64], to
 
 fn settle_values(shape: &Shape, words: &[u64], values: &mut [u64], worker: usize)
     requires { IsShape shape.now }
-    ensures { values.new ≡ settled shape.now words.now worker values.old (entry_count shape.now words.now worker) }
+    ensures { values.new ≡ settled shape.now words.now worker values.old
+        (entry_count shape.now words.now worker) }
 {
     for entry in 0..entry_count(shape, words, worker) {
         let cell = word_at(shape, words, Part::EntryCell { worker, entry });

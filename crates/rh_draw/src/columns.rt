@@ -22,7 +22,8 @@ pub(crate) fn flag_changes(
     cells: &mut Vec<u64>,
 ) -> Result<(), AllocError>
     requires { IsShape shape.now }
-    ensures { OnOk result (flags.new ≡ flags_after shape.now window words.old flags.old records.now) }
+    ensures { OnOk result
+        (flags.new ≡ flags_after shape.now window words.old flags.old records.now) }
 {
     for record in records {
         if let Record::Step(step) = record {

@@ -19,8 +19,8 @@ use rh_svg::{Tag, close, open};
 use rh_words::Shape;
 use std::alloc::{AllocError, Global};
 
-/// The picture of the steps of a window, as the text of an SVG. The cells are the words of a table's
-/// cells before the first record.
+/// The picture of the steps of a window, as the text of an SVG. The cells are the words of a
+/// table's cells before the first record.
 pub fn draw(
     alloc: Global,
     shape: &Shape,
@@ -31,7 +31,8 @@ pub fn draw(
     requires shape { IsShape shape.now }
     requires cells { length cells.now ≡ cell_count shape.now }
     requires steps { window.steps ≤ MAX_STEPS }
-    ensures drawn { IfOk result (λ text. text.items ≡ render (picture shape.now cells.now records.now window)) }
+    ensures drawn { IfOk result
+        (λ text. text.items ≡ render (picture shape.now cells.now records.now window)) }
     ensures well_formed { IfOk result (λ text. IsWellFormed text.items) }
 {
     let view = lay_out(alloc, shape, cells, records, window)?;
@@ -77,7 +78,8 @@ fn draw_inside(
     requires shape { IsShape view.now.shape }
     requires cells { length cells.now ≡ cell_count view.now.shape }
     ensures { DrawsAfter canvas.old.out.items canvas.new.out.items
-        (sized (plan_of view.now) (beginning view.now.shape cells.now) records.now size.0 size.1) result }
+        (sized (plan_of view.now) (beginning view.now.shape cells.now) records.now size.0 size.1)
+        result }
 {
     let tag = Tag::Svg {
         width: size.0,
@@ -100,7 +102,8 @@ fn draw_all(
     requires shape { IsShape view.now.shape }
     requires cells { length cells.now ≡ cell_count view.now.shape }
     ensures { DrawsAfter canvas.old.out.items canvas.new.out.items
-        (inside (plan_of view.now) (beginning view.now.shape cells.now) records.now size.0 size.1) result }
+        (inside (plan_of view.now) (beginning view.now.shape cells.now) records.now size.0 size.1)
+        result }
 {
     draw_frame(canvas, view, size)?;
     draw_history(alloc, canvas, view, cells, records)?;

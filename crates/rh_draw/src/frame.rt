@@ -37,7 +37,8 @@ pub(crate) fn draw_frame(
     view: &View,
     size: (u64, u64),
 ) -> Result<(), AllocError>
-    ensures { DrawsAfter canvas.old.out.items canvas.new.out.items (frame (plan_of view.now) size.0 size.1) result }
+    ensures { DrawsAfter canvas.old.out.items canvas.new.out.items
+        (frame (plan_of view.now) size.0 size.1) result }
 {
     let (width, height) = size;
     let ground = Tag::Box {
@@ -124,7 +125,8 @@ fn draw_lane(canvas: &mut Canvas, worker: u64, bottom: u64) -> Result<(), AllocE
 /// What the lanes and the columns are, at the top and again and again below it.
 #[tactic(auto, using(crate::proofs::Rendering::rendering))]
 pub(crate) fn draw_all_heads(canvas: &mut Canvas, view: &View) -> Result<(), AllocError>
-    ensures { DrawsAfter canvas.old.out.items canvas.new.out.items (all_heads (plan_of view.now)) result }
+    ensures { DrawsAfter canvas.old.out.items canvas.new.out.items
+        (all_heads (plan_of view.now)) result }
 {
     for part in 0..view.end / HEAD_STEPS + 1 {
         draw_heads(
@@ -138,7 +140,8 @@ pub(crate) fn draw_all_heads(canvas: &mut Canvas, view: &View) -> Result<(), All
 
 #[tactic(auto, using(crate::proofs::Rendering::rendering))]
 fn draw_heads(canvas: &mut Canvas, view: &View, y: u64) -> Result<(), AllocError>
-    ensures { DrawsAfter canvas.old.out.items canvas.new.out.items (heads (plan_of view.now) y) result }
+    ensures { DrawsAfter canvas.old.out.items canvas.new.out.items
+        (heads (plan_of view.now) y) result }
 {
     draw_lane_heads(canvas, view.shape.workers as u64, y)?;
     draw_cell_heads(canvas, view, y)
@@ -161,7 +164,8 @@ fn draw_lane_heads(canvas: &mut Canvas, workers: u64, y: u64) -> Result<(), Allo
 
 #[tactic(auto, using(crate::proofs::Rendering::rendering))]
 fn draw_cell_heads(canvas: &mut Canvas, view: &View, y: u64) -> Result<(), AllocError>
-    ensures { DrawsAfter canvas.old.out.items canvas.new.out.items (cell_heads (plan_of view.now) y) result }
+    ensures { DrawsAfter canvas.old.out.items canvas.new.out.items
+        (cell_heads (plan_of view.now) y) result }
 {
     for (cell, flag) in view.flags.iter().enumerate() {
         if *flag != 0 {
@@ -172,7 +176,8 @@ fn draw_cell_heads(canvas: &mut Canvas, view: &View, y: u64) -> Result<(), Alloc
 }
 
 fn draw_cell_head(canvas: &mut Canvas, view: &View, y: u64, cell: u64) -> Result<(), AllocError>
-    ensures { DrawsAfter canvas.old.out.items canvas.new.out.items (cell_head (plan_of view.now) y cell) result }
+    ensures { DrawsAfter canvas.old.out.items canvas.new.out.items
+        (cell_head (plan_of view.now) y cell) result }
 {
     let place = at(&view.places, cell);
     let label = Tag::Label {

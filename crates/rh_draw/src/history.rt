@@ -93,7 +93,8 @@ fn notice_length(
     line: &mut Vec<u8>,
 ) -> Result<u64, AllocError>
     requires { IsShape view.now.shape }
-    ensures { IfOk result (λ letters. letters ≡ length_of (plan_of view.now) (standing_of sight.now) given) }
+    ensures { IfOk result
+        (λ letters. letters ≡ length_of (plan_of view.now) (standing_of sight.now) given) }
 {
     let Record::Step(step) = given else {
         return Ok(0);
@@ -170,7 +171,8 @@ fn go_on(
     list: &mut Vec<u64>,
 ) -> Result<(), AllocError>
     requires { IsShape view.now.shape }
-    ensures { OnOk result (standing_of sight.new ≡ following (plan_of view.now) (standing_of sight.old) given) }
+    ensures { OnOk result
+        (standing_of sight.new ≡ following (plan_of view.now) (standing_of sight.old) given) }
 {
     let Record::Step(step) = given else {
         return Ok(());
@@ -188,7 +190,8 @@ fn follow_step(
     list: &mut Vec<u64>,
 ) -> Result<(), AllocError>
     requires { IsShape view.now.shape }
-    ensures { OnOk result (standing_of sight.new ≡ after (plan_of view.now) (standing_of sight.old) step.now) }
+    ensures { OnOk result
+        (standing_of sight.new ≡ after (plan_of view.now) (standing_of sight.old) step.now) }
 {
     if view.window.has(step.number) {
         list_changes(&view.shape, &sight.words, step.touched, list)?;

@@ -7,12 +7,13 @@ use rh_play::kind_word;
 use rh_svg::{Look, Tag};
 use rh_words::StepKind;
 
-/// The style sheet. The colours of the kinds and of the first seven workers are those of Okabe and Ito,
-/// which most colour-blind readers can tell apart.
+/// The style sheet. The colours of the kinds and of the first seven workers are those of Okabe and
+/// Ito, which most colour-blind readers can tell apart.
 pub(crate) const STYLE: &str =
     "svg{font:10px sans-serif}text{fill:#222}use{stroke:#222;stroke-width:1}\
 .ground{fill:#fff}.number{fill:#666}\
-.head{font-weight:bold;font-size:9px;text-anchor:middle;stroke:#fff;stroke-width:3px;paint-order:stroke}\
+.head{font-weight:bold;font-size:9px;text-anchor:middle;stroke:#fff;stroke-width:3px;\
+paint-order:stroke}\
 .w0{fill:#e69f00;stroke:#e69f00}.w1{fill:#56b4e9;stroke:#56b4e9}.w2{fill:#009e73;stroke:#009e73}\
 .w3{fill:#cc79a7;stroke:#cc79a7}.w4{fill:#0072b2;stroke:#0072b2}.w5{fill:#d55e00;stroke:#d55e00}\
 .w6{fill:#b8a800;stroke:#b8a800}.w7{fill:#6a3d9a;stroke:#6a3d9a}.w8{fill:#8c5a2b;stroke:#8c5a2b}\

@@ -19,10 +19,11 @@
 //! - `marks_are_steps`: beside the marks of its legend a picture has one mark for each step of its
 //!   window, in their order, lanes and heights, and no other.
 //! - `columns_are_changes`: a cell has a column exactly where a step of the window changes its word
-//!   or its value. It changes its word where it is a step on the cell, and left another word than it
-//!   found. It changes its value where a descriptor succeeds at it, and an entry of that descriptor
-//!   is for the cell and has another new word than its old one.
-//! - `fixed_numbers`: the most steps of a picture; no two lanes and no two moments stand at one place.
+//!   or its value. It changes its word where it is a step on the cell, and left another word than
+//!   it found. It changes its value where a descriptor succeeds at it, and an entry of that
+//!   descriptor is for the cell and has another new word than its old one.
+//! - `fixed_numbers`: the most steps of a picture; no two lanes and no two moments stand at one
+//!   place.
 //! - `steps_from`: how many steps there are from a number on, by which a caller can see whether
 //!   they are more than `MAX_STEPS`.
 #![tactic(auto)]

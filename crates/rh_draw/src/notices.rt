@@ -1,5 +1,5 @@
-//! The moments at which a picture says something: a descriptor is decided, or a mark is settled to one
-//! that is over.
+//! The moments at which a picture says something: a descriptor is decided, or a mark is settled to
+//! one that is over.
 
 ghost use Rattle.std.specs.Prelude.{◌≡◌, ◌++◌, IfOk, OnOk};
 ghost use Rattle.rh_words.specs.Parts.{IsShape};
@@ -82,7 +82,8 @@ pub(crate) fn push_notice(
     touched: Touched,
 ) -> Result<Option<Look>, AllocError>
     requires { IsShape shape.now }
-    ensures look { IfOk result (λ look. look ≡ notice_look shape.now sight.now.words.items touched.part touched) }
+    ensures look { IfOk result
+        (λ look. look ≡ notice_look shape.now sight.now.words.items touched.part touched) }
     ensures text { OnOk result (line.new.items ≡
         line.old.items ++ notice_text shape.now (standing_of sight.now) touched.part touched) }
 {
@@ -105,7 +106,8 @@ fn push_decision(
     requires { IsShape shape.now }
     ensures look { IfOk result (λ look. look ≡ decision_look (decided touched)) }
     ensures text { OnOk result (line.new.items ≡
-        line.old.items ++ decision_text shape.now (standing_of sight.now) worker touched (decided touched)) }
+        line.old.items ++ decision_text shape.now (standing_of sight.now) worker touched
+        (decided touched)) }
 {
     if decided(touched).is_none() {
         return Ok(None);
@@ -138,7 +140,8 @@ fn push_entries(
 ) -> Result<(), AllocError>
     requires { IsShape shape.now }
     ensures { OnOk result (line.new.items ≡ line.old.items
-        ++ entries_text shape.now (standing_of sight.now) worker (entry_count shape.now sight.now.words.items worker)) }
+        ++ entries_text shape.now (standing_of sight.now) worker
+        (entry_count shape.now sight.now.words.items worker)) }
 {
     for entry in 0..entry_count(shape, &sight.words, worker) {
         push_entry(line, shape, sight, worker, entry)?;

@@ -19,7 +19,8 @@ pub(crate) fn column_x(workers: u64, place: u64) -> u64
     lane_x(workers) + COLUMN * place.min(MAX_COLUMNS)
 }
 
-/// The height of a moment: as many steps from the window's first one on as its number says were made.
+/// The height of a moment: as many steps from the window's first one on as its number says were
+/// made.
 pub(crate) fn moment_y(moment: u64) -> u64
     ensures { result ≡ moment_y moment }
 {

@@ -10,8 +10,8 @@ use rh_trace::Traced;
 #[derive(Clone, Copy)]
 pub enum Record {
     Step(Traced),
-    /// A further round began, before the step of this number. What it changes in the rows, the steps
-    /// that follow write anew.
+    /// A further round began, before the step of this number. What it changes in the rows, the
+    /// steps that follow write anew.
     Round { next: u64 },
 }
 
@@ -36,7 +36,8 @@ impl Window {
         number >= self.from && number - self.from >= self.steps
     }
 
-    /// Whether the moment before this step is drawn: it is one before a step of the window or after one.
+    /// Whether the moment before this step is drawn: it is one before a step of the window or after
+    /// one.
     pub(crate) fn has_before(self, next: u64) -> bool
         ensures { result ≡ is_before self next }
     {

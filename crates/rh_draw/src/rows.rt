@@ -74,7 +74,8 @@ fn helped(step: &Traced) -> Option<u64>
 
 #[tactic(auto, using(crate::proofs::Rendering::rendering))]
 fn draw_help(canvas: &mut Canvas, worker: u64, y: u64, other: Option<u64>) -> Result<(), AllocError>
-    ensures { DrawsAfter canvas.old.out.items canvas.new.out.items (help_line worker y other) result }
+    ensures { DrawsAfter canvas.old.out.items canvas.new.out.items
+        (help_line worker y other) result }
 {
     let Some(other) = other else {
         return Ok(());
@@ -125,7 +126,8 @@ fn draw_row(canvas: &mut Canvas, y: u64, step: &Traced) -> Result<(), AllocError
 // A line across all lanes and columns, between the steps.
 #[tactic(auto, using(crate::proofs::Rendering::rendering))]
 fn draw_round(canvas: &mut Canvas, view: &View, moment: u64) -> Result<(), AllocError>
-    ensures { DrawsAfter canvas.old.out.items canvas.new.out.items (round_stroke (plan_of view.now) moment) result }
+    ensures { DrawsAfter canvas.old.out.items canvas.new.out.items
+        (round_stroke (plan_of view.now) moment) result }
 {
     let y = moment_y(moment) + ROW / 2;
     let line = Tag::Line {
@@ -146,7 +148,8 @@ fn draw_round(canvas: &mut Canvas, view: &View, moment: u64) -> Result<(), Alloc
 
 #[tactic(auto, using(crate::proofs::Rendering::rendering))]
 fn draw_record(canvas: &mut Canvas, view: &View, given: Record) -> Result<(), AllocError>
-    ensures { DrawsAfter canvas.old.out.items canvas.new.out.items (step_row (plan_of view.now) given) result }
+    ensures { DrawsAfter canvas.old.out.items canvas.new.out.items
+        (step_row (plan_of view.now) given) result }
 {
     match given {
         Record::Step(step) => {
@@ -170,7 +173,8 @@ pub(crate) fn draw_rows(
     view: &View,
     records: &[Record],
 ) -> Result<(), AllocError>
-    ensures { DrawsAfter canvas.old.out.items canvas.new.out.items (rows (plan_of view.now) records.now) result }
+    ensures { DrawsAfter canvas.old.out.items canvas.new.out.items
+        (rows (plan_of view.now) records.now) result }
 {
     for record in records {
         draw_record(canvas, view, *record)?;

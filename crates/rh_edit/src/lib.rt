@@ -1,8 +1,8 @@
 //! Insertion into a Robin Hood table (Celis 1986), removal by backward shift, and the set of one
 //! worker.
 //!
-//! `rh_grow`, `rh_combine`, `rh_acts`, `rh_runner` and `rh_operations` stand on it, and so does whoever wants a
-//! set with one table: `SeqSet`.
+//! `rh_grow`, `rh_combine`, `rh_acts`, `rh_runner` and `rh_operations` stand on it, and so does
+//! whoever wants a set with one table: `SeqSet`.
 //!
 //! ```text
 //! let mut set = SeqSet::new(alloc, 3)?;   // 8 cells: no more memory is taken

@@ -1,5 +1,5 @@
-//! Three uses of the public crates: a script over files in memory, a set of one worker, and two threads
-//! that swap cells of one table.
+//! Three uses of the public crates: a script over files in memory, a set of one worker, and two
+//! threads that swap cells of one table.
 #![tactic(auto)]
 
 mod script;

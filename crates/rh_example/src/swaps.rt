@@ -17,8 +17,8 @@ use std::thread::Threads;
 /// How often each thread tries.
 const TRIES: u64 = 100;
 
-/// Two workers at a table of eight cells. Each has numbers for the descriptors and marks of its swaps,
-/// and more marks to help the other.
+/// Two workers at a table of eight cells. Each has numbers for the descriptors and marks of its
+/// swaps, and more marks to help the other.
 const SHAPE: Shape = Shape {
     bits: 3,
     workers: 2,
@@ -29,8 +29,8 @@ const SHAPE: Shape = Shape {
     },
 };
 
-/// What the cells hold after one thread has moved from cell 2 to cell 6 while the other moved back: 1,000
-/// in both, whoever did how much.
+/// What the cells hold after one thread has moved from cell 2 to cell 6 while the other moved back:
+/// 1,000 in both, whoever did how much.
 pub(crate) fn moved_by_two<R: Threads + Wait + Sync>(
     rt: &R,
     alloc: Global,
@@ -80,8 +80,8 @@ fn move_often<R: Wait>(rt: &R, table: &Table, mut seat: Seat, from: usize, to: u
     seat
 }
 
-/// Moves one from a cell to the other in one act, unless the other worker changes one of them meanwhile.
-/// It answers whether it did.
+/// Moves one from a cell to the other in one act, unless the other worker changes one of them
+/// meanwhile. It answers whether it did.
 fn move_one<R: Wait>(rt: &R, table: &Table, seat: &mut Seat, from: usize, to: usize) -> bool
     requires rests { SeatRests table.now seat.old }
     ensures rests { SeatRests table.now seat.new }

@@ -111,7 +111,8 @@ impl Shelf for FaultyShelf {
         ensures fails { failure_of self.old ≡ ShelfFailure.Call (next_call self.old) →
             IsErrOf result ShelfFault.Missing }
         ensures fails_once { failure_of self.old ≢ ShelfFailure.Call (next_call self.old) →
-            (IsErrOf result ShelfFault.Memory → ⊥) → own_failures_in self.new ≡ own_failures_in self.old }
+            (IsErrOf result ShelfFault.Memory → ⊥) →
+            own_failures_in self.new ≡ own_failures_in self.old }
         ensures given { OnOk result (readers_of self.new ≡ next_reader self.old) }
         ensures not_given { OnErr result (readers_of self.new ≡ readers_of self.old) }
         ensures reader { IfOk result (λ r.
@@ -148,7 +149,8 @@ impl Shelf for FaultyShelf {
         ensures fails { failure_of self.old ≡ ShelfFailure.Call (next_call self.old) →
             IsErrOf result ShelfFault.Write }
         ensures fails_once { failure_of self.old ≢ ShelfFailure.Call (next_call self.old) →
-            (IsErrOf result ShelfFault.Memory → ⊥) → own_failures_in self.new ≡ own_failures_in self.old }
+            (IsErrOf result ShelfFault.Memory → ⊥) →
+            own_failures_in self.new ≡ own_failures_in self.old }
         ensures same_readers { readers_of self.new ≡ readers_of self.old }
         ensures same_failure { failure_of self.new ≡ failure_of self.old }
     {

@@ -25,7 +25,8 @@ fn nothing_is_read_after_a_failed_read(rt: HostRuntime) {
 
 #[test]
 fn keys_before_a_failed_read_are_tested(rt: HostRuntime) {
-    // One key of two comes, and then the read fails: key 0, which the first version does not allow, and key 5.
+    // One key of two comes, and then the read fails: key 0, which the first version does not allow,
+    // and key 5.
     let bad = b"RHK1\0\0\0\0\0\0\0\x02\0\0\0\0\0\0\0\0";
     let good = b"RHK1\0\0\0\0\0\0\0\x02\0\0\0\0\0\0\0\x05";
     for (bytes, fault) in [

@@ -1,6 +1,7 @@
 //! Tests of key files, snapshots, texts of numbers and lists that are split, from outside.
 //!
-//! They stand apart from the code, so that each crate is proved once, and not once more with its tests.
+//! They stand apart from the code, so that each crate is proved once, and not once more with its
+//! tests.
 #![tactic(auto)]
 
 #[cfg(test)]

@@ -213,8 +213,8 @@ fn each_bit_changed(rt: HostRuntime) {
     }
 }
 
-// The byte of bits is 3. With one bit of it changed it says a larger table, for which there are too few
-// cells, at 7 and 11, and no table at all else.
+// The byte of bits is 3. With one bit of it changed it says a larger table, for which there are too
+// few cells, at 7 and 11, and no table at all else.
 #[test]
 fn the_byte_of_bits_is_changed(rt: HostRuntime) {
     for whole in [FIRST, SECOND] {

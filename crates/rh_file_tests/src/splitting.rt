@@ -186,7 +186,8 @@ fn each_write_fails(rt: HostRuntime) {
                 outcome.err(),
                 (n < 4).then_some(SplitFault::Write { part: 3 })
             );
-            // The first key is one of the last part, and those of the others come between that and its second.
+            // The first key is one of the last part, and those of the others come between that and
+            // its second.
             let [first, second, third, last] = parts;
             for (part, got) in [
                 (first, PARTS[0].0),

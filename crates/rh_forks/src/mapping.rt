@@ -32,7 +32,8 @@ pub fn map_indices<T: Threads + Sync, X: Send + Drop, F: Fn(usize) -> X + Sync>(
         ensures { FnReturns F.Fn f.entry.now (last, tt) result }
     { f(last) };
     let before = move || -> Result<Vec<X>, AllocError>
-        requires { IsSync T.row × IsSync F.row × IsSend X.row × ((i : ℕ) → i < last → F.pre f.now i) }
+        requires { IsSync T.row × IsSync F.row × IsSend X.row
+            × ((i : ℕ) → i < last → F.pre f.now i) }
         ensures { IfOk result (λ v. (vec_len v ≡ last) × GivesEach F.Fn f.entry.now last v.items) }
     { map_indices(rt, alloc, last, f) };
     let (result, results) = join(rt, theirs, before);

@@ -2,8 +2,8 @@
 
 use std::thread::{Threads, join};
 
-/// Calls both, each in a thread of its own, and waits. A call for which no thread can be started is made
-/// by the caller.
+/// Calls both, each in a thread of its own, and waits. A call for which no thread can be started is
+/// made by the caller.
 pub fn both<T: Threads + Sync, F: FnOnce() -> A + Send, G: FnOnce() -> B + Send, A: Send, B: Send>(
     rt: &T,
     first: F,

@@ -1,5 +1,5 @@
-//! Deciding a descriptor. That it fails is told its owner first, by the own reason: a control says no more
-//! than who decided.
+//! Deciding a descriptor. That it fails is told its owner first, by the own reason: a control says
+//! no more than who decided.
 
 ghost use Rattle.rh_helping.specs.declared.machine.At.TheVariants as stage;
 ghost use Rattle.std.specs.Prelude.{◌≡◌};
@@ -126,12 +126,15 @@ impl Machine {
         found: u64,
     ) -> Progress
         requires trusts { Trusts T.shows shape.now table.old side.now.known.view }
-        requires follows { FollowsDecide shape.now (opened_by opens) self.old.task (control_of state) found side.now.known.view }
+        requires follows { FollowsDecide shape.now (opened_by opens) self.old.task
+            (control_of state) found side.now.known.view }
         requires state { IsControl self.old.task.desc.number state }
         requires over { IsOver state }
         ensures same { table.new ≡ table.old }
-        ensures leads { Leads shape.now side.now.known.view (opened_by opens.entry) (led result self.new) }
-        ensures ends { (w : Work) → desc_of w ≡ self.old.task.desc → MayEnd side.now.known.view w (led result self.new) }
+        ensures leads { Leads shape.now side.now.known.view (opened_by opens.entry)
+            (led result self.new) }
+        ensures ends { (w : Work) → desc_of w ≡ self.old.task.desc →
+            MayEnd side.now.known.view w (led result self.new) }
     {
         let desc = self.task.desc;
         match state_told(desc, decided_word(desc, state, found)) {

@@ -28,14 +28,15 @@ pub struct Task {
     pub desc: Ref,
     /// The number of its entries.
     pub size: usize,
-    /// Undecided while its entries are to be installed, else how it was decided, and then its entries are
-    /// to be released.
+    /// Undecided while its entries are to be installed, else how it was decided, and then its
+    /// entries are to be released.
     pub state: State,
     /// The entries before this one are installed, or released.
     pub entry: usize,
     /// The cell of one of its entries that the worker still owes. It is paid by the Release there.
     pub owed: Option<Owed>,
-    /// At which entry it failed, where it is the own open descriptor: its decider tells its owner alone.
+    /// At which entry it failed, where it is the own open descriptor: its decider tells its owner
+    /// alone.
     pub reason: Option<u64>,
 }
 
@@ -43,7 +44,8 @@ impl Task {
     /// A descriptor that stands so, at its first entry, where no cell is owed.
     #[inline(always)]
     pub(crate) fn new(desc: Ref, size: usize, state: State) -> Task
-        ensures { result ≡ record { desc = desc; size = size; state = state; entry = 0; owed = None; reason = None } }
+        ensures { result ≡ record { desc = desc; size = size; state = state; entry = 0; owed = None;
+            reason = None } }
     {
         Task {
             desc,
@@ -58,7 +60,8 @@ impl Task {
     /// The same descriptor, decided so: its entries are to be released from the first one on.
     #[inline(always)]
     pub(crate) fn decided(self, state: State, owed: Option<Owed>) -> Task
-        ensures { result ≡ record { desc = self.desc; size = self.size; state = state; entry = 0; owed = owed; reason = None } }
+        ensures { result ≡ record { desc = self.desc; size = self.size; state = state; entry = 0;
+            owed = owed; reason = None } }
     {
         Task {
             state,
@@ -73,7 +76,8 @@ impl Task {
     #[inline(always)]
     pub(crate) fn after(self) -> Task
         requires { self.entry < self.size }
-        ensures { result ≡ record { desc = self.desc; size = self.size; state = self.state; entry = self.entry + 1; owed = self.owed; reason = self.reason } }
+        ensures { result ≡ record { desc = self.desc; size = self.size; state = self.state;
+            entry = self.entry + 1; owed = self.owed; reason = self.reason } }
     {
         Task {
             entry: self.entry + 1,

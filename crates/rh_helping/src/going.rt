@@ -20,8 +20,8 @@ use rh_tagword::State;
 use rh_words::{Ref, Shape, Side};
 
 impl Machine {
-    /// The next step on a descriptor that stands so by its control. What an own one is to change is known
-    /// without a Read.
+    /// The next step on a descriptor that stands so by its control. What an own one is to change is
+    /// known without a Read.
     #[inline(always)]
     pub(crate) fn start<T: Steps>(
         &mut self,
@@ -36,7 +36,8 @@ impl Machine {
         requires owes { OwesNothing side.now.known.view }
         requires met { IsMet side.now.known.view (ref_of self.old.task.desc) state 0 }
         ensures same { table.new ≡ table.old }
-        ensures leads { Leads shape.now side.now.known.view (opened_by opens.entry) (led result self.new) }
+        ensures leads { Leads shape.now side.now.known.view (opened_by opens.entry)
+            (led result self.new) }
         ensures ends { (w : Work) → MayEnd side.now.known.view w (led result self.new) }
     {
         let desc = self.task.desc;
@@ -50,8 +51,8 @@ impl Machine {
         self.begin(shape, table, side, opens)
     }
 
-    /// The first step on a task. Where the own open descriptor failed, its decider's reason tells at which
-    /// entry.
+    /// The first step on a task. Where the own open descriptor failed, its decider's reason tells
+    /// at which entry.
     #[inline(always)]
     pub(crate) fn begin<T: Steps>(
         &mut self,
@@ -64,7 +65,8 @@ impl Machine {
         requires own { KnowsOwn side.now.known.view (opened_by opens) }
         requires begins { Begins side.now.known.view self.old.task }
         ensures same { table.new ≡ table.old }
-        ensures leads { Leads shape.now side.now.known.view (opened_by opens.entry) (led result self.new) }
+        ensures leads { Leads shape.now side.now.known.view (opened_by opens.entry)
+            (led result self.new) }
         ensures ends { (w : Work) → MayEnd side.now.known.view w (led result self.new) }
     {
         match self.failed_own(side, opens) {
@@ -114,7 +116,8 @@ impl Machine {
         requires own { KnowsOwn side.now.known.view (opened_by opens) }
         requires next { IsNextTask side.now.known.view self.old.task }
         ensures same { table.new ≡ table.old }
-        ensures leads { Leads shape.now side.now.known.view (opened_by opens.entry) (led result self.new) }
+        ensures leads { Leads shape.now side.now.known.view (opened_by opens.entry)
+            (led result self.new) }
         ensures ends { (w : Work) → MayEnd side.now.known.view w (led result self.new) }
     {
         let task = self.task;
@@ -142,7 +145,8 @@ impl Machine {
         requires goal { KnowsGoal side.now.known.view (goal_of self.old) }
         requires owes { Owes side.now.known.view self.old.task }
         requires reason { HasReason side.now.known.view self.old.task }
-        ensures leads { Leads shape.now side.now.known.view (opened_by opens.entry) (led result self.new) }
+        ensures leads { Leads shape.now side.now.known.view (opened_by opens.entry)
+            (led result self.new) }
         ensures ends { (w : Work) → MayEnd side.now.known.view w (led result self.new) }
     {
         if self.task.state.is_decided() {
@@ -166,13 +170,16 @@ impl Machine {
         }
     }
 
-    /// The next step after a descriptor that was met: the own open one is begun again, if there is one.
+    /// The next step after a descriptor that was met: the own open one is begun again, if there is
+    /// one.
     #[inline(always)]
     pub(crate) fn resume(&mut self, side: &Side, opens: Option<OpenDesc<'_>>) -> Progress
         requires own { KnowsOwn side.now.known.view (opened_by opens) }
         requires owes { OwesNothing side.now.known.view }
-        ensures leads { (z : Shape) → Leads z side.now.known.view (opened_by opens.entry) (led result self.new) }
-        ensures ends { (w : Work) → ReleasesLast w ⊎ In (stale (ref_of (desc_of w))) side.now.known.view.side.facts
+        ensures leads { (z : Shape) →
+            Leads z side.now.known.view (opened_by opens.entry) (led result self.new) }
+        ensures ends { (w : Work) → ReleasesLast w
+            ⊎ In (stale (ref_of (desc_of w))) side.now.known.view.side.facts
             → MayEnd side.now.known.view w (led result self.new) }
     {
         match opens {

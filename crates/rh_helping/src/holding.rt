@@ -1,5 +1,5 @@
-//! Holding an entry: an own mark is placed in its cell and settled there (RDCSS of Harris, Fraser and
-//! Pratt 2002).
+//! Holding an entry: an own mark is placed in its cell and settled there (RDCSS of Harris, Fraser
+//! and Pratt 2002).
 
 ghost use Rattle.rh_helping.specs.declared.machine.At.TheVariants as stage;
 

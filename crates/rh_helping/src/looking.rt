@@ -1,5 +1,5 @@
-//! Reading a cell until it holds a value: a mark that stands there is settled first, and a descriptor
-//! helped to its end.
+//! Reading a cell until it holds a value: a mark that stands there is settled first, and a
+//! descriptor helped to its end.
 
 ghost use Rattle.std.specs.Prelude.{◌≡◌, ◌<◌, None};
 ghost use Rattle.rh_words.specs.Parts.{cell_count};
@@ -77,8 +77,10 @@ impl Machine {
         requires relies { Relies T.shows T.serves shape.now table.old side.old.known.view }
         requires cell { cell < cell_count shape.now }
         requires looking { IsLooking shape.now side.old.known.view (looking_of looks self.old) }
-        ensures made { HasStepped T.shows T.made shape.now (kind_of_looking (looking_of looks self.old))
-            side.old.known.view.opened (reads_after side.old.known.view cell (looked result self.new)) table.old
+        ensures made { HasStepped T.shows T.made shape.now
+            (kind_of_looking (looking_of looks self.old))
+            side.old.known.view.opened
+            (reads_after side.old.known.view cell (looked result self.new)) table.old
             side.old.known.view table.new side.new.known.view }
         ensures leads { LooksOn shape.now side.new.known.view (looked result self.new) }
         ensures ends { MayLookOn side.old.known.view side.new.known.view (looking_of looks self.old)
@@ -116,10 +118,12 @@ impl Machine {
         requires cell { cell < cell_count shape.now }
         requires clear { IsClear side.old.known.view }
         ensures made { HasStepped T.shows T.made shape.now StepKind.Read side.old.known.view.opened
-            (reads_after side.old.known.view cell (looked result self.new)) table.old side.old.known.view
+            (reads_after side.old.known.view cell (looked result self.new)) table.old
+            side.old.known.view
             table.new side.new.known.view }
         ensures leads { LooksOn shape.now side.new.known.view (looked result self.new) }
-        ensures ends { MayLookOn side.old.known.view side.new.known.view Looking.Read (looked result self.new) }
+        ensures ends { MayLookOn side.old.known.view side.new.known.view Looking.Read
+            (looked result self.new) }
     {
         let word = table.make(shape, side, Request::Read(Reading::Cell(cell)));
         match what_stands(word) {

@@ -30,8 +30,8 @@ pub enum At {
     Control,
     /// Read of the number of its entries.
     Length,
-    /// Read of the serial number in its row: what was read there is so of it only where the row is still
-    /// of it.
+    /// Read of the serial number in its row: what was read there is so of it only where the row is
+    /// still of it.
     LengthSerial,
     /// Read of the next entry's cell.
     EntryCell,
@@ -75,15 +75,15 @@ pub enum At {
     GiveBack,
 }
 
-/// What a worker that goes about a descriptor has learned, and which step is next. A step changes what it
-/// teaches, and nothing is copied from step to step.
+/// What a worker that goes about a descriptor has learned, and which step is next. A step changes
+/// what it teaches, and nothing is copied from step to step.
 #[derive(Clone, Copy)]
 pub struct Machine {
     pub at: At,
     /// The descriptor, and how far the worker has come there.
     pub task: Task,
-    /// The cell of the task's entry, the word that it is to find there, and the one that it is to put
-    /// there.
+    /// The cell of the task's entry, the word that it is to find there, and the one that it is to
+    /// put there.
     pub change: Entry,
     /// The own mark that is placed for the entry.
     pub mark: Ref,
@@ -158,8 +158,8 @@ impl Machine {
         }
     }
 
-    /// The cell where an own mark stands that is not settled yet, or where its descriptor may stand by
-    /// the worker's doing.
+    /// The cell where an own mark stands that is not settled yet, or where its descriptor may stand
+    /// by the worker's doing.
     pub fn held(&self) -> Option<Owed>
         ensures { result ≡ held_by (work_of self.now) }
     {

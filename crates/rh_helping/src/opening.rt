@@ -56,7 +56,8 @@ impl Opening {
         ensures made { HasStepped T.shows T.made shape.now (kind_of_opening self)
             (opened_after side.old.known.view entries.now result) side.old.known.view.side.reads
             table.old side.old.known.view table.new side.new.known.view }
-        ensures leads { OpensOn shape.now entries.now side.old.known.view side.new.known.view result }
+        ensures leads { OpensOn shape.now entries.now side.old.known.view side.new.known.view
+            result }
         ensures next { result ≡ after_opening (length entries.now) self }
     {
         let request = self.request(shape, side, entries);

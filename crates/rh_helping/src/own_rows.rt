@@ -1,6 +1,6 @@
-//! What the own rows of a worker say of its descriptors, which it looks up without a step. Rows are looked
-//! at apart, and seldom: what looks there is lent a copy of the shape, so that the shape itself may be kept
-//! in registers.
+//! What the own rows of a worker say of its descriptors, which it looks up without a step. Rows are
+//! looked at apart, and seldom: what looks there is lent a copy of the shape, so that the shape
+//! itself may be kept in registers.
 
 ghost use Rattle.std.specs.Prelude.{◌≡◌, ◌<◌, ◌+◌, suc, Some, IfSome};
 ghost use Rattle.rh_words.specs.Parts.{cell_count, entry_row};
@@ -29,9 +29,9 @@ fn own_copy<'a>(opens: Option<OpenDesc<'a>>, number: u64) -> Option<&'a [Entry]>
     }
 }
 
-/// How many entries the newest own descriptor has. Once it is closed it is looked up in its row, which
-/// is its own until the next one is written. An older one is left at its control, as a
-/// stale one is.
+/// How many entries the newest own descriptor has. Once it is closed it is looked up in its row,
+/// which is its own until the next one is written. An older one is left at its control, as a stale
+/// one is.
 #[inline(always)]
 pub(crate) fn own_size<T: Steps>(
     shape: &Shape,
@@ -86,7 +86,8 @@ pub(crate) fn own_entry<T: Steps>(
     requires entry { task.entry < task.size }
     requires worker { task.desc.worker ≡ side.now.worker }
     ensures same { table.new ≡ table.old }
-    ensures goal { KnowsGoal side.now.known.view (record { task = task; cell = result.cell; old = result.old; new = result.new }) }
+    ensures goal { KnowsGoal side.now.known.view
+        (record { task = task; cell = result.cell; old = result.old; new = result.new }) }
 {
     match own_copy(opens, task.desc.number) {
         Some(entries) => {

@@ -13,7 +13,8 @@ use rh_steps::Steps;
 use rh_tagword::State;
 use rh_words::{Request, Shape, Side};
 
-/// Releases an entry. With the last one the own descriptor is closed, if it is that one that was open.
+/// Releases an entry. With the last one the own descriptor is closed, if it is that one that was
+/// open.
 pub(crate) struct Release;
 
 impl<T: Steps> Stage<T> for Release {

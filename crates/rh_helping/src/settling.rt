@@ -23,8 +23,8 @@ pub enum SettlingAt {
     Desc,
     /// Read of its entry.
     Entry,
-    /// Read of the number of the mark that the row is of by now: what was read in it is so of this mark
-    /// only where it is still that one.
+    /// Read of the number of the mark that the row is of by now: what was read in it is so of this
+    /// mark only where it is still that one.
     Serial,
     /// Read of the control of its descriptor.
     Control,
@@ -90,10 +90,12 @@ impl Settling {
         requires relies { Relies T.shows T.serves shape.now table.old side.old.known.view }
         requires owes { OwesNothing side.old.known.view }
         requires settling { IsSettling side.old.known.view (settling_of self.old) }
-        ensures made { HasMadeStep T.shows T.made shape.now (kind_of_settling (settling_of self.old)) table.old side.old.known.view
+        ensures made { HasMadeStep T.shows T.made shape.now
+            (kind_of_settling (settling_of self.old)) table.old side.old.known.view
             table.new side.new.known.view }
         ensures grows { Grows side.old.known.view side.new.known.view }
-        ensures leads { LeadsOn side.old.known.view side.new.known.view (settling_of self.old) (left_on result self.new) }
+        ensures leads { LeadsOn side.old.known.view side.new.known.view (settling_of self.old)
+            (left_on result self.new) }
     {
         let request = self.request();
         let found = table.make(shape, side, request);
@@ -143,9 +145,11 @@ impl Settling {
     #[inline(always)]
     pub(crate) fn after(&mut self, _side: &Side, found: u64) -> bool
         requires follows { FollowsSettling (settling_of self.old) found _side.now.known.view }
-        ensures grows { (z : Shape) (v : View) → SettledFrom z v (settling_of self.old) found _side.now.known.view
+        ensures grows { (z : Shape) (v : View) →
+            SettledFrom z v (settling_of self.old) found _side.now.known.view
             → Grows v _side.now.known.view }
-        ensures leads { (z : Shape) (v : View) → SettledFrom z v (settling_of self.old) found _side.now.known.view
+        ensures leads { (z : Shape) (v : View) →
+            SettledFrom z v (settling_of self.old) found _side.now.known.view
             → LeadsOn v _side.now.known.view (settling_of self.old) (left_on result self.new) }
     {
         match self.at {

@@ -1,4 +1,5 @@
-//! The stages of a machine. Each is one step: which one, and what follows from the word that it found.
+//! The stages of a machine. Each is one step: which one, and what follows from the word that it
+//! found.
 
 ghost use Rattle.std.specs.Prelude.{◌≡◌};
 ghost use Rattle.rh_words.specs.Requests.{step_asked};
@@ -27,7 +28,8 @@ pub(crate) trait Stage<T: Steps> {
         requires stands { Stands shape.now side.now.known.view (work_at at machine.now) }
         ensures { step_asked result ≡ requested side.now.known.view (work_at at machine.now) };
 
-    /// Goes on from the word that the step found. The table is there for own rows alone: no step is made.
+    /// Goes on from the word that the step found. The table is there for own rows alone: no step is
+    /// made.
     fn after(
         machine: &mut Machine,
         shape: &Shape,
@@ -37,8 +39,11 @@ pub(crate) trait Stage<T: Steps> {
         found: u64,
     ) -> Progress
         requires trusts { Trusts T.shows shape.now table.old side.now.known.view }
-        requires follows { Follows shape.now (opened_by opens) (work_at at machine.old) found side.now.known.view }
+        requires follows { Follows shape.now (opened_by opens)
+            (work_at at machine.old) found side.now.known.view }
         ensures same { table.new ≡ table.old }
-        ensures leads { Leads shape.now side.now.known.view (opened_by opens.entry) (led result machine.new) }
-        ensures ends { MayEnd side.now.known.view (work_at at machine.old) (led result machine.new) };
+        ensures leads { Leads shape.now side.now.known.view (opened_by opens.entry)
+            (led result machine.new) }
+        ensures ends { MayEnd side.now.known.view (work_at at machine.old)
+            (led result machine.new) };
 }

@@ -1,4 +1,5 @@
-//! The steps of a machine. Which one is next stands in the machine; each is a stage, and is made alike.
+//! The steps of a machine. Which one is next stands in the machine; each is a stage, and is made
+//! alike.
 
 ghost use Rattle.std.specs.Prelude.{◌≡◌, IfSome, None, Some};
 ghost use Rattle.rh_steps.specs.Relies.{Relies};
@@ -21,10 +22,10 @@ use rh_steps::Steps;
 use rh_words::{Shape, Side};
 
 impl Machine {
-    /// Makes the next step where it is one of the fast path: who meets no other worker, finds each cell with
-    /// its old value and has marks left comes to no other. Answers what it leads to, or none, and does
-    /// nothing, where it is another. `own` is the own descriptor that is open. A machine that is driven in
-    /// one place so may be kept in registers there.
+    /// Makes the next step where it is one of the fast path: who meets no other worker, finds each
+    /// cell with its old value and has marks left comes to no other. Answers what it leads to, or
+    /// none, and does nothing, where it is another. `own` is the own descriptor that is open. A
+    /// machine that is driven in one place so may be kept in registers there.
     #[inline(always)]
     pub fn step_fast<T: Steps>(
         &mut self,
@@ -36,11 +37,16 @@ impl Machine {
         requires relies { Relies T.shows T.serves shape.now table.old side.old.known.view }
         requires own { KnowsOwn side.old.known.view (opened_by (Some own)) }
         requires stands { Stands shape.now side.old.known.view (work_of self.old) }
-        ensures same { result ≡ None → (self.new ≡ self.old) × (table.new ≡ table.old) × (side.new ≡ side.old) }
-        ensures made { IfSome result (λ _. HasMadeStep T.shows T.made shape.now (kind_of_work (work_of self.old)) table.old
+        ensures same { result ≡ None → (self.new ≡ self.old) × (table.new ≡ table.old)
+            × (side.new ≡ side.old) }
+        ensures made { IfSome result
+            (λ _. HasMadeStep T.shows T.made shape.now (kind_of_work (work_of self.old)) table.old
             side.old.known.view table.new side.new.known.view) }
-        ensures leads { IfSome result (λ on. Leads shape.now side.new.known.view (opened_by (Some own.entry)) (led on self.new)) }
-        ensures ends { IfSome result (λ on. MayEnd side.new.known.view (work_of self.old) (led on self.new)) }
+        ensures leads { IfSome result
+            (λ on. Leads shape.now side.new.known.view (opened_by (Some own.entry))
+            (led on self.new)) }
+        ensures ends { IfSome result
+            (λ on. MayEnd side.new.known.view (work_of self.old) (led on self.new)) }
     {
         let opens = Some(own);
         let progress = match self.at {
@@ -59,8 +65,8 @@ impl Machine {
         Some(progress)
     }
 
-    /// Makes the next step on the own open descriptor, or on one that it led to, and answers what it leads
-    /// to.
+    /// Makes the next step on the own open descriptor, or on one that it led to, and answers what
+    /// it leads to.
     #[inline(always)]
     pub fn step_own<T: Steps>(
         &mut self,
@@ -72,9 +78,11 @@ impl Machine {
         requires relies { Relies T.shows T.serves shape.now table.old side.old.known.view }
         requires own { KnowsOwn side.old.known.view (opened_by (Some own)) }
         requires stands { Stands shape.now side.old.known.view (work_of self.old) }
-        ensures made { HasMadeStep T.shows T.made shape.now (kind_of_work (work_of self.old)) table.old
+        ensures made { HasMadeStep T.shows T.made shape.now
+            (kind_of_work (work_of self.old)) table.old
             side.old.known.view table.new side.new.known.view }
-        ensures leads { Leads shape.now side.new.known.view (opened_by (Some own.entry)) (led result self.new) }
+        ensures leads { Leads shape.now side.new.known.view (opened_by (Some own.entry))
+            (led result self.new) }
         ensures ends { MayEnd side.new.known.view (work_of self.old) (led result self.new) }
     {
         match self.step_fast(shape, table, side, own) {
@@ -83,8 +91,8 @@ impl Machine {
         }
     }
 
-    /// Makes the next step, and answers what it leads to. `opens` is the own descriptor that is open, if one
-    /// is. (It is called apart, so that what calls it stays small.)
+    /// Makes the next step, and answers what it leads to. `opens` is the own descriptor that is
+    /// open, if one is. (It is called apart, so that what calls it stays small.)
     #[inline(never)]
     pub fn step<T: Steps>(
         &mut self,
@@ -96,9 +104,11 @@ impl Machine {
         requires relies { Relies T.shows T.serves shape.now table.old side.old.known.view }
         requires own { KnowsOwn side.old.known.view (opened_by opens) }
         requires stands { Stands shape.now side.old.known.view (work_of self.old) }
-        ensures made { HasMadeStep T.shows T.made shape.now (kind_of_work (work_of self.old)) table.old
+        ensures made { HasMadeStep T.shows T.made shape.now
+            (kind_of_work (work_of self.old)) table.old
             side.old.known.view table.new side.new.known.view }
-        ensures leads { Leads shape.now side.new.known.view (opened_by opens.entry) (led result self.new) }
+        ensures leads { Leads shape.now side.new.known.view (opened_by opens.entry)
+            (led result self.new) }
         ensures ends { MayEnd side.new.known.view (work_of self.old) (led result self.new) }
     {
         match self.at {
@@ -140,9 +150,11 @@ impl Machine {
         requires relies { Relies T.shows T.serves shape.now table.old side.old.known.view }
         requires own { KnowsOwn side.old.known.view (opened_by opens) }
         requires stands { Stands shape.now side.old.known.view (work_at S.at self.old) }
-        ensures made { HasMadeStep T.shows T.made shape.now (kind_of_work (work_at S.at self.old)) table.old
+        ensures made { HasMadeStep T.shows T.made shape.now
+            (kind_of_work (work_at S.at self.old)) table.old
             side.old.known.view table.new side.new.known.view }
-        ensures leads { Leads shape.now side.new.known.view (opened_by opens.entry) (led result self.new) }
+        ensures leads { Leads shape.now side.new.known.view (opened_by opens.entry)
+            (led result self.new) }
         ensures ends { MayEnd side.new.known.view (work_at S.at self.old) (led result self.new) }
     {
         let request = S::request(self, shape, side);

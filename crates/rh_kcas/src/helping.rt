@@ -50,7 +50,8 @@ fn go_about<R: Wait>(rt: &R, shape: &Shape, here: &mut OnTable, side: &mut Side,
         match machine.step(shape, here, side, None) {
             Progress::On => {}
             Progress::Spent => return,
-            // (helping goes from one descriptor to the next that it meets: the last one need not be this)
+            // (helping goes from one descriptor to the next that it meets: the last one need not be
+            // this)
             Progress::Over => {
                 if is_over(state(shape, here, side, desc)) {
                     return;

@@ -1,9 +1,9 @@
-//! Compare-and-swap of several cells of a table that threads share (Harris, Fraser and Pratt 2002), and
-//! the tables themselves.
+//! Compare-and-swap of several cells of a table that threads share (Harris, Fraser and Pratt 2002),
+//! and the tables themselves.
 //!
-//! A public crate: it hands on the tables and seats of `rh_shared` and the swap of `rh_swaps`, by which
-//! phases go too, and adds what only a program of others calls. What is promised holds whatever other
-//! threads do meanwhile.
+//! A public crate: it hands on the tables and seats of `rh_shared` and the swap of `rh_swaps`, by
+//! which phases go too, and adds what only a program of others calls. What is promised holds
+//! whatever other threads do meanwhile.
 //!
 //! ```text
 //! let (table, mut first) = make(alloc, shape, &cells)?;   // the seat of all workers of the shape
@@ -22,15 +22,15 @@
 //!
 //! Proved:
 //!
-//! - `help`: the descriptor is noted as decided, or as over, or no mark is left. The worker is at rest
-//!   after it, with the same own acts.
+//! - `help`: the descriptor is noted as decided, or as over, or no mark is left. The worker is at
+//!   rest after it, with the same own acts.
 //! - `failures_tell`, `reads_tell`: after some first acts of all workers the entry's cell did not
 //!   hold the old value, or the cell held the word that was read. Among these are all acts that the
 //!   worker had made before the call, and no later one of it; they never get fewer.
 //! - `own_changes_are_read`: a worker reads its own change back, unless another worker's act came
 //!   between. `kcas` and `read` hand on what these laws ask for, by their clause `told`.
-//! - `are_entries`: exactly whether a descriptor may have these entries. `change`: the entry from one
-//!   value to another.
+//! - `are_entries`: exactly whether a descriptor may have these entries. `change`: the entry from
+//!   one value to another.
 //! - What is handed on: see the heads of `rh_shared` and `rh_swaps`.
 //!
 //! No contract says that a call which takes a `Wait` returns: `kcas`, `carry_out`, `help` and

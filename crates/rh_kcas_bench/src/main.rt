@@ -27,7 +27,8 @@ const USAGE: &str = "usage: rh_kcas_bench THREADS ENTRIES own|same ROUNDS [timed
   own      each thread changes cells of its own
   same     all threads change the same cells
   ROUNDS   so often each thread tries swaps of 4000 entries in all, and the rows are wiped
-  timed    tells how long the threads swapped, all their times together, in all rounds and in the fastest one";
+  timed    tells how long the threads swapped, all their times together, in all rounds and in the
+           fastest one";
 
 fn main(rt: HostRuntime) -> ExitCode {
     match carry_out(&rt) {
@@ -92,9 +93,9 @@ fn measure(
     Ok(Measured { all, fastest })
 }
 
-/// A table of cells that all hold nought, with the seat of as many workers as a table may have, of whom
-/// most rest: each has a reason for each of them, so the words that one worker writes lie two lines of a
-/// cache from those of the next.
+/// A table of cells that all hold nought, with the seat of as many workers as a table may have, of
+/// whom most rest: each has a reason for each of them, so the words that one worker writes lie two
+/// lines of a cache from those of the next.
 fn empty_table(alloc: Global) -> Result<(Table, Seat), AllocError>
     ensures workers { IfOk result (λ r. r.0.shape.workers ≡ MAX_WORKERS) }
     ensures all { IfOk result (λ r. HasAll r.0 r.1) }

@@ -38,8 +38,8 @@ pub fn open_one(table: &Table, seat: &mut Seat, entries: &[Entry]) -> u64
     number
 }
 
-/// Opens a descriptor of the entries, and works at it until it is to be decided. Answers its number,
-/// or none where that takes too many steps.
+/// Opens a descriptor of the entries, and works at it until it is to be decided. Answers its
+/// number, or none where that takes too many steps.
 pub fn stop_halfway(table: &Table, seat: &mut Seat, entries: &[Entry]) -> Option<u64>
     requires free { IsIdle table.now seat.old }
     requires entries { AreEntries table.now.shape entries.now }

@@ -1,4 +1,5 @@
-//! Marks that a worker places and settles by single calls, for a descriptor whose own worker has stopped.
+//! Marks that a worker places and settles by single calls, for a descriptor whose own worker has
+//! stopped.
 
 ghost use Rattle.std.specs.Prelude.{IfOk, IsTrue};
 ghost use Rattle.rh_shared.specs.Rests.{SeatRests};
@@ -17,8 +18,8 @@ use std::alloc::{AllocError, Global};
 use std::process::Abort;
 use std::test::*;
 
-/// A table of four workers, which holds these values: the first opens descriptors, the second places marks,
-/// the third meets them, and the fourth looks on.
+/// A table of four workers, which holds these values: the first opens descriptors, the second
+/// places marks, the third meets them, and the fourth looks on.
 fn four_workers<R: Abort>(
     rt: &R,
     alloc: Global,
@@ -82,8 +83,8 @@ fn has_entry(table: &Table, seat: &mut Seat, desc: Ref, entry: usize) -> bool
     }
 }
 
-/// Such a table, on which the first worker has opened a descriptor of the entries, and the second has placed a
-/// mark for its second entry.
+/// Such a table, on which the first worker has opened a descriptor of the entries, and the second
+/// has placed a mark for its second entry.
 fn marked<R: Abort>(
     rt: &R,
     alloc: Global,
@@ -192,8 +193,8 @@ fn an_own_mark_is_settled_to_its_descriptor(rt: HostRuntime) -> Result<(), Fail>
     Ok(())
 }
 
-// Who reads a cell settles the mark in it and helps its descriptor: the two workers that stopped hold it
-// up no longer than its own steps take.
+// Who reads a cell settles the mark in it and helps its descriptor: the two workers that stopped
+// hold it up no longer than its own steps take.
 #[test]
 fn a_read_meets_a_mark_and_its_descriptor(rt: HostRuntime) -> Result<(), Fail> {
     let (table, mut first, mut second, mut third, _fourth, desc) = marked(
@@ -236,8 +237,8 @@ fn a_foreign_mark_is_settled_to_its_descriptor(rt: HostRuntime) -> Result<(), Fa
     Ok(())
 }
 
-// The descriptor fails at its first entry while the mark for its second one stands, and its worker opens the
-// next one. Only who placed the mark knows still which value it hides.
+// The descriptor fails at its first entry while the mark for its second one stands, and its worker
+// opens the next one. Only who placed the mark knows still which value it hides.
 #[test]
 fn a_mark_whose_descriptor_is_stale_is_settled_by_its_own_worker(
     rt: HostRuntime,

@@ -32,8 +32,8 @@ impl Random {
     }
 }
 
-/// The counter that a worker alone raises: a field of 31 bits of a cell behind the accounts, so that
-/// eight workers have one each.
+/// The counter that a worker alone raises: a field of 31 bits of a cell behind the accounts, so
+/// that eight workers have one each.
 #[derive(Clone, Copy)]
 pub struct Counter {
     pub cell: usize,

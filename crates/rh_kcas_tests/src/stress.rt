@@ -28,8 +28,8 @@ const SWAPS: usize = 160_000;
 // How many rounds there are where the rooms are small.
 const ROUNDS: usize = 50;
 
-// Each worker reads a cell less often than this before each swap of these rounds, so that the others
-// are at work too by then.
+// Each worker reads a cell less often than this before each swap of these rounds, so that the
+// others are at work too by then.
 const LOOKS: u64 = 2_000;
 
 /// So many swaps of each worker, and fewer looks than this at a cell before each.

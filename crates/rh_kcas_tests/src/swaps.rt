@@ -35,8 +35,8 @@ fn two_entries_the_same_again_and_a_third(rt: HostRuntime) -> Result<(), Fail> {
     Ok(())
 }
 
-// Five of the eight marks are used by the first swap, so that the second one, of four entries, is given
-// up on its way.
+// Five of the eight marks are used by the first swap, so that the second one, of four entries, is
+// given up on its way.
 #[test]
 fn a_swap_for_which_the_marks_do_not_last(rt: HostRuntime) -> Result<(), Fail> {
     let (table, mut seat) = one_worker(&rt, rt.alloc(), rooms(3, 8), 0, &[0; 8])?;
@@ -134,7 +134,8 @@ fn swapped_and_read<R: Wait>(
     requires entries { AreEntries table.now.shape entries.now }
     requires entry { entry < length entries.now }
     ensures rests { SeatRests table.now seat.new }
-    ensures reads_back { IfSome result (ReadsBack table.now.shape entries.now entry (view_of seat.old) (view_of seat.new)) }
+    ensures reads_back { IfSome result
+        (ReadsBack table.now.shape entries.now entry (view_of seat.old) (view_of seat.new)) }
 {
     own_changes_are_read();
     match kcas(rt, table, seat, entries) {

@@ -115,7 +115,8 @@ pub fn next_place(table: &Table, seat: &mut Seat) -> Option<u64>
     requires rests { SeatRests table.now seat.old }
     requires keys { (n : ℕ) → In n (view_of seat.old).side.claims → n < table.now.shape.keys }
     ensures rests { SeatRests table.now seat.new }
-    ensures keys { IfSome result (λ _. (n : ℕ) → In n (view_of seat.new).side.claims → n < table.now.shape.keys) }
+    ensures keys { IfSome result (λ _. (n : ℕ) → In n (view_of seat.new).side.claims →
+        n < table.now.shape.keys) }
 {
     claim(table, seat)
 }

@@ -9,7 +9,8 @@ use std::sync::Wait;
 use std::test::*;
 use std::thread::{Threads, join};
 
-// Each worker has descriptors and marks for so many swaps of two cells, and more marks to help the other.
+// Each worker has descriptors and marks for so many swaps of two cells, and more marks to help the
+// other.
 const TRIES: u64 = 100;
 
 /// Moves one from a cell to another, unless the other worker changes one of them meanwhile.

@@ -8,8 +8,8 @@ ghost use Rattle.rh_operations.specs.Size.{size_for};
 ghost use Rattle.rh_operations.specs.declared.cause.Cause.TheVariants.{TooLarge};
 
 #[tactic(auto, using(crate::proofs::SizeLemmas::sized, crate::proofs::SizeLemmas::not_sized))]
-/// The size of a table for so many keys is one, whether it is told as the least that they fit or found
-/// by trying one after the other.
+/// The size of a table for so many keys is one, whether it is told as the least that they fit or
+/// found by trying one after the other.
 pub fn one_size(bits: u32)
     requires { IsBits bits }
     ensures found { (n size : ℕ) → IsCapacity bits n size → size_for bits n ≡ Ok size }

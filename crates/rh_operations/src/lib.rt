@@ -5,18 +5,19 @@
 //!
 //! Proved:
 //!
-//! - `operate`: what an action (`add`, `drop`, `keep`, `flip`, `ask`) makes of the table that is held, and
-//!   what there is to tell. That is a function of the table and of the keys that the list gave
-//!   (`means` of `specs/Actions.antt`), for every runner. A refused action leaves the set as it was.
-//! - An action is refused by the first of: its file's header, another count, for `add` the size, then
-//!   the keys; `keep` and `flip` find the size after all keys.
+//! - `operate`: what an action (`add`, `drop`, `keep`, `flip`, `ask`) makes of the table that is
+//!   held, and what there is to tell. That is a function of the table and of the keys that the list
+//!   gave (`means` of `specs/Actions.antt`), for every runner. A refused action leaves the set as
+//!   it was.
+//! - An action is refused by the first of: its file's header, another count, for `add` the size,
+//!   then the keys; `keep` and `flip` find the size after all keys.
 //! - `use_file`: how many keys a key file has, of which all were read. `saved`: a key file in
 //!   memory of the held keys in rising order.
 //! - `put_snapshot`, `restored`: the bytes spell the one layout of the table, or are read back to
 //!   it.
-//! - Any other cause comes from outside: want of memory, or a shelf, a reader or a runner that failed,
-//!   which was counted. A failed read is told of a file only where the shelf was shown a reader of which
-//!   one failed, and with any other cause it was shown none.
+//! - Any other cause comes from outside: want of memory, or a shelf, a reader or a runner that
+//!   failed, which was counted. A failed read is told of a file only where the shelf was shown a
+//!   reader of which one failed, and with any other cause it was shown none.
 //! - Want of memory is told only where the shelf counted a failure, or the file was found to have
 //!   as many keys as before. For `add` a table is then large enough, too. Of `use_file` it is told
 //!   only where the shelf counted one. A refused start is told as that and as nothing else.

@@ -1,5 +1,5 @@
-//! What is made of a set by keys: of a slice, or that come in batches. All of it is worked out on a copy, so
-//! that a refused command leaves the set as it was.
+//! What is made of a set by keys: of a slice, or that come in batches. All of it is worked out on a
+//! copy, so that a refused command leaves the set as it was.
 
 ghost use Rattle.std.specs.Prelude.{◌≡◌, ◌+◌, All, Ok, IfErr, IfOk, length};
 ghost use Rattle.std.specs.FinSet as finset;
@@ -87,7 +87,8 @@ fn look_through<T: Threads + Wait + Sync, N: Runner, K: KeySource>(
     set: &SeqSet,
     keys: &mut K,
 ) -> Result<(Vec<u64>, Vec<bool>), Cause>
-    ensures took { IfOk result (λ seen. Took (K.coming keys.old) (K.left_of keys.old) seen.0.items) }
+    ensures took { IfOk result
+        (λ seen. Took (K.coming keys.old) (K.left_of keys.old) seen.0.items) }
     ensures found { IfOk result (λ seen. seen.1.items ≡ looked_up set.now.keys seen.0.items) }
     ensures refused { IfErr result (FaultOn (K.coming keys.old) (N.refused_starts runner.old)
         (N.refused_starts runner.new)) }
@@ -138,8 +139,8 @@ pub(crate) fn drop_keys<T: Threads + Wait + Sync, N: Runner, K: KeySource>(
     Ok(Done::Changed(Change::Dropped(tally.removed)))
 }
 
-/// Keeps of the set the keys of a list alone, in a table of the least size for as many as the list has of
-/// them.
+/// Keeps of the set the keys of a list alone, in a table of the least size for as many as the list
+/// has of them.
 pub(crate) fn keep_keys<T: Threads + Wait + Sync, N: Runner, K: KeySource>(
     rt: &T,
     alloc: Global,
@@ -160,8 +161,8 @@ pub(crate) fn keep_keys<T: Threads + Wait + Sync, N: Runner, K: KeySource>(
     Ok(Done::Changed(Change::Kept(many as u64)))
 }
 
-/// Takes the keys of a list that the set holds out of it, and adds the others, in a table that has grown
-/// for those.
+/// Takes the keys of a list that the set holds out of it, and adds the others, in a table that has
+/// grown for those.
 pub(crate) fn flip_keys<T: Threads + Wait + Sync, N: Runner, K: KeySource>(
     rt: &T,
     alloc: Global,

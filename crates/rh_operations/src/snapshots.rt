@@ -26,7 +26,8 @@ pub fn put_snapshot<S: Lender>(
 ) -> Result<(), Cause>
     ensures put { OnOk result ((bytes : List ℕ) × IsSnapshotOf set.now bytes
         × Puts (S.state shelf.old).files (S.state shelf.new).files path.now bytes) }
-    ensures doubt { OnErr result (InDoubt (S.state shelf.old).files (S.state shelf.new).files path.now) }
+    ensures doubt { OnErr result
+        (InDoubt (S.state shelf.old).files (S.state shelf.new).files path.now) }
     ensures refused { IfErr result
         (PutFails (Rose (S.state shelf.old).failures (S.state shelf.new).failures)) }
     ensures fine { OnOk result ((S.state shelf.new).failures ≡ (S.state shelf.old).failures) }

@@ -21,9 +21,9 @@ pub fn parts_agree()
         cut passes (after_all s commands) ≡ after_all (cut passes s) commands }
 {}
 
-/// A script of which no command is refused makes what its commands make. So a run over the part of each
-/// list that is carried out to its end holds, and leaves in files, the part of what the commands make of
-/// the whole lists, even where no table would be large enough for these.
+/// A script of which no command is refused makes what its commands make. So a run over the part of
+/// each list that is carried out to its end holds, and leaves in files, the part of what the
+/// commands make of the whole lists, even where no table would be large enough for these.
 pub fn scripts_agree()
     ensures meant { (s : State) (w made : ScriptState) (steps : List Numbered)
         (accounts : List Account) → Has w s → meaning w steps ≡ Ok (made, accounts) →

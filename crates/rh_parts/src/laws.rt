@@ -5,8 +5,8 @@ ghost use Rattle.std.specs.List.{Contains};
 ghost use Rattle.rh_parts.specs.Parts.{in_part, part_of};
 ghost use Rattle.rh_parts.specs.declared.part.TheConstants.{MAX_PARTS, MULTIPLIER};
 
-/// Each key stands in one part that there is, and of a list that is split each key stands in its part
-/// and in no other one.
+/// Each key stands in one part that there is, and of a list that is split each key stands in its
+/// part and in no other one.
 pub fn one_part_each(parts: u64)
     requires { 0 < parts }
     ensures within { (k : ℕ) → part_of parts k < parts }

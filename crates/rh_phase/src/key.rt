@@ -14,10 +14,10 @@ use rh_shared::{Seat, Table};
 use rh_threads::{Tried, try_key};
 use std::sync::Wait;
 
-/// Inserts, removes or looks up a key, and answers whether it was added, removed or found; none where
-/// the worker has too little room left for it. The cells from the key's home on are read in turn until
-/// they decide; the entries of an act that they ask for are changed by one swap of several cells, and
-/// where that fails the key begins again (Kelly, Pearlmutter and Maguire 2018).
+/// Inserts, removes or looks up a key, and answers whether it was added, removed or found; none
+/// where the worker has too little room left for it. The cells from the key's home on are read in
+/// turn until they decide; the entries of an act that they ask for are changed by one swap of
+/// several cells, and where that fails the key begins again (Kelly, Pearlmutter and Maguire 2018).
 pub fn do_key<R: Wait>(
     rt: &R,
     table: &Table,
@@ -39,8 +39,10 @@ pub fn do_key<R: Wait>(
     ensures same { IsSame seat.old seat.new }
     ensures claims { (view_of seat.new).side.claims ≡ (view_of seat.old).side.claims }
     ensures opening { (view_of seat.new).opening ≡ (view_of seat.old).opening }
-    ensures furthers { Furthers table.now.shape kind key (view_of seat.old) (view_of seat.new) result }
-    ensures done { IfSome result (KeySpec table.now.shape kind key (view_of seat.old) (view_of seat.new)) }
+    ensures furthers { Furthers table.now.shape kind key (view_of seat.old)
+        (view_of seat.new) result }
+    ensures done { IfSome result
+        (KeySpec table.now.shape kind key (view_of seat.old) (view_of seat.new)) }
     ensures spent { IfNone result (HasNoRoom table.now.shape (view_of seat.new)
         × (own_acts_of (view_of seat.new) ≡ own_acts_of (view_of seat.old))) }
 {

@@ -1,7 +1,8 @@
-//! Phases with several workers, as calls: a list of keys that are all inserted, all removed or all looked
-//! up in one table, and a single key (Kelly, Pearlmutter and Maguire 2018).
+//! Phases with several workers, as calls: a list of keys that are all inserted, all removed or all
+//! looked up in one table, and a single key (Kelly, Pearlmutter and Maguire 2018).
 //!
-//! A public crate: `rhset` and `rh_planner` go by `Threads` of `rh_threads`, which has what these calls do.
+//! A public crate: `rhset` and `rh_planner` go by `Threads` of `rh_threads`, which has what these
+//! calls do.
 //!
 //! ```text
 //! let mut cells = SeqSet::new(alloc, 8)?.into_cells();             // 256 cells, and no key

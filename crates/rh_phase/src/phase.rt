@@ -18,8 +18,8 @@ use std::sync::Wait;
 use std::thread::Threads;
 
 /// Inserts or removes the keys, by so many workers that change one table at once. The cells and the
-/// tally are those that one worker makes. On a fault the cells are as they were. All memory is taken
-/// before the first worker starts.
+/// tally are those that one worker makes. On a fault the cells are as they were. All memory is
+/// taken before the first worker starts.
 pub fn change<R: Threads + Wait + Sync, G: Gate + Sync>(
     rt: &R,
     alloc: Global,
@@ -73,8 +73,8 @@ pub fn ask<R: Threads + Wait + Sync, G: Gate + Sync>(
     )
 }
 
-/// `change`, where some threads may not be started, and each worker has this room in a round: a round
-/// more takes place where it does not do.
+/// `change`, where some threads may not be started, and each worker has this room in a round: a
+/// round more takes place where it does not do.
 pub fn change_with<R: Threads + Wait + Sync, G: Gate + Sync, S: Starts + Sync>(
     rt: &R,
     alloc: Global,

@@ -1,4 +1,5 @@
-//! One call of a phase on a small table, and what it leaves, also where it is refused memory or a thread.
+//! One call of a phase on a small table, and what it leaves, also where it is refused memory or a
+//! thread.
 
 ghost use Rattle.std.specs.Prelude.{◌≤◌};
 ghost use Rattle.std.specs.FinSet as set;

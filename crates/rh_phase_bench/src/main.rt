@@ -1,5 +1,5 @@
-//! The program that `benchmarks/phases` times: phases by one worker and by several, and random ones of
-//! both kinds of runner beside one another.
+//! The program that `benchmarks/phases` times: phases by one worker and by several, and random ones
+//! of both kinds of runner beside one another.
 #![tactic(auto)]
 
 mod call;
@@ -22,8 +22,8 @@ const USAGE: &str = "usage: rh_phase_bench stress PHASES SEED
   stress   makes so many random phases on small tables, by 2 to 16 workers and by one, and compares
            what comes of them
   call     makes one small phase, and tells what came of it and what the cells hold then
-  KEYS     so many keys that look random are inserted into an empty table, looked up in it, or removed
-           from it: 1 to 196608
+  KEYS     so many keys that look random are inserted into an empty table, looked up in it, or
+           removed from it: 1 to 196608
   WORKERS  1 to 16 workers at one table, or 0 for one that has it alone";
 
 fn main(rt: HostRuntime) -> ExitCode {

@@ -31,7 +31,8 @@ const NO_ROOM: &str = "the lists are too long, or the keys too great";
 
 const DIFFERS: &str = "several workers made something else than one";
 
-/// Makes so many random phases, each by several workers and by one, and compares what comes of them.
+/// Makes so many random phases, each by several workers and by one, and compares what comes of
+/// them.
 pub fn compare<R: Threads + Wait + Sync + AllocGlobal>(
     rt: &R,
     phases: u32,
@@ -48,8 +49,8 @@ pub fn compare<R: Threads + Wait + Sync + AllocGlobal>(
     Ok(())
 }
 
-/// The usual rooms, or 1 to 3 descriptors and the fewest marks: then rows are used again and again, and
-/// rounds end for want of room.
+/// The usual rooms, or 1 to 3 descriptors and the fewest marks: then rows are used again and again,
+/// and rounds end for want of room.
 fn rooms(random: &mut Random, bits: u32, size: usize) -> Rooms
     requires bits { IsBits bits }
     requires size { size ≡ 2 ^ bits }

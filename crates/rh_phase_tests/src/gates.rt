@@ -1,5 +1,5 @@
-//! Workers work at once, each key is told of once, and no lock lies round a whole key: a gate holds one
-//! worker before its first key until the other one has done a key, or each until all have come.
+//! Workers work at once, each key is told of once, and no lock lies round a whole key: a gate holds
+//! one worker before its first key until the other one has done a key, or each until all have come.
 
 use rh_edit::SeqSet;
 use rh_kcas::{Seat, Table};
@@ -21,8 +21,8 @@ struct Held {
     came: AtomicU64,
     /// 1 where it did not come in time.
     late: AtomicU64,
-    /// For the keys 1, 2, 3 and so on a digit each, of base 16, from the lowest: how often the key was
-    /// done.
+    /// For the keys 1, 2, 3 and so on a digit each, of base 16, from the lowest: how often the key
+    /// was done.
     done: AtomicU64,
     /// The same, of those that were told as true.
     changed: AtomicU64,

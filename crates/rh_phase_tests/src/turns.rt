@@ -1,5 +1,5 @@
-//! When a gate is told: once of each key after it was claimed, before the first step for it, and with
-//! the number of keys that the worker has done.
+//! When a gate is told: once of each key after it was claimed, before the first step for it, and
+//! with the number of keys that the worker has done.
 
 use rh_edit::SeqSet;
 use rh_kcas::{Seat, Table};
@@ -112,7 +112,8 @@ fn each_key_is_told_of_once_in_all_rounds(rt: HostRuntime) -> Result<(), Fail> {
     Ok(())
 }
 
-/// Holds two workers until each has claimed its key, and one of them until the other has done its own.
+/// Holds two workers until each has claimed its key, and one of them until the other has done its
+/// own.
 #[derive(Drop)]
 struct Later {
     held: usize,

@@ -1,8 +1,8 @@
-//! Scripts over key files: a script is read by `parse` and carried out by `run`, over the files of a
-//! `Shelf` and by a `Runner`. That is `Single` for one worker, or `Threads` for several that change
-//! one table at once. Where nothing from outside ends a run, what it writes and the files that it
-//! leaves are those that the script means, whichever the runner is. `run_twice` carries a script out
-//! twice, and promises that two such runs over the same files tell the same.
+//! Scripts over key files: a script is read by `parse` and carried out by `run`, over the files of
+//! a `Shelf` and by a `Runner`. That is `Single` for one worker, or `Threads` for several that
+//! change one table at once. Where nothing from outside ends a run, what it writes and the files
+//! that it leaves are those that the script means, whichever the runner is. `run_twice` carries a
+//! script out twice, and promises that two such runs over the same files tell the same.
 //!
 //! ```text
 //! let mut shelf = MemShelf::new(alloc);            // or `FileShelf::new(rt)`, or one of your own
@@ -12,12 +12,13 @@
 //! let report = run(rt, alloc, &script, &mut shelf, &mut Threads::new(4), &mut writer)?;
 //! ```
 //!
-//! `run` takes any `Shelf`. In a `CountedShelf` it counts the failed reads of the shelf's files too, and then
-//! tells one only where there was one (`Lender`).
+//! `run` takes any `Shelf`. In a `CountedShelf` it counts the failed reads of the shelf's files
+//! too, and then tells one only where there was one (`Lender`).
 //!
-//! It hands on what `rh_script`, `rh_script_run`, `rh_runner`, `Threads` of `rh_threads` and `rh_shelf`
-//! do, with their contracts. With these go `write_keys` of `rh_key_files` and the shelf of `rh_faulty`
-//! that fails once. The program `rh_example` carries out a script so, by one worker and by four.
+//! It hands on what `rh_script`, `rh_script_run`, `rh_runner`, `Threads` of `rh_threads` and
+//! `rh_shelf` do, with their contracts. With these go `write_keys` of `rh_key_files` and the shelf
+//! of `rh_faulty` that fails once. The program `rh_example` carries out a script so, by one worker
+//! and by four.
 #![tactic(auto)]
 
 pub use rh_faulty::{FaultyShelf, ShelfFailure};

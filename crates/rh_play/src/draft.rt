@@ -108,7 +108,8 @@ fn fill(
     line: Line,
 ) -> Result<Draft, PlayTextKind>
     requires { IsTrue (fits (saying_as line)) }
-    ensures { Answers (entered (way_of (Draft.Filled kind bits held)) (saying_as line)) way_of result }
+    ensures { Answers (entered (way_of (Draft.Filled kind bits held)) (saying_as line)) way_of
+        result }
 {
     match line {
         Line::Rooms { descriptors, marks } => Ok(Draft::Roomed(Table {
@@ -157,7 +158,8 @@ fn work_on(
     line: Line,
 ) -> Result<Draft, PlayTextKind>
     requires { IsTrue (fits (saying_as line)) }
-    ensures { Answers (entered (way_of (Draft.Working table pieces)) (saying_as line)) way_of result }
+    ensures { Answers (entered (way_of (Draft.Working table pieces)) (saying_as line)) way_of
+        result }
 {
     match line {
         Line::Work(keys) => {

@@ -1,5 +1,5 @@
-//! Plays as texts: the text that says how workers take turns, read to its values, and the lines that a
-//! play prints.
+//! Plays as texts: the text that says how workers take turns, read to its values, and the lines
+//! that a play prints.
 //!
 //! `rh_trace`, `rh_svg`, `rh_draw` and `rh_play_run` stand on it. It knows no player.
 //!

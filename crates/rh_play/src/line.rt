@@ -158,7 +158,8 @@ fn shared(alloc: Global, rest: &str) -> Result<Line, PlayTextKind>
 /// An order of one word.
 #[tactic(auto, unfolding(rh_lines::specs::Grammar::no_word))]
 fn alone(order: Order, rest: &str) -> Result<Line, PlayTextKind>
-    ensures { Answers (no_word PlayTextKind.BadLine (Schedule order) (words_of rest.now)) saying_as result }
+    ensures { Answers (no_word PlayTextKind.BadLine (Schedule order) (words_of rest.now)) saying_as
+        result }
 {
     let Some(()) = end_of_words(rest) else {
         return Err(PlayTextKind::BadLine);

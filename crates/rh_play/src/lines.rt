@@ -84,7 +84,8 @@ fn push_reference(
     worker: u64,
     number: u64,
 ) -> Result<(), AllocError>
-    ensures { Prints out.old.items out.new.items (reference_line cell name.now worker number) result }
+    ensures { Prints out.old.items out.new.items
+        (reference_line cell name.now worker number) result }
 {
     let (mut first, mut second, mut third) = (Buffer::new(), Buffer::new(), Buffer::new());
     let cell = first.format(cell).as_bytes();

@@ -5,9 +5,9 @@ pub const PROGRAM: &str = "Lets workers take turns on the table of rhset, step b
 
 /// The program, on `rhplay --help` alone.
 pub const PROGRAM_AT_LENGTH: &str = "\
-Lets several workers change one table of rhset a step at a time, in an order that is given, and tells
-or draws what comes of it. `rhplay COMMAND --help` says what a command reads and writes. The commands
-are called as those of `rhset` too: `rhset play FILE`.";
+Lets several workers change one table of rhset a step at a time, in an order that is given, and
+tells or draws what comes of it. `rhplay COMMAND --help` says what a command reads and writes. The
+commands are called as those of `rhset` too: `rhset play FILE`.";
 
 /// What the program's exit status says.
 pub const STATUSES: &str = "\
@@ -109,15 +109,17 @@ pub const FROM: &str = "The number of the first step that is drawn";
 
 /// The argument `--steps`.
 pub const STEPS: &str = "\
-How many steps are drawn, up to 2000; 0 for all from the first one on, if they are no more than 2000";
+How many steps are drawn, up to 2000; 0 for all from the first one on, if they are no more than \
+2000";
 
 /// What `draw` reads and writes.
 pub const DRAWINGS: &str = "\
 `rhplay play --help` says what a play is, `rhplay trace --help` what a step is. Time goes down. Each
 worker has a lane with a mark for each of its steps, which tells the step's line where the pointer
-rests on it, and a line to the lane of the worker whose descriptor it is about. Each cell that changes
-has a column, which shows what stands there and, in italics, what the cell stands for. A line across
-all of them is an act: the moment at which a descriptor succeeds, with the cells that change.
+rests on it, and a line to the lane of the worker whose descriptor it is about. Each cell that
+changes has a column, which shows what stands there and, in italics, what the cell stands for. A
+line across all of them is an act: the moment at which a descriptor succeeds, with the cells that
+change.
 
 Example:
   rhplay draw examples/helping.play > helping.svg";

@@ -4,8 +4,8 @@
 //!
 //! Proved:
 //!
-//! - `line`: the command is the one that the words name, by the rules of `clap`, with what they give.
-//!   It is refused exactly by the kinds of fault that those rules give.
+//! - `line`: the command is the one that the words name, by the rules of `clap`, with what they
+//!   give. It is refused exactly by the kinds of fault that those rules give.
 //! - `name_called`: the name is the last component of the first word, taken as a path, or `rhplay`
 //!   where it has none.
 //! - `fixed_numbers`: at most 2,000 steps are drawn.

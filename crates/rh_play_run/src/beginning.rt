@@ -15,8 +15,8 @@ use rh_stepper::{PlayFault, Player, are_keys};
 use rh_words::Rooms;
 use std::alloc::{AllocError, Global};
 
-/// Empty cells for the table of any play. They are taken before the play is known, so that no fault of
-/// a play is told as want of memory for its table.
+/// Empty cells for the table of any play. They are taken before the play is known, so that no fault
+/// of a play is told as want of memory for its table.
 pub(crate) fn blank_cells(alloc: Global) -> Result<Vec<u64>, AllocError>
     ensures { IfOk result (λ blank. IsBlank blank.items) }
 {
@@ -80,7 +80,8 @@ pub(crate) fn cells_in(bits: u32) -> usize
 
 /// The player of a play whose table has these cells at first.
 fn player_on(alloc: Global, cells: &[u64], play: &Play) -> Result<Player, PlayFault>
-    ensures { MakesPlayer (player_fault play.now cells.now) (StartsOn cells.now play.now play.now.work)
+    ensures { MakesPlayer (player_fault play.now cells.now)
+        (StartsOn cells.now play.now play.now.work)
         result }
 {
     let (bits, kind) = (play.bits.value as u32, play.kind);

@@ -27,7 +27,8 @@ use rh_words::Shape;
 use std::alloc::Global;
 use std::io::{Read, Write};
 
-/// What a play leaves to draw: its table, the words of the cells at first, and its steps and rounds.
+/// What a play leaves to draw: its table, the words of the cells at first, and its steps and
+/// rounds.
 #[derive(Drop)]
 struct Recorded {
     shape: Shape,
@@ -35,9 +36,9 @@ struct Recorded {
     records: Vec<Record>,
 }
 
-/// Reads the text of a play, runs the play, and writes the picture of its steps, an SVG: of so many of
-/// them from this number on, or of all from it on, where they are no more than `MAX_STEPS`. Steps are
-/// numbered from 1.
+/// Reads the text of a play, runs the play, and writes the picture of its steps, an SVG: of so many
+/// of them from this number on, or of all from it on, where they are no more than `MAX_STEPS`.
+/// Steps are numbered from 1.
 ///
 /// All memory is taken before the first byte is written, and all is written at once.
 pub fn draw_play<R: Read, W: Write>(
@@ -53,7 +54,8 @@ pub fn draw_play<R: Read, W: Write>(
     ensures memory { IsErrOf result (DrawFault.Play PlayRunFault.Memory) →
         (reader.new ≡ reader.old) ⊎ SaysGoodPlay (R.remaining (inner_of reader.old)) }
     ensures reads { ReadsPlay (DrawFault.Play PlayRunFault.Read) (R.remaining (inner_of reader.old))
-        (R.remaining (inner_of reader.new)) (failures_of reader.old) (failures_of reader.new) result }
+        (R.remaining (inner_of reader.new)) (failures_of reader.old)
+        (failures_of reader.new) result }
     ensures writes { WritesLast (DrawFault.Play PlayRunFault.Write) writer.old writer.new result }
 {
     let picture = drawn(alloc, from, steps, reader)?;

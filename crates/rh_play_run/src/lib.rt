@@ -20,9 +20,9 @@
 //! - `tell_play`: the same of a text that tells the steps too, each by its line before the line of
 //!   its order. Worker, kind, part and words are those of the step that was made.
 //! - `draw_play`: where it answers `Ok`, what was written is the picture (`rh_draw`) of the steps
-//!   that were made, from a number on, and of the cells at first. A play is refused, and want of memory
-//!   told, as by `run_play`. `TooMany` comes only where no number of steps was chosen and they are more
-//!   than 2,000.
+//!   that were made, from a number on, and of the cells at first. A play is refused, and want of
+//!   memory told, as by `run_play`. `TooMany` comes only where no number of steps was chosen and
+//!   they are more than 2,000.
 //! - `steps_stand_between`: such a text is, without the lines of its steps, what the play prints.
 //!
 //! Of readers and writers whose bytes are not known nothing is said of bytes.

@@ -64,7 +64,8 @@ impl Log {
     }
 
     fn step(&mut self, worker: usize, kind: StepKind, touched: Touched) -> Result<(), AllocError>
-        ensures { OnOk result (TellsPieces self.old (step_piece worker kind touched ∷ []) self.new) }
+        ensures { OnOk result
+            (TellsPieces self.old (step_piece worker kind touched ∷ []) self.new) }
     {
         self.steps = self.steps.saturating_add(1);
         let step = Traced {

@@ -36,8 +36,8 @@ pub(crate) fn rest(
     Ok(stand(player))
 }
 
-/// So many passes, or up to the first in which no turn makes a step; after them so many turns of one
-/// more.
+/// So many passes, or up to the first in which no turn makes a step; after them so many turns of
+/// one more.
 fn take_passes(
     player: &mut Player,
     workers: usize,
@@ -47,7 +47,8 @@ fn take_passes(
 ) -> Result<(), AllocError>
     requires { length player.old.hands ≡ workers }
     ensures { OnOk result ((pieces : List Piece)
-        × PassesToRest passes more player.old pieces player.new × TellsPieces log.old pieces log.new) }
+        × PassesToRest passes more player.old pieces player.new
+        × TellsPieces log.old pieces log.new) }
 {
     'passes: for _ in 0..passes {
         let some = take_turn_of_each(player, workers, log)?;
@@ -62,7 +63,8 @@ fn take_passes(
 /// One turn of each of so many workers in order, and whether one of these turns made a step.
 fn take_turn_of_each(player: &mut Player, count: usize, log: &mut Log) -> Result<bool, AllocError>
     ensures { IfOk result (λ some. (pieces : List Piece)
-        × TurnOfEach count 0 player.old false some pieces player.new × TellsPieces log.old pieces log.new) }
+        × TurnOfEach count 0 player.old false some pieces player.new
+        × TellsPieces log.old pieces log.new) }
 {
     let mut some = false;
     for worker in 0..count {

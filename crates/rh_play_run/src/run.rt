@@ -21,8 +21,8 @@ use rh_play::{Play, Work};
 use std::alloc::Global;
 use std::io::{Read, Write};
 
-/// What a play prints: the lines of its schedule, the cells that are dumped, and the lines below the
-/// dump.
+/// What a play prints: the lines of its schedule, the cells that are dumped, and the lines below
+/// the dump.
 #[derive(Drop)]
 struct Played {
     body: Vec<u8>,
@@ -42,31 +42,35 @@ pub fn run_play<R: Read, W: Write>(
     reader: &mut Counted<R>,
     writer: &mut Counted<W>,
 ) -> Result<(), PlayRunFault>
-    ensures runs { RunsPlay Orders (R.remaining (inner_of reader.old)) (W.contents (inner_of writer.old))
+    ensures runs { RunsPlay Orders (R.remaining (inner_of reader.old))
+        (W.contents (inner_of writer.old))
         (W.contents (inner_of writer.new)) result }
     ensures memory { IsErrOf result PlayRunFault.Memory →
         (reader.new ≡ reader.old) ⊎ SaysGoodPlay (R.remaining (inner_of reader.old)) }
     ensures reads { ReadsPlay PlayRunFault.Read (R.remaining (inner_of reader.old))
-        (R.remaining (inner_of reader.new)) (failures_of reader.old) (failures_of reader.new) result }
+        (R.remaining (inner_of reader.new)) (failures_of reader.old)
+        (failures_of reader.new) result }
     ensures writes { WritesLast PlayRunFault.Write writer.old writer.new result }
 {
     tell_play(alloc, Telling::Orders, reader, writer)
 }
 
-/// `run_play`, which tells so much of the play: where its steps are told, a line for each stands before
-/// the line of its order, and all else is as `run_play` writes it.
+/// `run_play`, which tells so much of the play: where its steps are told, a line for each stands
+/// before the line of its order, and all else is as `run_play` writes it.
 pub fn tell_play<R: Read, W: Write>(
     alloc: Global,
     telling: Telling,
     reader: &mut Counted<R>,
     writer: &mut Counted<W>,
 ) -> Result<(), PlayRunFault>
-    ensures runs { RunsPlay telling (R.remaining (inner_of reader.old)) (W.contents (inner_of writer.old))
+    ensures runs { RunsPlay telling (R.remaining (inner_of reader.old))
+        (W.contents (inner_of writer.old))
         (W.contents (inner_of writer.new)) result }
     ensures memory { IsErrOf result PlayRunFault.Memory →
         (reader.new ≡ reader.old) ⊎ SaysGoodPlay (R.remaining (inner_of reader.old)) }
     ensures reads { ReadsPlay PlayRunFault.Read (R.remaining (inner_of reader.old))
-        (R.remaining (inner_of reader.new)) (failures_of reader.old) (failures_of reader.new) result }
+        (R.remaining (inner_of reader.new)) (failures_of reader.old)
+        (failures_of reader.new) result }
     ensures writes { WritesLast PlayRunFault.Write writer.old writer.new result }
 {
     let blank = blank_cells(alloc)?;

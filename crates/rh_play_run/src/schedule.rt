@@ -18,7 +18,8 @@ pub(crate) fn follow(
     log: &mut Log,
 ) -> Result<(), AllocError>
     requires { HasSize size.workers size.cells player.old }
-    ensures { OnOk result ((pieces : List Piece) × CarriesOutAll orders.now player.old pieces player.new
+    ensures { OnOk result ((pieces : List Piece)
+        × CarriesOutAll orders.now player.old pieces player.new
         × TellsPieces log.old pieces log.new) }
 {
     for order in orders {

@@ -43,9 +43,9 @@ pub(crate) fn take_turns(
     Ok(last)
 }
 
-/// Turns of a worker until one makes a step of this kind, or none, so many at most, and what the last
-/// came to: `Limit` where none was such a turn.
-/// Where the last of them makes the step, that is told and not `Limit`.
+/// Turns of a worker until one makes a step of this kind, or none, so many at most, and what the
+/// last came to: `Limit` where none was such a turn. Where the last of them makes the step, that is
+/// told and not `Limit`.
 pub(crate) fn take_turns_until(
     player: &mut Player,
     worker: usize,

@@ -1,7 +1,8 @@
-//! Tests of plays: their texts and reports, workers and players step by step, what is traced and what
-//! is drawn, from outside.
+//! Tests of plays: their texts and reports, workers and players step by step, what is traced and
+//! what is drawn, from outside.
 //!
-//! They stand apart from the code, so that each crate is proved once, and not once more with its tests.
+//! They stand apart from the code, so that each crate is proved once, and not once more with its
+//! tests.
 #![tactic(auto)]
 
 #[cfg(test)]

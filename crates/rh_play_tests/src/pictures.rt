@@ -32,8 +32,8 @@ fn step(
     })
 }
 
-/// Worker 0 opens a descriptor that puts 9 into cell 4, and places its mark; worker 1 does the rest, so
-/// that the control ends as this word.
+/// Worker 0 opens a descriptor that puts 9 into cell 4, and places its mark; worker 1 does the
+/// rest, so that the control ends as this word.
 fn helped(end: u64) -> [Record; 10] {
     let control = Part::Control { worker: 0 };
     let cell = Part::Cell(4);

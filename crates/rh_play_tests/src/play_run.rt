@@ -202,9 +202,9 @@ fn another_text_writes_nothing(rt: HostRuntime) -> Result<(), Fail> {
     Ok(())
 }
 
-// The first worker removes key 9 so many times from a table that does not hold it; the others have no
-// key. The seven keys that are held have home 3, so each time the worker reads the cells from 4 on to
-// the empty cell 2, and its K-CAS names these seven: 7 + 11 * 7 + 5 steps.
+// The first worker removes key 9 so many times from a table that does not hold it; the others have
+// no key. The seven keys that are held have home 3, so each time the worker reads the cells from 4
+// on to the empty cell 2, and its K-CAS names these seven: 7 + 11 * 7 + 5 steps.
 pub(crate) fn many_removals(
     alloc: Global,
     count: usize,

@@ -1,6 +1,7 @@
-//! The steps that are traced, made again one by one on words of the test's own, by the pure steps of
-//! `rh_descriptor`. What a step names is taken from the words as they stand, and the rest from its
-//! record. Where neither tells what a swap named that found something else, the word has to stay.
+//! The steps that are traced, made again one by one on words of the test's own, by the pure steps
+//! of `rh_descriptor`. What a step names is taken from the words as they stand, and the rest from
+//! its record. Where neither tells what a swap named that found something else, the word has to
+//! stay.
 
 ghost use Rattle.std.specs.Prelude.{◌≡◌, ◌<◌, IfSome, IsTrue, length};
 ghost use Rattle.rh_words.specs.Parts.{IsPart, word_count};
@@ -49,8 +50,8 @@ impl First<(usize, u64, u64, u64, Request)> for Chosen {
     ghost first = { λ a. chosen SHAPE a.0 a.1 a.2 a.3 a.4 };
 }
 
-/// A worker that counts and knows what it takes to make this step. What its worker knew, a trace does
-/// not tell.
+/// A worker that counts and knows what it takes to make this step. What its worker knew, a trace
+/// does not tell.
 fn side_for(worker: usize, next_number: u64, control: u64, marks_used: u64, ask: Request) -> Side
     ensures { result.known.view ≡ chosen SHAPE worker next_number control marks_used ask }
 {
@@ -140,7 +141,8 @@ fn old_of(words: &[u64], desc: Ref, entry: usize) -> Option<u64>
     }
 }
 
-/// What the cell of a decided descriptor gets, whose row is still of it: by its entry for that cell.
+/// What the cell of a decided descriptor gets, whose row is still of it: by its entry for that
+/// cell.
 fn released_of(words: &[u64], desc: Ref, cell: usize) -> Option<(usize, u64)>
     requires { length words.now ≡ word_count SHAPE }
     ensures { IfSome result (λ r. r.0 < 8) }
@@ -254,7 +256,8 @@ fn write_entry(words: &mut [u64], who: usize, part: Part, word: u64) -> bool
 fn write_own(words: &mut [u64], who: usize, numbers: (u64, u64), part: Part, word: u64) -> bool
     requires worker { who < 3 }
     requires sized { length words.old ≡ word_count SHAPE }
-    requires free { IsFree SHAPE (chosen SHAPE who numbers.0 0 numbers.1 (Write part word)) part word }
+    requires free { IsFree SHAPE (chosen SHAPE who numbers.0 0 numbers.1 (Write part word)) part
+        word }
     ensures { length words.new ≡ length words.old }
 {
     let mut side = side_for(who, numbers.0, 0, numbers.1, Request::Write { part, word });
@@ -378,8 +381,8 @@ fn settle_again(words: &mut [u64], who: usize, cell: usize, touched: Touched) ->
     true
 }
 
-/// Which descriptor was named that was not undecided is not known. A withdrawal asks that all marks are
-/// used up.
+/// Which descriptor was named that was not undecided is not known. A withdrawal asks that all marks
+/// are used up.
 fn decide_again(words: &mut [u64], who: usize, owner: usize, touched: Touched) -> bool
     requires worker { who < 3 }
     requires sized { length words.old ≡ word_count SHAPE }

@@ -42,15 +42,16 @@ pub fn peek_cell(table: &Table, seat: &mut Seat, cell: usize) -> u64
     requires knows { Knows table.now.shape (view_of seat.old) }
     requires cell { cell < cell_count table.now.shape }
     ensures same { IsSame seat.old seat.new }
-    ensures read { Learned table.now.shape (reads (Reading.Cell cell)) (sitter_of seat.old) result (sitter_of seat.new) }
+    ensures read { Learned table.now.shape (reads (Reading.Cell cell)) (sitter_of seat.old) result
+        (sitter_of seat.new) }
     ensures still { StillKnows (view_of seat.old) (view_of seat.new) }
     ensures meets { Meets cell (cell_in result) (view_of seat.new).side.facts }
 {
     make(table, seat, Request::Read(Reading::Cell(cell)))
 }
 
-/// Reads how far a descriptor is, by one load: `Unused` where it is not opened yet, and none where it
-/// is stale.
+/// Reads how far a descriptor is, by one load: `Unused` where it is not opened yet, and none where
+/// it is stale.
 #[inline(always)]
 pub fn status(table: &Table, seat: &mut Seat, desc: Ref) -> Option<State>
     requires here { IsHere table.now seat.old }
@@ -66,8 +67,8 @@ pub fn status(table: &Table, seat: &mut Seat, desc: Ref) -> Option<State>
     status_told(desc, word)
 }
 
-/// Reads how many entries a descriptor has, and then whether its row is still of it: none where it is
-/// stale.
+/// Reads how many entries a descriptor has, and then whether its row is still of it: none where it
+/// is stale.
 #[inline(always)]
 pub fn count_entries(table: &Table, seat: &mut Seat, desc: Ref) -> Option<usize>
     requires here { IsHere table.now seat.old }
@@ -75,7 +76,8 @@ pub fn count_entries(table: &Table, seat: &mut Seat, desc: Ref) -> Option<usize>
     requires may { MayPlace table.now.shape (view_of seat.old) desc }
     ensures same { IsSame seat.old seat.new }
     ensures knows { Knows table.now.shape (view_of seat.new) }
-    ensures says { LengthSays table.now.shape desc result (sitter_of seat.old) (sitter_of seat.new) }
+    ensures says { LengthSays table.now.shape desc result (sitter_of seat.old)
+        (sitter_of seat.new) }
     ensures entries { IfSome result (λ size. (e : ℕ) → e < size →
         HasEntry table.now.shape (view_of seat.new) desc e) }
 {
@@ -87,9 +89,9 @@ pub fn count_entries(table: &Table, seat: &mut Seat, desc: Ref) -> Option<usize>
     Some(length)
 }
 
-/// Places the worker's next mark for an entry that it knows the descriptor to have. The cell and the old
-/// value are read in the row, and whether it is still of the descriptor; then the three words of the
-/// mark row are written, and one compare-and-swap of the cell is made.
+/// Places the worker's next mark for an entry that it knows the descriptor to have. The cell and
+/// the old value are read in the row, and whether it is still of the descriptor; then the three
+/// words of the mark row are written, and one compare-and-swap of the cell is made.
 #[inline(always)]
 pub fn place(table: &Table, seat: &mut Seat, desc: Ref, entry: usize) -> Placed
     requires here { IsHere table.now seat.old }
@@ -97,7 +99,8 @@ pub fn place(table: &Table, seat: &mut Seat, desc: Ref, entry: usize) -> Placed
     requires entry { HasEntry table.now.shape (view_of seat.old) desc entry }
     ensures same { SitsSame seat.old seat.new }
     ensures knows { Knows table.now.shape (view_of seat.new) }
-    ensures places { Places table.now.shape desc entry (sitter_of seat.old) result (sitter_of seat.new) }
+    ensures places { Places table.now.shape desc entry (sitter_of seat.old) result
+        (sitter_of seat.new) }
     ensures mine { result ≡ Mine → IsMine desc entry seat.new }
     ensures others { result ≢ Mine → seat.new.placed ≡ seat.old.placed }
 {
@@ -110,23 +113,27 @@ pub fn place(table: &Table, seat: &mut Seat, desc: Ref, entry: usize) -> Placed
     }
 }
 
-/// Settles a mark that stands in this cell, where the worker found it or placed it. A mark of another
-/// worker: its row is read, then the control of its descriptor, and the descriptor is put into the mark's
-/// place where that is undecided, else the old value that its row says. None, and no Settle was made, where
-/// the mark or its descriptor is stale: then its worker settles it, if it has not. The own
-/// mark, which is the last that the worker placed by `place`: the control is read, and the mark settled to
-/// the descriptor or to the old value that the seat keeps, also where it is stale. Answers the word
-/// that the Settle found; where it is not the mark, another worker settled it.
+/// Settles a mark that stands in this cell, where the worker found it or placed it. A mark of
+/// another worker: its row is read, then the control of its descriptor, and the descriptor is put
+/// into the mark's place where that is undecided, else the old value that its row says. None, and
+/// no Settle was made, where the mark or its descriptor is stale: then its worker settles it, if it
+/// has not. The own mark, which is the last that the worker placed by `place`: the control is read,
+/// and the mark settled to the descriptor or to the old value that the seat keeps, also where it is
+/// stale. Answers the word that the Settle found; where it is not the mark, another worker settled
+/// it.
 #[inline(always)]
 pub fn settle(table: &Table, seat: &mut Seat, cell: usize, mark: Ref) -> Option<u64>
     requires here { IsHere table.now seat.old }
     requires knows { Knows table.now.shape (view_of seat.old) }
     requires found { In (found (ref_of mark) cell) (view_of seat.old).side.facts }
-    requires own { mark.worker ≡ (view_of seat.old).worker → Recalls (view_of seat.old) mark seat.old.placed }
+    requires own { mark.worker ≡ (view_of seat.old).worker →
+        Recalls (view_of seat.old) mark seat.old.placed }
     ensures same { IsSame seat.old seat.new }
     ensures knows { Knows table.now.shape (view_of seat.new) }
-    ensures settles { SettlesMark table.now.shape cell mark seat.old.placed (sitter_of seat.old) result (sitter_of seat.new) }
-    ensures settled { IsOwnUnsettled (view_of seat.old) mark → (view_of seat.new).side.unsettled ≡ None }
+    ensures settles { SettlesMark table.now.shape cell mark seat.old.placed
+        (sitter_of seat.old) result (sitter_of seat.new) }
+    ensures settled { IsOwnUnsettled (view_of seat.old) mark →
+        (view_of seat.new).side.unsettled ≡ None }
 {
     if mark.worker == seat.side.worker {
         // (it keeps for what its mark is)

@@ -22,11 +22,11 @@
 //!   that worker, and `Unused` where it was of an earlier one.
 //! - `count_entries` is for a descriptor that the worker opened or whose control it read as not
 //!   `Unused`: its length is read in the row, or it is told that the row is of a later one.
-//! - `place` is for an entry that the worker knows: of its own descriptor, or of one whose length it
-//!   read. The entry is read in the row, and the mark row is written. Then the next own mark is put
-//!   into the cell where the old value was found; else that other word is told.
-//! - `place` answers `Passed` just where the descriptor was stale; no mark was used then. `Spent` comes
-//!   just where no mark was left, and nothing was done.
+//! - `place` is for an entry that the worker knows: of its own descriptor, or of one whose length
+//!   it read. The entry is read in the row, and the mark row is written. Then the next own mark is
+//!   put into the cell where the old value was found; else that other word is told.
+//! - `place` answers `Passed` just where the descriptor was stale; no mark was used then. `Spent`
+//!   comes just where no mark was left, and nothing was done.
 //! - `settle` of another worker's mark: its row is read, then the control of its descriptor. The
 //!   mark is swapped for the descriptor where that is undecided, else for the old value; the answer
 //!   is the word that the swap found.
@@ -36,8 +36,8 @@
 //!   also where it is stale. A swap is always made, and no own mark is unsettled then.
 //! - Each call makes just the steps that are named here, in this order, and what it answers is the
 //!   word that the step found: the table keeps the trace of them.
-//! - The own mark that a seat keeps stays in each call but where `place` puts the next one, and in those
-//!   of `rh_kcas` too.
+//! - The own mark that a seat keeps stays in each call but where `place` puts the next one, and in
+//!   those of `rh_kcas` too.
 #![tactic(auto)]
 
 mod calls;

@@ -18,7 +18,8 @@ pub(crate) fn make(table: &Table, seat: &mut Seat, request: Request) -> u64
     requires knows { Knows table.now.shape (view_of seat.old) }
     requires allowed { Allowed table.now.shape (view_of seat.old) (step_asked request) }
     ensures same { IsSame seat.old seat.new }
-    ensures learned { Learned table.now.shape (step_asked request) (sitter_of seat.old) result (sitter_of seat.new) }
+    ensures learned { Learned table.now.shape (step_asked request) (sitter_of seat.old) result
+        (sitter_of seat.new) }
 {
     let mut here = OnTable {
         table,

@@ -11,8 +11,8 @@ use crate::making::make;
 use rh_shared::{OwnMark, Seat, Table};
 use rh_words::{Part, Piece, Reading, Ref, Request, desc_word};
 
-/// Reads the cell and the old value of an entry in the row of its descriptor, and then whether the row
-/// is still of it: if not, what was read says nothing of it.
+/// Reads the cell and the old value of an entry in the row of its descriptor, and then whether the
+/// row is still of it: if not, what was read says nothing of it.
 #[inline(always)]
 pub(crate) fn read_entry(
     table: &Table,
@@ -24,7 +24,8 @@ pub(crate) fn read_entry(
     requires knows { Knows table.now.shape (view_of seat.old) }
     requires has { HasEntry table.now.shape (view_of seat.old) desc entry }
     ensures same { IsSame seat.old seat.new }
-    ensures says { EntrySays table.now.shape desc entry result (sitter_of seat.old) (sitter_of seat.new) }
+    ensures says { EntrySays table.now.shape desc entry result (sitter_of seat.old)
+        (sitter_of seat.new) }
 {
     let reading = Reading::EntryCell { desc, entry };
     let cell = make(table, seat, Request::Read(reading)) as usize;
@@ -46,7 +47,8 @@ pub(crate) fn place_there(table: &Table, seat: &mut Seat, piece: Piece, old: u64
     requires left { seat.old.side.marks_used < table.now.shape.rooms.marks }
     ensures same { SitsSame seat.old seat.new }
     ensures knows { Knows table.now.shape (view_of seat.new) }
-    ensures tried { TriedSo table.now.shape piece old (sitter_of seat.old) result (sitter_of seat.new) }
+    ensures tried { TriedSo table.now.shape piece old (sitter_of seat.old) result
+        (sitter_of seat.new) }
     ensures mine { result ≡ Mine → IsMine piece.desc piece.entry seat.new }
     ensures others { result ≢ Mine → seat.new.placed ≡ seat.old.placed }
 {
@@ -62,9 +64,9 @@ pub(crate) fn place_there(table: &Table, seat: &mut Seat, piece: Piece, old: u64
     Placed::Mine
 }
 
-/// Places the next own mark, which is left, and answers the word that stood in the cell. The mark row
-/// is written first, since whoever meets the mark reads it, and before all else the mark's number,
-/// since whoever meets an older one must see that it is stale.
+/// Places the next own mark, which is left, and answers the word that stood in the cell. The mark
+/// row is written first, since whoever meets the mark reads it, and before all else the mark's
+/// number, since whoever meets an older one must see that it is stale.
 #[inline(always)]
 pub(crate) fn place_next(table: &Table, seat: &mut Seat, piece: Piece, old: u64) -> u64
     requires here { IsHere table.now seat.old }
@@ -72,7 +74,8 @@ pub(crate) fn place_next(table: &Table, seat: &mut Seat, piece: Piece, old: u64)
     requires knows_it { KnowsPiece table.now.shape (view_of seat.old) piece old }
     requires left { seat.old.side.marks_used < table.now.shape.rooms.marks }
     ensures same { IsSame seat.old seat.new }
-    ensures tried { Tried table.now.shape piece old (sitter_of seat.old) result (sitter_of seat.new) }
+    ensures tried { Tried table.now.shape piece old (sitter_of seat.old) result
+        (sitter_of seat.new) }
 {
     let worker = seat.side.worker;
     let part = Part::MarkSerial { worker };

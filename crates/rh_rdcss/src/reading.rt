@@ -9,8 +9,8 @@ use rh_helping::state_told;
 use rh_tagword::{State, unpack_control};
 use rh_words::Ref;
 
-/// How a descriptor stands by this word, its worker's control: `Unused` where that is of an earlier one, and
-/// none where it is of a later one.
+/// How a descriptor stands by this word, its worker's control: `Unused` where that is of an earlier
+/// one, and none where it is of a later one.
 #[inline(always)]
 pub(crate) fn status_told(desc: Ref, word: u64) -> Option<State>
     requires { IsControlWord word }

@@ -47,8 +47,10 @@ pub(crate) fn settle_own(table: &Table, seat: &mut Seat, cell: usize, own: OwnMa
     requires facts { NotesMark (view_of seat.old) own }
     ensures same { IsSame seat.old seat.new }
     ensures knows { Knows table.now.shape (view_of seat.new) }
-    ensures settles { SettlesOwn table.now.shape cell own (sitter_of seat.old) result (sitter_of seat.new) }
-    ensures settled { IsOwnUnsettled (view_of seat.old) own.mark → (view_of seat.new).side.unsettled ≡ None }
+    ensures settles { SettlesOwn table.now.shape cell own (sitter_of seat.old) result
+        (sitter_of seat.new) }
+    ensures settled { IsOwnUnsettled (view_of seat.old) own.mark →
+        (view_of seat.new).side.unsettled ≡ None }
 {
     let OwnMark { mark, piece, old } = own;
     let piece = Piece { cell, ..piece };
@@ -60,8 +62,8 @@ pub(crate) fn settle_own(table: &Table, seat: &mut Seat, cell: usize, own: OwnMa
     make(table, seat, Request::Settle { mark, piece, old })
 }
 
-/// What the own mark is settled to, by the control of its descriptor: to the old value also where that is
-/// stale.
+/// What the own mark is settled to, by the control of its descriptor: to the old value also where
+/// that is stale.
 #[inline(always)]
 fn own_target(desc: Ref, word: u64, old: u64) -> Target
     requires { IsControlWord word }
@@ -81,7 +83,8 @@ pub(crate) fn settle_met(table: &Table, seat: &mut Seat, cell: usize, mark: Ref)
     requires found { In (found (ref_of mark) cell) (view_of seat.old).side.facts }
     ensures same { IsSame seat.old seat.new }
     ensures knows { Knows table.now.shape (view_of seat.new) }
-    ensures settles { SettlesMet table.now.shape mark cell (sitter_of seat.old) result (sitter_of seat.new) }
+    ensures settles { SettlesMet table.now.shape mark cell (sitter_of seat.old) result
+        (sitter_of seat.new) }
 {
     let piece = read_row(table, seat, mark, cell)?;
     let to = judge(table, seat, mark, piece)?;
@@ -89,15 +92,16 @@ pub(crate) fn settle_met(table: &Table, seat: &mut Seat, cell: usize, mark: Ref)
     Some(make(table, seat, Request::Settle { mark, piece, old }))
 }
 
-/// Reads the row of a mark that was found in this cell, and then whether it is still of this mark: if
-/// not, the mark stands in no cell any more.
+/// Reads the row of a mark that was found in this cell, and then whether it is still of this mark:
+/// if not, the mark stands in no cell any more.
 #[inline(always)]
 pub(crate) fn read_row(table: &Table, seat: &mut Seat, mark: Ref, cell: usize) -> Option<Piece>
     requires here { IsHere table.now seat.old }
     requires knows { Knows table.now.shape (view_of seat.old) }
     requires found { In (found (ref_of mark) cell) (view_of seat.old).side.facts }
     ensures same { IsSame seat.old seat.new }
-    ensures says { RowSays table.now.shape mark cell result (sitter_of seat.old) (sitter_of seat.new) }
+    ensures says { RowSays table.now.shape mark cell result (sitter_of seat.old)
+        (sitter_of seat.new) }
 {
     let named = make(table, seat, Request::Read(Reading::MarkDesc(mark)));
     let entry = make(table, seat, Request::Read(Reading::MarkEntry(mark))) as usize;
@@ -112,15 +116,16 @@ pub(crate) fn read_row(table: &Table, seat: &mut Seat, mark: Ref, cell: usize) -
     Some(Piece { desc, entry, cell })
 }
 
-/// Reads the control of the descriptor that the mark is for, and answers what the mark is to be settled
-/// to; nothing where the descriptor is stale.
+/// Reads the control of the descriptor that the mark is for, and answers what the mark is to be
+/// settled to; nothing where the descriptor is stale.
 #[inline(always)]
 pub(crate) fn judge(table: &Table, seat: &mut Seat, mark: Ref, piece: Piece) -> Option<Target>
     requires here { IsHere table.now seat.old }
     requires knows { Knows table.now.shape (view_of seat.old) }
     requires met { IsFound (view_of seat.old) mark piece }
     ensures same { IsSame seat.old seat.new }
-    ensures judged { Judged table.now.shape mark piece (sitter_of seat.old) result (sitter_of seat.new) }
+    ensures judged { Judged table.now.shape mark piece (sitter_of seat.old) result
+        (sitter_of seat.new) }
 {
     let Piece { desc, entry, cell } = piece;
     let reading = Reading::MarkControl { mark, cell, desc };

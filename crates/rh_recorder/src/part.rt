@@ -38,7 +38,8 @@ fn rows_of_one(shape: &Shape) -> usize
     shape.index(last) + 1 - shape.cells()
 }
 
-/// The part at this word of the rows of a worker: its descriptor row, its mark row, and its reasons.
+/// The part at this word of the rows of a worker: its descriptor row, its mark row, and its
+/// reasons.
 fn part_in_rows(shape: &Shape, worker: usize, row: usize) -> Part
     requires shape { IsShape shape.now }
     requires worker { worker < shape.now.workers }
@@ -93,7 +94,8 @@ fn mark_part(shape: &Shape, worker: usize, word: usize) -> Part
     requires worker { worker < shape.now.workers }
     requires word { word < 3 + shape.now.workers }
     ensures part { IsPart shape.now result }
-    ensures index { index_of shape.now result ≡ row_index shape.now worker (mark_row shape.now word) }
+    ensures index { index_of shape.now result ≡ row_index shape.now worker
+        (mark_row shape.now word) }
 {
     let _ = shape;
     match word {

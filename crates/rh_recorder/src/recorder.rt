@@ -14,10 +14,9 @@ pub struct Touched {
     pub left: u64,
 }
 
-/// The words of a table, and what the last step on them touched, if one was made. One thread makes the
-/// steps.
-/// It records whether steps are told or not: what makes a step is what knows it, and no worker has
-/// to tell more.
+/// The words of a table, and what the last step on them touched, if one was made. One thread makes
+/// the steps. It records whether steps are told or not: what makes a step is what knows it, and no
+/// worker has to tell more.
 #[derive(Drop)]
 pub struct Recorder {
     pub words: Vec<u64>,
@@ -32,7 +31,8 @@ impl Steps for Recorder {
 
     ghost serves = { λ z t v. Serves z t.words.items v };
 
-    ghost made = { λ z s t v word then next. Records then.last z s t.words.items v word then.words.items next };
+    ghost made = { λ z s t v word then next. Records then.last z s t.words.items v word
+        then.words.items next };
 
     fn make(&mut self, shape: &Shape, side: &mut Side, request: Request) -> u64 {
         let index = request.index(shape, side);

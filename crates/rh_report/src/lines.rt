@@ -1,5 +1,5 @@
-//! Reports of one line. They take no memory, and each number and each word is a write of its own, so
-//! give them a writer with a buffer.
+//! Reports of one line. They take no memory, and each number and each word is a write of its own,
+//! so give them a writer with a buffer.
 
 ghost use Rattle.std.specs.Prelude.{◌≡◌, ◌++◌, List, ℕ, OnErr, OnOk, decimal};
 ghost use Rattle.rh_bytes.specs.Counting.{Rose, Writes, failures_of, inner_of};
@@ -145,7 +145,8 @@ fn write_table_line<W: Write>(
     table: Table,
 ) -> Result<(), WriteFault>
     ensures text { Writes (W.contents (inner_of writer.old)) (W.contents (inner_of writer.new))
-        (line_text word.now name.now (numbers_as numbers.now ++ table_numbers table.held table.bits))
+        (line_text word.now name.now
+        (numbers_as numbers.now ++ table_numbers table.held table.bits))
         result }
     ensures failed { OnErr result (Rose (failures_of writer.old) (failures_of writer.new)) }
     ensures fine { OnOk result (failures_of writer.new ≡ failures_of writer.old) }

@@ -11,22 +11,22 @@ pub fn each_step_keeps()
     ensures { EachStepOnWordsKeeps }
 {}
 
-/// What a worker may rely on: what its steps find, and that what it noted fits the table and does not
-/// contradict itself.
+/// What a worker may rely on: what its steps find, and that what it noted fits the table and does
+/// not contradict itself.
 pub fn workers_rely()
     ensures sound { ViewsAreSound }
     ensures find { StepsFind }
 {}
 
-/// What the rule says at any moment of what is kept of the workers: the acts stand in one order, and
-/// each kept read and each failed descriptor has its prefix of them, which never goes back.
+/// What the rule says at any moment of what is kept of the workers: the acts stand in one order,
+/// and each kept read and each failed descriptor has its prefix of them, which never goes back.
 pub fn tells()
     ensures { TableTells }
 {}
 
-/// Where all workers are at rest, no mark and no descriptor stands in a cell: each holds the opening
-/// cell changed act by act, and the acts of a worker are those of its descriptors that it noted as
-/// succeeded.
+/// Where all workers are at rest, no mark and no descriptor stands in a cell: each holds the
+/// opening cell changed act by act, and the acts of a worker are those of its descriptors that it
+/// noted as succeeded.
 pub fn rests()
     ensures { TableRests }
 {}

@@ -18,8 +18,8 @@ pub struct TableKey {
     pub cells: Snapshot<Vec<u64>>,
 }
 
-/// What a seat has of one worker: what that has done and knows, and the steps that it made in this round, the newest
-/// first. It takes no bytes.
+/// What a seat has of one worker: what that has done and knows, and the steps that it made in this
+/// round, the newest first. It takes no bytes.
 pub struct Sitter {
     pub ghost view: { View },
     pub ghost trace: { List Touch },

@@ -1,10 +1,10 @@
 //! Runs of a table: how far its workers have come with their keys, at each moment, over its rounds,
 //! and what they have made of the set at the end.
 //!
-//! These are laws, in any interleaving of the workers' steps. They join `rh_rule`, the rule of a table
-//! of words, to `rh_acts`, what acts make of a set; `rh_worker`, `rh_threads` and `rh_turns` stand on
-//! them.
-//! What a worker did so far is told as one list of acts on the values of its cells, its history.
+//! These are laws, in any interleaving of the workers' steps. They join `rh_rule`, the rule of a
+//! table of words, to `rh_acts`, what acts make of a set; `rh_worker`, `rh_threads` and `rh_turns`
+//! stand on them. What a worker did so far is told as one list of acts on the values of its cells,
+//! its history.
 //!
 //! Proved of histories:
 //!

@@ -18,18 +18,20 @@ use std::alloc::{AllocError, Global};
 use std::sync::Wait;
 use std::thread::Threads;
 
-/// How many keys are taken at a time of a list that is only read through, or of which one worker that
-/// has the table alone does a few after the others.
+/// How many keys are taken at a time of a list that is only read through, or of which one worker
+/// that has the table alone does a few after the others.
 pub const BATCH: usize = 4_096;
 
-/// How many keys a phase of several workers takes at most that changes a table: as many as may be added
-/// to one. It makes a table of its own, so a list is cut only where that is needed to bound the memory.
+/// How many keys a phase of several workers takes at most that changes a table: as many as may be
+/// added to one. It makes a table of its own, so a list is cut only where that is needed to bound
+/// the memory.
 pub const PHASE: usize = (1 << MAX_BITS) / LOAD_DENOMINATOR as usize * LOAD_NUMERATOR as usize;
 
 /// How many keys a phase of look-ups by several workers takes at most: as many as a list has.
 pub const LOOK_UPS: usize = MAX_KEYS as usize;
 
-/// Room for the keys of a phase, which takes at most so many, over a list of which `left` are to come.
+/// Room for the keys of a phase, which takes at most so many, over a list of which `left` are to
+/// come.
 pub(crate) fn phase_room(alloc: Global, left: u64, most: usize) -> Result<Vec<u64>, AllocError>
     ensures some { IfOk result (λ room. 0 < length room.items) }
 {

@@ -11,8 +11,8 @@ ghost use Rattle.rh_script_run.specs.Ends.{Ends};
 ghost use Rattle.rh_script_run.specs.Environment.{Environment};
 ghost use Rattle.rh_script_run.specs.Meaning.{meaning, start};
 
-/// Two runs of one script over the same files that both end by themselves have one result, leave the
-/// same files and append the same text.
+/// Two runs of one script over the same files that both end by themselves have one result, leave
+/// the same files and append the same text.
 pub fn runs_agree()
     ensures { (files : Files) (steps : List Numbered) (old new old' new' : Environment)
         (r r' : Result Report RunFault) →

@@ -1,7 +1,7 @@
 //! What a script means, and its run.
 //!
-//! `rh_set_program` and `rh_planner` stand on it. It knows phases by `Runner` alone, and so needs no
-//! crate of the shared table.
+//! `rh_set_program` and `rh_planner` stand on it. It knows phases by `Runner` alone, and so needs
+//! no crate of the shared table.
 //!
 //! ```text
 //! let mut shelf = MemShelf::new(alloc);
@@ -22,19 +22,19 @@
 //!   `restore`, one of a key file for those with a list. `Missing` goes with those that fetch, a
 //!   refused thread with those that run a phase, and want of memory with all but `dump`.
 //! - `Missing`, `Put` and `Write` come only where the file is not there or the device's count of
-//!   failures rose. `NoThread` comes only where the runner counted a refused start, and a failed read
-//!   of a file only where the shelf was shown a reader that failed (`CountedShelf` of `rh_shelf`). A
-//!   count that is the greatest stays, and then tells nothing.
+//!   failures rose. `NoThread` comes only where the runner counted a refused start, and a failed
+//!   read of a file only where the shelf was shown a reader that failed (`CountedShelf` of
+//!   `rh_shelf`). A count that is the greatest stays, and then tells nothing.
 //! - The files are those that the carried out commands made: what `snapshot` put spells the one
 //!   layout of the table's keys. Where a `snapshot` was refused, its path alone is in doubt.
 //! - All this holds for every runner, for every shelf whose readers tell their bytes, and for every
 //!   writer that tells its own. For others no more than safety, and those counts, is claimed.
-//! - Where `run` answers `Ok`, no failure of the shelf, of its files or of the writer and no refused
-//!   start was counted meanwhile. Nor was a failed read counted, or a refused start, where another
-//!   fault is told.
+//! - Where `run` answers `Ok`, no failure of the shelf, of its files or of the writer and no
+//!   refused start was counted meanwhile. Nor was a failed read counted, or a refused start, where
+//!   another fault is told.
 //! - `runs_agree`: two runs of one script over the same files that both end by themselves have one
-//!   result, leave the same files, and append the same text. A run that ends by `Missing` does so by
-//!   itself where the shelf counted no failure, or is known not to have the file.
+//!   result, leave the same files, and append the same text. A run that ends by `Missing` does so
+//!   by itself where the shelf counted no failure, or is known not to have the file.
 //! - `run_twice`: calls `run` twice, with shelves, runners and writers of their own, and promises
 //!   the same of both results.
 //! - `ends_as_meant`: the result of a run that ends by itself is that of the script's meaning.

@@ -97,7 +97,8 @@ fn carry_out_all<T: Threads + Wait + Sync, S: Lender, N: Runner, W: Write>(
     requires planned { (steps : List Numbered) × (planned_of plan.now ≡ plan_of steps) }
     requires keys { set.keys ≡ finset.empty }
     requires bits { set.bits ≡ MIN_BITS }
-    ensures meant { (files : Files) (steps : List Numbered) → (S.state shelf.old).files ≡ Some files →
+    ensures meant { (files : Files) (steps : List Numbered) →
+        (S.state shelf.old).files ≡ Some files →
         planned_of plan.now ≡ plan_of steps → SnapshotsAreNew steps →
         AllEnds files steps
         (environment (S.state shelf.old) (N.refused_starts runner.old)

@@ -98,7 +98,8 @@ pub(crate) fn use_step<'a, S: Lender>(
     path: &'a str,
 ) -> Result<Told<'a>, Cause>
     ensures made { (set : Held) (named : Named) (files : FileMap) →
-        HasFiles files (S.state shelf.old).files → ListsStand (S.state shelf.old).files lists.old.items named →
+        HasFiles files (S.state shelf.old).files →
+        ListsStand (S.state shelf.old).files lists.old.items named →
         MakesLists (uses (world_of set named files) name.now path.now)
         (ListFails (Rose (S.state shelf.old).failures (S.state shelf.new).failures)
         (Rose (S.state shelf.old).failed_reads (S.state shelf.new).failed_reads))
@@ -161,7 +162,8 @@ pub(crate) fn snapshot_step<'a, S: Lender>(
     path: &'a str,
 ) -> Result<Told<'a>, Cause>
     ensures made { (lists : List KeyList) (named : Named) (files : FileMap) →
-        HasFiles files (S.state shelf.old).files → ListsStand (S.state shelf.old).files lists named →
+        HasFiles files (S.state shelf.old).files →
+        ListsStand (S.state shelf.old).files lists named →
         is_given path.now (paths_of lists) ≡ false →
         MakesState (Snapshot path.now) (snapshots (world_of set.now named files) path.now)
         (PutFails (Rose (S.state shelf.old).failures (S.state shelf.new).failures))

@@ -65,7 +65,10 @@ pub(crate) fn carry_out<'a, T: Threads + Wait + Sync, S: Lender, N: Runner, W: W
 }
 
 /// Carries a task out, and answers what it has to report.
-#[tactic(auto, using(crate::proofs::StepLemmas::leaves_kept), unfolding(crate::specs::Meaning::outcome_of, rh_script::specs::Plan::number_after))]
+#[tactic(auto,
+    using(crate::proofs::StepLemmas::leaves_kept),
+    unfolding(crate::specs::Meaning::outcome_of, rh_script::specs::Plan::number_after)
+)]
 fn act<'a, T: Threads + Wait + Sync, S: Lender, N: Runner>(
     rt: &T,
     alloc: Global,
@@ -82,7 +85,8 @@ fn act<'a, T: Threads + Wait + Sync, S: Lender, N: Runner>(
         IsApart task.now lists.old.items →
         MakesState (task_as task.now).0
         (outcome_of (world_of set.old named files) (task_as task.now).0)
-        (IsOutside (task_as task.now).0 (Rose (S.state shelf.old).failures (S.state shelf.new).failures)
+        (IsOutside (task_as task.now).0
+        (Rose (S.state shelf.old).failures (S.state shelf.new).failures)
         (Rose (S.state shelf.old).failed_reads (S.state shelf.new).failed_reads)
         (Rose (N.refused_starts runner.old) (N.refused_starts runner.new)))
         files (S.state shelf.new).files set.new lists.new.items result }

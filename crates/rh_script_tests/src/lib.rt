@@ -1,7 +1,8 @@
-//! Tests of scripts, from their text to what they leave: their files, runners, operations and reports,
-//! from outside.
+//! Tests of scripts, from their text to what they leave: their files, runners, operations and
+//! reports, from outside.
 //!
-//! They stand apart from the code, so that each crate is proved once, and not once more with its tests.
+//! They stand apart from the code, so that each crate is proved once, and not once more with its
+//! tests.
 #![tactic(auto)]
 
 #[cfg(test)]

@@ -234,8 +234,8 @@ fn answers_stand_64_on_a_line(rt: HostRuntime) -> Result<(), Fail> {
     Ok(())
 }
 
-// Key files that are refused, and why: the last ones name two keys, and have 15 bytes of them, 17, or
-// both.
+// Key files that are refused, and why: the last ones name two keys, and have 15 bytes of them, 17,
+// or both.
 const REFUSED: &[(&[u8], KeyFault)] = &[
     (b"RHK", KeyFault::Short),
     (b"RHKX", KeyFault::NotKeys),
@@ -255,8 +255,8 @@ const REFUSED: &[(&[u8], KeyFault)] = &[
     ),
 ];
 
-// A run ends where a file is refused, so the table is looked at in the snapshot that was put before, and
-// none is put after it.
+// A run ends where a file is refused, so the table is looked at in the snapshot that was put
+// before, and none is put after it.
 #[test]
 fn files_that_are_refused(rt: HostRuntime) -> Result<(), Fail> {
     for &(bytes, fault) in REFUSED {

@@ -13,7 +13,8 @@ const NOTHING: Tally = Tally {
     found: 0,
 };
 
-// The kind of a phase on the keys 1, 9 and 17 at 3 bits, its keys, its tally, and the cells after it.
+// The kind of a phase on the keys 1, 9 and 17 at 3 bits, its keys, its tally, and the cells after
+// it.
 const PHASES: &[(Kind, &[u64], Tally, [u64; 8])] = &[
     (
         Kind::Insert,

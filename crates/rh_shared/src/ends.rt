@@ -26,7 +26,8 @@ pub fn make(alloc: Global, shape: Shape, cells: &[u64]) -> Result<(Table, Seat),
     requires values { (c : ℕ) → c < length cells.now → IsValue (slice_index cells.now c) }
     ensures shape { IfOk result (λ r. r.0.shape ≡ shape) }
     ensures all { IfOk result (λ r. HasAll r.0 r.1) }
-    ensures views { IfOk result (λ r. views_of r.1 ≡ first_view shape (map plain_number cells.now)) }
+    ensures views { IfOk result
+        (λ r. views_of r.1 ≡ first_view shape (map plain_number cells.now)) }
     ensures unmarked { IfOk result (λ r. r.1.placed ≡ None) }
     ensures fresh { IfOk result (λ r. InView IsFresh (views_of r.1)) }
     ensures rows { IfOk result (λ r. InView (UsedNoRow r.0.shape) (views_of r.1)) }
@@ -76,8 +77,8 @@ pub fn close(table: Table, seat: Seat, cells: &mut [u64])
     closed.free();
 }
 
-/// Frees the table, where nobody needs its cells. All workers are at rest, as for `close`: so the cells
-/// have values.
+/// Frees the table, where nobody needs its cells. All workers are at rest, as for `close`: so the
+/// cells have values.
 pub fn discard(table: Table, seat: Seat)
     requires all { HasAll table seat }
     requires rest { InView IsQuiet (views_of seat) }

@@ -16,8 +16,8 @@ pub struct OwnMark {
 }
 
 /// The seat of `count` workers of a table, from `side.worker` on. Only the seat of one worker makes
-/// steps: it has the worker's own state beside what the table keeps of it, and the last mark that it
-/// placed by `place`, if any. For more workers the counts in `side` mean nothing.
+/// steps: it has the worker's own state beside what the table keeps of it, and the last mark that
+/// it placed by `place`, if any. For more workers the counts in `side` mean nothing.
 #[derive(Drop)]
 pub struct Seat {
     pub inner: Inner,
@@ -27,10 +27,12 @@ pub struct Seat {
     pub ghost some: { 0 < count },
     pub ghost spans: { Spans inner.me.0 side.worker count },
     pub ghost empty: { inner.me.1 ≡ [] },
-    pub ghost alone: { count ≡ 1 → inner.me ≡ (sitter side.known.view (trace_in inner.me.0) ∷ [], []) },
+    pub ghost alone: { count ≡ 1 →
+        inner.me ≡ (sitter side.known.view (trace_in inner.me.0) ∷ [], []) },
 }
 
-/// The state of nobody, which stands in the seat of more than one worker, of whom this is the first.
+/// The state of nobody, which stands in the seat of more than one worker, of whom this is the
+/// first.
 pub fn unused_side(worker: usize) -> Side
     ensures { result.worker ≡ worker }
 {

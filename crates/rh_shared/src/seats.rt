@@ -67,15 +67,16 @@ pub(crate) fn first_side(worker: usize, seat: &Inner) -> Side
 
 fn cut<B: Point>(table: &Table, seat: &mut Inner, _at: usize) -> Inner
     requires { seat.old.table_id ≡ table.now.inner.shared.table_id }
-    ensures table { (seat.new.table_id ≡ seat.old.table_id) × (result.table_id ≡ seat.old.table_id) }
+    ensures table { (seat.new.table_id ≡ seat.old.table_id)
+        × (result.table_id ≡ seat.old.table_id) }
     ensures left { seat.new.me ≡ (take B.at seat.old.me.0, seat.old.me.1) }
     ensures right { result.me ≡ (drop B.at seat.old.me.0, []) }
 {
     table.inner.shared.split_seat::<Halves<B>>(seat)
 }
 
-/// Gives the workers from `at` on a seat of their own. None of them has used a row since the table was
-/// made or wiped, so that each may begin as the only worker of a seat, whose counts are 0.
+/// Gives the workers from `at` on a seat of their own. None of them has used a row since the table
+/// was made or wiped, so that each may begin as the only worker of a seat, whose counts are 0.
 pub fn split(table: &Table, seat: &mut Seat, at: usize) -> Seat
     requires here { SitsAt table.now seat.old }
     requires within { (seat.old.side.worker < at) × (at < seat.old.side.worker + seat.old.count) }
@@ -105,8 +106,8 @@ pub fn split(table: &Table, seat: &mut Seat, at: usize) -> Seat
     right
 }
 
-/// Takes the workers of another seat in, which follow those of this one. All are at rest: the seat of
-/// several makes no step, so what one of them had open would never be ended.
+/// Takes the workers of another seat in, which follow those of this one. All are at rest: the seat
+/// of several makes no step, so what one of them had open would never be ended.
 pub fn join(table: &Table, seat: &mut Seat, other: Seat)
     requires here { SitsAt table.now seat.old }
     requires other { SitsAt table.now other }

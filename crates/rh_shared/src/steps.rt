@@ -1,5 +1,5 @@
-//! The single steps of one worker's seat: each is one load, swap, compare-and-swap or increment of one
-//! word of the table.
+//! The single steps of one worker's seat: each is one load, swap, compare-and-swap or increment of
+//! one word of the table.
 
 ghost use Rattle.std.specs.Prelude.{◌+◌, ◌%◌, ◌^◌};
 ghost use Rattle.rh_words.specs.Steps.{swapped};
@@ -12,8 +12,8 @@ use rh_words::{Request, Side};
 use std::collections::LinkedList;
 use std::marker::{Brand, PhantomData};
 
-/// Which step a call makes, and of whom this is kept before it. Each call in the program picks it, by
-/// its arguments alone: so the functions below are given the side and the step too.
+/// Which step a call makes, and of whom this is kept before it. Each call in the program picks it,
+/// by its arguments alone: so the functions below are given the side and the step too.
 pub(crate) trait Makes {
     ghost use Rattle.rh_words.specs.declared.shape.Shape.{Shape};
     ghost use Rattle.rh_words.specs.Steps.{Step};
@@ -31,7 +31,8 @@ impl Makes for Brand {
     ghost use Rattle.rh_words.specs.Steps.Step.{claims};
     ghost use Rattle.rh_words.specs.View.{new_view};
 
-    ghost shape = { record { bits = 3; workers = 0; keys = 0; rooms = record { descriptors = 0; marks = 0 } } };
+    ghost shape = { record { bits = 3; workers = 0; keys = 0;
+        rooms = record { descriptors = 0; marks = 0 } } };
 
     ghost view = { new_view [] 0 };
 

@@ -105,7 +105,8 @@ fn finish(table: &Table, seat: &mut Inner)
     requires empty { seat.old.me.1 ≡ [] }
     requires some { 0 < table.now.shape.workers }
     requires all { Spans seat.old.me.0 0 table.now.shape.workers }
-    requires wiping { (cells : List ℕ) × InView (IsWiping cells (row_total table.now.shape)) seat.old.me.0 }
+    requires wiping { (cells : List ℕ)
+        × InView (IsWiping cells (row_total table.now.shape)) seat.old.me.0 }
     ensures own { seat.new.table_id ≡ seat.old.table_id }
     ensures view { seat.new.me ≡ (all_views renewed seat.old.me.0, []) }
 {
@@ -114,7 +115,8 @@ fn finish(table: &Table, seat: &mut Inner)
 
 fn load<B: Tells>(table: &Table, seat: &mut Inner)
     requires own { seat.old.table_id ≡ table.now.inner.shared.table_id }
-    requires allowed { Allows {S = NoSlot} (RuleHolds table.now.shape) table.now.inner.shared.table_id.slots
+    requires allowed { Allows {S = NoSlot}
+        (RuleHolds table.now.shape) table.now.inner.shared.table_id.slots
         seat.old.id seat.old.me 0 (λ n. n) (λ word me. B.tells me) }
     ensures own { seat.new.table_id ≡ seat.old.table_id }
     ensures tells { B.tells seat.new.me }
@@ -125,7 +127,8 @@ fn load<B: Tells>(table: &Table, seat: &mut Inner)
 fn store<B: Tells>(table: &Table, seat: &mut Inner, word: usize, _row: usize)
     requires own { seat.old.table_id ≡ table.now.inner.shared.table_id }
     requires word { word < word_count table.now.shape }
-    requires allowed { Allows {S = NoSlot} (RuleHolds table.now.shape) table.now.inner.shared.table_id.slots
+    requires allowed { Allows {S = NoSlot}
+        (RuleHolds table.now.shape) table.now.inner.shared.table_id.slots
         seat.old.id seat.old.me word (λ n. 0) (λ word me. B.tells me) }
     ensures own { seat.new.table_id ≡ seat.old.table_id }
     ensures tells { B.tells seat.new.me }

@@ -19,8 +19,8 @@ pub enum SnapFault {
     BadBits,
     #[error("seal does not match")]
     Damaged,
-    /// Also where the count is not that of the full cells, a number stands for no key, or no cell is
-    /// free.
+    /// Also where the count is not that of the full cells, a number stands for no key, or no cell
+    /// is free.
     #[error("cells are not a layout")]
     NotALayout,
     #[error("snapshot goes on after its seal")]

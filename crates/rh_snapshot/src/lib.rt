@@ -1,7 +1,7 @@
 //! Snapshots of tables, sealed by their SHA-256 (FIPS 180-4).
 //!
-//! `rh_operations` puts and restores them, `rh_commands` checks them, and `rh_key_texts` lists their
-//! keys. `rh_files` hands them on.
+//! `rh_operations` puts and restores them, `rh_commands` checks them, and `rh_key_texts` lists
+//! their keys. `rh_files` hands them on.
 //!
 //! Proved:
 //!

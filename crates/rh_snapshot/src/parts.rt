@@ -19,7 +19,8 @@ use std::alloc::Global;
 use std::io::Read;
 
 fn read_version<R: Read>(reader: &mut Counted<R>) -> Result<Version, SnapFault>
-    ensures known { ReadsSnap (R.remaining (inner_of reader.old)) (R.remaining (inner_of reader.new))
+    ensures known { ReadsSnap (R.remaining (inner_of reader.old))
+        (R.remaining (inner_of reader.new))
         snap_version_at (λ v. v) result }
     ensures takes { TakesAtMost (R.remaining (inner_of reader.old))
         (R.remaining (inner_of reader.new)) snap_magic_bytes }
@@ -40,7 +41,8 @@ fn read_version<R: Read>(reader: &mut Counted<R>) -> Result<Version, SnapFault>
 }
 
 fn read_bits<R: Read>(reader: &mut Counted<R>, version: Version) -> Result<u32, SnapFault>
-    ensures known { ReadsSnap (R.remaining (inner_of reader.old)) (R.remaining (inner_of reader.new))
+    ensures known { ReadsSnap (R.remaining (inner_of reader.old))
+        (R.remaining (inner_of reader.new))
         (bits_at version) (λ b. b) result }
     ensures in_range { IfOk result IsBits }
     ensures takes { TakesAtMost (R.remaining (inner_of reader.old))
@@ -60,7 +62,8 @@ fn read_bits<R: Read>(reader: &mut Counted<R>, version: Version) -> Result<u32, 
 }
 
 pub(crate) fn read_header<R: Read>(reader: &mut Counted<R>) -> Result<Header, SnapFault>
-    ensures known { ReadsSnap (R.remaining (inner_of reader.old)) (R.remaining (inner_of reader.new))
+    ensures known { ReadsSnap (R.remaining (inner_of reader.old))
+        (R.remaining (inner_of reader.new))
         snap_header_at (λ h. h) result }
     ensures in_range { IfOk result (λ h. IsBits h.bits) }
     ensures takes { TakesAtMost (R.remaining (inner_of reader.old))
@@ -88,7 +91,8 @@ fn fill_numbers<R: Read>(
     numbers: &mut [u64],
 ) -> Result<[u8; 32], SnapFault>
     requires { IsBits header.bits }
-    ensures known { ReadsSnap (R.remaining (inner_of reader.old)) (R.remaining (inner_of reader.new))
+    ensures known { ReadsSnap (R.remaining (inner_of reader.old))
+        (R.remaining (inner_of reader.new))
         (numbers_at (length numbers.new)) (always numbers.new) result }
     ensures digest { IfOk result (λ d. d ≡ sha256 (text_of header numbers.new)) }
     ensures takes { TakesAtMost (R.remaining (inner_of reader.old))
@@ -114,7 +118,8 @@ pub(crate) fn read_numbers<R: Read>(
     header: Header,
 ) -> Result<(Vec<u64>, [u8; 32]), SnapFault>
     requires { IsBits header.bits }
-    ensures known { ReadsSnap (R.remaining (inner_of reader.old)) (R.remaining (inner_of reader.new))
+    ensures known { ReadsSnap (R.remaining (inner_of reader.old))
+        (R.remaining (inner_of reader.new))
         (numbers_at (2 ^ header.bits)) (λ n. n.0.items) result }
     ensures digest { IfOk result (λ n. n.1 ≡ sha256 (text_of header n.0.items)) }
     ensures takes { TakesAtMost (R.remaining (inner_of reader.old))
@@ -131,7 +136,8 @@ pub(crate) fn read_numbers<R: Read>(
 }
 
 pub(crate) fn read_seal<R: Read>(reader: &mut Counted<R>) -> Result<[u8; 32], SnapFault>
-    ensures known { ReadsSnap (R.remaining (inner_of reader.old)) (R.remaining (inner_of reader.new))
+    ensures known { ReadsSnap (R.remaining (inner_of reader.old))
+        (R.remaining (inner_of reader.new))
         (bytes_at SnapFault.Short 32) (λ s. s) result }
     ensures takes { TakesAtMost (R.remaining (inner_of reader.old))
         (R.remaining (inner_of reader.new)) seal_bytes }

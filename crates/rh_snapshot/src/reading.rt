@@ -23,7 +23,8 @@ use std::io::Read;
 /// bytes are tested as they come; the seal, then the cells and then the end are tested once the
 /// seal was read.
 pub fn read_snapshot<R: Read>(alloc: Global, reader: &mut Counted<R>) -> Result<Snapshot, SnapFault>
-    ensures known { ReadsSnap (R.remaining (inner_of reader.old)) (R.remaining (inner_of reader.new))
+    ensures known { ReadsSnap (R.remaining (inner_of reader.old))
+        (R.remaining (inner_of reader.new))
         file_table table_as result }
     ensures spelled { IfOk result (λ s. IsSnapReadFrom
         (R.remaining (inner_of reader.old)) (R.remaining (inner_of reader.new)) (table_as s)) }

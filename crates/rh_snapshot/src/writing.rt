@@ -25,7 +25,8 @@ pub fn write_snapshot(
 ) -> Result<(), AllocError>
     requires layout { IsLayout bits cells.now }
     requires free { set.len (keys_of cells.now) < 2 ^ bits }
-    ensures appended { OnOk result (out.new.items ≡ out.old.items ++ snap_spelling Second bits cells.now) }
+    ensures appended { OnOk result
+        (out.new.items ≡ out.old.items ++ snap_spelling Second bits cells.now) }
     ensures refused { OnErr result (out.new.items ≡ out.old.items) }
     ensures read_back { file_table (snap_spelling Second bits cells.now)
         ≡ Ok (table_of Second bits cells.now, []) }
@@ -41,7 +42,8 @@ pub fn write_snapshot(
 /// Appends the text and its seal.
 fn put_snapshot(bits: u32, cells: &[u64], out: &mut Vec<u8>) -> Result<(), AllocError>
     requires { IsBits bits }
-    ensures appended { OnOk result (out.new.items ≡ out.old.items ++ snap_spelling Second bits cells.now) }
+    ensures appended { OnOk result
+        (out.new.items ≡ out.old.items ++ snap_spelling Second bits cells.now) }
     ensures longer { (part : List ℕ) × (out.new.items ≡ out.old.items ++ part) }
 {
     let before = out.len();

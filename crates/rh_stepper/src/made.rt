@@ -46,7 +46,8 @@ impl Player {
         requires { length cells.old ≡ cell_count self.now.shape }
         ensures so_far { IsMadeSoFar self.now cells.new }
         ensures finished { AllFinished self.now →
-            Layout cells.new self.now.shape.bits (set_after self.now.kind (held_first self.now) self.now.keys) }
+            Layout cells.new self.now.shape.bits
+            (set_after self.now.kind (held_first self.now) self.now.keys) }
     {
         for cell in 0..cells.len() {
             cells[cell] = logical_value(&self.shape, &self.table.words, &self.hands, cell);
@@ -66,11 +67,13 @@ impl Player {
     /// told that they were added, removed or found.
     pub fn tally(&self) -> Tally
         ensures so_far { TallySpec self.now result }
-        ensures counts { result ≡ tally_by self.now.kind (done_count self.now) (changed_count self.now) }
+        ensures counts { result ≡ tally_by self.now.kind (done_count self.now)
+            (changed_count self.now) }
         ensures finished { AllFinished self.now →
             result ≡ tally_after self.now.kind (held_first self.now) self.now.keys }
     {
-        // No sum is cut, as none is above the length of the list: so no bound is owed at each addition.
+        // No sum is cut, as none is above the length of the list: so no bound is owed at each
+        // addition.
         let mut done = 0u64;
         let mut changed = 0u64;
         for hand in &self.hands {
@@ -80,10 +83,12 @@ impl Player {
         tally_by(self.kind, done, changed)
     }
 
-    /// Where keys are asked for: what was told of the key at this position of a worker's piece, if it was.
+    /// Where keys are asked for: what was told of the key at this position of a worker's piece, if
+    /// it was.
     pub fn answer(&self, worker: usize, position: usize) -> Option<bool>
         ensures told { result ≡ told_of self.now worker position }
-        ensures asked { self.now.kind ≡ Ask → is_shared self.now ≡ false → worker < length self.now.hands →
+        ensures asked { self.now.kind ≡ Ask → is_shared self.now ≡ false →
+            worker < length self.now.hands →
             IsAnswer (held_first self.now) (slice_index (keys_at self.now worker) position)
             (position < length (done_at self.now worker)) result }
         ensures finished { is_shared self.now ≡ false → worker < length self.now.hands →
@@ -103,14 +108,16 @@ impl Player {
         }
     }
 
-    /// Where the keys of a shared list are asked for: what was told of the key at this position of the
-    /// list, if it was.
+    /// Where the keys of a shared list are asked for: what was told of the key at this position of
+    /// the list, if it was.
     pub fn answer_at(&self, position: usize) -> Option<bool>
         ensures told { is_shared self.now ≡ true → result ≡ told_at self.now position }
         ensures none { is_shared self.now ≡ false → result ≡ None }
         ensures asked { self.now.kind ≡ Ask → is_shared self.now ≡ true →
-            IsAnswer (held_first self.now) (slice_index self.now.keys position) (IsDoneAt self.now position) result }
-        ensures finished { is_shared self.now ≡ true → AnswersAll self.now self.now.keys position result }
+            IsAnswer (held_first self.now) (slice_index self.now.keys position)
+            (IsDoneAt self.now position) result }
+        ensures finished { is_shared self.now ≡ true →
+            AnswersAll self.now self.now.keys position result }
     {
         match self.hands[0].share {
             Share::Claims { .. } => self.told(position),

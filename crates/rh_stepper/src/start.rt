@@ -25,7 +25,8 @@ impl Player {
         kind: Kind,
         pieces: &[Vec<u64>],
     ) -> Result<Player, PlayFault>
-        ensures { MakesPlayer (start_fault kind bits cells.now (length pieces.now) (keys_of_pieces pieces.now))
+        ensures { MakesPlayer
+            (start_fault kind bits cells.now (length pieces.now) (keys_of_pieces pieces.now))
             (StartsPieces kind bits usual_rooms cells.now pieces.now) result }
     {
         Player::with_rooms(alloc, bits, cells, kind, pieces, Rooms::usual())
@@ -41,7 +42,8 @@ impl Player {
         rooms: Rooms,
     ) -> Result<Player, PlayFault>
         requires { IsRooms rooms }
-        ensures { MakesPlayer (start_fault kind bits cells.now (length pieces.now) (keys_of_pieces pieces.now))
+        ensures { MakesPlayer
+            (start_fault kind bits cells.now (length pieces.now) (keys_of_pieces pieces.now))
             (StartsPieces kind bits rooms cells.now pieces.now) result }
     {
         test_table(kind, bits, cells, pieces.len(), count_keys(pieces))?;

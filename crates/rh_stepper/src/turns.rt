@@ -38,8 +38,8 @@ impl Player {
         (turn, touched_in(turn, self.table.last))
     }
 
-    /// Begins the next round, where each worker is finished or spent: all rows are unused again, and
-    /// each spent worker begins its key again.
+    /// Begins the next round, where each worker is finished or spent: all rows are unused again,
+    /// and each spent worker begins its key again.
     pub fn next_round(&mut self) -> bool
         ensures decides { IsTrue result ↔ AllStopped self.old }
         ensures begins { IsTrue result → BeginsRound self.old self.new }

@@ -50,7 +50,8 @@ pub fn read_word(shape: &Shape, words: &mut [u64], side: &mut Side, reading: Rea
 pub fn place_mark(shape: &Shape, words: &mut [u64], side: &mut Side, piece: Piece, old: u64) -> u64
     requires shape { IsShape shape.now }
     requires sized { length words.old ≡ word_count shape.now }
-    requires allowed { Allowed shape.now side.old.known.view (places (ref_of piece.desc) piece.entry piece.cell old) }
+    requires allowed { Allowed shape.now side.old.known.view
+        (places (ref_of piece.desc) piece.entry piece.cell old) }
 {
     rh_descriptor::place_mark(shape, words, side, piece, old)
 }
@@ -65,7 +66,8 @@ pub fn settle_mark(
 ) -> u64
     requires shape { IsShape shape.now }
     requires sized { length words.old ≡ word_count shape.now }
-    requires allowed { Allowed shape.now side.old.known.view (settles (ref_of mark) piece.cell (ref_of piece.desc) piece.entry old) }
+    requires allowed { Allowed shape.now side.old.known.view
+        (settles (ref_of mark) piece.cell (ref_of piece.desc) piece.entry old) }
 {
     rh_descriptor::settle_mark(shape, words, side, mark, piece, old)
 }
@@ -79,7 +81,8 @@ pub fn decide_desc(
 ) -> u64
     requires shape { IsShape shape.now }
     requires sized { length words.old ≡ word_count shape.now }
-    requires allowed { Allowed shape.now side.old.known.view (decides (ref_of desc) (control_of state)) }
+    requires allowed { Allowed shape.now side.old.known.view
+        (decides (ref_of desc) (control_of state)) }
 {
     rh_descriptor::decide_desc(shape, words, side, desc, state)
 }

@@ -37,8 +37,8 @@ pub fn has_free(bits: u32, cells: &[u64]) {
     rh_layout::has_free(bits, cells);
 }
 
-/// Of cells that were seen to be empty: how many keys a layout with them has at most, as the calls that
-/// need a free cell ask for it.
+/// Of cells that were seen to be empty: how many keys a layout with them has at most, as the calls
+/// that need a free cell ask for it.
 pub fn has_room(bits: u32, cells: &[u64])
     requires { IsLayout bits cells.now }
     ensures one { HasFree cells.now → set.len (keys_of cells.now) < 2 ^ bits }

@@ -1,5 +1,6 @@
-//! What a caller brings of its own: a gate, a choice of the threads that may start, a runner, a shelf and
-//! a source of keys. Each has the methods of its trait, and the ghost members that its contracts ask for.
+//! What a caller brings of its own: a gate, a choice of the threads that may start, a runner, a
+//! shelf and a source of keys. Each has the methods of its trait, and the ghost members that its
+//! contracts ask for.
 
 ghost use Rattle.rh_threads.specs.Keys.{HasDone};
 ghost use Rattle.std.specs.Prelude.{nat_lt, None, Ok, Some, []};

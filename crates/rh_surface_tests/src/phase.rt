@@ -51,7 +51,8 @@ pub fn change<R: Threads + Wait + Sync, G: Gate + Sync>(
     requires kind { kind ≢ Kind.Ask }
     requires keys { All IsKey keys.now }
     requires layout { IsLayout bits cells.old.items }
-    requires room { kind ≡ Kind.Insert → set.len (keys_of cells.old.items) + length keys.now < 2 ^ bits }
+    requires room { kind ≡ Kind.Insert →
+        set.len (keys_of cells.old.items) + length keys.now < 2 ^ bits }
     requires free { kind ≡ Kind.Remove → HasFree cells.old.items }
 {
     has_room(bits, cells);
@@ -92,7 +93,8 @@ pub fn change_with<R: Threads + Wait + Sync, G: Gate + Sync, S: Starts + Sync>(
     requires kind { kind ≢ Kind.Ask }
     requires keys { All IsKey keys.now }
     requires layout { IsLayout bits cells.old.items }
-    requires room { kind ≡ Kind.Insert → set.len (keys_of cells.old.items) + length keys.now < 2 ^ bits }
+    requires room { kind ≡ Kind.Insert →
+        set.len (keys_of cells.old.items) + length keys.now < 2 ^ bits }
     requires free { kind ≡ Kind.Remove → HasFree cells.old.items }
     requires rooms { IsRooms bits rooms }
 {

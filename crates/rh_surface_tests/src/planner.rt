@@ -92,7 +92,8 @@ pub fn runner_change<N: Runner, R: thread::Threads + Wait + Sync>(
     requires kind { kind ≢ Kind.Ask }
     requires keys { All IsKey keys.now }
     requires layout { IsLayout bits cells.old.items }
-    requires room { kind ≡ Kind.Insert → set.len (keys_of cells.old.items) + length keys.now < 2 ^ bits }
+    requires room { kind ≡ Kind.Insert →
+        set.len (keys_of cells.old.items) + length keys.now < 2 ^ bits }
     requires free { kind ≡ Kind.Remove → HasFree cells.old.items }
 {
     has_room(bits, cells);

@@ -35,7 +35,8 @@ pub fn settle(table: &Table, seat: &mut Seat, cell: usize, mark: Ref) -> Option<
     requires here { IsHere table.now seat.old }
     requires knows { Knows table.now.shape (view_of seat.old) }
     requires found { In (found (ref_of mark) cell) (view_of seat.old).side.facts }
-    requires own { mark.worker ≡ (view_of seat.old).worker → Recalls (view_of seat.old) mark seat.old.placed }
+    requires own { mark.worker ≡ (view_of seat.old).worker →
+        Recalls (view_of seat.old) mark seat.old.placed }
 {
     rh_rdcss::settle(table, seat, cell, mark)
 }

@@ -154,7 +154,8 @@ fn open_box(
     size: (u64, u64),
     look: Look,
 ) -> Result<(), AllocError>
-    ensures { Prints out.old.items out.new.items (start_tag (Box corner.0 corner.1 size.0 size.1 look)) result }
+    ensures { Prints out.old.items out.new.items
+        (start_tag (Box corner.0 corner.1 size.0 size.1 look)) result }
 {
     let (mut first, mut second) = (Buffer::new(), Buffer::new());
     let (mut third, mut fourth) = (Buffer::new(), Buffer::new());
@@ -187,7 +188,8 @@ fn open_line(
     to: (u64, u64),
     look: Look,
 ) -> Result<(), AllocError>
-    ensures { Prints out.old.items out.new.items (start_tag (Line from.0 from.1 to.0 to.1 look)) result }
+    ensures { Prints out.old.items out.new.items
+        (start_tag (Line from.0 from.1 to.0 to.1 look)) result }
 {
     let (mut first, mut second) = (Buffer::new(), Buffer::new());
     let (mut third, mut fourth) = (Buffer::new(), Buffer::new());

@@ -64,8 +64,8 @@ fn look<R: Wait>(
     }
 }
 
-/// Goes on where no value stands, apart and on a copy: so the machine of who meets values alone may be
-/// left out.
+/// Goes on where no value stands, apart and on a copy: so the machine of who meets values alone may
+/// be left out.
 #[inline(always)]
 fn look_on_copy<R: Wait>(
     rt: &R,

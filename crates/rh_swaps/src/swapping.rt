@@ -32,10 +32,10 @@ pub enum Outcome {
     Spent,
 }
 
-/// Changes the cells of the entries from their old words to their new ones, all in one act, or none.
-/// Where no number is left for a descriptor, or no mark, it makes no step: its descriptor would be
-/// withdrawn all the same. Later it is `Spent` only where the last mark was used up on the way.
-/// Once a step was made, `told` has what the rule tells of all acts then.
+/// Changes the cells of the entries from their old words to their new ones, all in one act, or
+/// none. Where no number is left for a descriptor, or no mark, it makes no step: its descriptor
+/// would be withdrawn all the same. Later it is `Spent` only where the last mark was used up on the
+/// way. Once a step was made, `told` has what the rule tells of all acts then.
 pub fn kcas<R: Wait>(rt: &R, table: &Table, seat: &mut Seat, entries: &[Entry]) -> Outcome
     requires rests { SeatRests table.now seat.old }
     requires entries { AreEntries table.now.shape entries.now }
@@ -75,7 +75,8 @@ pub fn open(shape: &Shape, here: &mut OnTable, side: &mut Side, entries: &[Entry
     requires may { MayOpen shape.now side.old.known.view entries.now }
     ensures trusts { Trusts Sits shape.now here.new side.new.known.view }
     ensures stays { Stays here.old here.new }
-    ensures opens { HasOpened side.old.known.view (next_own side.old.known.view entries.now) side.new.known.view }
+    ensures opens { HasOpened side.old.known.view
+        (next_own side.old.known.view entries.now) side.new.known.view }
 {
     let mut opening = Opening::Serial;
     while let Some(next) = opening.step(shape, here, side, entries) {
@@ -83,8 +84,8 @@ pub fn open(shape: &Shape, here: &mut OnTable, side: &mut Side, entries: &[Entry
     }
 }
 
-/// Goes about the own open descriptor until it is decided and released, and answers how it ended: the
-/// second part of a K-CAS.
+/// Goes about the own open descriptor until it is decided and released, and answers how it ended:
+/// the second part of a K-CAS.
 #[inline(always)]
 pub fn carry_out<R: Wait>(
     rt: &R,
@@ -99,7 +100,8 @@ pub fn carry_out<R: Wait>(
     ensures trusts { Trusts Sits shape.now here.new side.new.known.view }
     ensures stays { Stays here.old here.new }
     ensures told { IsTold shape.now side.new.known.view }
-    ensures carries { HasCarriedOut side.old.known.view (own_of own.entry) side.new.known.view result }
+    ensures carries { HasCarriedOut side.old.known.view
+        (own_of own.entry) side.new.known.view result }
 {
     let mut machine = Machine::about(Ref {
         worker: side.worker,
@@ -117,8 +119,8 @@ pub fn carry_out<R: Wait>(
     unreachable!()
 }
 
-/// Goes on with it where another worker was met, apart and on copies: so the machine of who meets none may
-/// be kept in registers, and the shape too.
+/// Goes on with it where another worker was met, apart and on copies: so the machine of who meets
+/// none may be kept in registers, and the shape too.
 #[inline(always)]
 fn carry_on_copy<R: Wait>(
     rt: &R,
@@ -134,7 +136,8 @@ fn carry_on_copy<R: Wait>(
     ensures trusts { Trusts Sits shape.now here.new side.new.known.view }
     ensures stays { Stays here.old here.new }
     ensures told { IsTold shape.now side.new.known.view }
-    ensures carries { HasCarriedOut side.old.known.view (own_of own.entry) side.new.known.view result }
+    ensures carries { HasCarriedOut side.old.known.view
+        (own_of own.entry) side.new.known.view result }
 {
     let apart = *shape;
     let mut machine = *machine;
@@ -157,7 +160,8 @@ fn carry_on<R: Wait>(
     ensures trusts { Trusts Sits shape.now here.new side.new.known.view }
     ensures stays { Stays here.old here.new }
     ensures told { IsTold shape.now side.new.known.view }
-    ensures carries { HasCarriedOut side.old.known.view (own_of own.entry) side.new.known.view result }
+    ensures carries { HasCarriedOut side.old.known.view
+        (own_of own.entry) side.new.known.view result }
 {
     for _ in rt.forever() {
         match machine.step(shape, here, side, Some(own)) {

@@ -7,8 +7,9 @@ const NOTHING: Entry = Entry {
     new: 0,
 };
 
-// At 3 bits 1, 9, 17 and 22 have home 4, and 8, 16 and 21 home 7. A cell holds its key plus 1. Of each
-// case: the key, what is seen from its home on, and of each entry the cell, the old and the new value.
+// At 3 bits 1, 9, 17 and 22 have home 4, and 8, 16 and 21 home 7. A cell holds its key plus 1. Of
+// each case: the key, what is seen from its home on, and of each entry the cell, the old and the
+// new value.
 const INSERTIONS: &[(u64, &[u64], &[(usize, u64, u64)])] = &[
     (9, &[2, 0, 0], &[(4, 2, 2), (5, 0, 10)]),
     (9, &[2, 18, 0], &[(4, 2, 2), (5, 18, 10), (6, 0, 18)]),

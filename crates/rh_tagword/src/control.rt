@@ -18,8 +18,8 @@ pub enum State {
     Succeeded,
     /// Its worker gave it up, and nothing was changed.
     Withdrawn,
-    /// Nothing was changed, as a cell held another value. At which entry, this worker tells as its reason
-    /// to the swap's own worker.
+    /// Nothing was changed, as a cell held another value. At which entry, this worker tells as its
+    /// reason to the swap's own worker.
     Failed { decider: u64 },
 }
 
@@ -36,7 +36,8 @@ impl State {
     }
 }
 
-/// The number of a control: the serial number of the worker's newest opened descriptor, and its state.
+/// The number of a control: the serial number of the worker's newest opened descriptor, and its
+/// state.
 #[inline(always)]
 pub fn pack_control(serial: u64, state: State) -> u64
     requires { IsControl serial state }
@@ -50,7 +51,8 @@ pub fn pack_control(serial: u64, state: State) -> u64
 #[inline(always)]
 pub fn unpack_control(number: u64) -> Option<(u64, State)>
     ensures control { result ≡ control_in number }
-    ensures none { IsNone result ↔ (((WITHDRAWN < number % 2 ^ STATE_BITS) × (number % 2 ^ STATE_BITS < FAILED))
+    ensures none { IsNone result ↔
+        (((WITHDRAWN < number % 2 ^ STATE_BITS) × (number % 2 ^ STATE_BITS < FAILED))
         ⊎ (FAILED + 2 ^ WORKER_BITS ≤ number % 2 ^ STATE_BITS)) }
     ensures back { IfSome result (λ k. IsControl k.0 k.1 × (control_number k.0 k.1 ≡ number)) }
 {

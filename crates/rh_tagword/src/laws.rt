@@ -38,6 +38,7 @@ pub fn one_control(serial: u64, state: State)
 /// The numbers of which words and controls are made.
 pub fn fixed_numbers()
     ensures tags { (PLAIN ≡ 0) × (MARK ≡ 1) × (DESC ≡ 2) }
-    ensures states { (UNUSED ≡ 0) × (UNDECIDED ≡ 1) × (SUCCEEDED ≡ 2) × (WITHDRAWN ≡ 3) × (FAILED ≡ 64) }
+    ensures states { (UNUSED ≡ 0) × (UNDECIDED ≡ 1) × (SUCCEEDED ≡ 2) × (WITHDRAWN ≡ 3)
+        × (FAILED ≡ 64) }
     ensures widths { (TAG_BITS ≡ 2) × (WORKER_BITS ≡ 6) × (NUMBER_BITS ≡ 56) × (STATE_BITS ≡ 8) }
 {}

@@ -16,9 +16,8 @@
 //!   numbers. What is packed is unpacked to the same, and the other way round.
 //! - `unpack` is `None` exactly for the one tag that no word has. `unpack_control` is `None`
 //!   exactly where the low byte, 4 to 63 or above 127, is no state.
-//! - `plain_word`, `plain_value`: the word of what a cell holds, exactly, and back. `plain_words`: those
-//!   of cells, in order. `is_decided` is
-//!   exact.
+//! - `plain_word`, `plain_value`: the word of what a cell holds, exactly, and back. `plain_words`:
+//!   those of cells, in order. `is_decided` is exact.
 //! - `one_word`, `one_control`: no two words have one number, and no two controls.
 //! - `fixed_numbers`: the tags, the states and the widths of their parts, each by its value.
 #![tactic(auto)]

@@ -50,7 +50,8 @@ impl Buffer {
         requires bits { IsBits bits }
         requires room { HasBufferRoom bits self.old }
         ensures room { HasBufferRoom bits self.new }
-        ensures twice { length self.new.seen.items ≡ min (2 * length self.old.seen.items) (2 ^ bits) }
+        ensures twice { length self.new.seen.items ≡ min (2 * length self.old.seen.items)
+            (2 ^ bits) }
     {
         let cells = self.seen.len().saturating_mul(2);
         self.use_first(bits, cells);

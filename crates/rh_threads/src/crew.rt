@@ -126,9 +126,9 @@ fn glue(table: &Table, left: Crew, right: Crew) -> Crew
     Crew { seat, hands }
 }
 
-/// Has each worker do keys, in threads that fork in halves: the first half works on this thread, the
-/// others on a new one, and so on in each half. Where a start is refused, those that were started are
-/// waited for.
+/// Has each worker do keys, in threads that fork in halves: the first half works on this thread,
+/// the others on a new one, and so on in each half. Where a start is refused, those that were
+/// started are waited for.
 pub(crate) fn run<R: Threads + Wait + Sync, G: Gate + Sync, S: Starts + Sync>(
     rt: &R,
     table: &Table,
@@ -155,8 +155,13 @@ pub(crate) fn run<R: Threads + Wait + Sync, G: Gate + Sync, S: Starts + Sync>(
         thread::scope_env(),
         rt,
         move |scope| -> Result<(Crew, Crew), Refused>
-            requires { IsSync R.row × IsSync G.row × IsSync S.row × CanWork table.now keys.now left × CanWork table.now keys.now right × (S.allows starts.now at ≡ true) }
-            ensures { IfOk result (λ r. HaveWorked table.entry.now keys.entry.now left r.0 × HaveWorked table.entry.now keys.entry.now right r.1) × OnOk result (OthersMayStart (S.allows starts.entry.now) left × OthersMayStart (S.allows starts.entry.now) right) × IfErr result (RefusedBy (S.allows starts.entry.now)) }
+            requires { IsSync R.row × IsSync G.row × IsSync S.row × CanWork table.now keys.now left
+                × CanWork table.now keys.now right × (S.allows starts.now at ≡ true) }
+            ensures { IfOk result (λ r. HaveWorked table.entry.now keys.entry.now left r.0
+                × HaveWorked table.entry.now keys.entry.now right r.1)
+                × OnOk result (OthersMayStart (S.allows starts.entry.now) left
+                × OthersMayStart (S.allows starts.entry.now) right)
+                × IfErr result (RefusedBy (S.allows starts.entry.now)) }
         {
             let promise = HalfOf {
                 table,
@@ -167,8 +172,11 @@ pub(crate) fn run<R: Threads + Wait + Sync, G: Gate + Sync, S: Starts + Sync>(
             let started = scope.spawn_with(
                 promise,
                 move || -> Result<Crew, Refused>
-                    requires { IsSync R.row × IsSync G.row × IsSync S.row × CanWork table.now keys.now right }
-                    ensures { IfOk result (HaveWorked table.entry.now keys.entry.now right) × OnOk result (OthersMayStart (S.allows starts.entry.now) right) × IfErr result (RefusedBy (S.allows starts.entry.now)) }
+                    requires { IsSync R.row × IsSync G.row × IsSync S.row
+                        × CanWork table.now keys.now right }
+                    ensures { IfOk result (HaveWorked table.entry.now keys.entry.now right)
+                        × OnOk result (OthersMayStart (S.allows starts.entry.now) right)
+                        × IfErr result (RefusedBy (S.allows starts.entry.now)) }
                 { run(rt, table, right, keys, gate, starts) },
             );
             match started {

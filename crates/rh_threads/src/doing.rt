@@ -19,8 +19,8 @@ use rh_ledger::Kind;
 use rh_shared::{Seat, Table, claim};
 use std::sync::Wait;
 
-/// Does the key that it left, and each that it claims, until none is left to claim, or the worker has
-/// too little room left: then it leaves its key for another round.
+/// Does the key that it left, and each that it claims, until none is left to claim, or the worker
+/// has too little room left: then it leaves its key for another round.
 pub(crate) fn do_keys<R: Wait, G: Gate>(
     rt: &R,
     table: &Table,
@@ -36,7 +36,8 @@ pub(crate) fn do_keys<R: Wait, G: Gate>(
     ensures same { IsSame seat.old seat.new }
     ensures hand { IsHand table.now.shape keys.now hand.new (view_of seat.new) }
     ensures stopped { HasStopped table.now.shape hand.new (view_of seat.new) }
-    ensures stands { (past : Past) → HandStands table.now.shape keys.now past hand.old (view_of seat.old) →
+    ensures stands { (past : Past) →
+        HandStands table.now.shape keys.now past hand.old (view_of seat.old) →
         HandStands table.now.shape keys.now past hand.new (view_of seat.new) }
 {
     for _ in rt.forever() {
@@ -73,7 +74,8 @@ fn next_key<G: Gate>(
     ensures hand { IsHand table.now.shape keys.now hand.new (view_of seat.new) }
     ensures has_key { IsTrue result → hand.new.has_key ≡ true }
     ensures finished { IsFalse result → IsFinished hand.new }
-    ensures stands { (past : Past) → HandStands table.now.shape keys.now past hand.old (view_of seat.old) →
+    ensures stands { (past : Past) →
+        HandStands table.now.shape keys.now past hand.old (view_of seat.old) →
         HandStands table.now.shape keys.now past hand.new (view_of seat.new) }
 {
     if hand.has_key {
@@ -109,8 +111,10 @@ fn do_in_buffer<R: Wait>(
     ensures room { HasBufferRoom table.now.shape.bits buffer.new }
     ensures claims { (view_of seat.new).side.claims ≡ (view_of seat.old).side.claims }
     ensures opening { (view_of seat.new).opening ≡ (view_of seat.old).opening }
-    ensures furthers { Furthers table.now.shape kind key (view_of seat.old) (view_of seat.new) result }
-    ensures done { IfSome result (KeySpec table.now.shape kind key (view_of seat.old) (view_of seat.new)) }
+    ensures furthers { Furthers table.now.shape kind key (view_of seat.old)
+        (view_of seat.new) result }
+    ensures done { IfSome result
+        (KeySpec table.now.shape kind key (view_of seat.old) (view_of seat.new)) }
     ensures spent { IfNone result (HasNoRoom table.now.shape (view_of seat.new)
         × (own_acts_of (view_of seat.new) ≡ own_acts_of (view_of seat.old))) }
 {

@@ -20,8 +20,8 @@ pub(crate) struct Hand {
     /// Of how many of these it was told that they were added, removed or found, up to the greatest
     /// number.
     pub changed: u64,
-    /// Which positions have a key that it was told so of. It is empty where no one asks for them. Each
-    /// worker has its own, and they are joined at the end: no two threads write one list.
+    /// Which positions have a key that it was told so of. It is empty where no one asks for them.
+    /// Each worker has its own, and they are joined at the end: no two threads write one list.
     pub found: Vec<bool>,
 }
 

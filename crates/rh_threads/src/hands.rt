@@ -46,8 +46,8 @@ fn new_hand(alloc: Global, shape: &Shape, kind: Kind, positions: usize) -> Resul
     })
 }
 
-/// Of how many keys the workers were told that they were added, removed or found, up to the greatest
-/// number.
+/// Of how many keys the workers were told that they were added, removed or found, up to the
+/// greatest number.
 pub(crate) fn all_changed(hands: LinkedList<Hand>) -> u64
     ensures { result ≡ min (all_changed hands) (2 ^ 64 - 1) }
 {
@@ -74,7 +74,8 @@ pub(crate) fn mark_all(hands: LinkedList<Hand>, found: &mut [bool])
 fn mark(marks: &[bool], found: &mut [bool])
     ensures long { length found.new ≡ length found.old }
     ensures marked { (p : ℕ) → p < length found.old →
-        slice_index_or found.new p false ≡ (slice_index_or found.old p false || slice_index_or marks.now p false) }
+        slice_index_or found.new p
+        false ≡ (slice_index_or found.old p false || slice_index_or marks.now p false) }
 {
     let both = marks.len().min(found.len());
     for position in 0..both {

@@ -125,9 +125,9 @@ fn scan<R: Wait>(
     Scanned::Longer
 }
 
-/// Whether the cells from the key's home to this one, which holds this, may decide where those before
-/// it do not: they show the key's place, or, where that is seen, the end of what has to move. So a scan
-/// looks at each cell once, and at all of them together once or twice.
+/// Whether the cells from the key's home to this one, which holds this, may decide where those
+/// before it do not: they show the key's place, or, where that is seen, the end of what has to
+/// move. So a scan looks at each cell once, and at all of them together once or twice.
 fn may_decide(kind: Kind, bits: u32, key: u64, cell: usize, value: u64, is_placed: bool) -> bool
     requires bits { IsBits bits }
     requires cell { cell < 2 ^ bits }

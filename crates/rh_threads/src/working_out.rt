@@ -106,8 +106,9 @@ pub fn asked<R: Threads + Wait + Sync, G: Gate + Sync, S: Starts + Sync>(
     Ok(found)
 }
 
-/// Makes the table of the cells, and has all its workers do the keys, up to where all are at rest. The
-/// hands mark so many positions of the list. All memory is taken before the first worker starts.
+/// Makes the table of the cells, and has all its workers do the keys, up to where all are at rest.
+/// The hands mark so many positions of the list. All memory is taken before the first worker
+/// starts.
 fn work_out<R: Threads + Wait + Sync, G: Gate + Sync, S: Starts + Sync>(
     rt: &R,
     alloc: Global,

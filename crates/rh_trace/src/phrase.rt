@@ -60,7 +60,9 @@ impl Phrase {
     }
 
     pub(crate) fn pair(before: &'static str, first: u64, second: u64, after: &'static str) -> Phrase
-        ensures { phrase_text result ≡ before.entry.now ++ (decimal first ++ (codes " " ++ (decimal second ++ after.entry.now))) }
+        ensures { phrase_text
+            result ≡ before.entry.now ++ (decimal
+            first ++ (codes " " ++ (decimal second ++ after.entry.now))) }
     {
         Phrase {
             before,

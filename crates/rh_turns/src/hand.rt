@@ -7,8 +7,8 @@ use rh_worker::Worker;
 pub enum Share {
     /// Those from the first position up to the end.
     Piece { first: usize, end: usize },
-    /// Those that it claims: the position that it claimed last, and whether a Claim found the end of the
-    /// list.
+    /// Those that it claims: the position that it claimed last, and whether a Claim found the end
+    /// of the list.
     Claims { last: usize, ended: bool },
 }
 

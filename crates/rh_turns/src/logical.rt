@@ -16,9 +16,9 @@ use rh_helping::{CellContent, what_stands};
 use rh_tagword::{State, pack_control, plain_value};
 use rh_words::{Part, Ref, Shape};
 
-/// What the cell stands for, as a value: what it holds itself, the old value of a mark's entry, or the
-/// value of a descriptor's entry that counts (Harris, Fraser and Pratt 2002). Where the descriptor is
-/// stale it is the old value, known to the worker by whose doing it stands there.
+/// What the cell stands for, as a value: what it holds itself, the old value of a mark's entry, or
+/// the value of a descriptor's entry that counts (Harris, Fraser and Pratt 2002). Where the
+/// descriptor is stale it is the old value, known to the worker by whose doing it stands there.
 pub fn logical_value(shape: &Shape, words: &[u64], hands: &[Hand], cell: usize) -> u64
     requires shape { IsShape shape.now }
     requires sized { length words.now ≡ word_count shape.now }
@@ -53,7 +53,8 @@ fn marked_word(hands: &[Hand], mark: Ref) -> u64
     requires workers { AreWorkers hands.now }
     requires within { mark.worker < length hands.now }
     requires unsettled { (views_of hands.now mark.worker).side.unsettled ≡ Some mark.number }
-    ensures { (c : ℕ) → (d : Reference) → MarkIsFor (views_of hands.now mark.worker).side (ref_of mark) d c →
+    ensures { (c : ℕ) → (d : Reference) →
+        MarkIsFor (views_of hands.now mark.worker).side (ref_of mark) d c →
         MarkStandsFor (views_of hands.now) c (ref_of mark) result }
 {
     match hands[mark.worker].worker.held() {
@@ -69,7 +70,8 @@ fn described_word(shape: &Shape, words: &[u64], hands: &[Hand], desc: Ref, cell:
     requires workers { AreWorkers hands.now }
     requires count { length hands.now ≡ shape.now.workers }
     requires leads { DescLeads shape.now words.now (views_of hands.now) cell (ref_of desc) }
-    ensures { WordStandsFor shape.now words.now (views_of hands.now) cell (is_desc (ref_of desc)) result }
+    ensures { WordStandsFor shape.now words.now (views_of hands.now) cell
+        (is_desc (ref_of desc)) result }
 {
     let worker = desc.worker;
     if words[shape.index(Part::Serial { worker })] == desc.number {
@@ -84,7 +86,8 @@ fn word_in_row(shape: &Shape, words: &[u64], desc: Ref, cell: usize) -> u64
     requires shape { IsShape shape.now }
     requires sized { length words.now ≡ word_count shape.now }
     requires desc { IsDesc shape.now (ref_of desc) }
-    requires entries { word_at shape.now words.now (part.Length desc.worker) ≤ cell_count shape.now }
+    requires entries { word_at shape.now words.now
+        (part.Length desc.worker) ≤ cell_count shape.now }
     ensures { entry_for shape.now words.now (ref_of desc) cell
         (word_at shape.now words.now (part.Length desc.worker)) ≡ result }
 {

@@ -20,8 +20,9 @@ pub(crate) trait Change<A> {
     ghost after: { View → A → View };
 }
 
-/// What is known at first, by data of the program. It is for contracts alone, so that any view may be
-/// picked: it says something of a worker only where a seat of a table, or a list of words, has it.
+/// What is known at first, by data of the program. It is for contracts alone, so that any view may
+/// be picked: it says something of a worker only where a seat of a table, or a list of words, has
+/// it.
 pub trait First<A> {
     ghost first: { A → View };
 }

@@ -1,8 +1,8 @@
 //! Where descriptors and marks stand in a table that several workers share, and the steps of one
 //! worker on its words.
 //!
-//! A step is a value (`Request`): which word it touches, and what becomes of it. `rh_rule` says that
-//! each allowed one keeps the rule, and `rh_steps` who carries it out.
+//! A step is a value (`Request`): which word it touches, and what becomes of it. `rh_rule` says
+//! that each allowed one keeps the rule, and `rh_steps` who carries it out.
 //!
 //! `rh_descriptor` hands it on to programs of others, with a call for each kind of step.
 //!
@@ -10,8 +10,8 @@
 //!
 //! - `Shape::cells`, `words` and `index`: how many cells and words a table has, and in which word
 //!   each part stands, exactly. `one_part`: no two parts stand in one word.
-//! - `Request::index`, `Request::effect`, `Side::note`: of a step, on the condition of its kind, which word
-//!   it touches, what becomes of it, and what is kept of the worker after it, exactly.
+//! - `Request::index`, `Request::effect`, `Side::note`: of a step, on the condition of its kind,
+//!   which word it touches, what becomes of it, and what is kept of the worker after it, exactly.
 //! - `make_step`: one such step on a slice of words, and the word that it found.
 //! - `Side::new`, `Side::begin_round`: what is kept of a worker when a table is made, and in a new
 //!   round.

@@ -14,6 +14,6 @@ pub const HEAD_WORDS: usize = 3;
 /// How many words an entry has: its cell, and its old and its new value.
 pub const WORDS_PER_ENTRY: usize = 3;
 
-/// How many words a worker's mark row has: the serial number, the reference of the mark's descriptor,
-/// and its entry.
+/// How many words a worker's mark row has: the serial number, the reference of the mark's
+/// descriptor, and its entry.
 pub const MARK_WORDS: usize = 3;

@@ -6,7 +6,8 @@ ghost use Rattle.rh_words.specs.Steps.{IsRead, index_read};
 
 use crate::shape::Shape;
 
-/// A mark or a descriptor: its worker, and its serial number among that worker's. Both count from 0.
+/// A mark or a descriptor: its worker, and its serial number among that worker's. Both count from
+/// 0.
 #[derive(Clone, Copy, Debug, PartialEq, Eq)]
 pub struct Ref {
     pub worker: usize,

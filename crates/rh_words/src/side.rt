@@ -1,5 +1,5 @@
-//! The state of one worker. When it runs it has its number, its counts and a control; what it has done
-//! and knows is kept for contracts alone.
+//! The state of one worker. When it runs it has its number, its counts and a control; what it has
+//! done and knows is kept for contracts alone.
 
 ghost use Rattle.std.specs.Prelude.{◌≡◌};
 ghost use Rattle.rh_words.specs.Requests.{step_asked};
@@ -22,7 +22,8 @@ pub struct Side {
     pub worker: usize,
     /// The serial number of its next descriptor.
     pub next_number: u64,
-    /// The control of its last descriptor, as it was last seen: the next one is opened in its place.
+    /// The control of its last descriptor, as it was last seen: the next one is opened in its
+    /// place.
     pub control: u64,
     /// How many of its marks are used up.
     pub marks_used: u64,
@@ -82,7 +83,8 @@ impl Side {
     pub fn note(&mut self, shape: &Shape, request: Request, word: u64)
         requires shape { IsShape shape.now }
         requires allowed { Allowed shape.now self.old.known.view (step_asked request) }
-        ensures { self.new.known.view ≡ noted shape.now self.old.known.view (step_asked request) word }
+        ensures { self.new.known.view ≡ noted shape.now self.old.known.view
+            (step_asked request) word }
     {
         let control = self.control_after(shape, request, word);
         let known = Known::next::<Noted, (Shape, Request, u64)>(

@@ -1,4 +1,5 @@
-//! The steps of a worker, each of which touches one word of a table: as values, and on a slice of words.
+//! The steps of a worker, each of which touches one word of a table: as values, and on a slice of
+//! words.
 
 ghost use Rattle.std.specs.Prelude.{◌≡◌, ◌<◌, ℕ, length};
 ghost use Rattle.rh_words.specs.Requests.{changed, step_asked};
@@ -11,7 +12,8 @@ use crate::side::Side;
 use crate::words::{desc_word, mark_word};
 use rh_tagword::{State, pack_control};
 
-/// The kinds of step. Each is one load, store or exchange, compare-and-swap or increment of one word.
+/// The kinds of step. Each is one load, store or exchange, compare-and-swap or increment of one
+/// word.
 #[derive(Clone, Copy, Debug, PartialEq, Eq)]
 pub enum StepKind {
     Write,
@@ -100,7 +102,8 @@ impl Request {
     pub fn effect(&self, shape: &Shape, side: &Side) -> Effect
         requires shape { IsShape shape.now }
         requires allowed { Allowed shape.now side.now.known.view (step_asked self.now) }
-        ensures { (n : ℕ) → changed result n ≡ word_after side.now.known.view (step_asked self.now) n }
+        ensures { (n : ℕ) →
+            changed result n ≡ word_after side.now.known.view (step_asked self.now) n }
     {
         match *self {
             Request::Write { word, .. } => Effect::Put(word),

@@ -38,7 +38,8 @@ pub fn desc_word(shape: &Shape, desc: Ref) -> u64
     })
 }
 
-/// The control of a descriptor after a swap of it from undecided to this state that found this word.
+/// The control of a descriptor after a swap of it from undecided to this state that found this
+/// word.
 #[inline(always)]
 pub fn decided_word(desc: Ref, state: State, word: u64) -> u64
     requires { IsControl desc.number state }

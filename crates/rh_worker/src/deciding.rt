@@ -26,9 +26,9 @@ pub enum Decision {
     More,
 }
 
-/// What is to be done with the key where the cells from its home on hold this. The entries that it asks
-/// for are the first of `entries`, in the order of their cells, with plain words for values; `news` is
-/// room for the new values.
+/// What is to be done with the key where the cells from its home on hold this. The entries that it
+/// asks for are the first of `entries`, in the order of their cells, with plain words for values;
+/// `news` is room for the new values.
 pub fn decide(
     kind: Kind,
     bits: u32,

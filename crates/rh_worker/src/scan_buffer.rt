@@ -11,9 +11,9 @@ use rh_layout::Entry;
 use rh_ledger::Kind;
 use std::alloc::{AllocError, Global};
 
-/// Room for what the cells from a key's home on hold, and for the entries of the key's act. It does for
-/// as many as the table has cells, and grows in use as scans get longer: the memory behind is never
-/// touched.
+/// Room for what the cells from a key's home on hold, and for the entries of the key's act. It does
+/// for as many as the table has cells, and grows in use as scans get longer: the memory behind is
+/// never touched.
 #[derive(Drop)]
 pub struct ScanBuffer {
     /// What the cells hold.

@@ -30,8 +30,8 @@ use rh_steps::Steps;
 use rh_tagword::plain_value;
 use rh_words::Shape;
 
-/// Looks at the next cell, and goes by the value that it holds. Answers whether the key is done, and
-/// how.
+/// Looks at the next cell, and goes by the value that it holds. Answers whether the key is done,
+/// and how.
 #[inline(always)]
 pub(crate) fn scan<T: Steps>(
     worker: &mut Worker,
@@ -42,14 +42,16 @@ pub(crate) fn scan<T: Steps>(
 ) -> Option<bool>
     requires relies { Relies T.shows T.serves shape.now table.old worker.old.side.known.view }
     requires worker { IsAtStage shape.now worker.old (stage.Scan watch seen) }
-    ensures makes { MakesStep T.shows T.made shape.now (kind_of_looking (looking_of watch worker.old.machine)) table.old worker.old.side.known.view
+    ensures makes { MakesStep T.shows T.made shape.now
+        (kind_of_looking (looking_of watch worker.old.machine)) table.old worker.old.side.known.view
         table.new worker.new.side.known.view }
     ensures worker { IsWorker shape.now worker.new }
     ensures keeps { KeepsKey worker.old worker.new }
     ensures advances { Advances shape.now worker.old.kind worker.old.key worker.old.side.known.view
         worker.new.side.known.view result }
     ensures ends { EndsAt result worker.new.stage }
-    ensures anew { (before : List Kept) → HasScanned shape.now before worker.old.side.known.view worker.old.key
+    ensures anew { (before : List Kept) →
+        HasScanned shape.now before worker.old.side.known.view worker.old.key
         worker.old.buffer.seen.items seen → ReadsAnew shape.now before worker.new ×
         TellsAnew shape.now before worker.old.kind worker.old.key worker.old.side.known.view
         worker.new.side.known.view result }
@@ -93,9 +95,11 @@ fn decide(worker: &mut Worker, shape: &Shape, count: usize) -> Option<bool>
     ensures ends { EndsAt result worker.new.stage }
     ensures told { IfSome result (IsTold worker.old.kind shape.now.bits
         (kept_of shape.now worker.old.side.known.view) worker.old.key) }
-    ensures anew { (before : List Kept) → HasScanned shape.now before worker.old.side.known.view worker.old.key
+    ensures anew { (before : List Kept) →
+        HasScanned shape.now before worker.old.side.known.view worker.old.key
         worker.old.buffer.seen.items count → ReadsAnew shape.now before worker.new ×
-        IfSome result (IsToldAnew shape.now before worker.new.side.known.view worker.old.kind worker.old.key) }
+        IfSome result
+        (IsToldAnew shape.now before worker.new.side.known.view worker.old.kind worker.old.key) }
 {
     let decision = worker
         .buffer
@@ -121,8 +125,10 @@ fn decide(worker: &mut Worker, shape: &Shape, count: usize) -> Option<bool>
 fn planned(worker: &Worker, shape: &Shape, plan: Plan) -> Stage
     requires sound { Sound shape.now worker.now.side.known.view }
     requires clear { IsClear worker.now.side.known.view }
-    requires plan { IsPlan worker.now.kind shape.now.bits worker.now.key worker.now.buffer.entries.items plan }
-    ensures stays { Stays shape.now worker.now.side.known.view worker.now.kind worker.now.key worker.now.buffer worker.now.machine result }
+    requires plan { IsPlan worker.now.kind shape.now.bits worker.now.key
+        worker.now.buffer.entries.items plan }
+    ensures stays { Stays shape.now worker.now.side.known.view worker.now.kind worker.now.key
+        worker.now.buffer worker.now.machine result }
     ensures ends { EndsAt None result }
     ensures unseen { seen_at result ≡ 0 }
 {

@@ -8,7 +8,8 @@ ghost use Rattle.rh_worker.specs.declared.stage.Stage.TheVariants as stage;
 use rh_helping::{Machine, Opening, Watch};
 use rh_words::StepKind;
 
-/// An own descriptor that is to be opened, or is open. Its entries stand in the worker's `ScanBuffer`.
+/// An own descriptor that is to be opened, or is open. Its entries stand in the worker's
+/// `ScanBuffer`.
 #[derive(Clone, Copy)]
 pub struct Plan {
     /// How many entries it has.

@@ -29,14 +29,16 @@ pub(crate) fn open<T: Steps>(
 )
     requires relies { Relies T.shows T.serves shape.now table.old worker.old.side.known.view }
     requires worker { IsAtStage shape.now worker.old (stage.Open opening plan) }
-    ensures makes { MakesStep T.shows T.made shape.now (kind_of_opening opening) table.old worker.old.side.known.view
+    ensures makes { MakesStep T.shows T.made shape.now
+        (kind_of_opening opening) table.old worker.old.side.known.view
         table.new worker.new.side.known.view }
     ensures worker { IsWorker shape.now worker.new }
     ensures keeps { KeepsKey worker.old worker.new }
     ensures advances { Advances shape.now worker.old.kind worker.old.key worker.old.side.known.view
         worker.new.side.known.view None }
     ensures ends { EndsAt None worker.new.stage }
-    ensures anew { (before : List Kept) → HasScanned shape.now before worker.old.side.known.view worker.old.key
+    ensures anew { (before : List Kept) →
+        HasScanned shape.now before worker.old.side.known.view worker.old.key
         worker.old.buffer.seen.items 0 → ReadsAnew shape.now before worker.new }
 {
     let desc = Ref {
@@ -68,7 +70,8 @@ pub(crate) fn swap<T: Steps>(
 ) -> Option<bool>
     requires relies { Relies T.shows T.serves shape.now table.old worker.old.side.known.view }
     requires worker { IsAtStage shape.now worker.old (stage.Swap number plan) }
-    ensures makes { MakesStep T.shows T.made shape.now (kind_of_work (work_of worker.old.machine)) table.old worker.old.side.known.view
+    ensures makes { MakesStep T.shows T.made shape.now
+        (kind_of_work (work_of worker.old.machine)) table.old worker.old.side.known.view
         table.new worker.new.side.known.view }
     ensures worker { IsWorker shape.now worker.new }
     ensures keeps { KeepsKey worker.old worker.new }
@@ -77,7 +80,8 @@ pub(crate) fn swap<T: Steps>(
     ensures ends { EndsAt result worker.new.stage }
     ensures gives_up { GivesUp worker.old.side.known.view worker.new.side.known.view →
         worker.new.stage ≡ stage.Spent }
-    ensures anew { (before : List Kept) → HasScanned shape.now before worker.old.side.known.view worker.old.key
+    ensures anew { (before : List Kept) →
+        HasScanned shape.now before worker.old.side.known.view worker.old.key
         worker.old.buffer.seen.items 0 → ReadsAnew shape.now before worker.new }
 {
     let open = OpenDesc {

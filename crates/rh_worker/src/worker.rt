@@ -91,8 +91,8 @@ impl Worker {
         matches!(self.stage, Stage::Spent)
     }
 
-    /// The cell where an own mark stands that is not settled yet, or where its descriptor may stand by
-    /// the worker's doing.
+    /// The cell where an own mark stands that is not settled yet, or where its descriptor may stand
+    /// by the worker's doing.
     pub fn held(&self) -> Option<Owed>
         ensures { (z : Shape) → IsWorker z self.now → IsHeld self.now.side.known.view result }
     {
@@ -149,14 +149,15 @@ impl Worker {
         }
     }
 
-    /// Makes the next step. With the one by which it gives up a key it is spent. A key that no act does
-    /// is told of by what was read since it was begun.
+    /// Makes the next step. With the one by which it gives up a key it is spent. A key that no act
+    /// does is told of by what was read since it was begun.
     #[inline(always)]
     pub fn step<T: Steps>(&mut self, shape: &Shape, table: &mut T) -> Stepped
         requires relies { Relies T.shows T.serves shape.now table.old self.old.side.known.view }
         requires worker { IsWorker shape.now self.old }
         requires busy { IsBusy self.old.stage }
-        ensures makes { MakesStep T.shows T.made shape.now result.kind table.old self.old.side.known.view
+        ensures makes { MakesStep T.shows T.made shape.now result.kind table.old
+            self.old.side.known.view
             table.new self.new.side.known.view }
         ensures worker { IsWorker shape.now self.new }
         ensures keeps { KeepsKey self.old self.new }
@@ -166,7 +167,8 @@ impl Worker {
         ensures gives_up { GivesUp self.old.side.known.view self.new.side.known.view →
             self.new.stage ≡ stage.Spent }
         ensures anew { (before : List Kept) → ReadsAnew shape.now before self.old →
-            ReadsAnew shape.now before self.new × TellsAnew shape.now before self.old.kind self.old.key
+            ReadsAnew shape.now before self.new
+            × TellsAnew shape.now before self.old.kind self.old.key
             self.old.side.known.view self.new.side.known.view result.done }
     {
         let stage = self.stage;

@@ -27,8 +27,8 @@ pub fn starts()
     ensures { StartMeets }
 {}
 
-/// Where all Sides are at rest, what the cells stand for begins a new round that meets the rule. The
-/// counter and the numbers that the Claims found stay.
+/// Where all Sides are at rest, what the cells stand for begins a new round that meets the rule.
+/// The counter and the numbers that the Claims found stay.
 pub fn new_round()
     ensures { NewRoundMeets }
 {}

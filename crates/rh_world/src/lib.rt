@@ -22,8 +22,8 @@
 //!   exactly the worker's own acts before it among them. After these the entry's cell did not hold
 //!   its old value, or the cell held the word.
 //! - `prefixes`, too: along one worker's descriptors and reads these numbers never get smaller.
-//! - `stale_descriptors`: a descriptor whose worker has opened a later one is decided, and stands in no cell
-//!   if it succeeded. Where it stands, a Release puts the old value back.
+//! - `stale_descriptors`: a descriptor whose worker has opened a later one is decided, and stands
+//!   in no cell if it succeeded. Where it stands, a Release puts the old value back.
 //! - `claims`: the keys' numbers that Claims found are those below the counter, each found by one
 //!   worker and once. The counter is at most the number of keys plus that of workers.
 //! - `a_run_to_a_success`: the conditions can be met, by a run of two workers in which the helper

@@ -16,8 +16,8 @@ pub enum Combination {
 /// A command, with its arguments.
 #[derive(Drop)]
 pub enum Line {
-    /// Write what is made of the lists in these files, or how many numbers that are, or a key file of it.
-    /// With 0 workers there are as many as processors.
+    /// Write what is made of the lists in these files, or how many numbers that are, or a key file
+    /// of it. With 0 workers there are as many as processors.
     Combine {
         combination: Combination,
         workers: usize,
@@ -27,15 +27,15 @@ pub enum Line {
     },
     /// Write the key file of the numbers on standard input.
     Pack,
-    /// Write keys as text, those of a key file, or of a snapshot: of each of these files in turn, or of
-    /// standard input where none is named.
+    /// Write keys as text, those of a key file, or of a snapshot: of each of these files in turn,
+    /// or of standard input where none is named.
     List {
         snapshot: bool,
         files: Vec<String>,
     },
-    /// Split the numbers on standard input, or the keys of a key file there, into this many parts, with
-    /// a key file `name` each; or plan that alone, and tell how many keys each part has. 0 parts: as
-    /// many as the size of the input asks for.
+    /// Split the numbers on standard input, or the keys of a key file there, into this many parts,
+    /// with a key file `name` each; or plan that alone, and tell how many keys each part has. 0
+    /// parts: as many as the size of the input asks for.
     Split {
         parts: usize,
         key_file: bool,

@@ -14,9 +14,9 @@ pub const PROGRAM: &str =
 
 /// The program, on `rhkeys --help` alone.
 pub const PROGRAM_AT_LENGTH: &str = "\
-Makes one list of several lists of numbers, of any length: what stands in all of them, in any, in the
-first alone. And turns texts of numbers into key files for rhset, and key files and snapshots into texts.
-`rhkeys COMMAND --help` says what a command reads and writes.";
+Makes one list of several lists of numbers, of any length: what stands in all of them, in any, in
+the first alone. And turns texts of numbers into key files for rhset, and key files and snapshots
+into texts. `rhkeys COMMAND --help` says what a command reads and writes.";
 
 /// What the program's exit status says.
 pub const STATUSES: &str = "\
@@ -31,8 +31,8 @@ Exit status:
 pub const INTERSECT: Texts = Texts {
     about: "Writes the numbers that stand in every list",
     at_length: "\
-Reads lists of numbers, and writes those that stand in every list, each once and in rising order, one
-a line.
+Reads lists of numbers, and writes those that stand in every list, each once and in rising order,
+one a line.
 
 Example:
   rhkeys intersect spring.txt summer.txt > both.txt",
@@ -42,8 +42,8 @@ Example:
 pub const UNION: Texts = Texts {
     about: "Writes the numbers that stand in any of the lists",
     at_length: "\
-Reads lists of numbers, and writes those that stand in any of them, each once and in rising order, one
-a line. Of one list it writes its numbers, sorted and each once.
+Reads lists of numbers, and writes those that stand in any of them, each once and in rising order,
+one a line. Of one list it writes its numbers, sorted and each once.
 
 Example:
   rhkeys union spring.txt summer.txt > all.txt",
@@ -86,14 +86,15 @@ pub const LIST_FILES: &str = "Texts of numbers or key files; - is standard input
 
 /// What the commands on lists read.
 pub const LISTS: &str = "\
-A FILE is a text of numbers, or a key file of either version, which its first four bytes tell. A line of
-a text is a number from 0 to 4611686018427387902 in decimal digits, with spaces before and after it. A
-line with no more than spaces is skipped, and so is one that begins with #. Numbers may come in any
-order and any number of times. A line may end with CR LF; the last may lack its LF.
+A FILE is a text of numbers, or a key file of either version, which its first four bytes tell. A
+line of a text is a number from 0 to 4611686018427387902 in decimal digits, with spaces before and
+after it. A line with no more than spaces is skipped, and so is one that begins with #. Numbers may
+come in any order and any number of times. A line may end with CR LF; the last may lack its LF.
 
-Nothing is written where a list is refused: the first one that is is told, with its first bad line. The
-lists are held in memory, at most 24 bytes for each number of all lists and 32 MB. Larger ones are split
-first: see `rhkeys split --help`. On a terminal, work of more than a second tells how far it is.";
+Nothing is written where a list is refused: the first one that is is told, with its first bad line.
+The lists are held in memory, at most 24 bytes for each number of all lists and 32 MB. Larger ones
+are split first: see `rhkeys split --help`. On a terminal, work of more than a second tells how far
+it is.";
 
 /// The command `pack`, in a line.
 pub const PACK: &str = "Writes the key file of the numbers of a text";
@@ -121,7 +122,8 @@ pub const LIST: &str = "Writes the keys of a key file or a snapshot, one a line"
 /// The command `list`, on `rhkeys list --help` alone.
 pub const LIST_AT_LENGTH: &str = "\
 Reads key files, or standard input where none is named, and writes their keys to standard output,
-one a line, in decimal digits and in their order: those of each file after those of the one before.";
+one a line, in decimal digits and in their order: those of each file after those of the one
+before.";
 
 /// The argument FILE.
 pub const FILES: &str = "Key files, or snapshots; standard input where none is named";
@@ -131,10 +133,10 @@ pub const SNAPSHOT: &str = "Read snapshots, and write the keys of each in rising
 
 /// What `list` reads and writes.
 pub const LIST_FORMATS: &str = "\
-Key files of both versions are read, of any number of keys; 8 bytes are held for each key of the file
-that is listed. `rhset run` with the command `snapshot` makes snapshots. Nothing is written of a file
-that is refused, which is told by its name: what stands before it was written, and what comes after
-it is not read. What was listed of at most 1000000 keys is packed to the same keys.
+Key files of both versions are read, of any number of keys; 8 bytes are held for each key of the
+file that is listed. `rhset run` with the command `snapshot` makes snapshots. Nothing is written of
+a file that is refused, which is told by its name: what stands before it was written, and what comes
+after it is not read. What was listed of at most 1000000 keys is packed to the same keys.
 
 Examples:
   rhkeys list < three.keys
@@ -145,10 +147,10 @@ pub const SPLIT: &str = "Splits a text of numbers of any length into key files o
 
 /// The command `split`, on `rhkeys split --help` alone.
 pub const SPLIT_AT_LENGTH: &str = "\
-Reads a text of numbers of any length from standard input, once, and gives each key to one of N parts,
-by a hash of the key: so the parts are about equally large, whatever the numbers are. The key file of
-part 7 is 007/NAME.keys below the current folder; folders that are not there are made. What stood there
-before is replaced.";
+Reads a text of numbers of any length from standard input, once, and gives each key to one of N
+parts, by a hash of the key: so the parts are about equally large, whatever the numbers are. The key
+file of part 7 is 007/NAME.keys below the current folder; folders that are not there are made. What
+stood there before is replaced.";
 
 /// The argument `--parts`.
 pub const PARTS: &str =
@@ -166,18 +168,19 @@ pub const NAME: &str = "Name of the list: 1 to 200 bytes, no `/`, space or contr
 
 /// What `split` reads and writes.
 pub const SPLIT_FORMATS: &str = "\
-The keys of a part keep their order. What a script makes of the parts of its lists, part by part, are
-the parts of what it makes of the lists: `rhkeys list --snapshot` of the parts' snapshots gives all of
-its keys, in the order of the parts, and `sort -n` puts them in rising order. Lists that belong together
-are split into the same number of parts.
+The keys of a part keep their order. What a script makes of the parts of its lists, part by part,
+are the parts of what it makes of the lists: `rhkeys list --snapshot` of the parts' snapshots gives
+all of its keys, in the order of the parts, and `sort -n` puts them in rising order. Lists that
+belong together are split into the same number of parts.
 
 A part has at most 1000000 keys, and the table of a script 196608. `--plan` has no such limit: after
-`keys` it tells how many keys there are, and after `parts` into how many parts they go so that each has
-about 150000. Without `--parts` there are as many for the size of the input: one for each 1050000 bytes
-of a text, or 1200000 of a key file. That takes a file; of a pipe the size is not known.
+`keys` it tells how many keys there are, and after `parts` into how many parts they go so that each
+has about 150000. Without `--parts` there are as many for the size of the input: one for each
+1050000 bytes of a text, or 1200000 of a key file. That takes a file; of a pipe the size is not
+known.
 
-The files are written beside their places and put there once all are whole; on a fault none of them is
-left. Each part has an open file meanwhile: see `ulimit -n`.
+The files are written beside their places and put there once all are whole; on a fault none of them
+is left. Each part has an open file meanwhile: see `ulimit -n`.
 
 Examples:
   rhkeys split --plan --parts 2 spring < spring.txt

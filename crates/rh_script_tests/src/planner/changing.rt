@@ -159,8 +159,8 @@ fn a_list_that_is_too_long_to_be_added(rt: HostRuntime) -> Result<(), Fail> {
     Ok(())
 }
 
-// `keep` and `flip` count places, of which these lists have too many; that comes after each fault of the
-// list.
+// `keep` and `flip` count places, of which these lists have too many; that comes after each fault
+// of the list.
 #[test]
 fn a_list_that_has_too_many_places(rt: HostRuntime) -> Result<(), Fail> {
     let told = "use s 1\nadd s read 1 added 1 held 1 bits 3\nuse k 196609\n";

@@ -18,8 +18,8 @@ impl Asked {
         }
     }
 
-    // The parts of a file, each one read: the magic, the count, the part of all keys and the end; or
-    // the magic, the bits, the count, the cells, the seal and the end.
+    // The parts of a file, each one read: the magic, the count, the part of all keys and the end;
+    // or the magic, the bits, the count, the cells, the seal and the end.
     fn reads(self) -> u64 {
         match self {
             Asked::List => 4,
@@ -87,8 +87,8 @@ const SCRIPTS: &[(&str, &[&str], &[(u64, Asked)])] = &[
     ),
 ];
 
-// How a script ends over a shelf that fails so, at this line by this cause. A failed read is counted, and
-// nothing else is.
+// How a script ends over a shelf that fails so, at this line by this cause. A failed read is
+// counted, and nothing else is.
 fn fails_at(
     rt: &(impl Threads + Wait + Sync + Abort + AllocGlobal),
     script: &str,
@@ -190,7 +190,8 @@ fn each_write_fails(rt: HostRuntime) -> Result<(), Fail> {
     Ok(())
 }
 
-// Of two runs the first has a shelf that fails at the fourth line, and the second one that does not.
+// Of two runs the first has a shelf that fails at the fourth line, and the second one that does
+// not.
 #[test]
 fn one_run_of_two_fails(rt: HostRuntime) -> Result<(), Fail> {
     let script = parse(rt.alloc(), SCRIPT.as_bytes())?;

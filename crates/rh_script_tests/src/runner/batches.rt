@@ -82,8 +82,8 @@ fn one_worker_removes_4096_keys_at_a_time(rt: HostRuntime) -> Result<(), Fail> {
     Ok(())
 }
 
-// A runner that does not say how many keys it takes best: a phase that changes the table takes as many
-// as may be added to one.
+// A runner that does not say how many keys it takes best: a phase that changes the table takes as
+// many as may be added to one.
 #[test]
 fn a_table_is_changed_by_196608_keys(rt: HostRuntime) -> Result<(), Fail> {
     let keys = many_keys(rt.alloc())?;
