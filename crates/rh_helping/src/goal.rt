@@ -44,8 +44,14 @@ impl Task {
     /// A descriptor that stands so, at its first entry, where no cell is owed.
     #[inline(always)]
     pub(crate) fn new(desc: Ref, size: usize, state: State) -> Task
-        ensures { result ≡ record { desc = desc; size = size; state = state; entry = 0; owed = None;
-            reason = None } }
+        ensures { result ≡ record {
+          desc = desc;
+          size = size;
+          state = state;
+          entry = 0;
+          owed = None;
+          reason = None;
+        } }
     {
         Task {
             desc,
@@ -60,8 +66,14 @@ impl Task {
     /// The same descriptor, decided so: its entries are to be released from the first one on.
     #[inline(always)]
     pub(crate) fn decided(self, state: State, owed: Option<Owed>) -> Task
-        ensures { result ≡ record { desc = self.desc; size = self.size; state = state; entry = 0;
-            owed = owed; reason = None } }
+        ensures { result ≡ record {
+          desc = self.desc;
+          size = self.size;
+          state = state;
+          entry = 0;
+          owed = owed;
+          reason = None;
+        } }
     {
         Task {
             state,
@@ -76,8 +88,14 @@ impl Task {
     #[inline(always)]
     pub(crate) fn after(self) -> Task
         requires { self.entry < self.size }
-        ensures { result ≡ record { desc = self.desc; size = self.size; state = self.state;
-            entry = self.entry + 1; owed = self.owed; reason = self.reason } }
+        ensures { result ≡ record {
+          desc = self.desc;
+          size = self.size;
+          state = self.state;
+          entry = self.entry + 1;
+          owed = self.owed;
+          reason = self.reason;
+        } }
     {
         Task {
             entry: self.entry + 1,

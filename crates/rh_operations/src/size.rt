@@ -13,13 +13,7 @@ use rh_grow::{bits_for, grow};
 use rh_runner::Scratch;
 use std::alloc::{AllocError, Global};
 
-#[tactic(auto,
-    using(
-        crate::proofs::SizeLemmas::sized,
-        crate::proofs::SizeLemmas::not_sized,
-        crate::proofs::SizeLemmas::fits_below
-    )
-)]
+#[tactic(auto, using(crate::proofs::SizeLemmas::sized, crate::proofs::SizeLemmas::not_sized, crate::proofs::SizeLemmas::fits_below))]
 /// A copy of the set's table that takes `more` keys too. Its bits are the least that do, and none
 /// fewer.
 pub(crate) fn grown(alloc: Global, set: &SeqSet, more: u64) -> Result<Scratch, Cause>

@@ -12,10 +12,7 @@ use rh_layout::{beats, home, key_in};
 /// What the first offset that decides tells of the key: the one that holds it, or that is empty or
 /// holds a key that does not beat it there (Celis 1986). `seen` is what consecutive cells hold,
 /// from the key's home on.
-#[tactic(auto,
-    unfolding(rh_layout::specs::Round::cell_ahead),
-    using(std::proofs::lemmas::Nat::one_shl)
-)]
+#[tactic(auto, unfolding(rh_layout::specs::Round::cell_ahead), using(std::proofs::lemmas::Nat::one_shl))]
 pub fn look(bits: u32, key: u64, seen: &[u64]) -> Look
     requires bits { IsBits bits }
     requires key { IsKey key }
@@ -49,10 +46,7 @@ pub fn free_after(seen: &[u64], i: usize) -> Option<usize>
 /// The first offset after `i` that is empty or holds a key at its home; there is none after the
 /// last. What stands between can move back by one. `cell` is the cell of the first offset of
 /// `seen`.
-#[tactic(auto,
-    unfolding(rh_layout::specs::Round::cell_ahead),
-    using(std::proofs::lemmas::Nat::one_shl)
-)]
+#[tactic(auto, unfolding(rh_layout::specs::Round::cell_ahead), using(std::proofs::lemmas::Nat::one_shl))]
 pub fn stop_after(bits: u32, cell: usize, seen: &[u64], i: usize) -> Option<usize>
     requires bits { IsBits bits }
     requires cell { cell < 2 ^ bits }

@@ -65,10 +65,7 @@ pub(crate) fn carry_out<'a, T: Threads + Wait + Sync, S: Lender, N: Runner, W: W
 }
 
 /// Carries a task out, and answers what it has to report.
-#[tactic(auto,
-    using(crate::proofs::StepLemmas::leaves_kept),
-    unfolding(crate::specs::Meaning::outcome_of, rh_script::specs::Plan::number_after)
-)]
+#[tactic(auto, using(crate::proofs::StepLemmas::leaves_kept), unfolding(crate::specs::Meaning::outcome_of, rh_script::specs::Plan::number_after))]
 fn act<'a, T: Threads + Wait + Sync, S: Lender, N: Runner>(
     rt: &T,
     alloc: Global,

@@ -31,8 +31,12 @@ impl Makes for Brand {
     ghost use Rattle.rh_words.specs.Steps.Step.{claims};
     ghost use Rattle.rh_words.specs.View.{new_view};
 
-    ghost shape = { record { bits = 3; workers = 0; keys = 0;
-        rooms = record { descriptors = 0; marks = 0 } } };
+    ghost shape = { record {
+      bits = 3;
+      workers = 0;
+      keys = 0;
+      rooms = record { descriptors = 0; marks = 0 };
+    } };
 
     ghost view = { new_view [] 0 };
 

@@ -36,11 +36,12 @@ returns-in-Failed-clause-tries g c =
     let z = c.args.table.now.shape in
     let plan = c.in-Acts.plan in
     let e = c.in-Acts.ensures in
-    let s = c.in-Failed.ensures in
-    (undone_on z c.args.kind c.args.key (view_of c.args.seat.now) (view_of c.scan.new.seat) (view_of c.kcas.new.seat) e.undone
-    (swap_failed z c.args.kind c.args.key (view_of c.scan.new.seat) (view_of c.kcas.new.seat) e.rests.rested s.rests.rested (take plan.entries c.scan.new.entries) plan.changes e.scans.act
-    s.swaps.reads s.swaps.claims s.swaps.opening _ s.swaps.became.0 s.swaps.became.1),
-    s.swaps.became.0.next_number ∙ ap (λ (n : ℕ). suc n) e.unopened)
+    let s = c.in-Failed.ensures in (
+      undone_on z c.args.kind c.args.key (view_of c.args.seat.now) (view_of c.scan.new.seat) (view_of c.kcas.new.seat) e.undone
+          (swap_failed z c.args.kind c.args.key (view_of c.scan.new.seat) (view_of c.kcas.new.seat) e.rests.rested s.rests.rested (take plan.entries c.scan.new.entries) plan.changes e.scans.act
+          s.swaps.reads s.swaps.claims s.swaps.opening _ s.swaps.became.0 s.swaps.became.1),
+      s.swaps.became.0.next_number ∙ ap (λ (n : ℕ). suc n) e.unopened,
+    )
 
 pub returns-in-Spent-kcas-clause-tries : goal.returns-in-Spent-kcas-clause-tries
 returns-in-Spent-kcas-clause-tries g c =
