@@ -5,7 +5,7 @@ use Rattle.rh_key_files.specs.declared.fault.KeyFault.TheVariants as faults
 use Rattle.rh_snapshot.specs.declared.fault.SnapFault.TheVariants as snap_faults
 use Rattle.rh_shelf.specs.Shelf.{ShelfState}
 use Rattle.rh_operations.specs.declared.cause.Cause.{Cause}
-use Rattle.rh_operations.specs.declared.cause.Cause.TheVariants.{Missing, Keys, Snap, NoThread, Put}
+use Rattle.rh_operations.specs.declared.cause.Cause.TheVariants.{Missing, Keys, Snap, NoThread, Put, Write}
 
 -- a read of a file failed
 abbrev pub IsRead : Cause → Type 0
@@ -15,7 +15,7 @@ IsRead _ = ⊥
 
 -- What an operation that puts no file leaves of a shelf: it gives the same files; nothing failed where the operation was
 -- carried out; where its files are not known, it failed if one was missing; and a read failed where that is the cause, and
--- none is counted else.
+-- none is counted else. It has no business with a writer.
 pub record KeepsShelf {X : Type 0} (old new : ShelfState) (r : Result X Cause) : Type 0 where
   pub same_files : new.files ≡ old.files
   pub fine : OnOk r (new ≡ old)
@@ -23,6 +23,13 @@ pub record KeepsShelf {X : Type 0} (old new : ShelfState) (r : Result X Cause) :
   pub read : IfErr r (λ cause. IsRead cause → Rose old.failed_reads new.failed_reads)
   pub others : IfErr r (λ cause. (IsRead cause → ⊥) → new.failed_reads ≡ old.failed_reads)
   pub not_put : IfErr r (λ cause. cause ≡ Put → ⊥)
+  pub no_write : IfErr r (λ cause. cause ≡ Write → ⊥)
+
+-- So does one that has no business with a runner either.
+pub record UsesShelf {X : Type 0} (old new : ShelfState) (r : Result X Cause) : Type 0 where
+  pub keeps : KeepsShelf old new r
+  pub open keeps use *
+  pub no_thread : IfErr r (λ cause. cause ≡ NoThread → ⊥)
 
 -- What an operation leaves of a runner: a thread was refused where that is the cause, and none was refused else.
 pub record KeepsRunner {X : Type 0} (starts starts' : ℕ) (r : Result X Cause) : Type 0 where

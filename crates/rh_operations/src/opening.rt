@@ -5,7 +5,7 @@ ghost use Rattle.rh_bytes.specs.Counting.{Rose, failures_of, inner_of};
 ghost use Rattle.rh_shelf.specs.Shelf.{Files, Finds, Lacks};
 ghost use Rattle.rh_operations.specs.Found.{header_count};
 ghost use Rattle.rh_operations.specs.KeyLists.{Opens, bytes_left, source_bytes};
-ghost use Rattle.rh_operations.specs.Leaves.{IsRead, KeepsShelf};
+ghost use Rattle.rh_operations.specs.Leaves.{IsRead, UsesShelf};
 ghost use Rattle.rh_operations.specs.Refusals.{ListFails, RefusedBy};
 
 use crate::cause::Cause;
@@ -29,9 +29,7 @@ pub(crate) fn open_file<S: Lender>(
         ⊎ Rose (S.state shelf.old).failures (S.state shelf.new).failures))) }
     ensures memory { IfErr result (λ cause. cause ≡ Cause.Memory →
         Rose (S.state shelf.old).failures (S.state shelf.new).failures) }
-    ensures shelf { KeepsShelf (S.state shelf.old) (S.state shelf.new) result }
-    ensures no_thread { IfErr result (λ cause. cause ≡ Cause.NoThread → ⊥) }
-    ensures no_write { IfErr result (λ cause. cause ≡ Cause.Write → ⊥) }
+    ensures shelf { UsesShelf (S.state shelf.old) (S.state shelf.new) result }
 {
     match shelf.lend(alloc, path) {
         Ok(reader) => Ok(reader),
@@ -55,9 +53,7 @@ pub(crate) fn open_list<'a, S: Lender>(
         (ListFails (Rose (S.state shelf.old).failures (S.state shelf.new).failures) ⊥)) }
     ensures memory { IfErr result (λ cause. cause ≡ Cause.Memory →
         Rose (S.state shelf.old).failures (S.state shelf.new).failures) }
-    ensures shelf { KeepsShelf (S.state shelf.old) (S.state shelf.new) result }
-    ensures no_thread { IfErr result (λ cause. cause ≡ Cause.NoThread → ⊥) }
-    ensures no_write { IfErr result (λ cause. cause ≡ Cause.Write → ⊥) }
+    ensures shelf { UsesShelf (S.state shelf.old) (S.state shelf.new) result }
 {
     Ok(Counted::new(match &list.source {
         Source::Path(path) => ListReader::File(open_file(alloc, shelf, path)?),

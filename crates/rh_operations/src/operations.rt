@@ -9,7 +9,7 @@ ghost use Rattle.rh_operations.specs.Actions.{made_of, means, room_at, room_foun
 ghost use Rattle.rh_operations.specs.Acts.{Acts};
 ghost use Rattle.rh_operations.specs.Found.{keys_found};
 ghost use Rattle.rh_operations.specs.KeyLists.{Gave, Stands, path_of, source_bytes};
-ghost use Rattle.rh_operations.specs.Leaves.{KeepsRunner, KeepsShelf};
+ghost use Rattle.rh_operations.specs.Leaves.{KeepsRunner, KeepsShelf, UsesShelf};
 ghost use Rattle.rh_operations.specs.Refusals.{ListFails, PhaseFails, RefusedBy, WantedAfter};
 
 use crate::action::{Action, Done};
@@ -36,9 +36,7 @@ pub fn use_file<S: Lender>(alloc: Global, shelf: &mut S, path: &str) -> Result<u
         (Rose (S.state shelf.old).failed_reads (S.state shelf.new).failed_reads))) }
     ensures memory { IfErr result (λ cause. cause ≡ Cause.Memory →
         Rose (S.state shelf.old).failures (S.state shelf.new).failures) }
-    ensures shelf { KeepsShelf (S.state shelf.old) (S.state shelf.new) result }
-    ensures no_thread { IfErr result (λ cause. cause ≡ Cause.NoThread → ⊥) }
-    ensures no_write { IfErr result (λ cause. cause ≡ Cause.Write → ⊥) }
+    ensures shelf { UsesShelf (S.state shelf.old) (S.state shelf.new) result }
 {
     let mut reader = Counted::new(open_file(alloc, shelf, path)?);
     match open_keys(&mut reader) {
@@ -78,7 +76,6 @@ pub fn operate<T: Threads + Wait + Sync, S: Lender, N: Runner>(
     ensures shelf { KeepsShelf (S.state shelf.old) (S.state shelf.new) result }
     ensures runner { KeepsRunner (N.refused_starts runner.old) (N.refused_starts runner.new)
         result }
-    ensures no_write { IfErr result (λ cause. cause ≡ Cause.Write → ⊥) }
 {
     let mut reader = open_list(alloc, shelf, list)?;
     match open_keys(&mut reader) {

@@ -4,7 +4,7 @@ ghost use Rattle.std.specs.Prelude.{◌≡◌, ℕ, List, Some, Ok, IfErr, IfOk,
 ghost use Rattle.rh_bytes.specs.Counting.{Rose};
 ghost use Rattle.rh_shelf.specs.Shelf.{Files, InDoubt, Puts};
 ghost use Rattle.rh_operations.specs.Snapshots.{IsSnapshotOf};
-ghost use Rattle.rh_operations.specs.Leaves.{KeepsShelf};
+ghost use Rattle.rh_operations.specs.Leaves.{UsesShelf};
 ghost use Rattle.rh_operations.specs.Refusals.{RefusedBy};
 ghost use Rattle.rh_operations.specs.Found.{table_found};
 ghost use Rattle.rh_operations.specs.Refusals.{PutFails, RestoreFails};
@@ -60,9 +60,7 @@ pub fn restored<S: Lender>(alloc: Global, shelf: &mut S, path: &str) -> Result<S
         (RefusedBy (table_found (files path.now))
         (RestoreFails (Rose (S.state shelf.old).failures (S.state shelf.new).failures)
         (Rose (S.state shelf.old).failed_reads (S.state shelf.new).failed_reads))) }
-    ensures shelf { KeepsShelf (S.state shelf.old) (S.state shelf.new) result }
-    ensures no_thread { IfErr result (λ cause. cause ≡ Cause.NoThread → ⊥) }
-    ensures no_write { IfErr result (λ cause. cause ≡ Cause.Write → ⊥) }
+    ensures shelf { UsesShelf (S.state shelf.old) (S.state shelf.new) result }
 {
     let mut reader = Counted::new(open_file(alloc, shelf, path)?);
     match read_snapshot(alloc, &mut reader) {

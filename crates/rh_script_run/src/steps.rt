@@ -10,7 +10,7 @@ ghost use Rattle.rh_shelf.specs.Shelf.{Files};
 ghost use Rattle.rh_operations.specs.declared.key_lists.KeyList.{KeyList};
 ghost use Rattle.rh_operations.specs.Actions.{telling};
 ghost use Rattle.rh_operations.specs.KeyLists.{Stands, paths_of};
-ghost use Rattle.rh_operations.specs.Leaves.{KeepsRunner, KeepsShelf};
+ghost use Rattle.rh_operations.specs.Leaves.{KeepsRunner, KeepsShelf, UsesShelf};
 ghost use Rattle.rh_operations.specs.Refusals.{ListFails, MemoryFails, PhaseFails, PutFails};
 ghost use Rattle.rh_operations.specs.Refusals.{RestoreFails};
 ghost use Rattle.rh_script_run.specs.Actions.{account_of, outcome_by};
@@ -55,7 +55,6 @@ pub(crate) fn list_step<'a, T: Threads + Wait + Sync, S: Lender, N: Runner>(
     ensures shelf { KeepsShelf (S.state shelf.old) (S.state shelf.new) result }
     ensures runner { KeepsRunner (N.refused_starts runner.old) (N.refused_starts runner.new)
         result }
-    ensures no_write { IfErr result (λ cause. cause ≡ Cause.Write → ⊥) }
 {
     let done = operate(rt, alloc, shelf, runner, set, list, action)?;
     Ok(told_of(set, list, name, done))
@@ -107,9 +106,7 @@ pub(crate) fn use_step<'a, S: Lender>(
     ensures more { OnOk result (length lists.new.items ≡ length lists.old.items + 1) }
     ensures paths { OnOk result
         (paths_of lists.new.items ≡ paths_of lists.old.items ++ path.now ∷ []) }
-    ensures shelf { KeepsShelf (S.state shelf.old) (S.state shelf.new) result }
-    ensures no_thread { IfErr result (λ cause. cause ≡ Cause.NoThread → ⊥) }
-    ensures no_write { IfErr result (λ cause. cause ≡ Cause.Write → ⊥) }
+    ensures shelf { UsesShelf (S.state shelf.old) (S.state shelf.new) result }
 {
     let count = use_file(alloc, shelf, path)?;
     let source = Source::Path(path);
@@ -190,9 +187,7 @@ pub(crate) fn restore_step<'a, S: Lender>(
         (Rose (S.state shelf.old).failed_reads (S.state shelf.new).failed_reads))
         (world_of set.new lists files) set.new result }
     ensures unchanged { OnErr result (set.new ≡ set.old) }
-    ensures shelf { KeepsShelf (S.state shelf.old) (S.state shelf.new) result }
-    ensures no_thread { IfErr result (λ cause. cause ≡ Cause.NoThread → ⊥) }
-    ensures no_write { IfErr result (λ cause. cause ≡ Cause.Write → ⊥) }
+    ensures shelf { UsesShelf (S.state shelf.old) (S.state shelf.new) result }
 {
     *set = restored(alloc, shelf, path)?;
     let table = table_of(set);
