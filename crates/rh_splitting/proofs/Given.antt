@@ -41,7 +41,7 @@ none_given contents parts = record {
   each = λ part before after is then. subst (λ p. Got contents before p []) (same_some before after (sym is ∙ then)) (got_none contents before);
 }
 
-at_place : {X : Type 0} (xs : List X) (i : ℕ) → i < length xs → (x : X) × (slice_get xs i ≡ Some x)
+pub at_place : {X : Type 0} (xs : List X) (i : ℕ) → i < length xs → (x : X) × (slice_get xs i ≡ Some x)
 at_place [] i inside = absurd (omega (arith, inside))
 at_place (x ∷ xs) i inside = (_, slice_get-get_or (x ∷ xs) i x inside)
 

@@ -3,4 +3,5 @@ pub mod Splitting
 pub mod Number
 pub mod Plan
 pub mod Files
+pub mod IntoFiles
 pub mod Name

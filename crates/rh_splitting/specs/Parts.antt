@@ -4,6 +4,7 @@ use Rattle.std.specs.Io.KnownBytes.{Appends}
 use Rattle.rh_bytes.specs.Counting.{Rose, failures_of, inner_of}
 use Rattle.rh_key_files.specs.KeyFile.{spelled_keys}
 use Rattle.rh_bytes.specs.declared.counted.Counted.{Counted}
+use Rattle.rh_layout.specs.declared.limits.TheConstants.{MAX_KEYS}
 use Rattle.rh_parts.specs.Parts.{in_part}
 use Rattle.rh_splitting.specs.declared.part.Part.{Part}
 
@@ -17,6 +18,10 @@ part_count part = part.count
 -- how many keys it takes
 abbrev pub limit_of : {W : Type 0} → Part W → ℕ
 limit_of part = part.limit
+
+-- the part was given no key, and takes as many as a key file may have
+abbrev pub IsBegun : {W : Type 0} → Part W → Type 0
+IsBegun part = (part_count part ≡ 0) × (limit_of part ≡ MAX_KEYS)
 
 -- The part was given these keys: they were written one after the other, and counted, and no write failed.
 pub record Got {W : Type 0} (contents : W → Option (List ℕ)) (old new : Part W) (keys : List ℕ) : Type 0 where

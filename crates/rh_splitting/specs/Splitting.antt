@@ -1,6 +1,8 @@
 -- What becomes of a list that is split.
 use Rattle.std.specs.Prelude.{◌≡◌, ℕ, ◌≤◌, List, [], ◌∷◌, ◌++◌, length, Option, Some, None, Result, Ok, Err}
 use Rattle.std.specs.Io.KnownBytes.{Consumes}
+use Rattle.rh_key_files.specs.Limits as in_files
+use Rattle.rh_key_files.specs.Limits.{TakesOfFile}
 use Rattle.rh_key_files.specs.Reading as files
 use Rattle.rh_key_files.specs.declared.fault.KeyFault.{KeyFault}
 use Rattle.rh_key_files.specs.declared.fault.KeyFault.TheVariants as key_faults
@@ -104,6 +106,21 @@ fault_in_file r = None
 abbrev pub SplitsSource : {W X : Type 0} → Source → (bytes left : Option (List ℕ)) (contents : W → Option (List ℕ)) (old new : List (Part W)) → Result X SplitFault → Type 0
 SplitsSource sources.Text bytes left contents old new r = Splits bytes left contents old new r
 SplitsSource sources.Keys bytes left contents old new r = SplitsFile bytes left contents old new r
+
+-- The reader was read to its end, and gave a whole list.
+abbrev pub IsListFrom : Source → (bytes left : Option (List ℕ)) → Type 0
+IsListFrom sources.Text bytes left = (keys : List ℕ) × IsTextFrom bytes left keys
+IsListFrom sources.Keys bytes left = (keys : List ℕ) × files.IsReadFrom bytes left keys
+
+-- How much of the reader is taken: of a text no more than a part behind what holds no fault, and of a key file no more than what
+-- its fault rests on.
+abbrev pub TakesOfSource : {X : Type 0} → Source → (bytes left : Option (List ℕ)) → Result X SplitFault → Type 0
+TakesOfSource sources.Text bytes left r = TakesText bytes left
+TakesOfSource sources.Keys bytes left r = TakesOfFile bytes left (fault_in_file r)
+
+abbrev pub NoReadFailedOf : {X : Type 0} → Source → Result X SplitFault → Type 0
+NoReadFailedOf sources.Text r = NoReadFailed r
+NoReadFailedOf sources.Keys r = in_files.NoReadFailed (fault_in_file r)
 
 -- the fault of an input that cannot be read
 abbrev pub unread : Source → SplitFault

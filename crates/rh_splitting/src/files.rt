@@ -1,12 +1,13 @@
 //! The key files of a list that is split, in folders of the current one.
 
-ghost use Rattle.std.specs.Prelude.{◌≤◌, length};
+ghost use Rattle.std.specs.Prelude.{◌≤◌, IfErr, length};
+ghost use Rattle.rh_splitting.specs.IntoFiles.{IsOfFiles};
 
-use crate::fault::{BESIDE, FilesFault};
+use crate::fault::{BESIDE, FilesFault, SplitFault};
 use crate::part::Part;
 use crate::source::{Source, split_source, try_source};
 use rh_bytes::Counted;
-use rh_key_files::write_header;
+use rh_key_files::{KeyFault, write_header};
 use std::alloc::Global;
 use std::fs::{self, Files, OpenFile};
 use std::io::{self, BufWriter, ErrorKind, Read, Seek, SeekFrom, Write};
@@ -23,7 +24,9 @@ struct PartFile {
 }
 
 impl PartFile {
-    fn new(alloc: Global, part: u64, name: &str, number: u32) -> Result<PartFile, FilesFault> {
+    fn new(alloc: Global, part: u64, name: &str, number: u32) -> Result<PartFile, FilesFault>
+        ensures fault { IfErr result IsOfFiles }
+    {
         let Ok(place) = format!(in alloc; "{part:03}/{name}.keys") else {
             return Err(FilesFault::Memory);
         };
@@ -70,10 +73,16 @@ impl<'a, F> PartFiles<'a, F> {
 }
 
 impl<F: Files> PartFiles<'_, F> {
-    ghost use Rattle.std.specs.Prelude.{◌≡◌, ◌≤◌, ◌<◌, ◌+◌, length, IfOk, OnErr, OnOk, true};
+    ghost use Rattle.std.specs.Prelude.{◌≡◌, ◌≤◌, ◌<◌, ◌+◌, length, true};
+    ghost use Rattle.std.specs.Prelude.{All, IfErr, IfOk, IsErrOf, OnErr, OnOk};
+    ghost use Rattle.rh_bytes.specs.Counting.{Rose, failures_of, inner_of};
+    ghost use Rattle.rh_key_files.specs.Reading.{BeginsWithHeader};
     ghost use Rattle.rh_parts.specs.declared.part.TheConstants.{MAX_PARTS};
+    ghost use Rattle.rh_splitting.specs.IntoFiles.{IsOfFiles, IsOfWriting, SplitsList, told_of_list};
     ghost use Rattle.rh_splitting.specs.Files.{made_of, placed_of, whole_of};
     ghost use Rattle.rh_splitting.specs.Name.{is_name};
+    ghost use Rattle.rh_splitting.specs.Parts.{IsBegun};
+    ghost use Rattle.rh_splitting.specs.Splitting.{NoReadFailedOf, TakesOfSource, unread};
 
     /// Splits what the reader gives into so many parts, and writes the key file of each.
     ///
@@ -91,6 +100,16 @@ impl<F: Files> PartFiles<'_, F> {
         requires few { count ≤ MAX_PARTS }
         requires none { made_of self.old ≡ 0 }
         requires name { is_name name.now ≡ true }
+        ensures split { SplitsList source (R.remaining (inner_of reader.old))
+            (R.remaining (inner_of reader.new)) count result }
+        ensures takes { TakesOfSource source (R.remaining (inner_of reader.old))
+            (R.remaining (inner_of reader.new)) (told_of_list result) }
+        ensures read { IsErrOf result (FilesFault.Split (unread source)) →
+            Rose (failures_of reader.old) (failures_of reader.new) }
+        ensures memory { IsErrOf result (FilesFault.Split (SplitFault.Keys KeyFault.Memory)) →
+            BeginsWithHeader (R.remaining (inner_of reader.old)) }
+        ensures fine { NoReadFailedOf source (told_of_list result) →
+            failures_of reader.new ≡ failures_of reader.old }
         ensures made { OnOk result (made_of self.new ≡ count) }
         ensures whole { OnOk result (whole_of self.new ≡ count) }
         ensures placed { OnOk result (placed_of self.new ≡ count) }
@@ -114,6 +133,16 @@ impl<F: Files> PartFiles<'_, F> {
         requires some { 0 < count }
         requires few { count ≤ MAX_PARTS }
         requires none { made_of self.old ≡ 0 }
+        ensures split { SplitsList source (R.remaining (inner_of reader.old))
+            (R.remaining (inner_of reader.new)) count result }
+        ensures takes { TakesOfSource source (R.remaining (inner_of reader.old))
+            (R.remaining (inner_of reader.new)) (told_of_list result) }
+        ensures read { IsErrOf result (FilesFault.Split (unread source)) →
+            Rose (failures_of reader.old) (failures_of reader.new) }
+        ensures memory { IsErrOf result (FilesFault.Split (SplitFault.Keys KeyFault.Memory)) →
+            BeginsWithHeader (R.remaining (inner_of reader.old)) }
+        ensures fine { NoReadFailedOf source (told_of_list result) →
+            failures_of reader.new ≡ failures_of reader.old }
         ensures made { OnOk result (made_of self.new ≡ count) }
         ensures whole { OnOk result (whole_of self.new ≡ count) }
         ensures placed { OnOk result (placed_of self.new ≡ count) }
@@ -133,6 +162,8 @@ impl<F: Files> PartFiles<'_, F> {
         ensures whole { whole_of self.new ≡ whole_of self.old }
         ensures placed { placed_of self.new ≡ placed_of self.old }
         ensures parts { IfOk result (λ parts. length parts.items ≡ count) }
+        ensures begun { IfOk result (λ parts. All IsBegun parts.items) }
+        ensures fault { IfErr result IsOfFiles }
     {
         let mut parts = Vec::new(alloc);
         for number in 0..count {
@@ -154,6 +185,8 @@ impl<F: Files> PartFiles<'_, F> {
         ensures made { OnOk result (made_of self.new ≡ made_of self.old + 1) }
         ensures whole { whole_of self.new ≡ whole_of self.old }
         ensures placed { placed_of self.new ≡ placed_of self.old }
+        ensures begun { IfOk result IsBegun }
+        ensures fault { IfErr result IsOfFiles }
     {
         let file = self.create(alloc, number, name)?;
         let Ok(writer) = BufWriter::new(alloc, file) else {
@@ -171,6 +204,7 @@ impl<F: Files> PartFiles<'_, F> {
         ensures made { made_of self.new ≡ made_of self.old }
         ensures whole { OnOk result (whole_of self.new ≡ whole_of self.old + length parts.items) }
         ensures placed { placed_of self.new ≡ placed_of self.old }
+        ensures fault { IfErr result IsOfWriting }
     {
         while let Some(part) = parts.pop() {
             if end(part).is_err() {
@@ -187,6 +221,7 @@ impl<F: Files> PartFiles<'_, F> {
         ensures made { OnOk result (made_of self.new ≡ made_of self.old + 1) }
         ensures whole { whole_of self.new ≡ whole_of self.old }
         ensures placed { placed_of self.new ≡ placed_of self.old }
+        ensures fault { IfErr result IsOfFiles }
     {
         make_folder(alloc, self.files, part)?;
         // What was made is always noted: there is room for it before.
@@ -209,6 +244,7 @@ impl<F: Files> PartFiles<'_, F> {
         ensures made { OnOk result (made_of self.new ≡ made_of self.old + 1) }
         ensures whole { whole_of self.new ≡ whole_of self.old }
         ensures placed { placed_of self.new ≡ placed_of self.old }
+        ensures fault { IfErr result IsOfFiles }
     {
         match self.made.push(named) {
             Ok(()) => Ok(file),
@@ -223,6 +259,7 @@ impl<F: Files> PartFiles<'_, F> {
         ensures made { made_of self.new ≡ made_of self.old }
         ensures whole { whole_of self.new ≡ whole_of self.old }
         ensures placed { OnOk result (placed_of self.new ≡ made_of self.new) }
+        ensures fault { IfErr result IsOfWriting }
     {
         let mut part = 0;
         for file in &self.made {
@@ -260,7 +297,9 @@ impl<F: Files> PartFiles<'_, F> {
 type Parts<F> = Vec<Part<BufWriter<<F as Files>::File>>>;
 
 /// Makes the folder of a part, where that is not there.
-fn make_folder<F: Files>(alloc: Global, files: &F, part: u64) -> Result<(), FilesFault> {
+fn make_folder<F: Files>(alloc: Global, files: &F, part: u64) -> Result<(), FilesFault>
+    ensures fault { IfErr result IsOfFiles }
+{
     let Ok(folder) = format!(in alloc; "{part:03}") else {
         return Err(FilesFault::Memory);
     };
