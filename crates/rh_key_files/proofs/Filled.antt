@@ -106,7 +106,7 @@ part_refused version index (Some x) None part keys n front bad v f refused h = a
 part_refused version index (Some x) (Some y) part keys n front bad v f refused h = rw (filled_keys version index part keys n front x y f h, sym refused) refl
 
 -- too few bytes for a key
-no_key : (version : Version) (index n : ℕ) (bytes : List ℕ) → 0 < n → length bytes < 8 → keys_at version index n bytes ≡ Err Short
+pub no_key : (version : Version) (index n : ℕ) (bytes : List ℕ) → 0 < n → length bytes < 8 → keys_at version index n bytes ≡ Err Short
 unfolding keys_at key_at number_at bytes_at
 no_key version index zero bytes some few = absurd (omega (arith, some))
 no_key version index (suc n) bytes some few = rw (begins_not 8 bytes few) refl

@@ -35,7 +35,7 @@ named_magic four p h =
           ]
     ]
 
-version_read : (bytes : List ℕ) (p : Version × List ℕ) → version_at bytes ≡ Ok p → bytes ≡ magic p.0 ++ p.1
+pub version_read : (bytes : List ℕ) (p : Version × List ℕ) → version_at bytes ≡ Ok p → bytes ≡ magic p.0 ++ p.1
 unfolding version_at
 version_read bytes p h =
     let s = then_ok (bytes_at Short 4 bytes) named p h in

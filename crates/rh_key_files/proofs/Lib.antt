@@ -7,6 +7,7 @@
 -- Next: the next batch, or the end.
 -- Blame: the reader of a stream that told a failed read.
 -- Coming: what is still to come of a stream of keys.
+-- Tested: keys that were taken behind a header, where a failed read or want of memory is told.
 -- Whole: a whole key file, read by its header, its keys and its end.
 -- BehindMagic: a key file of any number of keys, read behind its magic in pieces.
 -- Bounds: which faults come where, and how many bytes are taken before they are told.
@@ -23,6 +24,7 @@ pub mod Decoded
 pub mod Bounds
 pub mod Next
 pub mod Whole
+pub mod Tested
 pub mod BehindMagic
 pub mod PieceBounds
 pub mod LongFile

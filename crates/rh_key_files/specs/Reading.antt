@@ -86,9 +86,12 @@ keys_behind version bytes = number_at Short bytes >>= (λ count. keys_at version
 unfoldable pub long_file_keys : List ℕ → Result (List ℕ × List ℕ) KeyFault
 long_file_keys bytes = version_at bytes >>= (λ begun. keys_behind begun.0 begun.1)
 
--- its header
+-- its header, of which the magic was read before
+abbrev pub header_behind : Version → List ℕ → Result (Header × List ℕ) KeyFault
+header_behind version bytes = number_at Short bytes >>= with_count version
+
 unfoldable pub long_header_at : List ℕ → Result (Header × List ℕ) KeyFault
-long_header_at bytes = version_at bytes >>= (λ begun. number_at Short begun.1 >>= with_count begun.0)
+long_header_at bytes = version_at bytes >>= (λ begun. header_behind begun.0 begun.1)
 
 -- ---- what is said of a reader's bytes, as of those of any file
 
@@ -113,6 +116,20 @@ abbrev pub CutShort : {Y : Type 0} → Option (List ℕ) → Option (List ℕ) �
 CutShort None new reading = Unit {0}
 CutShort (Some bytes) None reading = ⊥
 CutShort (Some bytes) (Some rest) reading = (taken : List ℕ) × (bytes ≡ taken ++ rest) × (reading taken ≡ Err Short)
+
+-- what is read is no fault, but that the bytes may end early
+abbrev pub IsGood : {Y : Type 0} → Result Y KeyFault → Type 0
+IsGood (Ok y) = Unit {0}
+IsGood (Err Short) = Unit {0}
+IsGood (Err e) = ⊥
+
+-- Where known bytes begin with a header, the keys that were taken behind it are good: none of them is out of range. So neither a
+-- failed read nor want of memory is told in place of one.
+abbrev pub TakesGoodKeys : (header_in : List ℕ → Result (Header × List ℕ) KeyFault) → (old new : Option (List ℕ)) → Type 0
+TakesGoodKeys header_in None new = Unit {0}
+TakesGoodKeys header_in (Some bytes) None = ⊥
+TakesGoodKeys header_in (Some bytes) (Some rest) =
+    (header : Header) (taken : List ℕ) → header_in bytes ≡ Ok (header, taken ++ rest) → IsGood (keys_at header.version 0 header.count taken)
 
 -- Known bytes are no key file, and this is the first fault in them.
 abbrev pub IsFirstKeyFault : Option (List ℕ) → KeyFault → Type 0

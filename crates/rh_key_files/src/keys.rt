@@ -7,6 +7,7 @@ ghost use Rattle.rh_bytes.specs.Taking.{TakesAtMost};
 ghost use Rattle.rh_key_files.specs.Limits.{NoReadFailed, TakesOfFile, keys_taken, most_bytes};
 ghost use Rattle.rh_bytes.specs.Input.{always, end_at, fault_of};
 ghost use Rattle.rh_key_files.specs.Reading.{BeginsWithHeader, ReadsKeys, IsReadFrom, file_keys, keys_at};
+ghost use Rattle.rh_key_files.specs.Reading.{CutShort, TakesGoodKeys, header_at};
 ghost use Rattle.rh_key_files.specs.Stream.{reader_of, lender_of, version_of, count_of, taken_of};
 ghost use Rattle.rh_key_files.specs.Stream.{left_of, state_of};
 
@@ -26,6 +27,10 @@ fn read_all<R: Read>(stream: &mut KeyStream<'_, R>, keys: &mut [u64]) -> Result<
     ensures known { ReadsKeys (R.remaining (inner_of (reader_of stream.old)))
         (R.remaining (inner_of (reader_of stream.new)))
         (keys_at (version_of stream.old) 0 (length keys.new)) (always keys.new) result }
+    ensures tested { IsErrOf result KeyFault.Read →
+        CutShort (R.remaining (inner_of (reader_of stream.old)))
+        (R.remaining (inner_of (reader_of stream.new)))
+        (keys_at (version_of stream.old) 0 (length keys.new)) }
     ensures in_range { OnOk result (All IsKey keys.new) }
     ensures takes { TakesAtMost (R.remaining (inner_of (reader_of stream.old)))
         (R.remaining (inner_of (reader_of stream.new)))
@@ -77,6 +82,8 @@ pub fn read_keys<R: Read>(alloc: Global, reader: &mut Counted<R>) -> Result<Vec<
         (R.remaining (inner_of reader.new)) (fault_of result) }
     ensures bounded { TakesAtMost (R.remaining (inner_of reader.old))
         (R.remaining (inner_of reader.new)) most_bytes }
+    ensures tested { IsErrOf result KeyFault.Read → TakesGoodKeys header_at
+        (R.remaining (inner_of reader.old)) (R.remaining (inner_of reader.new)) }
     ensures read { IsErrOf result KeyFault.Read →
         Rose (failures_of reader.old) (failures_of reader.new) }
     ensures fine { NoReadFailed (fault_of result) → failures_of reader.new ≡ failures_of reader.old }

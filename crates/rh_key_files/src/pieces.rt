@@ -8,7 +8,8 @@ ghost use Rattle.rh_bytes.specs.Input.{fault_of};
 ghost use Rattle.rh_bytes.specs.Taking.{TakesAtMost};
 ghost use Rattle.rh_key_files.specs.Limits.{NoReadFailed, TakesBehindMagic, TakesOfLongFile, keys_taken};
 ghost use Rattle.rh_key_files.specs.Reading.{BeginsWithLongHeader, BeginsWithNumber, IsLongReadFrom};
-ghost use Rattle.rh_key_files.specs.Reading.{ReadsKeys, keys_at, keys_behind, long_file_keys};
+ghost use Rattle.rh_key_files.specs.Reading.{CutShort, ReadsKeys, keys_at, keys_behind, long_file_keys};
+ghost use Rattle.rh_key_files.specs.Reading.{TakesGoodKeys, header_behind, long_header_at};
 
 use crate::batch;
 use crate::fault::KeyFault;
@@ -40,6 +41,10 @@ pub fn read_long_keys<R: Read>(
     ensures fine { NoReadFailed (fault_of result) → failures_of reader.new ≡ failures_of reader.old }
     ensures memory { IsErrOf result KeyFault.Memory →
         BeginsWithLongHeader (R.remaining (inner_of reader.old)) }
+    ensures tested { IsErrOf result KeyFault.Read → TakesGoodKeys long_header_at
+        (R.remaining (inner_of reader.old)) (R.remaining (inner_of reader.new)) }
+    ensures tested_too { IsErrOf result KeyFault.Memory → TakesGoodKeys long_header_at
+        (R.remaining (inner_of reader.old)) (R.remaining (inner_of reader.new)) }
 {
     let version = read_version(reader)?;
     read_pieces(alloc, version, reader, &mut Nobody)
@@ -61,6 +66,10 @@ pub fn read_pieces<R: Read, P: Progress>(
     ensures fine { NoReadFailed (fault_of result) → failures_of reader.new ≡ failures_of reader.old }
     ensures memory { IsErrOf result KeyFault.Memory →
         BeginsWithNumber (R.remaining (inner_of reader.old)) }
+    ensures tested { IsErrOf result KeyFault.Read → TakesGoodKeys (header_behind version)
+        (R.remaining (inner_of reader.old)) (R.remaining (inner_of reader.new)) }
+    ensures tested_too { IsErrOf result KeyFault.Memory → TakesGoodKeys (header_behind version)
+        (R.remaining (inner_of reader.old)) (R.remaining (inner_of reader.new)) }
 {
     let count = read_number::<_, KeyFault>(reader)?;
     let mut pieces = Vec::new(alloc);
@@ -92,6 +101,9 @@ fn read_piece<R: Read>(
     ensures in_range { IfOk result (λ piece. All IsKey piece.items) }
     ensures takes { TakesAtMost (R.remaining (inner_of reader.old)) (R.remaining (inner_of reader.new))
         (8 * keys_taken index (min left PIECE_KEYS) (fault_of result)) }
+    ensures tested { IsErrOf result KeyFault.Read → CutShort (R.remaining (inner_of reader.old))
+        (R.remaining (inner_of reader.new)) (keys_at version index (min left PIECE_KEYS)) }
+    ensures memory { IsErrOf result KeyFault.Memory → reader.new ≡ reader.old }
     ensures read { IsErrOf result KeyFault.Read → Rose (failures_of reader.old) (failures_of reader.new) }
     ensures fine { NoReadFailed (fault_of result) → failures_of reader.new ≡ failures_of reader.old }
 {

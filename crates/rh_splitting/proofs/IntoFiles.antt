@@ -4,7 +4,9 @@ use Rattle.std.specs.Prelude.{All, IfErr}
 use Rattle.std.specs.Io.KnownBytes.{Consumes, Keeps}
 use Rattle.std.proofs.KnownBytes.{Consumes-kept, Consumes-nil}
 use Rattle.std.proofs.lemmas.Option.{get_or_from_slice_get, slice_get_within}
-use Rattle.rh_key_files.specs.Reading.{IsReadFrom}
+use Rattle.rh_key_files.specs.Limits.{header_bytes}
+use Rattle.rh_key_files.specs.Reading.{IsReadFrom, TakesGoodKeys, header_at}
+use Rattle.rh_key_files.proofs.Tested.{good_in_header, header_long}
 use Rattle.rh_layout.specs.declared.limits.TheConstants.{MAX_KEYS}
 use Rattle.rh_numbers.specs.Reading.{SayOnly}
 use Rattle.rh_numbers.specs.declared.fault.TextFault.TheVariants.{Read}
@@ -55,6 +57,12 @@ no_fault_read (Some xs) fault is b count = rw is (refl, tt)
 pub unread_stops : (source : Source) (a b : Option (List ℕ)) (count : ℕ) (fault : SplitFault) → fault ≡ unread source → Keeps a b → IsNotSplit source a b count fault
 unread_stops sources.Text a b count fault is kept = rw is (refl, [], no_line a b kept)
 unread_stops sources.Keys a b count fault is kept = no_fault_read a fault is b count
+
+pub no_key_tested : (a b : Option (List ℕ)) → Keeps a b → TakesGoodKeys header_at a b
+no_key_tested a b kept = good_in_header header_at header_bytes a b header_long (record { taken = []; consumed = none_taken a b kept; few = omega arith })
+
+pub tested_later : (a b c : Option (List ℕ)) → Keeps a b → TakesGoodKeys header_at b c → TakesGoodKeys header_at a c
+tested_later a b c kept good = moved (λ x. TakesGoodKeys header_at x c) a b (λ _. tt) kept good
 
 -- ---- why it is not split
 

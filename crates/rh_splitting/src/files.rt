@@ -76,7 +76,7 @@ impl<F: Files> PartFiles<'_, F> {
     ghost use Rattle.std.specs.Prelude.{◌≡◌, ◌≤◌, ◌<◌, ◌+◌, length, true};
     ghost use Rattle.std.specs.Prelude.{All, IfErr, IfOk, IsErrOf, OnErr, OnOk};
     ghost use Rattle.rh_bytes.specs.Counting.{Rose, failures_of, inner_of};
-    ghost use Rattle.rh_key_files.specs.Reading.{BeginsWithHeader};
+    ghost use Rattle.rh_key_files.specs.Reading.{BeginsWithHeader, TakesGoodKeys, header_at};
     ghost use Rattle.rh_parts.specs.declared.part.TheConstants.{MAX_PARTS};
     ghost use Rattle.rh_splitting.specs.IntoFiles.{IsOfFiles, IsOfWriting, SplitsList, told_of_list};
     ghost use Rattle.rh_splitting.specs.Files.{made_of, placed_of, whole_of};
@@ -106,6 +106,9 @@ impl<F: Files> PartFiles<'_, F> {
             (R.remaining (inner_of reader.new)) (told_of_list result) }
         ensures read { IsErrOf result (FilesFault.Split (unread source)) →
             Rose (failures_of reader.old) (failures_of reader.new) }
+        ensures tested { IsErrOf result (FilesFault.Split (SplitFault.Keys KeyFault.Read)) →
+            TakesGoodKeys header_at (R.remaining (inner_of reader.old))
+            (R.remaining (inner_of reader.new)) }
         ensures memory { IsErrOf result (FilesFault.Split (SplitFault.Keys KeyFault.Memory)) →
             BeginsWithHeader (R.remaining (inner_of reader.old)) }
         ensures fine { NoReadFailedOf source (told_of_list result) →
@@ -139,6 +142,9 @@ impl<F: Files> PartFiles<'_, F> {
             (R.remaining (inner_of reader.new)) (told_of_list result) }
         ensures read { IsErrOf result (FilesFault.Split (unread source)) →
             Rose (failures_of reader.old) (failures_of reader.new) }
+        ensures tested { IsErrOf result (FilesFault.Split (SplitFault.Keys KeyFault.Read)) →
+            TakesGoodKeys header_at (R.remaining (inner_of reader.old))
+            (R.remaining (inner_of reader.new)) }
         ensures memory { IsErrOf result (FilesFault.Split (SplitFault.Keys KeyFault.Memory)) →
             BeginsWithHeader (R.remaining (inner_of reader.old)) }
         ensures fine { NoReadFailedOf source (told_of_list result) →

@@ -4,7 +4,7 @@ ghost use Rattle.std.specs.Prelude.{◌≡◌, ◌<◌, ◌≤◌, IfErr, IsErrO
 ghost use Rattle.std.specs.Io.KnownBytes.{Keeps};
 ghost use Rattle.rh_bytes.specs.Counting.{Rose, failures_of, inner_of};
 ghost use Rattle.rh_parts.specs.declared.part.TheConstants.{MAX_PARTS};
-ghost use Rattle.rh_key_files.specs.Reading.{BeginsWithHeader};
+ghost use Rattle.rh_key_files.specs.Reading.{BeginsWithHeader, TakesGoodKeys, header_at};
 ghost use Rattle.rh_splitting.specs.Splitting.{NoReadFailedOf, SplitsSource, TakesOfSource, unread};
 
 use crate::fault::SplitFault;
@@ -59,6 +59,8 @@ pub fn split_source<R: Read, W: Write>(
         Rose (failures_of reader.old) (failures_of reader.new) }
     ensures keys_read { IsErrOf result (SplitFault.Keys KeyFault.Read) →
         Rose (failures_of reader.old) (failures_of reader.new) }
+    ensures tested { IsErrOf result (SplitFault.Keys KeyFault.Read) → TakesGoodKeys header_at
+        (R.remaining (inner_of reader.old)) (R.remaining (inner_of reader.new)) }
     ensures memory { IsErrOf result (SplitFault.Keys KeyFault.Memory) →
         BeginsWithHeader (R.remaining (inner_of reader.old)) }
     ensures fine { NoReadFailedOf source result →

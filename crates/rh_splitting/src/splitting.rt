@@ -4,7 +4,7 @@ ghost use Rattle.std.specs.Prelude.{◌≡◌, ◌<◌, ◌≤◌, IsErrOf, leng
 ghost use Rattle.rh_bytes.specs.Counting.{Rose, failures_of, inner_of};
 ghost use Rattle.rh_parts.specs.declared.part.TheConstants.{MAX_PARTS};
 ghost use Rattle.rh_key_files.specs.Limits.{NoReadFailed, TakesOfFile};
-ghost use Rattle.rh_key_files.specs.Reading.{BeginsWithHeader};
+ghost use Rattle.rh_key_files.specs.Reading.{BeginsWithHeader, TakesGoodKeys, header_at};
 ghost use Rattle.rh_splitting.specs.Splitting as splits;
 ghost use Rattle.rh_splitting.specs.Splitting.{Puts, Splits, SplitsFile, TakesText, fault_in_file};
 
@@ -80,6 +80,8 @@ pub fn split_file<R: Read, W: Write>(
         (R.remaining (inner_of reader.new)) W.contents parts.old parts.new result }
     ensures takes { TakesOfFile (R.remaining (inner_of reader.old))
         (R.remaining (inner_of reader.new)) (fault_in_file result) }
+    ensures tested { IsErrOf result (SplitFault.Keys KeyFault.Read) → TakesGoodKeys header_at
+        (R.remaining (inner_of reader.old)) (R.remaining (inner_of reader.new)) }
     ensures read { IsErrOf result (SplitFault.Keys KeyFault.Read) →
         Rose (failures_of reader.old) (failures_of reader.new) }
     ensures memory { IsErrOf result (SplitFault.Keys KeyFault.Memory) →

@@ -3,6 +3,7 @@ use Rattle.std.proofs.lemmas.Bool.{eqb-true}
 use Rattle.std.proofs.lemmas.Result.{err_from_is_err_and}
 use Rattle.rh_key_files.specs.Stream.{version_of, taken_of, left_of}
 use Rattle.rh_key_files.proofs.Whole.{all_keys, all_keys_fail, none_at_all, at_start}
+use Rattle.rh_key_files.proofs.Tested.{all_cut}
 use Rattle.rh_key_files.proofs.keys.read_all.Goals as goal
 
 pub returns-in_err-next_batch-clause-known : goal.returns-in_err-next_batch-clause-known
@@ -13,6 +14,16 @@ returns-in_err-next_batch-clause-known g c =
     let some : 0 < n = search rules in
     let left : left_of s ≡ n = omega (arith, c.requires.room, c.requires.none_taken) in
     rw (p.1, p.2) (all_keys_fail (version_of s) n (left_of s) n _ _ _ _ _ some left (search rules) (at_start (version_of s) (taken_of s) _ _ _ _ _ _ c.requires.none_taken (c.in_err-next_batch.ensures.known c.requires.open)))
+
+pub returns-in_err-next_batch-clause-tested : goal.returns-in_err-next_batch-clause-tested
+returns-in_err-next_batch-clause-tested g c =
+    let p = err_from_is_err_and c.from_residual.result c.from_residual.ensures.1 in
+    let s = c.args.stream.now in
+    let n = length c.next_batch.new.batch in
+    let some : 0 < n = search rules in
+    let left : left_of s ≡ n = omega (arith, c.requires.room, c.requires.none_taken) in
+    let many : 0 < left_of s = omega (arith, some, left) in
+    rw (p.1, p.2) (λ failed. all_cut (version_of s) (taken_of s) (left_of s) n n _ _ c.requires.none_taken many (omega (arith, left)) (c.in_err-next_batch.ensures.tested c.requires.open (search failed) many))
 
 pub returns-in_ok-next_batch-clause-known : goal.returns-in_ok-next_batch-clause-known
 returns-in_ok-next_batch-clause-known g c =

@@ -4,11 +4,14 @@ use Rattle.std.proofs.lemmas.Result.{err_from_is_err_and}
 use Rattle.std.proofs.Common.{◌≡◌, length, Some, None, rules}
 use Rattle.rh_bytes.specs.Input.{fault_of}
 use Rattle.rh_key_files.specs.KeyFile.{IsKeyFile}
-use Rattle.rh_key_files.specs.Reading.{file_keys, is_silent}
+use Rattle.rh_key_files.specs.Limits.{header_bytes}
+use Rattle.rh_key_files.specs.Stream.{header_of}
+use Rattle.rh_key_files.specs.Reading.{file_keys, header_at, is_silent}
 use Rattle.rh_key_files.proofs.Whole.{as_many, whole_ok, header_faults, keys_fault, end_faults, Reads-moved}
 use Rattle.rh_key_files.proofs.Grammar.{file_read}
 use Rattle.rh_bytes.proofs.Reading.{read_from}
 use Rattle.rh_key_files.proofs.Bounds.{HeaderRead, file_stops_in_keys, file_stops_at_end, file_taken, of_file_moved, takes_of_any_file}
+use Rattle.rh_key_files.proofs.Tested.{as_many_cut, good_cut, good_in_header, good_moved, good_whole, header_long, within_header}
 use Rattle.rh_key_files.proofs.keys.read_keys.Goals as goal
 
 pub returns-in_err-stream-clause-known : goal.returns-in_err-stream-clause-known
@@ -70,3 +73,21 @@ returns-in_err-read_end-clause-bounded g c = takes_of_any_file _ _ (fault_of c.f
 
 pub returns-clause-bounded : goal.returns-clause-bounded
 returns-clause-bounded g c = takes_of_any_file _ _ None (returns-clause-takes g c)
+
+-- ---- a failed read behind good keys
+
+pub returns-in_err-stream-clause-tested : goal.returns-in_err-stream-clause-tested
+returns-in_err-stream-clause-tested g c = λ _. good_in_header header_at header_bytes _ _ header_long (within_header _ _ (Some c.in_err-stream.field-0.0) (search rules))
+
+pub returns-in_err-read_all-clause-tested : goal.returns-in_err-read_all-clause-tested
+returns-in_err-read_all-clause-tested g c =
+    let p = err_from_is_err_and c.from_residual-in_err-read_all.result c.from_residual-in_err-read_all.ensures.1 in
+    let s = c.in_ok-stream.stream in
+    let many : length c.read_all.new.keys ≡ s.count = search rules in
+    rw (p.1, p.2) (λ failed. good_moved header_at _ _ _ (search rules) (good_cut header_at _ _ _ (header_of s) c.in_ok-stream.ensures.header (as_many_cut s.version _ s.count _ _ many (c.in_err-read_all.ensures.tested (search failed)))))
+
+pub returns-in_err-read_end-clause-tested : goal.returns-in_err-read_end-clause-tested
+returns-in_err-read_end-clause-tested g c =
+    let s = c.in_ok-stream.stream in
+    let many : length c.read_all.new.keys ≡ s.count = search rules in
+    λ _. good_moved header_at _ _ _ (search rules) (good_whole header_at _ _ _ _ (header_of s) 1 c.read_all.new.keys c.in_ok-stream.ensures.header (as_many _ _ _ _ _ _ _ many c.in_ok-read_all.ensures.known) c.in_err-read_end.ensures.takes)

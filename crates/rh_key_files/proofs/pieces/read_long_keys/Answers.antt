@@ -1,6 +1,9 @@
 use Rattle.std.proofs.Common.{flat_map}
 use Rattle.std.proofs.lemmas.Result.{err_from_is_err_and}
 use Rattle.rh_key_files.proofs.LongFile.{header_begins, long_spelled, magic_fails, magic_stops, read_behind, taken_behind}
+use Rattle.rh_key_files.specs.Limits.{header_bytes}
+use Rattle.rh_key_files.specs.Reading.{long_header_at}
+use Rattle.rh_key_files.proofs.Tested.{good_behind, good_in_header, long_header_long, within_magic}
 use Rattle.rh_key_files.proofs.pieces.read_long_keys.Goals as goal
 
 pub returns-in_err-version-clause-known : goal.returns-in_err-version-clause-known
@@ -25,3 +28,12 @@ returns-clause-takes g c =
 
 pub returns-clause-memory : goal.returns-clause-memory
 returns-clause-memory g c = λ memory. header_begins _ _ c.in_ok-version.version c.in_ok-version.ensures.known (c.read_pieces.ensures.memory memory)
+
+pub returns-in_err-version-clause-tested : goal.returns-in_err-version-clause-tested
+returns-in_err-version-clause-tested g c = λ _. good_in_header long_header_at header_bytes _ _ long_header_long (within_magic _ _ c.in_err-version.ensures.takes)
+
+pub returns-clause-tested : goal.returns-clause-tested
+returns-clause-tested g c = λ failed. good_behind _ _ _ c.in_ok-version.version c.in_ok-version.ensures.known (c.read_pieces.ensures.tested failed)
+
+pub returns-clause-tested_too : goal.returns-clause-tested_too
+returns-clause-tested_too g c = λ memory. good_behind _ _ _ c.in_ok-version.version c.in_ok-version.ensures.known (c.read_pieces.ensures.tested_too memory)

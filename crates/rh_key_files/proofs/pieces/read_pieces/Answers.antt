@@ -1,10 +1,15 @@
-use Rattle.std.proofs.Common.{rules, ◌≡◌, ◌*◌, ◌+◌, ◌-◌, min, [], refl, arith, append-nil}
+use Rattle.std.proofs.Common.{rules, ◌≡◌, ◌*◌, ◌+◌, ◌-◌, min, [], refl, ap, arith, append-nil}
 use Rattle.std.proofs.lemmas.List.Concat.{flat_map-append}
 use Rattle.std.proofs.lemmas.Result.{err_from_is_err_and}
 use Rattle.rh_key_files.proofs.Batches.{no_keys, part_goes_on, part_stops}
 use Rattle.rh_bytes.proofs.Taking.{takes_both, takes_fewer, takes_nothing}
 use Rattle.rh_key_files.proofs.BehindMagic.{all_read, as_batch, as_batch_fails, end_fails, keys_fail, number_fails}
 use Rattle.rh_key_files.proofs.PieceBounds.{NumberRead, all_taken, end_stops, memory_stops, number_stops, piece_stops}
+use Rattle.rh_bytes.specs.Counting.{inner_of}
+use Rattle.rh_bytes.specs.declared.counted.Counted.{Counted}
+use Rattle.rh_key_files.specs.Reading.{header_behind}
+use Rattle.rh_key_files.proofs.Interrupted.{cut_later}
+use Rattle.rh_key_files.proofs.Tested.{behind_long, good_cut, good_front, good_in_header, good_moved, good_whole, header_of}
 use Rattle.rh_key_files.proofs.Whole.{as_many}
 use Rattle.rh_key_files.proofs.pieces.read_pieces.Goals as goal
 
@@ -88,3 +93,39 @@ returns-in_default-clause-takes g c =
     let many = min (count - taken) 65536 in
     let number : NumberRead _ _ count = record { read = c.in_ok-count.ensures.known; taken = c.in_ok-count.ensures.takes } in
     memory_stops _ _ _ count (taken + many) number (omega arith) (takes_both _ _ _ (8 * taken) (8 * many) (8 * (taken + many)) c.loop-taken.invariant.takes c.in_ok-piece.ensures.takes (omega arith))
+
+-- ---- a failed read, or want of memory, behind good keys
+
+pub returns-in_err-count-clause-tested : goal.returns-in_err-count-clause-tested
+returns-in_err-count-clause-tested g c = λ _. good_in_header (header_behind c.args.version) 8 _ _ (behind_long c.args.version) c.in_err-count.ensures.takes
+
+pub returns-in_err-piece-clause-tested : goal.returns-in_err-piece-clause-tested
+returns-in_err-piece-clause-tested g c =
+    let p = err_from_is_err_and c.from_residual-in_err-piece.result c.from_residual-in_err-piece.ensures.1 in
+    let taken = c.loop-taken.taken in
+    let count = c.in_ok-count.count in
+    let many = min (count - taken) 65536 in
+    rw (p.1, p.2) (λ failed. good_cut (header_behind c.args.version) _ _ _ (record { version = c.args.version; count = count }) (header_of c.args.version _ _ count c.in_ok-count.ensures.known)
+    (cut_later c.args.version 0 taken taken many count _ _ _ _ (omega arith) (omega arith) c.loop-taken.invariant.read (c.in_err-piece.ensures.tested (search failed))))
+
+pub returns-in_err-piece-clause-tested_too : goal.returns-in_err-piece-clause-tested_too
+returns-in_err-piece-clause-tested_too g c =
+    let p = err_from_is_err_and c.from_residual-in_err-piece.result c.from_residual-in_err-piece.ensures.1 in
+    let count = c.in_ok-count.count in
+    rw (p.1, p.2) (λ memory. good_moved (header_behind c.args.version) _ _ _ (ap (λ (r : Counted g.row.R.Denot). g.R.Read.remaining (inner_of r)) (c.in_err-piece.ensures.memory (search memory)))
+    (good_front (header_behind c.args.version) _ _ _ (record { version = c.args.version; count = count }) c.loop-taken.taken _ (header_of c.args.version _ _ count c.in_ok-count.ensures.known) c.loop-taken.invariant.within c.loop-taken.invariant.read))
+
+pub returns-in_default-clause-tested_too : goal.returns-in_default-clause-tested_too
+returns-in_default-clause-tested_too g c =
+    let taken = c.loop-taken.taken in
+    let count = c.in_ok-count.count in
+    let piece = c.in_ok-piece.piece in
+    let many = min (count - taken) 65536 in
+    λ _. good_front (header_behind c.args.version) _ _ _ (record { version = c.args.version; count = count }) (taken + many) _ (header_of c.args.version _ _ count c.in_ok-count.ensures.known) (omega arith)
+    (part_goes_on c.args.version 0 taken taken many (taken + many) _ _ _ _ piece.items _ (omega arith) refl refl c.loop-taken.invariant.read (as_batch c.args.version taken many _ _ (λ p. p.items) piece c.in_ok-piece.ensures.known))
+
+pub returns-in_err-read_end-clause-tested : goal.returns-in_err-read_end-clause-tested
+returns-in_err-read_end-clause-tested g c =
+    let count = c.in_ok-count.count in
+    let all : c.loop-taken.taken ≡ count = omega arith in
+    λ _. good_whole (header_behind c.args.version) _ _ _ _ (record { version = c.args.version; count = count }) 1 _ (header_of c.args.version _ _ count c.in_ok-count.ensures.known) (as_many _ _ _ _ _ _ _ all c.loop-taken.invariant.read) c.in_err-read_end.ensures.takes

@@ -3,7 +3,7 @@ use Rattle.std.proofs.lemmas.Result.{err_from_is_err_and}
 use Rattle.std.specs.Prelude.{All}
 use Rattle.rh_splitting.specs.IntoFiles.{told_of_list}
 use Rattle.rh_splitting.specs.Parts.{IsBegun}
-use Rattle.rh_splitting.proofs.IntoFiles.{split_stops, takes_later, takes_none, unread_stops, whole_read, whole_taken}
+use Rattle.rh_splitting.proofs.IntoFiles.{no_key_tested, split_stops, takes_later, takes_none, tested_later, unread_stops, whole_read, whole_taken}
 use Rattle.rh_splitting.proofs.files.PartFiles.write_whole.Goals as goal
 
 pub returns-in_err-try_source-clause-split : goal.returns-in_err-try_source-clause-split
@@ -13,6 +13,12 @@ returns-in_err-try_source-clause-split g c =
 
 pub returns-in_err-try_source-clause-takes : goal.returns-in_err-try_source-clause-takes
 returns-in_err-try_source-clause-takes g c = takes_none c.args.source _ _ (told_of_list c.from_residual.result) c.in_err-try_source.ensures.kept
+
+pub returns-in_err-try_source-clause-tested : goal.returns-in_err-try_source-clause-tested
+returns-in_err-try_source-clause-tested g c = λ _. no_key_tested _ _ c.in_err-try_source.ensures.kept
+
+pub returns-in_err-split_source-clause-tested : goal.returns-in_err-split_source-clause-tested
+returns-in_err-split_source-clause-tested g c = λ failed. tested_later _ _ _ c.in_ok-try_source.ensures.kept (c.in_err-split_source.ensures.tested (search (failed, rules)))
 
 pub returns-in_err-parts-clause-takes : goal.returns-in_err-parts-clause-takes
 returns-in_err-parts-clause-takes g c = takes_none c.args.source _ _ (told_of_list c.from_residual-in_err-parts.result) c.in_ok-try_source.ensures.kept
