@@ -8,25 +8,40 @@ use Rattle.std.proofs.KnownBytes.{Appends-trans}
 use Rattle.std.proofs.lemmas.Grind.{flat_map-append}
 use Rattle.rh_shelf.specs.Shelf.{Files, Finds}
 use Rattle.rh_numbers.specs.Writing.{text_of}
+use Rattle.rh_key_files.specs.Reading.{BeginsWithLongHeader}
+use Rattle.rh_key_files.specs.declared.fault.KeyFault.{KeyFault}
+use Rattle.rh_key_files.specs.declared.fault.KeyFault.TheVariants as key_faults
+use Rattle.rh_snapshot.specs.Reading.{BeginsWithSnapHeader}
+use Rattle.rh_snapshot.specs.declared.fault.SnapFault.{SnapFault}
+use Rattle.rh_snapshot.specs.declared.fault.SnapFault.TheVariants as snap_faults
+use Rattle.rh_key_texts.specs.declared.files.FileFault.TheVariants.{Keys, Snap}
 use Rattle.rh_key_texts.specs.declared.files.Form.{Form}
 use Rattle.rh_key_texts.specs.declared.files.Form.TheVariants as forms
 use Rattle.rh_key_texts.specs.declared.listing.ListFault.{ListFault}
 use Rattle.rh_key_texts.specs.declared.listing.ListFault.TheVariants as list
 use Rattle.rh_key_texts.specs.declared.snapshot.HeldFault.{HeldFault}
 use Rattle.rh_key_texts.specs.declared.snapshot.HeldFault.TheVariants as held
-use Rattle.rh_key_texts.specs.Files.{Has, HaveEach, ListsEach, ListsFile, of_held, of_list}
+use Rattle.rh_key_texts.specs.Files.{BeginsIfMemory, Has, HaveEach, ListsEach, ListsFile, of_held, of_list}
 use Rattle.rh_key_texts.specs.List.{Lists, ListsHeld}
 
--- what the listing of the bytes says is so of the file
-pub keys_stop : (files : Option Files) (path : List ℕ) (form : Form) (bytes left old new : Option (List ℕ)) (fault : ListFault) → form ≡ forms.Keys → Finds files path bytes → (fault ≢ list.Write → new ≡ old)
-    → Lists {X = Unit {0}} bytes left old new (Err fault) → ListsFile {X = Unit {0}} files path form old new (Err (of_list fault))
-keys_stop files path form bytes left old new (list.Keys fault) is finds same told = (same (λ write. absurd cc), is, bytes, finds, told)
-keys_stop files path form bytes left old new list.Write is finds same told = rw is (told.0, (bytes, left, finds, told.1), told.2)
+keys_begin : (bytes : Option (List ℕ)) (fault : KeyFault) → (fault ≡ key_faults.Memory → BeginsWithLongHeader bytes) → BeginsIfMemory (Keys fault) bytes
+keys_begin bytes key_faults.Memory begins = begins refl
+keys_begin bytes fault begins = tt
 
-pub held_stops : (files : Option Files) (path : List ℕ) (form : Form) (bytes left old new : Option (List ℕ)) (fault : HeldFault) → form ≡ forms.Snapshot → Finds files path bytes → (fault ≢ held.Write → new ≡ old)
+snap_begins : (bytes : Option (List ℕ)) (fault : SnapFault) → (fault ≡ snap_faults.Memory → BeginsWithSnapHeader bytes) → BeginsIfMemory (Snap fault) bytes
+snap_begins bytes snap_faults.Memory begins = begins refl
+snap_begins bytes fault begins = tt
+
+-- what the listing of the bytes says is so of the file
+pub keys_stop : (files : Option Files) (path : List ℕ) (form : Form) (bytes left old new : Option (List ℕ)) (fault : ListFault) → form ≡ forms.Keys → Finds files path bytes → (fault ≢ list.Write → new ≡ old) → (fault ≡ list.Keys key_faults.Memory → BeginsWithLongHeader bytes)
+    → Lists {X = Unit {0}} bytes left old new (Err fault) → ListsFile {X = Unit {0}} files path form old new (Err (of_list fault))
+keys_stop files path form bytes left old new (list.Keys fault) is finds same begins told = (same (λ write. absurd cc), is, bytes, finds, told, keys_begin bytes fault (λ memory. begins (ap list.Keys memory)))
+keys_stop files path form bytes left old new list.Write is finds same begins told = rw is (told.0, (bytes, left, finds, told.1), told.2)
+
+pub held_stops : (files : Option Files) (path : List ℕ) (form : Form) (bytes left old new : Option (List ℕ)) (fault : HeldFault) → form ≡ forms.Snapshot → Finds files path bytes → (fault ≢ held.Write → new ≡ old) → (fault ≡ held.Snap snap_faults.Memory → BeginsWithSnapHeader bytes)
     → ListsHeld {X = Unit {0}} bytes left old new (Err fault) → ListsFile {X = Unit {0}} files path form old new (Err (of_held fault))
-held_stops files path form bytes left old new (held.Snap fault) is finds same told = (same (λ write. absurd cc), is, bytes, finds, told)
-held_stops files path form bytes left old new held.Write is finds same told = rw is (_, (bytes, left, finds, (told.0, told.1, refl)), told.2)
+held_stops files path form bytes left old new (held.Snap fault) is finds same begins told = (same (λ write. absurd cc), is, bytes, finds, told, snap_begins bytes fault (λ memory. begins (ap held.Snap memory)))
+held_stops files path form bytes left old new held.Write is finds same begins told = rw is (_, (bytes, left, finds, (told.0, told.1, refl)), told.2)
 
 pub keys_end : (files : Option Files) (path : List ℕ) (form : Form) (bytes left old new : Option (List ℕ)) → form ≡ forms.Keys → Finds files path bytes
     → Lists {X = Unit {0}} bytes left old new (Ok tt) → ListsFile {X = Unit {0}} files path form old new (Ok tt)

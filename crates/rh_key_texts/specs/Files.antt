@@ -46,12 +46,18 @@ HaveEach files form [] [] = Unit {0}
 HaveEach files form (path ∷ paths) (ks ∷ lists) = Has files form path ks × HaveEach files form paths lists
 HaveEach files form paths lists = ⊥
 
+-- Want of memory for what a file has comes only behind a header that can be read.
+abbrev pub BeginsIfMemory : FileFault → Option (List ℕ) → Type 0
+BeginsIfMemory (Keys key_faults.Memory) bytes = keys.BeginsWithLongHeader bytes
+BeginsIfMemory (Snap snap_faults.Memory) bytes = snapshots.BeginsWithSnapHeader bytes
+BeginsIfMemory fault bytes = Unit {0}
+
 -- The text of the file's keys was written, or a front of it; or the file has a fault, this is its first, and nothing was written.
 abbrev pub ListsFile : {X : Type 0} → Option Files → (path : List ℕ) → Form → (old new : Option (List ℕ)) → Result X FileFault → Type 0
 ListsFile files path form old new (Ok x) = (ks : List ℕ) × Has files form path ks × Appends old new (text_of ks)
 ListsFile files path form old new (Err Write) = (ks : List ℕ) × Has files form path ks × AppendsFront old new (text_of ks)
-ListsFile files path form old new (Err (Keys fault)) = (new ≡ old) × (form ≡ forms.Keys) × (bytes : Option (List ℕ)) × Finds files path bytes × keys.IsFirstLongKeyFault bytes fault
-ListsFile files path form old new (Err (Snap fault)) = (new ≡ old) × (form ≡ forms.Snapshot) × (bytes : Option (List ℕ)) × Finds files path bytes × snapshots.IsFirstSnapFault bytes fault
+ListsFile files path form old new (Err (Keys fault)) = (new ≡ old) × (form ≡ forms.Keys) × (bytes : Option (List ℕ)) × Finds files path bytes × keys.IsFirstLongKeyFault bytes fault × BeginsIfMemory (Keys fault) bytes
+ListsFile files path form old new (Err (Snap fault)) = (new ≡ old) × (form ≡ forms.Snapshot) × (bytes : Option (List ℕ)) × Finds files path bytes × snapshots.IsFirstSnapFault bytes fault × BeginsIfMemory (Snap fault) bytes
 ListsFile files path form old new (Err (Shelf fault)) = new ≡ old
 
 -- the texts of the files' keys were written, one after the other

@@ -1,5 +1,5 @@
 -- What the listing of a key file or a snapshot writes, and why it writes nothing.
-use Rattle.std.specs.Prelude.{ℕ, List, Option, Some, None, Result, Ok, Err}
+use Rattle.std.specs.Prelude.{◌⊎◌, ℕ, List, Option, Some, None, Result, Ok, Err}
 use Rattle.std.specs.Io.KnownBytes.{Appends}
 use Rattle.rh_layout.specs.Layout.{keys_of}
 use Rattle.rh_edit.specs.Rising.{rising_keys}
@@ -8,6 +8,7 @@ use Rattle.rh_key_files.specs.declared.fault.KeyFault.{KeyFault}
 use Rattle.rh_key_files.specs.Reading as files
 use Rattle.rh_snapshot.specs.declared.fault.SnapFault.{SnapFault}
 use Rattle.rh_snapshot.specs.declared.fault.SnapFault.TheVariants as snap_faults
+use Rattle.rh_snapshot.specs.Limits.{TakesOfSnap}
 use Rattle.rh_snapshot.specs.Snapshot.{Table}
 use Rattle.rh_snapshot.specs.Reading as snapshots
 use Rattle.rh_numbers.specs.Writing.{text_of}
@@ -32,6 +33,10 @@ abbrev pub fault_held : {X : Type 0} → Result X HeldFault → Option SnapFault
 fault_held (Err (held.Snap snap_faults.Memory)) = None
 fault_held (Err (held.Snap fault)) = Some fault
 fault_held r = None
+
+-- Want of memory comes before a byte behind the header is read, or once a whole snapshot was.
+abbrev pub ComesFirstOrLast : (bytes left : Option (List ℕ)) → Type 0
+ComesFirstOrLast bytes left = TakesOfSnap bytes left (Some snap_faults.Memory) ⊎ ((table : Table) × snapshots.IsSnapReadFrom bytes left table)
 
 -- the text of the keys of a table, in rising order
 abbrev pub held_text : Table → List ℕ

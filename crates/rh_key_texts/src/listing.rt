@@ -3,7 +3,7 @@
 ghost use Rattle.std.specs.Prelude.{◌≡◌, ◌≢◌, IfErr, IsErrOf, OnErr, OnOk};
 ghost use Rattle.std.specs.List.{flat_map};
 ghost use Rattle.rh_bytes.specs.Counting.{Rose, Writes, failures_of, inner_of};
-ghost use Rattle.rh_key_files.specs.Reading.{BeginsWithLongHeader};
+ghost use Rattle.rh_key_files.specs.Reading.{BeginsWithLongHeader, TakesGoodKeys, long_header_at};
 ghost use Rattle.rh_key_files.specs.Limits.{NoReadFailed, TakesOfLongFile};
 ghost use Rattle.rh_numbers.specs.Writing.{text_of};
 ghost use Rattle.rh_key_texts.specs.List.{Lists, list_fault_in};
@@ -65,8 +65,12 @@ pub fn list_keys<R: Read, W: Write>(
         (R.remaining (inner_of reader.new)) (list_fault_in result) }
     ensures read { IsErrOf result (ListFault.Keys KeyFault.Read) →
         Rose (failures_of reader.old) (failures_of reader.new) }
+    ensures tested { IsErrOf result (ListFault.Keys KeyFault.Read) → TakesGoodKeys long_header_at
+        (R.remaining (inner_of reader.old)) (R.remaining (inner_of reader.new)) }
     ensures memory { IsErrOf result (ListFault.Keys KeyFault.Memory) →
         BeginsWithLongHeader (R.remaining (inner_of reader.old)) }
+    ensures tested_too { IsErrOf result (ListFault.Keys KeyFault.Memory) → TakesGoodKeys long_header_at
+        (R.remaining (inner_of reader.old)) (R.remaining (inner_of reader.new)) }
     ensures write { IsErrOf result ListFault.Write →
         Rose (failures_of writer.old) (failures_of writer.new) }
     ensures written { OnOk result (failures_of writer.new ≡ failures_of writer.old) }

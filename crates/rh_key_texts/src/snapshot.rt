@@ -5,7 +5,7 @@ ghost use Rattle.rh_bytes.specs.Counting.{Rose, failures_of, inner_of};
 ghost use Rattle.rh_snapshot.specs.Reading.{BeginsWithSnapHeader};
 ghost use Rattle.rh_bytes.specs.Taking.{TakesAtMost};
 ghost use Rattle.rh_snapshot.specs.Limits.{TakesOfSnap, most_snap_bytes};
-ghost use Rattle.rh_key_texts.specs.List.{ListsHeld, fault_held};
+ghost use Rattle.rh_key_texts.specs.List.{ComesFirstOrLast, ListsHeld, fault_held};
 
 use rh_bytes::{Counted, WriteFault};
 use rh_edit::SeqSet;
@@ -82,6 +82,8 @@ pub fn list_snapshot<R: Read, W: Write>(
         Rose (failures_of reader.old) (failures_of reader.new) }
     ensures memory { IsErrOf result (HeldFault.Snap SnapFault.Memory) →
         BeginsWithSnapHeader (R.remaining (inner_of reader.old)) }
+    ensures comes { IsErrOf result (HeldFault.Snap SnapFault.Memory) →
+        ComesFirstOrLast (R.remaining (inner_of reader.old)) (R.remaining (inner_of reader.new)) }
     ensures write { IsErrOf result HeldFault.Write →
         Rose (failures_of writer.old) (failures_of writer.new) }
     ensures written { OnOk result (failures_of writer.new ≡ failures_of writer.old) }
