@@ -4,13 +4,16 @@ use Rattle.std.specs.Prelude.{IsFalse, IsTrue, OnOk}
 use Rattle.std.proofs.lemmas.Bool.{cases_Bool}
 use Rattle.std.specs.Io.KnownBytes.{Consumes, IsAtEnd}
 use Rattle.std.proofs.KnownBytes.{Consumes-trans}
+use Rattle.rh_numbers.specs.Chunks.{ReadsTo}
+use Rattle.rh_numbers.specs.declared.chunk.ChunkEnd.{ChunkEnd}
+use Rattle.rh_numbers.specs.declared.chunk.ChunkEnd.TheVariants.{Open, Bad}
 use Rattle.rh_numbers.specs.declared.fault.TextFault.{TextFault}
 use Rattle.rh_numbers.specs.declared.line_so_far.LineSoFar.TheVariants.{Start}
 use Rattle.rh_numbers.specs.Reading.{text_said}
 use Rattle.rh_lists.specs.declared.list.KeyList.{KeyList}
 use Rattle.rh_lists.specs.declared.part.Part.{Part}
-use Rattle.rh_lists.specs.Lists.{HasBytes}
-use Rattle.rh_lists.specs.Parts.{IsReadTo, IsTold, ReadsText, Refuses}
+use Rattle.rh_lists.specs.Lists.{HasBytes, HasNoFault, TakesNoFault, keys_of}
+use Rattle.rh_lists.specs.Parts.{IsOpen, IsReadTo, IsTold, ReadsText, Refuses}
 
 -- All that was read of what comes behind these bytes, but for the last block, is read to the text so far.
 pub record Going (begun : List ℕ) (start now : Option (List ℕ)) (text : Part) (block : List ℕ) : Type 0 where
@@ -117,3 +120,28 @@ not_failed failed count size early full =
       | inl t ↦ absurd (omega (arith, early t, full))
       | inr f ↦ f
     ]
+
+-- ---- a failed read behind good lines
+
+no_bad_line : (bytes keys : List ℕ) (lines : ℕ) (end : ChunkEnd) → IsOpen end → ReadsTo Start bytes keys lines end → HasNoFault bytes
+no_bad_line bytes keys lines (Open so_far) good read = (keys, (1 + lines, so_far, λ rest. read [] 1 rest))
+no_bad_line bytes keys lines (Bad bad) good read = absurd good
+
+pub no_fault : (bytes : List ℕ) (part : Part) → IsOpen part.end → IsReadTo Start bytes part → HasNoFault bytes
+no_fault bytes part good read = no_bad_line bytes (keys_of part.keys) part.lines part.end good read
+
+-- the last bytes before a failed read hold none
+abbrev pub TestsLast : Part → (last : List ℕ) → Type 0
+TestsLast text last = (before : List ℕ) → IsReadTo Start before text → HasNoFault (before ++ last)
+
+pub last_tested : (begun : List ℕ) (a b c : Option (List ℕ)) (block last : List ℕ) (text more : Part) → Going begun a b text block → Consumes b c last
+    → ((before : List ℕ) → IsReadTo Start before text → IsReadTo Start (before ++ block) more) → TestsLast more last → TakesNoFault begun a c
+last_tested begun a b c block last text more going comes step tests =
+    let whole : (going.before ++ block) ++ last ≡ begun ++ (going.front ++ last) = ap (λ l. l ++ last) (sym going.whole) ∙ append_assoc begun going.front last in
+    (going.front ++ last, Consumes-trans a b c going.front last going.taken comes, subst HasNoFault whole (tests (going.before ++ block) (step going.before going.read)))
+
+pub only_tested : (begun : List ℕ) (a c : Option (List ℕ)) (last : List ℕ) (text : Part) → IsReadTo Start begun text → Consumes a c last → TestsLast text last → TakesNoFault begun a c
+only_tested begun a c last text read comes tests = (last, comes, tests begun read)
+
+pub first_tested : (begun : List ℕ) (a b c : Option (List ℕ)) (block : List ℕ) → Consumes a b block → TakesNoFault (begun ++ block) b c → TakesNoFault begun a c
+first_tested begun a b c block comes (taken, later, good) = (block ++ taken, Consumes-trans a b c block taken comes later, subst HasNoFault (append_assoc begun block taken) good)

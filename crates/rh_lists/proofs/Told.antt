@@ -75,6 +75,11 @@ module _ (four : List ℕ) where
     long_fails (Some xs) None c fault taken read = absurd taken
     long_fails (Some xs) (Some ys) c fault taken read = text_fails xs (is_text xs ys taken) c fault (subst (λ l. Refuses (text_said l) fault) (sym taken) read)
 
+  pub magic_read : (version : Version) → ((rest : List ℕ) → version_at (four ++ rest) ≡ Ok (version, rest)) → (a b : Option (List ℕ)) → Consumes a b four → ReadsKeys a b version_at (λ (v : Version). v) (Ok version)
+  magic_read version some None b taken = tt
+  magic_read version some (Some xs) None taken = absurd taken
+  magic_read version some (Some xs) (Some ys) taken = ap version_at taken ∙ some ys
+
   module _ (version : Version) (some : (rest : List ℕ) → version_at (four ++ rest) ≡ Ok (version, rest)) where
     is_file : (xs ys : List ℕ) → xs ≡ four ++ ys → list_said xs ≡ of_file (keys_behind version ys)
     unfolding long_file_keys

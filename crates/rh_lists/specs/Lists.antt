@@ -1,14 +1,16 @@
 -- What a list of numbers says: a text, or a key file of either version, of any length.
-use Rattle.std.specs.Prelude.{◌≡◌, ℕ, ◌≤◌, Bool, true, false, List, [], length, Option, Some, None, Result, Ok, Err}
+use Rattle.std.specs.Prelude.{◌≡◌, ◌⊎◌, ◌++◌, ℕ, ◌≤◌, Bool, true, false, List, [], length, Option, Some, None, Result, Ok, Err}
 use Rattle.std.specs.List.{flat_map}
+use Rattle.std.specs.Io.KnownBytes.{Consumes}
 use Rattle.rh_bytes.specs.Input as input
+use Rattle.rh_bytes.specs.Taking.{TakesAtMost}
 use Rattle.rh_key_files.specs.declared.fault.KeyFault.{KeyFault}
 use Rattle.rh_key_files.specs.declared.version.Version.{Version}
 use Rattle.rh_key_files.specs.Reading as files
 use Rattle.rh_key_files.specs.Reading.{long_file_keys, version_at}
 use Rattle.rh_numbers.specs.declared.fault.TextFault.{TextFault}
 use Rattle.rh_numbers.specs.declared.fault.TextFault.TheVariants as texts
-use Rattle.rh_numbers.specs.Reading.{Said, text_said}
+use Rattle.rh_numbers.specs.Reading.{Said, SayOnly, text_said}
 use Rattle.rh_lists.specs.declared.fault.ListFault.{ListFault}
 use Rattle.rh_lists.specs.declared.fault.ListFault.TheVariants.{Text, Keys}
 use Rattle.rh_lists.specs.declared.list.KeyList.{KeyList}
@@ -64,6 +66,20 @@ ReadsList old new r = input.Reads is_silent old new list_said keys_of r
 abbrev pub HasBytes : ℕ → Option (List ℕ) → Type 0
 HasBytes n None = Unit {0}
 HasBytes n (Some bytes) = n ≤ length bytes
+
+-- ---- a failed read behind good lines
+
+-- Whatever comes behind these bytes of a text, they hold no fault.
+abbrev pub HasNoFault : List ℕ → Type 0
+HasNoFault bytes = (keys : List ℕ) × SayOnly bytes keys
+
+-- A text begins so, and the bytes of it that were taken behind that hold no fault.
+abbrev pub TakesNoFault : (begun : List ℕ) → (old new : Option (List ℕ)) → Type 0
+TakesNoFault begun old new = (taken : List ℕ) × Consumes old new taken × HasNoFault (begun ++ taken)
+
+-- The bytes of a text that were taken hold no fault. Before its fourth byte it is not known to be one.
+abbrev pub TakesGoodLines : (old new : Option (List ℕ)) → Type 0
+TakesGoodLines old new = TakesAtMost old new 3 ⊎ TakesNoFault [] old new
 
 -- The same keys, or the same fault, unless one of the two says nothing of the bytes.
 abbrev pub Agree : Result KeyList ListFault → Result KeyList ListFault → Type 0

@@ -24,6 +24,11 @@ said_last (Bad bad) = Start
 abbrev pub so_far_of : Part → LineSoFar
 so_far_of part = said_last part.end
 
+-- no line of it is bad
+abbrev pub IsOpen : ChunkEnd → Type 0
+IsOpen (Open so_far) = Unit {0}
+IsOpen (Bad bad) = ⊥
+
 -- This is the first fault of what is said, unless it says nothing of it.
 abbrev pub Refuses : Said → TextFault → Type 0
 Refuses said fault = Unless (is_text_silent fault) (said.1 ≡ Some fault)

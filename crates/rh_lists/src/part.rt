@@ -1,13 +1,13 @@
 //! A part of a text, read.
 
-ghost use Rattle.std.specs.Prelude.{[], ◌++◌, ◌+◌, ◌<◌, ◌^◌, ◌∷◌, ◌≡◌, ◌≤◌, IfErr, IfOk, IfSome, List, MatchResult, length, ℕ};
+ghost use Rattle.std.specs.Prelude.{[], ◌++◌, ◌+◌, ◌<◌, ◌^◌, ◌∷◌, ◌≡◌, ◌≤◌, IfErr, IfOk, IfSome, IsNone, List, MatchResult, length, ℕ};
 ghost use Rattle.rh_layout.specs.Key.{IsKey};
 ghost use Rattle.rh_numbers.specs.Chunks.{EndsLine, last_of};
 ghost use Rattle.rh_numbers.specs.Reading.{text_said};
 ghost use Rattle.rh_numbers.specs.declared.line_so_far.LineSoFar.{LineSoFar};
 ghost use Rattle.rh_numbers.specs.declared.line_so_far.LineSoFar.TheVariants.{Start};
 ghost use Rattle.rh_lists.specs.Lists.{OfHeldBytes, keys_of};
-ghost use Rattle.rh_lists.specs.Parts.{IsReadTo, IsTold, Refuses, so_far_of};
+ghost use Rattle.rh_lists.specs.Parts.{IsOpen, IsReadTo, IsTold, Refuses, so_far_of};
 
 use crate::list::KeyList;
 use rh_numbers::{Chunk, ChunkEnd, LineSoFar, TextFault, read_chunk};
@@ -85,6 +85,7 @@ impl Part {
         ensures refused { IfSome result (λ fault. (bytes rest : List ℕ) → IsReadTo Start bytes self.now →
             Refuses (text_said (bytes ++ rest)) fault) }
         ensures held { IfSome result OfHeldBytes }
+        ensures none { IsNone result → IsOpen self.now.end }
     {
         match self.end {
             ChunkEnd::Open(_) => None,
@@ -102,6 +103,7 @@ impl Part {
             IsReadTo (so_far_of self) bytes next → Refuses (text_said ((before ++ bytes) ++ rest)) fault) }
         ensures held { IfErr result OfHeldBytes }
         ensures lines { IfOk result (λ text. text.lines ≤ self.lines + next.lines) }
+        ensures good { IfOk result (λ text. IsOpen text.end) }
     {
         let Ok(text) = self.then(next) else {
             return Err(TextFault::Memory);

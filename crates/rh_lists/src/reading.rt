@@ -2,7 +2,8 @@
 
 ghost use Rattle.std.specs.Prelude.{◌≡◌, ◌<◌, ◌≤◌, ◌^◌, IsErrOf, OnOk};
 ghost use Rattle.rh_bytes.specs.Counting.{Rose, failures_of, inner_of};
-ghost use Rattle.rh_lists.specs.Lists.{HasBytes, ReadsList};
+ghost use Rattle.rh_key_files.specs.Reading.{BeginsWithLongHeader, TakesGoodKeys, long_header_at};
+ghost use Rattle.rh_lists.specs.Lists.{HasBytes, ReadsList, TakesGoodLines};
 ghost use Rattle.rh_numbers.specs.declared.limits.TheConstants.{MAX_BYTES};
 
 use crate::fault::ListFault;
@@ -37,6 +38,14 @@ pub fn read_list<T: Threads + Sync, R: Read, P: Progress>(
         Rose (failures_of reader.old) (failures_of reader.new) }
     ensures keys_read { IsErrOf result (ListFault.Keys KeyFault.Read) →
         Rose (failures_of reader.old) (failures_of reader.new) }
+    ensures text_tested { IsErrOf result (ListFault.Text TextFault.Read) →
+        TakesGoodLines (R.remaining (inner_of reader.old)) (R.remaining (inner_of reader.new)) }
+    ensures keys_tested { IsErrOf result (ListFault.Keys KeyFault.Read) → TakesGoodKeys long_header_at
+        (R.remaining (inner_of reader.old)) (R.remaining (inner_of reader.new)) }
+    ensures memory { IsErrOf result (ListFault.Keys KeyFault.Memory) →
+        BeginsWithLongHeader (R.remaining (inner_of reader.old)) }
+    ensures tested_too { IsErrOf result (ListFault.Keys KeyFault.Memory) → TakesGoodKeys long_header_at
+        (R.remaining (inner_of reader.old)) (R.remaining (inner_of reader.new)) }
     ensures long { IsErrOf result (ListFault.Text TextFault.TooLong) →
         HasBytes MAX_BYTES (R.remaining (inner_of reader.old)) }
     ensures fine { OnOk result (failures_of reader.new ≡ failures_of reader.old) }
@@ -60,6 +69,14 @@ pub fn read_list_in_blocks<T: Threads + Sync, R: Read, P: Progress>(
         Rose (failures_of reader.old) (failures_of reader.new) }
     ensures keys_read { IsErrOf result (ListFault.Keys KeyFault.Read) →
         Rose (failures_of reader.old) (failures_of reader.new) }
+    ensures text_tested { IsErrOf result (ListFault.Text TextFault.Read) →
+        TakesGoodLines (R.remaining (inner_of reader.old)) (R.remaining (inner_of reader.new)) }
+    ensures keys_tested { IsErrOf result (ListFault.Keys KeyFault.Read) → TakesGoodKeys long_header_at
+        (R.remaining (inner_of reader.old)) (R.remaining (inner_of reader.new)) }
+    ensures memory { IsErrOf result (ListFault.Keys KeyFault.Memory) →
+        BeginsWithLongHeader (R.remaining (inner_of reader.old)) }
+    ensures tested_too { IsErrOf result (ListFault.Keys KeyFault.Memory) → TakesGoodKeys long_header_at
+        (R.remaining (inner_of reader.old)) (R.remaining (inner_of reader.new)) }
     ensures long { IsErrOf result (ListFault.Text TextFault.TooLong) →
         HasBytes MAX_BYTES (R.remaining (inner_of reader.old)) }
     ensures fine { OnOk result (failures_of reader.new ≡ failures_of reader.old) }

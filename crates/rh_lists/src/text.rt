@@ -5,7 +5,7 @@ ghost use Rattle.rh_bytes.specs.Counting.{Rose, failures_of, inner_of};
 ghost use Rattle.rh_numbers.specs.declared.line_so_far.LineSoFar.TheVariants.{Start};
 ghost use Rattle.rh_numbers.specs.declared.limits.TheConstants.{MAX_BYTES};
 ghost use Rattle.rh_numbers.specs.Reading.{text_said};
-ghost use Rattle.rh_lists.specs.Lists.{HasBytes, OfHeldBytes};
+ghost use Rattle.rh_lists.specs.Lists.{HasBytes, HasNoFault, OfHeldBytes, TakesNoFault};
 ghost use Rattle.rh_lists.specs.Parts.{IsReadTo, IsTold, ReadsText};
 ghost use Rattle.rh_lists.specs.declared.limits.TheConstants.{BLOCK_BYTES, FIRST_BYTES};
 
@@ -49,6 +49,8 @@ pub(crate) fn read_text<T: Threads + Sync, R: Read, P: Progress>(
     requires begun { length begun.now ≤ FIRST_BYTES }
     ensures known { ReadsText begun.now (R.remaining (inner_of reader.old))
         (R.remaining (inner_of reader.new)) result }
+    ensures tested { IsErrOf result TextFault.Read → TakesNoFault begun.now
+        (R.remaining (inner_of reader.old)) (R.remaining (inner_of reader.new)) }
     ensures read { IsErrOf result TextFault.Read → Rose (failures_of reader.old) (failures_of reader.new) }
     ensures long { IsErrOf result TextFault.TooLong →
         HasBytes MAX_BYTES (R.remaining (inner_of reader.old)) }
@@ -87,6 +89,8 @@ fn read_on<T: Threads + Sync, R: Read, P: Progress>(
     requires lines { text.lines ≤ BLOCK_BYTES }
     ensures known { (before : List ℕ) → IsReadTo Start before text →
         ReadsText before (R.remaining (inner_of reader.old)) (R.remaining (inner_of reader.new)) result }
+    ensures tested { IsErrOf result TextFault.Read → (before : List ℕ) → IsReadTo Start before text →
+        TakesNoFault before (R.remaining (inner_of reader.old)) (R.remaining (inner_of reader.new)) }
     ensures read { IsErrOf result TextFault.Read → Rose (failures_of reader.old) (failures_of reader.new) }
     ensures long { IsErrOf result TextFault.TooLong →
         HasBytes MAX_BYTES (R.remaining (inner_of reader.old)) }
@@ -121,6 +125,9 @@ fn read_blocks<T: Threads + Sync, R: Read, P: Progress>(
     ensures known { (before : List ℕ) → IsReadTo Start before begun →
         ReadsText (before ++ block.items) (R.remaining (inner_of reader.old))
         (R.remaining (inner_of reader.new)) result }
+    ensures tested { IsErrOf result TextFault.Read → (before : List ℕ) → IsReadTo Start before begun →
+        TakesNoFault (before ++ block.items) (R.remaining (inner_of reader.old))
+        (R.remaining (inner_of reader.new)) }
     ensures read { IsErrOf result TextFault.Read → Rose (failures_of reader.old) (failures_of reader.new) }
     ensures long { IsErrOf result TextFault.TooLong →
         HasBytes MAX_BYTES (R.remaining (inner_of reader.old)) }
@@ -168,6 +175,8 @@ fn last_block<T: Threads + Sync>(
     requires room { text.lines + length bytes.now + 1 < 2 ^ 64 }
     ensures told { (before rest : List ℕ) → IsReadTo Start before text → (IsFalse failed → rest ≡ []) →
         IsTold (text_said ((before ++ bytes.now) ++ rest)) result }
+    ensures tested { IsErrOf result TextFault.Read → (before : List ℕ) → IsReadTo Start before text →
+        HasNoFault (before ++ bytes.now) }
     ensures read { IsErrOf result TextFault.Read → IsTrue failed }
     ensures not_long { IsErrOf result TextFault.TooLong → ⊥ }
     ensures fine { OnOk result (IsFalse failed) }

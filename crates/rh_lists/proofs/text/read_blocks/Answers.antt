@@ -5,7 +5,7 @@ use Rattle.std.proofs.lemmas.Result.{IfOk-at_ok, err_from_is_err_and}
 use Rattle.rh_bytes.specs.Counting.{inner_of}
 use Rattle.rh_numbers.specs.declared.limits.TheConstants.{MAX_BYTES}
 use Rattle.rh_lists.specs.Parts.{IsReadTo, so_far_of}
-use Rattle.rh_lists.proofs.Texts.{block_refused, going_on, last_read, long_taken, not_failed, taken_on}
+use Rattle.rh_lists.proofs.Texts.{block_refused, going_on, last_read, last_tested, long_taken, not_failed, taken_on}
 use Rattle.rh_lists.proofs.text.read_blocks.Goals as goal
 
 pub returns-in_err-text-clause-known : goal.returns-in_err-text-clause-known
@@ -66,3 +66,20 @@ loop-passed-preserved g c =
 
 pub returns-clause-long : goal.returns-clause-long
 returns-clause-long g c = λ is. long_taken _ _ _ MAX_BYTES c.loop-passed.invariant.taken (omega arith)
+
+pub returns-then-count-len-clause-tested : goal.returns-then-count-len-clause-tested
+returns-then-count-len-clause-tested g c = λ failed before read.
+    let mid = g.R.Read.remaining (inner_of c.loop-passed.reader) in
+    let now = g.R.Read.remaining (inner_of c.read_ahead-part.new.reader) in
+    let text = c.loop-passed.text in
+    let block = c.loop-passed.block.items in
+    let part = c.in-Ok-part.part in
+    let filled = c.read_ahead-part.result.1 in
+    let next = c.read_ahead-part.new.next in
+    let second = IfOk-at_ok (IsReadTo c.so_far.result c.deref.result.now) c.in-Ok-part.is c.read_ahead-part.ensures.read in
+    let here : IsReadTo (so_far_of text) block part = subst (λ s. IsReadTo s block part) c.so_far.ensures (subst (λ l. IsReadTo c.so_far.result l part) c.deref.ensures.value second) in
+    let len : length next ≡ c.loop-passed.next.len = search rules in
+    let same : c.deref-then-count-len.result.now ≡ next = c.deref-then-count-len.ensures.value ∙ take_at next (drop (length next) c.loop-passed.next.items) c.loop-passed.next.len len in
+    last_tested _ _ mid now block (take filled.count c.deref-then-count-len.result.now) text c.in_ok-text.text (c.loop-passed.invariant.going before read)
+    (subst (λ l. Consumes mid now (take filled.count l)) (sym same) c.read_ahead-part.ensures.filled.bytes)
+    (λ b r. c.in_ok-text.ensures.read b block r here) (c.last_block.ensures.tested failed)

@@ -5,7 +5,7 @@ use Rattle.std.proofs.lemmas.Result.{err_from_is_err_and}
 use Rattle.rh_bytes.specs.Counting.{inner_of}
 use Rattle.rh_numbers.specs.declared.limits.TheConstants.{MAX_BYTES}
 use Rattle.rh_lists.specs.Parts.{IsReadTo, so_far_of}
-use Rattle.rh_lists.proofs.Texts.{block_first, block_refused, first_going, has_more, only_read}
+use Rattle.rh_lists.proofs.Texts.{block_first, block_refused, first_going, first_tested, has_more, only_read, only_tested}
 use Rattle.rh_lists.proofs.text.read_text.Goals as goal
 
 pub returns-then-count-len-clause-known : goal.returns-then-count-len-clause-known
@@ -62,3 +62,28 @@ returns-clause-long g c =
     let all : take n buf ≡ buf = take_all n buf (omega (arith, size)) in
     let comes : Consumes start now buf = subst (Consumes start now) all c.fill_front-count.ensures.bytes in
     λ is. has_more MAX_BYTES start now buf comes (c.read_on.ensures.long is)
+
+pub returns-then-count-len-clause-tested : goal.returns-then-count-len-clause-tested
+returns-then-count-len-clause-tested g c = λ failed.
+    let start = g.R.Read.remaining (inner_of c.args.reader.now) in
+    let now = g.R.Read.remaining (inner_of c.fill_front-count.new.reader) in
+    let n = c.fill_front-count.result.count in
+    let buf = c.fill_front-count.new.buf in
+    let len : length buf ≡ c.in-Ok-vec.first.len = search rules in
+    let same : c.deref.result.now ≡ buf = c.deref.ensures.value ∙ take_at buf (drop (length buf) c.in-Ok-vec.first.items) c.in-Ok-vec.first.len len in
+    only_tested c.args.begun.now start now (take n c.deref.result.now) c.in-Ok.front c.in-Ok.ensures.read (subst (λ l. Consumes start now (take n l)) (sym same) c.fill_front-count.ensures.bytes) (c.last_block.ensures.tested failed)
+
+pub returns-clause-tested : goal.returns-clause-tested
+returns-clause-tested g c = λ failed.
+    let start = g.R.Read.remaining (inner_of c.args.reader.now) in
+    let now = g.R.Read.remaining (inner_of c.fill_front-count.new.reader) in
+    let n = c.fill_front-count.result.count in
+    let buf = c.fill_front-count.new.buf in
+    let len : length buf ≡ c.in-Ok-vec.first.len = search rules in
+    let size : c.len.result ≡ length buf = search rules in
+    let all : take n buf ≡ buf = take_all n buf (omega (arith, size)) in
+    let comes : Consumes start now buf = subst (Consumes start now) all c.fill_front-count.ensures.bytes in
+    let part = c.in-Ok-read.part in
+    let same : c.deref-2.result.now ≡ buf = c.deref-2.ensures.value ∙ take_at buf (drop (length buf) c.in-Ok-vec.first.items) c.in-Ok-vec.first.len len in
+    let here : IsReadTo (so_far_of c.in-Ok.front) buf part = subst (λ s. IsReadTo s buf part) c.so_far.ensures (subst (λ l. IsReadTo c.so_far.result l part) same c.in-Ok-read.ensures.read) in
+    first_tested c.args.begun.now start now _ buf comes (c.read_on.ensures.tested failed (c.args.begun.now ++ buf) (c.in_ok-text.ensures.read c.args.begun.now buf c.in-Ok.ensures.read here))
