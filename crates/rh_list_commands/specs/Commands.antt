@@ -9,6 +9,7 @@ use Rattle.rh_key_files.specs.declared.version.Version.TheVariants.{Second}
 use Rattle.rh_numbers.specs.Writing.{number_line, text_of}
 use Rattle.rh_shelf.specs.Shelf.{Files}
 use Rattle.rh_list_files.specs.Lists.{GiveEach, HasFault}
+use Rattle.rh_list_files.specs.Reading.{ReadsSome}
 use Rattle.rh_list_files.specs.declared.fault.CommandFault.{CommandFault}
 use Rattle.rh_list_files.specs.declared.fault.CommandFault.TheVariants as faults
 use Rattle.rh_list_commands.specs.declared.output.Output.{Output}
@@ -25,9 +26,9 @@ abbrev pub Combines : How → Output → Option Files → (paths : List (List �
 Combines how output files paths input left Written =
     (lists : List (List ℕ)) × GiveEach files paths input left lists × Written (written output (answer how lists))
 
--- Memory ran out: nothing was written, or a front of it.
+-- Memory ran out: behind a list, and nothing was written; or behind all of them, and a front of it was.
 abbrev pub Stops : How → Output → Option Files → (paths : List (List ℕ)) → (input left old new : Option (List ℕ)) → Type 0
-Stops how output files paths input left old new = (new ≡ old) ⊎ Combines how output files paths input left (AppendsFront old new)
+Stops how output files paths input left old new = ((new ≡ old) × ReadsSome files paths input left) ⊎ Combines how output files paths input left (AppendsFront old new)
 
 -- What a command came to: all was written; or the first list that has a fault is told by its place, and nothing was written; or
 -- memory or a write failed, and a front was written.
@@ -35,7 +36,7 @@ abbrev pub Ends : {X : Type 0} → How → Output → Option Files → (paths : 
 Ends how output files paths input left old new (Ok x) = Combines how output files paths input left (Appends old new)
 Ends how output files paths input left old new (Err (faults.List index fault)) =
     (path : List ℕ) × (mid : Option (List ℕ)) × (lists : List (List ℕ)) × (slice_get paths index ≡ Some path)
-    × GiveEach files (take index paths) input mid lists × HasFault files path mid fault × (new ≡ old)
+    × GiveEach files (take index paths) input mid lists × HasFault files path mid left fault × (new ≡ old)
 Ends how output files paths input left old new (Err faults.Write) = Combines how output files paths input left (AppendsFront old new)
 Ends how output files paths input left old new (Err faults.Memory) = Stops how output files paths input left old new
 

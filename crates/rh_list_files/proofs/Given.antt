@@ -1,6 +1,7 @@
 -- Lists that are read, one after the other.
-use Rattle.std.proofs.Common.{◌≡◌, ◌∙◌, ℕ, ◌+◌, ◌<◌, arith, get_or, length, map, take, Bool, true, false, List, [], ◌∷◌, ◌++◌, Option, Some, None, Result, Ok, Err, ap, refl, subst, sym}
+use Rattle.std.proofs.Common.{◌≡◌, ◌∙◌, ℕ, ◌+◌, ◌<◌, arith, get_or, length, map, option_map, slice_get, take, Bool, true, false, List, [], ◌∷◌, ◌++◌, Option, Some, None, Result, Ok, Err, ap, refl, subst, sym}
 use Rattle.std.proofs.lemmas.List.{get_or-map, length-map, take_more}
+use Rattle.std.proofs.lemmas.Option.{slice_get-map, slice_get_read}
 use Rattle.rh_shelf.specs.Shelf.{Files, Finds}
 use Rattle.rh_lists.specs.Lists.{ReadsList, keys_of, list_said}
 use Rattle.rh_lists.specs.declared.fault.ListFault.{ListFault}
@@ -17,6 +18,12 @@ pub next_path : {X : Type 0} (f : X → List ℕ) (xs : List X) (i : ℕ) (x : X
 next_path f xs i x inside is =
     let within : i < length (map f xs) = omega (arith, inside, length-map xs f) in
     take_more (map f xs) i (f x) within ∙ ap (λ y. take i (map f xs) ++ (y ∷ [])) (get_or-map f xs i x (f x) inside ∙ ap f (sym is))
+
+pub path_at : {X : Type 0} (f : X → List ℕ) (xs : List X) (i : ℕ) (x : X) → i < length xs → x ≡ get_or xs i x → slice_get (map f xs) i ≡ Some (f x)
+path_at f xs i x inside is = slice_get-map f xs i ∙ ap (option_map f) (slice_get_read xs (length xs) i x refl inside is)
+
+pub inside_too : {X : Type 0} (f : X → List ℕ) (xs : List X) (i : ℕ) → i < length xs → i < length (map f xs)
+inside_too f xs i inside = omega (arith, inside, length-map xs f)
 
 -- one path more
 pub one_more : (files : Option Files) (paths : List (List ℕ)) (path : List ℕ) (a b c : Option (List ℕ)) (lists : List (List ℕ)) (numbers : List ℕ) → GiveEach files paths a b lists → Gives files path b c numbers

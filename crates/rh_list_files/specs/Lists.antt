@@ -9,7 +9,8 @@ use Rattle.rh_numbers.specs.declared.limits.TheConstants.{MAX_BYTES}
 use Rattle.rh_shelf.specs.Shelf.{CountsReads, Files, Finds, Lacks, ShelfState}
 use Rattle.rh_shelf.specs.declared.shelf.ShelfFault.{ShelfFault}
 use Rattle.rh_shelf.specs.declared.shelf.ShelfFault.TheVariants.{Missing, Memory, Write}
-use Rattle.rh_lists.specs.Lists.{HasBytes, is_silent, keys_of, list_said}
+use Rattle.rh_key_files.specs.Reading.{BeginsWithLongHeader, TakesGoodKeys, long_header_at}
+use Rattle.rh_lists.specs.Lists.{HasBytes, TakesGoodLines, is_silent, keys_of, list_said}
 use Rattle.rh_lists.specs.declared.fault.ListFault.{ListFault}
 use Rattle.rh_lists.specs.declared.fault.ListFault.TheVariants.{Text, Keys}
 use Rattle.rh_lists.specs.declared.list.KeyList.{KeyList}
@@ -49,19 +50,30 @@ abbrev pub IsFirstFault : (bytes : Option (List ℕ)) → ListFault → Type 0
 IsFirstFault None fault = Unit {0}
 IsFirstFault (Some bytes) fault = Unless (is_silent fault) (list_said bytes ≡ Err fault)
 
--- the first fault in the bytes; a text is too long only where it has so many
-abbrev pub IsFaultOf : (bytes : Option (List ℕ)) → ListFault → Type 0
-IsFaultOf bytes fault = IsFirstFault bytes fault × (fault ≡ Text texts.TooLong → HasBytes MAX_BYTES bytes)
+-- The first fault in the bytes. A text is too long only where it has so many, and want of memory for a key file comes only behind a
+-- header that can be read.
+pub record IsFaultOf (bytes : Option (List ℕ)) (fault : ListFault) : Type 0 where
+  pub first : IsFirstFault bytes fault
+  pub long : fault ≡ Text texts.TooLong → HasBytes MAX_BYTES bytes
+  pub memory : fault ≡ Keys keys.Memory → BeginsWithLongHeader bytes
 
--- The path, which stands for the input or for a file, has this fault. Of a file that was not opened `BlamesAt` tells why.
-abbrev pub HasFaultBy : (input : Bool) → Option Files → (path : List ℕ) → (old : Option (List ℕ)) → FileFault → Type 0
-HasFaultBy true files path old (InList fault) = IsFaultOf old fault
-HasFaultBy true files path old (Shelf fault) = ⊥
-HasFaultBy false files path old (InList fault) = (bytes : Option (List ℕ)) × Finds files path bytes × IsFaultOf bytes fault
-HasFaultBy false files path old (Shelf fault) = Unit {0}
+-- Of the bytes that were taken before a failed read no line is bad, and behind a header no key is out of range; nor is one before want
+-- of memory for a key file.
+pub record IsBehindGood (old new : Option (List ℕ)) (fault : ListFault) : Type 0 where
+  pub line : fault ≡ Text texts.Read → TakesGoodLines old new
+  pub key : fault ≡ Keys keys.Read → TakesGoodKeys long_header_at old new
+  pub memory : fault ≡ Keys keys.Memory → TakesGoodKeys long_header_at old new
 
-abbrev pub HasFault : Option Files → (path : List ℕ) → (old : Option (List ℕ)) → FileFault → Type 0
-HasFault files path old fault = HasFaultBy (is_input path) files path old fault
+-- The path, which stands for the input or for a file, has this fault; this was left of the input. Of a file that was not opened
+-- `BlamesAt` tells why.
+abbrev pub HasFaultBy : (input : Bool) → Option Files → (path : List ℕ) → (old new : Option (List ℕ)) → FileFault → Type 0
+HasFaultBy true files path old new (InList fault) = IsFaultOf old fault × IsBehindGood old new fault
+HasFaultBy true files path old new (Shelf fault) = ⊥
+HasFaultBy false files path old new (InList fault) = ((bytes : Option (List ℕ)) × Finds files path bytes × IsFaultOf bytes fault) × (new ≡ old)
+HasFaultBy false files path old new (Shelf fault) = new ≡ old
+
+abbrev pub HasFault : Option Files → (path : List ℕ) → (old new : Option (List ℕ)) → FileFault → Type 0
+HasFault files path old new fault = HasFaultBy (is_input path) files path old new fault
 
 -- ---- which device failed
 

@@ -1,17 +1,22 @@
 -- The lists of several paths, read one after the other.
-use Rattle.std.specs.Prelude.{◌≡◌, ◌<◌, ℕ, false, List, take, slice_get, Option, Some, Result, Ok, Err}
+use Rattle.std.specs.Prelude.{◌≡◌, ◌<◌, ◌+◌, ℕ, false, List, length, take, slice_get, Option, Some, Result, Ok, Err}
 use Rattle.rh_shelf.specs.Shelf.{CountsReads, Files, ShelfState}
 use Rattle.rh_list_files.specs.Lists.{BlamesAt, GiveEach, HasFault}
 use Rattle.rh_list_files.specs.declared.fault.CommandFault.{CommandFault}
 use Rattle.rh_list_files.specs.declared.fault.CommandFault.TheVariants as faults
 
--- The lists of all paths were read, in pieces; or the first that has a fault is told by its place; or memory ran out.
+-- Memory ran out behind a list that was read whole, and behind those before it.
+abbrev pub ReadsSome : Option Files → (paths : List (List ℕ)) → (input left : Option (List ℕ)) → Type 0
+ReadsSome files paths input left = (index : ℕ) × (lists : List (List ℕ)) × (index < length paths) × GiveEach files (take (index + 1) paths) input left lists
+
+-- The lists of all paths were read, in pieces; or the first that has a fault is told by its place; or memory ran out behind one.
 abbrev pub ReadsAll : {X : Type 0} → (X → List (List ℕ)) → Option Files → (paths : List (List ℕ)) → (input left : Option (List ℕ)) → Result X CommandFault → Type 0
 ReadsAll view files paths input left (Ok x) = GiveEach files paths input left (view x)
 ReadsAll view files paths input left (Err (faults.List index fault)) =
     (path : List ℕ) × (mid : Option (List ℕ)) × (lists : List (List ℕ)) × (slice_get paths index ≡ Some path)
-    × GiveEach files (take index paths) input mid lists × HasFault files path mid fault
-ReadsAll view files paths input left (Err fault) = Unit {0}
+    × GiveEach files (take index paths) input mid lists × HasFault files path mid left fault
+ReadsAll view files paths input left (Err faults.Memory) = ReadsSome files paths input left
+ReadsAll view files paths input left (Err faults.Write) = ⊥
 
 -- What a command blames for its fault: the file at that place, or the device that failed. No failed read is told but of a list.
 abbrev pub Blames : (old new : ShelfState) → (paths : List (List ℕ)) → (InputFailed WriterFailed : Type 0) → CommandFault → Type 0

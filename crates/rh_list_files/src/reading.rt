@@ -74,7 +74,8 @@ fn read_path<T: Threads + Sync, S: Lender, I: Read, P: Progress>(
     ensures read { MatchResult result
         (λ list. Gives (S.state shelf.old).files path.now (I.remaining (inner_of input.old))
         (I.remaining (inner_of input.new)) (keys_of list))
-        (HasFault (S.state shelf.old).files path.now (I.remaining (inner_of input.old))) }
+        (HasFault (S.state shelf.old).files path.now (I.remaining (inner_of input.old))
+        (I.remaining (inner_of input.new))) }
     ensures blamed { IfErr result (BlamesAt (S.state shelf.old) (S.state shelf.new) path.now
         (Rose (failures_of input.old) (failures_of input.new))) }
     ensures fine { OnOk result ((S.state shelf.new ≡ S.state shelf.old)
