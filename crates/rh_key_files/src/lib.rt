@@ -16,9 +16,9 @@
 //!   batches. Other bytes are refused by the first fault in them, unless a read fails first, or
 //!   memory for the keys of a good header.
 //! - A stream tells a key out of range that was read whole before a failed read, and not that read:
-//!   where it tells `Read`, the bytes that it took hold no fault but their early end. So do `read_keys`,
-//!   `read_long_keys` and `read_pieces`, and the latter two before they tell want of memory: behind a
-//!   header that can be read, no key that they took is out of range.
+//!   where it tells `Read`, the bytes that it took hold no fault but their early end. So do
+//!   `read_keys`, `read_long_keys` and `read_pieces`, and the latter two before they tell want of
+//!   memory: behind a header that can be read, no key that they took is out of range.
 //! - After its end or a fault a stream answers the same and reads nothing. It never tells want of
 //!   memory.
 //! - Of a reader whose bytes are known each takes no more than its answer rests on, and never more

@@ -8,8 +8,9 @@ ghost use Rattle.rh_bytes.specs.Input.{fault_of};
 ghost use Rattle.rh_bytes.specs.Taking.{TakesAtMost};
 ghost use Rattle.rh_key_files.specs.Limits.{NoReadFailed, TakesBehindMagic, TakesOfLongFile, keys_taken};
 ghost use Rattle.rh_key_files.specs.Reading.{BeginsWithLongHeader, BeginsWithNumber, IsLongReadFrom};
-ghost use Rattle.rh_key_files.specs.Reading.{CutShort, ReadsKeys, keys_at, keys_behind, long_file_keys};
-ghost use Rattle.rh_key_files.specs.Reading.{TakesGoodKeys, header_behind, long_header_at};
+ghost use Rattle.rh_key_files.specs.Reading.{CutShort, ReadsKeys, TakesGoodKeys};
+ghost use Rattle.rh_key_files.specs.Reading.{header_behind, keys_at, keys_behind};
+ghost use Rattle.rh_key_files.specs.Reading.{long_file_keys, long_header_at};
 
 use crate::batch;
 use crate::fault::KeyFault;

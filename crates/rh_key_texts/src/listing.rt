@@ -69,8 +69,9 @@ pub fn list_keys<R: Read, W: Write>(
         (R.remaining (inner_of reader.old)) (R.remaining (inner_of reader.new)) }
     ensures memory { IsErrOf result (ListFault.Keys KeyFault.Memory) →
         BeginsWithLongHeader (R.remaining (inner_of reader.old)) }
-    ensures tested_too { IsErrOf result (ListFault.Keys KeyFault.Memory) → TakesGoodKeys long_header_at
-        (R.remaining (inner_of reader.old)) (R.remaining (inner_of reader.new)) }
+    ensures tested_too { IsErrOf result (ListFault.Keys KeyFault.Memory) →
+        TakesGoodKeys long_header_at (R.remaining (inner_of reader.old))
+        (R.remaining (inner_of reader.new)) }
     ensures write { IsErrOf result ListFault.Write →
         Rose (failures_of writer.old) (failures_of writer.new) }
     ensures written { OnOk result (failures_of writer.new ≡ failures_of writer.old) }

@@ -4,12 +4,12 @@
 //!
 //! Proved, for every shelf and reader whose bytes are known, of `read_paths`:
 //!
-//! - Where it answers `Ok`, the files and the input were texts of numbers or key files, of exactly these
-//!   numbers. Else the fault is the first of the first list that has one, and memory runs out only
-//!   behind a list that was read. A list of a file that has a fault takes nothing of the input.
-//! - A file is told as missing only where there is none, or the shelf failed; a failed read of the input
-//!   only where one failed, behind good lines and keys, and of a file only where the shelf was shown
-//!   one. Else it was shown none.
+//! - Where it answers `Ok`, the files and the input were texts of numbers or key files, of exactly
+//!   these numbers. Else the fault is the first of the first list that has one, and memory runs out
+//!   only behind a list that was read. A list of a file with a fault takes nothing of the input.
+//! - A file is told as missing only where there is none, or the shelf failed; a failed read of the
+//!   input only where one failed, behind good lines and keys, and of a file only where the shelf
+//!   was shown one. Else it was shown none.
 #![tactic(auto)]
 
 mod fault;

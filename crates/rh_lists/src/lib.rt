@@ -16,9 +16,9 @@
 //! - Of want of memory, of a failed read and of a text of 2^63 bytes or more nothing is told of the
 //!   bytes. `Read` comes only where the reader's count of failures rose, `TooLong` only of so many
 //!   bytes.
-//! - Bytes that came before a failed read hold no bad line, and no key out of range behind a header; but
-//!   before its fourth byte a list is not known to be a text. Want of memory for a key file comes only
-//!   behind a header that can be read, and behind good keys.
+//! - Bytes that came before a failed read hold no bad line, nor behind a header a bad key; but
+//!   before its fourth byte a list is not known to be a text. Want of memory for a key file
+//!   comes only behind a header that can be read, and behind good keys.
 //! - `lists_agree`: what two readings of the same bytes answer is the same, but for these.
 //! - `KeyList`: the keys of a list are those of its pieces, one piece after the other; all are keys.
 //!

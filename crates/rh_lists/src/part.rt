@@ -1,6 +1,7 @@
 //! A part of a text, read.
 
-ghost use Rattle.std.specs.Prelude.{[], ◌++◌, ◌+◌, ◌<◌, ◌^◌, ◌∷◌, ◌≡◌, ◌≤◌, IfErr, IfOk, IfSome, IsNone, List, MatchResult, length, ℕ};
+ghost use Rattle.std.specs.Prelude.{[], ◌++◌, ◌+◌, ◌<◌, ◌^◌, ◌∷◌, ◌≡◌, ◌≤◌, List, length, ℕ};
+ghost use Rattle.std.specs.Prelude.{IfErr, IfOk, IfSome, IsNone, MatchResult};
 ghost use Rattle.rh_layout.specs.Key.{IsKey};
 ghost use Rattle.rh_numbers.specs.Chunks.{EndsLine, last_of};
 ghost use Rattle.rh_numbers.specs.Reading.{text_said};

@@ -40,12 +40,14 @@ pub fn read_list<T: Threads + Sync, R: Read, P: Progress>(
         Rose (failures_of reader.old) (failures_of reader.new) }
     ensures text_tested { IsErrOf result (ListFault.Text TextFault.Read) →
         TakesGoodLines (R.remaining (inner_of reader.old)) (R.remaining (inner_of reader.new)) }
-    ensures keys_tested { IsErrOf result (ListFault.Keys KeyFault.Read) → TakesGoodKeys long_header_at
-        (R.remaining (inner_of reader.old)) (R.remaining (inner_of reader.new)) }
+    ensures keys_tested { IsErrOf result (ListFault.Keys KeyFault.Read) →
+        TakesGoodKeys long_header_at (R.remaining (inner_of reader.old))
+        (R.remaining (inner_of reader.new)) }
     ensures memory { IsErrOf result (ListFault.Keys KeyFault.Memory) →
         BeginsWithLongHeader (R.remaining (inner_of reader.old)) }
-    ensures tested_too { IsErrOf result (ListFault.Keys KeyFault.Memory) → TakesGoodKeys long_header_at
-        (R.remaining (inner_of reader.old)) (R.remaining (inner_of reader.new)) }
+    ensures tested_too { IsErrOf result (ListFault.Keys KeyFault.Memory) →
+        TakesGoodKeys long_header_at (R.remaining (inner_of reader.old))
+        (R.remaining (inner_of reader.new)) }
     ensures long { IsErrOf result (ListFault.Text TextFault.TooLong) →
         HasBytes MAX_BYTES (R.remaining (inner_of reader.old)) }
     ensures fine { OnOk result (failures_of reader.new ≡ failures_of reader.old) }
@@ -71,12 +73,14 @@ pub fn read_list_in_blocks<T: Threads + Sync, R: Read, P: Progress>(
         Rose (failures_of reader.old) (failures_of reader.new) }
     ensures text_tested { IsErrOf result (ListFault.Text TextFault.Read) →
         TakesGoodLines (R.remaining (inner_of reader.old)) (R.remaining (inner_of reader.new)) }
-    ensures keys_tested { IsErrOf result (ListFault.Keys KeyFault.Read) → TakesGoodKeys long_header_at
-        (R.remaining (inner_of reader.old)) (R.remaining (inner_of reader.new)) }
+    ensures keys_tested { IsErrOf result (ListFault.Keys KeyFault.Read) →
+        TakesGoodKeys long_header_at (R.remaining (inner_of reader.old))
+        (R.remaining (inner_of reader.new)) }
     ensures memory { IsErrOf result (ListFault.Keys KeyFault.Memory) →
         BeginsWithLongHeader (R.remaining (inner_of reader.old)) }
-    ensures tested_too { IsErrOf result (ListFault.Keys KeyFault.Memory) → TakesGoodKeys long_header_at
-        (R.remaining (inner_of reader.old)) (R.remaining (inner_of reader.new)) }
+    ensures tested_too { IsErrOf result (ListFault.Keys KeyFault.Memory) →
+        TakesGoodKeys long_header_at (R.remaining (inner_of reader.old))
+        (R.remaining (inner_of reader.new)) }
     ensures long { IsErrOf result (ListFault.Text TextFault.TooLong) →
         HasBytes MAX_BYTES (R.remaining (inner_of reader.old)) }
     ensures fine { OnOk result (failures_of reader.new ≡ failures_of reader.old) }

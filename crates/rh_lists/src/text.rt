@@ -89,8 +89,9 @@ fn read_on<T: Threads + Sync, R: Read, P: Progress>(
     requires lines { text.lines ≤ BLOCK_BYTES }
     ensures known { (before : List ℕ) → IsReadTo Start before text →
         ReadsText before (R.remaining (inner_of reader.old)) (R.remaining (inner_of reader.new)) result }
-    ensures tested { IsErrOf result TextFault.Read → (before : List ℕ) → IsReadTo Start before text →
-        TakesNoFault before (R.remaining (inner_of reader.old)) (R.remaining (inner_of reader.new)) }
+    ensures tested { IsErrOf result TextFault.Read →
+        (before : List ℕ) → IsReadTo Start before text → TakesNoFault before
+        (R.remaining (inner_of reader.old)) (R.remaining (inner_of reader.new)) }
     ensures read { IsErrOf result TextFault.Read → Rose (failures_of reader.old) (failures_of reader.new) }
     ensures long { IsErrOf result TextFault.TooLong →
         HasBytes MAX_BYTES (R.remaining (inner_of reader.old)) }
@@ -125,7 +126,8 @@ fn read_blocks<T: Threads + Sync, R: Read, P: Progress>(
     ensures known { (before : List ℕ) → IsReadTo Start before begun →
         ReadsText (before ++ block.items) (R.remaining (inner_of reader.old))
         (R.remaining (inner_of reader.new)) result }
-    ensures tested { IsErrOf result TextFault.Read → (before : List ℕ) → IsReadTo Start before begun →
+    ensures tested { IsErrOf result TextFault.Read →
+        (before : List ℕ) → IsReadTo Start before begun →
         TakesNoFault (before ++ block.items) (R.remaining (inner_of reader.old))
         (R.remaining (inner_of reader.new)) }
     ensures read { IsErrOf result TextFault.Read → Rose (failures_of reader.old) (failures_of reader.new) }
@@ -175,8 +177,8 @@ fn last_block<T: Threads + Sync>(
     requires room { text.lines + length bytes.now + 1 < 2 ^ 64 }
     ensures told { (before rest : List ℕ) → IsReadTo Start before text → (IsFalse failed → rest ≡ []) →
         IsTold (text_said ((before ++ bytes.now) ++ rest)) result }
-    ensures tested { IsErrOf result TextFault.Read → (before : List ℕ) → IsReadTo Start before text →
-        HasNoFault (before ++ bytes.now) }
+    ensures tested { IsErrOf result TextFault.Read →
+        (before : List ℕ) → IsReadTo Start before text → HasNoFault (before ++ bytes.now) }
     ensures read { IsErrOf result TextFault.Read → IsTrue failed }
     ensures not_long { IsErrOf result TextFault.TooLong → ⊥ }
     ensures fine { OnOk result (IsFalse failed) }

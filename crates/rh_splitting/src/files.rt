@@ -78,7 +78,8 @@ impl<F: Files> PartFiles<'_, F> {
     ghost use Rattle.rh_bytes.specs.Counting.{Rose, failures_of, inner_of};
     ghost use Rattle.rh_key_files.specs.Reading.{BeginsWithHeader, TakesGoodKeys, header_at};
     ghost use Rattle.rh_parts.specs.declared.part.TheConstants.{MAX_PARTS};
-    ghost use Rattle.rh_splitting.specs.IntoFiles.{IsOfFiles, IsOfWriting, SplitsList, told_of_list};
+    ghost use Rattle.rh_splitting.specs.IntoFiles.{IsOfFiles, IsOfWriting};
+    ghost use Rattle.rh_splitting.specs.IntoFiles.{SplitsList, told_of_list};
     ghost use Rattle.rh_splitting.specs.Files.{made_of, placed_of, whole_of};
     ghost use Rattle.rh_splitting.specs.Name.{is_name};
     ghost use Rattle.rh_splitting.specs.Parts.{IsBegun};

@@ -24,12 +24,13 @@
 //!   and the number of parts that would do; or a front of these where the writer failed.
 //! - `parts_for`, `parts_chosen`: how many parts are to be made of so many keys, or of an input of so
 //!   many bytes, exactly.
-//! - `PartFiles::split`: where it answers `Ok`, the input was read to its end and gave a whole list; as
-//!   many files as there are parts were made, made whole, and then put at their places. Else each that
-//!   was made was removed again. Files are put at their places only once all are whole.
-//! - Its fault is the first of the list, or its first key of which the part has 1,000,000 others, or one
-//!   whose write failed. No byte is read where a file cannot be made; where one cannot be written, none
-//!   or all.
+//! - `PartFiles::split`: where it answers `Ok`, the input was read to its end and gave a whole
+//!   list; as many files as there are parts were made, made whole, and then put at their places.
+//!   Else each that was made was removed again. Files are put at their places only once all are
+//!   whole.
+//! - Its fault is the first of the list, or its first key of which the part has 1,000,000 others,
+//!   or one whose write failed. No byte is read where a file cannot be made; where one cannot be
+//!   written, none or all.
 //! - `is_name` is exact.
 //! - `fixed_numbers`: how long a name is, and by how many keys and bytes parts are chosen.
 //!
