@@ -1,3 +1,4 @@
--- StreamLemmas: what a writer behind a buffer holds.
+-- StreamLemmas: what a writer behind a buffer holds. EndingLemmas: how a command may end.
 
 pub mod StreamLemmas
+pub mod EndingLemmas

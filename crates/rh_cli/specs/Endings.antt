@@ -1,5 +1,6 @@
 -- How a program ends.
-use Rattle.std.specs.Prelude.{ℕ}
+use Rattle.std.specs.Prelude.{◌≡◌, ◌⊎◌, ℕ, List, Option, Result, Ok, Err, IfErr}
+use Rattle.std.specs.Io.KnownBytes.{Keeps}
 use Rattle.clap.specs.declared.error.kind.ErrorKind.{ErrorKind}
 use Rattle.clap.specs.declared.error.kind.ErrorKind.TheVariants.{DisplayHelp, DisplayVersion}
 use Rattle.rh_cli.specs.declared.status.ProgramFault.{ProgramFault}
@@ -28,3 +29,37 @@ ending_by_program fault.NotText = CommandLine
 ending_by_program fault.Open = Refused
 ending_by_program fault.Memory = Memory
 ending_by_program fault.Write = Write
+
+-- how a command ends: a fault of its work comes first, then that its output was not written out, and else it is done
+abbrev pub ended : {E : Type 0} → (told written : Result (Unit {0}) E) → Result Status E
+ended (Err fault) written = Err fault
+ended (Ok x) (Err fault) = Err fault
+ended (Ok x) (Ok y) = Ok Done
+
+-- the same outcome, with its fault told as one of a program
+abbrev pub told_as : {X E F : Type 0} → (E → F) → Result X E → Result (Unit {0}) F
+told_as name (Ok x) = Ok tt
+told_as name (Err fault) = Err (name fault)
+
+-- the same, where that is no function of the fault alone
+abbrev pub ToldAs : {X E F : Type 0} → (Tells : E → F → Type 0) → Result X E → Result (Unit {0}) F → Type 0
+ToldAs Tells (Ok x) r = r ≡ Ok tt
+ToldAs Tells (Err fault) r = (told : _) × (r ≡ Err told) × Tells fault told
+
+-- A command whose work came to an outcome, when its output stood so. Its ending is what that is told as, whether or not the last of
+-- its output, which now stands there, could be written out.
+pub record Ends {X E F : Type 0} (Tells : E → F → Type 0) (of_program : ProgramFault → F) (Works : Option (List ℕ) → Result X E → Type 0) (now : Option (List ℕ)) (r : Result Status F) : Type 0 where
+  pub outcome : Result X E
+  pub output : Option (List ℕ)
+  pub works : Works output outcome
+  pub kept : Keeps output now
+  pub told : Result (Unit {0}) F
+  pub tells : ToldAs Tells outcome told
+  pub written : Result (Unit {0}) ProgramFault
+  pub unwritten : IfErr written (λ f. f ≡ fault.Write)
+  pub ends : r ≡ ended told (told_as of_program written)
+
+-- how a command may end that works through a buffer: done, by what its work told, or by one of two faults of any command
+abbrev pub EndsBy : {E F : Type 0} → (Tells : E → F → Type 0) → (of_program : ProgramFault → F) → Result Status F → Type 0
+EndsBy Tells of_program (Ok status) = status ≡ Done
+EndsBy Tells of_program (Err told) = ((f : _) × Tells f told) ⊎ (told ≡ of_program fault.Write) ⊎ (told ≡ of_program fault.Memory)

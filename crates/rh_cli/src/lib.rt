@@ -7,6 +7,7 @@
 //! - `ProgramFault::status`, `answer`: the exit status of the faults that any command may meet, and of
 //!   what `clap` answers, by the table `specs/Endings.antt`. A failed write is told only of a text that
 //!   was asked for.
+//! - `ended`: a fault of the work of a command comes first, then a failed write; else it is done.
 //! - `words`: its fault is a word that is no text, or want of memory, and never a failed write.
 //! - `hold_closed`: what is held has the number of a standard stream.
 //! - `open`: its fault is that the file cannot be opened, or want of memory.
@@ -33,5 +34,5 @@ pub use closed::hold_closed;
 pub use file::open;
 pub use outlet::Outlet;
 pub use program::{answer, words};
-pub use status::{ProgramFault, Status};
+pub use status::{ProgramFault, Status, ended};
 pub use streams::{Streams, between, buffered_reader, buffered_writer, write_out};
