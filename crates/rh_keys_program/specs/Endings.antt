@@ -1,9 +1,9 @@
--- How the program ends, and which file it names.
-use Rattle.std.specs.Prelude.{◌≡◌, ◌<◌, ℕ, List, Some, slice_get, string_bytes}
+-- How the program ends.
+use Rattle.std.specs.Prelude.{Bool, true, false, Result, Ok, Err}
 use Rattle.rh_cli.specs.Endings.{ending_by_program as ending_by_program}
 use Rattle.rh_endings.specs.Endings.{ending_by_keys, ending_by_snapshot}
 use Rattle.rh_cli.specs.declared.status.Status.{Status}
-use Rattle.rh_cli.specs.declared.status.Status.TheVariants.{Refused, CommandLine, Memory, Write}
+use Rattle.rh_cli.specs.declared.status.Status.TheVariants.{Refused, CommandLine, Memory, Write, ReaderGone}
 use Rattle.rh_numbers.specs.declared.fault.TextFault.{TextFault}
 use Rattle.rh_numbers.specs.declared.fault.TextFault.TheVariants as text
 use Rattle.rh_shelf.specs.declared.shelf.ShelfFault.TheVariants as shelf
@@ -80,18 +80,8 @@ ending_by (fault.TooFull part parts) = Refused
 ending_by fault.Size = CommandLine
 ending_by fault.Name = CommandLine
 
--- a fault that names a file names the one at this place
-abbrev pub NamesAt : (paths : List (List ℕ)) → (index : ℕ) → Fault → Type 0
-NamesAt paths index (fault.File path f) = slice_get paths index ≡ Some (string_bytes path)
-NamesAt paths index (fault.Combined path f reason) = slice_get paths index ≡ Some (string_bytes path)
-NamesAt paths index _ = Unit {0}
-
--- so does one of a list, if it is one of a list
-abbrev pub NamesList : (paths : List (List ℕ)) → CommandFault → Fault → Type 0
-NamesList paths (command.List index f) told = NamesAt paths index told
-NamesList paths _ told = Unit {0}
-
--- a fault that says how many parts would do names this part, and more parts than there were
-abbrev pub AsksMore : (part parts : ℕ) → Fault → Type 0
-AsksMore part parts (fault.TooFull named wanted) = (named ≡ part) × (parts < wanted)
-AsksMore part parts _ = Unit {0}
+-- how the program ends: a fault is as good as told where the reader of the output has gone away
+abbrev pub ending : Result Status Fault → (reader_gone : Bool) → Status
+ending (Ok status) reader_gone = status
+ending (Err fault) true = ReaderGone
+ending (Err fault) false = ending_by fault

@@ -1,10 +1,12 @@
 //! What a command on lists asks of the system, and what is told of its faults.
 
-ghost use Rattle.std.specs.Prelude.{◌≡◌, ◌<◌, ◌≤◌, map, min, string_bytes, vec_len};
+ghost use Rattle.std.specs.Prelude.{◌≡◌, ◌⊎◌, ◌↔◌, ◌<◌, ◌≤◌, map, min, string_bytes, vec_len};
+ghost use Rattle.std.specs.Fs.{IsDir, file_type};
 ghost use Rattle.std.specs.List.{count_by};
 ghost use Rattle.rh_list_files.specs.Lists.{is_input};
 ghost use Rattle.rh_list_files.specs.Reading.{IsInside};
-ghost use Rattle.rh_keys_program.specs.Endings.{NamesList, ending_by, ending_by_command};
+ghost use Rattle.rh_keys_program.specs.Endings.{ending_by, ending_by_command};
+ghost use Rattle.rh_keys_program.specs.Told.{Explains, IsSizeIn, TellsCommand, reason_of_kind};
 
 use crate::status::{Fault, Reason};
 use rh_cli::ProgramFault;
@@ -14,7 +16,7 @@ use rh_list_files::{CommandFault, FileFault, INPUT};
 use rh_lists::ListFault;
 use rh_numbers::TextFault;
 use rh_shelf::ShelfFault;
-use std::fs::{self, Files};
+use std::fs::{self, Files, Metadata};
 use std::io::ErrorKind;
 use std::thread::{self, Threads};
 
@@ -44,22 +46,32 @@ pub fn times_named(paths: &[String]) -> usize
 pub fn bytes_of(files: &impl Files, paths: &[String]) -> Option<u64> {
     let mut total = 0u64;
     for path in paths {
-        let Ok(metadata) = fs::metadata(files, path) else {
-            return None;
-        };
-        if !metadata.is_file() {
-            return None;
-        }
-        total = total.saturating_add(metadata.len());
+        let size = size_of(files, path)?;
+        total = total.saturating_add(size);
     }
     Some(total)
+}
+
+/// How many bytes stand at the path, where that is a file.
+pub(crate) fn size_of(files: &impl Files, path: &str) -> Option<u64> {
+    match fs::metadata(files, path) {
+        Ok(metadata) => size_in(&metadata),
+        Err(_) => None,
+    }
+}
+
+/// The size that the system says, if it is that of a file.
+fn size_in(metadata: &Metadata) -> Option<u64>
+    ensures { IsSizeIn metadata.now result }
+{
+    metadata.is_file().then_some(metadata.len())
 }
 
 /// The fault, with the path of its file. Want of memory and a failed write are no faults of a file.
 pub fn told(files: &impl Files, mut paths: Vec<String>, fault: CommandFault) -> Fault
     requires { IsInside (vec_len paths) fault }
     ensures ending { ending_by result ≡ ending_by_command fault }
-    ensures names { NamesList (map string_bytes paths.items) fault result }
+    ensures tells { TellsCommand (map string_bytes paths.items) fault result }
 {
     match fault {
         CommandFault::Write => Fault::Program(ProgramFault::Write),
@@ -84,20 +96,41 @@ pub fn told(files: &impl Files, mut paths: Vec<String>, fault: CommandFault) -> 
 }
 
 /// Why the file was not opened or read, as far as the system says it now.
-fn reason_of(files: &impl Files, path: &str, fault: FileFault) -> Reason {
+fn reason_of(files: &impl Files, path: &str, fault: FileFault) -> Reason
+    ensures { Explains fault result }
+{
     match fault {
         FileFault::Shelf(_) => match fs::open(files, path) {
             Ok(_) => Reason::Unknown,
-            Err(error) => match error.kind() {
-                ErrorKind::NotFound => Reason::NoFile,
-                ErrorKind::PermissionDenied => Reason::NoRight,
-                _ => Reason::Unknown,
-            },
+            Err(error) => reason_of_kind(error.kind()),
         },
         FileFault::List(ListFault::Text(TextFault::Read)) => match fs::metadata(files, path) {
-            Ok(metadata) if metadata.is_dir() => Reason::Folder,
-            _ => Reason::Unknown,
+            Ok(metadata) => reason_in(&metadata),
+            Err(_) => Reason::Unknown,
         },
         FileFault::List(_) => Reason::Unknown,
+    }
+}
+
+/// Why a file was not opened, of which the system says this.
+fn reason_of_kind(kind: ErrorKind) -> Reason
+    ensures { result ≡ reason_of_kind kind }
+{
+    match kind {
+        ErrorKind::NotFound => Reason::NoFile,
+        ErrorKind::PermissionDenied => Reason::NoRight,
+        _ => Reason::Unknown,
+    }
+}
+
+/// Why a file of which a read failed was not read: a folder can be opened, but not read.
+fn reason_in(metadata: &Metadata) -> Reason
+    ensures folder { IsDir (file_type metadata.now) ↔ result ≡ Reason.Folder }
+    ensures unknown { (result ≡ Reason.Folder) ⊎ (result ≡ Reason.Unknown) }
+{
+    if metadata.is_dir() {
+        Reason::Folder
+    } else {
+        Reason::Unknown
     }
 }

@@ -1,20 +1,25 @@
 //! The command `split`, between real files and streams.
 
-ghost use Rattle.std.specs.Prelude.{◌≡◌, ◌≤◌, ◌<◌, IfOk, Ok, length, true};
+ghost use Rattle.std.specs.Prelude.{◌≡◌, ◌≤◌, ◌<◌, ⊤, ℕ, [], IfErr, IfOk, IfSome, Ok, OnOk, Option, length, true};
+ghost use Rattle.std.specs.Io.Buffered.{writer_buffer, writer_contents};
+ghost use Rattle.rh_bytes.specs.Counting.{Writes};
+ghost use Rattle.rh_cli.specs.Endings.{Ends, EndsBy, told_as};
 ghost use Rattle.rh_parts.specs.declared.part.TheConstants.{MAX_PARTS};
 ghost use Rattle.rh_splitting.specs.Name.{is_name};
-ghost use Rattle.rh_keys_program.specs.Endings.{AsksMore, ending_by};
+ghost use Rattle.rh_splitting.specs.Plan.{plan_text};
+ghost use Rattle.rh_splitting.specs.declared.fault.FilesFault.{FilesFault as OfFiles};
+ghost use Rattle.rh_keys_program.specs.Told.{TellsNoSize, TellsPlan, fault_of_split, parts_of};
 
-use crate::status::Fault;
-use rh_bytes::Counted;
-use rh_cli::{Outlet, ProgramFault, Status, buffered_writer, write_out};
+use crate::lists::size_of;
+use crate::status::{Fault, writing};
+use rh_bytes::{Counted, WriteFault};
+use rh_cli::{Outlet, ProgramFault, Status, buffered_writer, ended, write_out};
 use rh_splitting::{
     FilesFault, Part, PartFiles, Source, SplitFault, counting_parts, parts_chosen, split_source,
     try_source, write_plan,
 };
-use std::alloc::Global;
-use std::fs::{self, Files};
-use std::io::{Sink, Write};
+use std::fs::Files;
+use std::io::{BufWriter, Write};
 
 /// How many parts are to be made: as many as were asked for, or where that is 0 as the size of standard
 /// input says. Of a pipe the size is not known, and it is read but once: the parts of its first key have
@@ -24,12 +29,11 @@ pub fn parts_asked(rt: &(impl Files + Input), source: Source, asked: u64) -> Res
     ensures some { IfOk result (λ parts. 0 < parts) }
     ensures few { IfOk result (λ parts. parts ≤ MAX_PARTS) }
     ensures asked { 0 < asked → result ≡ Ok asked }
+    ensures fault { IfErr result (λ told. (asked ≡ 0) × TellsNoSize source told) }
 {
-    if asked > 0 {
-        return Ok(asked);
-    }
-    if let Some(bytes) = size_of_input(rt) {
-        return Ok(parts_chosen(source, bytes));
+    let size = size_of(rt, "/dev/stdin");
+    if let Some(parts) = parts_of(source, asked, size) {
+        return Ok(parts);
     }
     // (what cannot be read has no size either)
     match try_source(&mut Counted::new(rt.reader()), source) {
@@ -38,12 +42,20 @@ pub fn parts_asked(rt: &(impl Files + Input), source: Source, asked: u64) -> Res
     }
 }
 
-/// How many bytes standard input has, where it is a file.
-fn size_of_input(files: &impl Files) -> Option<u64> {
-    let Ok(metadata) = fs::metadata(files, "/dev/stdin") else {
-        return None;
-    };
-    metadata.is_file().then_some(metadata.len())
+/// As many parts as were asked for, or where that is 0 as an input of this size asks for.
+fn parts_of(source: Source, asked: u64, size: Option<u64>) -> Option<u64>
+    requires { asked ≤ MAX_PARTS }
+    ensures parts { result ≡ parts_of source asked size }
+    ensures some { IfSome result (λ parts. 0 < parts) }
+    ensures few { IfSome result (λ parts. parts ≤ MAX_PARTS) }
+{
+    if asked > 0 {
+        return Some(asked);
+    }
+    match size {
+        Some(bytes) => Some(parts_chosen(source, bytes)),
+        None => None,
+    }
 }
 
 /// Splits what stands on standard input into key files below the current folder. It is read in parts,
@@ -57,30 +69,34 @@ pub fn split_streams(
     requires some { 0 < parts }
     requires few { parts ≤ MAX_PARTS }
     requires name { is_name name.now ≡ true }
+    ensures done { IfOk result (λ status. status ≡ Status.Done) }
+    ensures fault { IfErr result (λ told. (f : OfFiles) × (size : Option ℕ) × (told ≡ fault_of_split source parts size f)) }
 {
     let mut reader = Counted::new(rt.reader());
     let mut files = PartFiles::new(rt.alloc(), rt);
     match files.split(rt.alloc(), &mut reader, source, parts, name) {
         Ok(()) => Ok(Status::Done),
-        Err(FilesFault::Split(SplitFault::TooMany { part })) => {
-            Err(too_full(rt, source, part, parts))
+        Err(fault) => {
+            let size = size_of(rt, "/dev/stdin");
+            Err(fault_of_split(source, parts, size, fault))
         }
-        Err(fault) => Err(Fault::Split(fault)),
     }
 }
 
-/// The fault of a part that is too full, of so many. Where the size of the input asks for more parts, it
-/// says how many: only the repeats of a key all go to one part.
-fn too_full(files: &impl Files, source: Source, part: u64, parts: u64) -> Fault
-    ensures ending { ending_by result ≡ Status.Refused }
-    ensures more { AsksMore part parts result }
+/// What is told of a split into so many parts, of an input of this size. Where a part is too full and the
+/// size asks for more parts, it says how many: only the repeats of a key all go to one part.
+fn fault_of_split(source: Source, parts: u64, size: Option<u64>, fault: FilesFault) -> Fault
+    ensures { result ≡ fault_of_split source parts size fault }
 {
-    match size_of_input(files) {
-        Some(bytes) if parts_chosen(source, bytes) > parts => Fault::TooFull {
-            part,
-            parts: parts_chosen(source, bytes),
-        },
-        _ => Fault::Split(FilesFault::Split(SplitFault::TooMany { part })),
+    match (fault, size) {
+        (FilesFault::Split(SplitFault::TooMany { part }), Some(bytes))
+            if parts_chosen(source, bytes) > parts => {
+            Fault::TooFull {
+                part,
+                parts: parts_chosen(source, bytes),
+            }
+        }
+        (fault, _) => Fault::Split(fault),
     }
 }
 
@@ -93,29 +109,46 @@ pub fn plan_streams<W: Write>(
 ) -> Result<Status, Fault>
     requires some { 0 < count }
     requires few { count ≤ MAX_PARTS }
+    ensures { EndsBy (λ f told. told ≡ Fault.Split (FilesFault.Split f)) Fault.Program result }
 {
     let Ok(mut parts) = counting_parts(rt.alloc(), count) else {
         return Err(Fault::Program(ProgramFault::Memory));
     };
     let mut reader = Counted::new(rt.reader());
-    match split_source(rt.alloc(), &mut reader, source, &mut parts) {
-        Ok(()) => tell_plan(rt.alloc(), outlet, &parts),
-        Err(fault) => Err(Fault::Split(FilesFault::Split(fault))),
+    if let Err(fault) = split_source(rt.alloc(), &mut reader, source, &mut parts) {
+        return Err(Fault::Split(FilesFault::Split(fault)));
     }
+    let Ok(writer) = buffered_writer(rt.alloc(), outlet) else {
+        return Err(Fault::Program(ProgramFault::Memory));
+    };
+    let (ended, _writer) = tell_plan(&parts, writer);
+    ended
 }
 
-/// Writes to standard output how many keys each part was given.
-fn tell_plan<W: Write>(
-    alloc: Global,
-    outlet: &mut Outlet<W>,
-    parts: &[Part<Sink>],
-) -> Result<Status, Fault>
+/// Writes through this buffer how many keys each part was given, and writes out what that still holds.
+fn tell_plan<P, W: Write + Drop>(
+    parts: &[Part<P>],
+    writer: BufWriter<W>,
+) -> (Result<Status, Fault>, BufWriter<W>)
     requires { length parts.now ≤ MAX_PARTS }
+    ensures ends { Ends {X = ⊤} TellsPlan Fault.Program
+        (λ out r. Writes (writer_contents W.contents writer) out (plan_text parts.now) r)
+        (writer_contents W.contents result.1) result.0 }
+    ensures empty { OnOk result.0 (writer_buffer result.1 ≡ []) }
 {
-    let mut writer = Counted::new(buffered_writer(alloc, outlet)?);
-    if write_plan(parts, &mut writer).is_err() {
-        return Err(Fault::Program(ProgramFault::Write));
+    let mut writer = Counted::new(writer);
+    let planned = write_plan(parts, &mut writer);
+    let mut writer = writer.into_inner();
+    let written = write_out(&mut writer);
+    (ended(planning(planned), writing(written)), writer)
+}
+
+/// What came of the writing of a plan, told as by the program.
+fn planning(outcome: Result<(), WriteFault>) -> Result<(), Fault>
+    ensures { result ≡ told_as (λ _. Fault.Program ProgramFault.Write) outcome }
+{
+    match outcome {
+        Ok(()) => Ok(()),
+        Err(_) => Err(Fault::Program(ProgramFault::Write)),
     }
-    write_out(&mut writer.into_inner())?;
-    Ok(Status::Done)
 }

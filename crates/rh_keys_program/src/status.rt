@@ -1,7 +1,8 @@
 //! How the program ends.
 
 ghost use Rattle.std.specs.Prelude.{◌≡◌};
-ghost use Rattle.rh_keys_program.specs.Endings.{ending_by, ending_by_combined, ending_by_file, ending_by_split};
+ghost use Rattle.rh_cli.specs.Endings.{told_as};
+ghost use Rattle.rh_keys_program.specs.Endings.{ending, ending_by, ending_by_combined, ending_by_file, ending_by_split};
 
 use rh_cli::{ProgramFault, Status};
 use rh_endings::{status_of_keys, status_of_snapshot};
@@ -144,4 +145,56 @@ pub fn tell(rt: &impl Eprint, fault: &Fault) -> Status
 {
     let _ = eprintln!(rt; "rhkeys: {fault}");
     fault.status()
+}
+
+/// How the program ends that came to this. A fault is told, but where the reader of the output has gone
+/// away: so the usual tools do, which the signal of a closed pipe ends.
+pub fn conclude(rt: &impl Eprint, outcome: &Result<Status, Fault>, reader_gone: bool) -> Status
+    ensures { result ≡ ending outcome.now reader_gone }
+{
+    match outcome {
+        Ok(status) => *status,
+        Err(_) if reader_gone => Status::ReaderGone,
+        Err(fault) => tell(rt, fault),
+    }
+}
+
+/// What came of a packing, told as by the program.
+pub(crate) fn packing(outcome: Result<(), PackFault>) -> Result<(), Fault>
+    ensures { result ≡ told_as Fault.Pack outcome }
+{
+    match outcome {
+        Ok(()) => Ok(()),
+        Err(fault) => Err(Fault::Pack(fault)),
+    }
+}
+
+/// The same of the listing of a key file.
+pub(crate) fn listing(outcome: Result<(), ListFault>) -> Result<(), Fault>
+    ensures { result ≡ told_as Fault.List outcome }
+{
+    match outcome {
+        Ok(()) => Ok(()),
+        Err(fault) => Err(Fault::List(fault)),
+    }
+}
+
+/// The same of the listing of a snapshot.
+pub(crate) fn listing_held(outcome: Result<(), HeldFault>) -> Result<(), Fault>
+    ensures { result ≡ told_as Fault.Held outcome }
+{
+    match outcome {
+        Ok(()) => Ok(()),
+        Err(fault) => Err(Fault::Held(fault)),
+    }
+}
+
+/// The same of the writing out of a buffer.
+pub(crate) fn writing(outcome: Result<(), ProgramFault>) -> Result<(), Fault>
+    ensures { result ≡ told_as Fault.Program outcome }
+{
+    match outcome {
+        Ok(()) => Ok(()),
+        Err(fault) => Err(Fault::Program(fault)),
+    }
 }
