@@ -1,4 +1,5 @@
 -- How the program ends.
+use Rattle.std.specs.Prelude.{Result, Ok, Err}
 use Rattle.rh_cli.specs.Endings.{ending_by_program as ending_by_program}
 use Rattle.rh_endings.specs.Endings.{ending_by_snapshot}
 use Rattle.rh_cli.specs.declared.status.Status.{Status}
@@ -37,3 +38,8 @@ ending_by (fault.Check (check.Snap fault)) = ending_by_snapshot fault
 ending_by (fault.Check check.Write) = Write
 ending_by (fault.Script fault) = ending_by_line fault.kind
 ending_by (fault.Run fault) = ending_by_cause fault.cause
+
+-- how the program ends that came to this
+abbrev pub ending : Result Status Fault → Status
+ending (Ok status) = status
+ending (Err fault) = ending_by fault

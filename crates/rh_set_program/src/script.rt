@@ -1,18 +1,28 @@
 //! The command `run`: a script over the files of the current folder.
 
-ghost use Rattle.std.specs.Prelude.{◌≡◌, ◌⊎◌, IfErr, IfOk, IfSome, take};
+ghost use Rattle.std.specs.Prelude.{◌≡◌, ◌⊎◌, [], IfErr, IfOk, IfSome, Ok, OnOk, Some, take};
+ghost use Rattle.std.specs.Io.Buffered.{writer_buffer, writer_contents};
+ghost use Rattle.rh_cli.specs.Endings.{Ends, EndsBy};
+ghost use Rattle.rh_operations.specs.Leaves.{KeepsRunner};
+ghost use Rattle.rh_script.specs.Grammar.{script_of};
+ghost use Rattle.rh_script.specs.Script.{steps_of};
+ghost use Rattle.rh_script_run.specs.Ends.{Ends as Means};
+ghost use Rattle.rh_script_run.specs.Environment.{environment};
+ghost use Rattle.rh_script_run.specs.declared.report.Report.{Report as OfRun};
+ghost use Rattle.rh_shelf.specs.Shelf.{Files as OfShelf};
+ghost use Rattle.rh_set_program.specs.Scripts.{EndsScript, TellsScript, cause_told};
 ghost use Rattle.rh_set_program.specs.declared.script.TheConstants.{MAX_BYTES};
 
-use crate::status::Fault;
+use crate::status::{Fault, running, writing};
 use rh_bytes::{Counted, fill};
-use rh_cli::{ProgramFault, Status, buffered_writer, open, write_out};
+use rh_cli::{ProgramFault, Status, buffered_writer, ended, open, write_out};
 use rh_runner::Runner;
-use rh_script::{MAX_LINE_BYTES, MAX_LINES, parse};
+use rh_script::{MAX_LINE_BYTES, MAX_LINES, Script, parse};
 use rh_script_run::run;
-use rh_shelf::{CountedShelf, FileShelf};
+use rh_shelf::{CountedShelf, FileShelf, Lender};
 use std::alloc::Global;
 use std::fs::Files;
-use std::io::{self, Read};
+use std::io::{self, BufWriter, Read, Write};
 use std::sync::Wait;
 use std::thread::Threads;
 
@@ -29,24 +39,64 @@ pub fn run_by<N: Runner>(
     runner: &mut N,
     path: &str,
 ) -> Result<Status, Fault>
-    ensures { IfOk result (λ status. status ≡ Status.Done) }
+    ensures ends { EndsScript result }
+    ensures runner { KeepsRunner (N.refused_starts runner.old) (N.refused_starts runner.new)
+        (cause_told result) }
 {
-    let text = script_text(rt, path)?;
-    let script = parse(rt.alloc(), &text)?;
-    let output = buffered_writer(rt.alloc(), io::writer(rt))?;
-    let mut writer = Counted::new(output);
+    let alloc = rt.alloc();
+    let file = match open(rt, path) {
+        Ok(file) => file,
+        Err(fault) => return Err(Fault::Program(fault)),
+    };
+    let script = read_script(alloc, file)?;
+    let Ok(writer) = buffered_writer(alloc, io::writer(rt)) else {
+        return Err(Fault::Program(ProgramFault::Memory));
+    };
     let mut shelf = CountedShelf::new(FileShelf::new(rt));
-    let told = run(rt, rt.alloc(), &script, &mut shelf, runner, &mut writer);
-    // What the commands before a fault told is written too.
-    let written = write_out(&mut writer.into_inner());
-    told?;
-    written?;
-    Ok(Status::Done)
+    let (ended, _writer) = run_out(rt, alloc, &script, &mut shelf, runner, writer);
+    ended
 }
 
-fn script_text(rt: &(impl Files + AllocGlobal), path: &str) -> Result<Vec<u8>, Fault> {
-    let reader = open(rt, path)?;
-    front_of(rt.alloc(), reader)
+/// Carries out the script, whose report goes through this buffer, and writes out what that still holds:
+/// what the commands before a fault told is written too.
+fn run_out<T: Threads + Wait + Sync, S: Lender, N: Runner, W: Write + Drop>(
+    rt: &T,
+    alloc: Global,
+    script: &Script,
+    shelf: &mut S,
+    runner: &mut N,
+    writer: BufWriter<W>,
+) -> (Result<Status, Fault>, BufWriter<W>)
+    ensures ends { (files : OfShelf) → (S.state shelf.old).files ≡ Some files →
+        Ends {X = OfRun} (λ f told. told ≡ Fault.Run f) Fault.Program
+        (λ out r. Means files (steps_of script.now)
+        (environment (S.state shelf.old) (N.refused_starts runner.old)
+        (writer_contents W.contents writer))
+        (environment (S.state shelf.new) (N.refused_starts runner.new) out) r)
+        (writer_contents W.contents result.1) result.0 }
+    ensures cases { EndsBy (λ f told. told ≡ Fault.Run f) Fault.Program result.0 }
+    ensures runner { KeepsRunner (N.refused_starts runner.old) (N.refused_starts runner.new)
+        (cause_told result.0) }
+    ensures empty { OnOk result.0 (writer_buffer result.1 ≡ []) }
+{
+    let mut writer = Counted::new(writer);
+    let outcome = run(rt, alloc, script, shelf, runner, &mut writer);
+    let mut writer = writer.into_inner();
+    let written = write_out(&mut writer);
+    (ended(running(outcome), writing(written)), writer)
+}
+
+/// The script that the reader has.
+fn read_script<R: Read + Drop>(alloc: Global, reader: R) -> Result<Script, Fault>
+    ensures read { IfOk result (λ script. IfSome (R.remaining reader)
+        (λ bytes. script_of (take MAX_BYTES bytes) ≡ Ok (steps_of script))) }
+    ensures fault { IfErr result (TellsScript (R.remaining reader)) }
+{
+    let text = front_of(alloc, reader)?;
+    match parse(alloc, &text) {
+        Ok(script) => Ok(script),
+        Err(fault) => Err(Fault::Script(fault)),
+    }
 }
 
 // The bytes that a reader has, or the first `MAX_BYTES` of them. Any failure of the reader ends it, an

@@ -1,13 +1,14 @@
 //! How the program ends.
 
 ghost use Rattle.std.specs.Prelude.{◌≡◌};
-ghost use Rattle.rh_set_program.specs.Endings.{ending_by};
+ghost use Rattle.rh_cli.specs.Endings.{told_as};
+ghost use Rattle.rh_set_program.specs.Endings.{ending, ending_by};
 
 use rh_cli::{ProgramFault, Status};
 use rh_commands::{CheckFault, DumpFault};
 use rh_endings::status_of_snapshot;
 use rh_script::{ScriptFault, ScriptFaultKind};
-use rh_script_run::{Cause, RunFault};
+use rh_script_run::{Cause, Report, RunFault};
 use thiserror::Error;
 
 /// Why a run ends early, in the words that the user is told.
@@ -60,4 +61,54 @@ pub fn tell(rt: &impl Eprint, fault: &Fault) -> Status
 {
     let _ = eprintln!(rt; "rhset: {fault}");
     fault.status()
+}
+
+/// How the program ends that came to this. A fault is told.
+pub fn conclude(rt: &impl Eprint, outcome: &Result<Status, Fault>) -> Status
+    ensures { result ≡ ending outcome.now }
+{
+    match outcome {
+        Ok(status) => *status,
+        Err(fault) => tell(rt, fault),
+    }
+}
+
+/// What came of a dump, told as by the program.
+pub(crate) fn dumping(outcome: Result<(), DumpFault>) -> Result<(), Fault>
+    ensures { result ≡ told_as Fault.Dump outcome }
+{
+    match outcome {
+        Ok(()) => Ok(()),
+        Err(fault) => Err(Fault::Dump(fault)),
+    }
+}
+
+/// The same of a check.
+pub(crate) fn checking(outcome: Result<(), CheckFault>) -> Result<(), Fault>
+    ensures { result ≡ told_as Fault.Check outcome }
+{
+    match outcome {
+        Ok(()) => Ok(()),
+        Err(fault) => Err(Fault::Check(fault)),
+    }
+}
+
+/// The same of a run.
+pub(crate) fn running(outcome: Result<Report, RunFault>) -> Result<(), Fault>
+    ensures { result ≡ told_as Fault.Run outcome }
+{
+    match outcome {
+        Ok(_) => Ok(()),
+        Err(fault) => Err(Fault::Run(fault)),
+    }
+}
+
+/// The same of the writing out of a buffer.
+pub(crate) fn writing(outcome: Result<(), ProgramFault>) -> Result<(), Fault>
+    ensures { result ≡ told_as Fault.Program outcome }
+{
+    match outcome {
+        Ok(()) => Ok(()),
+        Err(fault) => Err(Fault::Program(fault)),
+    }
 }
