@@ -106,6 +106,10 @@ abbrev pub fault_of_split : Source → (parts : ℕ) → (size : Option ℕ) →
 fault_of_split source parts size (files.Split (split.TooMany part)) = fault_of_full source part parts size
 fault_of_split source parts size f = fault.Split f
 
+-- what may be told of a split into so many parts
+abbrev pub TellsSplit : Source → (parts : ℕ) → Fault → Type 0
+TellsSplit source parts told = (f : FilesFault) × (size : Option ℕ) × (told ≡ fault_of_split source parts size f)
+
 -- what is told of a plan that was not written
 abbrev pub TellsPlan : WriteFault → Fault → Type 0
 TellsPlan f told = told ≡ fault.Program program.Write

@@ -1,14 +1,15 @@
 //! The command `split`, between real files and streams.
 
-ghost use Rattle.std.specs.Prelude.{◌≡◌, ◌≤◌, ◌<◌, ⊤, ℕ, [], IfErr, IfOk, IfSome, Ok, OnOk, Option, length, true};
+ghost use Rattle.std.specs.Prelude.{◌≡◌, ◌≤◌, ◌<◌, ⊤, [], IfErr, IfOk, IfSome, Ok, OnOk};
+ghost use Rattle.std.specs.Prelude.{length, true};
 ghost use Rattle.std.specs.Io.Buffered.{writer_buffer, writer_contents};
 ghost use Rattle.rh_bytes.specs.Counting.{Writes};
 ghost use Rattle.rh_cli.specs.Endings.{Ends, EndsBy, told_as};
 ghost use Rattle.rh_parts.specs.declared.part.TheConstants.{MAX_PARTS};
 ghost use Rattle.rh_splitting.specs.Name.{is_name};
 ghost use Rattle.rh_splitting.specs.Plan.{plan_text};
-ghost use Rattle.rh_splitting.specs.declared.fault.FilesFault.{FilesFault as OfFiles};
-ghost use Rattle.rh_keys_program.specs.Told.{TellsNoSize, TellsPlan, fault_of_split, parts_of};
+ghost use Rattle.rh_keys_program.specs.Told.{TellsNoSize, TellsPlan, TellsSplit};
+ghost use Rattle.rh_keys_program.specs.Told.{fault_of_split, parts_of};
 
 use crate::lists::size_of;
 use crate::status::{Fault, writing};
@@ -70,7 +71,7 @@ pub fn split_streams(
     requires few { parts ≤ MAX_PARTS }
     requires name { is_name name.now ≡ true }
     ensures done { IfOk result (λ status. status ≡ Status.Done) }
-    ensures fault { IfErr result (λ told. (f : OfFiles) × (size : Option ℕ) × (told ≡ fault_of_split source parts size f)) }
+    ensures fault { IfErr result (TellsSplit source parts) }
 {
     let mut reader = Counted::new(rt.reader());
     let mut files = PartFiles::new(rt.alloc(), rt);
@@ -83,8 +84,8 @@ pub fn split_streams(
     }
 }
 
-/// What is told of a split into so many parts, of an input of this size. Where a part is too full and the
-/// size asks for more parts, it says how many: only the repeats of a key all go to one part.
+/// What is told of a split into so many parts, of an input of this size. Where a part is too full and
+/// the size asks for more parts, it says how many: only the repeats of a key all go to one part.
 fn fault_of_split(source: Source, parts: u64, size: Option<u64>, fault: FilesFault) -> Fault
     ensures { result ≡ fault_of_split source parts size fault }
 {
@@ -125,7 +126,8 @@ pub fn plan_streams<W: Write>(
     ended
 }
 
-/// Writes through this buffer how many keys each part was given, and writes out what that still holds.
+/// Writes through this buffer how many keys each part was given, and writes out what that still
+/// holds.
 fn tell_plan<P, W: Write + Drop>(
     parts: &[Part<P>],
     writer: BufWriter<W>,

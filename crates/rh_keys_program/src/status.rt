@@ -2,7 +2,8 @@
 
 ghost use Rattle.std.specs.Prelude.{◌≡◌};
 ghost use Rattle.rh_cli.specs.Endings.{told_as};
-ghost use Rattle.rh_keys_program.specs.Endings.{ending, ending_by, ending_by_combined, ending_by_file, ending_by_split};
+ghost use Rattle.rh_keys_program.specs.Endings.{ending, ending_by, ending_by_combined};
+ghost use Rattle.rh_keys_program.specs.Endings.{ending_by_file, ending_by_split};
 
 use rh_cli::{ProgramFault, Status};
 use rh_endings::{status_of_keys, status_of_snapshot};
@@ -147,8 +148,8 @@ pub fn tell(rt: &impl Eprint, fault: &Fault) -> Status
     fault.status()
 }
 
-/// How the program ends that came to this. A fault is told, but where the reader of the output has gone
-/// away: so the usual tools do, which the signal of a closed pipe ends.
+/// How the program ends that came to this. A fault is told, but where the reader of the output has
+/// gone away: so the usual tools do, which the signal of a closed pipe ends.
 pub fn conclude(rt: &impl Eprint, outcome: &Result<Status, Fault>, reader_gone: bool) -> Status
     ensures { result ≡ ending outcome.now reader_gone }
 {

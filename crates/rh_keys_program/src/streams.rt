@@ -61,7 +61,8 @@ pub fn list_input<W: Write>(
     form: Form,
 ) -> Result<Status, Fault>
     ensures keys { form ≡ Form.Keys → EndsBy (λ f told. told ≡ Fault.List f) Fault.Program result }
-    ensures held { form ≡ Form.Snapshot → EndsBy (λ f told. told ≡ Fault.Held f) Fault.Program result }
+    ensures held { form ≡ Form.Snapshot →
+        EndsBy (λ f told. told ≡ Fault.Held f) Fault.Program result }
 {
     let alloc = rt.alloc();
     let (Ok(reader), Ok(writer)) = (
@@ -78,7 +79,8 @@ pub fn list_input<W: Write>(
     ended
 }
 
-/// Lists the key file that the reader has, through this buffer, and writes out what that still holds.
+/// Lists the key file that the reader has, through this buffer, and writes out what that still
+/// holds.
 fn list_out<R: Read, W: Write + Drop>(
     alloc: Global,
     reader: &mut Counted<R>,
@@ -133,8 +135,8 @@ pub fn list_paths<W: Write>(
     ended
 }
 
-/// Lists the files at these paths, through this buffer, and writes out what that still holds: what was
-/// listed of the files before one that is refused is written all the same.
+/// Lists the files at these paths, through this buffer, and writes out what that still holds: what
+/// was listed of the files before one that is refused is written all the same.
 fn list_files_out<S: Lender, W: Write + Drop>(
     alloc: Global,
     shelf: &mut S,

@@ -57,8 +57,8 @@ pub fn run_by<N: Runner>(
     ended
 }
 
-/// Carries out the script, whose report goes through this buffer, and writes out what that still holds:
-/// what the commands before a fault told is written too.
+/// Carries out the script, whose report goes through this buffer, and writes out what that still
+/// holds: what the commands before a fault told is written too.
 fn run_out<T: Threads + Wait + Sync, S: Lender, N: Runner, W: Write + Drop>(
     rt: &T,
     alloc: Global,
