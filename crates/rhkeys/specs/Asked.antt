@@ -1,5 +1,11 @@
--- What the words of a command on lists ask for.
-use Rattle.std.specs.Prelude.{Bool, true, false, Option, Some, None}
+-- What the words of a command on lists ask for, and how it ends.
+use Rattle.std.specs.Prelude.{◌≡◌, ℕ, Bool, true, false, List, Option, Some, None, Result, Ok, Err}
+use Rattle.rh_cli.specs.declared.status.Status.{Status}
+use Rattle.rh_cli.specs.declared.status.Status.TheVariants.{Done}
+use Rattle.rh_list_files.specs.declared.fault.CommandFault.{CommandFault}
+use Rattle.rh_keys_program.specs.Told.{TellsCommand}
+use Rattle.rh_keys_program.specs.declared.status.Fault.{Fault}
+use Rattle.rh_keys_program.specs.declared.status.Fault.TheVariants as fault
 use Rattle.rh_combine.specs.declared.how.How.{How}
 use Rattle.rh_combine.specs.declared.how.How.TheVariants as made
 use Rattle.rh_key_commands.specs.declared.line.asked.Combination.{Combination}
@@ -20,3 +26,10 @@ output_asked true true = None
 output_asked true false = Some output.Count
 output_asked false true = Some output.Packed
 output_asked false false = Some output.Lines
+
+-- how a command on lists may end: done, refused before a list is read, or by what is told of it
+abbrev pub EndsLists : (paths : List (List ℕ)) → Result Status Fault → Type 0
+EndsLists paths (Ok status) = status ≡ Done
+EndsLists paths (Err fault.TwoOutputs) = Unit {0}
+EndsLists paths (Err fault.InputTwice) = Unit {0}
+EndsLists paths (Err told) = (f : CommandFault) × TellsCommand paths f told

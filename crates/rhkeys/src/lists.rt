@@ -1,7 +1,9 @@
 //! The commands that make one list of several, between real files and streams.
 
-ghost use Rattle.std.specs.Prelude.{◌≡◌};
-ghost use Rattle.rhkeys.specs.Asked.{how_asked, output_asked};
+ghost use Rattle.std.specs.Prelude.{◌≡◌, ◌≢◌, ◌<◌, Err, None, map, string_bytes};
+ghost use Rattle.std.specs.List.{count_by};
+ghost use Rattle.rh_list_files.specs.Lists.{is_input};
+ghost use Rattle.rhkeys.specs.Asked.{EndsLists, how_asked, output_asked};
 
 use rh_bytes::Counted;
 use rh_cli::Status;
@@ -31,7 +33,12 @@ pub fn combine<W: Write + Drop>(
     rt: &(impl Clock + Files + Input + Eprint + Threads + Sync + AllocGlobal),
     writer: W,
     asked: Asked,
-) -> Result<Status, Fault> {
+) -> Result<Status, Fault>
+    ensures outputs { output_asked asked.count asked.packed ≡ None → result ≡ Err Fault.TwoOutputs }
+    ensures input { output_asked asked.count asked.packed ≢ None →
+        1 < count_by is_input (map string_bytes asked.files.items) → result ≡ Err Fault.InputTwice }
+    ensures ends { EndsLists (map string_bytes asked.files.items) result }
+{
     let Some(output) = output_of(asked.count, asked.packed) else {
         return Err(Fault::TwoOutputs);
     };

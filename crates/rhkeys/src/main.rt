@@ -10,7 +10,7 @@ use rh_cli::{Outlet, ProgramFault, Status, answer, hold_closed, words};
 use rh_key_commands::line::{Line, line};
 use rh_key_texts::Form;
 use rh_keys_program::{
-    Fault, list_input, list_paths, pack_streams, parts_asked, plan_streams, split_streams, tell,
+    Fault, conclude, list_input, list_paths, pack_streams, parts_asked, plan_streams, split_streams,
 };
 use rh_splitting::{Source, is_name};
 use std::env::Env;
@@ -24,13 +24,8 @@ fn main(rt: HostRuntime) -> ExitCode {
     let _held = hold_closed(&rt);
     let mut outlet = Outlet::new(io::writer(&rt));
     let on_terminal = rt.stderr().is_terminal();
-    let status = match carry_out(&rt, &mut outlet, on_terminal) {
-        Ok(status) => status,
-        // As the usual tools do, which the signal of a closed pipe ends.
-        Err(_) if outlet.is_gone() => Status::ReaderGone,
-        Err(fault) => tell(&rt, &fault),
-    };
-    ExitCode::from(status)
+    let outcome = carry_out(&rt, &mut outlet, on_terminal);
+    ExitCode::from(conclude(&rt, &outcome, outlet.is_gone()))
 }
 
 fn carry_out<W: Write>(
