@@ -1,13 +1,14 @@
 //! The program `rhset`: a set of whole numbers in one Robin Hood hash table, and commands on it.
 #![tactic(auto)]
 
+ghost use Rattle.rh_set_program.specs.Scripts.{EndsScript};
 ghost use Rattle.rh_threads.specs.Made.{IsWorkers};
 
 use rh_arguments::LineFault;
 use rh_cli::{ProgramFault, Status, answer, hold_closed, words};
 use rh_commands::line::{Line, line};
 use rh_runner::Single;
-use rh_set_program::{Fault, check_file, dump_streams, run_by, tell};
+use rh_set_program::{Fault, check_file, conclude, dump_streams, run_by};
 use rh_threads::Threads;
 use std::env::Env;
 use std::fs::Files;
@@ -17,11 +18,7 @@ use std::thread;
 
 fn main(rt: HostRuntime) -> ExitCode {
     let _held = hold_closed(&rt);
-    let status = match carry_out(&rt) {
-        Ok(status) => status,
-        Err(fault) => tell(&rt, &fault),
-    };
-    ExitCode::from(status)
+    ExitCode::from(conclude(&rt, &carry_out(&rt)))
 }
 
 fn carry_out(
@@ -44,6 +41,7 @@ fn run_script(
     path: &str,
 ) -> Result<Status, Fault>
     requires { IsWorkers workers }
+    ensures { EndsScript result }
 {
     match workers {
         1 => run_by(rt, &mut Single, path),
