@@ -1,4 +1,5 @@
 -- How the program ends.
+use Rattle.std.specs.Prelude.{ℕ, Option, Some, None, Result, Ok, Err, if◌then◌else◌, nat_lt}
 use Rattle.rh_cli.specs.Endings.{ending_by_program as ending_by_program}
 use Rattle.rh_cli.specs.declared.status.Status.{Status}
 use Rattle.rh_cli.specs.declared.status.Status.TheVariants.{Refused, Memory, Write}
@@ -36,3 +37,12 @@ ending_by (fault.Program fault) = ending_by_program fault
 ending_by (fault.Play fault) = ending_by_play fault
 ending_by (fault.Draw (draw.Play fault)) = ending_by_play fault
 ending_by (fault.Draw draw.TooMany) = Refused
+
+-- how the program ends that came to this
+abbrev pub ending : Result Status Fault → Status
+ending (Ok status) = status
+ending (Err fault) = ending_by fault
+
+-- how many steps are drawn, where 0 stands for all
+abbrev pub steps_asked : ℕ → Option ℕ
+steps_asked steps = if nat_lt 0 steps then Some steps else None

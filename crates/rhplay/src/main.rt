@@ -1,29 +1,26 @@
 //! The program `rhplay`: several workers change one table of rhset step by step, as a text says.
 #![tactic(auto)]
 
-ghost use Rattle.std.specs.Prelude.{◌≡◌, ◌≤◌};
-ghost use Rattle.rh_draw.specs.declared.limits.TheConstants.{MAX_STEPS};
-ghost use Rattle.rhplay.specs.Endings.{ending_by};
+ghost use Rattle.std.specs.Prelude.{◌≡◌};
+ghost use Rattle.rhplay.specs.Endings.{ending, ending_by};
 
 mod status;
+mod streams;
 
 use rh_arguments::LineFault;
-use rh_cli::{ProgramFault, Status, answer, between, hold_closed, open, words};
+use rh_cli::{ProgramFault, Status, answer, hold_closed, words};
 use rh_play_commands::{Line, NAME, line, name_called};
-use rh_play_run::{Telling, draw_play, tell_play};
+use rh_play_run::Telling;
 use status::Fault;
 use std::env::Env;
 use std::fs::Files;
-use std::io;
 use std::process::ExitCode;
+use streams::{draw_file, play_file};
 
 fn main(rt: HostRuntime) -> ExitCode {
     let _held = hold_closed(&rt);
     let status = match words(&rt) {
-        Ok(words) => match carry_out(&rt, &words) {
-            Ok(status) => status,
-            Err(fault) => tell(&rt, name_called(&words), &fault),
-        },
+        Ok(words) => conclude(&rt, name_called(&words), &carry_out(&rt, &words)),
         Err(fault) => tell(&rt, NAME, &Fault::Program(fault)),
     };
     ExitCode::from(status)
@@ -42,38 +39,20 @@ fn carry_out(
     }
 }
 
-// Runs the play at the path, and writes so much of it to standard output.
-fn play_file(
-    rt: &(impl Files + Print + AllocGlobal),
-    telling: Telling,
-    path: &str,
-) -> Result<Status, Fault> {
-    let alloc = rt.alloc();
-    between(alloc, open(rt, path)?, io::writer(rt), |streams| {
-        Ok(tell_play(alloc, telling, &mut streams.reader, &mut streams.writer)?)
-    })
-}
-
-// Draws the play at the path: so many steps from this number on, where 0 stands for all.
-fn draw_file(
-    rt: &(impl Files + Print + AllocGlobal),
-    from: u64,
-    steps: u64,
-    path: &str,
-) -> Result<Status, Fault>
-    requires { steps ≤ MAX_STEPS }
-{
-    let alloc = rt.alloc();
-    let steps = if steps == 0 { None } else { Some(steps) };
-    between(alloc, open(rt, path)?, io::writer(rt), |streams| {
-        Ok(draw_play(alloc, from, steps, &mut streams.reader, &mut streams.writer)?)
-    })
-}
-
 // Tells the user, under the name by which the program was called, as far as standard error takes it.
 fn tell(rt: &impl Eprint, name: &str, fault: &Fault) -> Status
     ensures { result ≡ ending_by fault.now }
 {
     let _ = eprintln!(rt; "{name}: {fault}");
     fault.status()
+}
+
+// How the program ends that came to this. A fault is told.
+fn conclude(rt: &impl Eprint, name: &str, outcome: &Result<Status, Fault>) -> Status
+    ensures { result ≡ ending outcome.now }
+{
+    match outcome {
+        Ok(status) => *status,
+        Err(fault) => tell(rt, name, fault),
+    }
 }

@@ -1,6 +1,7 @@
 //! How the program ends.
 
 ghost use Rattle.std.specs.Prelude.{◌≡◌};
+ghost use Rattle.rh_cli.specs.Endings.{told_as};
 ghost use Rattle.rhplay.specs.Endings.{ending_by, ending_by_play};
 
 use rh_cli::{ProgramFault, Status};
@@ -44,5 +45,35 @@ fn status_of_play(fault: &PlayRunFault) -> Status
             _ => Status::Refused,
         },
         PlayRunFault::Write => Status::Write,
+    }
+}
+
+/// What came of a play, told as by the program.
+pub fn playing(outcome: Result<(), PlayRunFault>) -> Result<(), Fault>
+    ensures { result ≡ told_as Fault.Play outcome }
+{
+    match outcome {
+        Ok(()) => Ok(()),
+        Err(fault) => Err(Fault::Play(fault)),
+    }
+}
+
+/// The same of a drawing.
+pub fn drawing(outcome: Result<(), DrawFault>) -> Result<(), Fault>
+    ensures { result ≡ told_as Fault.Draw outcome }
+{
+    match outcome {
+        Ok(()) => Ok(()),
+        Err(fault) => Err(Fault::Draw(fault)),
+    }
+}
+
+/// The same of the writing out of a buffer.
+pub fn writing(outcome: Result<(), ProgramFault>) -> Result<(), Fault>
+    ensures { result ≡ told_as Fault.Program outcome }
+{
+    match outcome {
+        Ok(()) => Ok(()),
+        Err(fault) => Err(Fault::Program(fault)),
     }
 }

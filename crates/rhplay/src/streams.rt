@@ -1,0 +1,123 @@
+//! The commands on plays, between real files and streams.
+
+ghost use Rattle.std.specs.Prelude.{◌≡◌, ◌⊎◌, ⊤, ◌≤◌, [], Err, IfErr, IfSome, OnOk};
+ghost use Rattle.std.specs.Io.Buffered.{writer_buffer, writer_contents};
+ghost use Rattle.rh_bytes.specs.Counting.{inner_of};
+ghost use Rattle.rh_cli.specs.Endings.{Ends, EndsBy};
+ghost use Rattle.rh_draw.specs.declared.limits.TheConstants.{MAX_STEPS};
+ghost use Rattle.rh_play_run.specs.Drawing.{Draws};
+ghost use Rattle.rh_play_run.specs.Run.{RunsPlay};
+ghost use Rattle.rhplay.specs.Endings.{steps_asked};
+
+use crate::status::{Fault, drawing, playing, writing};
+use rh_bytes::Counted;
+use rh_cli::{ProgramFault, Status, buffered_reader, buffered_writer, ended, open, write_out};
+use rh_play_run::{Telling, draw_play, tell_play};
+use std::alloc::Global;
+use std::fs::Files;
+use std::io::{self, BufReader, BufWriter, Read, Write};
+
+/// Runs the play at the path, and writes so much of it to standard output.
+pub fn play_file(
+    rt: &(impl Files + Print + AllocGlobal),
+    telling: Telling,
+    path: &str,
+) -> Result<Status, Fault>
+    ensures { (result ≡ Err (Fault.Program ProgramFault.Open))
+        ⊎ EndsBy (λ f told. told ≡ Fault.Play f) Fault.Program result }
+{
+    let alloc = rt.alloc();
+    let reader = buffered_file(rt, path)?;
+    let Ok(writer) = buffered_writer(alloc, io::writer(rt)) else {
+        return Err(Fault::Program(ProgramFault::Memory));
+    };
+    let (ended, _writer) = play_out(alloc, telling, &mut Counted::new(reader), writer);
+    ended
+}
+
+/// Runs the play that the reader has, whose text goes through this buffer, and writes out what that
+/// still holds.
+fn play_out<R: Read, W: Write + Drop>(
+    alloc: Global,
+    telling: Telling,
+    reader: &mut Counted<R>,
+    writer: BufWriter<W>,
+) -> (Result<Status, Fault>, BufWriter<W>)
+    ensures ends { Ends {X = ⊤} (λ f told. told ≡ Fault.Play f) Fault.Program
+        (λ out r. RunsPlay telling (R.remaining (inner_of reader.old))
+        (writer_contents W.contents writer) out r)
+        (writer_contents W.contents result.1) result.0 }
+    ensures empty { OnOk result.0 (writer_buffer result.1 ≡ []) }
+{
+    let mut writer = Counted::new(writer);
+    let told = tell_play(alloc, telling, reader, &mut writer);
+    let mut writer = writer.into_inner();
+    let written = write_out(&mut writer);
+    (ended(playing(told), writing(written)), writer)
+}
+
+/// Draws the play at the path: so many steps from this number on, where 0 stands for all.
+pub fn draw_file(
+    rt: &(impl Files + Print + AllocGlobal),
+    from: u64,
+    steps: u64,
+    path: &str,
+) -> Result<Status, Fault>
+    requires { steps ≤ MAX_STEPS }
+    ensures { (result ≡ Err (Fault.Program ProgramFault.Open))
+        ⊎ EndsBy (λ f told. told ≡ Fault.Draw f) Fault.Program result }
+{
+    let alloc = rt.alloc();
+    let reader = buffered_file(rt, path)?;
+    let Ok(writer) = buffered_writer(alloc, io::writer(rt)) else {
+        return Err(Fault::Program(ProgramFault::Memory));
+    };
+    let steps = steps_asked(steps);
+    let (ended, _writer) = draw_out(alloc, from, steps, &mut Counted::new(reader), writer);
+    ended
+}
+
+/// Draws the play that the reader has, whose picture goes through this buffer, and writes out what
+/// that still holds.
+fn draw_out<R: Read, W: Write + Drop>(
+    alloc: Global,
+    from: u64,
+    steps: Option<u64>,
+    reader: &mut Counted<R>,
+    writer: BufWriter<W>,
+) -> (Result<Status, Fault>, BufWriter<W>)
+    requires { IfSome steps (λ n. n ≤ MAX_STEPS) }
+    ensures ends { Ends {X = ⊤} (λ f told. told ≡ Fault.Draw f) Fault.Program
+        (λ out r. Draws from steps (R.remaining (inner_of reader.old))
+        (writer_contents W.contents writer) out r)
+        (writer_contents W.contents result.1) result.0 }
+    ensures empty { OnOk result.0 (writer_buffer result.1 ≡ []) }
+{
+    let mut writer = Counted::new(writer);
+    let drawn = draw_play(alloc, from, steps, reader, &mut writer);
+    let mut writer = writer.into_inner();
+    let written = write_out(&mut writer);
+    (ended(drawing(drawn), writing(written)), writer)
+}
+
+/// The number of steps that is asked for, if it is.
+fn steps_asked(steps: u64) -> Option<u64>
+    ensures { result ≡ steps_asked steps }
+{
+    if steps > 0 { Some(steps) } else { None }
+}
+
+/// The file at the path, behind a buffer.
+fn buffered_file<F: Files + AllocGlobal>(rt: &F, path: &str) -> Result<BufReader<F::File>, Fault>
+    ensures { IfErr result (λ told. (told ≡ Fault.Program ProgramFault.Open)
+        ⊎ (told ≡ Fault.Program ProgramFault.Memory)) }
+{
+    let file = match open(rt, path) {
+        Ok(file) => file,
+        Err(fault) => return Err(Fault::Program(fault)),
+    };
+    match buffered_reader(rt.alloc(), file) {
+        Ok(reader) => Ok(reader),
+        Err(fault) => Err(Fault::Program(fault)),
+    }
+}
