@@ -9,12 +9,12 @@ use std::os::fd::AsRawFd;
 /// The number of the last standard stream, which is standard error.
 const LAST_STREAM: i32 = 2;
 
-/// Opens a folder in the place of each standard stream that is closed, which stands there for as long as
-/// the answer is held.
+/// Opens a folder in the place of each standard stream that is closed, which stands there for as
+/// long as the answer is held.
 ///
-/// A new file takes the least number that is free. So a file of the program would else stand where the
-/// closed stream did, and be read or written as that. A folder can be neither: what needs the stream is
-/// told that the read or the write failed, as it is of a stream that is closed.
+/// A new file takes the least number that is free. So a file of the program would else stand where
+/// the closed stream did, and be read or written as that. A folder can be neither: what needs the
+/// stream is told that the read or the write failed, as it is of a stream that is closed.
 pub fn hold_closed<F: Files>(files: &F) -> [Option<F::File>; 3]
 where
     F::File: AsRawFd,

@@ -4,9 +4,9 @@
 //!
 //! Proved:
 //!
-//! - `ProgramFault::status`, `answer`: the exit status of the faults that any command may meet, and of
-//!   what `clap` answers, by the table `specs/Endings.antt`. A failed write is told only of a text that
-//!   was asked for.
+//! - `ProgramFault::status`, `answer`: the exit status of the faults that any command may meet, and
+//!   of what `clap` answers, by the table `specs/Endings.antt`. A failed write is told only of a
+//!   text that was asked for.
 //! - `ended`: a fault of the work of a command comes first, then a failed write; else it is done.
 //! - `words`: its fault is a word that is no text, or want of memory, and never a failed write.
 //! - `hold_closed`: what is held has the number of a standard stream.
@@ -17,10 +17,10 @@
 //! - `write_out`: the buffer is empty, and of a writer that tells its bytes all is written; or a
 //!   write failed, and none is lost or comes twice.
 //! - `Streams::new`: streams of which nothing is read or written yet, or want of memory.
-//! - `between`: a command that ended well did its work between such streams, the work ended well, and
-//!   of a writer that tells its bytes all that it wrote then stood in the writer itself. A command is
-//!   refused by want of memory, by what the work came to, or by a failed write after a work that
-//!   ended well. That memory was wanted is not said.
+//! - `between`: a command that ended well did its work between such streams, the work ended well,
+//!   and of a writer that tells its bytes all that it wrote then stood in the writer itself. A
+//!   command is refused by want of memory, by what the work came to, or by a failed write after a
+//!   work that ended well. That memory was wanted is not said.
 #![tactic(auto)]
 
 mod closed;

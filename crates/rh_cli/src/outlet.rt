@@ -9,8 +9,8 @@ ghost use Rattle.rh_cli.specs.Outlet.{inside, reader_gone};
 
 use std::io::{self, ErrorKind, Write};
 
-/// A writer, and whether its last failure was that its reader had gone away, as `head` does after its
-/// last line. Programs for pipes end then without a word.
+/// A writer, and whether its last failure was that its reader had gone away, as `head` does after
+/// its last line. Programs for pipes end then without a word.
 #[derive(Drop)]
 pub struct Outlet<W> {
     inner: W,
@@ -37,7 +37,8 @@ impl<W> Outlet<W> {
 
     fn note<T>(&mut self, outcome: &io::Result<T>)
         ensures same { inside self.new ≡ inside self.old }
-        ensures gone { IfErr outcome.now (λ e. IsTrue (reader_gone self.new) ↔ error_kind e ≡ BrokenPipe) }
+        ensures gone { IfErr outcome.now
+            (λ e. IsTrue (reader_gone self.new) ↔ error_kind e ≡ BrokenPipe) }
         ensures fine { OnOk outcome.now (reader_gone self.new ≡ reader_gone self.old) }
     {
         if let Err(error) = outcome {
@@ -53,7 +54,8 @@ impl<W: Write> Write for Outlet<W> {
         ensures bound { WritesAtMost result buf.now }
         ensures bytes { WriteAppends (W.contents (inside self.old)) (W.contents (inside self.new))
             result buf.now }
-        ensures gone { IfErr result (λ e. IsTrue (reader_gone self.new) ↔ error_kind e ≡ BrokenPipe) }
+        ensures gone { IfErr result
+            (λ e. IsTrue (reader_gone self.new) ↔ error_kind e ≡ BrokenPipe) }
         ensures fine { OnOk result (reader_gone self.new ≡ reader_gone self.old) }
     {
         let outcome = self.inner.write(buf);
@@ -63,7 +65,8 @@ impl<W: Write> Write for Outlet<W> {
 
     fn flush(&mut self) -> io::Result<()>
         ensures bytes { Keeps (W.contents (inside self.old)) (W.contents (inside self.new)) }
-        ensures gone { IfErr result (λ e. IsTrue (reader_gone self.new) ↔ error_kind e ≡ BrokenPipe) }
+        ensures gone { IfErr result
+            (λ e. IsTrue (reader_gone self.new) ↔ error_kind e ≡ BrokenPipe) }
         ensures fine { OnOk result (reader_gone self.new ≡ reader_gone self.old) }
     {
         let outcome = self.inner.flush();

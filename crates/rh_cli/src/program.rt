@@ -1,4 +1,5 @@
-//! What a program does whatever its command is: it reads its words, and answers those that are none.
+//! What a program does whatever its command is: it reads its words, and answers those that are
+//! none.
 
 ghost use Rattle.std.specs.Prelude.{◌≡◌, ◌⊎◌, IfOk, IfErr};
 ghost use Rattle.clap.specs.Words.{kind_of};

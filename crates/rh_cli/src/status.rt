@@ -14,7 +14,8 @@ pub enum Status {
     CommandLine = 2,
     Memory = 3,
     Write = 4,
-    /// Nobody reads any more what is written: as a shell tells it of a program that the signal `SIGPIPE` ended.
+    /// Nobody reads any more what is written: as a shell tells it of a program that the signal
+    /// `SIGPIPE` ended.
     ReaderGone = 141,
 }
 

@@ -49,16 +49,20 @@ fn read_part<R: Read>(
 ) -> Result<(), KeyFault>
     requires room { length part.old ≡ 8 * length keys.old }
     requires small { index + length keys.old < 2 ^ 64 }
-    ensures known { ReadsKeys (R.remaining (inner_of reader.old)) (R.remaining (inner_of reader.new))
+    ensures known { ReadsKeys (R.remaining (inner_of reader.old))
+        (R.remaining (inner_of reader.new))
         (keys_at version index (length keys.new)) (always keys.new) result }
     ensures tested { IsErrOf result KeyFault.Read → CutShort (R.remaining (inner_of reader.old))
         (R.remaining (inner_of reader.new)) (keys_at version index (length keys.new)) }
     ensures in_range { OnOk result (All IsKey keys.new) }
-    ensures takes { TakesAtMost (R.remaining (inner_of reader.old)) (R.remaining (inner_of reader.new))
+    ensures takes { TakesAtMost (R.remaining (inner_of reader.old))
+        (R.remaining (inner_of reader.new))
         (8 * length keys.new) }
-    ensures read { IsErrOf result KeyFault.Read → Rose (failures_of reader.old) (failures_of reader.new) }
+    ensures read { IsErrOf result KeyFault.Read →
+        Rose (failures_of reader.old) (failures_of reader.new) }
     ensures no_memory { IsErrOf result KeyFault.Memory → ⊥ }
-    ensures fine { NoReadFailed (fault_of result) → failures_of reader.new ≡ failures_of reader.old }
+    ensures fine { NoReadFailed (fault_of result) →
+        failures_of reader.new ≡ failures_of reader.old }
 {
     let Filled { count, failed } = fill_front(reader, part);
     decode_numbers(part, keys);
@@ -82,16 +86,20 @@ pub(crate) fn read_keys<R: Read>(
     batch: &mut [u64],
 ) -> Result<(), KeyFault>
     requires { index + length batch.old < 2 ^ 64 }
-    ensures known { ReadsKeys (R.remaining (inner_of reader.old)) (R.remaining (inner_of reader.new))
+    ensures known { ReadsKeys (R.remaining (inner_of reader.old))
+        (R.remaining (inner_of reader.new))
         (keys_at version index (length batch.new)) (always batch.new) result }
     ensures tested { IsErrOf result KeyFault.Read → CutShort (R.remaining (inner_of reader.old))
         (R.remaining (inner_of reader.new)) (keys_at version index (length batch.new)) }
     ensures in_range { OnOk result (All IsKey batch.new) }
-    ensures takes { TakesAtMost (R.remaining (inner_of reader.old)) (R.remaining (inner_of reader.new))
+    ensures takes { TakesAtMost (R.remaining (inner_of reader.old))
+        (R.remaining (inner_of reader.new))
         (8 * keys_taken index (length batch.new) (fault_of result)) }
-    ensures read { IsErrOf result KeyFault.Read → Rose (failures_of reader.old) (failures_of reader.new) }
+    ensures read { IsErrOf result KeyFault.Read →
+        Rose (failures_of reader.old) (failures_of reader.new) }
     ensures no_memory { IsErrOf result KeyFault.Memory → ⊥ }
-    ensures fine { NoReadFailed (fault_of result) → failures_of reader.new ≡ failures_of reader.old }
+    ensures fine { NoReadFailed (fault_of result) →
+        failures_of reader.new ≡ failures_of reader.old }
 {
     let mut part = [0u8; PART_BYTES];
     let mut done = 0;
@@ -114,7 +122,8 @@ pub(crate) fn read_batch<R: Read>(
     batch: &mut [u64],
 ) -> Result<usize, KeyFault>
     requires { index + left < 2 ^ 64 }
-    ensures known { ReadsKeys (R.remaining (inner_of reader.old)) (R.remaining (inner_of reader.new))
+    ensures known { ReadsKeys (R.remaining (inner_of reader.old))
+        (R.remaining (inner_of reader.new))
         (batch_at version index left (length batch.new)) (front_of batch.new) result }
     ensures tested { IsErrOf result KeyFault.Read → 0 < left →
         CutShort (R.remaining (inner_of reader.old)) (R.remaining (inner_of reader.new))
@@ -122,11 +131,14 @@ pub(crate) fn read_batch<R: Read>(
     ensures rest { IfOk result (λ n. drop n batch.new ≡ drop n batch.old) }
     ensures many { IfOk result (λ n. n ≡ min (length batch.new) left) }
     ensures in_range { IfOk result (λ n. All IsKey (take n batch.new)) }
-    ensures takes { TakesAtMost (R.remaining (inner_of reader.old)) (R.remaining (inner_of reader.new))
+    ensures takes { TakesAtMost (R.remaining (inner_of reader.old))
+        (R.remaining (inner_of reader.new))
         (batch_bytes index left (length batch.new) (fault_of result)) }
-    ensures read { IsErrOf result KeyFault.Read → Rose (failures_of reader.old) (failures_of reader.new) }
+    ensures read { IsErrOf result KeyFault.Read →
+        Rose (failures_of reader.old) (failures_of reader.new) }
     ensures no_memory { IsErrOf result KeyFault.Memory → ⊥ }
-    ensures fine { NoReadFailed (fault_of result) → failures_of reader.new ≡ failures_of reader.old }
+    ensures fine { NoReadFailed (fault_of result) →
+        failures_of reader.new ≡ failures_of reader.old }
 {
     if left == 0 {
         read_end::<_, KeyFault>(reader)?;

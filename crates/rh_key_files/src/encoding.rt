@@ -27,8 +27,8 @@ pub fn write_keys<W: Write>(keys: &[u64], writer: &mut Counted<W>) -> Result<(),
     put_keys(keys, writer)
 }
 
-/// Writes what stands before the keys of a key file of the second version that has so many: 12 bytes
-/// in two writes.
+/// Writes what stands before the keys of a key file of the second version that has so many: 12
+/// bytes in two writes.
 pub fn write_header<W: Write>(count: u64, writer: &mut Counted<W>) -> Result<(), WriteFault>
     ensures text { Writes (W.contents (inner_of writer.old)) (W.contents (inner_of writer.new))
         (header Second count) result }

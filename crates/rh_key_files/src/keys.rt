@@ -73,7 +73,8 @@ fn read_end<R: Read>(stream: &mut KeyStream<'_, R>) -> Result<(), KeyFault>
 /// The keys of a key file, in its order. The memory for them is taken at once, after the header and
 /// before a key is read, and `Memory` comes only where that growth was refused.
 pub fn read_keys<R: Read>(alloc: Global, reader: &mut Counted<R>) -> Result<Vec<u64>, KeyFault>
-    ensures known { ReadsKeys (R.remaining (inner_of reader.old)) (R.remaining (inner_of reader.new))
+    ensures known { ReadsKeys (R.remaining (inner_of reader.old))
+        (R.remaining (inner_of reader.new))
         file_keys (λ v. v.items) result }
     ensures spelled { IfOk result (λ v. IsReadFrom
         (R.remaining (inner_of reader.old)) (R.remaining (inner_of reader.new)) v.items) }
@@ -86,7 +87,8 @@ pub fn read_keys<R: Read>(alloc: Global, reader: &mut Counted<R>) -> Result<Vec<
         (R.remaining (inner_of reader.old)) (R.remaining (inner_of reader.new)) }
     ensures read { IsErrOf result KeyFault.Read →
         Rose (failures_of reader.old) (failures_of reader.new) }
-    ensures fine { NoReadFailed (fault_of result) → failures_of reader.new ≡ failures_of reader.old }
+    ensures fine { NoReadFailed (fault_of result) →
+        failures_of reader.new ≡ failures_of reader.old }
     ensures memory { IsErrOf result KeyFault.Memory →
         BeginsWithHeader (R.remaining (inner_of reader.old)) }
 {

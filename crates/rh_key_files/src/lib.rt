@@ -1,7 +1,7 @@
 //! Key files.
 //!
-//! `rh_runner`, `rh_operations`, `rh_commands`, `rh_key_texts`, `rh_splitting` and `rh_lists` stand on it. It hands on
-//! what `rh_bytes` has for its callers.
+//! `rh_runner`, `rh_operations`, `rh_commands`, `rh_key_texts`, `rh_splitting` and `rh_lists` stand
+//! on it. It hands on what `rh_bytes` has for its callers.
 //!
 //! ```text
 //! let mut writer = Counted::new(Vec::new(alloc));
@@ -24,12 +24,13 @@
 //! - Of a reader whose bytes are known each takes no more than its answer rests on, and never more
 //!   than 8,000,013 bytes. Another magic takes four bytes, and too many keys the header. A key out
 //!   of range takes its part of 4,096 keys, a file that goes on one byte more.
-//! - `read_long_keys`: a key file of any number of keys is read to its list, in pieces of 65,536 keys,
-//!   or refused by the first fault in it. It takes no more bytes than its answer rests on either: of a
-//!   key out of range its part of 4,096 keys, and where memory is refused no byte behind the keys.
-//!   `read_pieces` does so behind the magic, where `Version::of_magic` tells the version.
-//! - `any_spelling`: what the grammar spells of any number of keys is read, and what is read is spelled
-//!   so.
+//! - `read_long_keys`: a key file of any number of keys is read to its list, in pieces of 65,536
+//!   keys, or refused by the first fault in it. It takes no more bytes than its answer rests on
+//!   either: of a key out of range its part of 4,096 keys, and where memory is refused no byte
+//!   behind the keys. `read_pieces` does so behind the magic, where `Version::of_magic` tells the
+//!   version.
+//! - `any_spelling`: what the grammar spells of any number of keys is read, and what is read is
+//!   spelled so.
 //! - `one_spelling`: what the grammar spells is read, and what is read is spelled so.
 //! - `write_keys`: a key file, which `one_spelling` takes back to its list. `write_header`: what
 //!   stands before its keys.

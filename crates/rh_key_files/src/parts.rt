@@ -15,11 +15,14 @@ use rh_layout::MAX_KEYS;
 use std::io::Read;
 
 pub(crate) fn read_version<R: Read>(reader: &mut Counted<R>) -> Result<Version, KeyFault>
-    ensures known { ReadsKeys (R.remaining (inner_of reader.old)) (R.remaining (inner_of reader.new)) version_at
+    ensures known { ReadsKeys (R.remaining (inner_of reader.old))
+        (R.remaining (inner_of reader.new)) version_at
         (λ v. v) result }
-    ensures takes { TakesAtMost (R.remaining (inner_of reader.old)) (R.remaining (inner_of reader.new))
+    ensures takes { TakesAtMost (R.remaining (inner_of reader.old))
+        (R.remaining (inner_of reader.new))
         magic_bytes }
-    ensures read { IsErrOf result KeyFault.Read → Rose (failures_of reader.old) (failures_of reader.new) }
+    ensures read { IsErrOf result KeyFault.Read →
+        Rose (failures_of reader.old) (failures_of reader.new) }
     ensures no_memory { IsErrOf result KeyFault.Memory → ⊥ }
     ensures fine { result ≢ Err KeyFault.Read → failures_of reader.new ≡ failures_of reader.old }
 {
@@ -35,12 +38,15 @@ pub(crate) fn read_version<R: Read>(reader: &mut Counted<R>) -> Result<Version, 
 }
 
 fn read_count<R: Read>(reader: &mut Counted<R>) -> Result<u64, KeyFault>
-    ensures known { ReadsKeys (R.remaining (inner_of reader.old)) (R.remaining (inner_of reader.new)) count_at
+    ensures known { ReadsKeys (R.remaining (inner_of reader.old))
+        (R.remaining (inner_of reader.new)) count_at
         (λ n. n) result }
     ensures few { IfOk result (λ n. n ≤ MAX_KEYS) }
-    ensures takes { TakesAtMost (R.remaining (inner_of reader.old)) (R.remaining (inner_of reader.new))
+    ensures takes { TakesAtMost (R.remaining (inner_of reader.old))
+        (R.remaining (inner_of reader.new))
         8 }
-    ensures read { IsErrOf result KeyFault.Read → Rose (failures_of reader.old) (failures_of reader.new) }
+    ensures read { IsErrOf result KeyFault.Read →
+        Rose (failures_of reader.old) (failures_of reader.new) }
     ensures no_memory { IsErrOf result KeyFault.Memory → ⊥ }
     ensures fine { result ≢ Err KeyFault.Read → failures_of reader.new ≡ failures_of reader.old }
 {
@@ -52,12 +58,15 @@ fn read_count<R: Read>(reader: &mut Counted<R>) -> Result<u64, KeyFault>
 }
 
 pub(crate) fn read_header<R: Read>(reader: &mut Counted<R>) -> Result<Header, KeyFault>
-    ensures known { ReadsKeys (R.remaining (inner_of reader.old)) (R.remaining (inner_of reader.new)) header_at
+    ensures known { ReadsKeys (R.remaining (inner_of reader.old))
+        (R.remaining (inner_of reader.new)) header_at
         (λ h. h) result }
     ensures few { IfOk result (λ h. h.count ≤ MAX_KEYS) }
-    ensures takes { TakesAtMost (R.remaining (inner_of reader.old)) (R.remaining (inner_of reader.new))
+    ensures takes { TakesAtMost (R.remaining (inner_of reader.old))
+        (R.remaining (inner_of reader.new))
         (header_taken (fault_of result)) }
-    ensures read { IsErrOf result KeyFault.Read → Rose (failures_of reader.old) (failures_of reader.new) }
+    ensures read { IsErrOf result KeyFault.Read →
+        Rose (failures_of reader.old) (failures_of reader.new) }
     ensures no_memory { IsErrOf result KeyFault.Memory → ⊥ }
     ensures fine { result ≢ Err KeyFault.Read → failures_of reader.new ≡ failures_of reader.old }
 {

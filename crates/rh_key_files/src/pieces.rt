@@ -23,14 +23,15 @@ use std::io::Read;
 /// The most keys of a piece. So much room is taken before its keys come.
 pub const PIECE_KEYS: u64 = 65_536;
 
-/// The keys of a key file of any number of keys, in its order. They come in pieces, none of which is
-/// longer than `PIECE_KEYS`: so no more memory is taken than for the keys that came, and a piece.
-/// `Memory` comes only where a growth was refused, and `TooMany` never.
+/// The keys of a key file of any number of keys, in its order. They come in pieces, none of which
+/// is longer than `PIECE_KEYS`: so no more memory is taken than for the keys that came, and a
+/// piece. `Memory` comes only where a growth was refused, and `TooMany` never.
 pub fn read_long_keys<R: Read>(
     alloc: Global,
     reader: &mut Counted<R>,
 ) -> Result<Vec<Vec<u64>>, KeyFault>
-    ensures known { ReadsKeys (R.remaining (inner_of reader.old)) (R.remaining (inner_of reader.new))
+    ensures known { ReadsKeys (R.remaining (inner_of reader.old))
+        (R.remaining (inner_of reader.new))
         long_file_keys (λ pieces. flat_map (λ piece. piece.items) pieces.items) result }
     ensures spelled { IfOk result (λ pieces. IsLongReadFrom
         (R.remaining (inner_of reader.old)) (R.remaining (inner_of reader.new))
@@ -38,8 +39,10 @@ pub fn read_long_keys<R: Read>(
     ensures in_range { IfOk result (λ pieces. All (λ piece. All IsKey piece.items) pieces.items) }
     ensures takes { TakesOfLongFile (R.remaining (inner_of reader.old))
         (R.remaining (inner_of reader.new)) (fault_of result) }
-    ensures read { IsErrOf result KeyFault.Read → Rose (failures_of reader.old) (failures_of reader.new) }
-    ensures fine { NoReadFailed (fault_of result) → failures_of reader.new ≡ failures_of reader.old }
+    ensures read { IsErrOf result KeyFault.Read →
+        Rose (failures_of reader.old) (failures_of reader.new) }
+    ensures fine { NoReadFailed (fault_of result) →
+        failures_of reader.new ≡ failures_of reader.old }
     ensures memory { IsErrOf result KeyFault.Memory →
         BeginsWithLongHeader (R.remaining (inner_of reader.old)) }
     ensures tested { IsErrOf result KeyFault.Read → TakesGoodKeys long_header_at
@@ -58,13 +61,16 @@ pub fn read_pieces<R: Read, P: Progress>(
     reader: &mut Counted<R>,
     progress: &mut P,
 ) -> Result<Vec<Vec<u64>>, KeyFault>
-    ensures known { ReadsKeys (R.remaining (inner_of reader.old)) (R.remaining (inner_of reader.new))
+    ensures known { ReadsKeys (R.remaining (inner_of reader.old))
+        (R.remaining (inner_of reader.new))
         (keys_behind version) (λ pieces. flat_map (λ piece. piece.items) pieces.items) result }
     ensures in_range { IfOk result (λ pieces. All (λ piece. All IsKey piece.items) pieces.items) }
     ensures takes { TakesBehindMagic (R.remaining (inner_of reader.old))
         (R.remaining (inner_of reader.new)) (fault_of result) }
-    ensures read { IsErrOf result KeyFault.Read → Rose (failures_of reader.old) (failures_of reader.new) }
-    ensures fine { NoReadFailed (fault_of result) → failures_of reader.new ≡ failures_of reader.old }
+    ensures read { IsErrOf result KeyFault.Read →
+        Rose (failures_of reader.old) (failures_of reader.new) }
+    ensures fine { NoReadFailed (fault_of result) →
+        failures_of reader.new ≡ failures_of reader.old }
     ensures memory { IsErrOf result KeyFault.Memory →
         BeginsWithNumber (R.remaining (inner_of reader.old)) }
     ensures tested { IsErrOf result KeyFault.Read → TakesGoodKeys (header_behind version)
@@ -96,17 +102,21 @@ fn read_piece<R: Read>(
     reader: &mut Counted<R>,
 ) -> Result<Vec<u64>, KeyFault>
     requires { index + left < 2 ^ 64 }
-    ensures known { ReadsKeys (R.remaining (inner_of reader.old)) (R.remaining (inner_of reader.new))
+    ensures known { ReadsKeys (R.remaining (inner_of reader.old))
+        (R.remaining (inner_of reader.new))
         (keys_at version index (min left PIECE_KEYS)) (λ piece. piece.items) result }
     ensures many { IfOk result (λ piece. length piece.items ≡ min left PIECE_KEYS) }
     ensures in_range { IfOk result (λ piece. All IsKey piece.items) }
-    ensures takes { TakesAtMost (R.remaining (inner_of reader.old)) (R.remaining (inner_of reader.new))
+    ensures takes { TakesAtMost (R.remaining (inner_of reader.old))
+        (R.remaining (inner_of reader.new))
         (8 * keys_taken index (min left PIECE_KEYS) (fault_of result)) }
     ensures tested { IsErrOf result KeyFault.Read → CutShort (R.remaining (inner_of reader.old))
         (R.remaining (inner_of reader.new)) (keys_at version index (min left PIECE_KEYS)) }
     ensures memory { IsErrOf result KeyFault.Memory → reader.new ≡ reader.old }
-    ensures read { IsErrOf result KeyFault.Read → Rose (failures_of reader.old) (failures_of reader.new) }
-    ensures fine { NoReadFailed (fault_of result) → failures_of reader.new ≡ failures_of reader.old }
+    ensures read { IsErrOf result KeyFault.Read →
+        Rose (failures_of reader.old) (failures_of reader.new) }
+    ensures fine { NoReadFailed (fault_of result) →
+        failures_of reader.new ≡ failures_of reader.old }
 {
     let many = left.min(PIECE_KEYS) as usize;
     let Ok(mut piece) = vec![in alloc; 0u64; many] else {

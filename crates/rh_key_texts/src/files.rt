@@ -87,8 +87,8 @@ pub struct FaultAt {
 
 /// Lists the files at these paths, one after the other, up to the first that has a fault.
 ///
-/// Each file is read to its end before a byte of it is written, and `Memory` comes only where a growth
-/// was refused. Each number is a write of its own, so give it a writer with a buffer.
+/// Each file is read to its end before a byte of it is written, and `Memory` comes only where a
+/// growth was refused. Each number is a write of its own, so give it a writer with a buffer.
 pub fn list_files<S: Lender, W: Write>(
     alloc: Global,
     shelf: &mut S,

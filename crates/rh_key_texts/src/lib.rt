@@ -6,13 +6,14 @@
 //!
 //! - `pack`: where it answers `Ok`, the bytes read were a text of some keys, and the writer grew by
 //!   the key file of exactly these. On `Write` it grew by a front of that file, on a refused text
-//!   by nothing, and the fault is the first in the text. Want of memory and a failed read are told only
-//!   where nothing that was taken holds a fault.
-//! - `list_keys`, `list_snapshot`: the same of a key file of any number of keys and their text, in order,
-//!   and of a snapshot and the text of its keys in rising order. Want of memory for a snapshot is
-//!   told before a byte behind its header is read, or once all of it was.
-//! - Of these, `Read` and `Write` come only where the device's count of failures rose. The lists take
-//!   no more of their reader than their answer rests on, and a refused `pack` at most 8,192 bytes more.
+//!   by nothing, and the fault is the first in the text. Want of memory and a failed read are told
+//!   only where nothing that was taken holds a fault.
+//! - `list_keys`, `list_snapshot`: the same of a key file of any number of keys and their text, in
+//!   order, and of a snapshot and the text of its keys in rising order. Want of memory for a
+//!   snapshot is told before a byte behind its header is read, or once all of it was.
+//! - Of these, `Read` and `Write` come only where the device's count of failures rose. The lists
+//!   take no more of their reader than their answer rests on, and a refused `pack` at most 8,192
+//!   bytes more.
 //! - `list_files`: of files at paths, the texts of each one's keys were written, one after the
 //!   other. Else those of the files before `index`, and of that one nothing, or a front on `Write`;
 //!   its fault is the first in its bytes, and want of memory for them comes only behind a header

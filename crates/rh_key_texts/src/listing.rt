@@ -47,8 +47,8 @@ impl From<WriteFault> for ListFault {
     }
 }
 
-/// Reads a key file of either version and of any number of keys, and writes its keys as a text, one a
-/// line, in their order.
+/// Reads a key file of either version and of any number of keys, and writes its keys as a text, one
+/// a line, in their order.
 ///
 /// The file is read to its end before a byte is written. Only the reading takes memory, 8 bytes for
 /// each key, and `Keys(Memory)` comes only where a growth was refused. Each number is written by
@@ -75,7 +75,8 @@ pub fn list_keys<R: Read, W: Write>(
     ensures write { IsErrOf result ListFault.Write →
         Rose (failures_of writer.old) (failures_of writer.new) }
     ensures written { OnOk result (failures_of writer.new ≡ failures_of writer.old) }
-    ensures fine { NoReadFailed (list_fault_in result) → failures_of reader.new ≡ failures_of reader.old }
+    ensures fine { NoReadFailed (list_fault_in result) →
+        failures_of reader.new ≡ failures_of reader.old }
 {
     let pieces = read_long_keys(alloc, reader)?;
     write_pieces(&pieces, writer)?;

@@ -22,9 +22,9 @@ use rh_splitting::{
 use std::fs::Files;
 use std::io::{BufWriter, Write};
 
-/// How many parts are to be made: as many as were asked for, or where that is 0 as the size of standard
-/// input says. Of a pipe the size is not known, and it is read but once: the parts of its first key have
-/// to be known before its last one.
+/// How many parts are to be made: as many as were asked for, or where that is 0 as the size of
+/// standard input says. Of a pipe the size is not known, and it is read but once: the parts of its
+/// first key have to be known before its last one.
 pub fn parts_asked(rt: &(impl Files + Input), source: Source, asked: u64) -> Result<u64, Fault>
     requires { asked ≤ MAX_PARTS }
     ensures some { IfOk result (λ parts. 0 < parts) }
@@ -59,8 +59,8 @@ fn parts_of(source: Source, asked: u64, size: Option<u64>) -> Option<u64>
     }
 }
 
-/// Splits what stands on standard input into key files below the current folder. It is read in parts,
-/// with no other buffer.
+/// Splits what stands on standard input into key files below the current folder. It is read in
+/// parts, with no other buffer.
 pub fn split_streams(
     rt: &(impl Files + Input + AllocGlobal),
     source: Source,
@@ -84,8 +84,9 @@ pub fn split_streams(
     }
 }
 
-/// What is told of a split into so many parts, of an input of this size. Where a part is too full and
-/// the size asks for more parts, it says how many: only the repeats of a key all go to one part.
+/// What is told of a split into so many parts, of an input of this size. Where a part is too full
+/// and the size asks for more parts, it says how many: only the repeats of a key all go to one
+/// part.
 fn fault_of_split(source: Source, parts: u64, size: Option<u64>, fault: FilesFault) -> Fault
     ensures { result ≡ fault_of_split source parts size fault }
 {

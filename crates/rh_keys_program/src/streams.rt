@@ -118,7 +118,8 @@ fn list_held_out<R: Read, W: Write + Drop>(
     (ended(listing_held(listed), writing(written)), writer)
 }
 
-/// Lists the files at these paths to standard output, one after the other. It goes through a buffer.
+/// Lists the files at these paths to standard output, one after the other. It goes through a
+/// buffer.
 pub fn list_paths<W: Write>(
     rt: &(impl Files + AllocGlobal),
     outlet: &mut Outlet<W>,
@@ -171,7 +172,8 @@ fn listing_files(paths: Vec<String>, outcome: Result<(), FaultAt>) -> Result<(),
     }
 }
 
-/// The fault, with the path of its file. Want of memory and a failed write are no faults of the file.
+/// The fault, with the path of its file. Want of memory and a failed write are no faults of the
+/// file.
 fn file_fault(mut paths: Vec<String>, fault: &FaultAt) -> Fault
     requires { fault.now.index < length paths.items }
     ensures ending { ending_by result ≡ ending_by_file fault.now.fault }

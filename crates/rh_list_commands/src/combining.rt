@@ -31,12 +31,13 @@ pub struct Job<'a> {
     pub output: Output,
     /// From 1 to 64. What is written does not depend on it.
     pub workers: usize,
-    /// Where the lists are. `-` is standard input, which is read once: what another `-` finds is nothing.
+    /// Where the lists are. `-` is standard input, which is read once: what another `-` finds is
+    /// nothing.
     pub paths: &'a [String],
 }
 
-/// Reads the lists at these paths, and writes what comes of them. Nothing is written before all are read.
-/// Each write is a large one, so that no buffer is wanted.
+/// Reads the lists at these paths, and writes what comes of them. Nothing is written before all are
+/// read. Each write is a large one, so that no buffer is wanted.
 pub fn combine_files<T: Threads + Sync, S: Lender, I: Read, W: Write, P: Progress>(
     rt: &T,
     alloc: Global,
@@ -57,7 +58,8 @@ pub fn combine_files<T: Threads + Sync, S: Lender, I: Read, W: Write, P: Progres
         (map string_bytes job.now.paths.now) (Rose (failures_of input.old) (failures_of input.new))
         (Rose (failures_of writer.old) (failures_of writer.new))) }
     ensures fine { OnOk result ((S.state shelf.new ≡ S.state shelf.old)
-        × (failures_of input.new ≡ failures_of input.old) × (failures_of writer.new ≡ failures_of writer.old)) }
+        × (failures_of input.new ≡ failures_of input.old)
+        × (failures_of writer.new ≡ failures_of writer.old)) }
 {
     let lists = read_paths(rt, alloc, job.workers, shelf, job.paths, input, progress)?;
     match write_lists(rt, alloc, job, lists, writer, progress) {
@@ -79,7 +81,8 @@ fn write_lists<T: Threads + Sync, W: Write, P: Progress>(
     requires workers { (0 < job.now.workers) × (job.now.workers ≤ 64) }
     requires keys { All (λ l. All (λ k. All IsKey k.items) l.items) lists.items }
     ensures written { Writes (W.contents (inner_of writer.old)) (W.contents (inner_of writer.new))
-        (written job.now.output (answer job.now.how (map (λ l. flat_map (λ k. k.items) l.items) lists.items))) result }
+        (written job.now.output
+        (answer job.now.how (map (λ l. flat_map (λ k. k.items) l.items) lists.items))) result }
     ensures write { IsErrOf result Write → Rose (failures_of writer.old) (failures_of writer.new) }
     ensures fine { OnOk result (failures_of writer.new ≡ failures_of writer.old) }
 {
@@ -116,7 +119,8 @@ fn write_counted<T: Threads + Sync, W: Write, P: Progress>(
     requires workers { (0 < workers) × (workers ≤ 64) }
     requires keys { All (λ l. All (λ k. All IsKey k.items) l.items) lists.items }
     ensures written { Writes (W.contents (inner_of writer.old)) (W.contents (inner_of writer.new))
-        (number_line (length (answer how (map (λ l. flat_map (λ k. k.items) l.items) lists.items)))) result }
+        (number_line (length (answer how (map (λ l. flat_map (λ k. k.items) l.items) lists.items))))
+        result }
     ensures write { IsErrOf result Write → Rose (failures_of writer.old) (failures_of writer.new) }
     ensures fine { OnOk result (failures_of writer.new ≡ failures_of writer.old) }
 {
@@ -134,7 +138,8 @@ fn write_counted<T: Threads + Sync, W: Write, P: Progress>(
     Ok(())
 }
 
-/// Writes a key file of the numbers. They are held until all are there, as it begins with their number.
+/// Writes a key file of the numbers. They are held until all are there, as it begins with their
+/// number.
 fn write_packed<T: Threads + Sync, W: Write, P: Progress>(
     rt: &T,
     alloc: Global,
@@ -147,7 +152,8 @@ fn write_packed<T: Threads + Sync, W: Write, P: Progress>(
     requires workers { (0 < workers) × (workers ≤ 64) }
     requires keys { All (λ l. All (λ k. All IsKey k.items) l.items) lists.items }
     ensures written { Writes (W.contents (inner_of writer.old)) (W.contents (inner_of writer.new))
-        (spelling Second (answer how (map (λ l. flat_map (λ k. k.items) l.items) lists.items))) result }
+        (spelling Second (answer how (map (λ l. flat_map (λ k. k.items) l.items) lists.items)))
+        result }
     ensures write { IsErrOf result Write → Rose (failures_of writer.old) (failures_of writer.new) }
     ensures fine { OnOk result (failures_of writer.new ≡ failures_of writer.old) }
 {

@@ -6,8 +6,8 @@ ghost use Rattle.rh_list_commands.specs.Commands.{Ends, ended};
 ghost use Rattle.rh_list_commands.specs.declared.output.Output.{Output as Shape};
 ghost use Rattle.rh_shelf.specs.Shelf.{Files};
 
-/// Two runs of a command over the same files and the same input that end well wrote the same bytes, whatever
-/// numbers of workers they had.
+/// Two runs of a command over the same files and the same input that end well wrote the same bytes,
+/// whatever numbers of workers they had.
 pub fn commands_agree()
     ensures { (how : Made) (output : Shape) (files : Files) (paths : List (List ℕ)) (input : List ℕ)
         (left rest : Option (List ℕ)) (first first_new second second_new : List ℕ) →

@@ -89,8 +89,8 @@ fn read_path<T: Threads + Sync, S: Lender, I: Read, P: Progress>(
     read_file(rt, alloc, workers, shelf, path, progress)
 }
 
-/// Reads the lists at these paths, one after the other, up to the first that has a fault. Each is given
-/// in pieces. `-` is standard input, which is read once: what another `-` finds is nothing.
+/// Reads the lists at these paths, one after the other, up to the first that has a fault. Each is
+/// given in pieces. `-` is standard input, which is read once: what another `-` finds is nothing.
 pub fn read_paths<T: Threads + Sync, S: Lender, I: Read, P: Progress>(
     rt: &T,
     alloc: Global,
@@ -101,11 +101,14 @@ pub fn read_paths<T: Threads + Sync, S: Lender, I: Read, P: Progress>(
     progress: &mut P,
 ) -> Result<Vec<Vec<Vec<u64>>>, CommandFault>
     requires { 0 < workers }
-    ensures read { ReadsAll (λ lists. map (λ l. flat_map (λ k. k.items) l.items) lists.items) (S.state shelf.old).files (map string_bytes paths.now)
+    ensures read { ReadsAll (λ lists. map (λ l. flat_map (λ k. k.items) l.items) lists.items)
+        (S.state shelf.old).files (map string_bytes paths.now)
         (I.remaining (inner_of input.old)) (I.remaining (inner_of input.new)) result }
-    ensures keys { IfOk result (λ lists. All (λ l. All (λ k. All IsKey k.items) l.items) lists.items) }
+    ensures keys { IfOk result
+        (λ lists. All (λ l. All (λ k. All IsKey k.items) l.items) lists.items) }
     ensures inside { IfErr result (IsInside (length paths.now)) }
-    ensures blamed { IfErr result (Blames (S.state shelf.old) (S.state shelf.new) (map string_bytes paths.now)
+    ensures blamed { IfErr result
+        (Blames (S.state shelf.old) (S.state shelf.new) (map string_bytes paths.now)
         (Rose (failures_of input.old) (failures_of input.new)) ⊥) }
     ensures fine { OnOk result ((S.state shelf.new ≡ S.state shelf.old)
         × (failures_of input.new ≡ failures_of input.old)) }

@@ -29,7 +29,8 @@ pub(crate) fn read_ahead<T: Threads + Sync, R: Read>(
     requires { 0 < workers }
     ensures read { IfOk result.0 (IsReadTo so_far block.now) }
     ensures lines { IfOk result.0 (λ part. part.lines ≤ length block.now) }
-    ensures filled { IsFilled (R.remaining (inner_of reader.old)) (R.remaining (inner_of reader.new))
+    ensures filled { IsFilled (R.remaining (inner_of reader.old))
+        (R.remaining (inner_of reader.new))
         (failures_of reader.old) (failures_of reader.new) next.new result.1 }
 {
     if workers == 1 {
@@ -40,8 +41,8 @@ pub(crate) fn read_ahead<T: Threads + Sync, R: Read>(
     read_pieces(rt, alloc, workers, so_far, block, reader, next)
 }
 
-/// The same by threads of which each reads a piece. This thread starts one after the other, and works only
-/// when all are started: `rh_forks` has the reason.
+/// The same by threads of which each reads a piece. This thread starts one after the other, and
+/// works only when all are started: `rh_forks` has the reason.
 #[cycle(pieces)]
 fn read_pieces<T: Threads + Sync, R: Read>(
     rt: &T,
@@ -55,7 +56,8 @@ fn read_pieces<T: Threads + Sync, R: Read>(
     requires { 0 < workers }
     ensures read { IfOk result.0 (IsReadTo so_far block.now) }
     ensures lines { IfOk result.0 (λ part. part.lines ≤ length block.now) }
-    ensures filled { IsFilled (R.remaining (inner_of reader.old)) (R.remaining (inner_of reader.new))
+    ensures filled { IsFilled (R.remaining (inner_of reader.old))
+        (R.remaining (inner_of reader.new))
         (failures_of reader.old) (failures_of reader.new) next.new result.1 }
 {
     let Some(at) = first_piece(block, workers) else {
@@ -72,7 +74,8 @@ fn read_pieces<T: Threads + Sync, R: Read>(
         requires { IsSync T.row × (0 < others) }
         ensures { IfOk result.0 (λ part. IsReadTo LineSoFar.Start back.entry.now part
             × (part.lines ≤ length back.entry.now))
-            × IsFilled (R.remaining (inner_of reader.entry.now)) (R.remaining (inner_of reader.exit.now))
+            × IsFilled (R.remaining (inner_of reader.entry.now))
+            (R.remaining (inner_of reader.exit.now))
             (failures_of reader.entry.now) (failures_of reader.exit.now) next.exit.now result.1 }
     { read_pieces(rt, alloc, others, LineSoFar::Start, back, reader, next) };
     let (before, (behind, filled)) = join_mut(rt, &mut theirs, &mut ours);
@@ -93,7 +96,8 @@ fn read_last<T: Threads + Sync, R: Read>(
 ) -> (Result<Part, AllocError>, Filled)
     ensures read { IfOk result.0 (IsReadTo so_far piece.now) }
     ensures lines { IfOk result.0 (λ part. part.lines ≤ length piece.now) }
-    ensures filled { IsFilled (R.remaining (inner_of reader.old)) (R.remaining (inner_of reader.new))
+    ensures filled { IsFilled (R.remaining (inner_of reader.old))
+        (R.remaining (inner_of reader.new))
         (failures_of reader.old) (failures_of reader.new) next.new result.1 }
 {
     join_mut(

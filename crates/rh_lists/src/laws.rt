@@ -6,8 +6,9 @@ ghost use Rattle.rh_lists.specs.Lists.{Agree, ReadsList};
 use crate::fault::ListFault;
 use crate::list::KeyList;
 
-/// What two readings of the same bytes answer is the same, whoever reads them, and in whatever blocks:
-/// the same keys, or the same fault, but for want of memory, failed reads and texts that are too long.
+/// What two readings of the same bytes answer is the same, whoever reads them, and in whatever
+/// blocks: the same keys, or the same fault, but for want of memory, failed reads and texts that
+/// are too long.
 pub fn lists_agree(first: &Result<KeyList, ListFault>, second: &Result<KeyList, ListFault>)
     ensures { (bytes : List ℕ) (left rest : Option (List ℕ)) →
         ReadsList (Some bytes) left first.now → ReadsList (Some bytes) rest second.now →

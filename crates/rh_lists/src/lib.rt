@@ -9,10 +9,10 @@
 //!
 //! Proved, of every reader whose bytes are known:
 //!
-//! - `read_list`: where it answers `Ok`, the bytes are a key file, or else a text of numbers, of exactly
-//!   the keys of the list, in order, and none is left. Else the fault is the first in the bytes; of
-//!   a text it tells the line, of a key file the index of the key. No number of workers and no size
-//!   of a block stands in this.
+//! - `read_list`: where it answers `Ok`, the bytes are a key file, or else a text of numbers, of
+//!   exactly the keys of the list, in order, and none is left. Else the fault is the first in the
+//!   bytes; of a text it tells the line, of a key file the index of the key. No number of workers
+//!   and no size of a block stands in this.
 //! - Of want of memory, of a failed read and of a text of 2^63 bytes or more nothing is told of the
 //!   bytes. `Read` comes only where the reader's count of failures rose, `TooLong` only of so many
 //!   bytes.
@@ -20,13 +20,14 @@
 //!   before its fourth byte a list is not known to be a text. Want of memory for a key file
 //!   comes only behind a header that can be read, and behind good keys.
 //! - `lists_agree`: what two readings of the same bytes answer is the same, but for these.
-//! - `KeyList`: the keys of a list are those of its pieces, one piece after the other; all are keys.
+//! - `KeyList`: the keys of a list are those of its pieces, one piece after the other; all are
+//!   keys.
 //!
 //! Memory: 8 bytes for each key and 24 for each piece, of which a text has one for each worker and
 //! block; twice as much for the pieces that are being read; and two blocks of 16 MB.
 //!
-//! For other readers no more than safety, and that count, is claimed. That the reading ends sooner by
-//! several workers is measured and not proved.
+//! For other readers no more than safety, and that count, is claimed. That the reading ends sooner
+//! by several workers is measured and not proved.
 #![tactic(auto)]
 
 mod ahead;

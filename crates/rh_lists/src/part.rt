@@ -83,7 +83,8 @@ impl Part {
     /// The fault of a text that begins with this part, where it has a bad line.
     fn fault(&self) -> Option<TextFault>
         requires { self.now.lines + 1 < 2 ^ 64 }
-        ensures refused { IfSome result (λ fault. (bytes rest : List ℕ) → IsReadTo Start bytes self.now →
+        ensures refused { IfSome result (λ fault. (bytes rest : List ℕ) →
+            IsReadTo Start bytes self.now →
             Refuses (text_said (bytes ++ rest)) fault) }
         ensures held { IfSome result OfHeldBytes }
         ensures none { IsNone result → IsOpen self.now.end }
@@ -98,10 +99,12 @@ impl Part {
     pub(crate) fn more(self, next: Part) -> Result<Part, TextFault>
         requires { self.lines + next.lines + 1 < 2 ^ 64 }
         ensures read { MatchResult result
-            (λ text. (before bytes : List ℕ) → IsReadTo Start before self → IsReadTo (so_far_of self) bytes next →
+            (λ text. (before bytes : List ℕ) → IsReadTo Start before self →
+            IsReadTo (so_far_of self) bytes next →
             IsReadTo Start (before ++ bytes) text)
             (λ fault. (before bytes rest : List ℕ) → IsReadTo Start before self →
-            IsReadTo (so_far_of self) bytes next → Refuses (text_said ((before ++ bytes) ++ rest)) fault) }
+            IsReadTo (so_far_of self) bytes next →
+            Refuses (text_said ((before ++ bytes) ++ rest)) fault) }
         ensures held { IfErr result OfHeldBytes }
         ensures lines { IfOk result (λ text. text.lines ≤ self.lines + next.lines) }
         ensures good { IfOk result (λ text. IsOpen text.end) }
@@ -118,7 +121,8 @@ impl Part {
     /// The keys of a text that is this part and nothing else.
     pub(crate) fn end_text(self, alloc: Global) -> Result<KeyList, TextFault>
         requires { self.lines + 1 < 2 ^ 64 }
-        ensures told { (bytes : List ℕ) → IsReadTo Start bytes self → IsTold (text_said bytes) result }
+        ensures told { (bytes : List ℕ) → IsReadTo Start bytes self →
+            IsTold (text_said bytes) result }
         ensures held { IfErr result OfHeldBytes }
     {
         let Part { keys, lines, end } = self;

@@ -33,7 +33,8 @@ pub fn read_list<T: Threads + Sync, R: Read, P: Progress>(
     progress: &mut P,
 ) -> Result<KeyList, ListFault>
     requires { 0 < workers }
-    ensures known { ReadsList (R.remaining (inner_of reader.old)) (R.remaining (inner_of reader.new)) result }
+    ensures known { ReadsList (R.remaining (inner_of reader.old))
+        (R.remaining (inner_of reader.new)) result }
     ensures text_read { IsErrOf result (ListFault.Text TextFault.Read) →
         Rose (failures_of reader.old) (failures_of reader.new) }
     ensures keys_read { IsErrOf result (ListFault.Keys KeyFault.Read) →
@@ -66,7 +67,8 @@ pub fn read_list_in_blocks<T: Threads + Sync, R: Read, P: Progress>(
 ) -> Result<KeyList, ListFault>
     requires some { 0 < workers }
     requires block { (0 < block_bytes) × (block_bytes ≤ BLOCK_BYTES) }
-    ensures known { ReadsList (R.remaining (inner_of reader.old)) (R.remaining (inner_of reader.new)) result }
+    ensures known { ReadsList (R.remaining (inner_of reader.old))
+        (R.remaining (inner_of reader.new)) result }
     ensures text_read { IsErrOf result (ListFault.Text TextFault.Read) →
         Rose (failures_of reader.old) (failures_of reader.new) }
     ensures keys_read { IsErrOf result (ListFault.Keys KeyFault.Read) →

@@ -33,8 +33,8 @@ pub(crate) fn read_short_text(alloc: Global, bytes: &[u8]) -> Result<KeyList, Te
     text.end_text(alloc)
 }
 
-/// Reads the rest of a text that begins so, in blocks of so many bytes. The first one is small, and read
-/// by one worker, so that a short text takes little memory and no thread.
+/// Reads the rest of a text that begins so, in blocks of so many bytes. The first one is small, and
+/// read by one worker, so that a short text takes little memory and no thread.
 pub(crate) fn read_text<T: Threads + Sync, R: Read, P: Progress>(
     rt: &T,
     alloc: Global,
@@ -51,7 +51,8 @@ pub(crate) fn read_text<T: Threads + Sync, R: Read, P: Progress>(
         (R.remaining (inner_of reader.new)) result }
     ensures tested { IsErrOf result TextFault.Read → TakesNoFault begun.now
         (R.remaining (inner_of reader.old)) (R.remaining (inner_of reader.new)) }
-    ensures read { IsErrOf result TextFault.Read → Rose (failures_of reader.old) (failures_of reader.new) }
+    ensures read { IsErrOf result TextFault.Read →
+        Rose (failures_of reader.old) (failures_of reader.new) }
     ensures long { IsErrOf result TextFault.TooLong →
         HasBytes MAX_BYTES (R.remaining (inner_of reader.old)) }
     ensures fine { OnOk result (failures_of reader.new ≡ failures_of reader.old) }
@@ -88,11 +89,13 @@ fn read_on<T: Threads + Sync, R: Read, P: Progress>(
     requires block { (0 < block_bytes) × (block_bytes ≤ BLOCK_BYTES) }
     requires lines { text.lines ≤ BLOCK_BYTES }
     ensures known { (before : List ℕ) → IsReadTo Start before text →
-        ReadsText before (R.remaining (inner_of reader.old)) (R.remaining (inner_of reader.new)) result }
+        ReadsText before (R.remaining (inner_of reader.old))
+        (R.remaining (inner_of reader.new)) result }
     ensures tested { IsErrOf result TextFault.Read →
         (before : List ℕ) → IsReadTo Start before text → TakesNoFault before
         (R.remaining (inner_of reader.old)) (R.remaining (inner_of reader.new)) }
-    ensures read { IsErrOf result TextFault.Read → Rose (failures_of reader.old) (failures_of reader.new) }
+    ensures read { IsErrOf result TextFault.Read →
+        Rose (failures_of reader.old) (failures_of reader.new) }
     ensures long { IsErrOf result TextFault.TooLong →
         HasBytes MAX_BYTES (R.remaining (inner_of reader.old)) }
     ensures fine { OnOk result (failures_of reader.new ≡ failures_of reader.old) }
@@ -108,8 +111,8 @@ fn read_on<T: Threads + Sync, R: Read, P: Progress>(
     read_blocks(rt, alloc, workers, text, block, reader, progress)
 }
 
-/// Reads a text of which this block comes next, and the rest of it from the reader, in blocks that are
-/// as long.
+/// Reads a text of which this block comes next, and the rest of it from the reader, in blocks that
+/// are as long.
 fn read_blocks<T: Threads + Sync, R: Read, P: Progress>(
     rt: &T,
     alloc: Global,
@@ -130,7 +133,8 @@ fn read_blocks<T: Threads + Sync, R: Read, P: Progress>(
         (before : List ℕ) → IsReadTo Start before begun →
         TakesNoFault (before ++ block.items) (R.remaining (inner_of reader.old))
         (R.remaining (inner_of reader.new)) }
-    ensures read { IsErrOf result TextFault.Read → Rose (failures_of reader.old) (failures_of reader.new) }
+    ensures read { IsErrOf result TextFault.Read →
+        Rose (failures_of reader.old) (failures_of reader.new) }
     ensures long { IsErrOf result TextFault.TooLong →
         HasBytes MAX_BYTES (R.remaining (inner_of reader.old)) }
     ensures fine { OnOk result (failures_of reader.new ≡ failures_of reader.old) }
@@ -175,7 +179,8 @@ fn last_block<T: Threads + Sync>(
 ) -> Result<KeyList, TextFault>
     requires workers { 0 < workers }
     requires room { text.lines + length bytes.now + 1 < 2 ^ 64 }
-    ensures told { (before rest : List ℕ) → IsReadTo Start before text → (IsFalse failed → rest ≡ []) →
+    ensures told { (before rest : List ℕ) → IsReadTo Start before text →
+        (IsFalse failed → rest ≡ []) →
         IsTold (text_said ((before ++ bytes.now) ++ rest)) result }
     ensures tested { IsErrOf result TextFault.Read →
         (before : List ℕ) → IsReadTo Start before text → HasNoFault (before ++ bytes.now) }

@@ -13,7 +13,8 @@ use std::thread::Threads;
 
 /// The first place from this one on at which a line begins behind another one.
 pub(crate) fn line_from(bytes: &[u8], from: usize) -> Option<usize>
-    ensures { IfSome result (λ at. (0 < at) × (at < length bytes.now) × (slice_index bytes.now (at - 1) ≡ 10)) }
+    ensures { IfSome result (λ at. (0 < at) × (at < length bytes.now)
+        × (slice_index bytes.now (at - 1) ≡ 10)) }
 {
     for at in from.max(1)..bytes.len() {
         if bytes[at - 1] == b'\n' {
@@ -23,9 +24,9 @@ pub(crate) fn line_from(bytes: &[u8], from: usize) -> Option<usize>
     None
 }
 
-/// Reads the bytes, before which the line has said so much, by so many workers: they are cut where a
-/// line begins, and both halves of the workers read their part side by side, while the caller waits.
-/// Where no thread can be started, one half reads after the other.
+/// Reads the bytes, before which the line has said so much, by so many workers: they are cut where
+/// a line begins, and both halves of the workers read their part side by side, while the caller
+/// waits. Where no thread can be started, one half reads after the other.
 #[cycle(halves)]
 pub(crate) fn read_part<T: Threads + Sync>(
     rt: &T,

@@ -97,8 +97,8 @@ fn walk(mut so_far: LineSoFar, text: &[u8]) -> Walked
     }
 }
 
-/// The end of a chunk whose last line has said this. Where it is none that could still say a key, it
-/// is bad already, so that no such line is read on.
+/// The end of a chunk whose last line has said this. Where it is none that could still say a key,
+/// it is bad already, so that no such line is read on.
 fn left_open(said: LineSoFar) -> ChunkEnd
     ensures on { (keys : List ℕ) (line : ℕ) (rest : List ℕ) →
         said_from keys line said rest ≡ goes_on keys line result rest }

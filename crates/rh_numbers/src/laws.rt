@@ -49,8 +49,8 @@ pub fn any_length(text: &[u8], keys: &[u64])
         text_said text.now ≡ (keys.now, Some (OutOfRange number)) }
 {}
 
-/// The numbers of a text whose front is whole lines are those of its front, and then those of the rest.
-/// Its first bad line is that of its front, or else that of the rest, counted on.
+/// The numbers of a text whose front is whole lines are those of its front, and then those of the
+/// rest. Its first bad line is that of its front, or else that of the rest, counted on.
 pub fn text_in_chunks(front: &[u8], rest: &[u8])
     ensures { text_said (front.now ++ 10 ∷ rest.now)
         ≡ then_said (feeds front.now + 1) (text_said (front.now ++ 10 ∷ [])) (text_said rest.now) }

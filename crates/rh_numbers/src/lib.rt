@@ -8,14 +8,14 @@
 //!   refused by the first fault of their first faulty line, with its number.
 //! - `Read` comes only where the reader's count of failures rose, and `text too long` only of a
 //!   text of 2^63 bytes or more.
-//! - Where a text is refused, all that was taken but for a last part of at most 8,192 bytes holds no
-//!   fault. Want of memory is told only before such a part is read, and a failed read only behind good
-//!   lines: then nothing that was taken holds a fault.
+//! - Where a text is refused, all that was taken but for a last part of at most 8,192 bytes holds
+//!   no fault. Want of memory is told only before such a part is read, and a failed read only
+//!   behind good lines: then nothing that was taken holds a fault.
 //! - `Reading::read_part`: of the next 8,192 bytes the keys were added, in order, up to the first
 //!   fault, and the line goes on after the part. So texts of any length are read by whoever clears
 //!   the keys. Where memory is refused nothing is read. `new`, `keys` and `clear` are exact.
-//! - `read_chunk`: a chunk of a text, cut at any byte, is read to its keys and to how it ends, whatever
-//!   stands before it and comes after it. So texts are read by several workers.
+//! - `read_chunk`: a chunk of a text, cut at any byte, is read to its keys and to how it ends,
+//!   whatever stands before it and comes after it. So texts are read by several workers.
 //! - `write_numbers`: the text of the numbers, one a line, or a front of it where the writer
 //!   failed.
 //! - `one_meaning`: what the grammar calls a text of these keys is read to them, what is read is
@@ -24,8 +24,8 @@
 //!   key` with its number. A number above the greatest key gives `out of range`. A key after a
 //!   million gives `more than 1000000 keys`.
 //! - `any_length`: both laws hold of texts of any length, without that limit.
-//! - `text_in_chunks`: a text whose front is whole lines says what the front says, and then what the
-//!   rest says, so many lines later.
+//! - `text_in_chunks`: a text whose front is whole lines says what the front says, and then what
+//!   the rest says, so many lines later.
 //! - `fixed_numbers`: a text of 2^63 bytes is too long, and it is read in parts of 8,192.
 #![tactic(auto)]
 

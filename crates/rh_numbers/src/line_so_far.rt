@@ -69,7 +69,8 @@ impl LineSoFar {
 
     /// The key that the line says where it ends here, if it says one.
     pub fn end(self) -> Result<Option<u64>, BadLine>
-        ensures said { (keys : List ℕ) (line : ℕ) → with_line keys line self ≡ ended keys line result }
+        ensures said { (keys : List ℕ) (line : ℕ) →
+            with_line keys line self ≡ ended keys line result }
         ensures in_range { IfOk result (λ said. IfSome said IsKey) }
     {
         match self {

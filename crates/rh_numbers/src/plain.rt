@@ -1,4 +1,5 @@
-//! Plain lines: digits alone, not many, and a line feed. They are read without the states of a line.
+//! Plain lines: digits alone, not many, and a line feed. They are read without the states of a
+//! line.
 
 ghost use Rattle.std.specs.Prelude.{◌≡◌, ◌≤◌, ◌<◌, ◌+◌, ◌++◌, ℕ, List, [], ◌∷◌, All, IfOk, IfSome, drop, length, take};
 ghost use Rattle.std.specs.Str.Parse.{AllDigits, digits_value};
@@ -53,7 +54,8 @@ fn plain_line(text: &[u8]) -> Option<Digits>
     ensures within { IfSome result (λ line. line.length < length text.now) }
     ensures read { IfSome result (λ line. (keys : List ℕ) (at : ℕ) (more : List ℕ) →
         said_from keys at Start (text.now ++ more)
-        ≡ said_from (keys ++ line.number ∷ []) (at + 1) Start (drop (line.length + 1) text.now ++ more)) }
+        ≡ said_from (keys ++ line.number ∷ []) (at + 1) Start
+        (drop (line.length + 1) text.now ++ more)) }
     ensures in_range { IfSome result (λ line. IsKey line.number) }
 {
     let line = digits_of(text);

@@ -66,7 +66,8 @@ impl Reading {
         self.keys
     }
 
-    /// Drops the keys that were read. The text goes on where it was, and room for as many keys stays.
+    /// Drops the keys that were read. The text goes on where it was, and room for as many keys
+    /// stays.
     pub fn clear(&mut self)
         ensures keys { keys_read self.new ≡ [] }
         ensures line { line_reached self.new ≡ line_reached self.old }
@@ -75,12 +76,12 @@ impl Reading {
         self.keys.clear();
     }
 
-    /// Reads the next 8,192 bytes and adds their keys to those that are held, up to the first fault,
-    /// and tells whether the text may go on. Where it ends, so does its last line.
+    /// Reads the next 8,192 bytes and adds their keys to those that are held, up to the first
+    /// fault, and tells whether the text may go on. Where it ends, so does its last line.
     ///
-    /// Where a read fails, the lines that came whole before that are taken first.
-    /// Room for as many keys as such bytes may say is taken before they are read, so that no fault of
-    /// a text is told as want of memory.
+    /// Where a read fails, the lines that came whole before that are taken first. Room for as many
+    /// keys as such bytes may say is taken before they are read, so that no fault of a text is told
+    /// as want of memory.
     ///
     /// `TooMany` says that `MAX_KEYS` are held and one more came; whoever clears them before each
     /// part never meets it.

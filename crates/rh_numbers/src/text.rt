@@ -18,7 +18,8 @@ use std::io::Read;
 /// The keys of a text, in its order. No line is kept in memory: only the keys take some, and
 /// `Memory` comes only where a growth was refused. That is so before a part of the text is read.
 pub fn read_numbers<R: Read>(alloc: Global, reader: &mut Counted<R>) -> Result<Vec<u64>, TextFault>
-    ensures known { ReadsText (R.remaining (inner_of reader.old)) (R.remaining (inner_of reader.new))
+    ensures known { ReadsText (R.remaining (inner_of reader.old))
+        (R.remaining (inner_of reader.new))
         (λ v. v.items) result }
     ensures spelled { IfOk result (λ v. IsTextReadFrom
         (R.remaining (inner_of reader.old)) (R.remaining (inner_of reader.new)) v.items) }
@@ -32,7 +33,8 @@ pub fn read_numbers<R: Read>(alloc: Global, reader: &mut Counted<R>) -> Result<V
         TakesFewParts (R.remaining (inner_of reader.old)) (R.remaining (inner_of reader.new)) }
     ensures read { IsErrOf result TextFault.Read →
         Rose (failures_of reader.old) (failures_of reader.new) }
-    ensures fine { NoReadFailed (fault_of result) → failures_of reader.new ≡ failures_of reader.old }
+    ensures fine { NoReadFailed (fault_of result) →
+        failures_of reader.new ≡ failures_of reader.old }
 {
     let mut reading = Reading::new(alloc);
     for _ in 0..MAX_READS {

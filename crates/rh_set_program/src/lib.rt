@@ -7,11 +7,11 @@
 //!
 //! - `Fault::status`, `tell`, `conclude`: the exit status of each fault, by the table
 //!   `specs/Endings.antt`.
-//! - `dump_streams`, `check_file`, `run_by`: done, or by what the work told, by a failed write or by
-//!   want of memory. Of readers, writers and shelves that are known: what the work told is told, and
-//!   comes before a failed write; all stands in the writer itself where the command is done.
-//! - `run_by`: a script that is refused is told by its first fault, and a thread that was refused only
-//!   where one was.
+//! - `dump_streams`, `check_file`, `run_by`: done, or by what the work told, by a failed write or
+//!   by want of memory. Of readers, writers and shelves that are known: what the work told is told,
+//!   and comes before a failed write; all stands in the writer itself where the command is done.
+//! - `run_by`: a script that is refused is told by its first fault, and a thread that was refused
+//!   only where one was.
 //! - Of a script the bytes that its reader has are read, or as many of them as no script without a
 //!   faulty line can have; or memory was wanted, or a read failed (`front_of`).
 //!

@@ -99,12 +99,13 @@ fn read_script<R: Read + Drop>(alloc: Global, reader: R) -> Result<Script, Fault
     }
 }
 
-// The bytes that a reader has, or the first `MAX_BYTES` of them. Any failure of the reader ends it, an
-// interruption too.
+// The bytes that a reader has, or the first `MAX_BYTES` of them. Any failure of the reader ends it,
+// an interruption too.
 fn front_of<R: Read + Drop>(alloc: Global, reader: R) -> Result<Vec<u8>, Fault>
     ensures front { IfOk result (λ text. IfSome (R.remaining reader)
         (λ bytes. text.items ≡ take MAX_BYTES bytes)) }
-    ensures fault { IfErr result (λ fault. (fault ≡ Fault.Program ProgramFault.Memory) ⊎ (fault ≡ Fault.Read)) }
+    ensures fault { IfErr result (λ fault. (fault ≡ Fault.Program ProgramFault.Memory)
+        ⊎ (fault ≡ Fault.Read)) }
 {
     let mut reader = Counted::new(reader);
     let mut text = Vec::new(alloc);

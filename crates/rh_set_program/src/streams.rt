@@ -69,8 +69,8 @@ pub fn check_file(rt: &(impl Files + Print + AllocGlobal), path: &str) -> Result
     ended
 }
 
-/// Writes the line of the snapshot that the reader has through this buffer, and writes out what that
-/// still holds.
+/// Writes the line of the snapshot that the reader has through this buffer, and writes out what
+/// that still holds.
 fn check_out<R: Read, W: Write + Drop>(
     alloc: Global,
     reader: &mut Counted<R>,

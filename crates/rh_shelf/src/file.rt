@@ -13,12 +13,12 @@ use std::io::{self, BufReader, ErrorKind, Write};
 /// number.
 const BESIDE: &str = ".rhset-part-";
 
-/// How many names are tried for it. Each run that is cut may leave such a file, which no other one touches:
-/// it may be at work.
+/// How many names are tried for it. Each run that is cut may leave such a file, which no other one
+/// touches: it may be at work.
 const NAMES: u32 = 10_000;
 
-/// Real files: a path is one of the system's, from the current folder on. No contract tells what bytes
-/// stand there; the files that could not be opened or written are counted.
+/// Real files: a path is one of the system's, from the current folder on. No contract tells what
+/// bytes stand there; the files that could not be opened or written are counted.
 #[derive(Drop)]
 pub struct FileShelf<'a, F> {
     files: &'a F,
@@ -65,9 +65,9 @@ impl<F: Files> Shelf for FileShelf<'_, F> {
         }
     }
 
-    /// The bytes are written to a new file beside the path, which then takes its place: a run that is
-    /// cut leaves there what stood there before. No other file is touched.
-    /// A link or a device at the path is replaced, and not what it leads to.
+    /// The bytes are written to a new file beside the path, which then takes its place: a run that
+    /// is cut leaves there what stood there before. No other file is touched. A link or a device at
+    /// the path is replaced, and not what it leads to.
     fn put(&mut self, alloc: Global, path: &str, bytes: &[u8]) -> Result<(), ShelfFault> {
         match put_whole(alloc, self.files, path, bytes) {
             Ok(()) => Ok(()),

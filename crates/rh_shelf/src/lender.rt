@@ -10,11 +10,11 @@ use rh_bytes::Counted;
 use std::alloc::Global;
 use std::io::Read;
 
-/// A shelf that is shown the reader of a file of which a read failed. So a failed read is told only where
-/// there was one.
+/// A shelf that is shown the reader of a file of which a read failed. So a failed read is told only
+/// where there was one.
 ///
-/// Each `Shelf` is one that counts none of these: its count is at its end from the beginning, and so
-/// nothing is known of them. `CountedShelf` counts them.
+/// Each `Shelf` is one that counts none of these: its count is at its end from the beginning, and
+/// so nothing is known of them. `CountedShelf` counts them.
 pub trait Lender {
     type Reader: Read + Drop;
 

@@ -1,6 +1,7 @@
 //! Where the files of a script stand: in memory (`MemShelf`), or real ones (`FileShelf`).
 //!
-//! `rh_operations`, `rh_set_program`, `rh_key_texts`, `rh_list_files` and `rh_keys_program` stand on it.
+//! `rh_operations`, `rh_set_program`, `rh_key_texts`, `rh_list_files` and `rh_keys_program` stand
+//! on it.
 //!
 //! Proved:
 //!
@@ -8,8 +9,8 @@
 //! - `FileShelf` is real files, of which no contract tells the bytes. Each answer that a file could
 //!   not be opened or written has raised its count, and an answer without a fault leaves it.
 //! - Want of memory raises the count of either.
-//! - `CountedShelf` counts the readers that it is shown of which a read failed, and nothing else. Each
-//!   `Shelf` may stand in its place (`Lender`), as one that counts none.
+//! - `CountedShelf` counts the readers that it is shown of which a read failed, and nothing else.
+//!   Each `Shelf` may stand in its place (`Lender`), as one that counts none.
 #![tactic(auto)]
 
 mod file;

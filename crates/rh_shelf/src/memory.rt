@@ -10,8 +10,8 @@ use std::alloc::Global;
 use std::collections::BTreeMap;
 use std::io::Cursor;
 
-/// Files whose paths and bytes stand in memory. It fails for want of memory alone, and then the files
-/// are as they were.
+/// Files whose paths and bytes stand in memory. It fails for want of memory alone, and then the
+/// files are as they were.
 #[derive(Drop)]
 pub struct MemShelf {
     files: BTreeMap<String, Vec<u8>>,

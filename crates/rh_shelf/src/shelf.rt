@@ -44,7 +44,8 @@ pub trait Shelf {
     /// The bytes of each path, where the readers tell theirs.
     ghost files: { Self → Option Files };
 
-    /// How often the shelf failed, want of memory among that. The count stops at the greatest `u64`.
+    /// How often the shelf failed, want of memory among that. The count stops at the greatest
+    /// `u64`.
     ghost failures: { Self → ℕ };
 
     /// A reader of the file's bytes, from the first on. Never `Write`.

@@ -9,7 +9,8 @@ use rh_layout::MAX_KEYS;
 use rh_numbers::TextFault;
 use thiserror::Error;
 
-/// What is written beside a place, before it takes that, has this at the end of its name, and a number.
+/// What is written beside a place, before it takes that, has this at the end of its name, and a
+/// number.
 pub(crate) const BESIDE: &str = ".rhset-part-";
 
 /// Why a list was not split, or not all of it. Parts are numbered from 0.

@@ -12,8 +12,8 @@ use std::alloc::Global;
 use std::fs::{self, Files, OpenFile};
 use std::io::{self, BufWriter, ErrorKind, Read, Seek, SeekFrom, Write};
 
-/// How many names are tried beside a place. Each run that is cut may leave a file there, which no other
-/// one touches: it may be at work.
+/// How many names are tried beside a place. Each run that is cut may leave a file there, which no
+/// other one touches: it may be at work.
 const NAMES: u32 = 10_000;
 
 /// Where the key file of a part is written, and where it stands in the end.
@@ -37,10 +37,10 @@ impl PartFile {
     }
 }
 
-/// The key files of a list that is split: part 7 of the list NAME takes the place `007/NAME.keys`. Each
-/// is written beside its place, and takes it once all are whole.
-/// Each stays open to the end, so that there is one pass. A rename that fails is rare: what the
-/// others replaced is gone then, as to keep it each old file would need a name of its own.
+/// The key files of a list that is split: part 7 of the list NAME takes the place `007/NAME.keys`.
+/// Each is written beside its place, and takes it once all are whole. Each stays open to the end,
+/// so that there is one pass. A rename that fails is rare: what the others replaced is gone then,
+/// as to keep it each old file would need a name of its own.
 #[derive(Drop)]
 pub struct PartFiles<'a, F> {
     files: &'a F,
@@ -87,8 +87,8 @@ impl<F: Files> PartFiles<'_, F> {
 
     /// Splits what the reader gives into so many parts, and writes the key file of each.
     ///
-    /// Each part has an open file and a buffer of 8,192 bytes. On a fault none of the files is left, as
-    /// far as the system removes them; folders that were made stay.
+    /// Each part has an open file and a buffer of 8,192 bytes. On a fault none of the files is
+    /// left, as far as the system removes them; folders that were made stay.
     pub fn split<R: Read>(
         &mut self,
         alloc: Global,

@@ -10,7 +10,8 @@ ghost use Rattle.rh_splitting.specs.declared.files.TheConstants.{NAMES};
 ghost use Rattle.rh_splitting.specs.declared.name.TheConstants.{MAX_NAME_BYTES};
 ghost use Rattle.rh_splitting.specs.declared.number.TheConstants.{BYTES_A_KEY, BYTES_A_LINE, KEYS_A_PART};
 
-/// The header of as many keys as a part of a list has, and these keys, are the key file of the part.
+/// The header of as many keys as a part of a list has, and these keys, are the key file of the
+/// part.
 pub fn whole_part(parts: u64, part: u64)
     ensures { (keys : List ℕ) → All IsKey keys →
         length (in_part parts part keys) ≤ MAX_KEYS →
@@ -20,8 +21,8 @@ pub fn whole_part(parts: u64, part: u64)
     let _ = (parts, part);
 }
 
-/// The numbers of a split: how long a name may be, how many names beside a part's place are tried, and by
-/// how many keys and bytes parts are chosen.
+/// The numbers of a split: how long a name may be, how many names beside a part's place are tried,
+/// and by how many keys and bytes parts are chosen.
 pub fn fixed_numbers()
     ensures names { (MAX_NAME_BYTES ≡ 200) × (NAMES ≡ 10000) }
     ensures chosen { (KEYS_A_PART ≡ 150000) × (BYTES_A_LINE ≡ 7) × (BYTES_A_KEY ≡ 8) }

@@ -7,8 +7,8 @@ ghost use Rattle.rh_splitting.specs.Name.{is_allowed, is_name};
 /// The most bytes of a name.
 pub const MAX_NAME_BYTES: usize = 200;
 
-/// Whether a list may have the name, which stands in the paths of its parts: 1 to 200 bytes, none of
-/// them a slash, a space or a control character. So a script can name the paths.
+/// Whether a list may have the name, which stands in the paths of its parts: 1 to 200 bytes, none
+/// of them a slash, a space or a control character. So a script can name the paths.
 pub fn is_name(name: &str) -> bool
     ensures { result ≡ is_name name.now }
 {

@@ -7,19 +7,19 @@ ghost use Rattle.rh_splitting.specs.Number.{parts_chosen, parts_for};
 use crate::source::Source;
 use rh_parts::MAX_PARTS;
 
-/// How many keys a part is to have: about three quarters of those that the largest table is made for, so
-/// that a list of each part, and some keys more, fit it.
+/// How many keys a part is to have: about three quarters of those that the largest table is made
+/// for, so that a list of each part, and some keys more, fit it.
 pub const KEYS_A_PART: u64 = 150_000;
 
-/// How many bytes a key of a text takes, at the least: a million numbers that differ take as many with
-/// their line feeds.
+/// How many bytes a key of a text takes, at the least: a million numbers that differ take as many
+/// with their line feeds.
 const BYTES_A_LINE: u64 = 7;
 
 /// How many bytes a key of a key file takes.
 const BYTES_A_KEY: u64 = 8;
 
-/// The least number of parts of which each has at most `KEYS_A_PART` of so many keys, where they are as
-/// large as one another.
+/// The least number of parts of which each has at most `KEYS_A_PART` of so many keys, where they
+/// are as large as one another.
 pub fn parts_for(keys: u128) -> u128
     ensures { result ≡ parts_for keys }
 {

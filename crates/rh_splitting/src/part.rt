@@ -69,8 +69,8 @@ impl<W: Write> Part<W> {
     ghost use Rattle.rh_layout.specs.declared.limits.TheConstants.{MAX_KEYS};
     ghost use Rattle.rh_splitting.specs.Parts.{Got, GotButOne, limit_of, part_count, writer_of};
 
-    /// A part that was given no key, with room for the header of its key file, which says how many it
-    /// takes.
+    /// A part that was given no key, with room for the header of its key file, which says how many
+    /// it takes.
     pub fn begin(writer: W) -> Result<Part<W>, WriteFault>
     where
         W: Drop,

@@ -25,8 +25,8 @@ pub fn counting_parts(alloc: Global, count: u64) -> Result<Vec<Part<Sink>>, Allo
     Ok(parts)
 }
 
-/// Writes a line for each part: its number, in three digits, and how many keys it was given. Then one
-/// line with the number of all keys, and of how many parts would do.
+/// Writes a line for each part: its number, in three digits, and how many keys it was given. Then
+/// one line with the number of all keys, and of how many parts would do.
 pub fn write_plan<P, W: Write>(parts: &[Part<P>], writer: &mut Counted<W>) -> Result<(), WriteFault>
     requires { length parts.now ≤ MAX_PARTS }
     ensures text { Writes (W.contents (inner_of writer.old)) (W.contents (inner_of writer.new))

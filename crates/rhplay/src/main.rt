@@ -39,7 +39,8 @@ fn carry_out(
     }
 }
 
-// Tells the user, under the name by which the program was called, as far as standard error takes it.
+// Tells the user, under the name by which the program was called, as far as standard error takes
+// it.
 fn tell(rt: &impl Eprint, name: &str, fault: &Fault) -> Status
     ensures { result ≡ ending_by fault.now }
 {
