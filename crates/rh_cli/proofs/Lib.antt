@@ -1,4 +1,3 @@
--- StreamLemmas: what a writer behind a buffer holds. EndingLemmas: how a command may end.
+-- EndingLemmas: how a command may end.
 
-pub mod StreamLemmas
 pub mod EndingLemmas

@@ -1,4 +1,3 @@
 pub mod Closed
 pub mod Endings
-pub mod Streams
 pub mod Outlet

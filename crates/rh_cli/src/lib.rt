@@ -16,11 +16,6 @@
 //! - `Outlet` writes what is written to it to its writer, and nothing else.
 //! - `write_out`: the buffer is empty, and of a writer that tells its bytes all is written; or a
 //!   write failed, and none is lost or comes twice.
-//! - `Streams::new`: streams of which nothing is read or written yet, or want of memory.
-//! - `between`: a command that ended well did its work between such streams, the work ended well,
-//!   and of a writer that tells its bytes all that it wrote then stood in the writer itself. A
-//!   command is refused by want of memory, by what the work came to, or by a failed write after a
-//!   work that ended well. That memory was wanted is not said.
 #![tactic(auto)]
 
 mod closed;
@@ -35,4 +30,4 @@ pub use file::open;
 pub use outlet::Outlet;
 pub use program::{answer, words};
 pub use status::{ProgramFault, Status, ended};
-pub use streams::{Streams, between, buffered_reader, buffered_writer, write_out};
+pub use streams::{buffered_reader, buffered_writer, write_out};

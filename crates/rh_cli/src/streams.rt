@@ -1,13 +1,11 @@
-//! The streams of a program, each behind a buffer, and the work of a command between them.
+//! The streams of a program, each behind a buffer.
 
-ghost use Rattle.std.specs.Prelude.{◌≡◌, ◌⊎◌, [], IfOk, IfErr, Ok, Err, OnOk};
+ghost use Rattle.std.specs.Prelude.{◌≡◌, [], IfOk, IfErr, OnOk};
 ghost use Rattle.std.specs.Io.Buffered.{reader_buffer, reader_capacity, reader_inner};
 ghost use Rattle.std.specs.Io.Buffered.{writer_buffer, writer_capacity, writer_contents, writer_inner};
 ghost use Rattle.std.specs.Io.KnownBytes.{Keeps};
-ghost use Rattle.rh_cli.specs.Streams.{AreFresh, Delivers, Works};
 
-use crate::status::{ProgramFault, Status};
-use rh_bytes::Counted;
+use crate::status::ProgramFault;
 use std::alloc::Global;
 use std::io::{BufReader, BufWriter, Read, Write};
 
@@ -54,47 +52,4 @@ pub fn write_out<W: Write + Drop>(writer: &mut BufWriter<W>) -> Result<(), Progr
         Ok(()) => Ok(()),
         Err(_) => Err(ProgramFault::Write),
     }
-}
-
-/// The streams of a command, each behind a buffer, whose failures are counted.
-#[derive(Drop)]
-pub struct Streams<R: Read + Drop, W: Write + Drop> {
-    pub reader: Counted<BufReader<R>>,
-    pub writer: Counted<BufWriter<W>>,
-}
-
-impl<R: Read + Drop, W: Write + Drop> Streams<R, W> {
-    /// The streams, of which nothing is read or written yet.
-    fn new(alloc: Global, reader: R, writer: W) -> Result<Streams<R, W>, ProgramFault>
-        ensures fresh { IfOk result (AreFresh reader writer) }
-        ensures fault { IfErr result (λ fault. fault ≡ ProgramFault.Memory) }
-    {
-        Ok(Streams {
-            reader: Counted::new(buffered_reader(alloc, reader)?),
-            writer: Counted::new(buffered_writer(alloc, writer)?),
-        })
-    }
-}
-
-/// Does the work of a command between its streams, and then writes out what it left in the buffer.
-pub fn between<R: Read + Drop, W: Write + Drop, E: From<ProgramFault>, F>(
-    alloc: Global,
-    reader: R,
-    writer: W,
-    work: F,
-) -> Result<Status, E>
-where
-    F: FnOnce(&mut Streams<R, W>) -> Result<(), E>,
-    requires { F.IsAlwaysCallable work }
-    ensures done { IfOk result (λ status. status ≡ Status.Done) }
-    ensures ended { OnOk result (Delivers W.contents F.FnOnce work reader writer) }
-    ensures refused { IfErr result (λ error.
-        E.from_gives ProgramFault.Memory error
-        ⊎ Works F.FnOnce work reader writer (Err error)
-        ⊎ (E.from_gives ProgramFault.Write error × Works F.FnOnce work reader writer (Ok tt))) }
-{
-    let mut streams = Streams::new(alloc, reader, writer)?;
-    work(&mut streams)?;
-    write_out(&mut streams.writer.into_inner())?;
-    Ok(Status::Done)
 }
