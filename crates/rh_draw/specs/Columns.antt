@@ -1,34 +1,23 @@
--- Which cells have a column, and where.
-use Rattle.std.specs.Prelude.{ℕ, ◌+◌, ◌==◌, if◌then◌else◌, List, [], ◌∷◌, sum_by}
+-- Which cells have a column.
+use Rattle.std.specs.Prelude.{◌≡◌, ℕ, ◌<◌, ◌⊎◌, List, length, slice_index}
 use Rattle.rh_words.specs.declared.shape.Shape.{Shape}
-use Rattle.rh_draw.specs.Changes.{changed_cells, set_all}
-use Rattle.rh_draw.specs.Records.{is_drawn}
-use Rattle.rh_draw.specs.Words.{words_after}
+use Rattle.rh_draw.specs.Changing.{Changes, IsChanged, IsWithin, opening}
 use Rattle.rh_draw.specs.declared.records.Record.{Record}
-use Rattle.rh_draw.specs.declared.records.Record.TheVariants.{Step, Round}
 use Rattle.rh_draw.specs.declared.records.Window.{Window}
 use Rattle.rh_trace.specs.declared.traced.Traced.{Traced}
 
--- flags of the cells, with 1 for those that the step changes, if it is drawn
-abbrev pub flagged : Shape → Window → (words flags : List ℕ) → Traced → List ℕ
-flagged z window words flags step =
-    if is_drawn window step.number then set_all flags (changed_cells z words step.touched) 1 else flags
+-- A flag is 1 where this is so, and 0 where it is not.
+abbrev pub Flags : (flag : ℕ) → Type 0 → Type 0
+Flags flag P = (P × (flag ≡ 1)) ⊎ (¬ P × (flag ≡ 0))
 
--- those after all the records
-abbrev pub flags_after : Shape → Window → (words flags : List ℕ) → List Record → List ℕ
-flags_after z window words flags [] = flags
-flags_after z window words flags (Round next ∷ more) = flags_after z window words flags more
-flags_after z window words flags (Step step ∷ more) =
-    flags_after z window (words_after z words step.touched) (flagged z window words flags step) more
+-- The cells that change in the window have a column, and no others.
+abbrev pub ColumnsAreChanges : Shape → (cells : List ℕ) → List Record → Window → (flags : List ℕ) → Type 0
+ColumnsAreChanges z cells given window flags =
+    (cell : ℕ) → cell < length cells → Flags (slice_index flags cell) (IsChanged z (opening z cells) given window cell)
 
--- 1 for a cell that has a column
-abbrev pub has_column : (flag : ℕ) → ℕ
-has_column flag = if flag == 0 then 0 else 1
-
-abbrev pub column_count : (flags : List ℕ) → ℕ
-column_count flags = sum_by has_column flags
-
--- for each cell, how many columns are to the left of its own
-abbrev pub places_of : (count : ℕ) → (flags : List ℕ) → List ℕ
-places_of count [] = []
-places_of count (flag ∷ more) = count ∷ places_of (count + has_column flag) more
+-- Flags become 1 of the cells that a step of the window changes, and stay of the others.
+abbrev pub FlagsStep : Shape → Window → (words : List ℕ) → Traced → (old new : List ℕ) → Type 0
+FlagsStep z window words step old new =
+    (cell : ℕ) → cell < length old →
+    ((IsWithin window step.number × Changes z words step.touched cell) × (slice_index new cell ≡ 1))
+    ⊎ (¬ (IsWithin window step.number × Changes z words step.touched cell) × (slice_index new cell ≡ slice_index old cell))

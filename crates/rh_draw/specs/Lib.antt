@@ -1,15 +1,10 @@
-pub mod Boxes
 pub mod Changes
 pub mod Changing
 pub mod Columns
-pub mod Frame
-pub mod History
-pub mod Laws
-pub mod Legend
+pub mod Heads
 pub mod Notices
 pub mod Picture
 pub mod Places
-pub mod Plans
+pub mod Reading
 pub mod Records
 pub mod Rows
-pub mod Words

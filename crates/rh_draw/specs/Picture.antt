@@ -1,48 +1,47 @@
--- The picture of a play.
-use Rattle.std.specs.Prelude.{ℕ, ◌+◌, List, length, replicate}
+-- What a picture of a play shows.
+use Rattle.std.specs.Prelude.{◌≡◌, ℕ, ◌<◌, ◌≤◌, List, ◌++◌, length}
+use Rattle.std.specs.List.{flat_map}
 use Rattle.rh_words.specs.declared.shape.Shape.{Shape}
-use Rattle.rh_draw.specs.Columns.{column_count, flags_after, places_of}
-use Rattle.rh_draw.specs.Frame.{all_heads, frame, picture_height, picture_width}
-use Rattle.rh_draw.specs.History.{history, longest, notices}
-use Rattle.rh_svg.specs.Markup.{Content, Nothing, Element, beside}
-use Rattle.rh_draw.specs.Plans.{Plan, Standing}
-use Rattle.rh_draw.specs.Records.{drawn_count}
-use Rattle.rh_draw.specs.Rows.{rows}
-use Rattle.rh_draw.specs.Words.{all_words}
+use Rattle.rh_draw.specs.Changing.{opening}
+use Rattle.rh_draw.specs.Columns.{ColumnsAreChanges}
+use Rattle.rh_draw.specs.Heads.{head_row, repeated}
+use Rattle.rh_draw.specs.Notices.{AreTold}
+use Rattle.rh_draw.specs.Places.{lane_x}
+use Rattle.rh_draw.specs.Reading.{heads, line, lines, mark, marks}
+use Rattle.rh_draw.specs.Rows.{mark_of, row_lines}
+use Rattle.rh_draw.specs.declared.legend.TheConstants.{SIGNS}
 use Rattle.rh_draw.specs.declared.records.Record.{Record}
 use Rattle.rh_draw.specs.declared.records.Window.{Window}
-use Rattle.rh_svg.specs.declared.tags.Tag.TheVariants as tags
+use Rattle.rh_svg.specs.Markup.{Content, Nothing, Element, render}
+use Rattle.rh_svg.specs.declared.tags.Tag.{Tag}
+use Rattle.rh_svg.specs.declared.tags.Tag.TheVariants.{Svg}
 
--- flags of the cells that change within the window
-abbrev pub flags : Shape → (cells : List ℕ) → List Record → Window → List ℕ
-flags z cells given window = flags_after z window (all_words z cells) (replicate (length cells) 0) given
+-- what the legend explains
+abbrev pub legend_marks : List Tag
+legend_marks = flat_map (λ tag. mark tag Nothing) SIGNS.now
 
-abbrev pub plan : Shape → (cells : List ℕ) → List Record → Window → Plan
-plan z cells given window = record {
-  shape = z;
-  window = window;
-  flags = flags z cells given window;
-  places = places_of 0 (flags z cells given window);
-  columns = column_count (flags z cells given window);
-  end = drawn_count window given + 1;
-}
+abbrev pub legend_lines : List Tag
+legend_lines = flat_map (λ tag. line tag Nothing) SIGNS.now
 
--- what stands where before the first record: each cell stands for its own word
-abbrev pub beginning : Shape → (cells : List ℕ) → Standing
-beginning z cells = record { words = all_words z cells; values = cells; since = replicate (length cells) 0 }
-
--- what comes later stands above: a decision crosses the columns, and the marks stand above all lines
-abbrev pub inside : Plan → Standing → List Record → (width height : ℕ) → Content
-inside plan s given width height =
-    beside (frame plan width height)
-    (beside (history plan s given) (beside (notices plan s given) (beside (rows plan given) (all_heads plan))))
-
--- of a size: so wide that all has room that is said
-abbrev pub sized : Plan → Standing → List Record → (width height : ℕ) → Content
-sized plan s given width height = Element (tags.Svg width height) (inside plan s given width height) Nothing
-
-abbrev pub whole : Plan → Standing → List Record → Content
-whole plan s given = sized plan s given (picture_width plan (longest plan s 0 given)) (picture_height plan)
-
-abbrev pub picture : Shape → (cells : List ℕ) → List Record → Window → Content
-picture z cells given window = whole (plan z cells given window) (beginning z cells) given
+-- The text is a picture of the steps of the window.
+pub record IsPicture (z : Shape) (cells : List ℕ) (given : List Record) (window : Window) (text : List ℕ) : Type 0 where
+  pub width : ℕ
+  pub height : ℕ
+  pub inside : Content
+  pub text_is : text ≡ render (Element (Svg width height) inside Nothing)
+  -- beside the marks of the legend one for each step of the window, in their order, and no other
+  pub marks_are_steps : marks inside ≡ legend_marks ++ flat_map (mark_of window) given
+  -- beside those of the legend the lines of decisions and late promotions, across all lanes; then those from steps to the
+  -- workers whom they are about, and of rounds
+  pub right : ℕ
+  pub across : lane_x z.workers ≤ right
+  pub told : List Tag
+  pub are_told : AreTold z window right (opening z cells) given told
+  pub lines_are : lines inside ≡ legend_lines ++ (told ++ flat_map (row_lines window right) given)
+  pub flags : List ℕ
+  pub long : length flags ≡ length cells
+  pub columns_are_changes : ColumnsAreChanges z cells given window flags
+  -- the heads of the lanes and of these columns, in their order, and again as often as the picture is long
+  pub times : ℕ
+  pub some : 0 < times
+  pub heads_are : heads inside ≡ repeated (head_row z.workers flags) times

@@ -7,9 +7,6 @@ use Rattle.rh_draw.specs.declared.records.Window.{Window}
 abbrev pub is_drawn : Window → (number : ℕ) → Bool
 is_drawn window number = if nat_le window.from number then nat_lt (number - window.from) window.steps else false
 
-abbrev pub is_past : Window → (number : ℕ) → Bool
-is_past window number = if nat_le window.from number then nat_le window.steps (number - window.from) else false
-
 -- whether the moment before a step is one before a step of the window or after one
 abbrev pub is_before : Window → (next : ℕ) → Bool
 is_before window next = if nat_le window.from next then nat_le (next - window.from) window.steps else false
@@ -21,11 +18,3 @@ record_count from (Round next) = 0
 -- how many steps there are from a number on
 abbrev pub count_from : (from : ℕ) → List Record → ℕ
 count_from from records = sum_by (record_count from) records
-
-abbrev pub drawn_of : Window → Record → ℕ
-drawn_of window (Step step) = if is_drawn window step.number then 1 else 0
-drawn_of window (Round next) = 0
-
--- how many steps of a window there are
-abbrev pub drawn_count : Window → List Record → ℕ
-drawn_count window records = sum_by (drawn_of window) records

@@ -1,9 +1,8 @@
 //! What stands in the cells from one moment to another.
+#![tactic(auto, using(crate::proofs::Showing::nothing))]
 
-ghost use Rattle.std.specs.Prelude.{◌≡◌, ◌<◌, ◌^◌};
-ghost use Rattle.rh_draw.specs.Boxes.{box_at, boxes_at, last_boxes, look_of, value_label};
-ghost use Rattle.rh_svg.specs.Markup.{DrawsAfter};
-ghost use Rattle.rh_draw.specs.Plans.{plan_of, standing_of};
+ghost use Rattle.std.specs.Prelude.{◌<◌, ◌^◌};
+ghost use Rattle.rh_draw.specs.Reading.{DrawsPlain};
 
 use crate::canvas::Canvas;
 use crate::limits::{COLUMN, GAP, INDENT, TEXT};
@@ -14,9 +13,7 @@ use rh_svg::{Look, Tag, leaf};
 use rh_tagword::{Word, unpack};
 use std::alloc::AllocError;
 
-fn look_of(word: u64) -> Look
-    ensures { result ≡ look_of word }
-{
+fn look_of(word: u64) -> Look {
     match unpack(word) {
         Some(Word::Empty) => Look::Empty,
         Some(Word::Key(_)) => Look::Key,
@@ -27,7 +24,6 @@ fn look_of(word: u64) -> Look
 }
 
 /// What stood in a cell until a moment, since its word or its value last changed.
-#[tactic(auto, using(crate::proofs::Rendering::rendering))]
 pub(crate) fn draw_box(
     canvas: &mut Canvas,
     view: &View,
@@ -35,8 +31,7 @@ pub(crate) fn draw_box(
     until: u64,
     cell: u64,
 ) -> Result<(), AllocError>
-    ensures { DrawsAfter canvas.old.out.items canvas.new.out.items
-        (box_at (plan_of view.now) (standing_of sight.now) until cell) result }
+    ensures { DrawsPlain canvas.old.out.items canvas.new.out.items result }
 {
     let x = column_x(view.shape.workers as u64, at(&view.places, cell));
     let y = moment_y(at(&sight.since, cell));
@@ -59,12 +54,10 @@ pub(crate) fn draw_box(
 }
 
 // The value, where the word does not say it.
-#[tactic(auto, using(crate::proofs::Rendering::rendering))]
 fn draw_value(canvas: &mut Canvas, x: u64, y: u64, word: u64, value: u64) -> Result<(), AllocError>
     requires x { x < 2 ^ 32 }
     requires y { y < 2 ^ 32 }
-    ensures { DrawsAfter canvas.old.out.items canvas.new.out.items
-        (value_label x y word value) result }
+    ensures { DrawsPlain canvas.old.out.items canvas.new.out.items result }
 {
     if word == value {
         return Ok(());
@@ -78,7 +71,6 @@ fn draw_value(canvas: &mut Canvas, x: u64, y: u64, word: u64, value: u64) -> Res
 }
 
 /// Those of these cells.
-#[tactic(auto, using(crate::proofs::Rendering::rendering))]
 pub(crate) fn draw_boxes(
     canvas: &mut Canvas,
     view: &View,
@@ -86,8 +78,7 @@ pub(crate) fn draw_boxes(
     until: u64,
     cells: &[u64],
 ) -> Result<(), AllocError>
-    ensures { DrawsAfter canvas.old.out.items canvas.new.out.items
-        (boxes_at (plan_of view.now) (standing_of sight.now) until cells.now) result }
+    ensures { DrawsPlain canvas.old.out.items canvas.new.out.items result }
 {
     for cell in cells {
         draw_box(canvas, view, sight, until, *cell)?;
@@ -96,14 +87,12 @@ pub(crate) fn draw_boxes(
 }
 
 /// Those of each cell that has a column, until the end.
-#[tactic(auto, using(crate::proofs::Rendering::rendering))]
 pub(crate) fn draw_last_boxes(
     canvas: &mut Canvas,
     view: &View,
     sight: &Sight,
 ) -> Result<(), AllocError>
-    ensures { DrawsAfter canvas.old.out.items canvas.new.out.items
-        (last_boxes (plan_of view.now) (standing_of sight.now)) result }
+    ensures { DrawsPlain canvas.old.out.items canvas.new.out.items result }
 {
     for (cell, flag) in view.flags.iter().enumerate() {
         if *flag != 0 {

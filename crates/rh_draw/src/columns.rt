@@ -1,8 +1,8 @@
 //! Which cells have a column, and where.
 
-ghost use Rattle.std.specs.Prelude.{◌≡◌, ◌≤◌, IfOk, OnOk, length};
-ghost use Rattle.rh_words.specs.Parts.{IsShape};
-ghost use Rattle.rh_draw.specs.Columns.{column_count, flags_after, flagged, places_of};
+ghost use Rattle.std.specs.Prelude.{◌≡◌, ◌<◌, ℕ, OnOk, length, slice_index};
+ghost use Rattle.rh_draw.specs.Changing.{IsChanged};
+ghost use Rattle.rh_draw.specs.Columns.{Flags, FlagsStep};
 
 use crate::changes::{list_changes, put_all};
 use crate::records::{Record, Window};
@@ -21,9 +21,10 @@ pub(crate) fn flag_changes(
     records: &[Record],
     cells: &mut Vec<u64>,
 ) -> Result<(), AllocError>
-    requires { IsShape shape.now }
-    ensures { OnOk result
-        (flags.new ≡ flags_after shape.now window words.old flags.old records.now) }
+    requires { (cell : ℕ) → slice_index flags.old cell ≡ 0 }
+    ensures { OnOk result ((cell : ℕ) → cell < length flags.old →
+        Flags (slice_index flags.new cell)
+        (IsChanged shape.now words.old records.now window cell)) }
 {
     for record in records {
         if let Record::Step(step) = record {
@@ -42,8 +43,7 @@ fn flag_step(
     step: &Traced,
     cells: &mut Vec<u64>,
 ) -> Result<(), AllocError>
-    requires { IsShape shape.now }
-    ensures { OnOk result (flags.new ≡ flagged shape.now window words.now flags.old step.now) }
+    ensures { OnOk result (FlagsStep shape.now window words.now step.now flags.old flags.new) }
 {
     if window.has(step.number) {
         list_changes(shape, words, step.touched, cells)?;
@@ -53,9 +53,7 @@ fn flag_step(
 }
 
 /// How many columns there are.
-pub(crate) fn column_count(flags: &[u64]) -> u64
-    ensures { result ≡ column_count flags.now }
-{
+pub(crate) fn column_count(flags: &[u64]) -> u64 {
     let mut count = 0;
     for flag in flags {
         if *flag != 0 {
@@ -66,9 +64,7 @@ pub(crate) fn column_count(flags: &[u64]) -> u64
 }
 
 /// For each cell, how many columns are to the left of its own.
-pub(crate) fn place_columns(alloc: Global, flags: &[u64]) -> Result<Vec<u64>, AllocError>
-    ensures { IfOk result (λ places. places.items ≡ places_of 0 flags.now) }
-{
+pub(crate) fn place_columns(alloc: Global, flags: &[u64]) -> Result<Vec<u64>, AllocError> {
     let mut places = Vec::new(alloc);
     let mut count = 0;
     for flag in flags {

@@ -1,11 +1,19 @@
 //! A play, drawn.
 
-ghost use Rattle.std.specs.Prelude.{◌≡◌, ◌≤◌, IfOk, length};
-ghost use Rattle.rh_words.specs.Parts.{IsShape, cell_count};
-ghost use Rattle.rh_svg.specs.Markup.{DrawsAfter, Element, IsWellFormed, Nothing, render};
-ghost use Rattle.rh_draw.specs.Picture.{beginning, inside, picture, plan, sized, whole};
-ghost use Rattle.rh_draw.specs.Plans.{plan_of};
-ghost use Rattle.rh_draw.specs.declared.limits.TheConstants.{MAX_STEPS};
+ghost use Rattle.std.specs.Prelude.{◌≡◌, ◌+◌, ◌/◌, ◌≤◌, ◌++◌, List, IfOk, OnOk, length};
+ghost use Rattle.std.specs.List.{flat_map};
+ghost use Rattle.rh_words.specs.Parts.{cell_count};
+ghost use Rattle.rh_svg.specs.Markup.{IsWellFormed};
+ghost use Rattle.rh_draw.specs.Changing.{opening};
+ghost use Rattle.rh_draw.specs.Columns.{ColumnsAreChanges};
+ghost use Rattle.rh_draw.specs.Heads.{head_row, repeated};
+ghost use Rattle.rh_draw.specs.Notices.{AreTold};
+ghost use Rattle.rh_draw.specs.Picture.{IsPicture, legend_lines, legend_marks};
+ghost use Rattle.rh_draw.specs.Places.{column_x};
+ghost use Rattle.rh_draw.specs.Reading.{Shows};
+ghost use Rattle.rh_draw.specs.Rows.{mark_of, row_lines};
+ghost use Rattle.rh_svg.specs.declared.tags.Tag.{Tag};
+ghost use Rattle.rh_draw.specs.declared.limits.TheConstants.{HEAD_STEPS, MAX_STEPS};
 
 use crate::canvas::Canvas;
 use crate::columns::{column_count, flag_changes, place_columns};
@@ -28,69 +36,28 @@ pub fn draw(
     records: &[Record],
     window: Window,
 ) -> Result<Vec<u8>, AllocError>
-    requires shape { IsShape shape.now }
     requires cells { length cells.now ≡ cell_count shape.now }
     requires steps { window.steps ≤ MAX_STEPS }
     ensures drawn { IfOk result
-        (λ text. text.items ≡ render (picture shape.now cells.now records.now window)) }
+        (λ text. IsPicture shape.now cells.now records.now window text.items) }
     ensures well_formed { IfOk result (λ text. IsWellFormed text.items) }
 {
     let view = lay_out(alloc, shape, cells, records, window)?;
-    let mut canvas = Canvas::new(alloc);
-    draw_picture(alloc, &mut canvas, &view, cells, records)?;
-    Ok(canvas.out)
-}
-
-// The picture, by its layout.
-fn draw_picture(
-    alloc: Global,
-    canvas: &mut Canvas,
-    view: &View,
-    cells: &[u64],
-    records: &[Record],
-) -> Result<(), AllocError>
-    requires shape { IsShape view.now.shape }
-    requires cells { length cells.now ≡ cell_count view.now.shape }
-    ensures { DrawsAfter canvas.old.out.items canvas.new.out.items
-        (whole (plan_of view.now) (beginning view.now.shape cells.now) records.now) result }
-{
-    let letters = longest_notice(alloc, view, cells, records)?;
-    draw_inside(
-        alloc,
-        canvas,
-        picture_size(view, letters),
-        view,
-        cells,
-        records,
-    )
-}
-
-// An element of this size with all that the picture shows.
-#[tactic(auto, unfolding(rh_svg::specs::Markup::render))]
-fn draw_inside(
-    alloc: Global,
-    canvas: &mut Canvas,
-    size: (u64, u64),
-    view: &View,
-    cells: &[u64],
-    records: &[Record],
-) -> Result<(), AllocError>
-    requires shape { IsShape view.now.shape }
-    requires cells { length cells.now ≡ cell_count view.now.shape }
-    ensures { DrawsAfter canvas.old.out.items canvas.new.out.items
-        (sized (plan_of view.now) (beginning view.now.shape cells.now) records.now size.0 size.1)
-        result }
-{
+    let letters = longest_notice(alloc, &view, cells, records)?;
+    let size = picture_size(&view, letters);
     let tag = Tag::Svg {
         width: size.0,
         height: size.1,
     };
+    let mut canvas = Canvas::new(alloc);
     open(&mut canvas.out, tag)?;
-    draw_all(alloc, canvas, size, view, cells, records)?;
-    close(&mut canvas.out, tag)
+    draw_all(alloc, &mut canvas, size, &view, cells, records)?;
+    close(&mut canvas.out, tag)?;
+    Ok(canvas.out)
 }
 
-#[tactic(auto, using(crate::proofs::Rendering::rendering))]
+// All that the picture shows. What comes later stands above: a decision crosses the columns, and
+// the marks stand above all lines.
 fn draw_all(
     alloc: Global,
     canvas: &mut Canvas,
@@ -99,17 +66,22 @@ fn draw_all(
     cells: &[u64],
     records: &[Record],
 ) -> Result<(), AllocError>
-    requires shape { IsShape view.now.shape }
-    requires cells { length cells.now ≡ cell_count view.now.shape }
-    ensures { DrawsAfter canvas.old.out.items canvas.new.out.items
-        (inside (plan_of view.now) (beginning view.now.shape cells.now) records.now size.0 size.1)
-        result }
+    requires { length cells.now ≡ cell_count view.now.shape }
+    ensures { OnOk result ((told : List Tag) × AreTold view.now.shape view.now.window
+        (column_x view.now.shape.workers view.now.columns) (opening view.now.shape cells.now)
+        records.now told × Shows canvas.old.out.items canvas.new.out.items
+        (legend_marks ++ flat_map (mark_of view.now.window) records.now)
+        (legend_lines ++ (told ++ flat_map (row_lines view.now.window
+        (column_x view.now.shape.workers view.now.columns)) records.now))
+        (repeated (head_row view.now.shape.workers view.now.flags.items)
+        (view.now.end / HEAD_STEPS + 1))) }
 {
     draw_frame(canvas, view, size)?;
     draw_history(alloc, canvas, view, cells, records)?;
     draw_notices(alloc, canvas, view, cells, records)?;
     draw_rows(canvas, view, records)?;
-    draw_all_heads(canvas, view)
+    draw_all_heads(canvas, view)?;
+    Ok(())
 }
 
 // How the picture is laid out.
@@ -120,9 +92,12 @@ fn lay_out(
     records: &[Record],
     window: Window,
 ) -> Result<View, AllocError>
-    requires shape { IsShape shape.now }
-    requires cells { length cells.now ≡ cell_count shape.now }
-    ensures { IfOk result (λ view. plan_of view ≡ plan shape.now cells.now records.now window) }
+    requires { length cells.now ≡ cell_count shape.now }
+    ensures shape { IfOk result (λ view. view.shape ≡ shape.now) }
+    ensures window { IfOk result (λ view. view.window ≡ window) }
+    ensures long { IfOk result (λ view. length view.flags.items ≡ length cells.now) }
+    ensures columns { IfOk result
+        (λ view. ColumnsAreChanges shape.now cells.now records.now window view.flags.items) }
 {
     let mut words = all_words(alloc, shape, cells)?;
     let mut flags = vec![in alloc; 0; cells.len()]?;

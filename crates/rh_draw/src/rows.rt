@@ -1,9 +1,12 @@
 //! The rows of the steps: numbers, marks and lines of helping; and where rounds begin.
+#![tactic(auto, using(crate::proofs::Showing::nothing))]
 
-ghost use Rattle.std.specs.Prelude.{◌≡◌, ◌<◌, ◌^◌};
-ghost use Rattle.rh_svg.specs.Markup.{DrawsAfter};
-ghost use Rattle.rh_draw.specs.Rows.{desc_owner, help_line, helped, mark, other_than, owner_at, owner_in_cell, round_stroke, row, step_row, rows};
-ghost use Rattle.rh_draw.specs.Plans.{plan_of};
+ghost use Rattle.std.specs.Prelude.{◌≡◌, ◌<◌, ◌^◌, [], ◌∷◌};
+ghost use Rattle.std.specs.List.{flat_map};
+ghost use Rattle.rh_draw.specs.Places.{column_x, lane_x};
+ghost use Rattle.rh_draw.specs.Reading.{Draws};
+ghost use Rattle.rh_draw.specs.Rows.{desc_owner, help_line, helped, mark_of, owner_at, owner_in_cell, round_line, row_lines};
+ghost use Rattle.rh_svg.specs.declared.tags.Tag.TheVariants.{Mark};
 ghost use Rattle.rh_tagword.specs.Word.{word_in};
 
 use crate::canvas::Canvas;
@@ -72,10 +75,9 @@ fn helped(step: &Traced) -> Option<u64>
     }
 }
 
-#[tactic(auto, using(crate::proofs::Rendering::rendering))]
 fn draw_help(canvas: &mut Canvas, worker: u64, y: u64, other: Option<u64>) -> Result<(), AllocError>
-    ensures { DrawsAfter canvas.old.out.items canvas.new.out.items
-        (help_line worker y other) result }
+    ensures { Draws canvas.old.out.items canvas.new.out.items [] (help_line worker y other) []
+        result }
 {
     let Some(other) = other else {
         return Ok(());
@@ -94,9 +96,9 @@ fn draw_help(canvas: &mut Canvas, worker: u64, y: u64, other: Option<u64>) -> Re
 }
 
 // The mark of a step, in the lane of its worker; on hover it tells the line of the step.
-#[tactic(auto, unfolding(rh_svg::specs::Markup::render))]
 fn draw_mark(canvas: &mut Canvas, y: u64, step: &Traced) -> Result<(), AllocError>
-    ensures { DrawsAfter canvas.old.out.items canvas.new.out.items (mark y step.now) result }
+    ensures { Draws canvas.old.out.items canvas.new.out.items
+        (Mark (lane_x step.now.worker) y step.now.kind ∷ []) [] [] result }
 {
     let tag = Tag::Mark {
         x: lane_x(step.worker as u64),
@@ -108,10 +110,11 @@ fn draw_mark(canvas: &mut Canvas, y: u64, step: &Traced) -> Result<(), AllocErro
     close(&mut canvas.out, tag)
 }
 
-#[tactic(auto, using(crate::proofs::Rendering::rendering))]
 fn draw_row(canvas: &mut Canvas, y: u64, step: &Traced) -> Result<(), AllocError>
     requires { y < 2 ^ 32 }
-    ensures { DrawsAfter canvas.old.out.items canvas.new.out.items (row y step.now) result }
+    ensures { Draws canvas.old.out.items canvas.new.out.items
+        (Mark (lane_x step.now.worker) y step.now.kind ∷ [])
+        (help_line step.now.worker y (helped step.now)) [] result }
 {
     let label = Tag::Label {
         x: NUMBERS,
@@ -124,10 +127,9 @@ fn draw_row(canvas: &mut Canvas, y: u64, step: &Traced) -> Result<(), AllocError
 }
 
 // A line across all lanes and columns, between the steps.
-#[tactic(auto, using(crate::proofs::Rendering::rendering))]
 fn draw_round(canvas: &mut Canvas, view: &View, moment: u64) -> Result<(), AllocError>
-    ensures { DrawsAfter canvas.old.out.items canvas.new.out.items
-        (round_stroke (plan_of view.now) moment) result }
+    ensures { Draws canvas.old.out.items canvas.new.out.items []
+        (round_line (column_x view.now.shape.workers view.now.columns) moment ∷ []) [] result }
 {
     let y = moment_y(moment) + ROW / 2;
     let line = Tag::Line {
@@ -146,10 +148,10 @@ fn draw_round(canvas: &mut Canvas, view: &View, moment: u64) -> Result<(), Alloc
     labelled(&mut canvas.out, label, b"round")
 }
 
-#[tactic(auto, using(crate::proofs::Rendering::rendering))]
 fn draw_record(canvas: &mut Canvas, view: &View, given: Record) -> Result<(), AllocError>
-    ensures { DrawsAfter canvas.old.out.items canvas.new.out.items
-        (step_row (plan_of view.now) given) result }
+    ensures { Draws canvas.old.out.items canvas.new.out.items (mark_of view.now.window given)
+        (row_lines view.now.window (column_x view.now.shape.workers view.now.columns) given) []
+        result }
 {
     match given {
         Record::Step(step) => {
@@ -173,8 +175,10 @@ pub(crate) fn draw_rows(
     view: &View,
     records: &[Record],
 ) -> Result<(), AllocError>
-    ensures { DrawsAfter canvas.old.out.items canvas.new.out.items
-        (rows (plan_of view.now) records.now) result }
+    ensures { Draws canvas.old.out.items canvas.new.out.items
+        (flat_map (mark_of view.now.window) records.now)
+        (flat_map (row_lines view.now.window
+        (column_x view.now.shape.workers view.now.columns)) records.now) [] result }
 {
     for record in records {
         draw_record(canvas, view, *record)?;

@@ -1,9 +1,6 @@
 //! What stands where at a moment, and how a picture is laid out.
 
-ghost use Rattle.std.specs.Prelude.{◌≡◌};
-ghost use Rattle.rh_words.specs.Parts.{IsShape};
-ghost use Rattle.rh_draw.specs.Changes.{values_after};
-ghost use Rattle.rh_draw.specs.Words.{words_after};
+ghost use Rattle.rh_draw.specs.Changing.{Leaves};
 
 use crate::changes::follow_values;
 use crate::records::Window;
@@ -39,11 +36,7 @@ pub(crate) struct Sight {
 impl Sight {
     /// Goes on to what stands after a step.
     pub(crate) fn follow(&mut self, shape: &Shape, touched: Touched)
-        requires { IsShape shape.now }
-        ensures words { self.new.words.items ≡ words_after shape.now self.old.words.items touched }
-        ensures values { self.new.values.items ≡
-            values_after shape.now self.old.words.items self.old.values.items touched }
-        ensures since { self.new.since.items ≡ self.old.since.items }
+        ensures { Leaves shape.now self.old.words.items touched self.new.words.items }
     {
         follow_values(shape, &self.words, &mut self.values, touched);
         follow_words(shape, &mut self.words, touched);

@@ -1,7 +1,7 @@
-use Rattle.std.proofs.Common.{◌≡◌, ◌++◌}
-use Rattle.rh_draw.specs.Frame.{lane_head}
-use Rattle.rh_svg.specs.Markup.{each, render}
+use Rattle.std.proofs.Common.{[]}
+use Rattle.rh_draw.specs.Reading.{Shows}
+use Rattle.rh_draw.specs.Heads.{below, lane_head}
 use Rattle.rh_draw.proofs.frame.draw_lane_heads.Given as goal
 
 abbrev pub invariant-loop-worker : goal.invariant-loop-worker
-invariant-loop-worker l = l.canvas.out.items ≡ l.fn.canvas.out.items ++ render (each (lane_head l.y) l.worker)
+invariant-loop-worker l = Shows l.fn.canvas.out.items l.canvas.out.items [] [] (below lane_head l.worker)

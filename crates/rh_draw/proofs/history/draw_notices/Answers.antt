@@ -1,20 +1,30 @@
-use Rattle.std.proofs.Common.{append-nil}
-use Rattle.rh_draw.proofs.HistoryLemmas.{told_ends, told_goes_on}
-use Rattle.rh_draw.proofs.Rendering.{render-nothing}
+use Rattle.rh_draw.proofs.Showing.{all_told, both, more_told, nothing}
+use Rattle.std.proofs.Common.{[]}
+use Rattle.rh_draw.specs.Changing.{opening}
+use Rattle.rh_draw.specs.Notices.{AreTold}
+use Rattle.rh_draw.specs.Places.{column_x}
 use Rattle.rh_draw.proofs.history.draw_notices.Goals as goal
-use Rattle.rh_draw.specs.History.{notice_of}
-use Rattle.rh_svg.specs.Markup.{Nothing}
-use Rattle.rh_draw.specs.Plans.{plan_of, standing_of}
+
+pub loop-record-init : goal.loop-record-init
+loop-record-init c = ([], nothing _, rw c.in_ok-sight.ensures (λ more told. told))
 
 pub loop-record-preserved : goal.loop-record-preserved
 loop-record-preserved c =
-    told_goes_on (notice_of (plan_of c.args.view.now)) (λ ended. Nothing) (plan_of c.args.view.now) _ _
-    c.args.records.now c.loop-record.record-index _ _ _ _ c.loop-record-test.true c.in_ok-draw_notice_of.ensures
-    c.in_ok-go_on.ensures c.loop-record.invariant
+    let view = c.args.view.now in
+    let right = column_x view.shape.workers view.columns in
+    let before = c.loop-record.invariant in (
+      _,
+      both before.1 c.in_ok-draw_notice_of.ensures,
+      more_told view.shape view.window right (AreTold view.shape view.window right (opening view.shape c.args.cells.now) c.args.records.now)
+          c.args.records.now c.loop-record.record-index _ _ _ _ c.loop-record-test.true c.in_ok-go_on.ensures before.2,
+    )
 
 pub returns : goal.returns
 returns c =
-    let whole = told_ends (notice_of (plan_of c.args.view.now)) (λ ended. Nothing) (plan_of c.args.view.now)
-    (standing_of c.loop-record.sight) c.args.records.now c.loop-record.record-index _ _ c.loop-record-test.false
-    c.loop-record.invariant in
-    rw (render-nothing, append-nil) at whole
+    let view = c.args.view.now in
+    let right = column_x view.shape.workers view.columns in
+    let before = c.loop-record.invariant in
+    let told =
+    all_told view.shape view.window right (AreTold view.shape view.window right (opening view.shape c.args.cells.now) c.args.records.now)
+    c.args.records.now c.loop-record.record-index c.loop-record.sight.words.items _ c.loop-record-test.false before.2 in
+    (before.0, told, before.1)

@@ -1,11 +1,15 @@
-use Rattle.std.proofs.Common.{◌≡◌, ◌++◌, drop}
-use Rattle.rh_draw.specs.History.{notices}
-use Rattle.rh_svg.specs.Markup.{render}
-use Rattle.rh_draw.specs.Picture.{beginning}
-use Rattle.rh_draw.specs.Plans.{plan_of, standing_of}
+use Rattle.std.proofs.Common.{List, [], drop}
+use Rattle.rh_draw.specs.Reading.{Shows}
+use Rattle.rh_draw.proofs.Showing.{Goes}
+use Rattle.rh_draw.specs.Changing.{opening}
+use Rattle.rh_draw.specs.Notices.{AreTold}
+use Rattle.rh_draw.specs.Places.{column_x}
+use Rattle.rh_svg.specs.declared.tags.Tag.{Tag}
 use Rattle.rh_draw.proofs.history.draw_notices.Given as goal
 
 abbrev pub invariant-loop-record : goal.invariant-loop-record
 invariant-loop-record l =
-    l.canvas.out.items ++ render (notices (plan_of l.view) (standing_of l.sight) (drop l.record-index l.records))
-    ≡ l.fn.canvas.out.items ++ render (notices (plan_of l.view) (beginning l.view.shape l.cells) l.records)
+    let right = column_x l.view.shape.workers l.view.columns in
+    (done : List Tag) × Shows l.fn.canvas.out.items l.canvas.out.items [] done []
+    × Goes l.view.shape l.view.window right (AreTold l.view.shape l.view.window right (opening l.view.shape l.cells) l.records)
+    l.sight.words.items (drop l.record-index l.records) done
