@@ -3,9 +3,10 @@ use Rattle.std.proofs.Common.{◌≡◌, ℕ, Option, Some, None, refl, sym, sub
 use Rattle.rh_words.specs.declared.shape.Shape.{Shape}
 use Rattle.rh_words.specs.declared.steps.StepKind.{StepKind}
 use Rattle.rh_words.specs.View.{OwnDesc, View}
-use Rattle.rh_words.specs.Steps.{Allowed, Step}
+use Rattle.rh_words.specs.Steps.{Allowed, Step, noted}
+use Rattle.rh_rule.specs.Sound.{Finds}
 use Rattle.rh_steps.specs.Relies.{Knows, Went}
-use Rattle.rh_helping.specs.Requested.{requested, asked_of_mark}
+use Rattle.rh_helping.specs.Requested.{SettledFrom, asked_of_mark, requested}
 use Rattle.rh_steps.specs.Own.{KnowsOwn}
 use Rattle.rh_helping.specs.Goal.{piece_of}
 use Rattle.rh_helping.specs.Made.{HasMadeStep, kind_of}
@@ -34,6 +35,14 @@ may_ask_mark z v k (settles.Control x p) h = marks.may_read_control z v k x p h
 may_ask_mark z v k (settles.Old x p) h = marks.may_read_old z v k x p h.0
 may_ask_mark z v k (settles.OldSerial x p old) h = marks.may_read_row z v k x p h.0
 may_ask_mark z v k (settles.Settle x p old) h = may_settle z v k x p h.0 old h.1
+
+-- the step that was asked for was made with it
+pub made_settled : (z : Shape) (v next : View) (s : Settles) (asks : Step) (word : ℕ) → IsSettling v s → asks ≡ asked_of_mark s → Finds z v asks word → next ≡ noted z v asks word → SettledFrom z v s word next
+made_settled z v next s asks word h is finds view_is = record {
+  settling = h;
+  finds = subst (λ (q : Step). Finds z v q word) is finds;
+  view_is = subst (λ (q : Step). next ≡ noted z v q word) is view_is;
+}
 
 -- a step of this kind, that opens nothing, reads no cell and claims nothing
 abbrev pub IsOf : Step → StepKind → Type 0

@@ -1,14 +1,15 @@
 -- The step that a worker asks for, by what it goes about; and what is so once it is made, before the worker goes on from the
 -- word that it found.
 use Rattle.std.specs.Prelude.{◌≡◌, ℕ, Option, Some, None}
-use Rattle.rh_world.specs.World.{Control}
+use Rattle.rh_tagword.specs.Control.{IsState}
+use Rattle.rh_tagword.specs.declared.control.State.{State}
 use Rattle.rh_world.specs.World.Control.{failed, succeeded, withdrawn}
 use Rattle.rh_words.specs.declared.shape.Shape.{Shape}
 use Rattle.rh_words.specs.declared.shape.Part.TheVariants as part
 use Rattle.rh_words.specs.declared.reference.Reading.TheVariants as reading
 use Rattle.rh_words.specs.View.{OwnDesc, View}
 use Rattle.rh_words.specs.Words.{control_of, desc_number, ref_of}
-use Rattle.rh_words.specs.Steps.{Step, noted}
+use Rattle.rh_words.specs.Steps.{Step, decided_word, noted}
 use Rattle.rh_rule.specs.Sound.{Finds}
 use Rattle.rh_steps.specs.Relies.{Knows}
 use Rattle.rh_helping.specs.declared.goal.Task.{Task}
@@ -18,7 +19,7 @@ use Rattle.rh_helping.specs.Next.{Settles, Work}
 use Rattle.rh_helping.specs.Next.{Settles as settles}
 use Rattle.rh_helping.specs.Next.{Work as work}
 use Rattle.rh_helping.specs.Settling.{IsSettling}
-use Rattle.rh_helping.specs.Work.{Stands}
+use Rattle.rh_helping.specs.Work.{IsOver, Stands}
 
 abbrev pub asked_of_mark : Settles → Step
 asked_of_mark (settles.Desc x c) = Step.reads (reading.MarkDesc x)
@@ -57,15 +58,14 @@ requested v (work.GiveBack o) = Step.releases (ref_of o.piece.desc) o.piece.entr
 
 -- ---- the view after it
 
--- of a worker of whom v was kept, that settled a mark
+-- of a worker of whom v was kept, that made a step with a mark
 pub record SettledFrom (z : Shape) (v : View) (s : Settles) (word : ℕ) (next : View) : Type 0 where
-  pub owes : OwesNothing v
   pub settling : IsSettling v s
   pub finds : Finds z v (asked_of_mark s) word
   pub view_is : next ≡ noted z v (asked_of_mark s) word
 
-abbrev pub FollowsSettling : Settles → (word : ℕ) → (next : View) → Type 0
-FollowsSettling s word next = (z : Shape) × ((v : View) × SettledFrom z v s word next)
+abbrev pub FollowsSettling : Settles → (word : ℕ) → Type 0
+FollowsSettling s word = (z : Shape) × ((v : View) × ((next : View) × SettledFrom z v s word next))
 
 -- of a worker that went about a descriptor
 pub record Follows (z : Shape) (opens : Option OwnDesc) (w : Work) (word : ℕ) (next : View) : Type 0 where
@@ -76,12 +76,17 @@ pub record Follows (z : Shape) (opens : Option OwnDesc) (w : Work) (word : ℕ) 
   pub finds : Finds z before (requested before w) word
   pub view_is : next ≡ noted z before (requested before w) word
 
--- of one that decided it
-pub record FollowsDecide (z : Shape) (opens : Option OwnDesc) (t : Task) (k : Control) (word : ℕ) (next : View) : Type 0 where
+-- of one that decided it: this control was left by it
+pub record FollowsDecide (z : Shape) (opens : Option OwnDesc) (t : Task) (control : ℕ) (next : View) : Type 0 where
   pub before : View
   pub knows : Knows z before
   pub own : KnowsOwn before opens
   pub task : KnowsTask before t
   pub owes : OwesNothing before
-  pub finds : Finds z before (Step.decides (ref_of t.desc) k) word
-  pub view_is : next ≡ noted z before (Step.decides (ref_of t.desc) k) word
+  pub state : State
+  pub over : IsOver state
+  pub fits : IsState state
+  pub word : ℕ
+  pub finds : Finds z before (Step.decides (ref_of t.desc) (control_of state)) word
+  pub view_is : next ≡ noted z before (Step.decides (ref_of t.desc) (control_of state)) word
+  pub control_is : control ≡ decided_word (ref_of t.desc) (control_of state) word

@@ -1,7 +1,7 @@
--- What is so while a mark that was met in a cell is settled.
-use Rattle.std.specs.Prelude.{◌≡◌, Option, Some, None}
-use Rattle.rh_world.specs.World.{In, Ref}
-use Rattle.rh_world.specs.World.Control.{failed}
+-- The stages in which a mark that was met in a cell is settled: which one comes after which, and what is so at each.
+use Rattle.std.specs.Prelude.{◌≡◌, ◌≢◌, ℕ, Option, Some, None}
+use Rattle.rh_world.specs.World.{Control as WorldControl, In, Ref}
+use Rattle.rh_world.specs.World.Control.{failed, succeeded, undecided, unused, withdrawn}
 use Rattle.rh_world.specs.Facts.{Fact}
 use Rattle.rh_world.specs.Facts.Fact.{decided, found, desc_is, which_is, may_demote, stale}
 use Rattle.rh_words.specs.declared.reference.Ref.{Ref as Reference}
@@ -11,8 +11,9 @@ use Rattle.rh_words.specs.declared.steps.StepKind.TheVariants as kind
 use Rattle.rh_words.specs.View.{MarkWord, View}
 use Rattle.rh_words.specs.View.MarkWord.{desc_word, entry_word}
 use Rattle.rh_words.specs.View.RowWord.{old_word}
-use Rattle.rh_words.specs.Words.{ref_of}
+use Rattle.rh_words.specs.Words.{desc_in, ref_of}
 use Rattle.rh_words.specs.Steps.{MaySettle}
+use Rattle.rh_helping.specs.CellContent.{state_said}
 use Rattle.rh_helping.specs.Goal.{HasReadRow}
 use Rattle.rh_helping.specs.Next.{Settles}
 use Rattle.rh_helping.specs.Next.{Settles as settling}
@@ -48,6 +49,39 @@ kind_of_settling (settling.Control x p) = kind.Read
 kind_of_settling (settling.Old x p) = kind.Read
 kind_of_settling (settling.OldSerial x p old) = kind.Read
 kind_of_settling (settling.Settle x p old) = kind.Settle
+
+-- ---- which stage comes next
+
+-- the row of a mark that was met in this cell says that it is for this piece
+pub record Names (c named entry : ℕ) (p : Piece) : Type 0 where
+  pub cell : p.cell ≡ c
+  pub entry_is : p.entry ≡ entry
+  pub desc : desc_in named ≡ Some (ref_of p.desc)
+
+-- By what the control tells of its descriptor, which was opened: a mark of an undecided one is settled to it, of a decided
+-- one to the old value, which is read first, and that of a stale one is left.
+abbrev pub ByControl : Reference → Piece → Option WorldControl → Option Settles → Type 0
+ByControl x p None next = next ≡ None
+ByControl x p (Some unused) next = ⊥
+ByControl x p (Some undecided) next = next ≡ Some (settling.Settle x p None)
+ByControl x p (Some succeeded) next = next ≡ Some (settling.Old x p)
+ByControl x p (Some withdrawn) next = next ≡ Some (settling.Old x p)
+ByControl x p (Some (failed e by)) next = next ≡ Some (settling.Old x p)
+
+-- By the word that was found the worker goes on to this stage, or to none. What was read in a row is so of the mark, or of the
+-- descriptor, only where the row is still of it.
+abbrev pub GoesOn : Settles → (word : ℕ) → Option Settles → Type 0
+GoesOn (settling.Desc x c) word next = next ≡ Some (settling.Entry x c word)
+GoesOn (settling.Entry x c named) word next = next ≡ Some (settling.Serial x c named word)
+GoesOn (settling.Serial x c named entry) word None = word ≢ x.number
+GoesOn (settling.Serial x c named entry) word (Some next) = (word ≡ x.number) × ((p : Piece) × (Names c named entry p × (next ≡ settling.Control x p)))
+GoesOn (settling.Control x p) word next = ByControl x p (state_said p.desc.number word) next
+GoesOn (settling.Old x p) word next = next ≡ Some (settling.OldSerial x p word)
+GoesOn (settling.OldSerial x p old) word None = word ≢ p.desc.number
+GoesOn (settling.OldSerial x p old) word (Some next) = (word ≡ p.desc.number) × (next ≡ settling.Settle x p (Some old))
+GoesOn (settling.Settle x p old) word next = next ≡ None
+
+-- ---- what is so at each
 
 -- the mark was found in the piece's cell, and is for this piece
 pub record IsFound (v : View) (x : Reference) (p : Piece) : Type 0 where

@@ -3,14 +3,13 @@
 
 ghost use Rattle.rh_helping.specs.declared.machine.At.TheVariants as stage;
 ghost use Rattle.std.specs.Prelude.{◌≡◌};
-ghost use Rattle.rh_words.specs.Words.{control_of, ref_of};
 ghost use Rattle.rh_helping.specs.Requested.{FollowsDecide};
 ghost use Rattle.rh_helping.specs.Goal.{opened_by};
 ghost use Rattle.rh_helping.specs.Machine.{led};
 ghost use Rattle.rh_helping.specs.Next.{Work};
-ghost use Rattle.rh_helping.specs.Work.{IsOver, Leads, MayEnd, desc_of};
+ghost use Rattle.rh_helping.specs.Work.{Leads, MayEnd, desc_of};
 ghost use Rattle.rh_steps.specs.Relies.{Trusts};
-ghost use Rattle.rh_tagword.specs.Control.{IsControl};
+ghost use Rattle.rh_rule.specs.Sound.{IsControlWord};
 
 use crate::goal::{OpenDesc, Task};
 use crate::machine::{At, Machine, Progress};
@@ -18,37 +17,7 @@ use crate::reading::state_told;
 use crate::stage::Stage;
 use rh_steps::Steps;
 use rh_tagword::State;
-use rh_words::{Part, Reading, Request, Shape, Side, decided_word};
-
-pub(crate) struct WriteReason;
-
-impl<T: Steps> Stage<T> for WriteReason {
-    ghost at = { stage.WriteReason };
-
-    #[inline(always)]
-    fn request(machine: &Machine, _shape: &Shape, side: &Side) -> Request {
-        Request::Write {
-            part: Part::Reason {
-                worker: side.worker,
-                owner: machine.task.desc.worker,
-            },
-            word: machine.task.entry as u64,
-        }
-    }
-
-    #[inline(always)]
-    fn after(
-        machine: &mut Machine,
-        _shape: &Shape,
-        _table: &mut T,
-        _side: &Side,
-        _opens: Option<OpenDesc<'_>>,
-        _found: u64,
-    ) -> Progress {
-        machine.at = At::Fail;
-        Progress::On
-    }
-}
+use rh_words::{Reading, Request, Shape, Side, decided_word};
 
 pub(crate) struct Fail;
 
@@ -56,7 +25,7 @@ impl<T: Steps> Stage<T> for Fail {
     ghost at = { stage.Fail };
 
     #[inline(always)]
-    fn request(machine: &Machine, _shape: &Shape, side: &Side) -> Request {
+    fn request(machine: &Machine, side: &Side) -> Request {
         Request::Decide {
             desc: machine.task.desc,
             state: own_failure(side),
@@ -72,7 +41,8 @@ impl<T: Steps> Stage<T> for Fail {
         opens: Option<OpenDesc<'_>>,
         found: u64,
     ) -> Progress {
-        machine.decided(shape, table, side, opens, own_failure(side), found)
+        let failed = decided_word(machine.task.desc, own_failure(side), found);
+        machine.decided(shape, table, side, opens, failed)
     }
 }
 
@@ -82,7 +52,7 @@ impl<T: Steps> Stage<T> for Succeed {
     ghost at = { stage.Succeed };
 
     #[inline(always)]
-    fn request(machine: &Machine, _shape: &Shape, _side: &Side) -> Request {
+    fn request(machine: &Machine, _side: &Side) -> Request {
         Request::Decide {
             desc: machine.task.desc,
             state: State::Succeeded,
@@ -98,7 +68,8 @@ impl<T: Steps> Stage<T> for Succeed {
         opens: Option<OpenDesc<'_>>,
         found: u64,
     ) -> Progress {
-        machine.decided(shape, table, side, opens, State::Succeeded, found)
+        let control = decided_word(machine.task.desc, State::Succeeded, found);
+        machine.decided(shape, table, side, opens, control)
     }
 }
 
@@ -113,8 +84,8 @@ fn own_failure(side: &Side) -> State
 }
 
 impl Machine {
-    /// After a Decide of the task to this state, which found this word: releases it, however it was
-    /// decided, or leaves it where it is stale.
+    /// After a Decide of the task, which left this control: releases it, however it was decided, or
+    /// leaves it where it is stale.
     #[inline(always)]
     fn decided<T: Steps>(
         &mut self,
@@ -122,22 +93,19 @@ impl Machine {
         table: &mut T,
         side: &Side,
         opens: Option<OpenDesc<'_>>,
-        state: State,
-        found: u64,
+        control: u64,
     ) -> Progress
         requires trusts { Trusts T.shows shape.now table.old side.now.known.view }
-        requires follows { FollowsDecide shape.now (opened_by opens) self.old.task
-            (control_of state) found side.now.known.view }
-        requires state { IsControl self.old.task.desc.number state }
-        requires over { IsOver state }
+        requires follows { FollowsDecide shape.now (opened_by opens) self.old.task control
+            side.now.known.view }
+        requires control { IsControlWord control }
         ensures same { table.new ≡ table.old }
         ensures leads { Leads shape.now side.now.known.view (opened_by opens.entry)
             (led result self.new) }
         ensures ends { (w : Work) → desc_of w ≡ self.old.task.desc →
             MayEnd side.now.known.view w (led result self.new) }
     {
-        let desc = self.task.desc;
-        match state_told(desc, decided_word(desc, state, found)) {
+        match state_told(self.task.desc, control) {
             Some(state) => {
                 self.task = self.task.decided(state, None);
                 self.begin(shape, table, side, opens)
@@ -153,7 +121,7 @@ impl<T: Steps> Stage<T> for Withdraw {
     ghost at = { stage.Withdraw };
 
     #[inline(always)]
-    fn request(machine: &Machine, _shape: &Shape, _side: &Side) -> Request {
+    fn request(machine: &Machine, _side: &Side) -> Request {
         Request::Decide {
             desc: machine.task.desc,
             state: State::Withdrawn,
@@ -186,7 +154,7 @@ impl<T: Steps> Stage<T> for ReadReason {
     ghost at = { stage.ReadReason };
 
     #[inline(always)]
-    fn request(machine: &Machine, _shape: &Shape, _side: &Side) -> Request {
+    fn request(machine: &Machine, _side: &Side) -> Request {
         Request::Read(Reading::Reason {
             desc: machine.task.desc,
             decider: machine.decider,

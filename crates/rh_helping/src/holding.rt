@@ -9,97 +9,7 @@ use crate::reading::{CellContent, state_told, what_stands};
 use crate::settling::Settling;
 use crate::stage::Stage;
 use rh_steps::Steps;
-use rh_words::{Part, Reading, Ref, Request, Shape, Side, desc_word, mark_word};
-
-/// Takes the mark row for the next mark, before all else that is written there.
-/// It comes before the cell is looked at: a worker without marks gives up even where every cell
-/// holds its descriptor.
-pub(crate) struct MarkSerial;
-
-impl<T: Steps> Stage<T> for MarkSerial {
-    ghost at = { stage.MarkSerial };
-
-    #[inline(always)]
-    fn request(_machine: &Machine, _shape: &Shape, side: &Side) -> Request {
-        Request::Write {
-            part: Part::MarkSerial {
-                worker: side.worker,
-            },
-            word: side.marks_used,
-        }
-    }
-
-    #[inline(always)]
-    fn after(
-        machine: &mut Machine,
-        _shape: &Shape,
-        _table: &mut T,
-        _side: &Side,
-        _opens: Option<OpenDesc<'_>>,
-        _found: u64,
-    ) -> Progress {
-        machine.at = At::MarkDesc;
-        Progress::On
-    }
-}
-
-pub(crate) struct MarkDesc;
-
-impl<T: Steps> Stage<T> for MarkDesc {
-    ghost at = { stage.MarkDesc };
-
-    #[inline(always)]
-    fn request(machine: &Machine, shape: &Shape, side: &Side) -> Request {
-        Request::Write {
-            part: Part::MarkDesc {
-                worker: side.worker,
-            },
-            word: desc_word(shape, machine.task.desc),
-        }
-    }
-
-    #[inline(always)]
-    fn after(
-        machine: &mut Machine,
-        _shape: &Shape,
-        _table: &mut T,
-        _side: &Side,
-        _opens: Option<OpenDesc<'_>>,
-        _found: u64,
-    ) -> Progress {
-        machine.at = At::MarkEntry;
-        Progress::On
-    }
-}
-
-pub(crate) struct MarkEntry;
-
-impl<T: Steps> Stage<T> for MarkEntry {
-    ghost at = { stage.MarkEntry };
-
-    #[inline(always)]
-    fn request(machine: &Machine, _shape: &Shape, side: &Side) -> Request {
-        Request::Write {
-            part: Part::MarkEntry {
-                worker: side.worker,
-            },
-            word: machine.task.entry as u64,
-        }
-    }
-
-    #[inline(always)]
-    fn after(
-        machine: &mut Machine,
-        _shape: &Shape,
-        _table: &mut T,
-        _side: &Side,
-        _opens: Option<OpenDesc<'_>>,
-        _found: u64,
-    ) -> Progress {
-        machine.at = At::Place;
-        Progress::On
-    }
-}
+use rh_words::{Reading, Ref, Request, Shape, Side, mark_word};
 
 /// Places the mark, and goes by what stood in the cell.
 pub(crate) struct Place;
@@ -108,7 +18,7 @@ impl<T: Steps> Stage<T> for Place {
     ghost at = { stage.Place };
 
     #[inline(always)]
-    fn request(machine: &Machine, _shape: &Shape, _side: &Side) -> Request {
+    fn request(machine: &Machine, _side: &Side) -> Request {
         Request::Place {
             piece: machine.piece(),
             old: machine.change.old,
@@ -163,7 +73,7 @@ impl<T: Steps> Stage<T> for Settle {
     ghost at = { stage.Settle };
 
     #[inline(always)]
-    fn request(machine: &Machine, _shape: &Shape, _side: &Side) -> Request {
+    fn request(machine: &Machine, _side: &Side) -> Request {
         machine.settling.request()
     }
 
@@ -172,11 +82,11 @@ impl<T: Steps> Stage<T> for Settle {
         machine: &mut Machine,
         _shape: &Shape,
         _table: &mut T,
-        side: &Side,
+        _side: &Side,
         _opens: Option<OpenDesc<'_>>,
         found: u64,
     ) -> Progress {
-        if machine.settling.after(side, found) {
+        if machine.settling.after(found) {
             machine.at = At::Settle;
         } else {
             machine.at = At::Place;
@@ -191,7 +101,7 @@ impl<T: Steps> Stage<T> for MarkControl {
     ghost at = { stage.MarkControl };
 
     #[inline(always)]
-    fn request(machine: &Machine, _shape: &Shape, _side: &Side) -> Request {
+    fn request(machine: &Machine, _side: &Side) -> Request {
         Request::Read(Reading::MarkControl {
             mark: machine.mark,
             cell: machine.change.cell,
@@ -232,7 +142,7 @@ impl<T: Steps> Stage<T> for Promote {
     ghost at = { stage.Promote };
 
     #[inline(always)]
-    fn request(machine: &Machine, _shape: &Shape, _side: &Side) -> Request {
+    fn request(machine: &Machine, _side: &Side) -> Request {
         Request::Settle {
             mark: machine.mark,
             piece: machine.piece(),
@@ -261,7 +171,7 @@ impl<T: Steps> Stage<T> for Demote {
     ghost at = { stage.Demote };
 
     #[inline(always)]
-    fn request(machine: &Machine, _shape: &Shape, _side: &Side) -> Request {
+    fn request(machine: &Machine, _side: &Side) -> Request {
         Request::Settle {
             mark: machine.mark,
             piece: machine.piece(),
@@ -300,7 +210,7 @@ impl<T: Steps> Stage<T> for Recheck {
     ghost at = { stage.Recheck };
 
     #[inline(always)]
-    fn request(machine: &Machine, _shape: &Shape, _side: &Side) -> Request {
+    fn request(machine: &Machine, _side: &Side) -> Request {
         Request::Read(Reading::Control(machine.task.desc))
     }
 

@@ -76,24 +76,29 @@ pub enum At {
 }
 
 /// What a worker that goes about a descriptor has learned, and which step is next. A step changes
-/// what it teaches, and nothing is copied from step to step.
+/// what it teaches, and nothing is copied from step to step. So a field means something only at the
+/// stages that are named here: `work_at` says the same for contracts.
 #[derive(Clone, Copy)]
 pub struct Machine {
     pub at: At,
-    /// The descriptor, and how far the worker has come there.
+    /// The descriptor, at each stage, and how far the worker has come there: nothing of it at
+    /// `Control` and `Withdraw`, its state at `Length`, its size too at `LengthSerial`, its entry
+    /// alone at `GiveBack`, and at the others all.
     pub task: Task,
     /// The cell of the task's entry, the word that it is to find there, and the one that it is to
-    /// put there.
+    /// put there. At `EntryOld` the cell, at `EntryNew` and `GiveBack` the first word too, and all
+    /// from `EntrySerial` to `Recheck` and at `Release`.
     pub change: Entry,
-    /// The own mark that is placed for the entry.
+    /// The own mark that is placed for the entry: at `MarkControl`, `Promote` and `Demote`.
     pub mark: Ref,
-    /// The other mark that is settled.
+    /// The other mark that is settled: at `Settle`, and where a look settles one.
     pub settling: Settling,
-    /// How the descriptor was decided while the own mark was placed, or none where it is stale.
+    /// How the descriptor was decided while the own mark was placed, or none where it is stale: at
+    /// `Demote`.
     pub told: Option<State>,
-    /// Whether the descriptor came to stand in the cell.
+    /// Whether the descriptor came to stand in the cell: at `Recheck`.
     pub promoted: bool,
-    /// Who decided that the own open descriptor failed.
+    /// Who decided that the own open descriptor failed: at `ReadReason`.
     pub decider: usize,
 }
 

@@ -3,7 +3,6 @@
 
 ghost use Rattle.std.specs.Prelude.{◌≡◌, ◌<◌, length};
 ghost use Rattle.rh_words.specs.Requests.{step_asked};
-ghost use Rattle.rh_words.specs.Parts.{IsShape};
 ghost use Rattle.rh_helping.specs.Made.{HasStepped};
 ghost use Rattle.rh_helping.specs.Opening.{IsOpening, MayOpen, OpensOn, after_opening, kind_of_opening, opened_after, opening_step};
 ghost use Rattle.rh_steps.specs.Relies.{Relies};
@@ -67,7 +66,6 @@ impl Opening {
 
     #[inline(always)]
     fn request(self, shape: &Shape, side: &Side, entries: &[Entry]) -> Request
-        requires shape { IsShape shape.now }
         requires may { MayOpen shape.now side.now.known.view entries.now }
         requires opening { IsOpening side.now.known.view entries.now self }
         ensures { step_asked result ≡ opening_step side.now.known.view entries.now self }

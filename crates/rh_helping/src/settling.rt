@@ -9,7 +9,7 @@ ghost use Rattle.rh_steps.specs.Own.{OwesNothing};
 ghost use Rattle.rh_helping.specs.Machine.{left_on, settling_of};
 ghost use Rattle.rh_helping.specs.Made.{HasMadeStep};
 ghost use Rattle.rh_helping.specs.Next.{Settles};
-ghost use Rattle.rh_helping.specs.Settling.{Grows, IsSettling, LeadsOn, kind_of_settling};
+ghost use Rattle.rh_helping.specs.Settling.{GoesOn, Grows, IsSettling, LeadsOn, kind_of_settling};
 ghost use Rattle.rh_steps.specs.Relies.{Relies};
 
 use crate::reading::{named_desc, state_told};
@@ -99,12 +99,12 @@ impl Settling {
     {
         let request = self.request();
         let found = table.make(shape, side, request);
-        self.after(side, found)
+        self.after(found)
     }
 
     /// The step that is asked for.
     #[inline(always)]
-    pub(crate) fn request(&self) -> Request
+    pub fn request(&self) -> Request
         ensures { step_asked result ≡ asked_of_mark (settling_of self.now) }
     {
         let Settling {
@@ -143,14 +143,14 @@ impl Settling {
 
     /// Goes on from the word that the step found, and answers whether there is a next one.
     #[inline(always)]
-    pub(crate) fn after(&mut self, _side: &Side, found: u64) -> bool
-        requires follows { FollowsSettling (settling_of self.old) found _side.now.known.view }
-        ensures grows { (z : Shape) (v : View) →
-            SettledFrom z v (settling_of self.old) found _side.now.known.view
-            → Grows v _side.now.known.view }
-        ensures leads { (z : Shape) (v : View) →
-            SettledFrom z v (settling_of self.old) found _side.now.known.view
-            → LeadsOn v _side.now.known.view (settling_of self.old) (left_on result self.new) }
+    pub fn after(&mut self, found: u64) -> bool
+        requires follows { FollowsSettling (settling_of self.old) found }
+        ensures goes { GoesOn (settling_of self.old) found (left_on result self.new) }
+        ensures grows { (z : Shape) (v next : View) → OwesNothing v
+            → SettledFrom z v (settling_of self.old) found next → Grows v next }
+        ensures leads { (z : Shape) (v next : View)
+            → SettledFrom z v (settling_of self.old) found next
+            → LeadsOn v next (settling_of self.old) (left_on result self.new) }
     {
         match self.at {
             SettlingAt::Desc => {

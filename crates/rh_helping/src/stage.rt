@@ -1,14 +1,13 @@
-//! The stages of a machine. Each is one step: which one, and what follows from the word that it
-//! found.
+//! The stages of a machine, but for those of `keeping`. Each is one step: which one, and what
+//! follows from the word that it found.
 
 ghost use Rattle.std.specs.Prelude.{◌≡◌};
 ghost use Rattle.rh_words.specs.Requests.{step_asked};
-ghost use Rattle.rh_words.specs.Parts.{IsShape};
 ghost use Rattle.rh_helping.specs.Requested.{Follows, requested};
 ghost use Rattle.rh_helping.specs.Goal.{opened_by};
 ghost use Rattle.rh_helping.specs.Machine.{led, work_at};
-ghost use Rattle.rh_helping.specs.Work.{Stands, Leads, MayEnd};
-ghost use Rattle.rh_steps.specs.Relies.{Knows, Trusts};
+ghost use Rattle.rh_helping.specs.Work.{Leads, MayEnd};
+ghost use Rattle.rh_steps.specs.Relies.{Trusts};
 
 use crate::goal::OpenDesc;
 use crate::machine::{Machine, Progress};
@@ -22,10 +21,7 @@ pub(crate) trait Stage<T: Steps> {
     ghost at: { At };
 
     /// The step that the machine asks for.
-    fn request(machine: &Machine, shape: &Shape, side: &Side) -> Request
-        requires shape { IsShape shape.now }
-        requires knows { Knows shape.now side.now.known.view }
-        requires stands { Stands shape.now side.now.known.view (work_at at machine.now) }
+    fn request(machine: &Machine, side: &Side) -> Request
         ensures { step_asked result ≡ requested side.now.known.view (work_at at machine.now) };
 
     /// Goes on from the word that the step found. The table is there for own rows alone: no step is

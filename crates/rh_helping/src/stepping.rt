@@ -9,12 +9,10 @@ ghost use Rattle.rh_helping.specs.Goal.{opened_by};
 ghost use Rattle.rh_helping.specs.Machine.{led, work_at, work_of};
 ghost use Rattle.rh_helping.specs.Work.{Stands, Leads, MayEnd, kind_of_work};
 
-use crate::deciding::{Fail, ReadReason, Succeed, Withdraw, WriteReason};
-use crate::entering::{Control, EntryCell, EntryNew, EntryOld, EntrySerial, Length, LengthSerial};
+use crate::deciding::{Fail, ReadReason, Succeed, Withdraw};
+use crate::entering::{Control, EntrySerial, LengthSerial};
 use crate::goal::OpenDesc;
-use crate::holding::{
-    Demote, MarkControl, MarkDesc, MarkEntry, MarkSerial, Place, Promote, Recheck, Settle,
-};
+use crate::holding::{Demote, MarkControl, Place, Promote, Recheck, Settle};
 use crate::machine::{At, Machine, Progress};
 use crate::releasing::{GiveBack, Release};
 use crate::stage::Stage;
@@ -51,9 +49,9 @@ impl Machine {
         let opens = Some(own);
         let progress = match self.at {
             At::Control => self.make::<T, Control>(shape, table, side, opens),
-            At::MarkSerial => self.make::<T, MarkSerial>(shape, table, side, opens),
-            At::MarkDesc => self.make::<T, MarkDesc>(shape, table, side, opens),
-            At::MarkEntry => self.make::<T, MarkEntry>(shape, table, side, opens),
+            At::MarkSerial => self.make_kept(At::MarkSerial, shape, table, side),
+            At::MarkDesc => self.make_kept(At::MarkDesc, shape, table, side),
+            At::MarkEntry => self.make_kept(At::MarkEntry, shape, table, side),
             At::Place => self.make::<T, Place>(shape, table, side, opens),
             At::MarkControl => self.make::<T, MarkControl>(shape, table, side, opens),
             At::Promote => self.make::<T, Promote>(shape, table, side, opens),
@@ -113,28 +111,22 @@ impl Machine {
     {
         match self.at {
             At::Control => self.make::<T, Control>(shape, table, side, opens),
-            At::Length => self.make::<T, Length>(shape, table, side, opens),
             At::LengthSerial => self.make::<T, LengthSerial>(shape, table, side, opens),
-            At::EntryCell => self.make::<T, EntryCell>(shape, table, side, opens),
-            At::EntryOld => self.make::<T, EntryOld>(shape, table, side, opens),
-            At::EntryNew => self.make::<T, EntryNew>(shape, table, side, opens),
             At::EntrySerial => self.make::<T, EntrySerial>(shape, table, side, opens),
-            At::MarkSerial => self.make::<T, MarkSerial>(shape, table, side, opens),
-            At::MarkDesc => self.make::<T, MarkDesc>(shape, table, side, opens),
-            At::MarkEntry => self.make::<T, MarkEntry>(shape, table, side, opens),
             At::Place => self.make::<T, Place>(shape, table, side, opens),
             At::Settle => self.make::<T, Settle>(shape, table, side, opens),
             At::MarkControl => self.make::<T, MarkControl>(shape, table, side, opens),
             At::Promote => self.make::<T, Promote>(shape, table, side, opens),
             At::Demote => self.make::<T, Demote>(shape, table, side, opens),
             At::Recheck => self.make::<T, Recheck>(shape, table, side, opens),
-            At::WriteReason => self.make::<T, WriteReason>(shape, table, side, opens),
             At::Fail => self.make::<T, Fail>(shape, table, side, opens),
             At::Succeed => self.make::<T, Succeed>(shape, table, side, opens),
             At::Withdraw => self.make::<T, Withdraw>(shape, table, side, opens),
             At::ReadReason => self.make::<T, ReadReason>(shape, table, side, opens),
             At::Release => self.make::<T, Release>(shape, table, side, opens),
             At::GiveBack => self.make::<T, GiveBack>(shape, table, side, opens),
+            // (the others have one next stage)
+            _ => self.make_kept(self.at, shape, table, side),
         }
     }
 
@@ -157,7 +149,7 @@ impl Machine {
             (led result self.new) }
         ensures ends { MayEnd side.new.known.view (work_at S.at self.old) (led result self.new) }
     {
-        let request = S::request(self, shape, side);
+        let request = S::request(self, side);
         let found = table.make(shape, side, request);
         S::after(self, shape, table, side, opens, found)
     }

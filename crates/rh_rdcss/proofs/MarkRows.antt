@@ -19,69 +19,75 @@ use Rattle.rh_helping.proofs.Knowing.{allowed}
 use Rattle.rh_helping.proofs.Marking.{newest_word, older_word, other_word}
 use Rattle.rh_steps.specs.Relies.{Knows}
 use Rattle.rh_rule.specs.declared.rule.Sitter.{Sitter}
-use Rattle.rh_rdcss.specs.Calls.{Learned}
-use Rattle.rh_rdcss.specs.Placing.{IsMarkFor, KnowsPiece, Tried, WritesRow}
-
-module _ (z : Shape) (v : View) (p : Piece) (old worker mark word : ℕ) (may : KnowsPiece z v p old) (left : v.marks_used < z.rooms.marks) (of_worker : v.worker ≡ worker) (of_mark : v.marks_used ≡ mark) where
-  -- what is written, the newest first
-  abbrev serial_written : View
-  serial_written = record v { written = record { row = mark_row z 0; word = mark } ∷ v.written }
-
-  abbrev desc_written : View
-  desc_written = record v { written = record { row = mark_row z 1; word = word } ∷ serial_written.written }
-
-  abbrev row_written : View
-  row_written = record v { written = record { row = mark_row z 2; word = p.entry } ∷ desc_written.written }
-
-  module _ (v1 v2 : View) (w1 w2 : ℕ) (e1 : v1 ≡ noted z v (writes (part.MarkSerial worker) mark) w1) (e2 : v2 ≡ noted z v1 (writes (part.MarkDesc worker) word) w2) where
-    both : v2 ≡ desc_written
-    both = e2 ∙ ap (λ (u : View). noted z u (writes (part.MarkDesc worker) word) w2) e1
-
-    pub may_place : (v3 : View) (w3 : ℕ) → word ≡ desc_number (ref_of p.desc) → v3 ≡ noted z v2 (writes (part.MarkEntry worker) p.entry) w3
-        → Knows z v3 → Allowed z v3 (places (ref_of p.desc) p.entry p.cell old)
-    may_place v3 w3 is e3 = subst (λ (u : View). Knows z u → Allowed z u (places (ref_of p.desc) p.entry p.cell old)) (sym (e3 ∙ ap (λ (u : View). noted z u (writes (part.MarkEntry worker) p.entry) w3) both))
-        (λ knows. allowed z row_written knows _ (record {
-          cell = knows.sound.targets (ref_of p.desc) p.entry p.cell may.knows_cell may.work;
-          room = left;
-          serial = older_word desc_written.written (mark_row z 2) (mark_row z 0) p.entry (other_word z 0 2 (λ e. cc))
-              ∙ older_word serial_written.written (mark_row z 1) (mark_row z 0) word (other_word z 0 1 (λ e. cc)) ∙ newest_word v.written (mark_row z 0) (mark_row z 0) mark refl ∙ sym of_mark;
-          desc = older_word desc_written.written (mark_row z 2) (mark_row z 1) p.entry (other_word z 1 2 (λ e. cc))
-              ∙ newest_word serial_written.written (mark_row z 1) (mark_row z 1) word refl ∙ is;
-          entry = newest_word desc_written.written (mark_row z 2) (mark_row z 2) p.entry refl;
-          work = may.work;
-          seen = may.seen;
-          knows_cell = may.knows_cell;
-          knows_old = may.knows_old;
-          settled = may.settled;
-        }))
-
--- the row of the own mark of this number was written
-pub writes_row : (z : Shape) (p : Piece) (k first second next : Sitter) (worker mark word w1 w2 w3 : ℕ) → k.view.worker ≡ worker → k.view.marks_used ≡ mark → word ≡ desc_number (ref_of p.desc)
-    → Learned z (writes (part.MarkSerial worker) mark) k w1 first → Learned z (writes (part.MarkDesc worker) word) first w2 second
-    → Learned z (writes (part.MarkEntry worker) p.entry) second w3 next → WritesRow z p k next
-writes_row z p k first second next worker mark word w1 w2 w3 of_worker of_mark of_desc a b c = record {
-  first = first;
-  second = second;
-  of_serial = (w1, subst (λ (w : ℕ). Learned z (writes (part.MarkSerial w) k.view.marks_used) k w1 first) (sym of_worker) (subst (λ (m : ℕ). Learned z (writes (part.MarkSerial worker) m) k w1 first) (sym of_mark) a));
-  of_desc = (w2, subst (λ (w : ℕ). Learned z (writes (part.MarkDesc w) (desc_number (ref_of p.desc))) first w2 second) (sym of_worker) (subst (λ (n : ℕ). Learned z (writes (part.MarkDesc worker) n) first w2 second) of_desc b));
-  of_entry = (w3, subst (λ (w : ℕ). Learned z (writes (part.MarkEntry w) p.entry) second w3 next) (sym of_worker) c);
-}
-
--- ---- it found the old value: the own mark stands in the cell
+use Rattle.rh_rdcss.specs.Placing.{IsMarkFor, KnowsPiece, Tried, Writes, WritesRow}
 
 module _ (z : Shape) (k : Sitter) (p : Piece) (old : ℕ) (knows : Knows z k.view) (may : KnowsPiece z k.view p old) where
   abbrev v : View
   v = k.view
 
-  -- what the worker keeps once the row is written, the newest word first
+  -- what the worker keeps while the row is written, the newest word first
+  abbrev serial_written : View
+  serial_written = record v { written = record { row = mark_row z 0; word = v.marks_used } ∷ v.written }
+
+  abbrev desc_written : View
+  desc_written = record v { written = record { row = mark_row z 1; word = desc_number (ref_of p.desc) } ∷ serial_written.written }
+
   abbrev with_row : View
-  with_row = record v { written = record { row = mark_row z 2; word = p.entry } ∷ record { row = mark_row z 1; word = desc_number (ref_of p.desc) } ∷ record { row = mark_row z 0; word = v.marks_used } ∷ v.written }
+  with_row = record v { written = record { row = mark_row z 2; word = p.entry } ∷ desc_written.written }
 
   row_is : (next : Sitter) → WritesRow z p k next → next.view ≡ with_row
   row_is next r =
       r.of_entry.1.view_is
       ∙ ap (λ (u : View). noted z u (writes (part.MarkEntry v.worker) p.entry) 0)
       (r.of_desc.1.view_is ∙ ap (λ (u : View). noted z u (writes (part.MarkDesc v.worker) (desc_number (ref_of p.desc))) 0) r.of_serial.1.view_is)
+
+  -- each of its words may be written, once those before it are
+  pub may_write_serial : v.marks_used < z.rooms.marks → Allowed z v (writes (part.MarkSerial v.worker) v.marks_used)
+  may_write_serial left = allowed z v knows _ (refl, may.settled, refl, left)
+
+  module _ (first : Sitter) (r : Writes z (part.MarkSerial v.worker) v.marks_used k first) where
+    pub may_write_desc : Allowed z first.view (writes (part.MarkDesc v.worker) (desc_number (ref_of p.desc)))
+    may_write_desc =
+        let still = subst (Knows z) r.1.view_is r.1.knows in
+        subst (λ (u : View). Allowed z u (writes (part.MarkDesc v.worker) (desc_number (ref_of p.desc)))) (sym r.1.view_is)
+        (allowed z serial_written still _ (refl, may.settled, newest_word v.written (mark_row z 0) (mark_row z 0) v.marks_used refl))
+
+    module _ (second : Sitter) (q : Writes z (part.MarkDesc v.worker) (desc_number (ref_of p.desc)) first second) where
+      second_is : second.view ≡ desc_written
+      second_is = q.1.view_is ∙ ap (λ (u : View). noted z u (writes (part.MarkDesc v.worker) (desc_number (ref_of p.desc))) 0) r.1.view_is
+
+      pub may_write_entry : Allowed z second.view (writes (part.MarkEntry v.worker) p.entry)
+      may_write_entry =
+          let still = subst (Knows z) second_is q.1.knows in
+          subst (λ (u : View). Allowed z u (writes (part.MarkEntry v.worker) p.entry)) (sym second_is)
+          (allowed z desc_written still _ (
+            refl,
+            may.settled,
+            older_word serial_written.written (mark_row z 1) (mark_row z 0) _ (other_word z 0 1 (λ e. cc)) ∙ newest_word v.written (mark_row z 0) (mark_row z 0) v.marks_used refl,
+          ))
+
+  -- then the mark may be placed
+  pub may_place : (next : Sitter) → v.marks_used < z.rooms.marks → WritesRow z p k next → Allowed z next.view (places (ref_of p.desc) p.entry p.cell old)
+  may_place next left r =
+      let is = row_is next r in
+      let still = subst (Knows z) is r.of_entry.1.knows in
+      subst (λ (u : View). Allowed z u (places (ref_of p.desc) p.entry p.cell old)) (sym is) (allowed z with_row still _ (record {
+        cell = still.sound.targets (ref_of p.desc) p.entry p.cell may.knows_cell may.work;
+        room = left;
+        serial = older_word desc_written.written (mark_row z 2) (mark_row z 0) p.entry (other_word z 0 2 (λ e. cc))
+            ∙ older_word serial_written.written (mark_row z 1) (mark_row z 0) (desc_number (ref_of p.desc)) (other_word z 0 1 (λ e. cc))
+            ∙ newest_word v.written (mark_row z 0) (mark_row z 0) v.marks_used refl;
+        desc = older_word desc_written.written (mark_row z 2) (mark_row z 1) p.entry (other_word z 1 2 (λ e. cc))
+            ∙ newest_word serial_written.written (mark_row z 1) (mark_row z 1) (desc_number (ref_of p.desc)) refl;
+        entry = newest_word desc_written.written (mark_row z 2) (mark_row z 2) p.entry refl;
+        work = may.work;
+        seen = may.seen;
+        knows_cell = may.knows_cell;
+        knows_old = may.knows_old;
+        settled = may.settled;
+      }))
+
+  -- ---- it found the old value: the own mark stands in the cell
 
   abbrev d : Ref
   d = ref_of p.desc

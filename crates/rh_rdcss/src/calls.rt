@@ -8,7 +8,8 @@ ghost use Rattle.rh_words.specs.Steps.{IsDesc};
 ghost use Rattle.rh_words.specs.Steps.Step.{reads};
 ghost use Rattle.rh_words.specs.Words.{cell_in, ref_of};
 ghost use Rattle.rh_steps.specs.Relies.{Knows};
-ghost use Rattle.rh_shared.specs.Seats.{IsHere, IsSame, SitsSame, sitter_of, view_of};
+ghost use Rattle.rh_shared.specs.Rests.{SeatKnows, StaysKnown};
+ghost use Rattle.rh_shared.specs.Seats.{IsSame, SitsSame, sitter_of, view_of};
 ghost use Rattle.rh_rdcss.specs.Calls.{HasStatus, Learned, Meets, SeenAs, StillKnows};
 ghost use Rattle.rh_rdcss.specs.Placing.{HasEntry, IsMine, LengthSays, MayPlace, Places};
 ghost use Rattle.rh_rdcss.specs.Settling.{IsOwnUnsettled, Recalls, SettlesMark};
@@ -38,8 +39,7 @@ pub enum Placed {
 /// Reads a cell, by one load.
 #[inline(always)]
 pub fn peek_cell(table: &Table, seat: &mut Seat, cell: usize) -> u64
-    requires here { IsHere table.now seat.old }
-    requires knows { Knows table.now.shape (view_of seat.old) }
+    requires knows { SeatKnows table.now seat.old }
     requires cell { cell < cell_count table.now.shape }
     ensures same { IsSame seat.old seat.new }
     ensures read { Learned table.now.shape (reads (Reading.Cell cell)) (sitter_of seat.old) result
@@ -54,8 +54,7 @@ pub fn peek_cell(table: &Table, seat: &mut Seat, cell: usize) -> u64
 /// it is stale.
 #[inline(always)]
 pub fn status(table: &Table, seat: &mut Seat, desc: Ref) -> Option<State>
-    requires here { IsHere table.now seat.old }
-    requires knows { Knows table.now.shape (view_of seat.old) }
+    requires knows { SeatKnows table.now seat.old }
     requires desc { IsDesc table.now.shape (ref_of desc) }
     ensures same { IsSame seat.old seat.new }
     ensures read { HasStatus table.now.shape desc (sitter_of seat.old) result (sitter_of seat.new) }
@@ -71,11 +70,9 @@ pub fn status(table: &Table, seat: &mut Seat, desc: Ref) -> Option<State>
 /// is stale.
 #[inline(always)]
 pub fn count_entries(table: &Table, seat: &mut Seat, desc: Ref) -> Option<usize>
-    requires here { IsHere table.now seat.old }
-    requires knows { Knows table.now.shape (view_of seat.old) }
+    requires knows { SeatKnows table.now seat.old }
     requires may { MayPlace table.now.shape (view_of seat.old) desc }
-    ensures same { IsSame seat.old seat.new }
-    ensures knows { Knows table.now.shape (view_of seat.new) }
+    ensures stays { StaysKnown table.now seat.old seat.new }
     ensures says { LengthSays table.now.shape desc result (sitter_of seat.old)
         (sitter_of seat.new) }
     ensures entries { IfSome result (λ size. (e : ℕ) → e < size →
@@ -94,8 +91,7 @@ pub fn count_entries(table: &Table, seat: &mut Seat, desc: Ref) -> Option<usize>
 /// words of the mark row are written, and one compare-and-swap of the cell is made.
 #[inline(always)]
 pub fn place(table: &Table, seat: &mut Seat, desc: Ref, entry: usize) -> Placed
-    requires here { IsHere table.now seat.old }
-    requires knows { Knows table.now.shape (view_of seat.old) }
+    requires knows { SeatKnows table.now seat.old }
     requires entry { HasEntry table.now.shape (view_of seat.old) desc entry }
     ensures same { SitsSame seat.old seat.new }
     ensures knows { Knows table.now.shape (view_of seat.new) }
@@ -123,13 +119,11 @@ pub fn place(table: &Table, seat: &mut Seat, desc: Ref, entry: usize) -> Placed
 /// it.
 #[inline(always)]
 pub fn settle(table: &Table, seat: &mut Seat, cell: usize, mark: Ref) -> Option<u64>
-    requires here { IsHere table.now seat.old }
-    requires knows { Knows table.now.shape (view_of seat.old) }
+    requires knows { SeatKnows table.now seat.old }
     requires found { In (found (ref_of mark) cell) (view_of seat.old).side.facts }
     requires own { mark.worker ≡ (view_of seat.old).worker →
         Recalls (view_of seat.old) mark seat.old.placed }
-    ensures same { IsSame seat.old seat.new }
-    ensures knows { Knows table.now.shape (view_of seat.new) }
+    ensures stays { StaysKnown table.now seat.old seat.new }
     ensures settles { SettlesMark table.now.shape cell mark seat.old.placed
         (sitter_of seat.old) result (sitter_of seat.new) }
     ensures settled { IsOwnUnsettled (view_of seat.old) mark →

@@ -27,13 +27,14 @@
 //!   put into the cell where the old value was found; else that other word is told.
 //! - `place` answers `Passed` just where the descriptor was stale; no mark was used then. `Spent`
 //!   comes just where no mark was left, and nothing was done.
-//! - `settle` of another worker's mark: its row is read, then the control of its descriptor. The
-//!   mark is swapped for the descriptor where that is undecided, else for the old value; the answer
-//!   is the word that the swap found.
+//! - `settle` of another worker's mark is a run of the stages of `Settling` of `rh_helping`: the
+//!   row of the mark is read, then the control of its descriptor. The mark is swapped for that
+//!   where it is undecided, else for the old value; the answer is the word that the swap found.
 //! - `settle` answers no word just where the mark or its descriptor was stale; no swap
 //!   was made then.
-//! - `settle` of the own mark that was placed last: the same by the old value that the seat keeps,
-//!   also where it is stale. A swap is always made, and no own mark is unsettled then.
+//! - `settle` of the own mark that was placed last: the same from the control on, by the old value
+//!   that the seat keeps, also where it is stale. A swap is always made, and no own mark is
+//!   unsettled then.
 //! - Each call makes just the steps that are named here, in this order, and what it answers is the
 //!   word that the step found: the table keeps the trace of them.
 //! - The own mark that a seat keeps stays in each call but where `place` puts the next one, and in

@@ -1,10 +1,9 @@
 //! A step by the seat of one worker.
 
-ghost use Rattle.std.specs.Prelude.{◌≡◌};
 ghost use Rattle.rh_words.specs.Requests.{step_asked};
 ghost use Rattle.rh_words.specs.Steps.{Allowed};
-ghost use Rattle.rh_steps.specs.Relies.{Knows};
-ghost use Rattle.rh_shared.specs.Seats.{IsHere, IsSame, sitter_of, view_of};
+ghost use Rattle.rh_shared.specs.Rests.{SeatKnows};
+ghost use Rattle.rh_shared.specs.Seats.{IsSame, sitter_of, view_of};
 ghost use Rattle.rh_rdcss.specs.Calls.{Learned};
 
 use rh_shared::{OnTable, Seat, Table};
@@ -14,8 +13,7 @@ use rh_words::Request;
 /// Makes the step, and answers the word that it found.
 #[inline(always)]
 pub(crate) fn make(table: &Table, seat: &mut Seat, request: Request) -> u64
-    requires here { IsHere table.now seat.old }
-    requires knows { Knows table.now.shape (view_of seat.old) }
+    requires knows { SeatKnows table.now seat.old }
     requires allowed { Allowed table.now.shape (view_of seat.old) (step_asked request) }
     ensures same { IsSame seat.old seat.new }
     ensures learned { Learned table.now.shape (step_asked request) (sitter_of seat.old) result

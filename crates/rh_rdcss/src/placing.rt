@@ -2,14 +2,16 @@
 
 ghost use Rattle.std.specs.Prelude.{◌≡◌, ◌≢◌, ◌<◌};
 ghost use Rattle.rh_steps.specs.Relies.{Knows};
-ghost use Rattle.rh_shared.specs.Seats.{IsHere, IsSame, SitsSame, sitter_of, view_of};
+ghost use Rattle.rh_shared.specs.Rests.{SeatKnows};
+ghost use Rattle.rh_shared.specs.Seats.{IsSame, SitsSame, sitter_of, view_of};
 ghost use Rattle.rh_rdcss.specs.Placing.{EntrySays, HasEntry, IsMine, KnowsPiece, Tried, TriedSo};
 ghost use Rattle.rh_rdcss.specs.declared.calls.Placed.TheVariants.{Mine};
 
 use crate::calls::Placed;
 use crate::making::make;
+use rh_helping::{write_mark_desc, write_mark_entry, write_mark_serial};
 use rh_shared::{OwnMark, Seat, Table};
-use rh_words::{Part, Piece, Reading, Ref, Request, desc_word};
+use rh_words::{Piece, Reading, Ref, Request};
 
 /// Reads the cell and the old value of an entry in the row of its descriptor, and then whether the
 /// row is still of it: if not, what was read says nothing of it.
@@ -20,8 +22,7 @@ pub(crate) fn read_entry(
     desc: Ref,
     entry: usize,
 ) -> Option<(Piece, u64)>
-    requires here { IsHere table.now seat.old }
-    requires knows { Knows table.now.shape (view_of seat.old) }
+    requires knows { SeatKnows table.now seat.old }
     requires has { HasEntry table.now.shape (view_of seat.old) desc entry }
     ensures same { IsSame seat.old seat.new }
     ensures says { EntrySays table.now.shape desc entry result (sitter_of seat.old)
@@ -41,8 +42,7 @@ pub(crate) fn read_entry(
 /// Places the next own mark, which is left, and keeps for what it is where it stands in the cell.
 #[inline(always)]
 pub(crate) fn place_there(table: &Table, seat: &mut Seat, piece: Piece, old: u64) -> Placed
-    requires here { IsHere table.now seat.old }
-    requires knows { Knows table.now.shape (view_of seat.old) }
+    requires knows { SeatKnows table.now seat.old }
     requires knows_it { KnowsPiece table.now.shape (view_of seat.old) piece old }
     requires left { seat.old.side.marks_used < table.now.shape.rooms.marks }
     ensures same { SitsSame seat.old seat.new }
@@ -65,27 +65,21 @@ pub(crate) fn place_there(table: &Table, seat: &mut Seat, piece: Piece, old: u64
 }
 
 /// Places the next own mark, which is left, and answers the word that stood in the cell. The mark
-/// row is written first, since whoever meets the mark reads it, and before all else the mark's
-/// number, since whoever meets an older one must see that it is stale.
+/// row is written first, as a machine of `rh_helping` writes it.
 #[inline(always)]
 pub(crate) fn place_next(table: &Table, seat: &mut Seat, piece: Piece, old: u64) -> u64
-    requires here { IsHere table.now seat.old }
-    requires knows { Knows table.now.shape (view_of seat.old) }
+    requires knows { SeatKnows table.now seat.old }
     requires knows_it { KnowsPiece table.now.shape (view_of seat.old) piece old }
     requires left { seat.old.side.marks_used < table.now.shape.rooms.marks }
     ensures same { IsSame seat.old seat.new }
     ensures tried { Tried table.now.shape piece old (sitter_of seat.old) result
         (sitter_of seat.new) }
 {
-    let worker = seat.side.worker;
-    let part = Part::MarkSerial { worker };
-    let word = seat.side.marks_used;
-    make(table, seat, Request::Write { part, word });
-    let part = Part::MarkDesc { worker };
-    let word = desc_word(&table.shape, piece.desc);
-    make(table, seat, Request::Write { part, word });
-    let part = Part::MarkEntry { worker };
-    let word = piece.entry as u64;
-    make(table, seat, Request::Write { part, word });
+    let serial = write_mark_serial(&seat.side);
+    let desc = write_mark_desc(&table.shape, &seat.side, piece.desc);
+    let entry = write_mark_entry(&seat.side, piece.entry);
+    make(table, seat, serial);
+    make(table, seat, desc);
+    make(table, seat, entry);
     make(table, seat, Request::Place { piece, old })
 }

@@ -8,7 +8,7 @@ use Rattle.rh_helping.proofs.own_rows.own_entry.Goals as goal
 pub offset_bounds-entries-task : goal.offset_bounds-entries-task
 offset_bounds-entries-task g c =
     let room = entry_here _ _ c.requires.trusts.knows c.args.task c.requires.task c.requires.entry in
-    omega (arith, room, pow_mono {j = 18} c.requires.trusts.shape.bits.1)
+    omega (arith, room, pow_mono {j = 18} c.args.shape.now.bits_fit.1)
 
 pub bounds-entries-task : goal.bounds-entries-task
 bounds-entries-task g c = open_inside _ _ c.requires.trusts.knows _ c.requires.own c.args.task.desc.number c.in-Some.entries.now c.in-Some.ensures

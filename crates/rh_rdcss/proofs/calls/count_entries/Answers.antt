@@ -2,7 +2,7 @@ use Rattle.rh_rdcss.proofs.EntriesRead.{counted, may_read_length, may_read_seria
 use Rattle.rh_rdcss.proofs.calls.count_entries.Goals as goal
 
 pub make-length-requires-clause-allowed : goal.make-length-requires-clause-allowed
-make-length-requires-clause-allowed c = may_read_length _ c.args.desc _ c.requires.knows c.requires.may
+make-length-requires-clause-allowed c = may_read_length _ c.args.desc _ c.requires.knows.knows c.requires.may
 
 pub make-serial-requires-clause-allowed : goal.make-serial-requires-clause-allowed
 make-serial-requires-clause-allowed c = may_read_serial _ c.args.desc _ c.make-length.ensures.learned.knows (then_length _ c.args.desc _ c.requires.may c.make-length.result _ c.make-length.ensures.learned)

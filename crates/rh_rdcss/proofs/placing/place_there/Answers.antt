@@ -13,5 +13,5 @@ returns-clause-mine c mine =
     let side = c.args.seat.now.side in (
       _,
       refl,
-      is_mark_for z k c.args.piece c.args.old c.requires.knows c.requires.knows_it next tried _ (sym side.same_worker) (sym side.same_marks),
+      is_mark_for z k c.args.piece c.args.old c.requires.knows.knows c.requires.knows_it next tried _ (sym side.same_worker) (sym side.same_marks),
     )

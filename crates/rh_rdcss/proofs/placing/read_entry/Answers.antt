@@ -2,7 +2,7 @@ use Rattle.rh_rdcss.proofs.EntriesRead.{may_read_cell, may_read_old, may_read_se
 use Rattle.rh_rdcss.proofs.placing.read_entry.Goals as goal
 
 pub make-cell-requires-clause-allowed : goal.make-cell-requires-clause-allowed
-make-cell-requires-clause-allowed c = may_read_cell _ c.args.desc c.args.entry _ c.requires.knows c.requires.has
+make-cell-requires-clause-allowed c = may_read_cell _ c.args.desc c.args.entry _ c.requires.knows.knows c.requires.has
 
 pub make-old-requires-clause-allowed : goal.make-old-requires-clause-allowed
 make-old-requires-clause-allowed c = may_read_old _ c.args.desc c.args.entry _ c.make-cell.ensures.learned.knows (then_cell _ c.args.desc c.args.entry _ c.requires.has c.make-cell.result _ c.make-cell.ensures.learned)

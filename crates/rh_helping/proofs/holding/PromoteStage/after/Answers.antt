@@ -7,8 +7,8 @@ use Rattle.rh_helping.proofs.Leading.{lead}
 use Rattle.rh_helping.proofs.Marking.{promoted, settled_own}
 use Rattle.rh_helping.proofs.holding.PromoteStage.after.Goals as goal
 
-pub mark_word-requires-clause-mark : goal.mark_word-requires-clause-mark
-mark_word-requires-clause-mark g c = let f = c.requires.follows in (f.knows.sound.marks (ref_of c.args.machine.now.mark) c.args.machine.now.change.cell f.stands.0.met).0
+pub mark_word-requires : goal.mark_word-requires
+mark_word-requires g c = let f = c.requires.follows in (f.knows.sound.marks (ref_of c.args.machine.now.mark) c.args.machine.now.change.cell f.stands.0.met).0
 
 pub returns-clause-leads : goal.returns-clause-leads
 returns-clause-leads g c =

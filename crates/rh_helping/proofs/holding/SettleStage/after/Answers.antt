@@ -6,17 +6,22 @@ use Rattle.rh_helping.proofs.Growing.{own_grows}
 use Rattle.rh_helping.proofs.Marking.{names_grows, try_grows}
 use Rattle.rh_helping.proofs.holding.SettleStage.after.Goals as goal
 
+pub after-requires : goal.after-requires
+after-requires g c =
+    let f = c.requires.follows in
+    record { follows = (c.args._shape.now, (f.before, (c.args._side.now.known.view, record { settling = f.stands.2; finds = f.finds; view_is = f.view_is }))) }
+
 pub returns-then-after-clause-leads : goal.returns-then-after-clause-leads
 returns-then-after-clause-leads g c =
     let f = c.requires.follows in
-    let s : SettledFrom c.args._shape.now f.before (settling_of c.args.machine.now.settling) c.args.found c.args.side.now.known.view = record { owes = f.stands.0.owes; settling = f.stands.2; finds = f.finds; view_is = f.view_is } in
-    let g = c.after.ensures.grows c.args._shape.now f.before s in
-    let on = subst (λ (b : Bool). LeadsOn f.before c.args.side.now.known.view (settling_of c.args.machine.now.settling) (left_on b c.after.new.self)) c.if-after.true (c.after.ensures.leads c.args._shape.now f.before s) in
+    let s : SettledFrom c.args._shape.now f.before (settling_of c.args.machine.now.settling) c.args.found c.args._side.now.known.view = record { settling = f.stands.2; finds = f.finds; view_is = f.view_is } in
+    let g = c.after.ensures.grows c.args._shape.now f.before c.args._side.now.known.view f.stands.0.owes s in
+    let on = subst (λ (b : Bool). LeadsOn f.before c.args._side.now.known.view (settling_of c.args.machine.now.settling) (left_on b c.after.new.self)) c.if-after.true (c.after.ensures.leads c.args._shape.now f.before c.args._side.now.known.view s) in
     (own_grows _ _ g _ f.own, (try_grows c.args._shape.now _ _ g (goal_of c.args.machine.now) f.stands.0, names_grows c.args._shape.now _ _ g (goal_of c.args.machine.now) f.stands.1, on))
 
 pub returns-else-after-clause-leads : goal.returns-else-after-clause-leads
 returns-else-after-clause-leads g c =
     let f = c.requires.follows in
-    let s : SettledFrom c.args._shape.now f.before (settling_of c.args.machine.now.settling) c.args.found c.args.side.now.known.view = record { owes = f.stands.0.owes; settling = f.stands.2; finds = f.finds; view_is = f.view_is } in
-    let g = c.after.ensures.grows c.args._shape.now f.before s in
+    let s : SettledFrom c.args._shape.now f.before (settling_of c.args.machine.now.settling) c.args.found c.args._side.now.known.view = record { settling = f.stands.2; finds = f.finds; view_is = f.view_is } in
+    let g = c.after.ensures.grows c.args._shape.now f.before c.args._side.now.known.view f.stands.0.owes s in
     (own_grows _ _ g _ f.own, (try_grows c.args._shape.now _ _ g (goal_of c.args.machine.now) f.stands.0, names_grows c.args._shape.now _ _ g (goal_of c.args.machine.now) f.stands.1))

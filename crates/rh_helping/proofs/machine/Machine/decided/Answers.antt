@@ -13,19 +13,19 @@ use Rattle.rh_helping.proofs.Starting.{own_saw}
 use Rattle.rh_helping.proofs.machine.Machine.decided.Goals as goal
 
 pub begin-requires-clause-own : goal.begin-requires-clause-own
-begin-requires-clause-own g c = let f = c.requires.follows in own_saw _ _ _ (Some c.in-Some.state) (opened_by c.args.opens) (saw_decided f.before (ref_of c.args.self.now.task.desc) c.args.state c.requires.over c.requires.state.1 c.args.found f.finds (task_known _ _ f.knows c.args.self.now.task f.task) (Some c.in-Some.state) (c.in-Some.ensures ∙ ap (state_said c.args.self.now.task.desc.number) c.decided_word.ensures) _ _ f.view_is).0 f.own
+begin-requires-clause-own g c = let f = c.requires.follows in own_saw _ _ _ (Some c.in-Some.state) (opened_by c.args.opens) (saw_decided f.before (ref_of c.args.self.now.task.desc) f.state f.over f.fits f.word f.finds (task_known _ _ f.knows c.args.self.now.task f.task) (Some c.in-Some.state) (c.in-Some.ensures ∙ ap (state_said c.args.self.now.task.desc.number) f.control_is) _ _ f.view_is).0 f.own
 
 pub begin-requires-clause-begins : goal.begin-requires-clause-begins
 begin-requires-clause-begins g c =
     let f = c.requires.follows in
-    let s = (saw_decided f.before (ref_of c.args.self.now.task.desc) c.args.state c.requires.over c.requires.state.1 c.args.found f.finds (task_known _ _ f.knows c.args.self.now.task f.task) (Some c.in-Some.state) (c.in-Some.ensures ∙ ap (state_said c.args.self.now.task.desc.number) c.decided_word.ensures) _ _ f.view_is) in
+    let s = (saw_decided f.before (ref_of c.args.self.now.task.desc) f.state f.over f.fits f.word f.finds (task_known _ _ f.knows c.args.self.now.task f.task) (Some c.in-Some.state) (c.in-Some.ensures ∙ ap (state_said c.args.self.now.task.desc.number) f.control_is) _ _ f.view_is) in
     subst (Begins c.args.side.now.known.view) (sym c.decided-self.ensures) (decided_begins _ _ c.args.self.now.task c.in-Some.state s.0 (s.1 c.in-Some.state refl) f.task f.owes)
 
 pub resume-requires-clause-own : goal.resume-requires-clause-own
-resume-requires-clause-own g c = let f = c.requires.follows in own_saw _ _ _ None (opened_by c.args.opens) (saw_decided f.before (ref_of c.args.self.now.task.desc) c.args.state c.requires.over c.requires.state.1 c.args.found f.finds (task_known _ _ f.knows c.args.self.now.task f.task) None (c.in-None.ensures ∙ ap (state_said c.args.self.now.task.desc.number) c.decided_word.ensures) _ _ f.view_is).0 f.own
+resume-requires-clause-own g c = let f = c.requires.follows in own_saw _ _ _ None (opened_by c.args.opens) (saw_decided f.before (ref_of c.args.self.now.task.desc) f.state f.over f.fits f.word f.finds (task_known _ _ f.knows c.args.self.now.task f.task) None (c.in-None.ensures ∙ ap (state_said c.args.self.now.task.desc.number) f.control_is) _ _ f.view_is).0 f.own
 
 pub resume-requires-clause-owes : goal.resume-requires-clause-owes
-resume-requires-clause-owes g c = let f = c.requires.follows in nothing_saw _ _ _ None (saw_decided f.before (ref_of c.args.self.now.task.desc) c.args.state c.requires.over c.requires.state.1 c.args.found f.finds (task_known _ _ f.knows c.args.self.now.task f.task) None (c.in-None.ensures ∙ ap (state_said c.args.self.now.task.desc.number) c.decided_word.ensures) _ _ f.view_is).0 f.owes
+resume-requires-clause-owes g c = let f = c.requires.follows in nothing_saw _ _ _ None (saw_decided f.before (ref_of c.args.self.now.task.desc) f.state f.over f.fits f.word f.finds (task_known _ _ f.knows c.args.self.now.task f.task) None (c.in-None.ensures ∙ ap (state_said c.args.self.now.task.desc.number) f.control_is) _ _ f.view_is).0 f.owes
 
 pub returns-in-Some-clause-ends : goal.returns-in-Some-clause-ends
 returns-in-Some-clause-ends g c = λ w same. c.begin.ensures.ends w
@@ -35,4 +35,4 @@ returns-in-None-clause-leads g c = c.resume.ensures.leads _
 
 pub returns-in-None-clause-ends : goal.returns-in-None-clause-ends
 returns-in-None-clause-ends g c = let f = c.requires.follows in
-    λ w same. c.resume.ensures.ends w (inr (subst (λ d. In (stale (ref_of d)) c.args.side.now.known.view.side.facts) (sym same) (saw_decided f.before (ref_of c.args.self.now.task.desc) c.args.state c.requires.over c.requires.state.1 c.args.found f.finds (task_known _ _ f.knows c.args.self.now.task f.task) None (c.in-None.ensures ∙ ap (state_said c.args.self.now.task.desc.number) c.decided_word.ensures) _ _ f.view_is).0.told.1))
+    λ w same. c.resume.ensures.ends w (inr (subst (λ d. In (stale (ref_of d)) c.args.side.now.known.view.side.facts) (sym same) (saw_decided f.before (ref_of c.args.self.now.task.desc) f.state f.over f.fits f.word f.finds (task_known _ _ f.knows c.args.self.now.task f.task) None (c.in-None.ensures ∙ ap (state_said c.args.self.now.task.desc.number) f.control_is) _ _ f.view_is).0.told.1))
