@@ -2,11 +2,12 @@
 use Rattle.std.proofs.Common.{◌≡◌, ℕ, zero, suc, ◌+◌, ◌<◌, min, List, [], ◌∷◌, ◌++◌, length, take, drop, Option, Result, Ok, Err, sym, refl, ap, ◌∙◌, subst, arith, append_assoc, inl, inr, get_or, flat_map}
 use Rattle.std.proofs.lemmas.List.{take-append-le, take_all}
 use Rattle.std.specs.Io.KnownBytes.{Appends}
-use Rattle.std.proofs.KnownBytes.{Appends-trans}
+use Rattle.std.proofs.KnownBytes.{Appends-nil, Appends-trans}
 use Rattle.std.proofs.Math.Seq.{take-append-add, take-append_seam}
 use Rattle.std.proofs.lemmas.Bool.{cases_lt}
 use Rattle.std.specs.Borrow.{Bor}
-use Rattle.rh_bytes.specs.Counting.{AppendsFront, Writes, joined}
+use Rattle.rh_bytes.specs.Counting.{AppendsFront, Emitted, EmittedFront, Emits, Writes, inner_of, joined}
+use Rattle.rh_bytes.specs.declared.counted.Counted.{Counted}
 
 take_past : (xs ys : List ℕ) (n : ℕ) → take (length xs + n) (xs ++ ys) ≡ xs ++ take n ys
 take_past xs ys n = take-append-add xs ys n
@@ -34,9 +35,35 @@ pub Writes-then : {X E : Type 0} (a b c : Option (List ℕ)) (t u : List ℕ) (r
 Writes-then a b c t u (Ok x) p q = Appends-trans a b c t u p q
 Writes-then a b c t u (Err e) p q = front_after a b c t u p q
 
--- in the middle of a text
-pub front_stops : (a b c : Option (List ℕ)) (done t rest all : List ℕ) → all ≡ (done ++ t) ++ rest → Appends a b done → AppendsFront b c t → AppendsFront a c all
-front_stops a b c done t rest all is p q = rw is (front_longer a c (done ++ t) rest (front_after a b c done t p q))
+-- ---- what is emitted
+
+module _ {W : Type 0} {contents : W → Option (List ℕ)} where
+  pub emitted_none : (a : Counted W) → Emitted contents a a []
+  emitted_none a = record { appended = Appends-nil _; fine = refl }
+
+  pub emitted_both : (a b c : Counted W) (t u : List ℕ) → Emitted contents a b t → Emitted contents b c u → Emitted contents a c (t ++ u)
+  emitted_both a b c t u p q = record { appended = Appends-trans _ _ _ t u p.appended q.appended; fine = q.fine ∙ p.fine }
+
+  pub emitted_after : (a b c : Counted W) (t u : List ℕ) → Emitted contents a b t → EmittedFront contents b c u → EmittedFront contents a c (t ++ u)
+  emitted_after a b c t u p q = record { front = front_after _ _ _ t u p.appended q.front; failed = rw (sym p.fine) q.failed }
+
+  -- a front of one text is one of any that begins with it
+  pub emitted_longer : (a b : Counted W) (t u : List ℕ) → EmittedFront contents a b t → EmittedFront contents a b (t ++ u)
+  emitted_longer a b t u p = record { front = front_longer _ _ t u p.front; failed = p.failed }
+
+  -- in the middle of a text
+  pub emitting_stops : (a b c : Counted W) (done t rest all : List ℕ) → all ≡ (done ++ t) ++ rest → Emitted contents a b done → EmittedFront contents b c t → EmittedFront contents a c all
+  emitting_stops a b c done t rest all is p q = rw is (emitted_longer a c (done ++ t) rest (emitted_after a b c done t p q))
+
+  -- the next text, whatever came of it
+  pub emitted_then : {X E : Type 0} (a b c : Counted W) (t u : List ℕ) (r : Result X E) → Emitted contents a b t → Emits contents b c u r → Emits contents a c (t ++ u) r
+  emitted_then a b c t u (Ok x) p q = emitted_both a b c t u p q
+  emitted_then a b c t u (Err e) p q = emitted_after a b c t u p q
+
+-- what is known of the contents alone
+pub emitted_text : {W X E : Type 0} (contents : W → Option (List ℕ)) (a b : Counted W) (t : List ℕ) (r : Result X E) → Emits contents a b t r → Writes (contents (inner_of a)) (contents (inner_of b)) t r
+emitted_text contents a b t (Ok x) p = p.appended
+emitted_text contents a b t (Err e) p = p.front
 
 -- ---- texts in a list
 

@@ -1,9 +1,9 @@
 //! Whole buffers from a reader and to a writer, where each error ends the call.
 
-ghost use Rattle.std.specs.Prelude.{◌≡◌, ℕ, List, ◌≤◌, ◌<◌, length, take, IfSome, IsNone, IsSome};
-ghost use Rattle.std.specs.Prelude.{IsFalse, IsTrue, OnOk, OnErr};
-ghost use Rattle.std.specs.Io.KnownBytes.{Consumes, Appends, IsAtEnd};
-ghost use Rattle.rh_bytes.specs.Counting.{Rose, Writes, failures_of, inner_of, joined};
+ghost use Rattle.std.specs.Prelude.{ℕ, List, ◌≤◌, ◌<◌, length, take, IfSome, IsNone, IsSome};
+ghost use Rattle.std.specs.Prelude.{IsFalse, IsTrue};
+ghost use Rattle.std.specs.Io.KnownBytes.{Consumes, IsAtEnd};
+ghost use Rattle.rh_bytes.specs.Counting.{Counts, Emits, inner_of, joined};
 ghost use Rattle.rh_bytes.specs.Taking.{TakesAtMost};
 
 use crate::counted::Counted;
@@ -28,8 +28,7 @@ pub fn fill_front<R: Read>(reader: &mut Counted<R>, buf: &mut [u8]) -> Filled
     ensures end { IsFalse result.failed → result.count < length buf.new →
         IsAtEnd (R.remaining (inner_of reader.new)) }
     ensures early { IsTrue result.failed → result.count < length buf.new }
-    ensures failed { IsTrue result.failed → Rose (failures_of reader.old) (failures_of reader.new) }
-    ensures fine { IsFalse result.failed → failures_of reader.new ≡ failures_of reader.old }
+    ensures counts { Counts (IsTrue result.failed) (IsFalse result.failed) reader.old reader.new }
 {
     let mut count = 0;
     while count < buf.len() {
@@ -60,8 +59,7 @@ pub fn fill<R: Read>(reader: &mut Counted<R>, buf: &mut [u8]) -> Option<usize>
         IsAtEnd (R.remaining (inner_of reader.new))) }
     ensures takes { TakesAtMost (R.remaining (inner_of reader.old))
         (R.remaining (inner_of reader.new)) (length buf.new) }
-    ensures failed { IsNone result → Rose (failures_of reader.old) (failures_of reader.new) }
-    ensures fine { IsSome result → failures_of reader.new ≡ failures_of reader.old }
+    ensures counts { Counts (IsNone result) (IsSome result) reader.old reader.new }
 {
     let Filled { count, failed } = fill_front(reader, buf);
     if failed {
@@ -72,10 +70,7 @@ pub fn fill<R: Read>(reader: &mut Counted<R>, buf: &mut [u8]) -> Option<usize>
 
 /// Writes all of the text. A write that takes no byte ends it too.
 pub fn write_text<W: Write>(writer: &mut Counted<W>, text: &[u8]) -> Result<(), WriteFault>
-    ensures text { Writes (W.contents (inner_of writer.old)) (W.contents (inner_of writer.new))
-        text.now result }
-    ensures failed { OnErr result (Rose (failures_of writer.old) (failures_of writer.new)) }
-    ensures fine { OnOk result (failures_of writer.new ≡ failures_of writer.old) }
+    ensures { Emits W.contents writer.old writer.new text.now result }
 {
     let mut at = 0;
     while at < text.len() {
@@ -91,10 +86,7 @@ pub fn write_text<W: Write>(writer: &mut Counted<W>, text: &[u8]) -> Result<(), 
 /// Writes the texts in turn. A write that takes no byte is a failure, and where one fails, a front
 /// of the texts may have been written. Each text is a write of its own.
 pub fn write_texts<W: Write>(writer: &mut Counted<W>, texts: &[&[u8]]) -> Result<(), WriteFault>
-    ensures text { Writes (W.contents (inner_of writer.old)) (W.contents (inner_of writer.new))
-        (joined texts.now) result }
-    ensures failed { OnErr result (Rose (failures_of writer.old) (failures_of writer.new)) }
-    ensures fine { OnOk result (failures_of writer.new ≡ failures_of writer.old) }
+    ensures { Emits W.contents writer.old writer.new (joined texts.now) result }
 {
     for text in texts {
         write_text(writer, text)?;

@@ -1,8 +1,8 @@
 //! Bytes, numbers and the end of a binary file, read one after the other. What is wrong is told as
 //! a fault of that file, which the caller names: `read_bytes::<_, KeyFault>(reader, &mut four)?`.
 
-ghost use Rattle.std.specs.Prelude.{◌≡◌, ◌≢◌, ℕ, Bool, [], length, Err, IsErrOf};
-ghost use Rattle.rh_bytes.specs.Counting.{Rose, failures_of, inner_of};
+ghost use Rattle.std.specs.Prelude.{◌≡◌, ℕ, Bool, [], length, IsErrOf};
+ghost use Rattle.rh_bytes.specs.Counting.{CountsFault, inner_of};
 ghost use Rattle.rh_bytes.specs.Taking.{TakesAtMost};
 ghost use Rattle.rh_bytes.specs.Input.{AreFaults, Reads, always, bytes_at, number_at, end_at};
 
@@ -47,10 +47,8 @@ pub fn read_bytes<R: Read, E: InputFault>(reader: &mut Counted<R>, buf: &mut [u8
         (always buf.new) result }
     ensures takes { TakesAtMost (R.remaining (inner_of reader.old))
         (R.remaining (inner_of reader.new)) (length buf.new) }
-    ensures read { IsErrOf result E.read_fault →
-        Rose (failures_of reader.old) (failures_of reader.new) }
+    ensures counts { CountsFault E.read_fault reader.old reader.new result }
     ensures no_memory { IsErrOf result E.memory_fault → ⊥ }
-    ensures fine { result ≢ Err E.read_fault → failures_of reader.new ≡ failures_of reader.old }
 {
     let Some(n) = fill(reader, buf) else {
         return Err(E::read());
@@ -67,10 +65,8 @@ pub fn read_number<R: Read, E: InputFault>(reader: &mut Counted<R>) -> Result<u6
         (R.remaining (inner_of reader.new)) (number_at E.short_fault) (λ n. n) result }
     ensures takes { TakesAtMost (R.remaining (inner_of reader.old))
         (R.remaining (inner_of reader.new)) 8 }
-    ensures read { IsErrOf result E.read_fault →
-        Rose (failures_of reader.old) (failures_of reader.new) }
+    ensures counts { CountsFault E.read_fault reader.old reader.new result }
     ensures no_memory { IsErrOf result E.memory_fault → ⊥ }
-    ensures fine { result ≢ Err E.read_fault → failures_of reader.new ≡ failures_of reader.old }
 {
     let mut eight = [0u8; 8];
     read_bytes::<_, E>(reader, &mut eight)?;
@@ -83,10 +79,8 @@ pub fn read_end<R: Read, E: InputFault>(reader: &mut Counted<R>) -> Result<(), E
         (R.remaining (inner_of reader.new)) (end_at E.long_fault) (λ _. []) result }
     ensures takes { TakesAtMost (R.remaining (inner_of reader.old))
         (R.remaining (inner_of reader.new)) 1 }
-    ensures read { IsErrOf result E.read_fault →
-        Rose (failures_of reader.old) (failures_of reader.new) }
+    ensures counts { CountsFault E.read_fault reader.old reader.new result }
     ensures no_memory { IsErrOf result E.memory_fault → ⊥ }
-    ensures fine { result ≢ Err E.read_fault → failures_of reader.new ≡ failures_of reader.old }
 {
     let mut one = [0u8; 1];
     let Some(n) = fill(reader, &mut one) else {

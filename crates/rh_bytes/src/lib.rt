@@ -1,7 +1,7 @@
 //! Bytes from a reader and to a writer: whole buffers, the parts of a binary file, and what fails.
 //!
-//! `rh_key_files`, `rh_dump`, `rh_snapshot`, `rh_numbers`, `rh_shelf` and `rh_lists` stand on it. It
-//! knows no key and no table.
+//! `rh_key_files`, `rh_dump`, `rh_snapshot`, `rh_numbers`, `rh_shelf` and `rh_lists` stand on it.
+//! It knows no key and no table.
 //!
 //! Proved:
 //!

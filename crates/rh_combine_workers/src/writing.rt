@@ -1,8 +1,8 @@
 //! What comes of lists is written, round by round.
 
-ghost use Rattle.std.specs.Prelude.{◌≡◌, ℕ, List, ◌+◌, ◌-◌, ◌^◌, ◌<◌, ◌≤◌, All, Err, IfOk, OnErr, OnOk, length, map, min};
+ghost use Rattle.std.specs.Prelude.{◌≡◌, ℕ, List, ◌+◌, ◌-◌, ◌^◌, ◌<◌, ◌≤◌, All, IfOk, length, map, min};
 ghost use Rattle.std.specs.List.{flat_map};
-ghost use Rattle.rh_bytes.specs.Counting.{Rose, Writes, failures_of, inner_of};
+ghost use Rattle.rh_bytes.specs.Counting.{CountsFault, Emits, Writes, inner_of};
 ghost use Rattle.rh_layout.specs.Key.{IsKey};
 ghost use Rattle.rh_combine.specs.Combine.{answer};
 ghost use Rattle.rh_borders.specs.Borders.{between};
@@ -10,7 +10,7 @@ ghost use Rattle.rh_borders.specs.Cut.{AreLists, IsOfLists};
 ghost use Rattle.rh_combine_workers.specs.Groups.{edge};
 ghost use Rattle.rh_combine_workers.specs.Spelled.{spelled};
 ghost use Rattle.rh_combine_workers.specs.Written.{IsWritten};
-ghost use Rattle.rh_combine_workers.specs.declared.fault.CombineFault.TheVariants.{Memory, Write};
+ghost use Rattle.rh_combine_workers.specs.declared.fault.CombineFault.TheVariants.{Write};
 
 use crate::fault::CombineFault;
 use crate::form::Form;
@@ -39,10 +39,8 @@ fn group_size(keys: usize, parts: usize, workers: usize) -> usize
 
 /// The bytes of the groups, one group after the other.
 fn write_groups<W: Write>(groups: &[Group], writer: &mut Counted<W>) -> Result<(), WriteFault>
-    ensures text { Writes (W.contents (inner_of writer.old)) (W.contents (inner_of writer.new))
-        (flat_map (λ g. g.bytes.items) groups.now) result }
-    ensures failed { OnErr result (Rose (failures_of writer.old) (failures_of writer.new)) }
-    ensures fine { OnOk result (failures_of writer.new ≡ failures_of writer.old) }
+    ensures { Emits W.contents writer.old writer.new (flat_map (λ g. g.bytes.items) groups.now)
+        result }
 {
     for group in groups {
         write_text(writer, &group.bytes)?;
@@ -73,11 +71,7 @@ fn round<T: Threads + Sync, W: Write>(
         IfOk result (λ n. n ≡ min (length (between cut.now.borders.items first
         (edge first workers size (length cut.now.borders.items - 1))
         (answer wanted.how lists))) (2 ^ 64 - 1)) }
-    ensures write { result ≡ Err Write →
-        Rose (failures_of writer.old) (failures_of writer.new) }
-    ensures memory { result ≡ Err Memory →
-        failures_of writer.new ≡ failures_of writer.old }
-    ensures fine { OnOk result (failures_of writer.new ≡ failures_of writer.old) }
+    ensures counts { CountsFault Write writer.old writer.new result }
 {
     let told = groups(rt, alloc, workers, wanted, cut, first, size)?;
     let done = all_done(alloc, told)?;
@@ -104,11 +98,7 @@ fn write_rounds<T: Threads + Sync, W: Write, P: Progress>(
     ensures count { (lists : List (List ℕ)) → AreLists cut.now lists →
         IfOk result (λ n. n ≡ min (length (between cut.now.borders.items 0
         (length cut.now.borders.items - 1) (answer wanted.how lists))) (2 ^ 64 - 1)) }
-    ensures write { result ≡ Err Write →
-        Rose (failures_of writer.old) (failures_of writer.new) }
-    ensures memory { result ≡ Err Memory →
-        failures_of writer.new ≡ failures_of writer.old }
-    ensures fine { OnOk result (failures_of writer.new ≡ failures_of writer.old) }
+    ensures counts { CountsFault Write writer.old writer.new result }
 {
     let parts = cut.parts();
     let size = group_size(cut.keys, parts, workers);
@@ -146,11 +136,7 @@ pub fn write_combined<T: Threads + Sync, W: Write, P: Progress>(
     ensures written { IsWritten how form
         (map (λ l. flat_map (λ k. k.items) l.items) lists.items)
         (W.contents (inner_of writer.old)) (W.contents (inner_of writer.new)) result }
-    ensures write { result ≡ Err Write →
-        Rose (failures_of writer.old) (failures_of writer.new) }
-    ensures memory { result ≡ Err Memory →
-        failures_of writer.new ≡ failures_of writer.old }
-    ensures fine { OnOk result (failures_of writer.new ≡ failures_of writer.old) }
+    ensures counts { CountsFault Write writer.old writer.new result }
 {
     let wanted = Wanted { how, form };
     let cut = cut_lists(rt, alloc, workers, lists)?;

@@ -1,8 +1,8 @@
 //! The command `check`: whether a file is a snapshot, and of what table.
 
-ghost use Rattle.std.specs.Prelude.{◌≡◌, ◌≢◌, IfErr, IsErrOf, OnErr, OnOk};
+ghost use Rattle.std.specs.Prelude.{◌≡◌, IsErrOf};
 ghost use Rattle.hex.specs.Hex.{encode_lower};
-ghost use Rattle.rh_bytes.specs.Counting.{Rose, Writes, failures_of, inner_of};
+ghost use Rattle.rh_bytes.specs.Counting.{CountsFault, Emits, WritesLast, inner_of};
 ghost use Rattle.rh_snapshot.specs.Reading.{BeginsWithSnapHeader, table_as};
 ghost use Rattle.rh_bytes.specs.Taking.{TakesAtMost};
 ghost use Rattle.rh_snapshot.specs.Limits.{TakesOfSnap, most_snap_bytes};
@@ -59,21 +59,14 @@ pub fn check_snapshot<R: Read, W: Write>(
 ) -> Result<(), CheckFault>
     ensures checked { Checks (R.remaining (inner_of reader.old)) (R.remaining (inner_of reader.new))
         (W.contents (inner_of writer.old)) (W.contents (inner_of writer.new)) result }
-    ensures untouched { IfErr result (λ fault. fault ≢ CheckFault.Write →
-        writer.new ≡ writer.old) }
     ensures takes { TakesOfSnap (R.remaining (inner_of reader.old))
         (R.remaining (inner_of reader.new)) (snap_fault_in result) }
     ensures bounded { TakesAtMost (R.remaining (inner_of reader.old))
         (R.remaining (inner_of reader.new)) most_snap_bytes }
-    ensures read { IsErrOf result (CheckFault.Snap SnapFault.Read) →
-        Rose (failures_of reader.old) (failures_of reader.new) }
+    ensures counts { CountsFault (CheckFault.Snap SnapFault.Read) reader.old reader.new result }
     ensures memory { IsErrOf result (CheckFault.Snap SnapFault.Memory) →
         BeginsWithSnapHeader (R.remaining (inner_of reader.old)) }
-    ensures write { IsErrOf result CheckFault.Write →
-        Rose (failures_of writer.old) (failures_of writer.new) }
-    ensures written { OnOk result (failures_of writer.new ≡ failures_of writer.old) }
-    ensures fine { result ≢ Err (CheckFault.Snap SnapFault.Read) →
-        failures_of reader.new ≡ failures_of reader.old }
+    ensures writes { WritesLast CheckFault.Write writer.old writer.new result }
 {
     let table = read_snapshot(alloc, reader)?;
     put_line(writer, &table)?;
@@ -81,10 +74,7 @@ pub fn check_snapshot<R: Read, W: Write>(
 }
 
 fn put_line<W: Write>(writer: &mut Counted<W>, table: &Snapshot) -> Result<(), WriteFault>
-    ensures text { Writes (W.contents (inner_of writer.old)) (W.contents (inner_of writer.new))
-        (check_text (table_as table.now)) result }
-    ensures failed { OnErr result (Rose (failures_of writer.old) (failures_of writer.new)) }
-    ensures fine { OnOk result (failures_of writer.new ≡ failures_of writer.old) }
+    ensures { Emits W.contents writer.old writer.new (check_text (table_as table.now)) result }
 {
     let (mut first, mut second) = (Buffer::new(), Buffer::new());
     let bits = first.format(table.bits).as_bytes();

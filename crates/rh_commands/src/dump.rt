@@ -1,7 +1,7 @@
 //! The command `dump`: the table of the keys of a key file.
 
-ghost use Rattle.std.specs.Prelude.{◌≡◌, ◌≢◌, IfErr, IsErrOf, OnOk};
-ghost use Rattle.rh_bytes.specs.Counting.{Rose, failures_of, inner_of};
+ghost use Rattle.std.specs.Prelude.{◌≡◌, IsErrOf};
+ghost use Rattle.rh_bytes.specs.Counting.{Counts, WritesLast, inner_of};
 ghost use Rattle.rh_bytes.specs.Taking.{TakesAtMost};
 ghost use Rattle.rh_key_files.specs.Limits.{NoReadFailed, TakesOfFile, most_bytes};
 ghost use Rattle.rh_commands.specs.Dump.{Dumps, dump_fault_in};
@@ -78,18 +78,13 @@ pub fn dump_keys<R: Read, W: Write>(
 ) -> Result<(), DumpFault>
     ensures dumped { Dumps (R.remaining (inner_of reader.old)) (R.remaining (inner_of reader.new))
         (W.contents (inner_of writer.old)) (W.contents (inner_of writer.new)) result }
-    ensures untouched { IfErr result (λ fault. fault ≢ DumpFault.Write → writer.new ≡ writer.old) }
     ensures takes { TakesOfFile (R.remaining (inner_of reader.old))
         (R.remaining (inner_of reader.new)) (dump_fault_in result) }
     ensures bounded { TakesAtMost (R.remaining (inner_of reader.old))
         (R.remaining (inner_of reader.new)) most_bytes }
-    ensures read { IsErrOf result (DumpFault.Keys KeyFault.Read) →
-        Rose (failures_of reader.old) (failures_of reader.new) }
-    ensures write { IsErrOf result DumpFault.Write →
-        Rose (failures_of writer.old) (failures_of writer.new) }
-    ensures written { OnOk result (failures_of writer.new ≡ failures_of writer.old) }
-    ensures fine { NoReadFailed (dump_fault_in result) →
-        failures_of reader.new ≡ failures_of reader.old }
+    ensures counts { Counts (IsErrOf result (DumpFault.Keys KeyFault.Read))
+        (NoReadFailed (dump_fault_in result)) reader.old reader.new }
+    ensures writes { WritesLast DumpFault.Write writer.old writer.new result }
 {
     let keys = read_keys(alloc, reader)?;
     let Some(bits) = bits_for(MIN_BITS, 0, keys.len() as u64) else {

@@ -1,9 +1,9 @@
 //! Tables as text.
 
-ghost use Rattle.std.specs.Prelude.{◌≡◌, ◌<◌, ◌≤◌, ◌^◌, length, OnErr, OnOk};
+ghost use Rattle.std.specs.Prelude.{◌<◌, ◌≤◌, ◌^◌, length};
 ghost use Rattle.rh_layout.specs.Key.{IsBits};
 ghost use Rattle.rh_layout.specs.Layout.{IsLayout};
-ghost use Rattle.rh_bytes.specs.Counting.{Rose, Writes, failures_of, inner_of};
+ghost use Rattle.rh_bytes.specs.Counting.{Emits};
 ghost use Rattle.rh_dump.specs.Dump.{line_of, head_of, lines_from, dump_text};
 
 use itoa::Buffer;
@@ -20,10 +20,7 @@ fn put_line<W: Write>(
 ) -> Result<(), WriteFault>
     requires bits { IsBits bits }
     requires cell { cell < 2 ^ bits }
-    ensures text { Writes (W.contents (inner_of writer.old)) (W.contents (inner_of writer.new))
-        (line_of bits cell key) result }
-    ensures failed { OnErr result (Rose (failures_of writer.old) (failures_of writer.new)) }
-    ensures fine { OnOk result (failures_of writer.new ≡ failures_of writer.old) }
+    ensures { Emits W.contents writer.old writer.new (line_of bits cell key) result }
 {
     let (mut first, mut second, mut third) = (Buffer::new(), Buffer::new(), Buffer::new());
     let cell_digits = first.format(cell).as_bytes();
@@ -36,10 +33,7 @@ fn put_line<W: Write>(
 }
 
 fn put_head<W: Write>(writer: &mut Counted<W>, bits: u32, held: usize) -> Result<(), WriteFault>
-    ensures text { Writes (W.contents (inner_of writer.old)) (W.contents (inner_of writer.new))
-        (head_of bits held) result }
-    ensures failed { OnErr result (Rose (failures_of writer.old) (failures_of writer.new)) }
-    ensures fine { OnOk result (failures_of writer.new ≡ failures_of writer.old) }
+    ensures { Emits W.contents writer.old writer.new (head_of bits held) result }
 {
     let (mut first, mut second) = (Buffer::new(), Buffer::new());
     let bits_digits = first.format(bits).as_bytes();
@@ -51,10 +45,7 @@ fn put_head<W: Write>(writer: &mut Counted<W>, bits: u32, held: usize) -> Result
 fn put_cells<W: Write>(writer: &mut Counted<W>, bits: u32, cells: &[u64]) -> Result<(), WriteFault>
     requires bits { IsBits bits }
     requires length { length cells.now ≤ 2 ^ bits }
-    ensures text { Writes (W.contents (inner_of writer.old)) (W.contents (inner_of writer.new))
-        (lines_from bits 0 cells.now) result }
-    ensures failed { OnErr result (Rose (failures_of writer.old) (failures_of writer.new)) }
-    ensures fine { OnOk result (failures_of writer.new ≡ failures_of writer.old) }
+    ensures { Emits W.contents writer.old writer.new (lines_from bits 0 cells.now) result }
 {
     for (cell, value) in cells.iter().enumerate() {
         if let Some(key) = key_in(*value) {
@@ -73,10 +64,7 @@ pub fn write_dump<W: Write>(
     writer: &mut Counted<W>,
 ) -> Result<(), WriteFault>
     requires { IsLayout bits cells.now }
-    ensures text { Writes (W.contents (inner_of writer.old)) (W.contents (inner_of writer.new))
-        (dump_text bits cells.now) result }
-    ensures failed { OnErr result (Rose (failures_of writer.old) (failures_of writer.new)) }
-    ensures fine { OnOk result (failures_of writer.new ≡ failures_of writer.old) }
+    ensures { Emits W.contents writer.old writer.new (dump_text bits cells.now) result }
 {
     let held = cells
         .iter()

@@ -1,8 +1,7 @@
 //! Two threads that move a value between two cells of one table, each time by one swap of both.
 
-ghost use Rattle.std.specs.Prelude.{◌≡◌, ◌<◌, ◌≤◌, ◌^◌, IfSome};
-ghost use Rattle.rh_shared.specs.Rests.{SeatRests};
-ghost use Rattle.rh_shared.specs.Seats.{IsSame};
+ghost use Rattle.std.specs.Prelude.{◌≡◌, ◌<◌, IfSome};
+ghost use Rattle.rh_shared.specs.Rests.{SeatRests, StaysAtRest};
 ghost use Rattle.rh_tagword.specs.Word.{IsValue};
 
 use rh_kcas::{Outcome, Seat, Table, are_entries, change, close, join, kcas, make, read, split};
@@ -109,8 +108,7 @@ fn move_one<R: Wait>(rt: &R, table: &Table, seat: &mut Seat, from: usize, to: us
 /// What the cell holds, or none where no mark is left.
 fn value<R: Wait>(rt: &R, table: &Table, seat: &mut Seat, cell: usize) -> Option<u64>
     requires rests { SeatRests table.now seat.old }
-    ensures rests { SeatRests table.now seat.new }
-    ensures same { IsSame seat.old seat.new }
+    ensures stays { StaysAtRest table.now seat.old seat.new }
     ensures value { IfSome result IsValue }
 {
     if cell >= table.shape.cells() {

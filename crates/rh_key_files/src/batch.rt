@@ -4,7 +4,7 @@ ghost use Rattle.std.specs.Prelude.{◌≡◌, ◌≤◌, ◌<◌, ◌+◌, ◌*
 ghost use Rattle.std.specs.Prelude.{All, IfOk, IsErrOf, IsNone, OnOk};
 ghost use Rattle.std.specs.List.{position_from};
 ghost use Rattle.rh_layout.specs.Key.{IsKey};
-ghost use Rattle.rh_bytes.specs.Counting.{Rose, failures_of, inner_of};
+ghost use Rattle.rh_bytes.specs.Counting.{Counts, inner_of};
 ghost use Rattle.rh_bytes.specs.Taking.{TakesAtMost};
 ghost use Rattle.rh_key_files.specs.Reading.{CutShort, ReadsKeys, front_of};
 ghost use Rattle.rh_key_files.specs.Reading.{batch_at, keys_at, is_refused};
@@ -58,11 +58,9 @@ fn read_part<R: Read>(
     ensures takes { TakesAtMost (R.remaining (inner_of reader.old))
         (R.remaining (inner_of reader.new))
         (8 * length keys.new) }
-    ensures read { IsErrOf result KeyFault.Read →
-        Rose (failures_of reader.old) (failures_of reader.new) }
+    ensures counts { Counts (IsErrOf result KeyFault.Read) (NoReadFailed (fault_of result))
+        reader.old reader.new }
     ensures no_memory { IsErrOf result KeyFault.Memory → ⊥ }
-    ensures fine { NoReadFailed (fault_of result) →
-        failures_of reader.new ≡ failures_of reader.old }
 {
     let Filled { count, failed } = fill_front(reader, part);
     decode_numbers(part, keys);
@@ -95,11 +93,9 @@ pub(crate) fn read_keys<R: Read>(
     ensures takes { TakesAtMost (R.remaining (inner_of reader.old))
         (R.remaining (inner_of reader.new))
         (8 * keys_taken index (length batch.new) (fault_of result)) }
-    ensures read { IsErrOf result KeyFault.Read →
-        Rose (failures_of reader.old) (failures_of reader.new) }
+    ensures counts { Counts (IsErrOf result KeyFault.Read) (NoReadFailed (fault_of result))
+        reader.old reader.new }
     ensures no_memory { IsErrOf result KeyFault.Memory → ⊥ }
-    ensures fine { NoReadFailed (fault_of result) →
-        failures_of reader.new ≡ failures_of reader.old }
 {
     let mut part = [0u8; PART_BYTES];
     let mut done = 0;
@@ -134,11 +130,9 @@ pub(crate) fn read_batch<R: Read>(
     ensures takes { TakesAtMost (R.remaining (inner_of reader.old))
         (R.remaining (inner_of reader.new))
         (batch_bytes index left (length batch.new) (fault_of result)) }
-    ensures read { IsErrOf result KeyFault.Read →
-        Rose (failures_of reader.old) (failures_of reader.new) }
+    ensures counts { Counts (IsErrOf result KeyFault.Read) (NoReadFailed (fault_of result))
+        reader.old reader.new }
     ensures no_memory { IsErrOf result KeyFault.Memory → ⊥ }
-    ensures fine { NoReadFailed (fault_of result) →
-        failures_of reader.new ≡ failures_of reader.old }
 {
     if left == 0 {
         read_end::<_, KeyFault>(reader)?;

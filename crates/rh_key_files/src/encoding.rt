@@ -1,8 +1,8 @@
 //! Key files, written.
 
-ghost use Rattle.std.specs.Prelude.{◌≡◌, ◌≤◌, All, OnErr, OnOk, length};
+ghost use Rattle.std.specs.Prelude.{◌≤◌, All, length};
 ghost use Rattle.rh_layout.specs.Key.{IsKey};
-ghost use Rattle.rh_bytes.specs.Counting.{Rose, Writes, failures_of, inner_of};
+ghost use Rattle.rh_bytes.specs.Counting.{Emits};
 ghost use Rattle.rh_key_files.specs.KeyFile.{header, spelled_keys, spelling};
 ghost use Rattle.rh_layout.specs.declared.limits.TheConstants.{MAX_KEYS};
 ghost use Rattle.rh_key_files.specs.declared.version.Version.TheVariants.{Second};
@@ -18,10 +18,7 @@ use std::io::Write;
 pub fn write_keys<W: Write>(keys: &[u64], writer: &mut Counted<W>) -> Result<(), WriteFault>
     requires few { length keys.now ≤ MAX_KEYS }
     requires keys { All IsKey keys.now }
-    ensures text { Writes (W.contents (inner_of writer.old)) (W.contents (inner_of writer.new))
-        (spelling Second keys.now) result }
-    ensures failed { OnErr result (Rose (failures_of writer.old) (failures_of writer.new)) }
-    ensures fine { OnOk result (failures_of writer.new ≡ failures_of writer.old) }
+    ensures { Emits W.contents writer.old writer.new (spelling Second keys.now) result }
 {
     write_header(keys.len() as u64, writer)?;
     put_keys(keys, writer)
@@ -30,10 +27,7 @@ pub fn write_keys<W: Write>(keys: &[u64], writer: &mut Counted<W>) -> Result<(),
 /// Writes what stands before the keys of a key file of the second version that has so many: 12
 /// bytes in two writes.
 pub fn write_header<W: Write>(count: u64, writer: &mut Counted<W>) -> Result<(), WriteFault>
-    ensures text { Writes (W.contents (inner_of writer.old)) (W.contents (inner_of writer.new))
-        (header Second count) result }
-    ensures failed { OnErr result (Rose (failures_of writer.old) (failures_of writer.new)) }
-    ensures fine { OnOk result (failures_of writer.new ≡ failures_of writer.old) }
+    ensures { Emits W.contents writer.old writer.new (header Second count) result }
 {
     let mut eight = [0; 8];
     BigEndian::write_u64(&mut eight, count);
@@ -41,10 +35,7 @@ pub fn write_header<W: Write>(count: u64, writer: &mut Counted<W>) -> Result<(),
 }
 
 fn put_keys<W: Write>(keys: &[u64], writer: &mut Counted<W>) -> Result<(), WriteFault>
-    ensures text { Writes (W.contents (inner_of writer.old)) (W.contents (inner_of writer.new))
-        (spelled_keys keys.now) result }
-    ensures failed { OnErr result (Rose (failures_of writer.old) (failures_of writer.new)) }
-    ensures fine { OnOk result (failures_of writer.new ≡ failures_of writer.old) }
+    ensures { Emits W.contents writer.old writer.new (spelled_keys keys.now) result }
 {
     for key in keys {
         let mut eight = [0; 8];

@@ -2,7 +2,7 @@
 
 ghost use Rattle.std.specs.Prelude.{◌≡◌, ◌*◌, [], length, All, IfOk, IsErrOf, OnOk};
 ghost use Rattle.rh_layout.specs.Key.{IsKey};
-ghost use Rattle.rh_bytes.specs.Counting.{Rose, failures_of, inner_of};
+ghost use Rattle.rh_bytes.specs.Counting.{Counts, Rose, failures_of, inner_of};
 ghost use Rattle.rh_bytes.specs.Taking.{TakesAtMost};
 ghost use Rattle.rh_key_files.specs.Limits.{NoReadFailed, TakesOfFile, keys_taken, most_bytes};
 ghost use Rattle.rh_bytes.specs.Input.{always, end_at, fault_of};
@@ -85,10 +85,8 @@ pub fn read_keys<R: Read>(alloc: Global, reader: &mut Counted<R>) -> Result<Vec<
         (R.remaining (inner_of reader.new)) most_bytes }
     ensures tested { IsErrOf result KeyFault.Read → TakesGoodKeys header_at
         (R.remaining (inner_of reader.old)) (R.remaining (inner_of reader.new)) }
-    ensures read { IsErrOf result KeyFault.Read →
-        Rose (failures_of reader.old) (failures_of reader.new) }
-    ensures fine { NoReadFailed (fault_of result) →
-        failures_of reader.new ≡ failures_of reader.old }
+    ensures counts { Counts (IsErrOf result KeyFault.Read) (NoReadFailed (fault_of result))
+        reader.old reader.new }
     ensures memory { IsErrOf result KeyFault.Memory →
         BeginsWithHeader (R.remaining (inner_of reader.old)) }
 {

@@ -1,7 +1,7 @@
 //! The parts of a key file before its keys, read one after the other.
 
-ghost use Rattle.std.specs.Prelude.{◌≡◌, ◌≢◌, ◌≤◌, Err, IfOk, IsErrOf};
-ghost use Rattle.rh_bytes.specs.Counting.{Rose, failures_of, inner_of};
+ghost use Rattle.std.specs.Prelude.{◌≤◌, IfOk, IsErrOf};
+ghost use Rattle.rh_bytes.specs.Counting.{CountsFault, inner_of};
 ghost use Rattle.rh_bytes.specs.Taking.{TakesAtMost};
 ghost use Rattle.rh_bytes.specs.Input.{fault_of};
 ghost use Rattle.rh_key_files.specs.Limits.{header_taken, magic_bytes};
@@ -21,10 +21,8 @@ pub(crate) fn read_version<R: Read>(reader: &mut Counted<R>) -> Result<Version, 
     ensures takes { TakesAtMost (R.remaining (inner_of reader.old))
         (R.remaining (inner_of reader.new))
         magic_bytes }
-    ensures read { IsErrOf result KeyFault.Read →
-        Rose (failures_of reader.old) (failures_of reader.new) }
+    ensures counts { CountsFault KeyFault.Read reader.old reader.new result }
     ensures no_memory { IsErrOf result KeyFault.Memory → ⊥ }
-    ensures fine { result ≢ Err KeyFault.Read → failures_of reader.new ≡ failures_of reader.old }
 {
     let mut four = [0u8; 4];
     read_bytes::<_, KeyFault>(reader, &mut four)?;
@@ -45,10 +43,8 @@ fn read_count<R: Read>(reader: &mut Counted<R>) -> Result<u64, KeyFault>
     ensures takes { TakesAtMost (R.remaining (inner_of reader.old))
         (R.remaining (inner_of reader.new))
         8 }
-    ensures read { IsErrOf result KeyFault.Read →
-        Rose (failures_of reader.old) (failures_of reader.new) }
+    ensures counts { CountsFault KeyFault.Read reader.old reader.new result }
     ensures no_memory { IsErrOf result KeyFault.Memory → ⊥ }
-    ensures fine { result ≢ Err KeyFault.Read → failures_of reader.new ≡ failures_of reader.old }
 {
     let count = read_number::<_, KeyFault>(reader)?;
     if count > MAX_KEYS {
@@ -65,10 +61,8 @@ pub(crate) fn read_header<R: Read>(reader: &mut Counted<R>) -> Result<Header, Ke
     ensures takes { TakesAtMost (R.remaining (inner_of reader.old))
         (R.remaining (inner_of reader.new))
         (header_taken (fault_of result)) }
-    ensures read { IsErrOf result KeyFault.Read →
-        Rose (failures_of reader.old) (failures_of reader.new) }
+    ensures counts { CountsFault KeyFault.Read reader.old reader.new result }
     ensures no_memory { IsErrOf result KeyFault.Memory → ⊥ }
-    ensures fine { result ≢ Err KeyFault.Read → failures_of reader.new ≡ failures_of reader.old }
 {
     let version = read_version(reader)?;
     let count = read_count(reader)?;

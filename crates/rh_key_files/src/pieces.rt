@@ -3,7 +3,7 @@
 ghost use Rattle.std.specs.Prelude.{◌≡◌, ◌<◌, ◌+◌, ◌*◌, ◌^◌, min, length, All, IfOk, IsErrOf};
 ghost use Rattle.std.specs.List.{flat_map};
 ghost use Rattle.rh_layout.specs.Key.{IsKey};
-ghost use Rattle.rh_bytes.specs.Counting.{Rose, failures_of, inner_of};
+ghost use Rattle.rh_bytes.specs.Counting.{Counts, inner_of};
 ghost use Rattle.rh_bytes.specs.Input.{fault_of};
 ghost use Rattle.rh_bytes.specs.Taking.{TakesAtMost};
 ghost use Rattle.rh_key_files.specs.Limits.{NoReadFailed, TakesBehindMagic, TakesOfLongFile, keys_taken};
@@ -39,10 +39,8 @@ pub fn read_long_keys<R: Read>(
     ensures in_range { IfOk result (λ pieces. All (λ piece. All IsKey piece.items) pieces.items) }
     ensures takes { TakesOfLongFile (R.remaining (inner_of reader.old))
         (R.remaining (inner_of reader.new)) (fault_of result) }
-    ensures read { IsErrOf result KeyFault.Read →
-        Rose (failures_of reader.old) (failures_of reader.new) }
-    ensures fine { NoReadFailed (fault_of result) →
-        failures_of reader.new ≡ failures_of reader.old }
+    ensures counts { Counts (IsErrOf result KeyFault.Read) (NoReadFailed (fault_of result))
+        reader.old reader.new }
     ensures memory { IsErrOf result KeyFault.Memory →
         BeginsWithLongHeader (R.remaining (inner_of reader.old)) }
     ensures tested { IsErrOf result KeyFault.Read → TakesGoodKeys long_header_at
@@ -67,10 +65,8 @@ pub fn read_pieces<R: Read, P: Progress>(
     ensures in_range { IfOk result (λ pieces. All (λ piece. All IsKey piece.items) pieces.items) }
     ensures takes { TakesBehindMagic (R.remaining (inner_of reader.old))
         (R.remaining (inner_of reader.new)) (fault_of result) }
-    ensures read { IsErrOf result KeyFault.Read →
-        Rose (failures_of reader.old) (failures_of reader.new) }
-    ensures fine { NoReadFailed (fault_of result) →
-        failures_of reader.new ≡ failures_of reader.old }
+    ensures counts { Counts (IsErrOf result KeyFault.Read) (NoReadFailed (fault_of result))
+        reader.old reader.new }
     ensures memory { IsErrOf result KeyFault.Memory →
         BeginsWithNumber (R.remaining (inner_of reader.old)) }
     ensures tested { IsErrOf result KeyFault.Read → TakesGoodKeys (header_behind version)
@@ -113,10 +109,8 @@ fn read_piece<R: Read>(
     ensures tested { IsErrOf result KeyFault.Read → CutShort (R.remaining (inner_of reader.old))
         (R.remaining (inner_of reader.new)) (keys_at version index (min left PIECE_KEYS)) }
     ensures memory { IsErrOf result KeyFault.Memory → reader.new ≡ reader.old }
-    ensures read { IsErrOf result KeyFault.Read →
-        Rose (failures_of reader.old) (failures_of reader.new) }
-    ensures fine { NoReadFailed (fault_of result) →
-        failures_of reader.new ≡ failures_of reader.old }
+    ensures counts { Counts (IsErrOf result KeyFault.Read) (NoReadFailed (fault_of result))
+        reader.old reader.new }
 {
     let many = left.min(PIECE_KEYS) as usize;
     let Ok(mut piece) = vec![in alloc; 0u64; many] else {

@@ -1,7 +1,7 @@
 //! The command `list` of several files, one after the other.
 
 ghost use Rattle.std.specs.Prelude.{◌≡◌, ◌≢◌, ◌<◌, ◌⊎◌, ℕ, List, Option, length, map, string_bytes, IfErr, IsErrOf, OnOk, true};
-ghost use Rattle.rh_bytes.specs.Counting.{Rose, failures_of, inner_of};
+ghost use Rattle.rh_bytes.specs.Counting.{Rose, WritesLast, failures_of, inner_of};
 ghost use Rattle.rh_shelf.specs.Shelf.{CountsReads, Files, Finds, Lacks};
 ghost use Rattle.rh_shelf.specs.declared.shelf.ShelfFault.{ShelfFault as InShelf};
 ghost use Rattle.rh_key_texts.specs.Files.{LacksAt, ListsFile, ListsFiles, tells_failed_read};
@@ -131,7 +131,6 @@ fn list_file<S: Lender, W: Write>(
 ) -> Result<(), FileFault>
     ensures listed { ListsFile (S.state shelf.old).files path.now form
         (W.contents (inner_of writer.old)) (W.contents (inner_of writer.new)) result }
-    ensures untouched { IfErr result (λ fault. fault ≢ FileFault.Write → writer.new ≡ writer.old) }
     ensures missing { IsErrOf result (FileFault.Shelf ShelfFault.Missing) →
         Lacks (S.state shelf.old).files path.now
         ⊎ Rose (S.state shelf.old).failures (S.state shelf.new).failures }
@@ -142,9 +141,7 @@ fn list_file<S: Lender, W: Write>(
         CountsReads (tells_failed_read fault) (S.state shelf.old) (S.state shelf.new)) }
     ensures fine { OnOk result (S.state shelf.new ≡ S.state shelf.old) }
     ensures same_files { (S.state shelf.new).files ≡ (S.state shelf.old).files }
-    ensures write { IsErrOf result FileFault.Write →
-        Rose (failures_of writer.old) (failures_of writer.new) }
-    ensures written { OnOk result (failures_of writer.new ≡ failures_of writer.old) }
+    ensures writes { WritesLast FileFault.Write writer.old writer.new result }
 {
     let mut reader = Counted::new(shelf.lend(alloc, path)?);
     let listed = list_form(alloc, form, &mut reader, writer);
@@ -166,13 +163,10 @@ fn list_form<R: Read, W: Write>(
         Finds files path (R.remaining (inner_of reader.old)) →
         ListsFile files path form
         (W.contents (inner_of writer.old)) (W.contents (inner_of writer.new)) result }
-    ensures untouched { IfErr result (λ fault. fault ≢ FileFault.Write → writer.new ≡ writer.old) }
     ensures no_shelf { (fault : InShelf) → IsErrOf result (FileFault.Shelf fault) → ⊥ }
     ensures read { IfErr result (λ fault. tells_failed_read fault ≡ true →
         Rose (failures_of reader.old) (failures_of reader.new)) }
-    ensures write { IsErrOf result FileFault.Write →
-        Rose (failures_of writer.old) (failures_of writer.new) }
-    ensures written { OnOk result (failures_of writer.new ≡ failures_of writer.old) }
+    ensures writes { WritesLast FileFault.Write writer.old writer.new result }
 {
     match form {
         Form::Keys => list_keys(alloc, reader, writer)?,

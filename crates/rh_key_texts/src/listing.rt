@@ -1,8 +1,8 @@
 //! The command `list`: a key file becomes a text of numbers.
 
-ghost use Rattle.std.specs.Prelude.{◌≡◌, ◌≢◌, IfErr, IsErrOf, OnErr, OnOk};
+ghost use Rattle.std.specs.Prelude.{◌≡◌, IsErrOf};
 ghost use Rattle.std.specs.List.{flat_map};
-ghost use Rattle.rh_bytes.specs.Counting.{Rose, Writes, failures_of, inner_of};
+ghost use Rattle.rh_bytes.specs.Counting.{Counts, Emits, WritesLast, inner_of};
 ghost use Rattle.rh_key_files.specs.Reading.{BeginsWithLongHeader, TakesGoodKeys, long_header_at};
 ghost use Rattle.rh_key_files.specs.Limits.{NoReadFailed, TakesOfLongFile};
 ghost use Rattle.rh_numbers.specs.Writing.{text_of};
@@ -60,11 +60,10 @@ pub fn list_keys<R: Read, W: Write>(
 ) -> Result<(), ListFault>
     ensures listed { Lists (R.remaining (inner_of reader.old)) (R.remaining (inner_of reader.new))
         (W.contents (inner_of writer.old)) (W.contents (inner_of writer.new)) result }
-    ensures untouched { IfErr result (λ fault. fault ≢ ListFault.Write → writer.new ≡ writer.old) }
     ensures takes { TakesOfLongFile (R.remaining (inner_of reader.old))
         (R.remaining (inner_of reader.new)) (list_fault_in result) }
-    ensures read { IsErrOf result (ListFault.Keys KeyFault.Read) →
-        Rose (failures_of reader.old) (failures_of reader.new) }
+    ensures counts { Counts (IsErrOf result (ListFault.Keys KeyFault.Read))
+        (NoReadFailed (list_fault_in result)) reader.old reader.new }
     ensures tested { IsErrOf result (ListFault.Keys KeyFault.Read) → TakesGoodKeys long_header_at
         (R.remaining (inner_of reader.old)) (R.remaining (inner_of reader.new)) }
     ensures memory { IsErrOf result (ListFault.Keys KeyFault.Memory) →
@@ -72,11 +71,7 @@ pub fn list_keys<R: Read, W: Write>(
     ensures tested_too { IsErrOf result (ListFault.Keys KeyFault.Memory) →
         TakesGoodKeys long_header_at (R.remaining (inner_of reader.old))
         (R.remaining (inner_of reader.new)) }
-    ensures write { IsErrOf result ListFault.Write →
-        Rose (failures_of writer.old) (failures_of writer.new) }
-    ensures written { OnOk result (failures_of writer.new ≡ failures_of writer.old) }
-    ensures fine { NoReadFailed (list_fault_in result) →
-        failures_of reader.new ≡ failures_of reader.old }
+    ensures writes { WritesLast ListFault.Write writer.old writer.new result }
 {
     let pieces = read_long_keys(alloc, reader)?;
     write_pieces(&pieces, writer)?;
@@ -85,10 +80,8 @@ pub fn list_keys<R: Read, W: Write>(
 
 /// Writes the texts of the pieces, one after the other.
 fn write_pieces<W: Write>(pieces: &[Vec<u64>], writer: &mut Counted<W>) -> Result<(), WriteFault>
-    ensures text { Writes (W.contents (inner_of writer.old)) (W.contents (inner_of writer.new))
+    ensures { Emits W.contents writer.old writer.new
         (flat_map (λ piece. text_of piece.items) pieces.now) result }
-    ensures failed { OnErr result (Rose (failures_of writer.old) (failures_of writer.new)) }
-    ensures fine { OnOk result (failures_of writer.new ≡ failures_of writer.old) }
 {
     for piece in pieces {
         write_numbers(piece, writer)?;

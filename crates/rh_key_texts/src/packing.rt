@@ -1,7 +1,7 @@
 //! The command `pack`: a text of numbers becomes a key file.
 
-ghost use Rattle.std.specs.Prelude.{◌≡◌, ◌≢◌, IfErr, IsErrOf, OnOk};
-ghost use Rattle.rh_bytes.specs.Counting.{Rose, failures_of, inner_of};
+ghost use Rattle.std.specs.Prelude.{◌≡◌, ◌≢◌, IfErr, IsErrOf};
+ghost use Rattle.rh_bytes.specs.Counting.{Counts, WritesLast, inner_of};
 ghost use Rattle.rh_numbers.specs.Reading.{NoReadFailed, TakesFew, TakesFewParts, TakesToFault};
 ghost use Rattle.rh_key_texts.specs.Pack.{Packs, fault_in_text};
 
@@ -56,20 +56,15 @@ pub fn pack<R: Read, W: Write>(
 ) -> Result<(), PackFault>
     ensures packed { Packs (R.remaining (inner_of reader.old)) (R.remaining (inner_of reader.new))
         (W.contents (inner_of writer.old)) (W.contents (inner_of writer.new)) result }
-    ensures untouched { IfErr result (λ fault. fault ≢ PackFault.Write → writer.new ≡ writer.old) }
     ensures takes { IfErr result (λ fault. fault ≢ PackFault.Write →
         TakesToFault (R.remaining (inner_of reader.old)) (R.remaining (inner_of reader.new))) }
     ensures tested { IsErrOf result (PackFault.Text TextFault.Read) →
         TakesFew (R.remaining (inner_of reader.old)) (R.remaining (inner_of reader.new)) }
     ensures memory { IsErrOf result (PackFault.Text TextFault.Memory) →
         TakesFewParts (R.remaining (inner_of reader.old)) (R.remaining (inner_of reader.new)) }
-    ensures read { IsErrOf result (PackFault.Text TextFault.Read) →
-        Rose (failures_of reader.old) (failures_of reader.new) }
-    ensures write { IsErrOf result PackFault.Write →
-        Rose (failures_of writer.old) (failures_of writer.new) }
-    ensures written { OnOk result (failures_of writer.new ≡ failures_of writer.old) }
-    ensures fine { NoReadFailed (fault_in_text result) →
-        failures_of reader.new ≡ failures_of reader.old }
+    ensures counts { Counts (IsErrOf result (PackFault.Text TextFault.Read))
+        (NoReadFailed (fault_in_text result)) reader.old reader.new }
+    ensures writes { WritesLast PackFault.Write writer.old writer.new result }
 {
     let keys = read_numbers(alloc, reader)?;
     write_keys(&keys, writer)?;

@@ -1,7 +1,7 @@
 //! The command `list --snapshot`: the keys of a snapshot become a text of numbers.
 
-ghost use Rattle.std.specs.Prelude.{◌≡◌, ◌≢◌, Err, IfErr, IsErrOf, OnOk};
-ghost use Rattle.rh_bytes.specs.Counting.{Rose, failures_of, inner_of};
+ghost use Rattle.std.specs.Prelude.{◌≡◌, IsErrOf};
+ghost use Rattle.rh_bytes.specs.Counting.{CountsFault, WritesLast, inner_of};
 ghost use Rattle.rh_snapshot.specs.Reading.{BeginsWithSnapHeader};
 ghost use Rattle.rh_bytes.specs.Taking.{TakesAtMost};
 ghost use Rattle.rh_snapshot.specs.Limits.{TakesOfSnap, most_snap_bytes};
@@ -73,22 +73,16 @@ pub fn list_snapshot<R: Read, W: Write>(
     ensures listed { ListsHeld (R.remaining (inner_of reader.old))
         (R.remaining (inner_of reader.new))
         (W.contents (inner_of writer.old)) (W.contents (inner_of writer.new)) result }
-    ensures untouched { IfErr result (λ fault. fault ≢ HeldFault.Write → writer.new ≡ writer.old) }
     ensures takes { TakesOfSnap (R.remaining (inner_of reader.old))
         (R.remaining (inner_of reader.new)) (fault_held result) }
     ensures bounded { TakesAtMost (R.remaining (inner_of reader.old))
         (R.remaining (inner_of reader.new)) most_snap_bytes }
-    ensures read { IsErrOf result (HeldFault.Snap SnapFault.Read) →
-        Rose (failures_of reader.old) (failures_of reader.new) }
+    ensures counts { CountsFault (HeldFault.Snap SnapFault.Read) reader.old reader.new result }
     ensures memory { IsErrOf result (HeldFault.Snap SnapFault.Memory) →
         BeginsWithSnapHeader (R.remaining (inner_of reader.old)) }
     ensures comes { IsErrOf result (HeldFault.Snap SnapFault.Memory) →
         ComesFirstOrLast (R.remaining (inner_of reader.old)) (R.remaining (inner_of reader.new)) }
-    ensures write { IsErrOf result HeldFault.Write →
-        Rose (failures_of writer.old) (failures_of writer.new) }
-    ensures written { OnOk result (failures_of writer.new ≡ failures_of writer.old) }
-    ensures fine { result ≢ Err (HeldFault.Snap SnapFault.Read) →
-        failures_of reader.new ≡ failures_of reader.old }
+    ensures writes { WritesLast HeldFault.Write writer.old writer.new result }
 {
     let snapshot = read_snapshot(alloc, reader)?;
     let set = SeqSet::from_cells(snapshot.bits, snapshot.cells);

@@ -1,8 +1,8 @@
 //! The commands that make one list of several.
 
-ghost use Rattle.std.specs.Prelude.{◌≡◌, ◌++◌, ◌<◌, ◌≤◌, All, IfErr, IsErrOf, OnErr, OnOk, length, map, string_bytes};
+ghost use Rattle.std.specs.Prelude.{◌≡◌, ◌++◌, ◌<◌, ◌≤◌, All, IfErr, IsErrOf, OnOk, length, map, string_bytes};
 ghost use Rattle.std.specs.List.{flat_map};
-ghost use Rattle.rh_bytes.specs.Counting.{Rose, Writes, failures_of, inner_of};
+ghost use Rattle.rh_bytes.specs.Counting.{CountsFault, Emits, Rose, Writes, failures_of, inner_of};
 ghost use Rattle.rh_combine.specs.Combine.{answer};
 ghost use Rattle.rh_key_files.specs.KeyFile.{header, spelling};
 ghost use Rattle.rh_key_files.specs.declared.version.Version.TheVariants.{Second};
@@ -83,8 +83,7 @@ fn write_lists<T: Threads + Sync, W: Write, P: Progress>(
     ensures written { Writes (W.contents (inner_of writer.old)) (W.contents (inner_of writer.new))
         (written job.now.output
         (answer job.now.how (map (λ l. flat_map (λ k. k.items) l.items) lists.items))) result }
-    ensures write { IsErrOf result Write → Rose (failures_of writer.old) (failures_of writer.new) }
-    ensures fine { OnOk result (failures_of writer.new ≡ failures_of writer.old) }
+    ensures counts { CountsFault Write writer.old writer.new result }
 {
     let Job { how, workers, .. } = *job;
     match job.output {
@@ -121,8 +120,7 @@ fn write_counted<T: Threads + Sync, W: Write, P: Progress>(
     ensures written { Writes (W.contents (inner_of writer.old)) (W.contents (inner_of writer.new))
         (number_line (length (answer how (map (λ l. flat_map (λ k. k.items) l.items) lists.items))))
         result }
-    ensures write { IsErrOf result Write → Rose (failures_of writer.old) (failures_of writer.new) }
-    ensures fine { OnOk result (failures_of writer.new ≡ failures_of writer.old) }
+    ensures counts { CountsFault Write writer.old writer.new result }
 {
     let count = write_combined(
         rt,
@@ -154,8 +152,7 @@ fn write_packed<T: Threads + Sync, W: Write, P: Progress>(
     ensures written { Writes (W.contents (inner_of writer.old)) (W.contents (inner_of writer.new))
         (spelling Second (answer how (map (λ l. flat_map (λ k. k.items) l.items) lists.items)))
         result }
-    ensures write { IsErrOf result Write → Rose (failures_of writer.old) (failures_of writer.new) }
-    ensures fine { OnOk result (failures_of writer.new ≡ failures_of writer.old) }
+    ensures counts { CountsFault Write writer.old writer.new result }
 {
     let mut held = Counted::new(Vec::new(alloc));
     let Ok(count) = write_combined(
@@ -177,10 +174,7 @@ fn write_packed<T: Threads + Sync, W: Write, P: Progress>(
 
 /// Writes a key file of so many keys, which are spelled so.
 fn write_file<W: Write>(count: u64, keys: &[u8], writer: &mut Counted<W>) -> Result<(), WriteFault>
-    ensures written { Writes (W.contents (inner_of writer.old)) (W.contents (inner_of writer.new))
-        (header Second count ++ keys.now) result }
-    ensures failed { OnErr result (Rose (failures_of writer.old) (failures_of writer.new)) }
-    ensures fine { OnOk result (failures_of writer.new ≡ failures_of writer.old) }
+    ensures { Emits W.contents writer.old writer.new (header Second count ++ keys.now) result }
 {
     write_header(count, writer)?;
     write_text(writer, keys)

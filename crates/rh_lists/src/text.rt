@@ -1,7 +1,7 @@
 //! A text of numbers of any length, read block by block.
 
-ghost use Rattle.std.specs.Prelude.{◌≡◌, ◌<◌, ◌≤◌, ◌+◌, ◌++◌, ◌^◌, ℕ, List, [], IfErr, IsErrOf, IsFalse, IsTrue, OnOk, length};
-ghost use Rattle.rh_bytes.specs.Counting.{Rose, failures_of, inner_of};
+ghost use Rattle.std.specs.Prelude.{IsOk, ◌≡◌, ◌<◌, ◌≤◌, ◌+◌, ◌++◌, ◌^◌, ℕ, List, [], IfErr, IsErrOf, IsFalse, IsTrue, OnOk, length};
+ghost use Rattle.rh_bytes.specs.Counting.{Counts, inner_of};
 ghost use Rattle.rh_numbers.specs.declared.line_so_far.LineSoFar.TheVariants.{Start};
 ghost use Rattle.rh_numbers.specs.declared.limits.TheConstants.{MAX_BYTES};
 ghost use Rattle.rh_numbers.specs.Reading.{text_said};
@@ -51,11 +51,9 @@ pub(crate) fn read_text<T: Threads + Sync, R: Read, P: Progress>(
         (R.remaining (inner_of reader.new)) result }
     ensures tested { IsErrOf result TextFault.Read → TakesNoFault begun.now
         (R.remaining (inner_of reader.old)) (R.remaining (inner_of reader.new)) }
-    ensures read { IsErrOf result TextFault.Read →
-        Rose (failures_of reader.old) (failures_of reader.new) }
+    ensures counts { Counts (IsErrOf result TextFault.Read) (IsOk result) reader.old reader.new }
     ensures long { IsErrOf result TextFault.TooLong →
         HasBytes MAX_BYTES (R.remaining (inner_of reader.old)) }
-    ensures fine { OnOk result (failures_of reader.new ≡ failures_of reader.old) }
 {
     let Ok(front) = Part::read(alloc, LineSoFar::Start, begun) else {
         return Err(TextFault::Memory);
@@ -94,11 +92,9 @@ fn read_on<T: Threads + Sync, R: Read, P: Progress>(
     ensures tested { IsErrOf result TextFault.Read →
         (before : List ℕ) → IsReadTo Start before text → TakesNoFault before
         (R.remaining (inner_of reader.old)) (R.remaining (inner_of reader.new)) }
-    ensures read { IsErrOf result TextFault.Read →
-        Rose (failures_of reader.old) (failures_of reader.new) }
+    ensures counts { Counts (IsErrOf result TextFault.Read) (IsOk result) reader.old reader.new }
     ensures long { IsErrOf result TextFault.TooLong →
         HasBytes MAX_BYTES (R.remaining (inner_of reader.old)) }
-    ensures fine { OnOk result (failures_of reader.new ≡ failures_of reader.old) }
 {
     let Ok(mut block) = vec![in alloc; 0u8; block_bytes] else {
         return Err(TextFault::Memory);
@@ -133,11 +129,9 @@ fn read_blocks<T: Threads + Sync, R: Read, P: Progress>(
         (before : List ℕ) → IsReadTo Start before begun →
         TakesNoFault (before ++ block.items) (R.remaining (inner_of reader.old))
         (R.remaining (inner_of reader.new)) }
-    ensures read { IsErrOf result TextFault.Read →
-        Rose (failures_of reader.old) (failures_of reader.new) }
+    ensures counts { Counts (IsErrOf result TextFault.Read) (IsOk result) reader.old reader.new }
     ensures long { IsErrOf result TextFault.TooLong →
         HasBytes MAX_BYTES (R.remaining (inner_of reader.old)) }
-    ensures fine { OnOk result (failures_of reader.new ≡ failures_of reader.old) }
 {
     let Ok(mut next) = vec![in alloc; 0u8; block.len()] else {
         return Err(TextFault::Memory);

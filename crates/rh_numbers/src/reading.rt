@@ -30,7 +30,7 @@ pub struct Reading {
 impl Reading {
     ghost use Rattle.std.specs.Prelude.{◌≡◌, ◌≤◌, ◌<◌, ◌+◌, ◌^◌, ℕ, List, [], ◌∷◌, ◌++◌};
     ghost use Rattle.std.specs.Prelude.{IsErrOf, MatchResult, None, OnOk};
-    ghost use Rattle.rh_bytes.specs.Counting.{Rose, failures_of, inner_of};
+    ghost use Rattle.rh_bytes.specs.Counting.{Counts, inner_of};
     ghost use Rattle.rh_bytes.specs.Input.{fault_of};
     ghost use Rattle.rh_numbers.specs.Parts.{ReadsPart, keys_read, line_reached, said_by, so_far_of};
     ghost use Rattle.rh_numbers.specs.Reading.{NoReadFailed, Stops, with_key, with_line};
@@ -93,10 +93,8 @@ impl Reading {
         ensures many { length (keys_read self.new) ≤ length (keys_read self.old) + PART_BYTES + 1 }
         ensures full { IsErrOf result TextFault.TooMany → length (keys_read self.new) ≡ MAX_KEYS }
         ensures not_too_long { IsErrOf result TextFault.TooLong → ⊥ }
-        ensures read { IsErrOf result TextFault.Read →
-            Rose (failures_of reader.old) (failures_of reader.new) }
-        ensures fine { NoReadFailed (fault_of result) →
-            failures_of reader.new ≡ failures_of reader.old }
+        ensures counts { Counts (IsErrOf result TextFault.Read) (NoReadFailed (fault_of result))
+            reader.old reader.new }
     {
         self.keys.reserve(PART_BYTES + 1)?;
         let mut part = [0; PART_BYTES];

@@ -1,9 +1,9 @@
 //! A whole text of numbers.
 
-ghost use Rattle.std.specs.Prelude.{◌≡◌, ◌≤◌, length, All, IfOk, IsErrOf, OnErr};
+ghost use Rattle.std.specs.Prelude.{◌≤◌, length, All, IfOk, IsErrOf, OnErr};
 ghost use Rattle.rh_layout.specs.Key.{IsKey};
 ghost use Rattle.rh_layout.specs.declared.limits.TheConstants.{MAX_KEYS};
-ghost use Rattle.rh_bytes.specs.Counting.{Rose, failures_of, inner_of};
+ghost use Rattle.rh_bytes.specs.Counting.{Counts, inner_of};
 ghost use Rattle.rh_bytes.specs.Input.{fault_of};
 ghost use Rattle.rh_numbers.specs.Reading.{IsTextReadFrom, NoReadFailed, ReadsText};
 ghost use Rattle.rh_numbers.specs.Reading.{TakesFew, TakesFewParts, TakesToFault};
@@ -31,10 +31,8 @@ pub fn read_numbers<R: Read>(alloc: Global, reader: &mut Counted<R>) -> Result<V
         TakesFew (R.remaining (inner_of reader.old)) (R.remaining (inner_of reader.new)) }
     ensures memory { IsErrOf result TextFault.Memory →
         TakesFewParts (R.remaining (inner_of reader.old)) (R.remaining (inner_of reader.new)) }
-    ensures read { IsErrOf result TextFault.Read →
-        Rose (failures_of reader.old) (failures_of reader.new) }
-    ensures fine { NoReadFailed (fault_of result) →
-        failures_of reader.new ≡ failures_of reader.old }
+    ensures counts { Counts (IsErrOf result TextFault.Read) (NoReadFailed (fault_of result))
+        reader.old reader.new }
 {
     let mut reading = Reading::new(alloc);
     for _ in 0..MAX_READS {

@@ -5,6 +5,7 @@ use Rattle.rh_key_files.specs.declared.fault.KeyFault.TheVariants as faults
 use Rattle.rh_snapshot.specs.declared.fault.SnapFault.TheVariants as snap_faults
 use Rattle.rh_shelf.specs.Shelf.{ShelfState}
 use Rattle.rh_operations.specs.declared.cause.Cause.{Cause}
+use Rattle.rh_operations.specs.Outside.{Outside}
 use Rattle.rh_operations.specs.declared.cause.Cause.TheVariants.{Missing, Keys, Snap, NoThread, Put, Write}
 
 -- a read of a file failed
@@ -36,3 +37,8 @@ pub record KeepsRunner {X : Type 0} (starts starts' : ℕ) (r : Result X Cause) 
   pub fine : OnOk r (starts' ≡ starts)
   pub thread : IfErr r (λ cause. cause ≡ NoThread → Rose starts starts')
   pub others : IfErr r (λ cause. cause ≢ NoThread → starts' ≡ starts)
+
+-- What one on the keys of a list leaves of both.
+pub record Leaves {X : Type 0} (old new : Outside) (r : Result X Cause) : Type 0 where
+  pub shelf : KeepsShelf old.shelf new.shelf r
+  pub runner : KeepsRunner old.refused_starts new.refused_starts r

@@ -1,6 +1,7 @@
 pub mod Causes
 pub mod Size
 pub mod Found
+pub mod Outside
 pub mod Refusals
 pub mod Leaves
 pub mod KeyLists

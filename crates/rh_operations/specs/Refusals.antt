@@ -1,13 +1,15 @@
--- Why an operation is refused: by what was found, or by a cause from outside. `failed` says that the shelf failed, `read` that a
--- read of a file failed, and `refused` that the start of a thread was refused.
+-- Why an operation is refused: by what was found, or by a cause from outside, where the counts of what is outside tell of it.
 use Rattle.std.specs.Prelude.{◌≡◌, ℕ, ◌⊎◌, List, Option, Some, Result, Ok, Err, IsOk}
+use Rattle.rh_bytes.specs.Counting.{Rose}
 use Rattle.rh_key_files.specs.declared.fault.KeyFault.{KeyFault}
 use Rattle.rh_key_files.specs.declared.fault.KeyFault.TheVariants as faults
 use Rattle.rh_snapshot.specs.declared.fault.SnapFault.TheVariants as snap_faults
 use Rattle.rh_key_files.specs.Source.{Coming}
+use Rattle.rh_shelf.specs.Shelf.{ShelfState}
 use Rattle.rh_runner.specs.declared.fault.ListFault.{ListFault}
 use Rattle.rh_runner.specs.Lists.{Refused, Took}
 use Rattle.rh_operations.specs.Causes.{of_list}
+use Rattle.rh_operations.specs.Outside.{Outside}
 use Rattle.rh_operations.specs.declared.cause.Cause.{Cause}
 use Rattle.rh_operations.specs.declared.cause.Cause.TheVariants.{Missing, Keys, Snap, TooLarge, Memory, NoThread, Put, Write}
 
@@ -23,34 +25,42 @@ MemoryFails Memory = Unit {0}
 MemoryFails _ = ⊥
 
 -- Memory is wanted where the shelf failed, or after this was found.
-abbrev pub WantedAfter : {Y : Type 0} → (found : Result Y Cause) → (failed : Type 0) → Cause → Type 0
-WantedAfter found failed Memory = failed ⊎ IsOk found
-WantedAfter found failed cause = Unit {0}
+abbrev pub WantedAfter : {Y : Type 0} → (found : Result Y Cause) → (old new : ShelfState) → Cause → Type 0
+WantedAfter found old new Memory = Rose old.failures new.failures ⊎ IsOk found
+WantedAfter found old new cause = Unit {0}
 
--- A list was not read: memory ran out, a read failed, or the shelf failed to give its file.
-abbrev pub ListFails : (failed read : Type 0) → Cause → Type 0
-ListFails failed read Memory = Unit {0}
-ListFails failed read (Keys faults.Read) = read
-ListFails failed read Missing = failed
-ListFails failed read _ = ⊥
+-- A file was not opened: memory ran out, or the shelf failed to give it.
+abbrev pub OpenFails : (old new : ShelfState) → Cause → Type 0
+OpenFails old new Memory = Unit {0}
+OpenFails old new Missing = Rose old.failures new.failures
+OpenFails old new _ = ⊥
 
--- So it was, or the phase over it was refused a thread.
-abbrev pub PhaseFails : (failed read refused : Type 0) → Cause → Type 0
-PhaseFails failed read refused NoThread = refused
-PhaseFails failed read refused cause = ListFails failed read cause
+-- A list was not read: so it was, or a read of its file failed.
+abbrev pub ListFails : (old new : ShelfState) → Cause → Type 0
+ListFails old new (Keys faults.Read) = Rose old.failed_reads new.failed_reads
+ListFails old new cause = OpenFails old new cause
+
+-- A snapshot was not read: likewise.
+abbrev pub RestoreFails : (old new : ShelfState) → Cause → Type 0
+RestoreFails old new (Snap snap_faults.Read) = Rose old.failed_reads new.failed_reads
+RestoreFails old new cause = OpenFails old new cause
 
 -- A snapshot was not put: memory ran out, or the shelf failed to take it.
-abbrev pub PutFails : (failed : Type 0) → Cause → Type 0
-PutFails failed Memory = Unit {0}
-PutFails failed Put = failed
-PutFails failed _ = ⊥
+abbrev pub PutFails : (old new : ShelfState) → Cause → Type 0
+PutFails old new Memory = Unit {0}
+PutFails old new Put = Rose old.failures new.failures
+PutFails old new _ = ⊥
 
--- A snapshot was not read: memory ran out, a read failed, or the shelf failed to give its file.
-abbrev pub RestoreFails : (failed read : Type 0) → Cause → Type 0
-RestoreFails failed read Memory = Unit {0}
-RestoreFails failed read (Snap snap_faults.Read) = read
-RestoreFails failed read Missing = failed
-RestoreFails failed read _ = ⊥
+-- A phase over keys in memory failed: memory ran out, or the start of a thread was refused.
+abbrev pub StartFails : (starts starts' : ℕ) → Cause → Type 0
+StartFails n m Memory = Unit {0}
+StartFails n m NoThread = Rose n m
+StartFails n m _ = ⊥
+
+-- A list was not read, or the start of a thread for the phase over it was refused.
+abbrev pub PhaseFails : (old new : Outside) → Cause → Type 0
+PhaseFails old new NoThread = Rose old.refused_starts new.refused_starts
+PhaseFails old new cause = ListFails old.shelf new.shelf cause
 
 -- ---- keys that come in batches
 

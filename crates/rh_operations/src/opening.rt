@@ -6,7 +6,7 @@ ghost use Rattle.rh_shelf.specs.Shelf.{Files, Finds, Lacks};
 ghost use Rattle.rh_operations.specs.Found.{header_count};
 ghost use Rattle.rh_operations.specs.KeyLists.{Opens, bytes_left, source_bytes};
 ghost use Rattle.rh_operations.specs.Leaves.{IsRead, UsesShelf};
-ghost use Rattle.rh_operations.specs.Refusals.{ListFails, RefusedBy};
+ghost use Rattle.rh_operations.specs.Refusals.{OpenFails, RefusedBy};
 
 use crate::cause::Cause;
 use crate::key_lists::{KeyList, ListReader, Source};
@@ -50,7 +50,7 @@ pub(crate) fn open_list<'a, S: Lender>(
     ensures fresh { IfOk result (λ r. failures_of r ≡ 0) }
     ensures refused { (files : Files) → (S.state shelf.old).files ≡ Some files → IfErr result
         (RefusedBy (header_count (source_bytes files list.now.source))
-        (ListFails (Rose (S.state shelf.old).failures (S.state shelf.new).failures) ⊥)) }
+        (OpenFails (S.state shelf.old) (S.state shelf.new))) }
     ensures memory { IfErr result (λ cause. cause ≡ Cause.Memory →
         Rose (S.state shelf.old).failures (S.state shelf.new).failures) }
     ensures shelf { UsesShelf (S.state shelf.old) (S.state shelf.new) result }

@@ -9,7 +9,8 @@ ghost use Rattle.rh_operations.specs.Actions.{made_of, means, room_at, room_foun
 ghost use Rattle.rh_operations.specs.Acts.{Acts};
 ghost use Rattle.rh_operations.specs.Found.{keys_found};
 ghost use Rattle.rh_operations.specs.KeyLists.{Gave, Stands, path_of, source_bytes};
-ghost use Rattle.rh_operations.specs.Leaves.{KeepsRunner, KeepsShelf, UsesShelf};
+ghost use Rattle.rh_operations.specs.Leaves.{Leaves, UsesShelf};
+ghost use Rattle.rh_operations.specs.Outside.{outside};
 ghost use Rattle.rh_operations.specs.Refusals.{ListFails, PhaseFails, RefusedBy, WantedAfter};
 
 use crate::action::{Action, Done};
@@ -32,8 +33,7 @@ pub fn use_file<S: Lender>(alloc: Global, shelf: &mut S, path: &str) -> Result<u
         (keys : List ℕ) × (keys_found (files path.now) ≡ Ok keys) × (length keys ≡ count)) }
     ensures refused { (files : Files) → (S.state shelf.old).files ≡ Some files → IfErr result
         (RefusedBy (keys_found (files path.now))
-        (ListFails (Rose (S.state shelf.old).failures (S.state shelf.new).failures)
-        (Rose (S.state shelf.old).failed_reads (S.state shelf.new).failed_reads))) }
+        (ListFails (S.state shelf.old) (S.state shelf.new))) }
     ensures memory { IfErr result (λ cause. cause ≡ Cause.Memory →
         Rose (S.state shelf.old).failures (S.state shelf.new).failures) }
     ensures shelf { UsesShelf (S.state shelf.old) (S.state shelf.new) result }
@@ -66,16 +66,14 @@ pub fn operate<T: Threads + Wait + Sync, S: Lender, N: Runner>(
         × (means action set.old keys ≡ Ok (set.new, telling done))) }
     ensures memory { (files : Files) → (S.state shelf.old).files ≡ Some files → IfErr result
         (WantedAfter (room_found action set.old list.now.count (source_bytes files list.now.source))
-        (Rose (S.state shelf.old).failures (S.state shelf.new).failures)) }
+        (S.state shelf.old) (S.state shelf.new)) }
     ensures refused { (files : Files) → (S.state shelf.old).files ≡ Some files → IfErr result
         (RefusedBy (made_of action set.old list.now.count (source_bytes files list.now.source))
-        (PhaseFails (Rose (S.state shelf.old).failures (S.state shelf.new).failures)
-        (Rose (S.state shelf.old).failed_reads (S.state shelf.new).failed_reads)
-        (Rose (N.refused_starts runner.old) (N.refused_starts runner.new)))) }
+        (PhaseFails (outside S.state N.refused_starts shelf.old runner.old)
+        (outside S.state N.refused_starts shelf.new runner.new))) }
     ensures unchanged { OnErr result (set.new ≡ set.old) }
-    ensures shelf { KeepsShelf (S.state shelf.old) (S.state shelf.new) result }
-    ensures runner { KeepsRunner (N.refused_starts runner.old) (N.refused_starts runner.new)
-        result }
+    ensures leaves { Leaves (outside S.state N.refused_starts shelf.old runner.old)
+        (outside S.state N.refused_starts shelf.new runner.new) result }
 {
     let mut reader = open_list(alloc, shelf, list)?;
     match open_keys(&mut reader) {

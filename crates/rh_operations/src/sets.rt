@@ -3,7 +3,6 @@
 
 ghost use Rattle.std.specs.Prelude.{◌≡◌, ◌+◌, All, Ok, IfErr, IfOk, length};
 ghost use Rattle.std.specs.FinSet as finset;
-ghost use Rattle.rh_bytes.specs.Counting.{Rose};
 ghost use Rattle.rh_layout.specs.Key.{IsKey};
 ghost use Rattle.rh_layout.specs.Layout.{keys_of};
 ghost use Rattle.rh_ledger.specs.Phase.{looked_up, set_after, tally_of};
@@ -13,7 +12,7 @@ ghost use Rattle.rh_operations.specs.Actions.{means, room_for};
 ghost use Rattle.rh_operations.specs.Acts.{Acts};
 ghost use Rattle.rh_operations.specs.declared.action.Action.TheVariants.{Add, Drop, Keep, Flip, Ask};
 ghost use Rattle.rh_operations.specs.Leaves.{KeepsRunner};
-ghost use Rattle.rh_operations.specs.Refusals.{FaultOn, IsOfKeys, IsOfPhase, PhaseFails, RefusedBy, TellsKeys};
+ghost use Rattle.rh_operations.specs.Refusals.{FaultOn, IsOfKeys, IsOfPhase, RefusedBy, StartFails, TellsKeys};
 ghost use Rattle.rh_operations.specs.Size.{size_for};
 
 use crate::action::Done;
@@ -44,7 +43,7 @@ fn with_keys<T: Threads + Wait + Sync, N: Runner>(
     ensures tally { IfOk result (λ made. made.1 ≡ tally_of Insert set.now.keys keys.now) }
     ensures refused { IfErr result
         (RefusedBy (size_for set.now.bits (finset.len set.now.keys + length keys.now))
-        (PhaseFails ⊥ ⊥ (Rose (N.refused_starts runner.old) (N.refused_starts runner.new)))) }
+        (StartFails (N.refused_starts runner.old) (N.refused_starts runner.new))) }
     ensures own { IfErr result IsOfPhase }
     ensures runner { KeepsRunner (N.refused_starts runner.old) (N.refused_starts runner.new)
         result }
@@ -68,7 +67,7 @@ fn without_keys<T: Threads + Wait + Sync, N: Runner>(
     ensures held { IfOk result (λ made. made.0.keys ≡ set_after Remove set.now.keys keys.now) }
     ensures tally { IfOk result (λ made. made.1 ≡ tally_of Remove set.now.keys keys.now) }
     ensures refused { IfErr result
-        (PhaseFails ⊥ ⊥ (Rose (N.refused_starts runner.old) (N.refused_starts runner.new))) }
+        (StartFails (N.refused_starts runner.old) (N.refused_starts runner.new)) }
     ensures own { IfErr result IsOfPhase }
     ensures runner { KeepsRunner (N.refused_starts runner.old) (N.refused_starts runner.new)
         result }

@@ -1,7 +1,6 @@
 //! Snapshots of the table on a shelf.
 
 ghost use Rattle.std.specs.Prelude.{◌≡◌, ℕ, List, Some, Ok, IfErr, IfOk, OnErr, OnOk};
-ghost use Rattle.rh_bytes.specs.Counting.{Rose};
 ghost use Rattle.rh_shelf.specs.Shelf.{Files, InDoubt, Puts};
 ghost use Rattle.rh_operations.specs.Snapshots.{IsSnapshotOf};
 ghost use Rattle.rh_operations.specs.Leaves.{UsesShelf};
@@ -29,7 +28,7 @@ pub fn put_snapshot<S: Lender>(
     ensures doubt { OnErr result
         (InDoubt (S.state shelf.old).files (S.state shelf.new).files path.now) }
     ensures refused { IfErr result
-        (PutFails (Rose (S.state shelf.old).failures (S.state shelf.new).failures)) }
+        (PutFails (S.state shelf.old) (S.state shelf.new)) }
     ensures fine { OnOk result ((S.state shelf.new).failures ≡ (S.state shelf.old).failures) }
     ensures same_reads { (S.state shelf.new).failed_reads ≡ (S.state shelf.old).failed_reads }
 {
@@ -58,8 +57,7 @@ pub fn restored<S: Lender>(alloc: Global, shelf: &mut S, path: &str) -> Result<S
         IfOk result (λ set. table_found (files path.now) ≡ Ok set) }
     ensures refused { (files : Files) → (S.state shelf.old).files ≡ Some files → IfErr result
         (RefusedBy (table_found (files path.now))
-        (RestoreFails (Rose (S.state shelf.old).failures (S.state shelf.new).failures)
-        (Rose (S.state shelf.old).failed_reads (S.state shelf.new).failed_reads))) }
+        (RestoreFails (S.state shelf.old) (S.state shelf.new))) }
     ensures shelf { UsesShelf (S.state shelf.old) (S.state shelf.new) result }
 {
     let mut reader = Counted::new(open_file(alloc, shelf, path)?);

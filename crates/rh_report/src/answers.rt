@@ -1,7 +1,7 @@
 //! The report of look-ups.
 
-ghost use Rattle.std.specs.Prelude.{◌≡◌, ◌≤◌, ◌<◌, ◌++◌, OnErr, OnOk, codes, length, map};
-ghost use Rattle.rh_bytes.specs.Counting.{Rose, Writes, failures_of, inner_of};
+ghost use Rattle.std.specs.Prelude.{◌≡◌, ◌≤◌, ◌<◌, ◌++◌, codes, length, map};
+ghost use Rattle.rh_bytes.specs.Counting.{Emits};
 ghost use Rattle.rh_report.specs.Texts.{asked_head, asked_text, digit_of, digits_from};
 
 use crate::lines::write_line;
@@ -17,10 +17,7 @@ pub fn write_asked<W: Write>(
     name: &str,
     answers: &[bool],
 ) -> Result<(), WriteFault>
-    ensures text { Writes (W.contents (inner_of writer.old)) (W.contents (inner_of writer.new))
-        (asked_text name.now answers.now) result }
-    ensures failed { OnErr result (Rose (failures_of writer.old) (failures_of writer.new)) }
-    ensures fine { OnOk result (failures_of writer.new ≡ failures_of writer.old) }
+    ensures { Emits W.contents writer.old writer.new (asked_text name.now answers.now) result }
 {
     write_head(writer, name, answers)?;
     write_answers(writer, answers)
@@ -31,10 +28,7 @@ fn write_head<W: Write>(
     name: &str,
     answers: &[bool],
 ) -> Result<(), WriteFault>
-    ensures text { Writes (W.contents (inner_of writer.old)) (W.contents (inner_of writer.new))
-        (asked_head name.now answers.now) result }
-    ensures failed { OnErr result (Rose (failures_of writer.old) (failures_of writer.new)) }
-    ensures fine { OnOk result (failures_of writer.new ≡ failures_of writer.old) }
+    ensures { Emits W.contents writer.old writer.new (asked_head name.now answers.now) result }
 {
     let found = answers.iter().filter(|answer| **answer).count();
     let numbers = [(" read ", answers.len() as u64), (" found ", found as u64)];
@@ -43,10 +37,7 @@ fn write_head<W: Write>(
 
 /// Writes the answers line by line.
 fn write_answers<W: Write>(writer: &mut Counted<W>, answers: &[bool]) -> Result<(), WriteFault>
-    ensures text { Writes (W.contents (inner_of writer.old)) (W.contents (inner_of writer.new))
-        (digits_from 0 answers.now) result }
-    ensures failed { OnErr result (Rose (failures_of writer.old) (failures_of writer.new)) }
-    ensures fine { OnOk result (failures_of writer.new ≡ failures_of writer.old) }
+    ensures { Emits W.contents writer.old writer.new (digits_from 0 answers.now) result }
 {
     let mut rest = answers;
     while !rest.is_empty() {
@@ -59,10 +50,8 @@ fn write_answers<W: Write>(writer: &mut Counted<W>, answers: &[bool]) -> Result<
 
 fn write_answer_line<W: Write>(writer: &mut Counted<W>, answers: &[bool]) -> Result<(), WriteFault>
     requires { length answers.now ≤ ANSWERS_PER_LINE }
-    ensures text { Writes (W.contents (inner_of writer.old)) (W.contents (inner_of writer.new))
-        (map digit_of answers.now ++ codes "\n") result }
-    ensures failed { OnErr result (Rose (failures_of writer.old) (failures_of writer.new)) }
-    ensures fine { OnOk result (failures_of writer.new ≡ failures_of writer.old) }
+    ensures { Emits W.contents writer.old writer.new (map digit_of answers.now ++ codes "\n")
+        result }
 {
     let mut line = [0; ANSWERS_PER_LINE];
     let digits = &mut line[..answers.len()];

@@ -1,8 +1,8 @@
 //! Reports of one line. They take no memory, and each number and each word is a write of its own,
 //! so give them a writer with a buffer.
 
-ghost use Rattle.std.specs.Prelude.{◌≡◌, ◌++◌, List, ℕ, OnErr, OnOk, decimal};
-ghost use Rattle.rh_bytes.specs.Counting.{Rose, Writes, failures_of, inner_of};
+ghost use Rattle.std.specs.Prelude.{◌++◌, List, ℕ, decimal};
+ghost use Rattle.rh_bytes.specs.Counting.{Emits};
 ghost use Rattle.rh_report.specs.Account.{Says, account_as, change_as};
 ghost use Rattle.rh_report.specs.Texts.{front_text, line_text, numbers_as, table_numbers};
 
@@ -69,10 +69,8 @@ pub fn write_account<W: Write>(
     writer: &mut Counted<W>,
     account: &Account<'_>,
 ) -> Result<(), WriteFault>
-    ensures text { (text : List ℕ) × Says (account_as account.now) text ×
-        Writes (W.contents (inner_of writer.old)) (W.contents (inner_of writer.new)) text result }
-    ensures failed { OnErr result (Rose (failures_of writer.old) (failures_of writer.new)) }
-    ensures fine { OnOk result (failures_of writer.new ≡ failures_of writer.old) }
+    ensures { (text : List ℕ) × Says (account_as account.now) text ×
+        Emits W.contents writer.old writer.new text result }
 {
     match *account {
         Account::Used { name, count } => write_line(writer, "use ", name, &[(" ", count)]),
@@ -96,10 +94,8 @@ fn write_change<W: Write>(
     change: Change,
     table: Table,
 ) -> Result<(), WriteFault>
-    ensures text { (text : List ℕ) × Says (change_as name.now read change table) text ×
-        Writes (W.contents (inner_of writer.old)) (W.contents (inner_of writer.new)) text result }
-    ensures failed { OnErr result (Rose (failures_of writer.old) (failures_of writer.new)) }
-    ensures fine { OnOk result (failures_of writer.new ≡ failures_of writer.old) }
+    ensures { (text : List ℕ) × Says (change_as name.now read change table) text ×
+        Emits W.contents writer.old writer.new text result }
 {
     let read = (" read ", read);
     match change {
@@ -127,10 +123,8 @@ pub(crate) fn write_line<W: Write>(
     name: &str,
     numbers: &[(&str, u64)],
 ) -> Result<(), WriteFault>
-    ensures text { Writes (W.contents (inner_of writer.old)) (W.contents (inner_of writer.new))
+    ensures { Emits W.contents writer.old writer.new
         (line_text word.now name.now (numbers_as numbers.now)) result }
-    ensures failed { OnErr result (Rose (failures_of writer.old) (failures_of writer.new)) }
-    ensures fine { OnOk result (failures_of writer.new ≡ failures_of writer.old) }
 {
     write_front(writer, word, name, numbers)?;
     write_texts(writer, &[b"\n"])
@@ -144,12 +138,9 @@ fn write_table_line<W: Write>(
     numbers: &[(&str, u64)],
     table: Table,
 ) -> Result<(), WriteFault>
-    ensures text { Writes (W.contents (inner_of writer.old)) (W.contents (inner_of writer.new))
+    ensures { Emits W.contents writer.old writer.new
         (line_text word.now name.now
-        (numbers_as numbers.now ++ table_numbers table.held table.bits))
-        result }
-    ensures failed { OnErr result (Rose (failures_of writer.old) (failures_of writer.new)) }
-    ensures fine { OnOk result (failures_of writer.new ≡ failures_of writer.old) }
+        (numbers_as numbers.now ++ table_numbers table.held table.bits)) result }
 {
     write_front(writer, word, name, numbers)?;
     write_line(
@@ -167,10 +158,8 @@ fn write_front<W: Write>(
     name: &str,
     numbers: &[(&str, u64)],
 ) -> Result<(), WriteFault>
-    ensures text { Writes (W.contents (inner_of writer.old)) (W.contents (inner_of writer.new))
+    ensures { Emits W.contents writer.old writer.new
         (front_text word.now name.now (numbers_as numbers.now)) result }
-    ensures failed { OnErr result (Rose (failures_of writer.old) (failures_of writer.new)) }
-    ensures fine { OnOk result (failures_of writer.new ≡ failures_of writer.old) }
 {
     write_texts(writer, &[word.as_bytes(), name.as_bytes()])?;
     for (label, number) in numbers {
@@ -184,10 +173,7 @@ fn write_number<W: Write>(
     label: &str,
     number: u64,
 ) -> Result<(), WriteFault>
-    ensures text { Writes (W.contents (inner_of writer.old)) (W.contents (inner_of writer.new))
-        (label.now ++ decimal number) result }
-    ensures failed { OnErr result (Rose (failures_of writer.old) (failures_of writer.new)) }
-    ensures fine { OnOk result (failures_of writer.new ≡ failures_of writer.old) }
+    ensures { Emits W.contents writer.old writer.new (label.now ++ decimal number) result }
 {
     let mut buffer = Buffer::new();
     let digits = buffer.format(number).as_bytes();

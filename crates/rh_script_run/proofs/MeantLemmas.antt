@@ -14,12 +14,13 @@ use Rattle.rh_script.specs.Instruction.{Instruction, Numbered, Use, Add, Drop, A
 use Rattle.rh_shelf.specs.Shelf.{Files}
 use Rattle.rh_operations.specs.declared.cause.Cause.{Cause}
 use Rattle.rh_operations.specs.declared.cause.Cause.TheVariants as causes
+use Rattle.rh_operations.specs.Outside.{Outside}
 use Rattle.rh_operations.specs.Refusals.{ListFails, MemoryFails, PhaseFails, PutFails, RestoreFails}
 use Rattle.rh_script_run.specs.declared.fault.RunFault.{RunFault}
 use Rattle.rh_script_run.specs.declared.report.Report.{Report}
 use Rattle.rh_script_run.specs.Agree.{EndsByItself, IsFound, ReadsNone, ReadsNoneAt, result_of}
 use Rattle.rh_script_run.specs.Ends.{Done, Ends, EndsBy, LeavesFiles, LeavesOthers, NotBegun, SaysAll, Stopped, step_in}
-use Rattle.rh_script_run.specs.Environment.{Environment}
+use Rattle.rh_script_run.specs.Environment.{Environment, outside_in}
 use Rattle.rh_script_run.specs.Files.{Bytes, File, FileMap, HasFiles, IsFile, Sealed}
 use Rattle.rh_script_run.specs.Meaning.{Outcome, ScriptState, keys_at_path, meaning, outcome_of, start, table_at}
 use Rattle.rh_script_run.specs.Outside.{IsOutside}
@@ -27,50 +28,53 @@ use Rattle.rh_script_run.proofs.MadeLemmas.{Made, made_all, made_by, made_to, re
 
 -- ---- a cause that was found is none from outside, but that of a file that is not there
 
-module _ (failed read lacks : Type 0) where
+module _ (old new : Outside) (lacks : Type 0) where
+  abbrev Found : Cause → Type 0
+  Found cause = IsFound (Rose old.shelf.failures new.shelf.failures) (Rose old.shelf.failed_reads new.shelf.failed_reads) lacks cause
+
   -- the file is not there, whether the shelf failed or not
   abbrev IsLack : Cause → Type 0
   IsLack cause = (cause ≡ causes.Missing) × lacks
 
-  memory_found : (cause : Cause) → IsFound failed read lacks cause → MemoryFails cause → IsLack cause
+  memory_found : (cause : Cause) → Found cause → MemoryFails cause → IsLack cause
   memory_found causes.Memory found out = absurd found
   memory_found cause found out = absurd out
 
-  list_found : (cause : Cause) → IsFound failed read lacks cause → ListFails failed read cause → IsLack cause
+  list_found : (cause : Cause) → Found cause → ListFails old.shelf new.shelf cause → IsLack cause
   list_found causes.Memory found out = absurd found
   list_found (causes.Keys key_faults.Read) found out = absurd (found refl out)
   list_found causes.Missing (inl fine) out = absurd (fine out)
   list_found causes.Missing (inr none) out = (refl, none)
   list_found cause found out = absurd out
 
-  phase_found : (refused : Type 0) (cause : Cause) → IsFound failed read lacks cause → PhaseFails failed read refused cause → IsLack cause
-  phase_found refused causes.NoThread found out = absurd found
-  phase_found refused cause found out = list_found cause found out
+  phase_found : (cause : Cause) → Found cause → PhaseFails old new cause → IsLack cause
+  phase_found causes.NoThread found out = absurd found
+  phase_found cause found out = list_found cause found out
 
-  put_found : (cause : Cause) → IsFound failed read lacks cause → PutFails failed cause → IsLack cause
+  put_found : (cause : Cause) → Found cause → PutFails old.shelf new.shelf cause → IsLack cause
   put_found causes.Memory found out = absurd found
   put_found causes.Put found out = absurd found
   put_found cause found out = absurd out
 
-  restore_found : (cause : Cause) → IsFound failed read lacks cause → RestoreFails failed read cause → IsLack cause
+  restore_found : (cause : Cause) → Found cause → RestoreFails old.shelf new.shelf cause → IsLack cause
   restore_found causes.Memory found out = absurd found
   restore_found (causes.Snap snap_faults.Read) found out = absurd (found refl out)
   restore_found causes.Missing (inl fine) out = absurd (fine out)
   restore_found causes.Missing (inr none) out = (refl, none)
   restore_found cause found out = absurd out
 
-  not_outside : (refused : Type 0) (said : Instruction) (cause : Cause) → IsFound failed read lacks cause → IsOutside said failed read refused cause → IsLack cause
-  not_outside refused (Use name path) cause found out = list_found cause found out
-  not_outside refused (Add name) cause found out = phase_found refused cause found out
-  not_outside refused (Drop name) cause found out = phase_found refused cause found out
-  not_outside refused (Ask name) cause found out = phase_found refused cause found out
-  not_outside refused (Keep name) cause found out = phase_found refused cause found out
-  not_outside refused (Flip name) cause found out = phase_found refused cause found out
-  not_outside refused (Save name) cause found out = memory_found cause found out
-  not_outside refused Clear cause found out = memory_found cause found out
-  not_outside refused Dump cause found out = absurd out
-  not_outside refused (Snapshot path) cause found out = put_found cause found out
-  not_outside refused (Restore path) cause found out = restore_found cause found out
+  not_outside : (said : Instruction) (cause : Cause) → Found cause → IsOutside said old new cause → IsLack cause
+  not_outside (Use name path) cause found out = list_found cause found out
+  not_outside (Add name) cause found out = phase_found cause found out
+  not_outside (Drop name) cause found out = phase_found cause found out
+  not_outside (Ask name) cause found out = phase_found cause found out
+  not_outside (Keep name) cause found out = phase_found cause found out
+  not_outside (Flip name) cause found out = phase_found cause found out
+  not_outside (Save name) cause found out = memory_found cause found out
+  not_outside Clear cause found out = memory_found cause found out
+  not_outside Dump cause found out = absurd out
+  not_outside (Snapshot path) cause found out = put_found cause found out
+  not_outside (Restore path) cause found out = restore_found cause found out
 
 -- ---- a file that is not there
 
@@ -147,7 +151,7 @@ module _ (files : Files) (steps : List Numbered) (old new : Environment) (fault 
   refusal : EndsBy (step_in s.world s.step.instruction s.middle new) fault.cause → (outcome_of s.world s.step.instruction ≡ Err fault.cause) × Appends s.middle.text new.text []
   refusal (inl (none, inl is)) = (is, none)
   refusal (inl (none, inr out)) =
-      let its = not_outside (Rose s.middle.failures new.failures) (Rose s.middle.failed_reads new.failed_reads) lacks _ s.step.instruction fault.cause found_here out in
+      let its = not_outside (outside_in s.middle) (outside_in new) lacks s.step.instruction fault.cause found_here out in
       (missing_here its.0 its.1, none)
   refusal (inr written) = absurd (subst (IsFound (Rose old.failures new.failures) (Rose old.failed_reads new.failed_reads) lacks) written.0 found)
 

@@ -27,7 +27,7 @@ use Rattle.rh_operations.specs.Size.{size_for}
 use Rattle.rh_script_run.specs.Meaning.{ScriptState, Outcome, outcome_at, keys_at_path, meaning, outcome_of, start, table_at}
 use Rattle.rh_script_run.specs.Environment.{Environment}
 use Rattle.rh_script_run.specs.Ends.{Done, EndsBy, LeavesFiles, SaysAll, Stopped, step_in}
-use Rattle.rh_script_run.specs.Steps.{HasList, IsApart, ListsStand, Named, StepDone, names_of, world_of}
+use Rattle.rh_script_run.specs.Steps.{ComesAfter, HasList, IsApart, ListsStand, Named, StepDone, names_of, world_of}
 use Rattle.rh_script_run.specs.Reached.{CarriedOut, Moment, Reached}
 use Rattle.rh_script_run.proofs.FileLemmas.{given_file}
 use Rattle.rh_script_run.proofs.ListLemmas.{place_inside}
@@ -223,7 +223,7 @@ module _ (lists : List KeyList) where
   apart_of (tasks.Snapshot path) said is apart = apart path.now (sym is)
   apart_of (tasks.Restore path) said is apart = tt
 
-  pub is_apart : (steps : List Numbered) (i : ℕ) (step : PlannedStep) → SnapshotsAreNew steps → StepAt steps i step → paths_of lists ≡ files_in (take i steps) → IsApart step.task lists
+  is_apart : (steps : List Numbered) (i : ℕ) (step : PlannedStep) → SnapshotsAreNew steps → StepAt steps i step → paths_of lists ≡ files_in (take i steps) → IsApart step.task lists
   is_apart steps i step new here paths =
       apart_of step.task here.numbered.instruction here.said (λ path is.
       subst (λ given. is_given path given ≡ false) (sym paths) (new (take i steps) (drop (i + 1) steps) here.numbered path here.parts is).0)
@@ -253,8 +253,13 @@ module _ (files : Files) (steps : List Numbered) (i : ℕ) (step : PlannedStep) 
   abbrev world_here : ScriptState
   world_here = world_of now.set so_far.done.named so_far.done.made
 
-  pub its_number : number_after (names_of so_far.done.named) (task_as step.task).0 ≡ (task_as step.task).1
-  its_number = subst (λ given. number_after given (task_as step.task).0 ≡ (task_as step.task).1) (sym so_far.names) here.number
+  pub comes_after : SnapshotsAreNew steps → ComesAfter step.task so_far.done.named so_far.done.made now.lists now.environment.files
+  comes_after new = record {
+    has = so_far.done.has;
+    stand = so_far.stand;
+    number = subst (λ given. number_after given (task_as step.task).0 ≡ (task_as step.task).1) (sym so_far.names) here.number;
+    apart = is_apart now.lists steps i step new here so_far.paths;
+  }
 
   pub goes_on : (next : Moment) → StepDone (step_in world_here (task_as step.task).0 now.environment next.environment) next.set next.lists → paths_of next.lists ≡ paths_of now.lists ++ file_of (task_as step.task).0 → Reached files (take (i + 1) steps) old next
   goes_on next did paths =

@@ -8,14 +8,15 @@ use Rattle.rh_shelf.specs.Shelf.{Files, ShelfState}
 use Rattle.rh_report.specs.Account.{Account, Says}
 use Rattle.rh_operations.specs.declared.cause.Cause.{Cause}
 use Rattle.rh_operations.specs.declared.cause.Cause.TheVariants.{Missing, Memory, Put, Write}
-use Rattle.rh_operations.specs.Leaves.{IsRead}
+use Rattle.rh_operations.specs.Leaves.{IsRead, KeepsRunner}
+use Rattle.rh_operations.specs.Outside.{Outside}
 use Rattle.rh_operations.specs.Refusals.{RefusedBy}
 use Rattle.rh_script_run.specs.declared.fault.RunFault.{RunFault}
 use Rattle.rh_script_run.specs.declared.report.Report.{Report}
 use Rattle.rh_script_run.specs.Files.{FileMap, HasFiles, HasOthers}
 use Rattle.rh_script_run.specs.Meaning.{ScriptState, Outcome, start, meaning, outcome_of}
 use Rattle.rh_script_run.specs.Outside.{IsOutside}
-use Rattle.rh_script_run.specs.Environment.{Environment}
+use Rattle.rh_script_run.specs.Environment.{Environment, outside_in}
 
 -- the text says these accounts, one after the other
 abbrev pub SaysAll : List Account → List ℕ → Type 0
@@ -42,6 +43,17 @@ pub record KeepsWriter {X : Type 0} (failures failures' : ℕ) (r : Result X Cau
   pub fine : OnOk r (failures' ≡ failures)
   pub write : IfErr r (λ cause. cause ≡ Write → Rose failures failures')
 
+-- What any command leaves of a shelf and of a runner.
+pub record LeavesOutside {X : Type 0} (old new : Outside) (r : Result X Cause) : Type 0 where
+  pub shelf : LeavesShelf old.shelf new.shelf r
+  pub runner : KeepsRunner old.refused_starts new.refused_starts r
+
+-- And of a writer too, once it was told.
+pub record LeavesAll {X : Type 0} (old new : Outside) (failures failures' : ℕ) (r : Result X Cause) : Type 0 where
+  pub outside : LeavesOutside old new r
+  pub open outside use *
+  pub writer : KeepsWriter failures failures' r
+
 -- a text that says this account was appended
 abbrev pub TellsAccount : Account → Option (List ℕ) → Option (List ℕ) → Type 0
 TellsAccount account old new = (text : List ℕ) × Says account text × Appends old new text
@@ -63,12 +75,7 @@ step_in world said before after = record { said = said; outcome = outcome_of wor
 
 -- the cause comes from outside, by what failed meanwhile
 abbrev pub IsMet : Step → Cause → Type 0
-IsMet step cause =
-    IsOutside step.said
-    (Rose step.before.failures step.after.failures)
-    (Rose step.before.failed_reads step.after.failed_reads)
-    (Rose step.before.refused_starts step.after.refused_starts)
-    cause
+IsMet step cause = IsOutside step.said (outside_in step.before) (outside_in step.after) cause
 
 -- A command was refused and told nothing; or its account could not be written whole.
 abbrev pub EndsBy : Step → Cause → Type 0

@@ -4,17 +4,21 @@ use Rattle.rh_edit.specs.Held.{Held}
 use Rattle.rh_shelf.specs.Shelf.{Files}
 use Rattle.rh_script.specs.Instruction.{Instruction}
 use Rattle.rh_script.specs.Names.{is_given}
+use Rattle.rh_script.specs.Plan.{number_after}
+use Rattle.rh_script.specs.Tasks.{task_as}
 use Rattle.rh_script.specs.declared.task.Task.{Task}
 use Rattle.rh_script.specs.declared.task.Task.TheVariants as tasks
 use Rattle.rh_report.specs.Account.{Account}
 use Rattle.rh_operations.specs.declared.cause.Cause.{Cause}
 use Rattle.rh_operations.specs.declared.key_lists.KeyList.{KeyList}
 use Rattle.rh_operations.specs.KeyLists.{Stands, paths_of}
+use Rattle.rh_operations.specs.Outside.{Outside}
 use Rattle.rh_operations.specs.Refusals.{RefusedBy}
 use Rattle.rh_script_run.specs.declared.told.Told.{Told}
 use Rattle.rh_script_run.specs.Ends.{EndsBy, LeavesFiles, LeavesOthers, Step, TellsAccount}
 use Rattle.rh_script_run.specs.Files.{FileMap, HasFiles}
-use Rattle.rh_script_run.specs.Meaning.{ScriptState, Outcome}
+use Rattle.rh_script_run.specs.Meaning.{ScriptState, Outcome, outcome_of}
+use Rattle.rh_script_run.specs.Outside.{IsOutside}
 use Rattle.rh_script_run.specs.Told.{told_as}
 
 -- the names of lists, each with its keys
@@ -81,3 +85,14 @@ HasList _ n = Unit {0}
 abbrev pub IsApart : Task → List KeyList → Type 0
 IsApart (tasks.Snapshot path) lists = is_given path.now (paths_of lists) ≡ false
 IsApart _ lists = Unit {0}
+
+-- A task comes where these named lists and these files were made, as the code has them now.
+pub record ComesAfter (task : Task) (named : Named) (files : FileMap) (lists : List KeyList) (now : Option Files) : Type 0 where
+  pub has : HasFiles files now
+  pub stand : ListsStand now lists named
+  pub number : number_after (names_of named) (task_as task).0 ≡ (task_as task).1
+  pub apart : IsApart task lists
+
+-- A command makes of a world what it means, or is refused by what that means or by a cause from outside.
+abbrev pub Performs : Instruction → ScriptState → (old new : Outside) → Held → List KeyList → Result Told Cause → Type 0
+Performs said w old new set lists r = MakesState said (outcome_of w said) (IsOutside said old new) w.files new.shelf.files set lists r

@@ -3,16 +3,16 @@
 ghost use Rattle.std.specs.Prelude.{◌≡◌, List, Some, IfOk};
 ghost use Rattle.std.specs.FinSet as finset;
 ghost use Rattle.rh_layout.specs.declared.limits.TheConstants.{MIN_BITS};
-ghost use Rattle.rh_bytes.specs.Counting.{failures_of, inner_of};
+ghost use Rattle.rh_bytes.specs.Counting.{failures_of};
 ghost use Rattle.rh_script.specs.Instruction.{Numbered};
 ghost use Rattle.rh_script.specs.Names.{SnapshotsAreNew};
 ghost use Rattle.rh_script.specs.Plan.{plan_of};
 ghost use Rattle.rh_script.specs.Script.{steps_of};
 ghost use Rattle.rh_script.specs.Tasks.{planned_of};
-ghost use Rattle.rh_operations.specs.Leaves.{KeepsRunner};
+ghost use Rattle.rh_operations.specs.Outside.{outside};
 ghost use Rattle.rh_shelf.specs.Shelf.{Files};
-ghost use Rattle.rh_script_run.specs.Ends.{Ends, KeepsWriter, LeavesShelf, cause_of};
-ghost use Rattle.rh_script_run.specs.Environment.{environment};
+ghost use Rattle.rh_script_run.specs.Ends.{Ends, LeavesAll, cause_of};
+ghost use Rattle.rh_script_run.specs.Environment.{environment_of};
 ghost use Rattle.rh_script_run.specs.Reached.{AllEnds};
 
 use crate::fault::RunFault;
@@ -50,15 +50,12 @@ pub fn run<T: Threads + Wait + Sync, S: Lender, N: Runner, W: Write>(
 ) -> Result<Report, RunFault>
     ensures meant { (files : Files) → (S.state shelf.old).files ≡ Some files →
         Ends files (steps_of script.now)
-        (environment (S.state shelf.old) (N.refused_starts runner.old)
-        (W.contents (inner_of writer.old)))
-        (environment (S.state shelf.new) (N.refused_starts runner.new)
-        (W.contents (inner_of writer.new))) result }
-    ensures shelf { LeavesShelf (S.state shelf.old) (S.state shelf.new) (cause_of result) }
-    ensures runner { KeepsRunner (N.refused_starts runner.old) (N.refused_starts runner.new)
-        (cause_of result) }
-    ensures writer { KeepsWriter (failures_of writer.old) (failures_of writer.new)
-        (cause_of result) }
+        (environment_of S.state N.refused_starts W.contents shelf.old runner.old writer.old)
+        (environment_of S.state N.refused_starts W.contents shelf.new runner.new writer.new)
+        result }
+    ensures leaves { LeavesAll (outside S.state N.refused_starts shelf.old runner.old)
+        (outside S.state N.refused_starts shelf.new runner.new)
+        (failures_of writer.old) (failures_of writer.new) (cause_of result) }
 {
     let Ok((plan, empty)) = begin(alloc, script) else {
         let (line, cause) = (0, Cause::Memory);
@@ -101,15 +98,12 @@ fn carry_out_all<T: Threads + Wait + Sync, S: Lender, N: Runner, W: Write>(
         (S.state shelf.old).files ≡ Some files →
         planned_of plan.now ≡ plan_of steps → SnapshotsAreNew steps →
         AllEnds files steps
-        (environment (S.state shelf.old) (N.refused_starts runner.old)
-        (W.contents (inner_of writer.old)))
-        (environment (S.state shelf.new) (N.refused_starts runner.new)
-        (W.contents (inner_of writer.new))) result }
-    ensures shelf { LeavesShelf (S.state shelf.old) (S.state shelf.new) (cause_of result) }
-    ensures runner { KeepsRunner (N.refused_starts runner.old) (N.refused_starts runner.new)
-        (cause_of result) }
-    ensures writer { KeepsWriter (failures_of writer.old) (failures_of writer.new)
-        (cause_of result) }
+        (environment_of S.state N.refused_starts W.contents shelf.old runner.old writer.old)
+        (environment_of S.state N.refused_starts W.contents shelf.new runner.new writer.new)
+        result }
+    ensures leaves { LeavesAll (outside S.state N.refused_starts shelf.old runner.old)
+        (outside S.state N.refused_starts shelf.new runner.new)
+        (failures_of writer.old) (failures_of writer.new) (cause_of result) }
 {
     let mut lists = Vec::new(alloc);
     for step in plan.steps() {

@@ -3,14 +3,14 @@
 ghost use Rattle.std.specs.Prelude.{◌≡◌, ◌+◌, ℕ, false, List, [], ◌∷◌, ◌++◌, Some, IfErr, OnErr};
 ghost use Rattle.std.specs.Prelude.{OnOk, Option, length};
 ghost use Rattle.rh_edit.specs.Held.{Held};
-ghost use Rattle.rh_bytes.specs.Counting.{Rose};
 ghost use Rattle.rh_script.specs.Instruction.{Snapshot};
 ghost use Rattle.rh_script.specs.Names.{is_given};
 ghost use Rattle.rh_shelf.specs.Shelf.{Files};
 ghost use Rattle.rh_operations.specs.declared.key_lists.KeyList.{KeyList};
 ghost use Rattle.rh_operations.specs.Actions.{telling};
 ghost use Rattle.rh_operations.specs.KeyLists.{Stands, paths_of};
-ghost use Rattle.rh_operations.specs.Leaves.{KeepsRunner, KeepsShelf, UsesShelf};
+ghost use Rattle.rh_operations.specs.Leaves.{Leaves, UsesShelf};
+ghost use Rattle.rh_operations.specs.Outside.{outside};
 ghost use Rattle.rh_operations.specs.Refusals.{ListFails, MemoryFails, PhaseFails, PutFails};
 ghost use Rattle.rh_operations.specs.Refusals.{RestoreFails};
 ghost use Rattle.rh_script_run.specs.Actions.{account_of, outcome_by};
@@ -47,14 +47,12 @@ pub(crate) fn list_step<'a, T: Threads + Wait + Sync, S: Lender, N: Runner>(
     ensures made { (lists : Named) (files : FileMap) (keys : List ℕ) →
         Stands (S.state shelf.old).files list.now keys →
         Makes (outcome_by action (world_of set.old lists files) name.now keys)
-        (PhaseFails (Rose (S.state shelf.old).failures (S.state shelf.new).failures)
-        (Rose (S.state shelf.old).failed_reads (S.state shelf.new).failed_reads)
-        (Rose (N.refused_starts runner.old) (N.refused_starts runner.new)))
+        (PhaseFails (outside S.state N.refused_starts shelf.old runner.old)
+        (outside S.state N.refused_starts shelf.new runner.new))
         (world_of set.new lists files) set.new result }
     ensures unchanged { OnErr result (set.new ≡ set.old) }
-    ensures shelf { KeepsShelf (S.state shelf.old) (S.state shelf.new) result }
-    ensures runner { KeepsRunner (N.refused_starts runner.old) (N.refused_starts runner.new)
-        result }
+    ensures leaves { Leaves (outside S.state N.refused_starts shelf.old runner.old)
+        (outside S.state N.refused_starts shelf.new runner.new) result }
 {
     let done = operate(rt, alloc, shelf, runner, set, list, action)?;
     Ok(told_of(set, list, name, done))
@@ -100,8 +98,7 @@ pub(crate) fn use_step<'a, S: Lender>(
         HasFiles files (S.state shelf.old).files →
         ListsStand (S.state shelf.old).files lists.old.items named →
         MakesLists (uses (world_of set named files) name.now path.now)
-        (ListFails (Rose (S.state shelf.old).failures (S.state shelf.new).failures)
-        (Rose (S.state shelf.old).failed_reads (S.state shelf.new).failed_reads))
+        (ListFails (S.state shelf.old) (S.state shelf.new))
         files (S.state shelf.old).files set lists.new.items result }
     ensures more { OnOk result (length lists.new.items ≡ length lists.old.items + 1) }
     ensures paths { OnOk result
@@ -163,7 +160,7 @@ pub(crate) fn snapshot_step<'a, S: Lender>(
         ListsStand (S.state shelf.old).files lists named →
         is_given path.now (paths_of lists) ≡ false →
         MakesState (Snapshot path.now) (snapshots (world_of set.now named files) path.now)
-        (PutFails (Rose (S.state shelf.old).failures (S.state shelf.new).failures))
+        (PutFails (S.state shelf.old) (S.state shelf.new))
         files (S.state shelf.new).files set.now lists result }
     ensures shelf { LeavesShelf (S.state shelf.old) (S.state shelf.new) result }
     ensures no_thread { IfErr result (λ cause. cause ≡ Cause.NoThread → ⊥) }
@@ -183,8 +180,7 @@ pub(crate) fn restore_step<'a, S: Lender>(
 ) -> Result<Told<'a>, Cause>
     ensures made { (lists : Named) (files : FileMap) → HasFiles files (S.state shelf.old).files →
         Makes (restores (world_of set.old lists files) path.now)
-        (RestoreFails (Rose (S.state shelf.old).failures (S.state shelf.new).failures)
-        (Rose (S.state shelf.old).failed_reads (S.state shelf.new).failed_reads))
+        (RestoreFails (S.state shelf.old) (S.state shelf.new))
         (world_of set.new lists files) set.new result }
     ensures unchanged { OnErr result (set.new ≡ set.old) }
     ensures shelf { UsesShelf (S.state shelf.old) (S.state shelf.new) result }

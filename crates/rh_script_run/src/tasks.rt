@@ -1,19 +1,16 @@
 //! The steps of a plan.
 
 ghost use Rattle.std.specs.Prelude.{◌≡◌, ◌≢◌, ◌+◌, ◌++◌, IfErr, OnErr, OnOk, length};
-ghost use Rattle.rh_bytes.specs.Counting.{Rose, failures_of, inner_of};
+ghost use Rattle.rh_bytes.specs.Counting.{failures_of};
 ghost use Rattle.rh_script.specs.Names.{file_of, given_by};
-ghost use Rattle.rh_script.specs.Plan.{number_after};
 ghost use Rattle.rh_script.specs.Tasks.{task_as};
-ghost use Rattle.rh_operations.specs.Leaves.{KeepsRunner};
-ghost use Rattle.rh_script_run.specs.Ends.{KeepsWriter, LeavesShelf, step_in};
-ghost use Rattle.rh_script_run.specs.Environment.{environment};
-ghost use Rattle.rh_script_run.specs.Files.{FileMap, HasFiles};
 ghost use Rattle.rh_operations.specs.KeyLists.{paths_of};
-ghost use Rattle.rh_script_run.specs.Meaning.{outcome_of};
-ghost use Rattle.rh_script_run.specs.Outside.{IsOutside};
-ghost use Rattle.rh_script_run.specs.Steps.{HasList, IsApart, ListsStand, MakesState, Named};
-ghost use Rattle.rh_script_run.specs.Steps.{StateEnds, names_of, world_of};
+ghost use Rattle.rh_operations.specs.Outside.{outside};
+ghost use Rattle.rh_script_run.specs.Ends.{LeavesAll, LeavesOutside, step_in};
+ghost use Rattle.rh_script_run.specs.Environment.{environment_of};
+ghost use Rattle.rh_script_run.specs.Files.{FileMap};
+ghost use Rattle.rh_script_run.specs.Steps.{ComesAfter, HasList, Named, Performs, StateEnds};
+ghost use Rattle.rh_script_run.specs.Steps.{world_of};
 
 use crate::steps::{clear_step, list_step, restore_step, save_step, snapshot_step, use_step};
 use crate::told::{Told, tell};
@@ -40,24 +37,20 @@ pub(crate) fn carry_out<'a, T: Threads + Wait + Sync, S: Lender, N: Runner, W: W
     task: &Task<'a>,
 ) -> Result<(), Cause>
     requires { HasList task.now (length lists.old.items) }
-    ensures step { (named : Named) (files : FileMap) → HasFiles files (S.state shelf.old).files →
-        ListsStand (S.state shelf.old).files lists.old.items named →
-        number_after (names_of named) (task_as task.now).0 ≡ (task_as task.now).1 →
-        IsApart task.now lists.old.items →
+    ensures step { (named : Named) (files : FileMap) →
+        ComesAfter task.now named files lists.old.items (S.state shelf.old).files →
         StateEnds (step_in (world_of set.old named files) (task_as task.now).0
-        (environment (S.state shelf.old) (N.refused_starts runner.old)
-        (W.contents (inner_of writer.old)))
-        (environment (S.state shelf.new) (N.refused_starts runner.new)
-        (W.contents (inner_of writer.new)))) files set.new lists.new.items result }
+        (environment_of S.state N.refused_starts W.contents shelf.old runner.old writer.old)
+        (environment_of S.state N.refused_starts W.contents shelf.new runner.new writer.new))
+        files set.new lists.new.items result }
     ensures lists { OnOk result (length lists.new.items
         ≡ length lists.old.items + length (given_by (task_as task.now).0)) }
     ensures paths { OnOk result (paths_of lists.new.items
         ≡ paths_of lists.old.items ++ file_of (task_as task.now).0) }
     ensures unchanged { IfErr result (λ cause. cause ≢ Cause.Write → set.new ≡ set.old) }
-    ensures shelf { LeavesShelf (S.state shelf.old) (S.state shelf.new) result }
-    ensures runner { KeepsRunner (N.refused_starts runner.old) (N.refused_starts runner.new)
-        result }
-    ensures writer { KeepsWriter (failures_of writer.old) (failures_of writer.new) result }
+    ensures leaves { LeavesAll (outside S.state N.refused_starts shelf.old runner.old)
+        (outside S.state N.refused_starts shelf.new runner.new)
+        (failures_of writer.old) (failures_of writer.new) result }
 {
     let told = act(rt, alloc, shelf, runner, set, lists, task)?;
     tell(writer, set, &told)?;
@@ -76,25 +69,19 @@ fn act<'a, T: Threads + Wait + Sync, S: Lender, N: Runner>(
     task: &Task<'a>,
 ) -> Result<Told<'a>, Cause>
     requires { HasList task.now (length lists.old.items) }
-    ensures made { (named : Named) (files : FileMap) → HasFiles files (S.state shelf.old).files →
-        ListsStand (S.state shelf.old).files lists.old.items named →
-        number_after (names_of named) (task_as task.now).0 ≡ (task_as task.now).1 →
-        IsApart task.now lists.old.items →
-        MakesState (task_as task.now).0
-        (outcome_of (world_of set.old named files) (task_as task.now).0)
-        (IsOutside (task_as task.now).0
-        (Rose (S.state shelf.old).failures (S.state shelf.new).failures)
-        (Rose (S.state shelf.old).failed_reads (S.state shelf.new).failed_reads)
-        (Rose (N.refused_starts runner.old) (N.refused_starts runner.new)))
-        files (S.state shelf.new).files set.new lists.new.items result }
+    ensures made { (named : Named) (files : FileMap) →
+        ComesAfter task.now named files lists.old.items (S.state shelf.old).files →
+        Performs (task_as task.now).0 (world_of set.old named files)
+        (outside S.state N.refused_starts shelf.old runner.old)
+        (outside S.state N.refused_starts shelf.new runner.new)
+        set.new lists.new.items result }
     ensures lists { OnOk result (length lists.new.items
         ≡ length lists.old.items + length (given_by (task_as task.now).0)) }
     ensures paths { OnOk result (paths_of lists.new.items
         ≡ paths_of lists.old.items ++ file_of (task_as task.now).0) }
     ensures unchanged { OnErr result (set.new ≡ set.old) }
-    ensures shelf { LeavesShelf (S.state shelf.old) (S.state shelf.new) result }
-    ensures runner { KeepsRunner (N.refused_starts runner.old) (N.refused_starts runner.new)
-        result }
+    ensures leaves { LeavesOutside (outside S.state N.refused_starts shelf.old runner.old)
+        (outside S.state N.refused_starts shelf.new runner.new) result }
     ensures no_write { IfErr result (λ cause. cause ≡ Cause.Write → ⊥) }
 {
     match *task {

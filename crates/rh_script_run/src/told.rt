@@ -1,7 +1,7 @@
 //! What commands have to report.
 
-ghost use Rattle.std.specs.Prelude.{◌≡◌, List, ℕ, OnErr, OnOk};
-ghost use Rattle.rh_bytes.specs.Counting.{Rose, Writes, failures_of, inner_of};
+ghost use Rattle.std.specs.Prelude.{List, ℕ};
+ghost use Rattle.rh_bytes.specs.Counting.{Emits};
 ghost use Rattle.rh_report.specs.Account.{Says};
 ghost use Rattle.rh_script_run.specs.Told.{told_as};
 
@@ -26,10 +26,8 @@ pub(crate) fn tell<W: Write>(
     set: &SeqSet,
     told: &Told<'_>,
 ) -> Result<(), WriteFault>
-    ensures text { (text : List ℕ) × Says (told_as set.now told.now) text ×
-        Writes (W.contents (inner_of writer.old)) (W.contents (inner_of writer.new)) text result }
-    ensures failed { OnErr result (Rose (failures_of writer.old) (failures_of writer.new)) }
-    ensures fine { OnOk result (failures_of writer.new ≡ failures_of writer.old) }
+    ensures { (text : List ℕ) × Says (told_as set.now told.now) text ×
+        Emits W.contents writer.old writer.new text result }
 {
     match told {
         Told::Line(account) => write_account(writer, account),

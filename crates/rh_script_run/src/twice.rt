@@ -6,7 +6,7 @@ ghost use Rattle.rh_script.specs.Script.{steps_of};
 ghost use Rattle.rh_shelf.specs.Shelf.{Files};
 ghost use Rattle.rh_script_run.specs.Agree.{AppendSame, EndsByItself};
 ghost use Rattle.rh_script_run.specs.Ends.{Ends};
-ghost use Rattle.rh_script_run.specs.Environment.{environment};
+ghost use Rattle.rh_script_run.specs.Environment.{environment_of};
 
 use crate::fault::RunFault;
 use crate::report::Report;
@@ -45,28 +45,26 @@ pub fn run_twice<
 ) -> (Result<Report, RunFault>, Result<Report, RunFault>)
     ensures first { (files : Files) → (S.state shelf.old).files ≡ Some files →
         Ends files (steps_of script.now)
-        (environment (S.state shelf.old) (N.refused_starts runner.old)
-        (W.contents (inner_of writer.old)))
-        (environment (S.state shelf.new) (N.refused_starts runner.new)
-        (W.contents (inner_of writer.new))) result.0 }
+        (environment_of S.state N.refused_starts W.contents shelf.old runner.old writer.old)
+        (environment_of S.state N.refused_starts W.contents shelf.new runner.new writer.new)
+        result.0 }
     ensures second { (files : Files) → (S2.state other_shelf.old).files ≡ Some files →
         Ends files (steps_of script.now)
-        (environment (S2.state other_shelf.old) (N2.refused_starts other_runner.old)
-        (W2.contents (inner_of other_writer.old)))
-        (environment (S2.state other_shelf.new) (N2.refused_starts other_runner.new)
-        (W2.contents (inner_of other_writer.new))) result.1 }
+        (environment_of S2.state N2.refused_starts W2.contents other_shelf.old other_runner.old
+        other_writer.old)
+        (environment_of S2.state N2.refused_starts W2.contents other_shelf.new other_runner.new
+        other_writer.new) result.1 }
     ensures agree { (files : Files) → (S.state shelf.old).files ≡ Some files →
         (S2.state other_shelf.old).files ≡ Some files →
         EndsByItself (steps_of script.now)
-        (environment (S.state shelf.old) (N.refused_starts runner.old)
-        (W.contents (inner_of writer.old)))
-        (environment (S.state shelf.new) (N.refused_starts runner.new)
-        (W.contents (inner_of writer.new))) result.0 →
+        (environment_of S.state N.refused_starts W.contents shelf.old runner.old writer.old)
+        (environment_of S.state N.refused_starts W.contents shelf.new runner.new writer.new)
+        result.0 →
         EndsByItself (steps_of script.now)
-        (environment (S2.state other_shelf.old) (N2.refused_starts other_runner.old)
-        (W2.contents (inner_of other_writer.old)))
-        (environment (S2.state other_shelf.new) (N2.refused_starts other_runner.new)
-        (W2.contents (inner_of other_writer.new))) result.1 →
+        (environment_of S2.state N2.refused_starts W2.contents other_shelf.old other_runner.old
+        other_writer.old)
+        (environment_of S2.state N2.refused_starts W2.contents other_shelf.new other_runner.new
+        other_writer.new) result.1 →
         (result.0 ≡ result.1) × ((S.state shelf.new).files ≡ (S2.state other_shelf.new).files) ×
         AppendSame (W.contents (inner_of writer.old)) (W.contents (inner_of writer.new))
         (W2.contents (inner_of other_writer.old)) (W2.contents (inner_of other_writer.new)) }

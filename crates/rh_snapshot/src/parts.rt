@@ -1,9 +1,9 @@
 //! The parts of a snapshot before its end, read one after the other.
 
-ghost use Rattle.std.specs.Prelude.{◌≡◌, ◌≢◌, ◌*◌, ◌^◌, length, Err, IfOk, IsErrOf};
+ghost use Rattle.std.specs.Prelude.{◌≡◌, ◌*◌, ◌^◌, length, IfOk, IsErrOf};
 ghost use Rattle.sha2.specs.Sha256.{sha256};
 ghost use Rattle.rh_layout.specs.Key.{IsBits};
-ghost use Rattle.rh_bytes.specs.Counting.{Rose, failures_of, inner_of};
+ghost use Rattle.rh_bytes.specs.Counting.{CountsFault, inner_of};
 ghost use Rattle.rh_bytes.specs.Taking.{TakesAtMost};
 ghost use Rattle.rh_bytes.specs.Input.{always, bytes_at, fault_of};
 ghost use Rattle.rh_snapshot.specs.Limits.{snap_header_taken, snap_magic_bytes, numbers_taken, seal_bytes};
@@ -24,10 +24,8 @@ fn read_version<R: Read>(reader: &mut Counted<R>) -> Result<Version, SnapFault>
         snap_version_at (λ v. v) result }
     ensures takes { TakesAtMost (R.remaining (inner_of reader.old))
         (R.remaining (inner_of reader.new)) snap_magic_bytes }
-    ensures read { IsErrOf result SnapFault.Read →
-        Rose (failures_of reader.old) (failures_of reader.new) }
+    ensures counts { CountsFault SnapFault.Read reader.old reader.new result }
     ensures no_memory { IsErrOf result SnapFault.Memory → ⊥ }
-    ensures fine { result ≢ Err SnapFault.Read → failures_of reader.new ≡ failures_of reader.old }
 {
     let mut four = [0u8; 4];
     read_bytes::<_, SnapFault>(reader, &mut four)?;
@@ -47,10 +45,8 @@ fn read_bits<R: Read>(reader: &mut Counted<R>, version: Version) -> Result<u32, 
     ensures in_range { IfOk result IsBits }
     ensures takes { TakesAtMost (R.remaining (inner_of reader.old))
         (R.remaining (inner_of reader.new)) 1 }
-    ensures read { IsErrOf result SnapFault.Read →
-        Rose (failures_of reader.old) (failures_of reader.new) }
+    ensures counts { CountsFault SnapFault.Read reader.old reader.new result }
     ensures no_memory { IsErrOf result SnapFault.Memory → ⊥ }
-    ensures fine { result ≢ Err SnapFault.Read → failures_of reader.new ≡ failures_of reader.old }
 {
     let mut one = [0u8; 1];
     read_bytes::<_, SnapFault>(reader, &mut one)?;
@@ -68,10 +64,8 @@ pub(crate) fn read_header<R: Read>(reader: &mut Counted<R>) -> Result<Header, Sn
     ensures in_range { IfOk result (λ h. IsBits h.bits) }
     ensures takes { TakesAtMost (R.remaining (inner_of reader.old))
         (R.remaining (inner_of reader.new)) (snap_header_taken (fault_of result)) }
-    ensures read { IsErrOf result SnapFault.Read →
-        Rose (failures_of reader.old) (failures_of reader.new) }
+    ensures counts { CountsFault SnapFault.Read reader.old reader.new result }
     ensures no_memory { IsErrOf result SnapFault.Memory → ⊥ }
-    ensures fine { result ≢ Err SnapFault.Read → failures_of reader.new ≡ failures_of reader.old }
 {
     let version = read_version(reader)?;
     let bits = read_bits(reader, version)?;
@@ -97,10 +91,8 @@ fn fill_numbers<R: Read>(
     ensures digest { IfOk result (λ d. d ≡ sha256 (text_of header numbers.new)) }
     ensures takes { TakesAtMost (R.remaining (inner_of reader.old))
         (R.remaining (inner_of reader.new)) (8 * length numbers.new) }
-    ensures read { IsErrOf result SnapFault.Read →
-        Rose (failures_of reader.old) (failures_of reader.new) }
+    ensures counts { CountsFault SnapFault.Read reader.old reader.new result }
     ensures no_memory { IsErrOf result SnapFault.Memory → ⊥ }
-    ensures fine { result ≢ Err SnapFault.Read → failures_of reader.new ≡ failures_of reader.old }
 {
     let mut hasher = header.hasher();
     for slot in numbers.iter_mut() {
@@ -124,9 +116,7 @@ pub(crate) fn read_numbers<R: Read>(
     ensures digest { IfOk result (λ n. n.1 ≡ sha256 (text_of header n.0.items)) }
     ensures takes { TakesAtMost (R.remaining (inner_of reader.old))
         (R.remaining (inner_of reader.new)) (numbers_taken (2 ^ header.bits) (fault_of result)) }
-    ensures read { IsErrOf result SnapFault.Read →
-        Rose (failures_of reader.old) (failures_of reader.new) }
-    ensures fine { result ≢ Err SnapFault.Read → failures_of reader.new ≡ failures_of reader.old }
+    ensures counts { CountsFault SnapFault.Read reader.old reader.new result }
 {
     let Ok(mut numbers) = vec![in alloc; 0u64; 1 << header.bits] else {
         return Err(SnapFault::Memory);
@@ -141,10 +131,8 @@ pub(crate) fn read_seal<R: Read>(reader: &mut Counted<R>) -> Result<[u8; 32], Sn
         (bytes_at SnapFault.Short 32) (λ s. s) result }
     ensures takes { TakesAtMost (R.remaining (inner_of reader.old))
         (R.remaining (inner_of reader.new)) seal_bytes }
-    ensures read { IsErrOf result SnapFault.Read →
-        Rose (failures_of reader.old) (failures_of reader.new) }
+    ensures counts { CountsFault SnapFault.Read reader.old reader.new result }
     ensures no_memory { IsErrOf result SnapFault.Memory → ⊥ }
-    ensures fine { result ≢ Err SnapFault.Read → failures_of reader.new ≡ failures_of reader.old }
 {
     let mut seal = [0u8; 32];
     read_bytes::<_, SnapFault>(reader, &mut seal)?;

@@ -1,9 +1,9 @@
 //! A whole snapshot, read and tested.
 
-ghost use Rattle.std.specs.Prelude.{◌≡◌, ◌≢◌, ◌<◌, ◌^◌, Err, IfOk, IsErrOf};
+ghost use Rattle.std.specs.Prelude.{◌≡◌, ◌<◌, ◌^◌, IfOk, IsErrOf};
 ghost use Rattle.std.specs.FinSet as set;
 ghost use Rattle.rh_layout.specs.Layout.{IsLayout, keys_of};
-ghost use Rattle.rh_bytes.specs.Counting.{Rose, failures_of, inner_of};
+ghost use Rattle.rh_bytes.specs.Counting.{CountsFault, inner_of};
 ghost use Rattle.rh_bytes.specs.Taking.{TakesAtMost};
 ghost use Rattle.rh_bytes.specs.Input.{fault_of};
 ghost use Rattle.rh_snapshot.specs.Limits.{TakesOfSnap, most_snap_bytes};
@@ -35,9 +35,7 @@ pub fn read_snapshot<R: Read>(alloc: Global, reader: &mut Counted<R>) -> Result<
         (R.remaining (inner_of reader.new)) (fault_of result) }
     ensures bounded { TakesAtMost (R.remaining (inner_of reader.old))
         (R.remaining (inner_of reader.new)) most_snap_bytes }
-    ensures read { IsErrOf result SnapFault.Read →
-        Rose (failures_of reader.old) (failures_of reader.new) }
-    ensures fine { result ≢ Err SnapFault.Read → failures_of reader.new ≡ failures_of reader.old }
+    ensures counts { CountsFault SnapFault.Read reader.old reader.new result }
     ensures memory { IsErrOf result SnapFault.Memory →
         BeginsWithSnapHeader (R.remaining (inner_of reader.old)) }
 {

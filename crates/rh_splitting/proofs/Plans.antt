@@ -1,10 +1,9 @@
 -- The lines of a plan, one after another.
 use Rattle.std.proofs.Common.{◌≡◌, ℕ, zero, suc, ◌+◌, List, [], ◌∷◌, ◌++◌, take, drop, Option, Some, refl, sym, ap, subst, ◌∙◌, arith, append_assoc, append-nil}
 use Rattle.std.specs.Prelude.{slice_get}
-use Rattle.std.specs.Io.KnownBytes.{Appends}
-use Rattle.std.proofs.KnownBytes.{Appends-trans}
-use Rattle.rh_bytes.specs.Counting.{AppendsFront}
-use Rattle.rh_bytes.proofs.Writing.{front_stops}
+use Rattle.rh_bytes.specs.Counting.{Emitted, EmittedFront}
+use Rattle.rh_bytes.specs.declared.counted.Counted.{Counted}
+use Rattle.rh_bytes.proofs.Writing.{emitted_both, emitting_stops}
 use Rattle.rh_splitting.specs.declared.part.Part.{Part}
 use Rattle.rh_splitting.specs.Parts.{part_count}
 use Rattle.rh_splitting.specs.Plan.{keys_given, part_line, part_lines}
@@ -40,18 +39,18 @@ more_from_first parts i part is =
     let here : 0 + i ≡ i = omega arith in
     one_more_line 0 parts i part is ∙ ap (λ n. part_lines 0 (take i parts) ++ part_line n (part_count part)) here
 
-pub line_goes_on : {W : Type 0} (a b c : Option (List ℕ)) (parts : List (Part W)) (i : ℕ) (part : Part W) → slice_get parts i ≡ Some part → Appends a b (part_lines 0 (take i parts)) → Appends b c (part_line i (part_count part))
-    → Appends a c (part_lines 0 (take (i + 1) parts))
-line_goes_on a b c parts i part is before line =
+pub line_goes_on : {W : Type 0} {V : Type 0} {contents : V → Option (List ℕ)} (a b c : Counted V) (parts : List (Part W)) (i : ℕ) (part : Part W) → slice_get parts i ≡ Some part → Emitted contents a b (part_lines 0 (take i parts)) → Emitted contents b c (part_line i (part_count part))
+    → Emitted contents a c (part_lines 0 (take (i + 1) parts))
+line_goes_on {contents = contents} a b c parts i part is before line =
     let next : suc i ≡ i + 1 = omega arith in
-    subst (λ n. Appends a c (part_lines 0 (take n parts))) next
-    (subst (Appends a c) (sym (more_from_first parts i part is)) (Appends-trans a b c (part_lines 0 (take i parts)) (part_line i (part_count part)) before line))
+    subst (λ n. Emitted contents a c (part_lines 0 (take n parts))) next
+    (subst (Emitted contents a c) (sym (more_from_first parts i part is)) (emitted_both a b c (part_lines 0 (take i parts)) (part_line i (part_count part)) before line))
 
-pub line_stops : {W : Type 0} (a b c : Option (List ℕ)) (parts : List (Part W)) (i : ℕ) (part : Part W) → slice_get parts i ≡ Some part → Appends a b (part_lines 0 (take i parts)) → AppendsFront b c (part_line i (part_count part))
-    → AppendsFront a c (part_lines 0 parts)
+pub line_stops : {W : Type 0} {V : Type 0} {contents : V → Option (List ℕ)} (a b c : Counted V) (parts : List (Part W)) (i : ℕ) (part : Part W) → slice_get parts i ≡ Some part → Emitted contents a b (part_lines 0 (take i parts)) → EmittedFront contents b c (part_line i (part_count part))
+    → EmittedFront contents a c (part_lines 0 parts)
 line_stops a b c parts i part is before line =
     let here : 0 + suc i ≡ suc i = omega arith in
-    front_stops a b c (part_lines 0 (take i parts)) (part_line i (part_count part)) (part_lines (suc i) (drop (suc i) parts)) (part_lines 0 parts)
+    emitting_stops a b c (part_lines 0 (take i parts)) (part_line i (part_count part)) (part_lines (suc i) (drop (suc i) parts)) (part_lines 0 parts)
     (lines_in_two 0 parts (suc i) ∙ ap (λ n. part_lines 0 (take (suc i) parts) ++ part_lines n (drop (suc i) parts)) here
     ∙ ap (λ l. l ++ part_lines (suc i) (drop (suc i) parts)) (more_from_first parts i part is)) before line
 

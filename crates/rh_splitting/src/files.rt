@@ -75,7 +75,7 @@ impl<'a, F> PartFiles<'a, F> {
 impl<F: Files> PartFiles<'_, F> {
     ghost use Rattle.std.specs.Prelude.{◌≡◌, ◌≤◌, ◌<◌, ◌+◌, length, true};
     ghost use Rattle.std.specs.Prelude.{All, IfErr, IfOk, IsErrOf, OnErr, OnOk};
-    ghost use Rattle.rh_bytes.specs.Counting.{Rose, failures_of, inner_of};
+    ghost use Rattle.rh_bytes.specs.Counting.{Counts, inner_of};
     ghost use Rattle.rh_key_files.specs.Reading.{BeginsWithHeader, TakesGoodKeys, header_at};
     ghost use Rattle.rh_parts.specs.declared.part.TheConstants.{MAX_PARTS};
     ghost use Rattle.rh_splitting.specs.IntoFiles.{IsOfFiles, IsOfWriting};
@@ -105,15 +105,13 @@ impl<F: Files> PartFiles<'_, F> {
             (R.remaining (inner_of reader.new)) count result }
         ensures takes { TakesOfSource source (R.remaining (inner_of reader.old))
             (R.remaining (inner_of reader.new)) (told_of_list result) }
-        ensures read { IsErrOf result (FilesFault.Split (unread source)) →
-            Rose (failures_of reader.old) (failures_of reader.new) }
+        ensures counts { Counts (IsErrOf result (FilesFault.Split (unread source)))
+            (NoReadFailedOf source (told_of_list result)) reader.old reader.new }
         ensures tested { IsErrOf result (FilesFault.Split (SplitFault.Keys KeyFault.Read)) →
             TakesGoodKeys header_at (R.remaining (inner_of reader.old))
             (R.remaining (inner_of reader.new)) }
         ensures memory { IsErrOf result (FilesFault.Split (SplitFault.Keys KeyFault.Memory)) →
             BeginsWithHeader (R.remaining (inner_of reader.old)) }
-        ensures fine { NoReadFailedOf source (told_of_list result) →
-            failures_of reader.new ≡ failures_of reader.old }
         ensures made { OnOk result (made_of self.new ≡ count) }
         ensures whole { OnOk result (whole_of self.new ≡ count) }
         ensures placed { OnOk result (placed_of self.new ≡ count) }
@@ -141,15 +139,13 @@ impl<F: Files> PartFiles<'_, F> {
             (R.remaining (inner_of reader.new)) count result }
         ensures takes { TakesOfSource source (R.remaining (inner_of reader.old))
             (R.remaining (inner_of reader.new)) (told_of_list result) }
-        ensures read { IsErrOf result (FilesFault.Split (unread source)) →
-            Rose (failures_of reader.old) (failures_of reader.new) }
+        ensures counts { Counts (IsErrOf result (FilesFault.Split (unread source)))
+            (NoReadFailedOf source (told_of_list result)) reader.old reader.new }
         ensures tested { IsErrOf result (FilesFault.Split (SplitFault.Keys KeyFault.Read)) →
             TakesGoodKeys header_at (R.remaining (inner_of reader.old))
             (R.remaining (inner_of reader.new)) }
         ensures memory { IsErrOf result (FilesFault.Split (SplitFault.Keys KeyFault.Memory)) →
             BeginsWithHeader (R.remaining (inner_of reader.old)) }
-        ensures fine { NoReadFailedOf source (told_of_list result) →
-            failures_of reader.new ≡ failures_of reader.old }
         ensures made { OnOk result (made_of self.new ≡ count) }
         ensures whole { OnOk result (whole_of self.new ≡ count) }
         ensures placed { OnOk result (placed_of self.new ≡ count) }

@@ -1,7 +1,7 @@
 //! Parts that are counted, and how many keys each was given, as a text.
 
-ghost use Rattle.std.specs.Prelude.{◌≡◌, ◌≤◌, ◌+◌, ◌%◌, All, IfOk, OnErr, OnOk, length};
-ghost use Rattle.rh_bytes.specs.Counting.{Rose, Writes, failures_of, inner_of};
+ghost use Rattle.std.specs.Prelude.{◌≡◌, ◌≤◌, ◌+◌, ◌%◌, All, IfOk, length};
+ghost use Rattle.rh_bytes.specs.Counting.{Emits};
 ghost use Rattle.rh_parts.specs.declared.part.TheConstants.{MAX_PARTS};
 ghost use Rattle.rh_splitting.specs.Plan.{keys_given, last_line, part_line, part_lines, plan_text};
 ghost use Rattle.rh_splitting.specs.Plan.{IsCounting, three_digits};
@@ -29,10 +29,7 @@ pub fn counting_parts(alloc: Global, count: u64) -> Result<Vec<Part<Sink>>, Allo
 /// one line with the number of all keys, and of how many parts would do.
 pub fn write_plan<P, W: Write>(parts: &[Part<P>], writer: &mut Counted<W>) -> Result<(), WriteFault>
     requires { length parts.now ≤ MAX_PARTS }
-    ensures text { Writes (W.contents (inner_of writer.old)) (W.contents (inner_of writer.new))
-        (plan_text parts.now) result }
-    ensures failed { OnErr result (Rose (failures_of writer.old) (failures_of writer.new)) }
-    ensures fine { OnOk result (failures_of writer.new ≡ failures_of writer.old) }
+    ensures { Emits W.contents writer.old writer.new (plan_text parts.now) result }
 {
     let Ok(()) = put_lines(parts, writer) else {
         return Err(WriteFault::Write);
@@ -43,10 +40,7 @@ pub fn write_plan<P, W: Write>(parts: &[Part<P>], writer: &mut Counted<W>) -> Re
 /// Writes a line for each part.
 fn put_lines<P, W: Write>(parts: &[Part<P>], writer: &mut Counted<W>) -> Result<(), WriteFault>
     requires { length parts.now ≤ MAX_PARTS }
-    ensures text { Writes (W.contents (inner_of writer.old)) (W.contents (inner_of writer.new))
-        (part_lines 0 parts.now) result }
-    ensures failed { OnErr result (Rose (failures_of writer.old) (failures_of writer.new)) }
-    ensures fine { OnOk result (failures_of writer.new ≡ failures_of writer.old) }
+    ensures { Emits W.contents writer.old writer.new (part_lines 0 parts.now) result }
 {
     let mut number = 0;
     for part in parts {
@@ -57,10 +51,7 @@ fn put_lines<P, W: Write>(parts: &[Part<P>], writer: &mut Counted<W>) -> Result<
 }
 
 fn put_line<W: Write>(part: u64, count: u64, writer: &mut Counted<W>) -> Result<(), WriteFault>
-    ensures text { Writes (W.contents (inner_of writer.old)) (W.contents (inner_of writer.new))
-        (part_line part count) result }
-    ensures failed { OnErr result (Rose (failures_of writer.old) (failures_of writer.new)) }
-    ensures fine { OnOk result (failures_of writer.new ≡ failures_of writer.old) }
+    ensures { Emits W.contents writer.old writer.new (part_line part count) result }
 {
     let mut buffer = Buffer::new();
     let digits = buffer.format(count).as_bytes();
@@ -80,10 +71,7 @@ fn keys_given<P>(parts: &[Part<P>]) -> u128
 }
 
 fn put_last_line<W: Write>(keys: u128, writer: &mut Counted<W>) -> Result<(), WriteFault>
-    ensures text { Writes (W.contents (inner_of writer.old)) (W.contents (inner_of writer.new))
-        (last_line keys) result }
-    ensures failed { OnErr result (Rose (failures_of writer.old) (failures_of writer.new)) }
-    ensures fine { OnOk result (failures_of writer.new ≡ failures_of writer.old) }
+    ensures { Emits W.contents writer.old writer.new (last_line keys) result }
 {
     let (mut buffer, mut other) = (Buffer::new(), Buffer::new());
     let digits = buffer.format(keys).as_bytes();

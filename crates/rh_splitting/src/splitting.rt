@@ -1,7 +1,7 @@
 //! A list of keys is split into parts.
 
-ghost use Rattle.std.specs.Prelude.{◌≡◌, ◌<◌, ◌≤◌, IsErrOf, length};
-ghost use Rattle.rh_bytes.specs.Counting.{Rose, failures_of, inner_of};
+ghost use Rattle.std.specs.Prelude.{◌<◌, ◌≤◌, IsErrOf, length};
+ghost use Rattle.rh_bytes.specs.Counting.{Counts, inner_of};
 ghost use Rattle.rh_parts.specs.declared.part.TheConstants.{MAX_PARTS};
 ghost use Rattle.rh_key_files.specs.Limits.{NoReadFailed, TakesOfFile};
 ghost use Rattle.rh_key_files.specs.Reading.{BeginsWithHeader, TakesGoodKeys, header_at};
@@ -32,9 +32,8 @@ pub fn split_text<R: Read, W: Write>(
     ensures takes { TakesText (R.remaining (inner_of reader.old))
         (R.remaining (inner_of reader.new)) }
     ensures not_too_many { IsErrOf result (SplitFault.Text TextFault.TooMany) → ⊥ }
-    ensures read { IsErrOf result (SplitFault.Text TextFault.Read) →
-        Rose (failures_of reader.old) (failures_of reader.new) }
-    ensures fine { splits.NoReadFailed result → failures_of reader.new ≡ failures_of reader.old }
+    ensures counts { Counts (IsErrOf result (SplitFault.Text TextFault.Read))
+        (splits.NoReadFailed result) reader.old reader.new }
 {
     let mut reading = Reading::new(alloc);
     for _ in 0..MAX_READS {
@@ -82,12 +81,10 @@ pub fn split_file<R: Read, W: Write>(
         (R.remaining (inner_of reader.new)) (fault_in_file result) }
     ensures tested { IsErrOf result (SplitFault.Keys KeyFault.Read) → TakesGoodKeys header_at
         (R.remaining (inner_of reader.old)) (R.remaining (inner_of reader.new)) }
-    ensures read { IsErrOf result (SplitFault.Keys KeyFault.Read) →
-        Rose (failures_of reader.old) (failures_of reader.new) }
+    ensures counts { Counts (IsErrOf result (SplitFault.Keys KeyFault.Read))
+        (NoReadFailed (fault_in_file result)) reader.old reader.new }
     ensures memory { IsErrOf result (SplitFault.Keys KeyFault.Memory) →
         BeginsWithHeader (R.remaining (inner_of reader.old)) }
-    ensures fine { NoReadFailed (fault_in_file result) →
-        failures_of reader.new ≡ failures_of reader.old }
 {
     let keys = read_keys(alloc, reader)?;
     split_keys(&keys, parts)

@@ -20,13 +20,20 @@ Appends-kept (Some x) (Some y) (Some z) bs p q = q ∙ p
 pub loop-at-preserved : goal.loop-at-preserved
 loop-at-preserved g c = record {
   within = search rules;
-  written = subst (Appends _ _) (joined c.args.text.now c.loop-at.at c.in-Ok.n) (Appends-trans _ _ _ _ _ c.loop-at.invariant.written c.in-Ok.ensures.bytes);
-  fine = search rules;
+  written = record {
+    appended = subst (Appends _ _) (joined c.args.text.now c.loop-at.at c.in-Ok.n) (Appends-trans _ _ _ _ _ c.loop-at.invariant.written.appended c.in-Ok.ensures.bytes);
+    fine = search rules;
+  };
 }
 
-pub returns-in-Ok-eq0-clause-text : goal.returns-in-Ok-eq0-clause-text
-returns-in-Ok-eq0-clause-text g c =
-    (c.loop-at.at + c.in-Ok-eq0.field-0, subst (Appends _ _) (joined c.args.text.now c.loop-at.at c.in-Ok-eq0.field-0) (Appends-trans _ _ _ _ _ c.loop-at.invariant.written c.in-Ok-eq0.ensures.bytes))
+pub returns-in-Ok-eq0 : goal.returns-in-Ok-eq0
+returns-in-Ok-eq0 g c = record {
+  front = (c.loop-at.at + c.in-Ok-eq0.field-0, subst (Appends _ _) (joined c.args.text.now c.loop-at.at c.in-Ok-eq0.field-0) (Appends-trans _ _ _ _ _ c.loop-at.invariant.written.appended c.in-Ok-eq0.ensures.bytes));
+  failed = search rules;
+}
 
-pub returns-in-Err-clause-text : goal.returns-in-Err-clause-text
-returns-in-Err-clause-text g c = (c.loop-at.at, Appends-kept _ _ _ _ c.loop-at.invariant.written c.in-Err.ensures.bytes)
+pub returns-in-Err : goal.returns-in-Err
+returns-in-Err g c = record {
+  front = (c.loop-at.at, Appends-kept _ _ _ _ c.loop-at.invariant.written.appended c.in-Err.ensures.bytes);
+  failed = search rules;
+}

@@ -1,12 +1,11 @@
-use Rattle.std.proofs.Common.{length, ◌-◌, ◌≡◌, ◌≤◌, take}
-use Rattle.std.specs.Io.KnownBytes.{Appends}
+use Rattle.std.proofs.Common.{length, ◌-◌, ◌≤◌, take}
+use Rattle.rh_bytes.specs.Counting.{Emitted}
 use Rattle.rh_bytes.proofs.bytes.write_text.Given as goal
 
 abbrev pub invariant-loop-at : goal.invariant-loop-at
 invariant-loop-at g l = record {
   within : l.at ≤ length l.text;
-  written : Appends (g.W.Write.contents l.fn.writer.inner) (g.W.Write.contents l.writer.inner) (take l.at l.text);
-  fine : l.writer.failures ≡ l.fn.writer.failures;
+  written : Emitted g.W.Write.contents l.fn.writer l.writer (take l.at l.text);
 }
 
 abbrev pub decreases-loop-at : goal.decreases-loop-at

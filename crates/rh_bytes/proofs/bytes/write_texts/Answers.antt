@@ -1,11 +1,12 @@
 use Rattle.std.proofs.Common.{drop, take, rules, suc}
 use Rattle.std.proofs.lemmas.Result.{err_from_is_err_and}
 use Rattle.rh_bytes.specs.Counting.{joined}
-use Rattle.rh_bytes.proofs.Writing.{front_stops, joined-split}
+use Rattle.rh_bytes.proofs.Writing.{joined-split, emitting_stops}
 use Rattle.rh_bytes.proofs.bytes.write_texts.Goals as goal
 
-pub returns-in_err-write_text-clause-text : goal.returns-in_err-write_text-clause-text
-returns-in_err-write_text-clause-text g c =
+pub returns-in_err-write_text : goal.returns-in_err-write_text
+returns-in_err-write_text g c =
     let p = err_from_is_err_and c.from_residual.result c.from_residual.ensures.1 in
-    let h = c.in_err-write_text.ensures.text in
-    rw p.1 (front_stops _ _ _ (joined (take c.loop-text.text-index c.args.texts.now)) _ (joined (drop (suc c.loop-text.text-index) c.args.texts.now)) _ (joined-split c.args.texts.now c.loop-text.text-index _ (search rules)) c.loop-text.invariant.written h)
+    let index = c.loop-text.text-index in
+    let texts = c.args.texts.now in
+    rw p.1 (emitting_stops _ _ _ (joined (take index texts)) _ (joined (drop (suc index) texts)) _ (joined-split texts index _ (search rules)) c.loop-text.invariant c.in_err-write_text.ensures)

@@ -18,13 +18,13 @@ returns-in_err-write_groups-clause-text g c lists are =
     let p = err_from_is_err_and c.from_residual-in_err-write_groups.result c.from_residual-in_err-write_groups.ensures.1 in
     let bytes = ap (flat_map (λ x. x.bytes.items)) c.deref.ensures.value
     ∙ round_bytes c.args.wanted c.args.cut.now lists are c.args.first c.args.size c.args.workers c.requires.first c.in_ok-done.done.items c.in_ok-told.told.items c.in_ok-done.ensures c.in_ok-told.ensures.len c.in_ok-told.ensures.each in
-    rw p.1 (subst (AppendsFront _ _) bytes c.in_err-write_groups.ensures.text)
+    rw p.1 (subst (AppendsFront _ _) bytes c.in_err-write_groups.ensures.front)
 
 pub returns-clause-text : goal.returns-clause-text
 returns-clause-text g c lists are =
     let bytes = ap (flat_map (λ x. x.bytes.items)) c.deref.ensures.value
     ∙ round_bytes c.args.wanted c.args.cut.now lists are c.args.first c.args.size c.args.workers c.requires.first c.in_ok-done.done.items c.in_ok-told.told.items c.in_ok-done.ensures c.in_ok-told.ensures.len c.in_ok-told.ensures.each in
-    subst (Appends _ _) bytes c.in_ok-write_groups.ensures.text
+    subst (Appends _ _) bytes c.in_ok-write_groups.ensures.appended
 
 pub returns-clause-count : goal.returns-clause-count
 returns-clause-count g c lists are =

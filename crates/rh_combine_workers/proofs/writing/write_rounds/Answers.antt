@@ -38,5 +38,5 @@ loop-first-preserved g c =
       inside = omega (arith, c.edge-first.ensures);
       written = λ lists are. rw is (round_more wanted.how wanted.form borders are.borders lists 0 c.loop-first.first _ (omega arith) (omega (arith, is, first)) (omega (arith, are.borders.some)) _ _ _ (c.loop-first.invariant.written lists are) (c.in_ok-more.ensures.text lists are));
       count = λ lists are. rw is (count_more wanted.how wanted.form borders are.borders lists 0 c.loop-first.first _ (omega arith) (omega (arith, is, first)) (omega (arith, are.borders.some)) c.loop-first.count c.in_ok-more.more _ (c.loop-first.invariant.count lists are) (c.in_ok-more.ensures.count lists are) c.saturating_add-count.ensures);
-      fine = c.in_ok-more.ensures.fine ∙ c.loop-first.invariant.fine;
+      fine = c.in_ok-more.ensures.counts.stays (λ is. absurd cc) ∙ c.loop-first.invariant.fine;
     }

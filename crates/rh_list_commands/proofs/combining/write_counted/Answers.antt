@@ -14,9 +14,9 @@ pub returns-in_err-write_numbers-clause-written : goal.returns-in_err-write_numb
 returns-in_err-write_numbers-clause-written g c =
     let p = err_from_is_err_and c.from_residual-in_err-write_numbers.result c.from_residual-in_err-write_numbers.ensures.1 in
     let told : Result (Unit {0}) (Unit {0}) = Err tt in
-    told_front _ _ _ c.from_residual-in_err-write_numbers.result p.0 p.1 (counted _ _ _ _ c.in_ok-count.count told c.in_ok-count.ensures.written.text c.in_ok-count.ensures.written.count (one_line _ _ _ told c.in_err-write_numbers.ensures.text))
+    told_front _ _ _ c.from_residual-in_err-write_numbers.result p.0 p.1 (counted _ _ _ _ c.in_ok-count.count told c.in_ok-count.ensures.written.text c.in_ok-count.ensures.written.count (one_line _ _ _ told c.in_err-write_numbers.ensures.front))
 
 pub returns-clause-written : goal.returns-clause-written
 returns-clause-written g c =
     let told : Result (Unit {0}) (Unit {0}) = Ok tt in
-    counted _ _ _ _ c.in_ok-count.count told c.in_ok-count.ensures.written.text c.in_ok-count.ensures.written.count (one_line _ _ _ told c.in_ok-write_numbers.ensures.text)
+    counted _ _ _ _ c.in_ok-count.count told c.in_ok-count.ensures.written.text c.in_ok-count.ensures.written.count (one_line _ _ _ told c.in_ok-write_numbers.ensures.appended)

@@ -1,7 +1,7 @@
-use Rattle.std.proofs.Common.{◌∙◌, ap, refl, length, take}
+use Rattle.std.proofs.Common.{◌∙◌, ap, refl, length, rules, take}
 use Rattle.rh_script.specs.Names.{names_in}
 use Rattle.rh_script_run.proofs.StepLemmas.{leaves_later}
-use Rattle.rh_script_run.proofs.RunLemmas.{all_carried_out, goes_on, has_list, is_apart, its_number, more_lists, reached_start, step_at, stops_here}
+use Rattle.rh_script_run.proofs.RunLemmas.{all_carried_out, comes_after, goes_on, has_list, more_lists, reached_start, step_at, stops_here}
 use Rattle.rh_script_run.proofs.running.carry_out_all.Goals as goal
 
 pub carry_out-told-requires-after_bounds : goal.carry_out-told-requires-after_bounds
@@ -28,27 +28,25 @@ returns-in-Err-clause-meant g c files steps known planned fresh =
     let i = c.loop-step.step-index in
     let here = step_at c.steps-step-items.result.now steps i _ (c.steps-step-items.ensures ∙ planned) c.loop-step-test.true in
     let so_far = c.loop-step.invariant.reached files steps known planned fresh in
-    let apart = is_apart c.loop-step.lists.items steps i _ fresh here so_far.paths in
-    let ends = c.in-Err.ensures.step so_far.done.named so_far.done.made so_far.done.has so_far.stand (its_number files steps i _ _ _ here so_far) apart in
+    let ends = c.in-Err.ensures.step so_far.done.named so_far.done.made (comes_after files steps i _ _ _ here so_far fresh) in
     stops_here files steps i _ _ _ here so_far _ _ c.loop-step.invariant.fine c.loop-step.invariant.read c.loop-step.invariant.started ends
 
 pub loop-step-preserved : goal.loop-step-preserved
 loop-step-preserved g c =
     let i = c.loop-step.step-index in
     record {
-      still_unknown = λ unknown. c.in_default.ensures.shelf.still_unknown (c.loop-step.invariant.still_unknown unknown);
-      fine = c.in_default.ensures.shelf.fine ∙ c.loop-step.invariant.fine;
-      read = c.in_default.ensures.shelf.none_read ∙ c.loop-step.invariant.read;
-      started = c.in_default.ensures.runner.fine ∙ c.loop-step.invariant.started;
-      written = c.in_default.ensures.writer.fine ∙ c.loop-step.invariant.written;
+      still_unknown = λ unknown. c.in_default.ensures.leaves.shelf.still_unknown (c.loop-step.invariant.still_unknown unknown);
+      fine = c.in_default.ensures.leaves.shelf.fine ∙ c.loop-step.invariant.fine;
+      read = c.in_default.ensures.leaves.shelf.none_read ∙ c.loop-step.invariant.read;
+      started = c.in_default.ensures.leaves.runner.fine ∙ c.loop-step.invariant.started;
+      written = c.in_default.ensures.leaves.writer.fine ∙ c.loop-step.invariant.written;
       many = λ steps planned.
           let here = step_at c.steps-step-items.result.now steps i _ (c.steps-step-items.ensures ∙ planned) c.loop-step-test.true in
           more_lists steps i here.numbered _ _ _ here.more here.said (c.loop-step.invariant.many steps planned) c.in_default.ensures.lists;
       reached = λ files steps known planned fresh.
           let here = step_at c.steps-step-items.result.now steps i _ (c.steps-step-items.ensures ∙ planned) c.loop-step-test.true in
           let so_far = c.loop-step.invariant.reached files steps known planned fresh in
-          let apart = is_apart c.loop-step.lists.items steps i _ fresh here so_far.paths in
-          let did = c.in_default.ensures.step so_far.done.named so_far.done.made so_far.done.has so_far.stand (its_number files steps i _ _ _ here so_far) apart in
+          let did = c.in_default.ensures.step so_far.done.named so_far.done.made (comes_after files steps i _ _ _ here so_far fresh) in
           goes_on files steps i _ _ _ here so_far _ did c.in_default.ensures.paths;
     }
 
@@ -56,6 +54,14 @@ pub returns-clause-meant : goal.returns-clause-meant
 returns-clause-meant g c files steps known planned fresh =
     all_carried_out files c.steps-step-items.result.now steps c.loop-step.step-index _ _ (c.steps-step-items.ensures ∙ planned) c.loop-step-test.false (c.loop-step.invariant.reached files steps known planned fresh)
 
-pub returns-in-Err-clause-shelf : goal.returns-in-Err-clause-shelf
-returns-in-Err-clause-shelf g c =
-    leaves_later (g.S.Lender.state c.args.shelf.now) (g.S.Lender.state c.loop-step.shelf) _ c.in-Err.cause c.loop-step.invariant.still_unknown c.loop-step.invariant.fine c.loop-step.invariant.read c.in-Err.ensures.shelf
+pub returns-in-Err-clause-leaves : goal.returns-in-Err-clause-leaves
+returns-in-Err-clause-leaves g c =
+    let so_far = c.loop-step.invariant in
+    let leaves = c.in-Err.ensures.leaves in
+    record {
+      outside = record {
+        shelf = leaves_later (g.S.Lender.state c.args.shelf.now) (g.S.Lender.state c.loop-step.shelf) _ c.in-Err.cause so_far.still_unknown so_far.fine so_far.read leaves.shelf;
+        runner = record { fine = tt; thread = search rules; others = search rules };
+      };
+      writer = record { fine = tt; write = search rules };
+    }

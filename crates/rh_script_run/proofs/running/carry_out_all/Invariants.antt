@@ -4,7 +4,7 @@ use Rattle.rh_script.specs.Names.{SnapshotsAreNew, names_in}
 use Rattle.rh_script.specs.Plan.{plan_of}
 use Rattle.rh_script.specs.Tasks.{planned_of}
 use Rattle.rh_shelf.specs.Shelf.{Files}
-use Rattle.rh_script_run.specs.Environment.{environment}
+use Rattle.rh_script_run.specs.Environment.{environment_of}
 use Rattle.rh_script_run.specs.Reached.{Reached}
 use Rattle.rh_script_run.proofs.running.carry_out_all.Given as goal
 
@@ -17,9 +17,9 @@ invariant-loop-step g l = record {
   written : l.writer.failures ≡ l.fn.writer.failures;
   many : (steps : List Numbered) → planned_of l.fn.plan ≡ plan_of steps → length l.lists.items ≡ length (names_in (take l.step-index steps));
   reached : (files : Files) (steps : List Numbered) → (g.S.Lender.state l.fn.shelf).files ≡ Some files → planned_of l.fn.plan ≡ plan_of steps → SnapshotsAreNew steps
-      → Reached files (take l.step-index steps) (environment (g.S.Lender.state l.fn.shelf) (g.N.Runner.refused_starts l.fn.runner) (g.W.Write.contents l.fn.writer.inner)) (record {
+      → Reached files (take l.step-index steps) (environment_of g.S.Lender.state g.N.Runner.refused_starts g.W.Write.contents l.fn.shelf l.fn.runner l.fn.writer) (record {
         set = l.set;
         lists = l.lists.items;
-        environment = environment (g.S.Lender.state l.shelf) (g.N.Runner.refused_starts l.runner) (g.W.Write.contents l.writer.inner);
+        environment = environment_of g.S.Lender.state g.N.Runner.refused_starts g.W.Write.contents l.shelf l.runner l.writer;
       });
 }

@@ -7,20 +7,23 @@ use Rattle.rh_script_run.proofs.TaskLemmas.{refused_ends, untold_ends}
 use Rattle.rh_script_run.proofs.tasks.carry_out.Goals as goal
 
 pub returns-in_err-told-clause-step : goal.returns-in_err-told-clause-step
-returns-in_err-told-clause-step g c named files has stand number apart =
+returns-in_err-told-clause-step g c named files after =
     let p = err_from_is_err_and c.from_residual.result c.from_residual.ensures.1 in
     let w = world_of c.args.set.now named files in
-    refused_ends w (task_as c.args.task.now).0 _ _ files _ _ _ _ (p.1 ∙ ap Err p.2) c.in_err-told.ensures.no_write (Appends-nil _) (c.in_err-told.ensures.made named files has stand number apart)
+    refused_ends w (task_as c.args.task.now).0 _ _ files _ _ _ _ (p.1 ∙ ap Err p.2) c.in_err-told.ensures.no_write (Appends-nil _) (c.in_err-told.ensures.made named files after)
 
 pub returns-in_err-tell-clause-step : goal.returns-in_err-tell-clause-step
-returns-in_err-tell-clause-step g c named files has stand number apart =
+returns-in_err-tell-clause-step g c named files after =
     let p = err_from_is_err_and c.from_residual-in_err-tell.result c.from_residual-in_err-tell.ensures.1 in
     let w = world_of c.args.set.now named files in
-    untold_ends w (task_as c.args.task.now).0 _ _ files _ _ _ (p.1 ∙ ap Err p.2) _ (c.in_ok-told.ensures.made named files has stand number apart) c.in_err-tell.ensures.text
+    let said = c.in_err-tell.ensures in
+    untold_ends w (task_as c.args.task.now).0 _ _ files _ _ _ (p.1 ∙ ap Err p.2) _ (c.in_ok-told.ensures.made named files after) (said.0, said.1, said.2.front)
 
 pub returns-clause-step : goal.returns-clause-step
-returns-clause-step g c named files has stand number apart = record {
-  account = _;
-  made = c.in_ok-told.ensures.made named files has stand number apart;
-  told = c.in_ok-tell.ensures.text;
-}
+returns-clause-step g c named files after =
+    let said = c.in_ok-tell.ensures in
+    record {
+      account = _;
+      made = c.in_ok-told.ensures.made named files after;
+      told = (said.0, said.1, said.2.appended);
+    }

@@ -24,15 +24,14 @@ returns-in_err-read-clause-not_too_long g c =
     let p = err_from_is_err_and c.from_residual-in_err-read.result c.from_residual-in_err-read.ensures.1 in
     is_no_limit c.in_err-read.field-0.0 _ _ c.from_residual-in_err-read.result (rw p.2 at p.1) (c.in_err-read.ensures.read [])
 
-pub returns-in_err-read-clause-read : goal.returns-in_err-read-clause-read
-returns-in_err-read-clause-read g c =
+pub returns-in_err-read-clause-counts : goal.returns-in_err-read-clause-counts
+returns-in_err-read-clause-counts g c =
     let p = err_from_is_err_and c.from_residual-in_err-read.result c.from_residual-in_err-read.ensures.1 in
-    λ read. absurd (is_no_read c.in_err-read.field-0.0 _ _ c.from_residual-in_err-read.result (rw p.2 at p.1) (c.in_err-read.ensures.read []) read)
-
-pub returns-in_err-read-clause-fine : goal.returns-in_err-read-clause-fine
-returns-in_err-read-clause-fine g c =
-    let p = err_from_is_err_and c.from_residual-in_err-read.result c.from_residual-in_err-read.ensures.1 in
-    λ fine. absurd (before_failure c.in_err-read.field-0.0 _ _ c.from_residual-in_err-read.result (rw p.2 at p.1) (c.in_err-read.ensures.read []) fine)
+    let fault : _ ≡ _ = rw p.2 at p.1 in
+    record {
+      rose = λ read. absurd (is_no_read c.in_err-read.field-0.0 _ _ c.from_residual-in_err-read.result fault (c.in_err-read.ensures.read []) read);
+      stays = λ fine. absurd (before_failure c.in_err-read.field-0.0 _ _ c.from_residual-in_err-read.result fault (c.in_err-read.ensures.read []) fine);
+    }
 
 pub returns-in_err-read-clause-part : goal.returns-in_err-read-clause-part
 returns-in_err-read-clause-part g c =
